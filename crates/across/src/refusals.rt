@@ -1,0 +1,94 @@
+//! Each growth refused in turn: the answer is that memory ran out, or that of the undisturbed call, and all memory that
+//! was taken is given back.
+
+use crate::turns::{TURNS, Turn, run};
+use bumpalo::Bump;
+use linked_list_allocator::LocalHeap;
+use std::alloc::{AllocError, Global};
+use std::test::Fail;
+use tuple_codec::Bad;
+
+// More than any turn takes, in bytes.
+const AMPLE: usize = 8192;
+
+// The step in which a heap hands out its bytes.
+const UNIT: usize = 16;
+
+// An arena that has so many bytes left and gets no more.
+fn meagre(alloc: Global, left: usize) -> Result<Bump, AllocError> {
+    let bump = Bump::try_with_capacity(alloc, AMPLE)?;
+    bump.set_allocation_limit(Some(0));
+    let filled = bump.chunk_capacity().saturating_sub(left);
+    let _filling = bump.try_alloc_slice_fill_clone(filled, 0u8)?;
+    Ok(bump)
+}
+
+// The least number of bytes of an arena in which the turn succeeds, where with any less it says that memory ran out: so
+// each of its growths was refused once. An arena is reset only where each block came back.
+fn least_arena(alloc: Global, turn: Turn) -> Result<Option<usize>, AllocError> {
+    for left in 0..AMPLE {
+        let mut bump = meagre(alloc, left)?;
+        let ended = run(turn, &bump);
+        if bump.reset().is_err() {
+            return Ok(None);
+        }
+        match ended {
+            Ok(true) => return Ok(Some(left)),
+            Err(Bad::NoMemory) => {}
+            Ok(false) | Err(Bad::Malformed) => return Ok(None),
+        }
+    }
+    Ok(None)
+}
+
+// The same of a heap, in which what grows moves to a block of its own.
+fn least_heap(alloc: Global, turn: Turn) -> Result<Option<usize>, AllocError> {
+    for units in 0..AMPLE / UNIT {
+        let heap = LocalHeap::new(alloc, units * UNIT)?;
+        let ended = run(turn, &heap);
+        if heap.used() > 0 {
+            return Ok(None);
+        }
+        match ended {
+            Ok(true) => return Ok(Some(units * UNIT)),
+            Err(Bad::NoMemory) => {}
+            Ok(false) | Err(Bad::Malformed) => return Ok(None),
+        }
+    }
+    Ok(None)
+}
+
+#[test]
+fn growths_in_an_arena(rt: HostRuntime) -> Result<(), Fail> {
+    for turn in TURNS {
+        let least = least_arena(rt.alloc(), turn)?;
+        assert!(rt; least.is_some_and(|left| left > 0));
+    }
+    Ok(())
+}
+
+#[test]
+fn growths_in_a_heap(rt: HostRuntime) -> Result<(), Fail> {
+    for turn in TURNS {
+        let least = least_heap(rt.alloc(), turn)?;
+        assert!(rt; least.is_some_and(|size| size > 0));
+    }
+    Ok(())
+}
+
+// Whether the turn succeeds, at the second try where memory ran out at the first one.
+fn succeeds(alloc: Global, turn: Turn) -> bool {
+    match run(turn, alloc) {
+        Err(Bad::NoMemory) => run(turn, alloc) == Ok(true),
+        first => first == Ok(true),
+    }
+}
+
+// In a plain run nothing is refused here. `rt try --test --fail-alloc N` refuses the allocation of number N: this test
+// passes at each N.
+#[test]
+fn growths_in_ordinary_memory(rt: HostRuntime) {
+    for turn in TURNS {
+        assert!(rt; succeeds(rt.alloc(), turn));
+    }
+}

@@ -1,0 +1,5 @@
+pub mod PieceLemmas
+pub mod LineLemmas
+pub mod NextLemmas
+pub mod RunLemmas
+pub mod BlankLemmas

@@ -1,0 +1,11 @@
+use Rattle.std.proofs.Common.{ℕ, ◌*◌, ◌≤◌, IfSome}
+use Rattle.space.specs.Births.{tuples_of}
+use Rattle.btspace.specs.Endings.{Along}
+use Rattle.btspace.proofs.local.Session.run_lines.Given as goal
+
+-- The next birth number has room, and a run over the lines that are left goes on from here.
+abbrev pub invariant-loop-number : goal.invariant-loop-number
+invariant-loop-number g l = record {
+  births : l.self.space.next ≤ 257 * l.number;
+  along : IfSome (g.B.Read.remaining l.initial.reader) (λ bytes. Along bytes (g.B.Read.remaining l.reader) (g.W.Write.contents l.initial.writer) (g.W.Write.contents l.writer) l.number (tuples_of l.self.space) l.self.results.items);
+}

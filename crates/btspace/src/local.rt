@@ -1,0 +1,213 @@
+//! A script on a space of its own.
+
+ghost use Rattle.std.specs.Prelude.{◌≡◌, ◌^◌, ◌<◌, ◌≤◌, ◌+◌, ◌*◌, ℕ, List, [], ◌∷◌, ◌++◌, Option, OnOk, OnErr, IfErr, IfSome, MatchBool, MatchResult};
+ghost use Rattle.std.specs.Io.KnownBytes.{Appends};
+ghost use Rattle.tuple_codec.specs.OperationView.{operation_of};
+ghost use Rattle.space.specs.Applying.{outcome, tuples_after};
+ghost use Rattle.space.specs.Births.{tuples_of, state_after, empty_state};
+ghost use Rattle.btspace.specs.Run.{complete, result_line};
+ghost use Rattle.btspace.specs.Endings.{Along, AddsResults, StopsBy, MovesOn, Keeps, IsWriteFault, fault_at, read_fault_of};
+
+use crate::input::{NextLine, NoLine, has_line, next_line};
+use crate::pieces::ReadFault;
+use space::Space;
+use std::alloc::Global;
+use std::io::{self, BufRead, BufReader, Read, Write};
+use thiserror::Error;
+use tuple_codec::Op;
+use tuple_text::{LineFault, write_answer};
+use tuple_tree::NoMemory;
+
+// The number of the first line that is one too many.
+const LINES_END: u64 = 1 << 48;
+
+// So many bytes of results are held back at the most, and those of one line.
+const HELD: usize = 8192;
+
+/// Why a run stopped before the script's end.
+#[derive(Debug, Drop, Error)]
+pub enum LocalFault {
+    /// The line of this number, from 1, is refused.
+    #[error("line {line}: {fault}")]
+    Refused { line: u64, fault: LineFault },
+    #[error("out of memory")]
+    NoMemory,
+    #[error("not read: {0}")]
+    Read(io::Error),
+    #[error("not written: {0}")]
+    Write(io::Error),
+}
+
+impl From<NoMemory> for LocalFault {
+    ghost use Rattle.btspace.specs.declared.local.LocalFault.TheVariants.{NoMemory};
+
+    ghost from_gives = { λ _ fault. fault ≡ NoMemory };
+
+    fn from(_failed: NoMemory) -> LocalFault {
+        LocalFault::NoMemory
+    }
+}
+
+/// Runs the lines of a script on a space of its own and writes the results, a line each, as it goes. Lines are numbered
+/// from 1 and stay below 2 to the power of 48. At a fault the results of the lines before it are written, unless
+/// writing failed.
+pub fn local<R: Read + Drop, W: Write>(
+    alloc: Global,
+    reader: R,
+    writer: &mut W,
+) -> Result<(), LocalFault>
+    ensures { IfSome (R.remaining reader) (λ bytes. MatchResult result (λ _. AddsResults bytes complete (W.contents writer.old) (W.contents writer.new) []) (λ fault. StopsBy fault bytes (W.contents writer.old) (W.contents writer.new) [])) }
+{
+    let mut input = match BufReader::new(alloc, reader) {
+        Ok(input) => input,
+        Err(_) => return Err(LocalFault::NoMemory),
+    };
+    let mut session = Session {
+        space: Space::new(alloc),
+        line: Vec::new(alloc),
+        results: Vec::new(alloc),
+    };
+    match session.run_lines(alloc, &mut input, writer) {
+        Ok(()) => write_out(&mut session.results, writer),
+        Err(LocalFault::Write(error)) => Err(LocalFault::Write(error)),
+        Err(fault) => match write_out(&mut session.results, writer) {
+            Ok(()) => Err(fault),
+            Err(error) => Err(error),
+        },
+    }
+}
+
+// A run between two of its lines: its space, room for a line, and the result lines that are not written yet.
+#[derive(Drop)]
+struct Session {
+    space: Space,
+    line: Vec<u8>,
+    results: Vec<u8>,
+}
+
+impl Session {
+    fn run_lines<B: BufRead, W: Write>(
+        &mut self,
+        alloc: Global,
+        reader: &mut B,
+        writer: &mut W,
+    ) -> Result<(), LocalFault>
+        requires new_space { self.old.space ≡ empty_state }
+        requires no_results { self.old.results.items ≡ [] }
+        ensures { IfSome (B.remaining reader.old) (λ bytes. MatchResult result (λ _. AddsResults bytes complete (W.contents writer.old) (W.contents writer.new) self.new.results.items) (λ fault. StopsBy fault bytes (W.contents writer.old) (W.contents writer.new) self.new.results.items)) }
+    {
+        for number in 1..LINES_END {
+            match self.run_line(alloc, number, reader, writer) {
+                Ok(true) => {}
+                Ok(false) => return Ok(()),
+                Err(fault) => return Err(fault),
+            }
+        }
+        match has_line(reader, &mut self.line) {
+            Ok(false) => Ok(()),
+            Ok(true) => Err(LocalFault::Refused {
+                line: LINES_END,
+                fault: LineFault::TooLong,
+            }),
+            Err(fault) => Err(read_fault(fault)),
+        }
+    }
+
+    // Runs the next line, and answers whether there was one.
+    fn run_line<B: BufRead, W: Write>(
+        &mut self,
+        alloc: Global,
+        number: u64,
+        reader: &mut B,
+        writer: &mut W,
+    ) -> Result<bool, LocalFault>
+        requires early { number < 2 ^ 48 }
+        requires births { self.old.space.next < 2 ^ 62 }
+        ensures births { OnOk result (self.new.space.next ≤ self.old.space.next + 257) }
+        ensures along { (bytes : List ℕ) (start : Option (List ℕ)) → Along bytes (B.remaining reader.old) start (W.contents writer.old) number (tuples_of self.old.space) self.old.results.items
+            → MatchResult result
+            (λ more. MatchBool more
+            (Along bytes (B.remaining reader.new) start (W.contents writer.new) (number + 1) (tuples_of self.new.space) self.new.results.items)
+            (AddsResults bytes complete start (W.contents writer.new) self.new.results.items))
+            (λ fault. StopsBy fault bytes start (W.contents writer.new) self.new.results.items) }
+    {
+        match next_line(alloc, reader, &mut self.line) {
+            Ok(NextLine::End) => Ok(false),
+            Ok(NextLine::Skipped) => Ok(true),
+            Ok(NextLine::Operation(op)) => match self.run_operation(&op, writer) {
+                Ok(()) => Ok(true),
+                Err(fault) => Err(fault),
+            },
+            Err(no) => Err(line_fault(number, no)),
+        }
+    }
+
+    // Applies the operation and adds its result line; where many results are held, they are written.
+    fn run_operation<W: Write>(&mut self, op: &Op<Global>, writer: &mut W) -> Result<(), LocalFault>
+        requires { self.old.space.next < 2 ^ 62 }
+        ensures state { OnOk result (self.new.space ≡ state_after self.old.space (operation_of op.now)) }
+        ensures results { OnOk result (MovesOn (W.contents writer.old) (W.contents writer.new) (self.old.results.items ++ result_line (outcome (tuples_of self.old.space) (operation_of op.now))) self.new.results.items) }
+        ensures err { IfErr result (λ fault. Keeps fault (W.contents writer.old) (W.contents writer.new) self.old.results.items self.new.results.items) }
+    {
+        if answer(&mut self.space, op, &mut self.results).is_err() {
+            return Err(LocalFault::NoMemory);
+        }
+        if self.results.len() < HELD {
+            return Ok(());
+        }
+        write_out(&mut self.results, writer)
+    }
+}
+
+fn line_fault(line: u64, no: NoLine) -> LocalFault
+    ensures { result ≡ fault_at line no }
+{
+    match no {
+        NoLine::Refused(fault) => LocalFault::Refused { line, fault },
+        NoLine::NoMemory => LocalFault::NoMemory,
+        NoLine::Read(error) => LocalFault::Read(error),
+    }
+}
+
+fn read_fault(fault: ReadFault) -> LocalFault
+    ensures { result ≡ read_fault_of fault }
+{
+    match fault {
+        ReadFault::NoMemory => LocalFault::NoMemory,
+        ReadFault::Read(error) => LocalFault::Read(error),
+    }
+}
+
+// Applies the operation and adds the result line. At an error the results are as before.
+fn answer(space: &mut Space, op: &Op<Global>, results: &mut Vec<u8>) -> Result<(), NoMemory>
+    requires { space.old.next < 2 ^ 62 }
+    ensures state { OnOk result (space.new ≡ state_after space.old (operation_of op.now)) }
+    ensures tuples { OnOk result (tuples_of space.new ≡ tuples_after (tuples_of space.old) (operation_of op.now)) }
+    ensures ok { OnOk result (results.new.items ≡ results.old.items ++ result_line (outcome (tuples_of space.old) (operation_of op.now))) }
+    ensures err { OnErr result (results.new.items ≡ results.old.items) }
+{
+    let old_len = results.len();
+    let given = space.apply(op)?;
+    write_answer(&given, results)?;
+    if results.push(b'\n').is_err() {
+        results.truncate(old_len);
+        return Err(NoMemory);
+    }
+    Ok(())
+}
+
+// Writes the results and leaves none.
+fn write_out<W: Write>(results: &mut Vec<u8>, writer: &mut W) -> Result<(), LocalFault>
+    ensures written { OnOk result (Appends (W.contents writer.old) (W.contents writer.new) results.old.items) }
+    ensures none { OnOk result (results.new.items ≡ []) }
+    ensures err { IfErr result IsWriteFault }
+{
+    if let Err(error) = writer.write_all(results.as_slice()) {
+        return Err(LocalFault::Write(error));
+    }
+    if let Err(error) = writer.flush() {
+        return Err(LocalFault::Write(error));
+    }
+    results.clear();
+    Ok(())
+}

@@ -1,0 +1,93 @@
+//! `btspace`: a tuple space at the command line.
+#![tactic(auto)]
+
+mod complaints;
+mod input;
+mod local;
+mod pieces;
+mod show;
+mod words;
+
+use clap::Error;
+use clap::error::ErrorKind;
+use complaints::Complaint;
+use local::local;
+use show::show;
+use std::process::ExitCode;
+use std::rt::{Env, Files};
+use std::{fs, io};
+use words::{Request, read_words};
+
+fn main(rt: HostRuntime) -> ExitCode {
+    ExitCode::from(act_on_words(&rt))
+}
+
+// Does what the words ask for, and gives the status.
+fn act_on_words<R: Files + Env + Print + Eprint + AllocGlobal>(rt: &R) -> u8 {
+    let args = match std::env::args(rt) {
+        Ok(args) => args,
+        Err(error) => return refuse_words(rt, &error),
+    };
+    let words: Vec<String> = match args.collect(rt.alloc()) {
+        Ok(words) => words,
+        Err(_) => return complain(rt, Complaint::Stopped),
+    };
+    match read_words(rt.alloc(), words.as_slice()) {
+        Ok(Request::Local { script }) => run_script(rt, script),
+        Ok(Request::Show { digits }) => print_tuple(rt, digits),
+        Err(error) => print_words_error(rt, &error),
+    }
+}
+
+fn run_script<R: Files + Print + Eprint + AllocGlobal>(rt: &R, path: &str) -> u8 {
+    let file = match fs::open(rt, path) {
+        Ok(file) => file,
+        Err(error) => {
+            return if error.kind() == io::ErrorKind::OutOfMemory {
+                complain(rt, Complaint::Stopped)
+            } else {
+                complain(rt, Complaint::Unreadable { path })
+            };
+        }
+    };
+    match local(rt.alloc(), file, &mut io::writer(rt)) {
+        Ok(()) => 0,
+        Err(fault) => complain(rt, Complaint::of_local(&fault, path)),
+    }
+}
+
+fn print_tuple<R: Print + Eprint + AllocGlobal>(rt: &R, digits: &str) -> u8 {
+    match show(rt.alloc(), digits, &mut io::writer(rt)) {
+        Ok(()) => 0,
+        Err(fault) => complain(rt, Complaint::of_show(&fault)),
+    }
+}
+
+// Words that aren't UTF-8 are a mistake on the command line.
+fn refuse_words<R: Eprint>(rt: &R, error: &io::Error) -> u8 {
+    if error.kind() == io::ErrorKind::OutOfMemory {
+        return complain(rt, Complaint::Stopped);
+    }
+    let _ = eprintln!(rt; "error: {error}");
+    2
+}
+
+// The text of `clap`: help and the version go to standard output, and else it is standard error's.
+fn print_words_error<R: Print + Eprint>(rt: &R, error: &Error) -> u8 {
+    if error.kind() == ErrorKind::OutOfMemory {
+        return complain(rt, Complaint::Stopped);
+    }
+    if error.print(rt).is_err() {
+        return complain(rt, Complaint::Stopped);
+    }
+    if error.use_stderr() { 2 } else { 0 }
+}
+
+// What can't be said on standard error is left unsaid: the status tells it too.
+fn complain<R: Eprint>(rt: &R, complaint: Complaint<'_>) -> u8 {
+    let _ = eprintln!(rt; "{complaint}");
+    complaint.status()
+}
+
+#[cfg(test)]
+mod tests;

@@ -1,0 +1,5 @@
+pub mod Holding
+pub mod Joining
+pub mod Renewing
+pub mod Standing
+pub mod Telling

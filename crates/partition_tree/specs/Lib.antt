@@ -1,0 +1,4 @@
+pub mod Digests
+pub mod Levels
+pub mod Rows
+pub mod Texts

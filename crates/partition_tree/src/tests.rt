@@ -1,0 +1,101 @@
+//! Worked digests, a kept snapshot, and memory refused.
+
+use crate::{Digest, Level, NoMemory, PAGES, Tree};
+use std::test::Fail;
+
+// A page that holds one tuple, of the number 1, with birth number 0.
+const FIRST_TEXT: &[u8; 18] = b"\0\0\0\0\0\0\0\0\x01\x01\0\0\0\0\0\0\0\x01";
+
+// The digests were computed by Python's hashlib, where pages = [b''] * 1024, and then pages[0] and pages[300] are set:
+//   H = lambda text: hashlib.sha256(text).digest()
+//   parts = [H(b''.join(H(page) for page in pages[32 * j:32 * j + 32])) for j in range(32)]
+//   root = H(b''.join(parts))
+const EMPTY_PAGE: Digest = [
+    0xe3, 0xb0, 0xc4, 0x42, 0x98, 0xfc, 0x1c, 0x14, 0x9a, 0xfb, 0xf4, 0xc8, 0x99, 0x6f, 0xb9, 0x24,
+    0x27, 0xae, 0x41, 0xe4, 0x64, 0x9b, 0x93, 0x4c, 0xa4, 0x95, 0x99, 0x1b, 0x78, 0x52, 0xb8, 0x55,
+];
+
+const NEW_ROOT: Digest = [
+    0x11, 0xfe, 0x8a, 0x78, 0x81, 0x7f, 0x2e, 0x8d, 0xee, 0x25, 0xfa, 0xff, 0xb1, 0xa8, 0x48, 0xf8,
+    0x3d, 0x31, 0x5f, 0x99, 0x9b, 0xb4, 0x5c, 0xdd, 0x74, 0xfa, 0x33, 0x2a, 0xfd, 0x56, 0x30, 0x03,
+];
+
+const FIRST_ROOT: Digest = [
+    0x37, 0x26, 0x0e, 0xef, 0xfd, 0x6d, 0x6a, 0x21, 0x31, 0x77, 0xa1, 0x03, 0x99, 0x0c, 0x2f, 0xdf,
+    0x1b, 0xf2, 0xdb, 0x15, 0xac, 0x2b, 0x9a, 0x99, 0xbe, 0x7e, 0x50, 0x06, 0x95, 0x7d, 0xcc, 0xdb,
+];
+
+const FIRST_PART: Digest = [
+    0xcb, 0x74, 0x29, 0x1e, 0x36, 0x3b, 0x46, 0x69, 0xff, 0x6f, 0x51, 0xc5, 0xff, 0xba, 0x8d, 0x35,
+    0x37, 0xdd, 0x5d, 0x68, 0xb9, 0x85, 0x7d, 0xab, 0xc5, 0xe7, 0x4f, 0xe4, 0x14, 0xd5, 0x36, 0x69,
+];
+
+const FIRST_PAGE: Digest = [
+    0x13, 0x46, 0x3f, 0x4b, 0x4e, 0x20, 0xbd, 0x67, 0x3e, 0x6b, 0x29, 0x92, 0xd0, 0x24, 0xfd, 0x19,
+    0xbb, 0x9b, 0x1b, 0x68, 0xa4, 0xf2, 0x57, 0x92, 0xdf, 0xa9, 0xd9, 0x36, 0xff, 0xa6, 0x28, 0x2b,
+];
+
+const SECOND_ROOT: Digest = [
+    0x63, 0x41, 0xeb, 0x9e, 0x4d, 0x7a, 0xdf, 0x84, 0xf8, 0x4f, 0x88, 0x77, 0xa9, 0x74, 0x8d, 0xba,
+    0x9d, 0x9e, 0x76, 0x38, 0x4e, 0xc9, 0x5c, 0x3c, 0xcf, 0xd5, 0xf0, 0xc2, 0x97, 0xf0, 0x5c, 0xd0,
+];
+
+#[test]
+fn a_new_tree(rt: HostRuntime) -> Result<(), Fail> {
+    let tree = Tree::new(rt.alloc())?;
+    assert_eq!(rt; tree.root(), NEW_ROOT);
+    assert_eq!(rt; tree.page(PAGES - 1).len(), 0);
+    assert_eq!(rt; tree.children(Level::Inner, 31)[31], EMPTY_PAGE);
+    Ok(())
+}
+
+#[test]
+fn pages_are_set(rt: HostRuntime) -> Result<(), Fail> {
+    let mut tree = Tree::new(rt.alloc())?;
+    tree.set_page(0, FIRST_TEXT)?;
+    assert_eq!(rt; tree.root(), FIRST_ROOT);
+    assert_eq!(rt; tree.page(0), FIRST_TEXT.as_slice());
+    assert_eq!(rt; tree.children(Level::Root, 0)[0], FIRST_PART);
+    assert_eq!(rt; tree.children(Level::Inner, 0)[0], FIRST_PAGE);
+    assert_eq!(rt; tree.children(Level::Inner, 0)[1], EMPTY_PAGE);
+    tree.set_page(300, b"abc")?;
+    assert_eq!(rt; tree.root(), SECOND_ROOT);
+    tree.set_page(300, b"")?;
+    assert_eq!(rt; tree.root(), FIRST_ROOT);
+    Ok(())
+}
+
+#[test]
+fn a_snapshot_keeps_its_pages(rt: HostRuntime) -> Result<(), Fail> {
+    let mut tree = Tree::new(rt.alloc())?;
+    tree.set_page(0, FIRST_TEXT)?;
+    let snapshot = tree.snapshot()?;
+    tree.set_page(0, b"later")?;
+    tree.set_page(300, b"abc")?;
+    assert_eq!(rt; snapshot.root(), FIRST_ROOT);
+    assert_eq!(rt; snapshot.page(0), FIRST_TEXT.as_slice());
+    assert_eq!(rt; snapshot.page(300).len(), 0);
+    assert_eq!(rt; snapshot.children(Level::Root, 0)[0], FIRST_PART);
+    assert_eq!(rt; snapshot.children(Level::Inner, 0)[0], FIRST_PAGE);
+    assert_eq!(rt; tree.page(0), b"later".as_slice());
+    Ok(())
+}
+
+// Passes whichever allocation is refused, as by `rt try --test --fail-alloc 1..`.
+#[test]
+fn refusals_change_nothing(rt: HostRuntime) -> Result<(), Fail> {
+    let Ok(mut tree) = Tree::new(rt.alloc()) else {
+        return Ok(());
+    };
+    let root = match tree.set_page(0, FIRST_TEXT) {
+        Ok(()) => FIRST_ROOT,
+        Err(NoMemory) => NEW_ROOT,
+    };
+    assert_eq!(rt; tree.root(), root);
+    assert_eq!(rt; tree.page(0).is_empty(), root == NEW_ROOT);
+    if let Ok(snapshot) = tree.snapshot() {
+        assert_eq!(rt; snapshot.root(), root);
+    }
+    assert_eq!(rt; tree.root(), root);
+    Ok(())
+}

@@ -1,0 +1,4 @@
+pub mod Joining
+pub mod Nodes
+pub mod Parts
+pub mod Signed

@@ -1,0 +1,5 @@
+pub mod Joined
+pub mod Lamport
+pub mod Merkle
+pub mod Signatures
+pub mod Signing

@@ -1,0 +1,65 @@
+-- Signatures by 64 one-time keys under one public key, on lists of bytes.
+use Rattle.std.specs.Prelude.{◌≡◌, ℕ, ◌+◌, ◌-◌, ◌*◌, ◌/◌, ◌^◌, ◌<◌, List, ◌∷◌, ◌++◌, length, take, drop, slice_index, ◌==◌, if◌then◌else◌}
+use Rattle.sha2.specs.Sha256.{sha256}
+use Rattle.signing.specs.Joined.{joined}
+use Rattle.signing.specs.Lamport.{secret, public_hash, leaf_digest, bit_of}
+use Rattle.signing.specs.Merkle.{node, sibling, climbed}
+
+-- the root of the six levels over a seed's leaves
+abbrev pub public_key : List ℕ → List ℕ
+public_key seed = node (leaf_digest seed) 6 0
+
+-- what signs a bit of a hash: the secret of its value, and the public hash of the other value
+abbrev pub signed_bit : List ℕ → ℕ → List ℕ → ℕ → List ℕ
+signed_bit seed leaf hash bit =
+    secret seed leaf bit (bit_of hash bit) ++ public_hash seed leaf bit (1 - bit_of hash bit)
+
+-- the digest beside a leaf's path at a level
+abbrev pub sibling_digest : (ℕ → List ℕ) → ℕ → ℕ → List ℕ
+sibling_digest leaves leaf level = node leaves level (sibling (leaf / 2 ^ level))
+
+-- the leaf's number in one byte, what signs each bit of the text's hash, and the siblings on the path, upwards
+unfoldable pub signature_of : List ℕ → ℕ → List ℕ → List ℕ
+signature_of seed leaf text =
+    leaf ∷ joined 256 (signed_bit seed leaf (sha256 text)) ++ joined 6 (sibling_digest (leaf_digest seed) leaf)
+
+-- ---- the parts of a signature
+
+pub record IsSignature (signature : List ℕ) : Type 0 where
+  pub whole : length signature ≡ 16577
+  pub leaf : slice_index signature 0 < 64
+
+abbrev pub part : List ℕ → ℕ → List ℕ
+part signature at = take 32 (drop at signature)
+
+abbrev pub shown_secret : List ℕ → ℕ → List ℕ
+shown_secret signature bit = part signature (1 + 64 * bit)
+
+abbrev pub shown_hash : List ℕ → ℕ → List ℕ
+shown_hash signature bit = part signature (33 + 64 * bit)
+
+abbrev pub shown_sibling : List ℕ → ℕ → List ℕ
+shown_sibling signature level = part signature (16385 + 32 * level)
+
+-- ---- what verifies
+
+-- the public hashes of both values of a bit that a signature of this hash shows, value 0 first
+abbrev pub shown_pair : List ℕ → List ℕ → ℕ → List ℕ
+shown_pair signature hash bit =
+    if bit_of hash bit == 0
+    then sha256 (shown_secret signature bit) ++ shown_hash signature bit
+    else shown_hash signature bit ++ sha256 (shown_secret signature bit)
+
+-- the digest of the leaf by which a signature signs the text
+unfoldable pub shown_digest : List ℕ → List ℕ → List ℕ
+shown_digest signature text = sha256 (joined 256 (shown_pair signature (sha256 text)))
+
+-- the root that its path leads to
+unfoldable pub shown_root : List ℕ → List ℕ → List ℕ
+shown_root signature text =
+    climbed (shown_sibling signature) (slice_index signature 0) (shown_digest signature text) 6
+
+-- the bytes are a signature of the text under the public key
+pub record Verifies (public text signature : List ℕ) : Type 0 where
+  pub formed : IsSignature signature
+  pub root : shown_root signature text ≡ public

@@ -1,0 +1,18 @@
+//! Signatures by one-time keys under a tree of hashes: 64 signatures for each public key.
+//!
+//! A seed gives 64 one-time keys (Lamport, Constructing digital signatures from a one way function, SRI 1979), whose
+//! digests are the leaves of a tree (Merkle, A certified digital signature, CRYPTO 1989). Its root is the public key.
+//! The hash is SHA-256 (FIPS 180-4); the derivation of the secrets, the sizes and the layout are this project's own.
+#![tactic(auto)]
+
+mod secrets;
+mod signature;
+mod signer;
+mod tree;
+
+pub use signature::{SIGNATURE_LEN, Signature, verify, verify_bytes};
+pub use signer::{SignFault, Signer};
+pub use tree::{KeyTree, LEAVES};
+
+#[cfg(test)]
+mod tests;

@@ -1,0 +1,142 @@
+//! Signatures, and whether they verify.
+
+ghost use Rattle.std.specs.Prelude.{◌≡◌, ◌↔◌, ◌+◌, ◌<◌, ◌≤◌, ℕ, List, ◌++◌, IfOk, IsTrue, MatchOption, length, slice_index};
+ghost use Rattle.sha2.specs.Hashers.{Holds256};
+ghost use Rattle.sha2.specs.Sha256.{sha256};
+ghost use Rattle.signing.specs.Signatures.{IsSignature, shown_digest, shown_pair, shown_root, Verifies};
+
+use crate::secrets::{BITS, bit_of};
+use crate::tree::{LEAVES, LEVELS, parent};
+use authenticator::same;
+use sha2::{Digest, Sha256};
+use std::alloc::{AllocError, Global};
+use std::marker::Model;
+
+/// The length of a signature, in bytes: the leaf's number, two hashes for each bit, and one for each level.
+pub const SIGNATURE_LEN: usize = 16_577;
+
+/// Where the path begins in a signature.
+const PATH: usize = 16_385;
+
+/// A signature. It may be of any text and key, or of none: that [`verify`] tells.
+#[derive(Drop)]
+pub struct Signature {
+    bytes: Vec<u8>,
+}
+
+impl Model for Signature {
+    ghost use Rattle.std.specs.Prelude.{ℕ, List};
+    ghost use Rattle.signing.specs.Signatures.{IsSignature};
+
+    ghost Value = { List ℕ };
+
+    ghost view = { λ s. s.bytes.items };
+
+    ghost invariant = { λ s. IsSignature s.bytes.items };
+}
+
+impl Signature {
+    /// The signature of these bytes, in memory of its own, where they have the length and a leaf from 0 to 63.
+    pub fn from_bytes(alloc: Global, bytes: &[u8]) -> Result<Option<Signature>, AllocError>
+        ensures { IfOk result (λ found. MatchOption found (¬ IsSignature bytes.now) (λ s. (s ≡ bytes.now) × IsSignature bytes.now)) }
+    {
+        if !is_signature(bytes) {
+            return Ok(None);
+        }
+        let bytes = Vec::from_slice(alloc, bytes)?;
+        Ok(Some(Signature { bytes }))
+    }
+
+    pub(crate) fn from_vec(bytes: Vec<u8>) -> Signature
+        requires { IsSignature bytes.items }
+        ensures { result ≡ bytes.items }
+    {
+        Signature { bytes }
+    }
+
+    /// The bytes of this signature.
+    pub fn as_slice(&self) -> &[u8]
+        ensures value { result.now ≡ self.now }
+        ensures formed { IsSignature self.now }
+    {
+        self.bytes.as_slice()
+    }
+
+    /// The bytes of this signature, in the memory that it had.
+    pub fn into_bytes(self) -> Vec<u8>
+        ensures value { result.items ≡ self }
+        ensures formed { IsSignature self }
+    {
+        self.bytes
+    }
+}
+
+/// Whether the signature is one of the text under the public key. It takes no memory.
+pub fn verify(public: &[u8; 32], text: &[u8], signature: &Signature) -> bool
+    ensures { IsTrue result ↔ Verifies public.now text.now signature.now }
+{
+    verify_bytes(public, text, signature.as_slice())
+}
+
+/// Whether the bytes are a signature of the text under the public key. It takes no memory.
+pub fn verify_bytes(public: &[u8; 32], text: &[u8], signature: &[u8]) -> bool
+    ensures { IsTrue result ↔ Verifies public.now text.now signature.now }
+{
+    is_signature(signature) && same(&root_shown(signature, text), public)
+}
+
+fn is_signature(bytes: &[u8]) -> bool
+    ensures { IsTrue result ↔ IsSignature bytes.now }
+{
+    bytes.len() == SIGNATURE_LEN && bytes[0] < LEAVES
+}
+
+// The root that a signature's path leads to.
+fn root_shown(signature: &[u8], text: &[u8]) -> [u8; 32]
+    requires { length signature.now ≡ 16577 }
+    ensures { result ≡ shown_root signature.now text.now }
+{
+    let leaf = signature[0];
+    let mut digest = digest_shown(signature, text);
+    for level in 0..LEVELS {
+        let at = PATH + 32 * level as usize;
+        let beside = &signature[at..at + 32];
+        digest = if leaf >> level & 1 == 0 {
+            parent(&digest, beside)
+        } else {
+            parent(beside, &digest)
+        };
+    }
+    digest
+}
+
+// The digest of the leaf by which a signature signs the text.
+fn digest_shown(signature: &[u8], text: &[u8]) -> [u8; 32]
+    requires { length signature.now ≡ 16577 }
+    ensures { result ≡ shown_digest signature.now text.now }
+{
+    let hash = Sha256::digest(text);
+    let mut hasher = Sha256::new();
+    for bit in 0..BITS {
+        add_pair(&mut hasher, signature, &hash, bit);
+    }
+    hasher.finalize()
+}
+
+// Adds the public hashes of both values of a bit that a signature of this hash shows.
+fn add_pair(hasher: &mut Sha256, signature: &[u8], hash: &[u8; 32], bit: u16)
+    requires whole { length signature.now ≡ 16577 }
+    requires bit { bit < 256 }
+    ensures { (m : List ℕ) → Holds256 hasher.old m → Holds256 hasher.new (m ++ shown_pair signature.now hash.now bit) }
+{
+    let at = 1 + 64 * bit as usize;
+    let own = Sha256::digest(&signature[at..at + 32]);
+    let other = &signature[at + 32..at + 64];
+    if bit_of(hash, bit) == 0 {
+        hasher.update(own);
+        hasher.update(other);
+    } else {
+        hasher.update(other);
+        hasher.update(own);
+    }
+}

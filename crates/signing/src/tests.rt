@@ -1,0 +1,81 @@
+use crate::{KeyTree, LEAVES, SIGNATURE_LEN, SignFault, Signature, Signer, verify, verify_bytes};
+use hex::FromHex;
+use sha2::{Digest, Sha256};
+use std::test::Fail;
+
+// The values below come from a program of its own: Python's `hmac.new(seed, .., hashlib.sha256)` for each secret,
+// `hashlib.sha256` for each hash, and lists for the levels of the tree.
+const PUBLIC: &str = "25e441d2b6f59c4bf7210fe82ef554ad9ab38cd474492b4ea132304f6118d5ee";
+
+// The SHA-256 of the signatures of "a text" by leaves 0 and 37.
+const BY_LEAF_0: &str = "95056325b1906617d21796d9f90db7515f7f909e08c17be82f08fee17a109f5b";
+
+const BY_LEAF_37: &str = "fd1ee6ffc28f5163cc7eceabb9ac510a5c49144bcbca8b9645d99df3068a54ac";
+
+fn is_digest(signature: &Signature, digest: &str) -> bool {
+    let expected = <[u8; 32]>::from_hex(digest).ok();
+    expected == Some(Sha256::digest(signature.as_slice()))
+}
+
+#[test]
+fn values_from_outside(rt: HostRuntime) -> Result<(), Fail> {
+    let mut signer = Signer::from_seed(&[0; 32]);
+    assert!(rt; <[u8; 32]>::from_hex(PUBLIC).ok() == Some(signer.public()));
+    let first = signer.sign(rt.alloc(), b"a text")?;
+    assert!(rt; is_digest(&first, BY_LEAF_0));
+    let tree = KeyTree::new(&[0; 32]);
+    assert!(rt; tree.public() == signer.public());
+    let other = tree.sign_with(rt.alloc(), 37, b"a text")?;
+    assert!(rt; is_digest(&other, BY_LEAF_37));
+    assert!(rt; verify(&tree.public(), b"a text", &other));
+    Ok(())
+}
+
+#[test]
+fn each_part_counts(rt: HostRuntime) -> Result<(), Fail> {
+    let mut signer = Signer::from_seed(&[7; 32]);
+    let public = signer.public();
+    let signature = signer.sign(rt.alloc(), b"text")?;
+    assert!(rt; verify(&public, b"text", &signature));
+    assert!(rt; !verify(&public, b"texu", &signature));
+    assert!(rt; !verify(&[7; 32], b"text", &signature));
+    let mut bytes = signature.into_bytes();
+    assert_eq!(rt; bytes.len(), SIGNATURE_LEN);
+    // The leaf, a secret, a public hash, the last of the pairs, and both ends of the path.
+    for at in [0, 1, 33, 16_384, 16_385, 16_576] {
+        assert!(rt; at < bytes.len());
+        bytes[at] ^= 1;
+        assert!(rt; !verify_bytes(&public, b"text", &bytes), "at {at}");
+        bytes[at] ^= 1;
+    }
+    assert!(rt; verify_bytes(&public, b"text", &bytes));
+    Ok(())
+}
+
+#[test]
+fn keys_are_spent(rt: HostRuntime) -> Result<(), Fail> {
+    let mut signer = Signer::from_seed(&[1; 32]);
+    let public = signer.public();
+    for leaf in 0..LEAVES {
+        assert_eq!(rt; signer.used(), leaf);
+        let signature = signer.sign(rt.alloc(), b"text")?;
+        assert!(rt; verify(&public, b"text", &signature));
+    }
+    assert!(rt; signer.sign(rt.alloc(), b"text").err() == Some(SignFault::KeysSpent));
+    assert_eq!(rt; signer.used(), LEAVES);
+    Ok(())
+}
+
+#[test]
+fn forms(rt: HostRuntime) -> Result<(), Fail> {
+    let mut bytes = vec![in rt.alloc(); 0; SIGNATURE_LEN]?;
+    assert!(rt; Signature::from_bytes(rt.alloc(), &bytes[1..])?.is_none());
+    bytes[0] = 64;
+    assert!(rt; Signature::from_bytes(rt.alloc(), &bytes)?.is_none());
+    bytes[0] = 63;
+    match Signature::from_bytes(rt.alloc(), &bytes)? {
+        Some(signature) => assert!(rt; signature.as_slice() == bytes.as_slice()),
+        None => assert!(rt; false),
+    }
+    Ok(())
+}

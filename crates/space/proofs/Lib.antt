@@ -1,0 +1,5 @@
+pub mod Passing
+pub mod Listing
+pub mod Paging
+pub mod Keeping
+pub mod Finding

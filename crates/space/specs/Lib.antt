@@ -1,0 +1,3 @@
+pub mod Applying
+pub mod Births
+pub mod Counted

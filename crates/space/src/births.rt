@@ -1,0 +1,32 @@
+//! Birth numbers of new tuples.
+
+ghost use Rattle.std.specs.Prelude.{◌≡◌, ℕ, ◌%◌, ◌^◌, ◌<◌, nat_lt, length, slice_index};
+ghost use Rattle.space.specs.Births.{first_passing};
+
+/// How many pages there are. A birth number lies on the page of its remainder by this number.
+pub const PAGES: usize = 256;
+
+/// How many tuples lie on one page at the most.
+pub const MAX_ON_PAGE: u8 = 64;
+
+/// The table of pages with no tuple.
+pub fn empty_pages() -> [u8; PAGES]
+    ensures { (page : ℕ) → page < 256 → slice_index result page ≡ 0 }
+{
+    [0; PAGES]
+}
+
+/// The least birth number from `next` on whose page has room, by how many tuples each page holds. Constant time.
+pub fn next_birth(page_counts: &[u8], next: u64) -> u64
+    requires pages { length page_counts.now ≡ 256 }
+    requires bound { next < 2 ^ 62 }
+    ensures { result ≡ first_passing (λ birth. nat_lt (slice_index page_counts.now (birth % 256)) 64) 256 next }
+{
+    let end = next + PAGES as u64;
+    for birth in next..end {
+        if page_counts[(birth % PAGES as u64) as usize] < MAX_ON_PAGE {
+            return birth;
+        }
+    }
+    end
+}

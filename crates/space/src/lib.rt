@@ -1,0 +1,18 @@
+//! One process's tuple space: a bag of tuples in order of age (Gelernter, Generative communication in Linda, TOPLAS
+//! 1985) under the operations of DepSpace (Bessani and others, EuroSys 2008, section 3).
+//!
+//! The space holds at most [`MAX_TUPLES`] tuples. Where several match, the oldest is chosen. Each stored tuple has a
+//! birth number, which puts it on one of [`PAGES`] pages of at most [`MAX_ON_PAGE`] tuples; that part is this project's
+//! own.
+#![tactic(auto)]
+
+mod births;
+mod laws;
+mod matching;
+#[cfg(test)]
+mod tests;
+mod tuples;
+
+pub use births::{MAX_ON_PAGE, PAGES};
+pub use laws::{births_are_least, states_stay_states, tuples_follow_states};
+pub use tuples::{MAX_TUPLES, PeekFault, Space};

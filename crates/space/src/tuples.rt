@@ -1,0 +1,271 @@
+//! The space and its operations.
+
+ghost use Rattle.std.specs.Prelude.{◌≡◌, ◌^◌, ◌<◌, ◌≤◌, false, length, remove, slice_index_or, position, is_some, OnOk, OnErr, IfOk, IsTrue, ◌↔◌};
+ghost use Rattle.tuple_tree.specs.Values.{IsTuple};
+ghost use Rattle.tuple_codec.specs.Operations.{cas, rd_all};
+ghost use Rattle.template_match.specs.Tests.{is_match};
+ghost use Rattle.tuple_codec.specs.OperationView.{operation_of, outcome_of};
+ghost use Rattle.space.specs.Applying.{outcome, tuples_after, first_match, found_or_absent, has_room, is_read_only};
+ghost use Rattle.space.specs.Births.{IsState, empty_state, tuples_of, state_after, with_birth, with_tuple, without_match};
+
+use crate::births::{PAGES, empty_pages, next_birth};
+use crate::matching::{copies_of_matches, index_of_match};
+use std::alloc::{Allocator, Global};
+use std::marker::Model;
+use thiserror::Error;
+use tuple_codec::{Answer, Max, Op};
+use tuple_tree::{NoMemory, Template, Tuple};
+
+/// How many tuples a space holds at the most.
+pub const MAX_TUPLES: usize = 8192;
+
+const BIRTHS_END: u64 = 1 << 62;
+
+/// Why a space was not read.
+#[derive(Clone, Copy, Debug, PartialEq, Eq, Error)]
+pub enum PeekFault {
+    #[error("not a read-only operation")]
+    NotReadOnly,
+    #[error("out of memory")]
+    NoMemory,
+}
+
+impl From<NoMemory> for PeekFault {
+    ghost use Rattle.std.specs.Prelude.{◌≡◌};
+    ghost use Rattle.space.specs.declared.tuples.PeekFault.{PeekFault};
+
+    ghost from_gives = { λ _ fault. fault ≡ PeekFault.NoMemory };
+
+    fn from(_failed: NoMemory) -> PeekFault {
+        PeekFault::NoMemory
+    }
+}
+
+/// A tuple space of one process.
+#[derive(Drop)]
+pub struct Space {
+    alloc: Global,
+    entries: Vec<(u64, Tuple<Global>)>,
+    next: u64,
+    // How many tuples lie on each page, so that a birth number is found without a look at the tuples.
+    page_counts: [u8; PAGES],
+}
+
+impl Model for Space {
+    ghost use Rattle.std.specs.Prelude.{◌≡◌};
+    ghost use Rattle.space.specs.Births.{SpaceState, space_code};
+    ghost use Rattle.space.specs.Counted.{IsCounted};
+
+    ghost Value = { SpaceState };
+
+    ghost coded = { space_code };
+
+    ghost view = { λ a. record { entries = a.entries.items; next = a.next } };
+
+    ghost invariant = { λ a. IsCounted a.entries.items a.next a.page_counts };
+}
+
+impl Space {
+    /// The empty space. Takes no memory.
+    pub fn new(alloc: Global) -> Space
+        ensures state { result ≡ empty_state }
+        ensures valid { IsState result }
+    {
+        Space {
+            alloc,
+            entries: Vec::new(alloc),
+            next: 0,
+            page_counts: empty_pages(),
+        }
+    }
+
+    /// How many tuples there are, 0 to 8,192.
+    pub fn count(&self) -> usize
+        ensures value { result ≡ length (tuples_of self.now) }
+        ensures bound { result ≤ 8192 }
+    {
+        self.entries.len()
+    }
+
+    /// Whether an operation may still be applied: birth numbers stay below 2 to the power of 62.
+    pub fn births_left(&self) -> bool
+        ensures { IsTrue result ↔ (self.now.next < 2 ^ 62) }
+    {
+        self.next < BIRTHS_END
+    }
+
+    // The value of each space is a state.
+    fn note_state(&self)
+        ensures { IsState self.now }
+    {
+        let _next = self.next;
+    }
+
+    // Adds a tuple as the newest one. An `Err` changes nothing.
+    fn insert(&mut self, tuple: Tuple<Global>) -> Result<(), NoMemory>
+        requires births { self.old.next < 2 ^ 62 }
+        requires room { length self.old.entries < 8192 }
+        ensures ok { OnOk result (self.new ≡ with_birth self.old tuple) }
+        ensures err { OnErr result (self.new ≡ self.old) }
+    {
+        note_tuple(&tuple);
+        let birth = next_birth(&self.page_counts, self.next);
+        self.entries.push((birth, tuple))?;
+        self.page_counts[(birth % PAGES as u64) as usize] += 1;
+        self.next = birth + 1;
+        Ok(())
+    }
+
+    // Adds a copy of the tuple where there is room, and says whether there was. An `Err` changes nothing.
+    fn add<A: Allocator>(&mut self, tuple: &Tuple<A>) -> Result<bool, NoMemory>
+        requires { self.old.next < 2 ^ 62 }
+        ensures ok { OnOk result (self.new ≡ with_tuple self.old tuple.now) }
+        ensures room { IfOk result (λ added. added ≡ has_room (tuples_of self.old)) }
+        ensures err { OnErr result (self.new ≡ self.old) }
+    {
+        if self.count() >= MAX_TUPLES {
+            return Ok(false);
+        }
+        let copy = tuple.copy_in(self.alloc)?;
+        self.insert(copy)?;
+        Ok(true)
+    }
+
+    fn index_of<A: Allocator>(&self, template: &Template<A>) -> Option<usize>
+        ensures { result ≡ position (λ e. is_match template.now e.1) self.now.entries }
+    {
+        index_of_match(self.entries.as_slice(), template)
+    }
+
+    fn copy_at(&self, index: usize) -> Result<Tuple<Global>, NoMemory>
+        requires { index < length self.now.entries }
+        ensures { IfOk result (λ t. t ≡ (slice_index_or self.now.entries index (0, t)).1) }
+    {
+        self.entries[index].1.copy_in(self.alloc)
+    }
+
+    fn remove_at(&mut self, index: usize) -> Tuple<Global>
+        requires { index < length self.old.entries }
+        ensures value { result ≡ (slice_index_or self.old.entries index (0, result)).1 }
+        ensures state { self.new ≡ record { entries = remove self.old.entries index; next = self.old.next } }
+    {
+        let (birth, tuple) = self.entries.remove(index);
+        self.page_counts[(birth % PAGES as u64) as usize] -= 1;
+        tuple
+    }
+
+    // Reads the oldest match.
+    fn read<A: Allocator>(&self, template: &Template<A>) -> Result<Answer<Global>, NoMemory>
+        ensures { IfOk result (λ a. outcome_of a ≡ found_or_absent (first_match template.now (tuples_of self.now))) }
+    {
+        match self.index_of(template) {
+            Some(index) => Ok(Answer::Found(self.copy_at(index)?)),
+            None => Ok(Answer::Absent),
+        }
+    }
+
+    // Reads the oldest matches, so many at the most.
+    fn read_all<A: Allocator>(
+        &self,
+        max: Max,
+        template: &Template<A>,
+    ) -> Result<Answer<Global>, NoMemory>
+        ensures { IfOk result (λ a. outcome_of a ≡ outcome (tuples_of self.now) (rd_all max.count template.now)) }
+    {
+        let copies = copies_of_matches(self.alloc, self.entries.as_slice(), template, max)?;
+        Ok(Answer::All(copies))
+    }
+
+    // Takes the oldest match.
+    fn take<A: Allocator>(&mut self, template: &Template<A>) -> Answer<Global>
+        ensures value { outcome_of result ≡ found_or_absent (first_match template.now (tuples_of self.old)) }
+        ensures state { self.new ≡ without_match self.old template.now }
+    {
+        match self.index_of(template) {
+            Some(index) => Answer::Found(self.remove_at(index)),
+            None => Answer::Absent,
+        }
+    }
+
+    fn has_match<A: Allocator>(&self, template: &Template<A>) -> bool
+        ensures { result ≡ is_some (first_match template.now (tuples_of self.now)) }
+    {
+        self.index_of(template).is_some()
+    }
+
+    // Adds a copy of the tuple where nothing matches.
+    fn swap<A: Allocator>(
+        &mut self,
+        template: &Template<A>,
+        tuple: &Tuple<A>,
+    ) -> Result<Answer<Global>, NoMemory>
+        requires { self.old.next < 2 ^ 62 }
+        ensures value { IfOk result (λ a. outcome_of a ≡ outcome (tuples_of self.old) (cas template.now tuple.now)) }
+        ensures ok { OnOk result (self.new ≡ state_after self.old (cas template.now tuple.now)) }
+        ensures err { OnErr result (self.new ≡ self.old) }
+    {
+        if self.has_match(template) {
+            return Ok(Answer::Swapped(false));
+        }
+        if self.add(tuple)? {
+            Ok(Answer::Swapped(true))
+        } else {
+            Ok(Answer::Full)
+        }
+    }
+
+    /// Applies an operation. A tuple that is added is copied, and so is one that is read; one that is taken is handed
+    /// out. An `Err` changes nothing.
+    pub fn apply<A: Allocator>(&mut self, op: &Op<A>) -> Result<Answer<Global>, NoMemory>
+        requires { self.old.next < 2 ^ 62 }
+        ensures answer { IfOk result (λ a. outcome_of a ≡ outcome (tuples_of self.old) (operation_of op.now)) }
+        ensures state { OnOk result (self.new ≡ state_after self.old (operation_of op.now)) }
+        ensures tuples { OnOk result (tuples_of self.new ≡ tuples_after (tuples_of self.old) (operation_of op.now)) }
+        ensures valid { IsState self.new }
+        ensures err { OnErr result (self.new ≡ self.old) }
+    {
+        let result = self.answer(op);
+        self.note_state();
+        result
+    }
+
+    fn answer<A: Allocator>(&mut self, op: &Op<A>) -> Result<Answer<Global>, NoMemory>
+        requires { self.old.next < 2 ^ 62 }
+        ensures answer { IfOk result (λ a. outcome_of a ≡ outcome (tuples_of self.old) (operation_of op.now)) }
+        ensures state { OnOk result (self.new ≡ state_after self.old (operation_of op.now)) }
+        ensures err { OnErr result (self.new ≡ self.old) }
+    {
+        match op {
+            Op::Out(tuple) => {
+                if self.add(tuple)? {
+                    Ok(Answer::Done)
+                } else {
+                    Ok(Answer::Full)
+                }
+            }
+            Op::Rdp(template) => self.read(template),
+            Op::Inp(template) => Ok(self.take(template)),
+            Op::Cas(template, tuple) => self.swap(template, tuple),
+            Op::RdAll(max, template) => self.read_all(*max, template),
+        }
+    }
+
+    /// Answers an operation that changes nothing; any other is refused before memory is looked at.
+    pub fn peek<A: Allocator>(&self, op: &Op<A>) -> Result<Answer<Global>, PeekFault>
+        ensures answer { IfOk result (λ a. outcome_of a ≡ outcome (tuples_of self.now) (operation_of op.now)) }
+        ensures not_read_only { (result ≡ Err PeekFault.NotReadOnly) ↔ (is_read_only (operation_of op.now) ≡ false) }
+    {
+        match op {
+            Op::Rdp(template) => Ok(self.read(template)?),
+            Op::RdAll(max, template) => Ok(self.read_all(*max, template)?),
+            Op::Out(_) | Op::Inp(_) | Op::Cas(_, _) => Err(PeekFault::NotReadOnly),
+        }
+    }
+}
+
+// Each tuple that the program holds is within the limits.
+fn note_tuple(tuple: &Tuple<Global>)
+    ensures { IsTuple tuple.now }
+{
+    let _depth = tuple.depth();
+}

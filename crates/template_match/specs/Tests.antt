@@ -1,0 +1,37 @@
+-- A test that computes whether a template matches a tuple.
+use Rattle.std.specs.Prelude.{Bool, true, false, ◌&&◌, ◌==◌}
+use Rattle.std.specs.Ordering.{int_eq}
+use Rattle.std.specs.Str.{bytes_eq}
+use Rattle.std.specs.Bool.{beq}
+use Rattle.tuple_tree.specs.Items.{Item, leaf, inner, none, item}
+use Rattle.tuple_tree.specs.Values.{Datum, number, text, bytes, truth, Slot, actual, any, formal, kind_of, TupleTree, TemplateTree}
+use Rattle.tuple_tree.specs.ValuesCode.{kind_number}
+
+-- Whether two plain values are equal; values of different kinds never are.
+abbrev pub datum_eq : Datum → Datum → Bool
+datum_eq (number m) (number n) = int_eq m n
+datum_eq (text s) (text t) = bytes_eq s t
+datum_eq (bytes s) (bytes t) = bytes_eq s t
+datum_eq (truth b) (truth c) = beq b c
+datum_eq _ _ = false
+
+abbrev pub is_datum : Datum → Item Datum → Bool
+is_datum x (leaf y) = datum_eq x y
+is_datum x (inner t) = false
+
+abbrev pub is_slot_match : Slot → Item Datum → Bool
+is_slot_match (actual x) v = is_datum x v
+is_slot_match any v = true
+is_slot_match (formal k) v = kind_number (kind_of v) == kind_number k
+
+abbrev mutual
+  pub is_field_match : Item Slot → Item Datum → Bool
+  is_field_match (leaf s) v = is_slot_match s v
+  is_field_match (inner p) (leaf x) = false
+  is_field_match (inner p) (inner t) = is_match p t
+
+  pub is_match : TemplateTree → TupleTree → Bool
+  is_match none none = true
+  is_match none (item v t) = false
+  is_match (item f p) none = false
+  is_match (item f p) (item v t) = is_field_match f v && is_match p t

@@ -1,0 +1,109 @@
+//! Which tuples a template matches.
+//!
+//! A template matches a tuple where both have the same number of fields and each field matches (Bessani and others,
+//! DepSpace, EuroSys 2008, section 2): an actual an equal value, a formal each value of its kind, `Any` each value, and
+//! a nested template each nested tuple that it matches. Formals by kind and nesting are this project's own.
+#![tactic(auto)]
+
+ghost use Rattle.std.specs.Prelude.{◌≡◌, IsTrue, ◌↔◌};
+ghost use Rattle.tuple_tree.specs.Values.{kind_of, TupleTree, TemplateTree};
+ghost use Rattle.tuple_tree.specs.TupleView.{value_of, tuple_of};
+ghost use Rattle.tuple_tree.specs.TemplateView.{field_of, template_of};
+ghost use Rattle.template_match.specs.Matches.{Matches, FieldMatches};
+ghost use Rattle.template_match.specs.Tests.{is_match};
+
+use std::alloc::Allocator;
+use tuple_tree::{Field, Kind, Template, Tuple, Value};
+
+fn is_of_kind<B: Allocator>(kind: Kind, value: &Value<B>) -> bool
+    ensures { IsTrue result ↔ (kind_of (value_of value.now) ≡ kind) }
+{
+    value.kind() == kind
+}
+
+/// Whether the template matches the tuple, wherever they lie. Takes no memory.
+pub fn matches<A: Allocator, B: Allocator>(template: &Template<A>, tuple: &Tuple<B>) -> bool
+    ensures relation { IsTrue result ↔ Matches template.now tuple.now }
+    ensures value { result ≡ is_match template.now tuple.now }
+{
+    all_match(template.fields(), tuple.values())
+}
+
+#[cycle(matching)]
+fn all_match<A: Allocator, B: Allocator>(fields: &[Field<A>], values: &[Value<B>]) -> bool
+    ensures { IsTrue result ↔ Matches (template_of fields.now) (tuple_of values.now) }
+{
+    if fields.len() != values.len() {
+        return false;
+    }
+    for i in 0..fields.len() {
+        if !field_matches(&fields[i], &values[i]) {
+            return false;
+        }
+    }
+    true
+}
+
+#[cycle(matching)]
+fn field_matches<A: Allocator, B: Allocator>(field: &Field<A>, value: &Value<B>) -> bool
+    ensures { IsTrue result ↔ FieldMatches (field_of field.now) (value_of value.now) }
+{
+    match (field, value) {
+        (Field::Actual(a), Value::Atom(b)) => a.same(b),
+        (Field::Any, _) => true,
+        (Field::Formal(kind), value) => is_of_kind(*kind, value),
+        (Field::Nested(inner), Value::Nested(nested)) => all_match(inner.fields(), nested.values()),
+        _ => false,
+    }
+}
+
+/// The test of a match by recursion on the template is true exactly where the template matches.
+pub fn matching_is_decided()
+    ensures { (p : TemplateTree) (t : TupleTree) → IsTrue (is_match p t) ↔ Matches p t }
+{}
+
+#[cfg(test)]
+mod tests {
+    use super::*;
+    use std::alloc::Global;
+    use std::test::Fail;
+    use tuple_tree::Atom;
+
+    fn tuple_of_one(alloc: Global, value: Value<Global>) -> Tuple<Global> {
+        let mut tuple = Tuple::new_in(alloc);
+        let _ = tuple.push(value);
+        tuple
+    }
+
+    fn template_of_one(alloc: Global, field: Field<Global>) -> Template<Global> {
+        let mut template = Template::new_in(alloc);
+        let _ = template.push(field);
+        template
+    }
+
+    fn number(value: i64) -> Atom<Global> {
+        Atom::Number(value)
+    }
+
+    // Whether `((*))`, `((2))` and `(?tuple)` match `((1))`.
+    fn nested_matches(alloc: Global) -> [bool; 3] {
+        let inner = tuple_of_one(alloc, Value::Atom(number(1)));
+        let tuple = tuple_of_one(alloc, inner.into_value());
+        let any = template_of_one(alloc, Field::Any);
+        let of_any = template_of_one(alloc, any.into_field());
+        let two = template_of_one(alloc, Field::Actual(number(2)));
+        let of_two = template_of_one(alloc, two.into_field());
+        let of_tuple = template_of_one(alloc, Field::Formal(Kind::Tuple));
+        [
+            matches(&of_any, &tuple),
+            matches(&of_two, &tuple),
+            matches(&of_tuple, &tuple),
+        ]
+    }
+
+    #[test]
+    fn nested_fields(rt: HostRuntime) -> Result<(), Fail> {
+        assert_eq!(rt; nested_matches(rt.alloc()), [true, false, true]);
+        Ok(())
+    }
+}

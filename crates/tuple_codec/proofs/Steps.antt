@@ -1,0 +1,139 @@
+-- Steps of reading.
+use Rattle.std.proofs.Common.{◌≡◌, ℕ, zero, suc, ◌+◌, ◌-◌, ◌<◌, ◌≤◌, List, [], ◌∷◌, ◌++◌, length, take, drop, Some, None, Bool, true, false, ap, refl, sym, ◌∙◌, arith, append_assoc, length-append}
+use Rattle.std.proofs.lemmas.Bool.{le-ltb, eqb-true}
+use Rattle.std.proofs.lemmas.List.{take-append-drop, drop_at, length-take}
+use Rattle.std.proofs.lemmas.Str.{is_utf8-from_IsUtf8, IsUtf8-from_is_utf8}
+use Rattle.std.specs.Str.{IsUtf8, is_utf8}
+use lib.Dec.{ltb, eqb}
+use Rattle.tuple_tree.specs.Items.{Item, leaf, inner, Items, none, how_many, with_last, levels_in, item_length, whole_length}
+use Rattle.tuple_tree.specs.Limits.{AreItems, IsWithin}
+use Rattle.tuple_tree.specs.Values.{AreBytes}
+use Rattle.tuple_tree.proofs.Growing.{how_many-with_last, levels_in-with_last, length_in-with_last, AreItems-with_last}
+use Rattle.tuple_codec.specs.Gives.{Fails}
+use Rattle.tuple_codec.specs.declared.bad.Bad.{Bad}
+use Rattle.tuple_codec.specs.declared.bad.Bad.TheVariants as bad
+use Rattle.tuple_codec.specs.Reading.{◌>>=◌, Reader, read_as, more, byte_at, string_at, text_at, item_with, items_with, nothing, inner_at, item_at, items_at, framed}
+use Rattle.tuple_codec.specs.Spelling.{item_spelling}
+use Rattle.tuple_codec.proofs.Readers.{Found, parts, byte_found, bytes_take}
+use Rattle.tuple_codec.proofs.Leaves.{ReadsLeaves}
+use Rattle.tuple_codec.proofs.Trees.{item_found, item_spelling_length}
+
+pub text_there : (bs s rest : List ℕ) → string_at bs ≡ Some (s, rest) → IsUtf8 s → text_at bs ≡ Some (s, rest)
+unfolding text_at
+text_there bs s rest e u = rw (e, is_utf8-from_IsUtf8 s u) refl
+
+is_not_utf8 : (s : List ℕ) → ¬ (IsUtf8 s) → is_utf8 s ≡ false
+is_not_utf8 s refutes =
+    let cases : (b : Bool) → is_utf8 s ≡ b → is_utf8 s ≡ false = elim [ true ↦ λ e. absurd (refutes (IsUtf8-from_is_utf8 s e)) | false ↦ λ e. e ] in
+    cases (is_utf8 s) refl
+
+pub text_not_there : (bs s rest : List ℕ) → string_at bs ≡ Some (s, rest) → ¬ (IsUtf8 s) → text_at bs ≡ None
+unfolding text_at
+text_not_there bs s rest e u = rw (e, is_not_utf8 s u) refl
+
+pub byte_length : (bs front : List ℕ) (n : ℕ) → byte_at bs ≡ Some (n, front) → length bs ≡ length front + 1
+byte_length [] front n e = absurd (let g : ⊥ = cc in g)
+byte_length (b ∷ bs) front n e = omega (arith, ap length (parts e).1)
+
+-- Reading one after another, so far as the loop has come.
+module _ {X S : Type 0} (at : Reader X) (grow : S → X → S) where
+  pub step : (n i : ℕ) (s : S) (bs : List ℕ) → i < n → more at grow (n - i) s bs ≡ (at bs >>= λ x. more at grow (n - (i + 1)) (grow s x.0) x.1)
+  step n i s bs p = let e : n - i ≡ suc (n - (i + 1)) = omega arith in rw e refl
+
+  pub goes_on : (n i : ℕ) (s u : S) (x : X) (bs after : List ℕ) → i < n → at bs ≡ Some (x, after) → u ≡ grow s x → more at grow (n - (i + 1)) u after ≡ more at grow (n - i) s bs
+  goes_on n i s u x bs after p e f = sym (step n i s bs p ∙ rw (e, f) refl)
+
+  pub one_fails : (e : Bad) (n i : ℕ) (s : S) (bs : List ℕ) → i < n → Fails e (at bs) → Fails e (more at grow (n - i) s bs)
+  one_fails bad.NoMemory n i s bs p h = tt
+  one_fails bad.Malformed n i s bs p h = step n i s bs p ∙ rw h refl
+
+-- the whole list, from the turn that the loop has reached
+pub whole : {L : Type 0} (at : Reader (Item L)) (bs front rest : List ℕ) (n i : ℕ) (t : Items L) → byte_at bs ≡ Some (n, front) → n ≤ 32 → more at with_last (n - i) t rest ≡ more at with_last n none front
+    → more at with_last (n - i) t rest ≡ items_with at bs
+unfolding items_with
+whole at bs front rest n i t e p h = let l : ltb 32 n ≡ false = le-ltb 32 n p in h ∙ sym (rw (e, l) refl)
+
+-- Trees so far as the loop has come: i items of a list that stood in at most 1,024 bytes.
+pub record Filled {L : Type 0} (IsLeaf : L → Type 0) (length_of : L → ℕ) (levels i : ℕ) (t : Items L) (rest : List ℕ) : Type 0 where
+  pub items : how_many t ≡ i
+  pub depth : levels_in t ≤ levels
+  pub each : AreItems IsLeaf t
+  pub bytes : whole_length length_of t + length rest ≤ 1024
+  pub valid : AreBytes rest
+
+pub filled_start : {L : Type 0} (IsLeaf : L → Type 0) (length_of : L → ℕ) (levels n : ℕ) (bs front : List ℕ) → AreBytes bs → byte_at bs ≡ Some (n, front) → length bs ≤ 1024 → Filled IsLeaf length_of levels 0 none front
+filled_start IsLeaf length_of levels n bs front h e p = record { items = refl; depth = omega arith; each = tt; bytes = omega (arith, byte_length bs front n e); valid = (byte_found bs front n h e).0.bytes }
+
+module _ {L : Type 0} (IsLeaf : L → Type 0) (length_of : L → ℕ) (spelling : L → List ℕ) (leaf_at : ℕ → Reader L) (reads : ReadsLeaves IsLeaf length_of spelling leaf_at) where
+  pub filled_more : (levels i : ℕ) (t : Items L) (x : Item L) (rest after : List ℕ) → Filled IsLeaf length_of levels i t rest → i < 32 → levels ≤ 7 → item_at leaf_at levels rest ≡ Some (x, after)
+      → IsWithin IsLeaf length_of (with_last t x) × Filled IsLeaf length_of levels (i + 1) (with_last t x) after
+  filled_more levels i t x rest after f p q e =
+      let a = item_found IsLeaf length_of spelling leaf_at reads levels rest after x f.valid e in
+      let l : length rest ≡ item_length length_of x + length after =
+      ap length a.0.whole ∙ omega (arith, length-append (item_spelling spelling x) after, item_spelling_length IsLeaf length_of spelling leaf_at reads x) in
+      let each = AreItems-with_last IsLeaf t x f.each a.1.0 in
+      let n = how_many-with_last t x in
+      let d = levels_in-with_last t x in
+      let b = length_in-with_last length_of t x in (
+        record { fields = omega (arith, f.items); levels = omega (arith, f.depth, a.1.1); length = omega (arith, f.bytes); each = each },
+        record { items = omega (arith, f.items); depth = omega (arith, f.depth, a.1.1); each = each; bytes = omega (arith, f.bytes); valid = a.0.bytes },
+      )
+
+not_equal : (a b : ℕ) → (a ≡ b → ⊥) → eqb a b ≡ false
+not_equal a b ne =
+    let cases : (c : Bool) → eqb a b ≡ c → eqb a b ≡ false = elim [ true ↦ λ e. absurd (ne (eqb-true a b e)) | false ↦ λ e. e ] in
+    cases (eqb a b) refl
+
+-- What a tag that is no 5 leads to, and a 5.
+module _ {L : Type 0} (leaf_at : ℕ → Reader L) where
+  pub at_leaf : (levels tag : ℕ) (bs front : List ℕ) → byte_at bs ≡ Some (tag, front) → (tag ≡ 5 → ⊥) → item_at leaf_at levels bs ≡ read_as leaf (leaf_at tag) front
+  unfolding item_with
+  at_leaf levels tag bs front e ne = let n : eqb tag 5 ≡ false = not_equal tag 5 ne in rw (e, n) refl
+
+  pub at_five : (levels tag : ℕ) (bs front : List ℕ) → byte_at bs ≡ Some (tag, front) → tag ≡ 5 → item_at leaf_at levels bs ≡ inner_at leaf_at levels front
+  unfolding item_with
+  at_five levels tag bs front e f = rw (e, f) refl
+
+  pub no_levels : (bs : List ℕ) → inner_at leaf_at 0 bs ≡ None
+  unfolding inner_at nothing
+  no_levels bs = refl
+
+  pub inner_below : (levels : ℕ) (bs : List ℕ) → 0 < levels → inner_at leaf_at levels bs ≡ read_as inner (items_at leaf_at (levels - 1)) bs
+  unfolding inner_at
+  inner_below zero bs p = absurd (omega arith)
+  inner_below (suc levels) bs p = let e : suc levels - 1 ≡ levels = omega arith in rw e refl
+
+  pub inner_there : (levels : ℕ) (bs rest : List ℕ) (t : Items L) → 0 < levels → items_at leaf_at (levels - 1) bs ≡ Some (t, rest) → inner_at leaf_at levels bs ≡ Some (inner t, rest)
+  inner_there levels bs rest t p e = inner_below levels bs p ∙ ap (λ o. o >>= λ x. Some (inner x.0, x.1)) e
+
+  pub inner_fails : (e : Bad) (levels tag : ℕ) (bs front : List ℕ) → byte_at bs ≡ Some (tag, front) → tag ≡ 5 → 0 < levels → Fails e (items_at leaf_at (levels - 1) front) → Fails e (item_at leaf_at levels bs)
+  inner_fails bad.NoMemory levels tag bs front e f p h = tt
+  inner_fails bad.Malformed levels tag bs front e f p h = at_five levels tag bs front e f ∙ inner_below levels front p ∙ ap (λ o. o >>= λ x. Some (inner x.0, x.1)) h
+
+-- What follows a value that was read within the first bytes.
+pub frame_rest : (bs text rest : List ℕ) (limit : ℕ) → take limit bs ≡ text ++ rest → (length rest ≤ length (take limit bs)) × (drop (length (take limit bs) - length rest) bs ≡ rest ++ drop limit bs)
+frame_rest bs text rest limit e =
+    let n : length (take limit bs) ≡ length text + length rest = ap length e ∙ length-append text rest in
+    let m : length text ≡ length (take limit bs) - length rest = omega (arith, n) in
+    let w : bs ≡ text ++ (rest ++ drop limit bs) = sym (take-append-drop limit bs) ∙ ap (λ xs. xs ++ drop limit bs) e ∙ append_assoc text rest (drop limit bs) in
+    (omega (arith, n), ap (drop (length (take limit bs) - length rest)) w ∙ drop_at text (rest ++ drop limit bs) (length (take limit bs) - length rest) m)
+
+pub framed_there : {V : Type 0} (at : Reader V) (bs rest : List ℕ) (limit : ℕ) (v : V) → at (take limit bs) ≡ Some (v, rest) → framed limit at bs ≡ Some (v, rest ++ drop limit bs)
+unfolding framed
+framed_there at bs rest limit v e = rw e refl
+
+pub framed_fails : {V : Type 0} (e : Bad) (at : Reader V) (bs : List ℕ) (limit : ℕ) → Fails e (at (take limit bs)) → Fails e (framed limit at bs)
+unfolding framed
+framed_fails bad.NoMemory at bs limit h = tt
+framed_fails bad.Malformed at bs limit h = rw h refl
+
+-- a reader at the front, by how many of its bytes are left
+pub frame_read : {V : Type 0} (IsValue : V → Type 0) (spelling : V → List ℕ) (limit : ℕ) (at : Reader V) (bs front rest : List ℕ) (v : V) → Found IsValue spelling at → AreBytes bs → front ≡ take limit bs → at front ≡ Some (v, rest)
+    → (length rest ≤ length front) × (length front - length rest ≤ length bs) × (framed limit at bs ≡ Some (v, drop (length front - length rest) bs))
+frame_read IsValue spelling limit at bs front rest v reads h f e =
+    let e' : at (take limit bs) ≡ Some (v, rest) = ap at (sym f) ∙ e in
+    let a = reads (take limit bs) rest v (bytes_take limit bs h) e' in
+    let r = frame_rest bs (spelling v) rest limit a.0.whole in
+    let l : length front ≡ length (take limit bs) = ap length f in
+    let d : drop (length front - length rest) bs ≡ rest ++ drop limit bs = ap (λ n. drop (n - length rest) bs) l ∙ r.1 in
+    (omega (arith, r.0, l), omega (arith, l, length-take limit bs), framed_there at bs rest limit v e' ∙ ap (λ xs. Some (v, xs)) (sym d))

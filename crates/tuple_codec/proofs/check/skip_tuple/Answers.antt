@@ -1,0 +1,27 @@
+use Rattle.std.proofs.Common.{◌∙◌, ap, sym, Some, arith}
+use Rattle.tuple_tree.specs.Values.{IsDatum, datum_length}
+use Rattle.tuple_codec.specs.Reading.{datum_at, items_at}
+use Rattle.tuple_codec.specs.Spelling.{datum_spelling, tuple_spelling}
+use Rattle.tuple_codec.proofs.Leaves.{datum_leaves}
+use Rattle.tuple_codec.proofs.Trees.{IsListOf, items_found}
+use Rattle.tuple_codec.proofs.Skipping.{frame_skip, frame_skip_fails}
+use Rattle.tuple_codec.proofs.check.skip_tuple.Goals as goal
+
+pub overflow_sub-front : goal.overflow_sub-front
+overflow_sub-front c =
+    let f = items_found IsDatum datum_length datum_spelling datum_at datum_leaves 7 in
+    (frame_skip (IsListOf IsDatum datum_length datum_spelling datum_at datum_leaves 7) tuple_spelling 1024 (items_at datum_at 7) c.args.bytes.now c.frame-front.result.now c.in-Some.rest.now f (λ i. omega (arith, c.type_inv.bytes i)) c.frame-front.ensures.value c.in-Some.ensures).0
+
+pub behind-requires : goal.behind-requires
+behind-requires c =
+    let f = items_found IsDatum datum_length datum_spelling datum_at datum_leaves 7 in
+    (frame_skip (IsListOf IsDatum datum_length datum_spelling datum_at datum_leaves 7) tuple_spelling 1024 (items_at datum_at 7) c.args.bytes.now c.frame-front.result.now c.in-Some.rest.now f (λ i. omega (arith, c.type_inv.bytes i)) c.frame-front.ensures.value c.in-Some.ensures).1
+
+pub returns-in-Some : goal.returns-in-Some
+returns-in-Some c =
+    let f = items_found IsDatum datum_length datum_spelling datum_at datum_leaves 7 in
+    (frame_skip (IsListOf IsDatum datum_length datum_spelling datum_at datum_leaves 7) tuple_spelling 1024 (items_at datum_at 7) c.args.bytes.now c.frame-front.result.now c.in-Some.rest.now f (λ i. omega (arith, c.type_inv.bytes i)) c.frame-front.ensures.value c.in-Some.ensures).2
+    ∙ ap (λ r. Some r) (sym c.behind.ensures)
+
+pub returns-in-None : goal.returns-in-None
+returns-in-None c = frame_skip_fails 1024 (items_at datum_at 7) c.args.bytes.now c.frame-front.result.now c.frame-front.ensures.value c.in-None.ensures

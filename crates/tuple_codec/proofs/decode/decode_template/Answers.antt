@@ -1,0 +1,18 @@
+use Rattle.std.proofs.Common.{arith}
+use Rattle.tuple_tree.specs.Values.{IsTemplate}
+use Rattle.tuple_codec.specs.Spelling.{template_spelling}
+use Rattle.tuple_codec.specs.Reading.{template_at}
+use Rattle.tuple_codec.proofs.Grammar.{shorter, spelled, only_ok, only_err, template_reads}
+use Rattle.tuple_codec.proofs.decode.decode_template.Goals as goal
+
+pub overflow_sub-result : goal.overflow_sub-result
+overflow_sub-result g c = shorter IsTemplate template_spelling template_at template_reads c.args.bytes.now c.in-Ok.rest.now c.in-Ok.template (λ i. omega (arith, c.type_inv.bytes i)) c.in-Ok.ensures
+
+pub returns-in-Ok-clause-found : goal.returns-in-Ok-clause-found
+returns-in-Ok-clause-found g c = (omega arith, spelled IsTemplate template_spelling template_at template_reads c.args.bytes.now c.in-Ok.rest.now c.in-Ok.template (λ i. omega (arith, c.type_inv.bytes i)) c.in-Ok.ensures)
+
+pub returns-in-Ok-clause-only : goal.returns-in-Ok-clause-only
+returns-in-Ok-clause-only g c t k p s = only_ok IsTemplate template_spelling template_at template_reads c.args.bytes.now c.in-Ok.rest.now c.in-Ok.template t k c.in-Ok.ensures p s
+
+pub returns-in-Err-clause-only : goal.returns-in-Err-clause-only
+returns-in-Err-clause-only g c t k p s = only_err IsTemplate template_spelling template_at template_reads c.args.bytes.now c.in-Err.bad t k c.in-Err.ensures s

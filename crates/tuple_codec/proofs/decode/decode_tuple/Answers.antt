@@ -1,0 +1,18 @@
+use Rattle.std.proofs.Common.{arith}
+use Rattle.tuple_tree.specs.Values.{IsTuple}
+use Rattle.tuple_codec.specs.Spelling.{tuple_spelling}
+use Rattle.tuple_codec.specs.Reading.{tuple_at}
+use Rattle.tuple_codec.proofs.Grammar.{shorter, spelled, only_ok, only_err, tuple_reads}
+use Rattle.tuple_codec.proofs.decode.decode_tuple.Goals as goal
+
+pub overflow_sub-result : goal.overflow_sub-result
+overflow_sub-result g c = shorter IsTuple tuple_spelling tuple_at tuple_reads c.args.bytes.now c.in-Ok.rest.now c.in-Ok.tuple (λ i. omega (arith, c.type_inv.bytes i)) c.in-Ok.ensures
+
+pub returns-in-Ok-clause-found : goal.returns-in-Ok-clause-found
+returns-in-Ok-clause-found g c = (omega arith, spelled IsTuple tuple_spelling tuple_at tuple_reads c.args.bytes.now c.in-Ok.rest.now c.in-Ok.tuple (λ i. omega (arith, c.type_inv.bytes i)) c.in-Ok.ensures)
+
+pub returns-in-Ok-clause-only : goal.returns-in-Ok-clause-only
+returns-in-Ok-clause-only g c t k p s = only_ok IsTuple tuple_spelling tuple_at tuple_reads c.args.bytes.now c.in-Ok.rest.now c.in-Ok.tuple t k c.in-Ok.ensures p s
+
+pub returns-in-Err-clause-only : goal.returns-in-Err-clause-only
+returns-in-Err-clause-only g c t k p s = only_err IsTuple tuple_spelling tuple_at tuple_reads c.args.bytes.now c.in-Err.bad t k c.in-Err.ensures s

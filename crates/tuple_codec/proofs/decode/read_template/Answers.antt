@@ -1,0 +1,27 @@
+use Rattle.std.proofs.Common.{◌∙◌, ap, sym, Some, arith}
+use Rattle.tuple_tree.specs.Values.{IsSlot, slot_length}
+use Rattle.tuple_codec.specs.Reading.{slot_at, items_at}
+use Rattle.tuple_codec.specs.Spelling.{slot_spelling, template_spelling}
+use Rattle.tuple_codec.proofs.Leaves.{slot_leaves}
+use Rattle.tuple_codec.proofs.Trees.{IsListOf, items_found}
+use Rattle.tuple_codec.proofs.Steps.{frame_read, framed_fails}
+use Rattle.tuple_codec.proofs.decode.read_template.Goals as goal
+
+pub overflow_sub-front : goal.overflow_sub-front
+overflow_sub-front g c =
+    let f = items_found IsSlot slot_length slot_spelling slot_at slot_leaves 7 in
+    (frame_read (IsListOf IsSlot slot_length slot_spelling slot_at slot_leaves 7) template_spelling 1024 (items_at slot_at 7) c.args.bytes.now c.frame-front.result.now c.in-Ok.rest.now c.in-Ok.template f (λ i. omega (arith, c.type_inv.bytes i)) c.frame-front.ensures.value c.in-Ok.ensures).0
+
+pub behind-requires : goal.behind-requires
+behind-requires g c =
+    let f = items_found IsSlot slot_length slot_spelling slot_at slot_leaves 7 in
+    (frame_read (IsListOf IsSlot slot_length slot_spelling slot_at slot_leaves 7) template_spelling 1024 (items_at slot_at 7) c.args.bytes.now c.frame-front.result.now c.in-Ok.rest.now c.in-Ok.template f (λ i. omega (arith, c.type_inv.bytes i)) c.frame-front.ensures.value c.in-Ok.ensures).1
+
+pub returns-in-Ok : goal.returns-in-Ok
+returns-in-Ok g c =
+    let f = items_found IsSlot slot_length slot_spelling slot_at slot_leaves 7 in
+    (frame_read (IsListOf IsSlot slot_length slot_spelling slot_at slot_leaves 7) template_spelling 1024 (items_at slot_at 7) c.args.bytes.now c.frame-front.result.now c.in-Ok.rest.now c.in-Ok.template f (λ i. omega (arith, c.type_inv.bytes i)) c.frame-front.ensures.value c.in-Ok.ensures).2
+    ∙ ap (λ r. Some (c.in-Ok.template, r)) (sym c.behind.ensures)
+
+pub returns-in-Err : goal.returns-in-Err
+returns-in-Err g c = framed_fails c.in-Err.bad (items_at slot_at 7) c.args.bytes.now 1024 (rw c.frame-front.ensures.value at c.in-Err.ensures)

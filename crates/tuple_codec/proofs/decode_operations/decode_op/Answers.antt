@@ -1,0 +1,20 @@
+use Rattle.std.proofs.Common.{arith}
+use Rattle.tuple_codec.specs.Operations.{IsOperation}
+use Rattle.tuple_codec.specs.OperationView.{operation_of}
+use Rattle.tuple_codec.proofs.OperationLaws.{operation_reads}
+use Rattle.tuple_codec.specs.Spelling.{operation_spelling}
+use Rattle.tuple_codec.specs.Reading.{operation_at}
+use Rattle.tuple_codec.proofs.Grammar.{shorter, spelled, only_ok, only_err}
+use Rattle.tuple_codec.proofs.decode_operations.decode_op.Goals as goal
+
+pub overflow_sub-result : goal.overflow_sub-result
+overflow_sub-result g c = shorter IsOperation operation_spelling operation_at operation_reads c.args.bytes.now c.in-Ok.rest.now (operation_of c.in-Ok.op) (λ i. omega (arith, c.type_inv.bytes i)) c.in-Ok.ensures
+
+pub returns-in-Ok-clause-found : goal.returns-in-Ok-clause-found
+returns-in-Ok-clause-found g c = (omega arith, spelled IsOperation operation_spelling operation_at operation_reads c.args.bytes.now c.in-Ok.rest.now (operation_of c.in-Ok.op) (λ i. omega (arith, c.type_inv.bytes i)) c.in-Ok.ensures)
+
+pub returns-in-Ok-clause-only : goal.returns-in-Ok-clause-only
+returns-in-Ok-clause-only g c t k p s = only_ok IsOperation operation_spelling operation_at operation_reads c.args.bytes.now c.in-Ok.rest.now (operation_of c.in-Ok.op) t k c.in-Ok.ensures p s
+
+pub returns-in-Err-clause-only : goal.returns-in-Err-clause-only
+returns-in-Err-clause-only g c t k p s = only_err IsOperation operation_spelling operation_at operation_reads c.args.bytes.now c.in-Err.bad t k c.in-Err.ensures s

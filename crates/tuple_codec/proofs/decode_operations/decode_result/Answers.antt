@@ -1,0 +1,20 @@
+use Rattle.std.proofs.Common.{arith}
+use Rattle.tuple_codec.specs.Operations.{IsOutcome}
+use Rattle.tuple_codec.specs.OperationView.{outcome_of}
+use Rattle.tuple_codec.proofs.OperationLaws.{outcome_reads}
+use Rattle.tuple_codec.specs.Spelling.{outcome_spelling}
+use Rattle.tuple_codec.specs.Reading.{outcome_at}
+use Rattle.tuple_codec.proofs.Grammar.{shorter, spelled, only_ok, only_err}
+use Rattle.tuple_codec.proofs.decode_operations.decode_result.Goals as goal
+
+pub overflow_sub-result : goal.overflow_sub-result
+overflow_sub-result g c = shorter IsOutcome outcome_spelling outcome_at outcome_reads c.args.bytes.now c.in-Ok.rest.now (outcome_of c.in-Ok.answer) (λ i. omega (arith, c.type_inv.bytes i)) c.in-Ok.ensures
+
+pub returns-in-Ok-clause-found : goal.returns-in-Ok-clause-found
+returns-in-Ok-clause-found g c = (omega arith, spelled IsOutcome outcome_spelling outcome_at outcome_reads c.args.bytes.now c.in-Ok.rest.now (outcome_of c.in-Ok.answer) (λ i. omega (arith, c.type_inv.bytes i)) c.in-Ok.ensures)
+
+pub returns-in-Ok-clause-only : goal.returns-in-Ok-clause-only
+returns-in-Ok-clause-only g c t k p s = only_ok IsOutcome outcome_spelling outcome_at outcome_reads c.args.bytes.now c.in-Ok.rest.now (outcome_of c.in-Ok.answer) t k c.in-Ok.ensures p s
+
+pub returns-in-Err-clause-only : goal.returns-in-Err-clause-only
+returns-in-Err-clause-only g c t k p s = only_err IsOutcome outcome_spelling outcome_at outcome_reads c.args.bytes.now c.in-Err.bad t k c.in-Err.ensures s

@@ -1,0 +1,7 @@
+pub mod Operations
+pub mod Spelling
+pub mod TuplesView
+pub mod OperationView
+pub mod Reading
+pub mod Gives
+pub mod Laws

@@ -1,0 +1,23 @@
+-- What the operations and answers of the program stand for.
+use Rattle.tuple_codec.specs.Operations.{Operation, out, rdp, inp, cas, rd_all, Outcome, done, found, absent, swapped, all, full, refused}
+use Rattle.tuple_codec.specs.declared.operations.Op.{Op}
+use Rattle.tuple_codec.specs.declared.operations.Op.TheVariants as ops
+use Rattle.tuple_codec.specs.declared.operations.Answer.{Answer}
+use Rattle.tuple_codec.specs.declared.operations.Answer.TheVariants as answers
+
+module _ {A : Type 0} where
+  abbrev pub operation_of : Op A → Operation
+  operation_of (ops.Out t) = out t
+  operation_of (ops.Rdp p) = rdp p
+  operation_of (ops.Inp p) = inp p
+  operation_of (ops.Cas p t) = cas p t
+  operation_of (ops.RdAll max p) = rd_all max.count p
+
+  abbrev pub outcome_of : Answer A → Outcome
+  outcome_of answers.Done = done
+  outcome_of (answers.Found t) = found t
+  outcome_of answers.Absent = absent
+  outcome_of (answers.Swapped b) = swapped b
+  outcome_of (answers.All ts) = all ts
+  outcome_of answers.Full = full
+  outcome_of answers.Refused = refused

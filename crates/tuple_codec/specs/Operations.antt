@@ -1,0 +1,41 @@
+-- Operations on a tuple space and their outcomes (Bessani and others, DepSpace, EuroSys 2008, section 3), apart from
+-- where they lie in memory.
+use Rattle.std.specs.Prelude.{ℕ, ◌≤◌, Bool, List, [], ◌∷◌, length}
+use Rattle.tuple_tree.specs.Values.{TupleTree, TemplateTree, IsTuple, IsTemplate}
+
+pub data Operation : Type 0 where
+  out : TupleTree → Operation
+  rdp : TemplateTree → Operation
+  inp : TemplateTree → Operation
+  cas : TemplateTree → TupleTree → Operation
+  rd_all : ℕ → TemplateTree → Operation
+
+pub data Outcome : Type 0 where
+  done : Outcome
+  found : TupleTree → Outcome
+  absent : Outcome
+  swapped : Bool → Outcome
+  all : List TupleTree → Outcome
+  full : Outcome
+  refused : Outcome
+
+-- An rdAll asks for 1 to 64 tuples.
+abbrev pub IsOperation : Operation → Type 0
+IsOperation (out t) = IsTuple t
+IsOperation (rdp p) = IsTemplate p
+IsOperation (inp p) = IsTemplate p
+IsOperation (cas p t) = IsTemplate p × IsTuple t
+IsOperation (rd_all n p) = (1 ≤ n) × (n ≤ 64) × IsTemplate p
+
+abbrev pub AreTuples : List TupleTree → Type 0
+AreTuples [] = Unit {0}
+AreTuples (t ∷ ts) = IsTuple t × AreTuples ts
+
+abbrev pub IsOutcome : Outcome → Type 0
+IsOutcome done = Unit {0}
+IsOutcome (found t) = IsTuple t
+IsOutcome absent = Unit {0}
+IsOutcome (swapped b) = Unit {0}
+IsOutcome (all ts) = (length ts ≤ 64) × AreTuples ts
+IsOutcome full = Unit {0}
+IsOutcome refused = Unit {0}

@@ -1,0 +1,137 @@
+-- What stands at the front of bytes, and the bytes after it; None where nothing does. The contracts of private functions
+-- speak of these. The public ones speak of Spelling alone.
+use Rattle.std.specs.Prelude.{ℕ, zero, suc, Bool, true, false, ◌&&◌, ◌==◌, nat_lt, nat_le, if◌then◌else◌, List, [], ◌∷◌, ◌++◌, length, take, drop, Option, Some, None}
+use Rattle.std.specs.Int.{w64, cast_signed}
+use Rattle.std.specs.Str.{is_utf8}
+use Rattle.byteorder.specs.Endian.{big_number}
+use Rattle.tuple_tree.specs.Items.{Item, leaf, inner, Items, none, with_last}
+use Rattle.tuple_tree.specs.Values.{Datum, number, text, bytes, truth, Slot, actual, any, formal, TupleTree, TemplateTree}
+use Rattle.tuple_tree.specs.declared.atoms.Kind.TheVariants as kinds
+use Rattle.tuple_codec.specs.Operations.{Operation, out, rdp, inp, cas, rd_all, Outcome, done, found, absent, swapped, all, full, refused}
+
+infixl 10 ◌>>=◌
+abbrev pub ◌>>=◌ : {A B : Type 0} → Option A → (A → Option B) → Option B
+None >>= f = None
+(Some x) >>= f = f x
+
+abbrev pub Reader : Type 0 → Type 0
+Reader A = List ℕ → Option (A × List ℕ)
+
+-- what is read, as another value
+abbrev pub read_as : {A B : Type 0} → (A → B) → Reader A → Reader B
+read_as f at bs = at bs >>= λ x. Some (f x.0, x.1)
+
+-- the bytes after what is read
+abbrev pub rest_of : {A : Type 0} → Option (A × List ℕ) → Option (List ℕ)
+rest_of None = None
+rest_of (Some x) = Some x.1
+
+-- n more, each of which grow takes in
+abbrev pub more : {X S : Type 0} → Reader X → (S → X → S) → ℕ → S → Reader S
+more at grow zero s bs = Some (s, bs)
+more at grow (suc n) s bs = at bs >>= λ x. more at grow n (grow s x.0) x.1
+
+abbrev pub byte_at : Reader ℕ
+byte_at [] = None
+byte_at (b ∷ bs) = Some (b, bs)
+
+unfoldable pub bytes_at : ℕ → Reader (List ℕ)
+bytes_at n bs = if nat_lt (length bs) n then None else Some (take n bs, drop n bs)
+
+-- a number of n bytes
+unfoldable pub number_of : ℕ → Reader ℕ
+number_of n bs = if nat_lt (length bs) n then None else Some (big_number n bs, drop n bs)
+
+unfoldable pub string_at : Reader (List ℕ)
+string_at bs = number_of 2 bs >>= λ n. bytes_at n.0 n.1
+
+unfoldable pub text_at : Reader (List ℕ)
+text_at bs = string_at bs >>= λ s. if is_utf8 s.0 then Some s else None
+
+abbrev pub flag_of : ℕ → List ℕ → Option (Bool × List ℕ)
+flag_of b rest = if b == 0 then Some (false, rest) else (if b == 1 then Some (true, rest) else None)
+
+unfoldable pub flag_at : Reader Bool
+flag_at bs = byte_at bs >>= λ b. flag_of b.0 b.1
+
+-- the value behind a tag
+unfoldable pub datum_at : ℕ → Reader Datum
+datum_at tag bs =
+    if tag == 1 then read_as (λ n. number (cast_signed w64 n)) (number_of 8) bs
+    else (if tag == 2 then read_as text text_at bs else (if tag == 3 then read_as bytes string_at bs else (if tag == 4 then read_as truth flag_at bs else None)))
+
+-- the field behind a tag
+unfoldable pub slot_at : ℕ → Reader Slot
+slot_at tag bs =
+    if tag == 0x10 then Some (any, bs)
+    else (if tag == 0x11 then Some (formal kinds.Number, bs)
+    else (if tag == 0x12 then Some (formal kinds.Text, bs)
+    else (if tag == 0x13 then Some (formal kinds.Bytes, bs)
+    else (if tag == 0x14 then Some (formal kinds.Truth, bs) else (if tag == 0x15 then Some (formal kinds.Tuple, bs) else read_as actual (datum_at tag) bs)))))
+
+module _ {L : Type 0} (leaf_at : ℕ → Reader L) where
+  -- an item, where inner_at reads what stands behind a 5
+  unfoldable pub item_with : Reader (Item L) → Reader (Item L)
+  item_with inner_at bs = byte_at bs >>= λ x. if x.0 == 5 then inner_at x.1 else read_as leaf (leaf_at x.0) x.1
+
+-- a count and so many items
+unfoldable pub items_with : {L : Type 0} → Reader (Item L) → Reader (Items L)
+items_with item_at bs = byte_at bs >>= λ n. if nat_lt 32 n.0 then None else more item_at with_last n.0 none n.1
+
+unfoldable pub nothing : {L : Type 0} → Reader (Item L)
+nothing bs = None
+
+module _ {L : Type 0} (leaf_at : ℕ → Reader L) where
+  -- what stands behind a 5, with at most so many levels
+  unfoldable pub inner_at : ℕ → Reader (Item L)
+  inner_at zero = nothing
+  inner_at (suc levels) = read_as inner (items_with (item_with leaf_at (inner_at levels)))
+
+  -- an item with at most so many levels in it
+  abbrev pub item_at : ℕ → Reader (Item L)
+  item_at levels = item_with leaf_at (inner_at levels)
+
+  -- items with at most so many levels in them
+  abbrev pub items_at : ℕ → Reader (Items L)
+  items_at levels = items_with (item_at levels)
+
+-- what stands within the first bytes, so many of them
+unfoldable pub framed : {A : Type 0} → ℕ → Reader A → Reader A
+framed limit at bs = at (take limit bs) >>= λ x. Some (x.0, x.1 ++ drop limit bs)
+
+abbrev pub tuple_at : Reader TupleTree
+tuple_at = framed 1024 (items_at datum_at 7)
+
+abbrev pub template_at : Reader TemplateTree
+template_at = framed 1024 (items_at slot_at 7)
+
+unfoldable pub cas_at : Reader Operation
+cas_at bs = template_at bs >>= λ p. read_as (cas p.0) tuple_at p.1
+
+unfoldable pub rd_all_at : Reader Operation
+rd_all_at bs = byte_at bs >>= λ n. if nat_le 1 n.0 && nat_le n.0 64 then read_as (rd_all n.0) template_at n.1 else None
+
+unfoldable pub operation_behind : ℕ → Reader Operation
+operation_behind tag bs =
+    if tag == 0x21 then read_as out tuple_at bs
+    else (if tag == 0x22 then read_as rdp template_at bs else (if tag == 0x23 then read_as inp template_at bs else (if tag == 0x24 then cas_at bs else (if tag == 0x25 then rd_all_at bs else None))))
+
+unfoldable pub operation_at : Reader Operation
+operation_at bs = byte_at bs >>= λ x. operation_behind x.0 x.1
+
+abbrev pub with_tuple : List TupleTree → TupleTree → List TupleTree
+with_tuple ts t = ts ++ t ∷ []
+
+unfoldable pub tuples_at : Reader (List TupleTree)
+tuples_at bs = byte_at bs >>= λ n. if nat_lt 64 n.0 then None else more tuple_at with_tuple n.0 [] n.1
+
+unfoldable pub outcome_behind : ℕ → Reader Outcome
+outcome_behind tag bs =
+    if tag == 0x31 then Some (done, bs)
+    else (if tag == 0x32 then read_as found tuple_at bs
+    else (if tag == 0x33 then Some (absent, bs)
+    else (if tag == 0x34 then read_as swapped flag_at bs
+    else (if tag == 0x35 then read_as all tuples_at bs else (if tag == 0x36 then Some (full, bs) else (if tag == 0x37 then Some (refused, bs) else None))))))
+
+unfoldable pub outcome_at : Reader Outcome
+outcome_at bs = byte_at bs >>= λ x. outcome_behind x.0 x.1

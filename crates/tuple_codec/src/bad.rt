@@ -1,0 +1,37 @@
+//! Why bytes are not read.
+
+use std::alloc::AllocError;
+use thiserror::Error;
+use tuple_tree::NoMemory;
+
+/// Why bytes are not read.
+#[derive(Clone, Copy, Debug, PartialEq, Eq, Error)]
+pub enum Bad {
+    /// No front of the bytes spells a value within the limits.
+    #[error("no front of the bytes spells a value within the limits")]
+    Malformed,
+    #[error("out of memory")]
+    NoMemory,
+}
+
+impl From<AllocError> for Bad {
+    ghost use Rattle.tuple_codec.specs.declared.bad.Bad.TheVariants.{NoMemory};
+    ghost use Rattle.std.specs.Prelude.{◌≡◌};
+
+    ghost from_gives = { λ _ e. e ≡ NoMemory };
+
+    fn from(_failed: AllocError) -> Bad {
+        Bad::NoMemory
+    }
+}
+
+impl From<NoMemory> for Bad {
+    ghost use Rattle.tuple_codec.specs.declared.bad.Bad.TheVariants.{NoMemory};
+    ghost use Rattle.std.specs.Prelude.{◌≡◌};
+
+    ghost from_gives = { λ _ e. e ≡ NoMemory };
+
+    fn from(_failed: NoMemory) -> Bad {
+        Bad::NoMemory
+    }
+}

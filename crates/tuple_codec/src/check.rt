@@ -1,0 +1,235 @@
+//! Whether bytes spell an operation or an answer. Nothing here takes memory.
+
+ghost use Rattle.std.specs.Prelude.{◌≡◌, ◌+◌, ◌*◌, ◌≤◌, length, IsTrue, ◌↔◌};
+ghost use Rattle.tuple_codec.specs.Operations.{Operation, Outcome};
+ghost use Rattle.tuple_codec.specs.Gives.{Yields};
+ghost use Rattle.tuple_codec.specs.Spelling.{SpellsOperation, SpellsOutcome};
+ghost use Rattle.tuple_codec.specs.Reading.{rest_of, datum_at, slot_at, item_at, items_at, tuple_at, template_at, cas_at, rd_all_at, operation_behind, operation_at, tuples_at, outcome_behind, outcome_at};
+
+use crate::operations::{MAX_ANSWERS, Max};
+use crate::reading::{behind, frame, read_byte, read_flag, read_number, read_string, read_text};
+use tuple_tree::MAX_FIELDS;
+
+/// Whether the bytes, whole, spell an operation within the limits. Takes no memory.
+pub fn is_op(bytes: &[u8]) -> bool
+    ensures { IsTrue result ↔ ((o : Operation) × SpellsOperation bytes.now o) }
+{
+    match skip_op(bytes) {
+        Some(rest) => rest.is_empty(),
+        None => false,
+    }
+}
+
+/// Whether the bytes, whole, spell an answer within the limits. Takes no memory.
+pub fn is_result(bytes: &[u8]) -> bool
+    ensures { IsTrue result ↔ ((r : Outcome) × SpellsOutcome bytes.now r) }
+{
+    match skip_answer(bytes) {
+        Some(rest) => rest.is_empty(),
+        None => false,
+    }
+}
+
+// Each of these gives the bytes behind what stands at the front.
+#[tactic(auto, unfolding(crate::specs::Reading::operation_at))]
+fn skip_op(bytes: &[u8]) -> Option<&[u8]>
+    ensures { Yields (λ rest. rest.now) result (rest_of (operation_at bytes.now)) }
+{
+    let (tag, rest) = read_byte(bytes)?;
+    skip_op_behind(tag, rest)
+}
+
+#[tactic(auto, unfolding(crate::specs::Reading::operation_behind))]
+fn skip_op_behind(tag: u8, bytes: &[u8]) -> Option<&[u8]>
+    ensures { Yields (λ rest. rest.now) result (rest_of (operation_behind tag bytes.now)) }
+{
+    match tag {
+        0x21 => skip_tuple(bytes),
+        0x22 => skip_template(bytes),
+        0x23 => skip_template(bytes),
+        0x24 => skip_cas(bytes),
+        0x25 => skip_rd_all(bytes),
+        _ => None,
+    }
+}
+
+fn skip_cas(bytes: &[u8]) -> Option<&[u8]>
+    ensures { Yields (λ rest. rest.now) result (rest_of (cas_at bytes.now)) }
+{
+    match skip_template(bytes) {
+        Some(after) => skip_tuple(after),
+        None => None,
+    }
+}
+
+#[tactic(auto, unfolding(crate::specs::Reading::rd_all_at))]
+fn skip_rd_all(bytes: &[u8]) -> Option<&[u8]>
+    ensures { Yields (λ rest. rest.now) result (rest_of (rd_all_at bytes.now)) }
+{
+    let (count, after) = read_byte(bytes)?;
+    match Max::new(count) {
+        Some(_) => skip_template(after),
+        None => None,
+    }
+}
+
+#[tactic(auto, unfolding(crate::specs::Reading::outcome_at))]
+fn skip_answer(bytes: &[u8]) -> Option<&[u8]>
+    ensures { Yields (λ rest. rest.now) result (rest_of (outcome_at bytes.now)) }
+{
+    let (tag, rest) = read_byte(bytes)?;
+    skip_answer_behind(tag, rest)
+}
+
+#[tactic(auto, unfolding(crate::specs::Reading::outcome_behind))]
+fn skip_answer_behind(tag: u8, bytes: &[u8]) -> Option<&[u8]>
+    ensures { Yields (λ rest. rest.now) result (rest_of (outcome_behind tag bytes.now)) }
+{
+    match tag {
+        0x31 => Some(bytes),
+        0x32 => skip_tuple(bytes),
+        0x33 => Some(bytes),
+        0x34 => match read_flag(bytes) {
+            Some((_, rest)) => Some(rest),
+            None => None,
+        },
+        0x35 => skip_tuples(bytes),
+        0x36 => Some(bytes),
+        0x37 => Some(bytes),
+        _ => None,
+    }
+}
+
+#[tactic(auto, unfolding(crate::specs::Reading::tuples_at))]
+fn skip_tuples(bytes: &[u8]) -> Option<&[u8]>
+    ensures { Yields (λ rest. rest.now) result (rest_of (tuples_at bytes.now)) }
+{
+    let (count, front) = read_byte(bytes)?;
+    if count as usize > MAX_ANSWERS {
+        return None;
+    }
+    let mut rest = front;
+    for _i in 0..count {
+        rest = skip_tuple(rest)?;
+    }
+    Some(rest)
+}
+
+fn skip_tuple(bytes: &[u8]) -> Option<&[u8]>
+    ensures { Yields (λ rest. rest.now) result (rest_of (tuple_at bytes.now)) }
+{
+    let front = frame(bytes);
+    match skip_values(front, 7) {
+        Some(rest) => Some(behind(bytes, front.len() - rest.len())),
+        None => None,
+    }
+}
+
+fn skip_template(bytes: &[u8]) -> Option<&[u8]>
+    ensures { Yields (λ rest. rest.now) result (rest_of (template_at bytes.now)) }
+{
+    let front = frame(bytes);
+    match skip_fields(front, 7) {
+        Some(rest) => Some(behind(bytes, front.len() - rest.len())),
+        None => None,
+    }
+}
+
+// A tuple with at most so many levels below its own.
+#[tactic(auto, unfolding(crate::specs::Reading::items_with))]
+#[cycle(skip_values)]
+fn skip_values(bytes: &[u8], levels: u8) -> Option<&[u8]>
+    ensures { Yields (λ rest. rest.now) result (rest_of (items_at datum_at levels bytes.now)) }
+{
+    let (count, values) = read_byte(bytes)?;
+    if count as usize > MAX_FIELDS {
+        return None;
+    }
+    let mut rest = values;
+    for _i in 0..count {
+        rest = skip_value(rest, levels)?;
+    }
+    Some(rest)
+}
+
+#[tactic(auto, unfolding(crate::specs::Reading::item_with))]
+#[cycle(skip_values)]
+fn skip_value(bytes: &[u8], levels: u8) -> Option<&[u8]>
+    ensures { Yields (λ rest. rest.now) result (rest_of (item_at datum_at levels bytes.now)) }
+{
+    let (tag, rest) = read_byte(bytes)?;
+    if tag != 5 {
+        return skip_atom(tag, rest);
+    }
+    if levels == 0 {
+        return None;
+    }
+    skip_values(rest, levels - 1)
+}
+
+// A template with at most so many levels below its own.
+#[tactic(auto, unfolding(crate::specs::Reading::items_with))]
+#[cycle(skip_fields)]
+fn skip_fields(bytes: &[u8], levels: u8) -> Option<&[u8]>
+    ensures { Yields (λ rest. rest.now) result (rest_of (items_at slot_at levels bytes.now)) }
+{
+    let (count, fields) = read_byte(bytes)?;
+    if count as usize > MAX_FIELDS {
+        return None;
+    }
+    let mut rest = fields;
+    for _i in 0..count {
+        rest = skip_field(rest, levels)?;
+    }
+    Some(rest)
+}
+
+#[tactic(auto, unfolding(crate::specs::Reading::item_with))]
+#[cycle(skip_fields)]
+fn skip_field(bytes: &[u8], levels: u8) -> Option<&[u8]>
+    ensures { Yields (λ rest. rest.now) result (rest_of (item_at slot_at levels bytes.now)) }
+{
+    let (tag, rest) = read_byte(bytes)?;
+    if tag != 5 {
+        return skip_slot(tag, rest);
+    }
+    if levels == 0 {
+        return None;
+    }
+    skip_fields(rest, levels - 1)
+}
+
+#[tactic(auto, unfolding(crate::specs::Reading::slot_at))]
+fn skip_slot(tag: u8, bytes: &[u8]) -> Option<&[u8]>
+    ensures { Yields (λ rest. rest.now) result (rest_of (slot_at tag bytes.now)) }
+{
+    match tag {
+        0x10 | 0x11 | 0x12 | 0x13 | 0x14 | 0x15 => Some(bytes),
+        _ => skip_atom(tag, bytes),
+    }
+}
+
+#[tactic(auto, unfolding(crate::specs::Reading::datum_at))]
+fn skip_atom(tag: u8, bytes: &[u8]) -> Option<&[u8]>
+    ensures { Yields (λ rest. rest.now) result (rest_of (datum_at tag bytes.now)) }
+{
+    match tag {
+        1 => match read_number(bytes) {
+            Some((_, rest)) => Some(rest),
+            None => None,
+        },
+        2 => match read_text(bytes) {
+            Some((_, rest)) => Some(rest),
+            None => None,
+        },
+        3 => match read_string(bytes) {
+            Some((_, rest)) => Some(rest),
+            None => None,
+        },
+        4 => match read_flag(bytes) {
+            Some((_, rest)) => Some(rest),
+            None => None,
+        },
+        _ => None,
+    }
+}

@@ -1,0 +1,178 @@
+//! From bytes to operations and answers.
+
+ghost use Rattle.std.specs.Prelude.{◌≡◌, ◌≢◌, ◌+◌, ◌<◌, ◌≤◌, length, take, ℕ, IfOk, MatchResult, OnOk};
+ghost use Rattle.tuple_codec.specs.Operations.{Operation, Outcome, all};
+ghost use Rattle.tuple_codec.specs.OperationView.{operation_of, outcome_of};
+ghost use Rattle.tuple_codec.specs.Gives.{Gives};
+ghost use Rattle.tuple_codec.specs.Spelling.{SpellsOperation, SpellsOutcome};
+ghost use Rattle.tuple_codec.specs.Reading.{read_as, cas_at, rd_all_at, operation_behind, operation_at, tuples_at, outcome_behind, outcome_at, with_tuple};
+
+use crate::bad::Bad;
+use crate::decode::{next_byte, read_template, read_tuple};
+use crate::operations::{Answer, MAX_ANSWERS, Max, Op, Tuples};
+use crate::reading::read_flag;
+use std::alloc::Allocator;
+use tuple_tree::{NoMemory, Tuple};
+
+/// The operation at the front, and how many bytes spell it.
+///
+/// # Errors
+///
+/// Malformed where no front of the bytes spells an operation within the limits, and else NoMemory where memory runs
+/// out.
+pub fn decode_op<A: Allocator + Clone>(alloc: A, bytes: &[u8]) -> Result<(Op<A>, usize), Bad>
+    // What is read is spelled so.
+    ensures found { IfOk result (λ x. (x.1 ≤ length bytes.now) × SpellsOperation (take x.1 bytes.now) (operation_of x.0)) }
+
+    // What is spelled so is read, unless memory runs out.
+    ensures only { (o : Operation) (k : ℕ) → k ≤ length bytes.now → SpellsOperation (take k bytes.now) o → MatchResult result (λ x. (operation_of x.0 ≡ o) × (x.1 ≡ k)) (λ e. e ≡ Bad.NoMemory) }
+{
+    match read_op(alloc, bytes) {
+        Ok((op, rest)) => Ok((op, bytes.len() - rest.len())),
+        Err(bad) => Err(bad),
+    }
+}
+
+/// The answer at the front, and how many bytes spell it.
+///
+/// # Errors
+///
+/// Malformed where no front of the bytes spells an answer within the limits, and else NoMemory where memory runs out.
+pub fn decode_result<A: Allocator + Clone>(
+    alloc: A,
+    bytes: &[u8],
+) -> Result<(Answer<A>, usize), Bad>
+    // What is read is spelled so.
+    ensures found { IfOk result (λ x. (x.1 ≤ length bytes.now) × SpellsOutcome (take x.1 bytes.now) (outcome_of x.0)) }
+
+    // What is spelled so is read, unless memory runs out.
+    ensures only { (r : Outcome) (k : ℕ) → k ≤ length bytes.now → SpellsOutcome (take k bytes.now) r → MatchResult result (λ x. (outcome_of x.0 ≡ r) × (x.1 ≡ k)) (λ e. e ≡ Bad.NoMemory) }
+{
+    match read_answer(alloc, bytes) {
+        Ok((answer, rest)) => Ok((answer, bytes.len() - rest.len())),
+        Err(bad) => Err(bad),
+    }
+}
+
+#[tactic(auto, unfolding(crate::specs::Reading::operation_at))]
+fn read_op<A: Allocator + Clone>(alloc: A, bytes: &[u8]) -> Result<(Op<A>, &[u8]), Bad>
+    ensures { Gives (λ x. (operation_of x.0, x.1.now)) result (operation_at bytes.now) }
+{
+    let (tag, rest) = next_byte(bytes)?;
+    read_op_behind(alloc, tag, rest)
+}
+
+#[tactic(auto, unfolding(crate::specs::Reading::operation_behind))]
+fn read_op_behind<A: Allocator + Clone>(
+    alloc: A,
+    tag: u8,
+    bytes: &[u8],
+) -> Result<(Op<A>, &[u8]), Bad>
+    ensures { Gives (λ x. (operation_of x.0, x.1.now)) result (operation_behind tag bytes.now) }
+{
+    match tag {
+        0x21 => {
+            let (tuple, rest) = read_tuple(alloc, bytes)?;
+            Ok((Op::Out(tuple), rest))
+        }
+        0x22 => {
+            let (template, rest) = read_template(alloc, bytes)?;
+            Ok((Op::Rdp(template), rest))
+        }
+        0x23 => {
+            let (template, rest) = read_template(alloc, bytes)?;
+            Ok((Op::Inp(template), rest))
+        }
+        0x24 => read_cas(alloc, bytes),
+        0x25 => read_rd_all(alloc, bytes),
+        _ => Err(Bad::Malformed),
+    }
+}
+
+#[tactic(auto, unfolding(crate::specs::Reading::cas_at))]
+fn read_cas<A: Allocator + Clone>(alloc: A, bytes: &[u8]) -> Result<(Op<A>, &[u8]), Bad>
+    ensures { Gives (λ x. (operation_of x.0, x.1.now)) result (cas_at bytes.now) }
+{
+    let (template, after) = read_template(alloc.clone()?, bytes)?;
+    let (tuple, rest) = read_tuple(alloc, after)?;
+    Ok((Op::Cas(template, tuple), rest))
+}
+
+#[tactic(auto, unfolding(crate::specs::Reading::rd_all_at))]
+fn read_rd_all<A: Allocator + Clone>(alloc: A, bytes: &[u8]) -> Result<(Op<A>, &[u8]), Bad>
+    ensures { Gives (λ x. (operation_of x.0, x.1.now)) result (rd_all_at bytes.now) }
+{
+    let (count, after) = next_byte(bytes)?;
+    match Max::new(count) {
+        Some(max) => {
+            let (template, rest) = read_template(alloc, after)?;
+            Ok((Op::RdAll(max, template), rest))
+        }
+        None => Err(Bad::Malformed),
+    }
+}
+
+#[tactic(auto, unfolding(crate::specs::Reading::outcome_at))]
+fn read_answer<A: Allocator + Clone>(alloc: A, bytes: &[u8]) -> Result<(Answer<A>, &[u8]), Bad>
+    ensures { Gives (λ x. (outcome_of x.0, x.1.now)) result (outcome_at bytes.now) }
+{
+    let (tag, rest) = next_byte(bytes)?;
+    read_answer_behind(alloc, tag, rest)
+}
+
+#[tactic(auto, unfolding(crate::specs::Reading::outcome_behind))]
+fn read_answer_behind<A: Allocator + Clone>(
+    alloc: A,
+    tag: u8,
+    bytes: &[u8],
+) -> Result<(Answer<A>, &[u8]), Bad>
+    ensures { Gives (λ x. (outcome_of x.0, x.1.now)) result (outcome_behind tag bytes.now) }
+{
+    match tag {
+        0x31 => Ok((Answer::Done, bytes)),
+        0x32 => {
+            let (tuple, rest) = read_tuple(alloc, bytes)?;
+            Ok((Answer::Found(tuple), rest))
+        }
+        0x33 => Ok((Answer::Absent, bytes)),
+        0x34 => match read_flag(bytes) {
+            Some((swapped, rest)) => Ok((Answer::Swapped(swapped), rest)),
+            None => Err(Bad::Malformed),
+        },
+        0x35 => {
+            let (tuples, rest) = read_tuples(alloc, bytes)?;
+            Ok((Answer::All(tuples), rest))
+        }
+        0x36 => Ok((Answer::Full, bytes)),
+        0x37 => Ok((Answer::Refused, bytes)),
+        _ => Err(Bad::Malformed),
+    }
+}
+
+#[tactic(auto, unfolding(crate::specs::Reading::tuples_at))]
+fn read_tuples<A: Allocator + Clone>(alloc: A, bytes: &[u8]) -> Result<(Tuples<A>, &[u8]), Bad>
+    ensures { Gives (λ x. (x.0, x.1.now)) result (tuples_at bytes.now) }
+{
+    let (count, front) = next_byte(bytes)?;
+    if count as usize > MAX_ANSWERS {
+        return Err(Bad::Malformed);
+    }
+    let mut tuples = Tuples::new_in(alloc.clone()?);
+    let mut rest = front;
+    for _i in 0..count {
+        let (tuple, after) = read_tuple(alloc.clone()?, rest)?;
+        push_tuple(&mut tuples, tuple)?;
+        rest = after;
+    }
+    Ok((tuples, rest))
+}
+
+fn push_tuple<A: Allocator>(tuples: &mut Tuples<A>, tuple: Tuple<A>) -> Result<(), NoMemory>
+    requires { length tuples.old < 64 }
+    ensures { OnOk result (tuples.new ≡ with_tuple tuples.old tuple) }
+{
+    match tuples.push(tuple) {
+        Ok(()) => Ok(()),
+        Err(_) => Err(NoMemory),
+    }
+}

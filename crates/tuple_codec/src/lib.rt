@@ -1,0 +1,22 @@
+//! Operations on a tuple space, their answers, and the bytes of both.
+#![tactic(auto)]
+
+mod bad;
+mod check;
+mod decode;
+mod decode_operations;
+mod encode;
+mod laws;
+mod operations;
+mod reading;
+
+pub use bad::Bad;
+pub use check::{is_op, is_result};
+pub use decode::{decode_template, decode_tuple};
+pub use decode_operations::{decode_op, decode_result};
+pub use encode::{encode_op, encode_result, encode_template, encode_tuple};
+pub use laws::one_spelling;
+pub use operations::{Answer, MAX_ANSWERS, Max, Op, Tuples};
+
+#[cfg(test)]
+mod tests;

@@ -1,0 +1,118 @@
+//! Operations on a tuple space and their answers (Bessani and others, DepSpace, EuroSys 2008, section 3).
+
+ghost use Rattle.std.specs.Prelude.{◌≡◌, ◌+◌, ◌<◌, ◌≤◌, [], ◌∷◌, ◌++◌, length, map, OnOk, OnErr, IfErr, SomeIff, IsSome, IfSome, ◌↔◌};
+ghost use Rattle.tuple_codec.specs.Operations.{AreTuples};
+
+use std::alloc::{AllocFailed, Allocator};
+use std::marker::Model;
+use tuple_tree::{Template, Tuple};
+
+/// How many tuples one answer has at the most.
+pub const MAX_ANSWERS: usize = 64;
+
+/// How many tuples an `rdAll` asks for: 1 to 64.
+#[derive(Clone, Copy)]
+pub struct Max {
+    pub count: u8,
+    ghost in_range: { (1 ≤ count) × (count ≤ 64) },
+}
+
+impl Max {
+    /// The count where it is 1 to 64.
+    pub fn new(count: u8) -> Option<Max>
+        ensures some { IsSome result ↔ ((1 ≤ count) × (count ≤ 64)) }
+        ensures value { IfSome result (λ max. max.count ≡ count) }
+    {
+        if count >= 1 && count <= 64 {
+            Some(Max { count })
+        } else {
+            None
+        }
+    }
+}
+
+/// Up to 64 tuples.
+#[derive(Drop)]
+pub struct Tuples<A: Allocator> {
+    tuples: Vec<Tuple<A>, A>,
+}
+
+impl<A: Allocator> Model for Tuples<A> {
+    ghost use Rattle.std.specs.Prelude.{List, ◌≤◌, length};
+    ghost use Rattle.tuple_tree.specs.Values.{TupleTree};
+    ghost use Rattle.tuple_codec.specs.TuplesView.{tuples_code};
+
+    ghost Value = { List TupleTree };
+
+    ghost coded = { tuples_code };
+
+    ghost view = { λ a. a.tuples.items };
+
+    ghost invariant = { λ a. length a.tuples.items ≤ 64 };
+}
+
+impl<A: Allocator> Tuples<A> {
+    /// No tuples. Takes no memory.
+    pub fn new_in(alloc: A) -> Tuples<A>
+        ensures { result ≡ [] }
+    {
+        Tuples {
+            tuples: Vec::new(alloc),
+        }
+    }
+
+    /// How many tuples there are, 0 to 64.
+    pub fn len(&self) -> usize
+        ensures value { result ≡ length self.now }
+        ensures bound { result ≤ 64 }
+    {
+        self.tuples.len()
+    }
+
+    /// The tuples in order.
+    pub fn as_slice(&self) -> &[Tuple<A>]
+        ensures value { result.now ≡ self.now }
+        ensures bound { length self.now ≤ 64 }
+    {
+        self.tuples.as_slice()
+    }
+
+    /// Adds a tuple at the end. An `Err` hands it back and changes nothing.
+    pub fn push(&mut self, tuple: Tuple<A>) -> Result<(), AllocFailed<Tuple<A>>>
+        requires { length self.old < 64 }
+        ensures ok { OnOk result (self.new ≡ self.old ++ tuple ∷ []) }
+        ensures err { OnErr result (self.new ≡ self.old) }
+        ensures returned { IfErr result (λ e. e.value ≡ tuple) }
+    {
+        self.tuples.push(tuple)
+    }
+}
+
+/// An operation on a tuple space.
+#[derive(Drop)]
+pub enum Op<A: Allocator> {
+    /// Puts the tuple into the space.
+    Out(Tuple<A>),
+    /// Reads the oldest match.
+    Rdp(Template<A>),
+    /// Takes the oldest match.
+    Inp(Template<A>),
+    /// Puts the tuple into the space where nothing matches.
+    Cas(Template<A>, Tuple<A>),
+    /// Reads the oldest matches, so many at the most.
+    RdAll(Max, Template<A>),
+}
+
+/// What an operation answers.
+#[derive(Drop)]
+pub enum Answer<A: Allocator> {
+    Done,
+    Found(Tuple<A>),
+    Absent,
+    Swapped(bool),
+    All(Tuples<A>),
+    /// The space holds as many tuples as it may.
+    Full,
+    /// The space doesn't know the operation.
+    Refused,
+}

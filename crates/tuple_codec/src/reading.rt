@@ -1,0 +1,105 @@
+//! Bytes, numbers, strings and flags at the front of bytes. Nothing here takes memory.
+
+ghost use Rattle.std.specs.Prelude.{◌≡◌, ◌+◌, ◌≤◌, length, take, drop};
+ghost use Rattle.std.specs.Int.{w64, cast_signed};
+ghost use Rattle.tuple_tree.specs.Values.{number};
+ghost use Rattle.tuple_codec.specs.Gives.{Yields};
+ghost use Rattle.tuple_codec.specs.Reading.{read_as, byte_at, bytes_at, number_of, string_at, text_at, flag_at};
+
+use byteorder::{BigEndian, ByteOrder};
+use std::str;
+use tuple_tree::MAX_LEN;
+
+/// The bytes in which a tuple or template ends: the first 1,024.
+pub fn frame(bytes: &[u8]) -> &[u8]
+    ensures value { result.now ≡ take 1024 bytes.now }
+    ensures bound { length result.now ≤ 1024 }
+{
+    if bytes.len() <= MAX_LEN {
+        bytes
+    } else {
+        &bytes[..MAX_LEN]
+    }
+}
+
+/// The bytes behind the first n.
+pub fn behind(bytes: &[u8], n: usize) -> &[u8]
+    requires { n ≤ length bytes.now }
+    ensures { result.now ≡ drop n bytes.now }
+{
+    &bytes[n..]
+}
+
+pub fn read_byte(bytes: &[u8]) -> Option<(u8, &[u8])>
+    ensures { Yields (λ x. (x.0, x.1.now)) result (byte_at bytes.now) }
+{
+    match bytes {
+        [first, rest @ ..] => Some((*first, rest)),
+        [] => None,
+    }
+}
+
+#[tactic(auto, unfolding(crate::specs::Reading::bytes_at))]
+fn read_bytes(bytes: &[u8], n: usize) -> Option<(&[u8], &[u8])>
+    ensures { Yields (λ x. (x.0.now, x.1.now)) result (bytes_at n bytes.now) }
+{
+    if bytes.len() < n {
+        return None;
+    }
+    Some(bytes.split_at(n))
+}
+
+#[tactic(auto, unfolding(crate::specs::Reading::number_of))]
+fn read_length(bytes: &[u8]) -> Option<(u16, &[u8])>
+    ensures { Yields (λ x. (x.0, x.1.now)) result (number_of 2 bytes.now) }
+{
+    if bytes.len() < 2 {
+        return None;
+    }
+    Some((BigEndian::read_u16(bytes), &bytes[2..]))
+}
+
+/// A signed number of 64 bits.
+#[tactic(auto, unfolding(crate::specs::Reading::number_of))]
+pub fn read_number(bytes: &[u8]) -> Option<(i64, &[u8])>
+    ensures { Yields (λ x. (number x.0, x.1.now)) result (read_as (λ n. number (cast_signed w64 n)) (number_of 8) bytes.now) }
+{
+    if bytes.len() < 8 {
+        return None;
+    }
+    Some((BigEndian::read_i64(bytes), &bytes[8..]))
+}
+
+/// Bytes behind their length.
+#[tactic(auto, unfolding(crate::specs::Reading::string_at))]
+pub fn read_string(bytes: &[u8]) -> Option<(&[u8], &[u8])>
+    ensures { Yields (λ x. (x.0.now, x.1.now)) result (string_at bytes.now) }
+{
+    let (len, rest) = read_length(bytes)?;
+    read_bytes(rest, len as usize)
+}
+
+/// UTF-8 behind its length.
+#[tactic(auto, unfolding(crate::specs::Reading::text_at))]
+pub fn read_text(bytes: &[u8]) -> Option<(&str, &[u8])>
+    ensures { Yields (λ x. (x.0.now, x.1.now)) result (text_at bytes.now) }
+{
+    let (string, rest) = read_string(bytes)?;
+    match str::from_utf8(string) {
+        Ok(text) => Some((text, rest)),
+        Err(_) => None,
+    }
+}
+
+/// 00 for false, 01 for true.
+#[tactic(auto, unfolding(crate::specs::Reading::flag_at))]
+pub fn read_flag(bytes: &[u8]) -> Option<(bool, &[u8])>
+    ensures { Yields (λ x. (x.0, x.1.now)) result (flag_at bytes.now) }
+{
+    let (byte, rest) = read_byte(bytes)?;
+    match byte {
+        0 => Some((false, rest)),
+        1 => Some((true, rest)),
+        _ => None,
+    }
+}

@@ -1,0 +1,318 @@
+-- What reading the line means for its faults.
+use Rattle.std.proofs.Common.{◌≡◌, ℕ, zero, suc, ◌+◌, ◌-◌, ◌<◌, ◌≤◌, ◌==◌, min, Bool, true, false, cond, List, [], ◌∷◌, ◌++◌, length, take, drop, codes, refl, ap, sym, subst, ◌∙◌, append_assoc, append-nil, arith, ◌⊎◌, inl, inr, length-append}
+use Rattle.std.proofs.lemmas.List.{take_at, length-take, length-drop, take-append-drop}
+use Rattle.std.proofs.lemmas.Bool.{cases_lt}
+use Rattle.tuple_codec.specs.Operations.{Operation, out, rdp, inp, cas, rd_all, IsOperation}
+use Rattle.tuple_text.specs.Texts.{AreBlanks}
+use Rattle.tuple_text.specs.Covered.{IsCovered}
+use Rattle.tuple_text.specs.Lines.{LineText, IsLine, IsSkipped, IsComment, name}
+use Rattle.tuple_text.specs.Faults.{AnyOperation, EndsTooLong, Passes, StopsAt, IsBadAt, Faults}
+use Rattle.tuple_text.specs.Faults.{Begins as BeginsLine}
+use Rattle.tuple_text.specs.Reading.{Read, got, stop, Reading, ◌>>=◌, blanks, word, finish, ending, argument, tuple, template, out_line, rdp_line, operation, line, fault_at, Stops}
+use Rattle.tuple_text.specs.declared.reader.Stop.{Stop}
+use Rattle.tuple_text.specs.declared.reader.Stop.TheVariants.{BadByte, TooDeep, TooManyFields, TooLong, NoMemory}
+use Rattle.tuple_text.specs.declared.faults.LineFault.TheVariants as faults
+use Rattle.tuple_text.proofs.Local.{LocalAs, SameHead, left}
+use Rattle.tuple_text.proofs.Localities.{line_local}
+use Rattle.tuple_text.proofs.Right.{Limits, both, levels, no_limits, RightAs, Stuck}
+use Rattle.tuple_text.proofs.Blanks.{ArePassed, BeginsBlanks, blanks_right, blanks_again, freed}
+use Rattle.tuple_text.proofs.Arguments.{Begins}
+use Rattle.tuple_text.proofs.LineRight.{WholeLine, line_right, whole_lined, Keeps, any_within}
+use Rattle.tuple_text.proofs.Again.{AgainAs}
+use Rattle.tuple_text.proofs.LineAgain.{Exceeds, line_again, never_bad, keeps_counts, keeps_levels, within_exceeds, StopsBefore, too_long_stops}
+
+pub take_take : (k m : ℕ) (bs : List ℕ) → k ≤ m → take k (take m bs) ≡ take k bs
+take_take zero m bs h = refl
+take_take (suc k) zero bs h = absurd (omega arith)
+take_take (suc k) (suc m) [] h = refl
+take_take (suc k) (suc m) (b ∷ bs) h = ap (λ t. b ∷ t) (take_take k m bs (omega arith))
+
+pub take_all : (m : ℕ) (bs : List ℕ) → length bs ≤ m → take m bs ≡ bs
+take_all zero [] h = refl
+take_all zero (b ∷ bs) h = absurd (omega arith)
+take_all (suc m) [] h = refl
+take_all (suc m) (b ∷ bs) h = ap (λ t. b ∷ t) (take_all m bs (omega arith))
+
+-- the bytes that a line may have
+abbrev pub front : List ℕ → List ℕ
+front bs = take 65536 bs
+
+-- n bytes are passed, and rest is left of those that a line may have
+pub record At (bs : List ℕ) (n : ℕ) (rest : List ℕ) : Type 0 where
+  pub whole : front bs ≡ take n bs ++ rest
+  pub total : n + length rest ≡ length (front bs)
+  pub within : n ≤ length bs
+  pub limit : n ≤ 65536
+
+at_from : (bs passed rest : List ℕ) → front bs ≡ passed ++ rest → (passed ≡ take (length passed) bs) × At bs (length passed) rest
+at_from bs passed rest e =
+    let t : length passed + length rest ≡ length (front bs) = omega (arith, ap length e, length-append passed rest) in
+    let n : length passed ≤ 65536 = omega (arith, length-take 65536 bs) in
+    let m : length passed ≤ length bs = omega (arith, length-take 65536 bs) in
+    let p : passed ≡ take (length passed) bs = sym (take_at passed rest (length passed) refl) ∙ ap (take (length passed)) (sym e) ∙ take_take (length passed) 65536 bs n in
+    (p, record { whole = e ∙ ap (λ s. s ++ rest) p; total = t; within = m; limit = n })
+
+one_more : (bs : List ℕ) (n b : ℕ) (t : List ℕ) → At bs n (b ∷ t) → take (n + 1) bs ≡ take n bs ++ b ∷ []
+one_more bs n b t h =
+    let l : n + 1 ≤ 65536 = omega (arith, h.total, length-take 65536 bs) in
+    let k : length (take n bs ++ b ∷ []) ≡ n + 1 = omega (arith, length-append (take n bs) (b ∷ []), length-take n bs, h.within) in
+    sym (take_take (n + 1) 65536 bs l) ∙ ap (take (n + 1)) (h.whole ∙ sym (append_assoc (take n bs) (b ∷ []) t)) ∙ take_at (take n bs ++ b ∷ []) t (n + 1) k
+
+begins_line : (c : Limits) (w : List ℕ) → Begins WholeLine c w → BeginsLine (Keeps c) w
+begins_line c w h = let l = whole_lined c h.0 (w ++ h.1) h.2 in (h.1, h.0, l.text, l.keeps, l.covered)
+
+not_before : (bs : List ℕ) (n k : ℕ) (x : Read Operation) → At bs n (left x) → k ≤ n → StopsBefore (drop k (front bs)) x → ⊥
+not_before bs n k (got o rest) h p s = s
+not_before bs n k (stop t rest) h p s = omega (arith, h.total, length-drop k (front bs))
+
+pub short_to : (bs : List ℕ) (n : ℕ) (x : Read Operation) → line (front bs) ≡ x → At bs n (left x) → (k : ℕ) → k ≤ n → EndsTooLong (take k bs) → ⊥
+short_to bs n x e h k p l =
+    let w : take k bs ++ drop k (front bs) ≡ front bs = ap (λ s. s ++ drop k (front bs)) (sym (take_take k 65536 bs (omega (arith, h.limit)))) ∙ take-append-drop k (front bs) in
+    not_before bs n k x h p (subst (StopsBefore (drop k (front bs))) (ap line w ∙ e) (too_long_stops (take k bs) (drop k (front bs)) l))
+
+pub passes : (bs : List ℕ) (n : ℕ) (x : Read Operation) → line (front bs) ≡ x → At bs n (left x) → Begins WholeLine both (take n bs) → Passes bs n
+passes bs n x e h b = record { within = h.within; limit = h.limit; begins = begins_line both (take n bs) b; short = short_to bs n x e h }
+
+-- Where reading stops before b, the lines that go on with b pass the limit.
+exceeds : (o : Operation) (s : Stop) (w : List ℕ) (b : ℕ) (t u : List ℕ) → ((v : List ℕ) → SameHead (b ∷ t) v → line (w ++ v) ≡ stop s v) → LineText o ((w ++ b ∷ []) ++ u) → IsCovered o → Exceeds o s
+exceeds o s w b t u a h c =
+    let e : line ((w ++ b ∷ []) ++ u) ≡ stop s (b ∷ u) = ap line (append_assoc w (b ∷ []) u) ∙ a (b ∷ u) refl in
+    let g = subst (AgainAs (Exceeds o) o []) e (line_again o ((w ++ b ∷ []) ++ u) h c) in
+    g.0
+
+-- Where reading stops at the first n bytes, and what it reads of others that begin alike.
+pub record Halted (bs : List ℕ) (s : Stop) (n : ℕ) (rest : List ℕ) : Type 0 where
+  pub read : line (front bs) ≡ stop s rest
+  pub place : At bs n rest
+  pub alike : (v : List ℕ) → SameHead rest v → line (take n bs ++ v) ≡ stop s v
+  pub stuck : Stuck (Begins WholeLine) s (front bs) rest
+  pub same : stuck.passed ≡ take n bs
+
+halts : (bs : List ℕ) (s : Stop) (rest : List ℕ) → line (front bs) ≡ stop s rest → LocalAs line (front bs) (stop s rest) → Stuck (Begins WholeLine) s (front bs) rest → (n : ℕ) × (n ≡ length (front bs) - length rest) × Halted bs s n rest
+halts bs s rest e l k =
+    let a = at_from bs l.passed rest l.whole in
+    let b = at_from bs k.passed rest k.whole in
+    let n : length k.passed ≡ length l.passed = omega (arith, a.1.total, b.1.total) in (
+      length l.passed,
+      omega (arith, a.1.total),
+      record {
+        read = e;
+        place = a.1;
+        alike = λ v h. ap (λ w. line (w ++ v)) (sym a.0) ∙ l.alike v h;
+        stuck = k;
+        same = b.0 ∙ ap (λ m. take m bs) n;
+      },
+    )
+
+module _ (bs : List ℕ) where
+  halted_begins : (s : Stop) (n : ℕ) (rest : List ℕ) → Halted bs s n rest → Begins WholeLine both (take n bs)
+  halted_begins s n rest h = subst (Begins WholeLine both) h.same h.stuck.begins
+
+  halted_passes : (s : Stop) (n : ℕ) (rest : List ℕ) → Halted bs s n rest → Passes bs n
+  halted_passes s n rest h = passes bs n (stop s rest) h.read h.place (halted_begins s n rest h)
+
+  next_exceeds : (s : Stop) (n b : ℕ) (t : List ℕ) → Halted bs s n (b ∷ t) → (u : List ℕ) (o : Operation) → LineText o (take (n + 1) bs ++ u) → IsCovered o → Exceeds o s
+  next_exceeds s n b t h u o l c = exceeds o s (take n bs) b t u h.alike (subst (λ w. LineText o (w ++ u)) (one_more bs n b t h.place) l) c
+
+  bad_next : (n : ℕ) (rest : List ℕ) → Halted bs BadByte n rest → n < length bs → n < 65536 → BeginsLine AnyOperation (take (n + 1) bs) → ⊥
+  bad_next n [] h p q b = omega (arith, h.place.total, length-take 65536 bs)
+  bad_next n (c ∷ t) h p q b = never_bad b.1 (next_exceeds BadByte n c t h b.0 b.1 b.2 b.4)
+
+  bad_end : (n : ℕ) (rest : List ℕ) → Halted bs BadByte n rest → n ≡ length bs → (o : Operation) → LineText o bs → IsCovered o → ⊥
+  bad_end n rest h p o l c =
+      let whole : front bs ≡ bs = take_all 65536 bs (omega (arith, h.place.limit)) in
+      let e : line bs ≡ stop BadByte rest = ap line (sym whole) ∙ h.read in
+      let g = subst (AgainAs (Exceeds o) o []) e (line_again o bs l c) in
+      never_bad o g.0
+
+  pub bad_at : (n : ℕ) (rest : List ℕ) → Halted bs BadByte n rest → IsBadAt bs n
+  bad_at n rest h = record { passes = halted_passes BadByte n rest h; longest = bad_next n rest h; unfinished = bad_end n rest h }
+
+  stops_at : (s : Stop) (n b : ℕ) (t : List ℕ) → Halted bs s n (b ∷ t) → StopsAt bs n
+  stops_at s n b t h = record {
+    passes = halted_passes s n (b ∷ t) h;
+    there = omega (arith, h.place.total, length-take 65536 bs);
+    limit = omega (arith, h.place.total, length-take 65536 bs);
+  }
+
+  next_begins : (c : Limits) (s : Stop) (n b : ℕ) (t rest : List ℕ) → rest ≡ b ∷ t → (h : Halted bs s n rest) → Begins WholeLine c (h.stuck.passed ++ b ∷ []) → BeginsLine (Keeps c) (take (n + 1) bs)
+  next_begins c s n b t rest e h k =
+      let p = subst (At bs n) e h.place in
+      begins_line c (take (n + 1) bs) (subst (Begins WholeLine c) (ap (λ w. w ++ b ∷ []) h.same ∙ sym (one_more bs n b t p)) k)
+
+  pub many_at : (n : ℕ) (rest : List ℕ) → Halted bs TooManyFields n rest → Faults faults.TooManyFields bs
+  many_at n rest h =
+      let d = h.stuck.decides in
+      let k = subst (Halted bs TooManyFields n) d.2 h in
+      (n, stops_at TooManyFields n d.0 d.1 k, next_begins levels TooManyFields n d.0 d.1 rest d.2 h d.3, λ b. keeps_counts b.1 b.3 (next_exceeds TooManyFields n d.0 d.1 k b.0 b.1 b.2 b.4))
+
+  pub deep_at : (n : ℕ) (rest : List ℕ) → Halted bs TooDeep n rest → Faults faults.TooDeep bs
+  deep_at n rest h =
+      let d = h.stuck.decides in
+      let k = subst (Halted bs TooDeep n) d.2 h in
+      (n, stops_at TooDeep n d.0 d.1 k, next_begins no_limits TooDeep n d.0 d.1 rest d.2 h d.3, λ b. keeps_levels b.1 b.3 (next_exceeds TooDeep n d.0 d.1 k b.0 b.1 b.2 b.4))
+
+  halted_faults : (s : Stop) (n : ℕ) (rest : List ℕ) → Halted bs s n rest → Faults (fault_at n s) bs
+  halted_faults BadByte n rest h = bad_at n rest h
+  halted_faults TooDeep n rest h = deep_at n rest h
+  halted_faults TooManyFields n rest h = many_at n rest h
+  halted_faults TooLong n rest h = absurd h.stuck.decides
+  halted_faults NoMemory n rest h = tt
+
+  pub stopped_faults : (s : Stop) (rest : List ℕ) → line (front bs) ≡ stop s rest → Faults (fault_at (length (front bs) - length rest) s) bs
+  stopped_faults s rest e =
+      let h = halts bs s rest e (subst (LocalAs line (front bs)) e (line_local (front bs))) (subst (RightAs (WholeLine both) (Begins WholeLine) (front bs)) e (line_right (front bs))) in
+      subst (λ n. Faults (fault_at n s) bs) h.1 (halted_faults s h.0 rest h.2)
+
+-- Nothing is left behind an operation.
+abbrev AtEnd : {V : Type 0} → Read V → Type 0
+AtEnd (got v rest) = rest ≡ []
+AtEnd (stop s rest) = Unit {0}
+
+then_end : {V W : Type 0} → (x : Read V) (f : V → Reading W) → ((v : V) (rest : List ℕ) → AtEnd (f v rest)) → AtEnd (x >>= f)
+then_end (got v rest) f h = h v rest
+then_end (stop s rest) f h = tt
+
+map_end : {V W : Type 0} → (x : Read V) (g : V → W) → AtEnd x → AtEnd (x >>= λ v rest. got (g v) rest)
+map_end (got v rest) g h = h
+map_end (stop s rest) g h = tt
+
+if_end : {V : Type 0} → (b : Bool) (x y : Read V) → AtEnd x → AtEnd y → AtEnd (cond b x y)
+if_end true x y h k = h
+if_end false x y h k = k
+
+finish_end : (bs : List ℕ) → AtEnd (finish bs)
+finish_end [] = refl
+finish_end (b ∷ bs) = tt
+
+ending_end : (bs : List ℕ) → AtEnd (ending bs)
+unfolding ending
+ending_end bs = then_end (blanks true bs) (λ _ rest. finish rest) (λ _ rest. finish_end rest)
+
+out_end : (bs : List ℕ) → AtEnd (out_line bs)
+unfolding out_line
+out_end bs =
+    then_end (word (codes "out") bs) (λ _ behind. argument tuple behind >>= λ t rest. ending rest >>= λ _ last. got (out t) last)
+    (λ _ behind. then_end (argument tuple behind) (λ t rest. ending rest >>= λ _ last. got (out t) last) (λ t rest. map_end (ending rest) (λ _. out t) (ending_end rest)))
+
+rdp_end : (bs : List ℕ) → AtEnd (rdp_line bs)
+unfolding rdp_line
+rdp_end bs =
+    then_end (word (codes "rdp") bs) (λ _ behind. argument template behind >>= λ p rest. ending rest >>= λ _ last. got (rdp p) last)
+    (λ _ behind. then_end (argument template behind) (λ p rest. ending rest >>= λ _ last. got (rdp p) last) (λ p rest. map_end (ending rest) (λ _. rdp p) (ending_end rest)))
+
+operation_end : (bs : List ℕ) → AtEnd (operation bs)
+unfolding operation
+operation_end [] = tt
+operation_end (b ∷ bs) = if_end (b == 111) (out_line (b ∷ bs)) (cond (b == 114) (rdp_line (b ∷ bs)) (stop BadByte (b ∷ bs))) (out_end (b ∷ bs)) (if_end (b == 114) (rdp_line (b ∷ bs)) (stop BadByte (b ∷ bs)) (rdp_end (b ∷ bs)) tt)
+
+line_end : (bs : List ℕ) → AtEnd (line bs)
+unfolding line
+line_end bs = then_end (blanks true bs) (λ _ rest. operation rest) (λ _ rest. operation_end rest)
+
+-- What is read as an operation is its line.
+read_whole : (bs : List ℕ) (o : Operation) (rest : List ℕ) → line bs ≡ got o rest → WholeLine both o bs
+read_whole bs o rest e =
+    let f = subst (RightAs (WholeLine both) (Begins WholeLine) bs) e (line_right bs) in
+    let n = subst AtEnd e (line_end bs) in
+    subst (WholeLine both o) (sym (f.whole ∙ ap (λ t. f.passed ++ t) n ∙ append-nil f.passed)) f.is
+
+pub read_is_line : (bs : List ℕ) (o : Operation) (rest : List ℕ) → length bs ≤ 65536 → line (front bs) ≡ got o rest → IsLine o bs
+read_is_line bs o rest p e =
+    let w = read_whole bs o rest (ap line (sym (take_all 65536 bs p)) ∙ e) in
+    let l = whole_lined both o bs w in
+    record { text = l.text; within = any_within o w.1 w.4; size = p; covered = l.covered }
+
+-- A longer line is bad at its byte 65,536 at the latest.
+pub too_big : (bs : List ℕ) (o : Operation) (rest : List ℕ) → 65536 < length bs → line (front bs) ≡ got o rest → IsBadAt bs 65536
+too_big bs o rest p e =
+    let w = read_whole (front bs) o rest e in
+    let n = subst AtEnd e (line_end (front bs)) in
+    let l : length (front bs) ≡ 65536 = omega (arith, length-take 65536 bs) in
+    let place : At bs 65536 rest = record { whole = sym (append-nil (front bs)) ∙ ap (λ t. front bs ++ t) (sym n); total = omega (arith, ap length n); within = omega arith; limit = omega arith } in
+    record {
+      passes = passes bs 65536 (got o rest) e place (o, [], subst (WholeLine both o) (sym (append-nil (front bs))) w);
+      longest = λ a b c. omega arith;
+      unfinished = λ a b c d. omega arith;
+    }
+
+-- The line of an operation is read so.
+again_is : (o : Operation) (x : Read Operation) → IsOperation o → AgainAs (Exceeds o) o [] x → x ≡ got o []
+again_is o (got p rest) w h = ap (λ q. got q rest) h.0 ∙ ap (got o) h.1
+again_is o (stop s rest) w h = absurd (within_exceeds o s w h.0)
+
+pub line_is_read : (bs : List ℕ) (o : Operation) → IsLine o bs → line (front bs) ≡ got o []
+line_is_read bs o h = ap line (take_all 65536 bs h.size) ∙ again_is o (line bs) h.within (line_again o bs h.text h.covered)
+
+pub line_reads_only : (bs : List ℕ) (o p : Operation) (rest : List ℕ) → IsLine o bs → line (front bs) ≡ got p rest → p ≡ o
+line_reads_only bs o p rest h e = let g : got p rest ≡ got o [] = sym e ∙ line_is_read bs o h in cc
+
+pub line_no_stop : (bs : List ℕ) (o : Operation) (s : Stop) (rest : List ℕ) → IsLine o bs → line (front bs) ≡ stop s rest → ⊥
+line_no_stop bs o s rest h e = let g : stop s rest ≡ got o [] = sym e ∙ line_is_read bs o h in cc
+
+-- No line of an operation is skipped.
+name_head : (o : Operation) → (b : ℕ) × (t : List ℕ) × (name o ≡ b ∷ t) × (97 ≤ b)
+name_head (out t) = (111, codes "ut", refl, omega arith)
+name_head (rdp p) = (114, codes "dp", refl, omega arith)
+name_head (inp p) = (105, codes "np", refl, omega arith)
+name_head (cas p t) = (99, codes "as", refl, omega arith)
+name_head (rd_all n p) = (114, codes "dAll", refl, omega arith)
+
+no_blanks : (lead : List ℕ) (b : ℕ) (t : List ℕ) → 97 ≤ b → AreBlanks (lead ++ b ∷ t) → ⊥
+no_blanks [] b t h k = omega (arith, k.0)
+no_blanks (c ∷ lead) b t h k = no_blanks lead b t h k.1
+
+no_comment : (lead : List ℕ) (b : ℕ) (t : List ℕ) → AreBlanks lead → 97 ≤ b → IsComment (lead ++ b ∷ t) → ⊥
+no_comment [] b t p h k = omega (arith, k)
+no_comment (c ∷ lead) b t p h k = omega (arith, k, p.0)
+
+skipped_no : (lead rest bs : List ℕ) (o : Operation) → bs ≡ lead ++ (name o ++ rest) → AreBlanks lead → IsSkipped bs → ⊥
+skipped_no lead rest bs o e p (inl k) =
+    let n = name_head o in no_blanks lead n.0 (n.1 ++ rest) n.3 (subst AreBlanks (e ∙ ap (λ s. lead ++ (s ++ rest)) n.2) k)
+skipped_no lead rest bs o e p (inr k) =
+    let n = name_head o in no_comment lead n.0 (n.1 ++ rest) p n.3 (subst IsComment (e ∙ ap (λ s. lead ++ (s ++ rest)) n.2) k)
+
+pub line_not_skipped : (bs : List ℕ) (o : Operation) → LineText o bs → IsSkipped bs → ⊥
+line_not_skipped bs o h k = skipped_no h.0 h.1 bs o h.2 h.3 k
+
+no_length : (bs : List ℕ) → length bs ≡ 0 → bs ≡ []
+no_length [] h = refl
+no_length (b ∷ bs) h = absurd (omega arith)
+
+-- The line is of blanks alone where passing blanks leaves nothing.
+pub blanks_left : (bs : List ℕ) (v : Bool) (rest : List ℕ) → blanks true bs ≡ got v rest → length rest ≡ 0 → AreBlanks bs
+blanks_left bs v rest e h =
+    let f = subst (RightAs (ArePassed true) BeginsBlanks bs) e (blanks_right true bs) in
+    let n : rest ≡ [] = no_length rest h in
+    subst AreBlanks (sym (f.whole ∙ ap (λ t. f.passed ++ t) n ∙ append-nil f.passed)) f.is.0
+
+pub left_nothing : (bs : List ℕ) (v : Bool) (rest : List ℕ) → blanks true bs ≡ got v rest → AreBlanks bs → length rest ≡ 0
+left_nothing bs v rest e h =
+    let g : got v rest ≡ got (freed true bs) [] = sym e ∙ ap (blanks true) (sym (append-nil bs)) ∙ blanks_again true bs [] h tt in
+    let r : rest ≡ [] = cc in
+    ap length r
+
+-- What the program's reading says.
+pub shorter_front : (bs : List ℕ) (m : ℕ) → (m ≡ length bs) ⊎ (m ≡ 65536) → m ≤ length bs → m ≤ 65536 → take m bs ≡ front bs
+shorter_front bs m (inl e) p q = take_all m bs (omega arith) ∙ sym (take_all 65536 bs (omega arith))
+shorter_front bs m (inr e) p q = ap (λ n. take n bs) e
+
+min_is : (m a b : ℕ) → m ≡ min a b → (m ≡ a) ⊎ (m ≡ b)
+min_is m a b e = elim (cases_lt a b) [ inl h ↦ inl (omega arith) | inr h ↦ inr (omega arith) ]
+
+pub front_is : (bs : List ℕ) (m : ℕ) → m ≡ min (length bs) 65536 → take m bs ≡ front bs
+front_is bs m e = shorter_front bs m (min_is m (length bs) 65536 e) (omega arith) (omega arith)
+
+pub stops_faults : (bs : List ℕ) (s : Stop) (at rest : List ℕ) → at ≡ front bs → Stops s (line at) rest → Faults (fault_at (length at - length rest) s) bs
+stops_faults bs NoMemory at rest e h = tt
+stops_faults bs BadByte at rest e h = subst (λ t. Faults (fault_at (length t - length rest) BadByte) bs) (sym e) (stopped_faults bs BadByte rest (ap line (sym e) ∙ h))
+stops_faults bs TooDeep at rest e h = subst (λ t. Faults (fault_at (length t - length rest) TooDeep) bs) (sym e) (stopped_faults bs TooDeep rest (ap line (sym e) ∙ h))
+stops_faults bs TooManyFields at rest e h = subst (λ t. Faults (fault_at (length t - length rest) TooManyFields) bs) (sym e) (stopped_faults bs TooManyFields rest (ap line (sym e) ∙ h))
+stops_faults bs TooLong at rest e h = subst (λ t. Faults (fault_at (length t - length rest) TooLong) bs) (sym e) (stopped_faults bs TooLong rest (ap line (sym e) ∙ h))
+
+pub stops_memory : (bs : List ℕ) (s : Stop) (at rest : List ℕ) (n : ℕ) (o : Operation) → at ≡ front bs → Stops s (line at) rest → IsLine o bs → fault_at n s ≡ faults.NoMemory
+stops_memory bs NoMemory at rest n o e h l = refl
+stops_memory bs BadByte at rest n o e h l = absurd (line_no_stop bs o BadByte rest l (ap line (sym e) ∙ h))
+stops_memory bs TooDeep at rest n o e h l = absurd (line_no_stop bs o TooDeep rest l (ap line (sym e) ∙ h))
+stops_memory bs TooManyFields at rest n o e h l = absurd (line_no_stop bs o TooManyFields rest l (ap line (sym e) ∙ h))
+stops_memory bs TooLong at rest n o e h l = absurd (line_no_stop bs o TooLong rest l (ap line (sym e) ∙ h))

@@ -1,0 +1,15 @@
+pub mod Local
+pub mod Localities
+pub mod Steps
+pub mod Right
+pub mod Numbers
+pub mod Blanks
+pub mod Endings
+pub mod Lists
+pub mod Again
+pub mod Leaves
+pub mod Arguments
+pub mod LineRight
+pub mod LineAgain
+pub mod Judging
+pub mod Writing

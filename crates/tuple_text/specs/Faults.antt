@@ -1,0 +1,99 @@
+-- Why a line is refused. It is judged from left to right, and the first of these decides: a byte with which no
+-- beginning of a line can go on, the line's end and the byte 65,536 among them; the parenthesis that opens a ninth
+-- level; the first byte of a 33rd item of a list; the parenthesis that closes an argument whose encoding is over 1,024
+-- bytes. At one byte they come in this order.
+use Rattle.std.specs.Prelude.{◌≡◌, ℕ, ◌+◌, ◌<◌, ◌≤◌, List, [], ◌∷◌, ◌++◌, length, take, slice_index}
+use Rattle.tuple_tree.specs.Items.{Items, how_many, levels_of, whole_length}
+use Rattle.tuple_tree.specs.Limits.{AreItems}
+use Rattle.tuple_tree.specs.Values.{datum_length, slot_length}
+use Rattle.tuple_codec.specs.Operations.{Operation, out, rdp, inp, cas, rd_all}
+use Rattle.tuple_text.specs.Texts.{AreBlanks, IsGap}
+use Rattle.tuple_text.specs.Lines.{name, arguments, LineText, IsSkipped}
+use Rattle.tuple_text.specs.Covered.{IsCovered}
+use Rattle.tuple_text.specs.declared.faults.LineFault.{LineFault}
+use Rattle.tuple_text.specs.declared.faults.LineFault.TheVariants.{BadByte, TooDeep, TooManyFields, TooLong, NoMemory}
+
+-- each list of the tree has at most 32 items
+abbrev pub KeepsCount : {L : Type 0} → Items L → Type 0
+KeepsCount xs = (how_many xs ≤ 32) × AreItems (λ _. Unit {0}) xs
+
+abbrev pub AnyOperation : Operation → Type 0
+AnyOperation o = Unit {0}
+
+abbrev pub KeepsLevels : Operation → Type 0
+KeepsLevels (out t) = levels_of t ≤ 8
+KeepsLevels (rdp p) = levels_of p ≤ 8
+KeepsLevels (inp p) = levels_of p ≤ 8
+KeepsLevels (cas p t) = (levels_of p ≤ 8) × (levels_of t ≤ 8)
+KeepsLevels (rd_all n p) = levels_of p ≤ 8
+
+abbrev pub KeepsCounts : Operation → Type 0
+KeepsCounts (out t) = KeepsCount t
+KeepsCounts (rdp p) = KeepsCount p
+KeepsCounts (inp p) = KeepsCount p
+KeepsCounts (cas p t) = KeepsCount p × KeepsCount t
+KeepsCounts (rd_all n p) = KeepsCount p
+
+abbrev pub KeepsBoth : Operation → Type 0
+KeepsBoth o = KeepsLevels o × KeepsCounts o
+
+-- Some line of an operation of which P holds begins so.
+abbrev pub Begins : (Operation → Type 0) → List ℕ → Type 0
+Begins P bs = (rest : List ℕ) × (o : Operation) × LineText o (bs ++ rest) × P o × IsCovered o
+
+-- each argument behind a gap, and nothing behind the last
+abbrev pub ArgumentsClosed : List (List ℕ → Type 0) → List ℕ → Type 0
+ArgumentsClosed [] bs = bs ≡ []
+ArgumentsClosed (argument ∷ more) bs =
+    (gap front rest : List ℕ) × (bs ≡ gap ++ (front ++ rest)) × IsGap gap × argument front × ArgumentsClosed more rest
+
+-- how long the encodings of the arguments are, in order
+abbrev pub argument_lengths : Operation → List ℕ
+argument_lengths (out t) = whole_length datum_length t ∷ []
+argument_lengths (rdp p) = whole_length slot_length p ∷ []
+argument_lengths (inp p) = whole_length slot_length p ∷ []
+argument_lengths (cas p t) = whole_length slot_length p ∷ whole_length datum_length t ∷ []
+argument_lengths (rd_all n p) = 1 ∷ whole_length slot_length p ∷ []
+
+-- The text ends where an argument of more than 1,024 bytes is closed: the first k + 1 arguments of o stand there.
+pub record EndsTooLong (bs : List ℕ) : Type 0 where
+  pub o : Operation
+  pub k : ℕ
+  pub lead : List ℕ
+  pub rest : List ℕ
+  pub whole : bs ≡ lead ++ (name o ++ rest)
+  pub blanks : AreBlanks lead
+  pub covered : IsCovered o
+  pub closed : ArgumentsClosed (take (k + 1) (arguments o)) rest
+  pub last : k < length (arguments o)
+  pub long : 1024 < slice_index (argument_lengths o) k
+
+-- The first n bytes begin a line and pass no limit.
+pub record Passes (bs : List ℕ) (n : ℕ) : Type 0 where
+  pub within : n ≤ length bs
+  pub limit : n ≤ 65536
+  pub begins : Begins KeepsBoth (take n bs)
+  pub short : (k : ℕ) → k ≤ n → EndsTooLong (take k bs) → ⊥
+
+-- The first byte that decides is the one at n, and the line goes on to it.
+pub record StopsAt (bs : List ℕ) (n : ℕ) : Type 0 where
+  pub passes : Passes bs n
+  pub there : n < length bs
+  pub limit : n < 65536
+
+-- The first n bytes are the longest beginning of the line that begins some line.
+pub record IsBadAt (bs : List ℕ) (n : ℕ) : Type 0 where
+  pub passes : Passes bs n
+  pub longest : n < length bs → n < 65536 → Begins AnyOperation (take (n + 1) bs) → ⊥
+  pub unfinished : n ≡ length bs → (o : Operation) → LineText o bs → IsCovered o → ⊥
+
+abbrev pub Faults : LineFault → List ℕ → Type 0
+Faults (BadByte n) bs = IsBadAt bs n
+Faults TooDeep bs = (n : ℕ) × StopsAt bs n × Begins AnyOperation (take (n + 1) bs) × (Begins KeepsLevels (take (n + 1) bs) → ⊥)
+Faults TooManyFields bs = (n : ℕ) × StopsAt bs n × Begins KeepsLevels (take (n + 1) bs) × (Begins KeepsCounts (take (n + 1) bs) → ⊥)
+Faults TooLong bs = (n : ℕ) × StopsAt bs n × Begins KeepsBoth (take (n + 1) bs) × EndsTooLong (take (n + 1) bs)
+Faults NoMemory bs = Unit {0}
+
+-- The line is not skipped, and is refused so.
+abbrev pub Refuses : LineFault → List ℕ → Type 0
+Refuses fault bs = (IsSkipped bs → ⊥) × Faults fault bs

@@ -1,0 +1,6 @@
+pub mod Texts
+pub mod Covered
+pub mod Lines
+pub mod Faults
+pub mod Reading
+pub mod Written

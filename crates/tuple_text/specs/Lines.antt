@@ -1,0 +1,68 @@
+-- A script line and its operation: the operation's name, one or more blanks before each argument, and blanks at both
+-- ends. Of the limits only the ranges of numbers and of the count of an rdAll belong to the grammar.
+use Rattle.std.specs.Prelude.{◌≡◌, ◌⊎◌, ℕ, ◌≤◌, List, [], ◌∷◌, ◌++◌, length, codes}
+use Rattle.std.specs.Fmt.{decimal}
+use Rattle.tuple_tree.specs.Items.{Item, leaf, inner, Items, none, item}
+use Rattle.tuple_tree.specs.Values.{IsDatum, IsSlot, TupleTree, TemplateTree}
+use Rattle.tuple_codec.specs.Operations.{Operation, out, rdp, inp, cas, rd_all, IsOperation}
+use Rattle.tuple_text.specs.Texts.{AreBlanks, IsGap, TupleText, TemplateText}
+use Rattle.tuple_text.specs.Covered.{IsCovered}
+
+-- each leaf is a right one
+module _ {L : Type 0} (IsLeaf : L → Type 0) where
+  abbrev mutual
+    pub EachLeaf : Items L → Type 0
+    EachLeaf none = Unit {0}
+    EachLeaf (item x xs) = LeafIn x × EachLeaf xs
+
+    pub LeafIn : Item L → Type 0
+    LeafIn (leaf x) = IsLeaf x
+    LeafIn (inner xs) = EachLeaf xs
+
+abbrev pub TupleArgument : TupleTree → List ℕ → Type 0
+TupleArgument t bs = TupleText t bs × EachLeaf IsDatum t
+
+abbrev pub TemplateArgument : TemplateTree → List ℕ → Type 0
+TemplateArgument p bs = TemplateText p bs × EachLeaf IsSlot p
+
+abbrev pub CountArgument : ℕ → List ℕ → Type 0
+CountArgument n bs = (bs ≡ decimal n) × (1 ≤ n) × (n ≤ 64)
+
+abbrev pub name : Operation → List ℕ
+name (out t) = codes "out"
+name (rdp p) = codes "rdp"
+name (inp p) = codes "inp"
+name (cas p t) = codes "cas"
+name (rd_all n p) = codes "rdAll"
+
+-- what the texts of the arguments have to be, in order
+abbrev pub arguments : Operation → List (List ℕ → Type 0)
+arguments (out t) = TupleArgument t ∷ []
+arguments (rdp p) = TemplateArgument p ∷ []
+arguments (inp p) = TemplateArgument p ∷ []
+arguments (cas p t) = TemplateArgument p ∷ TupleArgument t ∷ []
+arguments (rd_all n p) = CountArgument n ∷ TemplateArgument p ∷ []
+
+-- each argument behind a gap
+abbrev pub ArgumentsText : List (List ℕ → Type 0) → List ℕ → Type 0
+ArgumentsText [] bs = AreBlanks bs
+ArgumentsText (argument ∷ more) bs =
+    (gap front rest : List ℕ) × (bs ≡ gap ++ (front ++ rest)) × IsGap gap × argument front × ArgumentsText more rest
+
+abbrev pub LineText : Operation → List ℕ → Type 0
+LineText o bs = (lead rest : List ℕ) × (bs ≡ lead ++ (name o ++ rest)) × AreBlanks lead × ArgumentsText (arguments o) rest
+
+-- the line of an operation within all limits, at most 65,536 bytes
+pub record IsLine (o : Operation) (bs : List ℕ) : Type 0 where
+  pub text : LineText o bs
+  pub within : IsOperation o
+  pub size : length bs ≤ 65536
+  pub covered : IsCovered o
+
+-- A line of blanks alone, or whose first byte is a hash, has no operation and is skipped.
+abbrev pub IsComment : List ℕ → Type 0
+IsComment [] = ⊥
+IsComment (b ∷ bs) = b ≡ 35
+
+abbrev pub IsSkipped : List ℕ → Type 0
+IsSkipped bs = AreBlanks bs ⊎ IsComment bs

@@ -1,0 +1,47 @@
+-- The text that is written: one blank between items and none at the parentheses.
+use Rattle.std.specs.Prelude.{ℕ, List, [], ◌∷◌, ◌++◌, length, codes}
+use Rattle.std.specs.Fmt.{decimal}
+use Rattle.tuple_tree.specs.Items.{Item, leaf, inner, Items, none, item}
+use Rattle.tuple_tree.specs.Values.{TupleTree, TemplateTree}
+use Rattle.tuple_codec.specs.Operations.{Outcome, done, found, absent, swapped, all, full, refused}
+use Rattle.tuple_text.specs.Texts.{datum_text, slot_text, truth_text}
+
+module _ {L : Type 0} (leaf_text : L → List ℕ) where
+  abbrev mutual
+    pub item_written : Item L → List ℕ
+    item_written (leaf x) = leaf_text x
+    item_written (inner xs) = 40 ∷ items_written xs ++ 41 ∷ []
+
+    -- what stands between the parentheses
+    pub items_written : Items L → List ℕ
+    items_written none = []
+    items_written (item x xs) = item_written x ++ more_written xs
+
+    -- each item behind a blank
+    pub more_written : Items L → List ℕ
+    more_written none = []
+    more_written (item x xs) = 32 ∷ item_written x ++ more_written xs
+
+  abbrev pub whole_written : Items L → List ℕ
+  whole_written xs = item_written (inner xs)
+
+abbrev pub tuple_written : TupleTree → List ℕ
+tuple_written t = whole_written datum_text t
+
+abbrev pub template_written : TemplateTree → List ℕ
+template_written p = whole_written slot_text p
+
+-- each tuple behind a blank
+abbrev pub tuples_written : List TupleTree → List ℕ
+tuples_written [] = []
+tuples_written (t ∷ ts) = 32 ∷ tuple_written t ++ tuples_written ts
+
+-- Of several tuples their count is written first.
+abbrev pub outcome_text : Outcome → List ℕ
+outcome_text done = codes "done"
+outcome_text (found t) = codes "found " ++ tuple_written t
+outcome_text absent = codes "absent"
+outcome_text (swapped b) = codes "swapped " ++ truth_text b
+outcome_text (all ts) = codes "all " ++ decimal (length ts) ++ tuples_written ts
+outcome_text full = codes "full"
+outcome_text refused = codes "refused"

@@ -1,0 +1,50 @@
+//! Why a line is refused.
+
+ghost use Rattle.std.specs.Prelude.{◌≡◌};
+
+use std::alloc::{AllocError, AllocFailed};
+use thiserror::Error;
+
+/// How many bytes a line has at the most.
+pub const MAX_LINE: usize = 65536;
+
+/// Why a line is refused: the first of these from left to right.
+#[derive(Clone, Copy, Debug, PartialEq, Eq, Error)]
+pub enum LineFault {
+    /// No line goes on so: `offset` bytes from 0 are the longest beginning of the line that begins some line.
+    #[error("no line goes on with byte {offset}")]
+    BadByte { offset: usize },
+    /// A ninth level is opened.
+    #[error("more than 8 levels")]
+    TooDeep,
+    /// A list has a 33rd item.
+    #[error("more than 32 fields")]
+    TooManyFields,
+    /// The encoding of an argument has more than 1,024 bytes.
+    #[error("an encoding of more than 1,024 bytes")]
+    TooLong,
+    #[error("out of memory")]
+    NoMemory,
+}
+
+impl From<AllocError> for LineFault {
+    ghost use Rattle.std.specs.Prelude.{◌≡◌};
+    ghost use Rattle.tuple_text.specs.declared.faults.LineFault.TheVariants.{NoMemory};
+
+    ghost from_gives = { λ _ e. e ≡ NoMemory };
+
+    fn from(_failed: AllocError) -> LineFault {
+        LineFault::NoMemory
+    }
+}
+
+impl<T: Drop> From<AllocFailed<T>> for LineFault {
+    ghost use Rattle.std.specs.Prelude.{◌≡◌};
+    ghost use Rattle.tuple_text.specs.declared.faults.LineFault.TheVariants.{NoMemory};
+
+    ghost from_gives = { λ _ e. e ≡ NoMemory };
+
+    fn from(_failed: AllocFailed<T>) -> LineFault {
+        LineFault::NoMemory
+    }
+}

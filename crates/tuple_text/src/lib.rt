@@ -1,0 +1,11 @@
+//! Operations, answers and tuples as text.
+#![tactic(auto)]
+
+mod faults;
+mod lines;
+mod reader;
+mod write;
+
+pub use faults::{LineFault, MAX_LINE};
+pub use lines::read_line;
+pub use write::{write_answer, write_tuple, written_is_text};

@@ -1,0 +1,52 @@
+//! Script lines.
+
+ghost use Rattle.std.specs.Prelude.{◌≡◌, ◌+◌, ◌≤◌, ℕ, length, IsTrue, ◌↔◌, MatchResult, MatchOption};
+ghost use Rattle.tuple_codec.specs.Operations.{Operation};
+ghost use Rattle.tuple_codec.specs.OperationView.{operation_of};
+ghost use Rattle.tuple_text.specs.Lines.{IsLine, IsSkipped};
+ghost use Rattle.tuple_text.specs.Faults.{Refuses};
+
+use crate::faults::{LineFault, MAX_LINE};
+use crate::reader::Reader;
+use std::alloc::Global;
+use tuple_codec::Op;
+
+fn is_skipped(line: &[u8]) -> bool
+    ensures { IsTrue result ↔ IsSkipped line.now }
+{
+    if let [b'#', ..] = line {
+        return true;
+    }
+    Reader::new(line).is_blank()
+}
+
+/// The operation of a line, which comes without its line end; `None` where the line is empty, of blanks alone, or
+/// begins with a hash.
+///
+/// # Errors
+///
+/// The line is judged from left to right, and the first byte that ends a line's beginning, or passes a limit of tuples
+/// and templates, decides. The byte 65,536 counts as one with which no line goes on.
+pub fn read_line(alloc: Global, line: &[u8]) -> Result<Option<Op<Global>>, LineFault>
+    // What is read stands there, and the fault is the first one.
+    ensures answer { MatchResult result (λ read. MatchOption read (IsSkipped line.now) (λ op. IsLine (operation_of op) line.now)) (λ fault. Refuses fault line.now) }
+
+    // The line of an operation is read so, unless memory runs out.
+    ensures only { (o : Operation) → IsLine o line.now → MatchResult result (λ read. MatchOption read ⊥ (λ op. operation_of op ≡ o)) (λ fault. fault ≡ LineFault.NoMemory) }
+    ensures skipped { IsSkipped line.now → result ≡ Ok None }
+{
+    if is_skipped(line) {
+        return Ok(None);
+    }
+    let front = &line[..line.len().min(MAX_LINE)];
+    let mut reader = Reader::new(front);
+    match reader.line(alloc) {
+        Ok(op) => {
+            if line.len() > MAX_LINE {
+                return Err(LineFault::BadByte { offset: MAX_LINE });
+            }
+            Ok(Some(op))
+        }
+        Err(stop) => Err(stop.fault(front.len().saturating_sub(reader.left()))),
+    }
+}

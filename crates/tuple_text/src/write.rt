@@ -1,0 +1,291 @@
+//! From values to text.
+
+ghost use Rattle.std.specs.Prelude.{◌≡◌, ◌+◌, ◌≤◌, ◌<◌, ◌++◌, ◌∷◌, [], OnOk, OnErr, take, length, vec_len};
+ghost use Rattle.std.specs.List.{flat_map};
+ghost use Rattle.std.specs.Fmt.{decimal, signed_decimal};
+ghost use Rattle.tuple_tree.specs.Values.{TupleTree, TemplateTree};
+ghost use Rattle.tuple_tree.specs.AtomView.{datum_of};
+ghost use Rattle.tuple_tree.specs.TupleView.{value_of, tuple_of};
+ghost use Rattle.tuple_codec.specs.OperationView.{outcome_of};
+ghost use Rattle.tuple_text.specs.Texts.{TupleText, TemplateText, datum_text, truth_text, escaped, hex_pair};
+ghost use Rattle.tuple_text.specs.Texts as Texts;
+ghost use Rattle.tuple_text.specs.Written.{item_written, items_written, tuple_written, template_written, tuples_written, outcome_text};
+
+use itoa::Buffer;
+use std::alloc::Allocator;
+use tuple_codec::{Answer, Tuples};
+use tuple_tree::{Atom, NoMemory, Tuple, Value};
+
+/// Appends the text of the tuple: its values in parentheses, one blank between them. An `Err` leaves the bytes as they
+/// were.
+pub fn write_tuple<A: Allocator, B: Allocator>(
+    tuple: &Tuple<A>,
+    out: &mut Vec<u8, B>,
+) -> Result<(), NoMemory>
+    ensures ok { OnOk result (out.new.items ≡ out.old.items ++ tuple_written tuple.now) }
+    ensures err { OnErr result (out.new.items ≡ out.old.items) }
+{
+    let old_len = out.len();
+    match put_tuple(tuple, out) {
+        Ok(()) => Ok(()),
+        Err(error) => {
+            out.truncate(old_len);
+            Err(error)
+        }
+    }
+}
+
+/// Appends the text of the answer: its name, and then what it holds, each behind a blank. An `Err` leaves the bytes as
+/// they were.
+pub fn write_answer<A: Allocator, B: Allocator>(
+    answer: &Answer<A>,
+    out: &mut Vec<u8, B>,
+) -> Result<(), NoMemory>
+    ensures ok { OnOk result (out.new.items ≡ out.old.items ++ outcome_text (outcome_of answer.now)) }
+    ensures err { OnErr result (out.new.items ≡ out.old.items) }
+{
+    let old_len = out.len();
+    match put_answer(answer, out) {
+        Ok(()) => Ok(()),
+        Err(error) => {
+            out.truncate(old_len);
+            Err(error)
+        }
+    }
+}
+
+/// A law: what is written of a tuple or a template is a text of it.
+pub fn written_is_text()
+    ensures tuples { (t : TupleTree) → TupleText t (tuple_written t) }
+    ensures templates { (p : TemplateTree) → TemplateText p (template_written p) }
+{}
+
+fn put_answer<A: Allocator, B: Allocator>(
+    answer: &Answer<A>,
+    out: &mut Vec<u8, B>,
+) -> Result<(), NoMemory>
+    ensures ok { OnOk result (out.new.items ≡ out.old.items ++ outcome_text (outcome_of answer.now)) }
+    ensures kept { take (vec_len out.old) out.new.items ≡ out.old.items }
+{
+    match answer {
+        Answer::Done => Ok(out.extend_from_slice(b"done")?),
+        Answer::Found(tuple) => {
+            out.extend_from_slice(b"found ")?;
+            put_tuple(tuple, out)
+        }
+        Answer::Absent => Ok(out.extend_from_slice(b"absent")?),
+        Answer::Swapped(swapped) => {
+            out.extend_from_slice(b"swapped ")?;
+            put_truth(*swapped, out)
+        }
+        Answer::All(tuples) => {
+            out.extend_from_slice(b"all ")?;
+            put_tuples(tuples, out)
+        }
+        Answer::Full => Ok(out.extend_from_slice(b"full")?),
+        Answer::Refused => Ok(out.extend_from_slice(b"refused")?),
+    }
+}
+
+fn put_tuples<A: Allocator, B: Allocator>(
+    tuples: &Tuples<A>,
+    out: &mut Vec<u8, B>,
+) -> Result<(), NoMemory>
+    ensures ok { OnOk result (out.new.items ≡ out.old.items ++ (decimal (length tuples.now) ++ tuples_written tuples.now)) }
+    ensures kept { take (vec_len out.old) out.new.items ≡ out.old.items }
+{
+    let mut buffer = Buffer::new();
+    out.extend_from_slice(buffer.format(tuples.len()).as_bytes())?;
+    for tuple in tuples.as_slice() {
+        out.push(b' ')?;
+        put_tuple(tuple, out)?;
+    }
+    Ok(())
+}
+
+#[cycle(put_tuple)]
+fn put_tuple<A: Allocator, B: Allocator>(
+    tuple: &Tuple<A>,
+    out: &mut Vec<u8, B>,
+) -> Result<(), NoMemory>
+    ensures ok { OnOk result (out.new.items ≡ out.old.items ++ tuple_written tuple.now) }
+    ensures kept { take (vec_len out.old) out.new.items ≡ out.old.items }
+{
+    out.push(b'(')?;
+    put_values(tuple.values(), out)?;
+    Ok(out.push(b')')?)
+}
+
+#[cycle(put_tuple)]
+fn put_values<A: Allocator, B: Allocator>(
+    values: &[Value<A>],
+    out: &mut Vec<u8, B>,
+) -> Result<(), NoMemory>
+    ensures ok { OnOk result (out.new.items ≡ out.old.items ++ items_written datum_text (tuple_of values.now)) }
+    ensures kept { take (vec_len out.old) out.new.items ≡ out.old.items }
+{
+    if let Some((first, others)) = values.split_first() {
+        put_value(first, out)?;
+        for value in others {
+            out.push(b' ')?;
+            put_value(value, out)?;
+        }
+    }
+    Ok(())
+}
+
+#[cycle(put_tuple)]
+fn put_value<A: Allocator, B: Allocator>(
+    value: &Value<A>,
+    out: &mut Vec<u8, B>,
+) -> Result<(), NoMemory>
+    ensures ok { OnOk result (out.new.items ≡ out.old.items ++ item_written datum_text (value_of value.now)) }
+    ensures kept { take (vec_len out.old) out.new.items ≡ out.old.items }
+{
+    match value {
+        Value::Atom(atom) => put_atom(atom, out),
+        Value::Nested(tuple) => put_tuple(tuple, out),
+    }
+}
+
+fn put_atom<A: Allocator, B: Allocator>(
+    atom: &Atom<A>,
+    out: &mut Vec<u8, B>,
+) -> Result<(), NoMemory>
+    ensures ok { OnOk result (out.new.items ≡ out.old.items ++ datum_text (datum_of atom.now)) }
+    ensures kept { take (vec_len out.old) out.new.items ≡ out.old.items }
+{
+    match atom {
+        Atom::Number(number) => put_number(*number, out),
+        Atom::Text(text) => put_text(text.as_bytes(), out),
+        Atom::Bytes(bytes) => put_bytes(bytes.as_slice(), out),
+        Atom::Truth(truth) => put_truth(*truth, out),
+    }
+}
+
+fn put_number<B: Allocator>(number: i64, out: &mut Vec<u8, B>) -> Result<(), NoMemory>
+    ensures ok { OnOk result (out.new.items ≡ out.old.items ++ signed_decimal number) }
+    ensures kept { take (vec_len out.old) out.new.items ≡ out.old.items }
+{
+    let mut buffer = Buffer::new();
+    Ok(out.extend_from_slice(buffer.format(number).as_bytes())?)
+}
+
+fn put_truth<B: Allocator>(truth: bool, out: &mut Vec<u8, B>) -> Result<(), NoMemory>
+    ensures ok { OnOk result (out.new.items ≡ out.old.items ++ truth_text truth) }
+    ensures kept { take (vec_len out.old) out.new.items ≡ out.old.items }
+{
+    if truth {
+        Ok(out.extend_from_slice(b"true")?)
+    } else {
+        Ok(out.extend_from_slice(b"false")?)
+    }
+}
+
+// A text in quotes, with its escapes.
+fn put_text<B: Allocator>(text: &[u8], out: &mut Vec<u8, B>) -> Result<(), NoMemory>
+    ensures ok { OnOk result (out.new.items ≡ out.old.items ++ (34 ∷ flat_map escaped text.now ++ 34 ∷ [])) }
+    ensures kept { take (vec_len out.old) out.new.items ≡ out.old.items }
+{
+    out.push(b'"')?;
+    for byte in text {
+        put_escaped(*byte, out)?;
+    }
+    Ok(out.push(b'"')?)
+}
+
+fn put_escaped<B: Allocator>(byte: u8, out: &mut Vec<u8, B>) -> Result<(), NoMemory>
+    ensures ok { OnOk result (out.new.items ≡ out.old.items ++ escaped byte) }
+    ensures kept { take (vec_len out.old) out.new.items ≡ out.old.items }
+{
+    match byte {
+        b'"' => Ok(out.extend_from_slice(b"\\\"")?),
+        b'\\' => Ok(out.extend_from_slice(b"\\\\")?),
+        b'\n' => Ok(out.extend_from_slice(b"\\n")?),
+        0..=31 => {
+            out.extend_from_slice(b"\\x")?;
+            put_hex(byte, out)
+        }
+        _ => Ok(out.push(byte)?),
+    }
+}
+
+// A byte string: an `x` and two digits for each byte.
+fn put_bytes<B: Allocator>(bytes: &[u8], out: &mut Vec<u8, B>) -> Result<(), NoMemory>
+    ensures ok { OnOk result (out.new.items ≡ out.old.items ++ 120 ∷ flat_map hex_pair bytes.now) }
+    ensures kept { take (vec_len out.old) out.new.items ≡ out.old.items }
+{
+    out.push(b'x')?;
+    for byte in bytes {
+        put_hex(*byte, out)?;
+    }
+    Ok(())
+}
+
+fn put_hex<B: Allocator>(byte: u8, out: &mut Vec<u8, B>) -> Result<(), NoMemory>
+    ensures ok { OnOk result (out.new.items ≡ out.old.items ++ hex_pair byte) }
+    ensures kept { take (vec_len out.old) out.new.items ≡ out.old.items }
+{
+    Ok(out.extend_from_slice(&[hex_digit(byte / 16), hex_digit(byte % 16)])?)
+}
+
+fn hex_digit(digit: u8) -> u8
+    requires { digit < 16 }
+    ensures { result ≡ Texts.hex_digit digit }
+{
+    if digit < 10 {
+        b'0' + digit
+    } else {
+        b'a' + (digit - 10)
+    }
+}
+
+#[cfg(test)]
+mod tests {
+    use super::{write_answer, write_tuple, written_is_text};
+    use std::string::String;
+    use std::test::Fail;
+    use tuple_codec::{Answer, Tuples};
+    use tuple_tree::{Atom, Tuple, Value};
+
+    #[test]
+    fn writes_a_nested_tuple(rt: HostRuntime) -> Result<(), Fail> {
+        let text = String::from_str(rt.alloc(), "x")?;
+        let mut inner = Tuple::new_in(rt.alloc());
+        assert!(rt; inner.push(Value::Atom(Atom::Text(text))).is_ok());
+        let mut tuple = Tuple::new_in(rt.alloc());
+        assert!(rt; tuple.push(inner.into_value()).is_ok());
+        assert!(rt; tuple.push(Value::Atom(Atom::Truth(true))).is_ok());
+        let mut out = Vec::new(rt.alloc());
+        write_tuple(&tuple, &mut out)?;
+        assert_eq!(rt; out.as_slice(), b"((\"x\") true)".as_slice());
+        Ok(())
+    }
+
+    #[test]
+    fn escapes_a_tab(rt: HostRuntime) -> Result<(), Fail> {
+        let text = String::from_str(rt.alloc(), "\t")?;
+        let mut tuple = Tuple::new_in(rt.alloc());
+        assert!(rt; tuple.push(Value::Atom(Atom::Text(text))).is_ok());
+        let mut out = Vec::new(rt.alloc());
+        write_tuple(&tuple, &mut out)?;
+        assert_eq!(rt; out.as_slice(), b"(\"\\x09\")".as_slice());
+        Ok(())
+    }
+
+    #[test]
+    fn writes_all(rt: HostRuntime) -> Result<(), Fail> {
+        let bytes = [0, 255].to_vec(rt.alloc())?;
+        let mut tuple = Tuple::new_in(rt.alloc());
+        assert!(rt; tuple.push(Value::Atom(Atom::Bytes(bytes))).is_ok());
+        assert!(rt; tuple.push(Value::Atom(Atom::Number(-7))).is_ok());
+        let mut tuples = Tuples::new_in(rt.alloc());
+        assert!(rt; tuples.push(tuple).is_ok());
+        let answer = Answer::All(tuples);
+        let mut out = Vec::new(rt.alloc());
+        write_answer(&answer, &mut out)?;
+        assert_eq!(rt; out.as_slice(), b"all 1 (x00ff -7)".as_slice());
+        written_is_text();
+        Ok(())
+    }
+}

@@ -1,0 +1,10 @@
+pub mod Items
+pub mod ItemsCode
+pub mod Limits
+pub mod Values
+pub mod ValuesCode
+pub mod AtomView
+pub mod TupleView
+pub mod TupleFalls
+pub mod TemplateView
+pub mod TemplateFalls

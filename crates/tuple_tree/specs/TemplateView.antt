@@ -1,0 +1,17 @@
+-- What the fields of the program stand for.
+use Rattle.std.specs.Prelude.{List}
+use Rattle.tuple_tree.specs.Items.{Item, leaf, inner, items_of}
+use Rattle.tuple_tree.specs.Values.{Slot, actual, any, formal, TemplateTree}
+use Rattle.tuple_tree.specs.AtomView.{datum_of}
+use Rattle.tuple_tree.specs.declared.templates.Field.{Field}
+use Rattle.tuple_tree.specs.declared.templates.Field.TheVariants.{Actual, Any, Formal, Nested}
+
+module _ {A : Type 0} where
+  abbrev pub field_of : Field A → Item Slot
+  field_of (Actual x) = leaf (actual (datum_of x))
+  field_of Any = leaf any
+  field_of (Formal k) = leaf (formal k)
+  field_of (Nested p) = inner p
+
+  abbrev pub template_of : List (Field A) → TemplateTree
+  template_of = items_of field_of

@@ -1,0 +1,17 @@
+//! Tuples and templates as trees, under any allocator.
+//!
+//! A tuple is a list of values: numbers, texts, byte strings, truth values and nested tuples. A template is a list of
+//! fields: actual values, formals and nested templates (Gelernter, Generative communication in Linda, TOPLAS 1985;
+//! the kinds, the nesting and the limits are this project's own). Both keep their limits by their types: at most
+//! [`MAX_FIELDS`] items in each list, [`MAX_DEPTH`] levels and [`MAX_LEN`] bytes of encoding.
+#![tactic(auto)]
+
+mod atoms;
+mod limits;
+mod templates;
+mod tuples;
+
+pub use atoms::{Atom, Kind};
+pub use limits::{MAX_DEPTH, MAX_FIELDS, MAX_LEN, NoMemory, Refusal, Refused};
+pub use templates::{Field, PushedField, Template};
+pub use tuples::{Pushed, Tuple, Value};

@@ -1,0 +1,92 @@
+//! The limits of tuples and templates, and why an item is refused.
+
+ghost use Rattle.std.specs.Prelude.{◌≡◌, ◌≢◌, ◌+◌, ◌<◌, ◌≤◌, max, MatchResult};
+ghost use Rattle.tuple_tree.specs.Limits.{RefusesSize};
+
+use std::alloc::{AllocError, AllocFailed};
+use thiserror::Error;
+
+/// How many items a list has at the most, at each level.
+pub const MAX_FIELDS: usize = 32;
+
+/// How many levels there are at the most. A flat list has one.
+pub const MAX_DEPTH: u8 = 8;
+
+/// How many bytes an encoding has at the most.
+pub const MAX_LEN: usize = 1024;
+
+/// Why an item was not added.
+#[derive(Clone, Copy, Debug, PartialEq, Eq, Error)]
+pub enum Refusal {
+    #[error("more than 32 fields")]
+    TooManyFields,
+    #[error("more than 8 levels")]
+    TooDeep,
+    #[error("an encoding of more than 1,024 bytes")]
+    TooLong,
+    #[error("out of memory")]
+    NoMemory,
+}
+
+/// Memory ran out.
+#[derive(Clone, Copy, Debug, PartialEq, Eq, Error)]
+#[error("out of memory")]
+pub struct NoMemory;
+
+impl From<AllocError> for NoMemory {
+    fn from(_failed: AllocError) -> NoMemory {
+        NoMemory
+    }
+}
+
+impl<T: Drop> From<AllocFailed<T>> for NoMemory {
+    fn from(_failed: AllocFailed<T>) -> NoMemory {
+        NoMemory
+    }
+}
+
+/// What was refused, and why.
+#[derive(Drop)]
+pub struct Refused<T> {
+    pub refusal: Refusal,
+    pub value: T,
+}
+
+/// Levels and bytes of a tree, kept beside its items so that they are known in constant time.
+#[derive(Clone, Copy)]
+pub struct Extent {
+    pub depth: u8,
+    pub encoded_len: u16,
+}
+
+impl Extent {
+    /// The extent of an empty list: one level, and the byte of its count.
+    pub const EMPTY: Extent = Extent {
+        depth: 1,
+        encoded_len: 1,
+    };
+
+    /// The extent of a list of `len` items with one more behind them, or the first limit that it passes.
+    pub fn with_item(self, len: usize, item_depth: u8, item_len: usize) -> Result<Extent, Refusal>
+        requires depth { item_depth ≤ 8 }
+        requires bytes { self.encoded_len ≤ 1024 }
+        ensures within { MatchResult result
+            (λ e. (len < 32) × (e.depth ≤ 8) × (e.encoded_len ≤ 1024) × (e.depth ≡ max self.depth (1 + item_depth)) × (e.encoded_len ≡ self.encoded_len + item_len))
+            (λ refusal. (refusal ≢ Refusal.NoMemory) × RefusesSize refusal (len + 1) (max self.depth (1 + item_depth)) (self.encoded_len + item_len)) }
+    {
+        if len >= MAX_FIELDS {
+            return Err(Refusal::TooManyFields);
+        }
+        let depth = self.depth.max(1 + item_depth);
+        if depth > MAX_DEPTH {
+            return Err(Refusal::TooDeep);
+        }
+        if item_len > MAX_LEN - self.encoded_len as usize {
+            return Err(Refusal::TooLong);
+        }
+        Ok(Extent {
+            depth,
+            encoded_len: self.encoded_len + item_len as u16,
+        })
+    }
+}

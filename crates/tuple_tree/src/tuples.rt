@@ -1,0 +1,259 @@
+//! Tuples: lists of values.
+
+ghost use Rattle.std.specs.Prelude.{◌≡◌, ◌+◌, ◌≤◌, OnOk, OnErr, IfErr, IfOk, MatchResult, option_map, slice_get, IsTrue, ◌↔◌};
+ghost use Rattle.tuple_tree.specs.Items.{none, inner, how_many, with_last, as_list, item_levels, levels_of, item_length, whole_length};
+ghost use Rattle.tuple_tree.specs.Limits.{IsItem, Refuses};
+ghost use Rattle.tuple_tree.specs.Values.{kind_of, datum_length, IsDatum, IsTuple};
+ghost use Rattle.tuple_tree.specs.TupleView.{value_of, tuple_of};
+
+use crate::atoms::{Atom, Kind};
+use crate::limits::{Extent, NoMemory, Refusal, Refused};
+use std::alloc::Allocator;
+use std::marker::Model;
+
+/// A value of a tuple.
+#[cycle(tuple)]
+#[derive(Drop)]
+pub enum Value<A: Allocator> {
+    /// A value that is no tuple.
+    Atom(Atom<A>),
+    /// A nested tuple.
+    Nested(Tuple<A>),
+}
+
+/// A list of values within the limits, in memory of the allocator `A`.
+#[cycle(tuple)]
+#[derive(Drop)]
+pub struct Tuple<A: Allocator> {
+    values: Vec<Value<A>, A>,
+    extent: Extent,
+}
+
+impl<A: Allocator> Model for Tuple<A> {
+    ghost use Rattle.std.specs.Prelude.{◌≡◌};
+    ghost use Rattle.tuple_tree.specs.Items.{levels_of, whole_length};
+    ghost use Rattle.tuple_tree.specs.Values.{TupleTree, datum_length, IsTuple};
+    ghost use Rattle.tuple_tree.specs.ValuesCode.{tuple_code};
+
+    ghost Value = { TupleTree };
+
+    ghost coded = { tuple_code };
+
+    ghost use Rattle.tuple_tree.specs.TupleView.{tuple_of};
+
+    ghost view = { λ a. tuple_of a.values.items };
+
+    ghost invariant = { λ a. IsTuple (tuple_of a.values.items) × (a.extent.depth ≡ levels_of (tuple_of a.values.items)) × (a.extent.encoded_len ≡ whole_length datum_length (tuple_of a.values.items)) };
+
+    ghost size = { λ t. levels_of t };
+
+    ghost use Rattle.std.proofs.Common.{arith};
+    ghost use Rattle.tuple_tree.specs.TupleFalls.{most_le_levels};
+
+    ghost size_decreases = { λ a h. omega (arith, most_le_levels A.Allocator a.values.items) };
+}
+
+/// A value that was not added, and why.
+pub type Pushed<A> = Refused<Value<A>>;
+
+impl<A: Allocator> Value<A> {
+    /// The kind of this value.
+    pub fn kind(&self) -> Kind
+        ensures { result ≡ kind_of (value_of self.now) }
+    {
+        match self {
+            Value::Atom(atom) => atom.kind(),
+            Value::Nested(_) => Kind::Tuple,
+        }
+    }
+
+    /// The levels of nested tuples in this value, 0 to 8. Constant time.
+    pub fn depth(&self) -> u8
+        ensures value { result ≡ item_levels (value_of self.now) }
+        ensures bound { result ≤ 8 }
+        ensures valid { IsItem IsDatum (value_of self.now) }
+    {
+        match self {
+            Value::Atom(atom) => {
+                atom.note_valid();
+                0
+            }
+            Value::Nested(tuple) => tuple.depth(),
+        }
+    }
+
+    /// The length of the encoding, in bytes. Constant time.
+    pub fn encoded_len(&self) -> usize
+        ensures { result ≡ item_length datum_length (value_of self.now) }
+    {
+        match self {
+            Value::Atom(atom) => atom.encoded_len(),
+            Value::Nested(tuple) => 1 + tuple.encoded_len(),
+        }
+    }
+
+    /// Whether the two values are equal, wherever they lie.
+    #[cycle(same_tuple)]
+    pub fn same<B: Allocator>(&self, other: &Value<B>) -> bool
+        ensures { IsTrue result ↔ (value_of self.now ≡ value_of other.now) }
+    {
+        match (self, other) {
+            (Value::Atom(a), Value::Atom(b)) => a.same(b),
+            (Value::Nested(a), Value::Nested(b)) => a.same(b),
+            _ => false,
+        }
+    }
+
+    #[cycle(same_tuple)]
+    fn same_values<B: Allocator>(a: &[Value<A>], b: &[Value<B>]) -> bool
+        ensures { IsTrue result ↔ (tuple_of a.now ≡ tuple_of b.now) }
+    {
+        if a.len() != b.len() {
+            return false;
+        }
+        for i in 0..a.len() {
+            if !a[i].same(&b[i]) {
+                return false;
+            }
+        }
+        true
+    }
+
+    /// An equal value under another allocator.
+    #[cycle(copy_tuple)]
+    pub fn copy_in<B: Allocator + Clone>(&self, alloc: B) -> Result<Value<B>, NoMemory>
+        ensures { IfOk result (λ v. value_of v ≡ value_of self.now) }
+    {
+        match self {
+            Value::Atom(atom) => Ok(Value::Atom(atom.copy_in(alloc)?)),
+            Value::Nested(tuple) => Ok(Value::Nested(tuple.copy_in(alloc)?)),
+        }
+    }
+
+    #[cycle(copy_tuple)]
+    fn copy_values<B: Allocator + Clone>(
+        values: &[Value<A>],
+        alloc: B,
+    ) -> Result<Vec<Value<B>, B>, NoMemory>
+        ensures { IfOk result (λ copies. tuple_of copies.items ≡ tuple_of values.now) }
+    {
+        let mut copies = Vec::with_capacity(alloc.clone()?, values.len())?;
+        for value in values {
+            let copy = value.copy_in(alloc.clone()?)?;
+            copies.push(copy)?;
+        }
+        Ok(copies)
+    }
+}
+
+impl<A: Allocator> Tuple<A> {
+    /// The empty tuple. Takes no memory.
+    pub fn new_in(alloc: A) -> Tuple<A>
+        ensures { result ≡ none }
+    {
+        Tuple {
+            values: Vec::new(alloc),
+            extent: Extent::EMPTY,
+        }
+    }
+
+    /// How many values there are, 0 to 32.
+    #[tactic(auto, using(crate::proofs::Counting::counting))]
+    pub fn len(&self) -> usize
+        ensures value { result ≡ how_many self.now }
+        ensures bound { result ≤ 32 }
+    {
+        self.values.len()
+    }
+
+    /// Whether there is no value.
+    pub fn is_empty(&self) -> bool
+        ensures { IsTrue result ↔ (how_many self.now ≡ 0) }
+    {
+        self.len() == 0
+    }
+
+    /// How many levels there are, 1 to 8: a flat tuple has one. Constant time.
+    pub fn depth(&self) -> u8
+        ensures value { result ≡ levels_of self.now }
+        ensures valid { IsTuple self.now }
+    {
+        self.extent.depth
+    }
+
+    /// The length of the encoding in bytes, 1 to 1,024. Constant time.
+    pub fn encoded_len(&self) -> usize
+        ensures value { result ≡ whole_length datum_length self.now }
+        ensures valid { IsTuple self.now }
+    {
+        self.extent.encoded_len as usize
+    }
+
+    /// The values in order.
+    pub fn values(&self) -> &[Value<A>]
+        ensures value { tuple_of result.now ≡ self.now }
+        ensures valid { IsTuple self.now }
+    {
+        &self.values
+    }
+
+    /// The value at an index from 0.
+    pub fn get(&self, i: usize) -> Option<&Value<A>>
+        ensures { option_map (λ v. value_of v.now) result ≡ slice_get (as_list self.now) i }
+    {
+        self.values.get(i)
+    }
+
+    /// The tuple as a value of another one.
+    pub fn into_value(self) -> Value<A>
+        ensures { value_of result ≡ inner self }
+    {
+        Value::Nested(self)
+    }
+
+    /// Whether the two tuples are equal, wherever they lie.
+    #[cycle(same_tuple)]
+    pub fn same<B: Allocator>(&self, other: &Tuple<B>) -> bool
+        ensures { IsTrue result ↔ (self.now ≡ other.now) }
+    {
+        Value::same_values(self.values.as_slice(), other.values.as_slice())
+    }
+
+    /// An equal tuple under another allocator.
+    #[cycle(copy_tuple)]
+    pub fn copy_in<B: Allocator + Clone>(&self, alloc: B) -> Result<Tuple<B>, NoMemory>
+        ensures { IfOk result (λ t. t ≡ self.now) }
+    {
+        let values = Value::copy_values(self.values.as_slice(), alloc)?;
+        Ok(Tuple {
+            values,
+            extent: self.extent,
+        })
+    }
+
+    /// Adds a value at the end. A refusal hands the value back and leaves the tuple as it was; where several limits
+    /// would be passed, the first in the order of [`Refusal`] is given.
+    pub fn push(&mut self, value: Value<A>) -> Result<(), Pushed<A>>
+        ensures ok { OnOk result (self.new ≡ with_last self.old (value_of value)) }
+        ensures err { OnErr result (self.new ≡ self.old) }
+        ensures returned { IfErr result (λ e. e.value ≡ value) }
+        ensures refusal { MatchResult result (λ _. IsTuple self.new) (λ e. Refuses datum_length e.refusal (with_last self.old (value_of value))) }
+    {
+        let depth = value.depth();
+        let len = self.values.len();
+        let extent = match self.extent.with_item(len, depth, value.encoded_len()) {
+            Ok(extent) => extent,
+            Err(refusal) => return Err(Refused { refusal, value }),
+        };
+        match self.values.push(value) {
+            Ok(()) => {
+                self.extent = extent;
+                Ok(())
+            }
+            Err(failed) => Err(Refused {
+                refusal: Refusal::NoMemory,
+                value: failed.value,
+            }),
+        }
+    }
+}
