@@ -5,6 +5,9 @@ pub mod Right
 pub mod Numbers
 pub mod Blanks
 pub mod Endings
+pub mod Plain
+pub mod Levels
+pub mod Nested
 pub mod Lists
 pub mod Again
 pub mod Leaves
