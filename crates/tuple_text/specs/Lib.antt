@@ -3,4 +3,5 @@ pub mod Covered
 pub mod Lines
 pub mod Faults
 pub mod Reading
+pub mod Literals
 pub mod Written
