@@ -7,8 +7,9 @@ use Rattle.tuple_text.specs.Texts.{hex_digit, hex_pair, datum_text}
 use Rattle.tuple_text.specs.Reading.{got, stop}
 use Rattle.tuple_text.specs.Literals.{is_hex, hex_value, pairs, bytes_literal}
 use Rattle.tuple_text.specs.declared.reader.Stop.TheVariants.{BadByte}
-use Rattle.tuple_text.proofs.Right.{Limits, both, RightAs, right_on, nothing_passed}
+use Rattle.tuple_text.proofs.Right.{Limits, both, RightAs, right_on}
 use Rattle.tuple_text.proofs.Local.{LocalAs, IsLocal, local_got, local_stop, local_empty, local_test}
+use Rattle.tuple_text.proofs.LiteralTexts.{stuck_first}
 use Rattle.tuple_text.proofs.LiteralCharacters.{hex_is, digit_hex, pair_of}
 
 no_bytes : AreBytes []
@@ -65,12 +66,12 @@ second_case s high b bs true e h =
     let x = high * 16 + hex_value b in
     right_on (IsFrom (s ++ x ∷ []) None) (BeginsFrom None) (IsFrom s (Some high)) (BeginsFrom (Some high)) (b ∷ []) bs (pairs (s ++ x ∷ []) None bs)
     (λ v w k. (x ∷ k.0, k.1 ∙ append_assoc s (x ∷ []) k.0, second_left high b k.0 w e k.2)) (λ c w k. (x ∷ k.0, k.1, second_left high b k.0 (w ++ k.1) e k.2)) (h (s ++ x ∷ []))
-second_case s high b bs false e h = nothing_passed (BeginsFrom (Some high)) (b ∷ bs) (begins_some (Some high) both)
+second_case s high b bs false e h = stuck_first (BeginsFrom (Some high)) (b ∷ bs) (begins_some (Some high) both)
 
 pairs_right : (bs s : List ℕ) (high : Option ℕ) → RightAs (IsFrom s high) (BeginsFrom high) bs (pairs s high bs)
 pairs_right [] s None = record { passed = []; whole = refl; is = ([], sym (append-nil s), (no_bytes, refl)) }
 pairs_right (b ∷ bs) s None = first_case s b bs (is_hex b) refl (pairs_right bs s (Some (hex_value b)))
-pairs_right [] s (Some high) = nothing_passed (BeginsFrom (Some high)) [] (begins_some (Some high) both)
+pairs_right [] s (Some high) = stuck_first (BeginsFrom (Some high)) [] (begins_some (Some high) both)
 pairs_right (b ∷ bs) s (Some high) = second_case s high b bs (is_hex b) refl (λ r. pairs_right bs r None)
 
 -- A byte string literal.
@@ -88,11 +89,11 @@ letter_case b bs true e =
     subst (λ c. RightAs IsByteString BeginsByteString (c ∷ bs) (pairs [] None bs)) (sym (eqb-true b 120 e))
     (right_on (IsFrom [] None) (BeginsFrom None) IsByteString BeginsByteString (120 ∷ []) bs (pairs [] None bs)
     (λ v w k. subst (λ y. IsByteString y (120 ∷ w)) (sym k.1) (whole_bytes k.0 w k.2)) (λ c w k. (k.0, k.1, whole_bytes k.0 (w ++ k.1) k.2)) (pairs_right bs [] None))
-letter_case b bs false e = nothing_passed BeginsByteString (b ∷ bs) ([], 120 ∷ [], (refl, no_bytes))
+letter_case b bs false e = stuck_first BeginsByteString (b ∷ bs) ([], 120 ∷ [], (refl, no_bytes))
 
 pub bytes_right : (bs : List ℕ) → RightAs IsByteString BeginsByteString bs (bytes_literal bs)
 unfolding bytes_literal
-bytes_right [] = nothing_passed BeginsByteString [] ([], 120 ∷ [], (refl, no_bytes))
+bytes_right [] = stuck_first BeginsByteString [] ([], 120 ∷ [], (refl, no_bytes))
 bytes_right (b ∷ bs) = letter_case b bs (b == 120) refl
 
 -- what a first byte begins

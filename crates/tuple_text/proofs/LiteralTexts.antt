@@ -14,9 +14,13 @@ use Rattle.tuple_text.specs.declared.literals.Expected.{Expected}
 use Rattle.tuple_text.specs.declared.literals.Expected.TheVariants.{Character, Escape, FirstDigit, DigitBehindZero, DigitBehindOne, OneByte, TwoBytes, ThreeBytes, BytesBehindE0, BytesBehindEd, BytesBehindF0, BytesBehindF4}
 use Rattle.tuple_text.specs.declared.literals.Step.{Step}
 use Rattle.tuple_text.specs.declared.literals.Step.TheVariants.{Refused, Ends, Passes, Adds}
-use Rattle.tuple_text.proofs.Right.{Limits, both, RightAs, right_on, nothing_passed}
+use Rattle.tuple_text.proofs.Right.{Limits, both, RightAs, Stuck, right_on}
 use Rattle.tuple_text.proofs.Local.{LocalAs, IsLocal, local_got, local_stop, local_look, local_pass, local_empty, local_test}
 use Rattle.tuple_text.proofs.LiteralCharacters.{IsEncoded, encoded_one, encoded_two, encoded_three, encoded_four, Encoding, of_one, of_two, of_three, of_four, encoding, between_is, between_parts, above_between, hex_is, digit_hex, pair_of, escaped_plain, escaped_number, AreHigh, high_escaped}
+
+-- where nothing can be passed
+pub stuck_first : (B : Limits → List ℕ → Type 0) (bs : List ℕ) → B both [] → Stuck B BadByte bs bs
+stuck_first B bs h = record { passed = []; whole = refl; begins = h; decides = tt }
 
 -- a character's bytes, and how a text spells it
 abbrev IsSpelled : List ℕ → List ℕ → Type 0
@@ -285,7 +289,7 @@ added_left e f b v r w m h =
 
 stepped_right : (e : Expected) (b : ℕ) (s bs : List ℕ) (x : Step) → Means e b x → ((f : Expected) (t : List ℕ) → RightAs (IsFrom f t) (BeginsFrom f) bs (text_from f t bs))
     → RightAs (IsFrom e s) (BeginsFrom e) (b ∷ bs) (stepped x s (stop BadByte (b ∷ bs)) (got s bs) (λ f t. text_from f t bs))
-stepped_right e b s bs Refused m h = nothing_passed (BeginsFrom e) (b ∷ bs) (begins_some e both)
+stepped_right e b s bs Refused m h = stuck_first (BeginsFrom e) (b ∷ bs) (begins_some e both)
 stepped_right e b s bs Ends m h = record { passed = b ∷ []; whole = refl; is = ([], sym (append-nil s), closed e b m) }
 stepped_right e b s bs (Passes f) m h =
     right_on (IsFrom f s) (BeginsFrom f) (IsFrom e s) (BeginsFrom e) (b ∷ []) bs (text_from f s bs)
@@ -299,7 +303,7 @@ stepped_right e b s bs (Adds x f) m h =
     (h f (s ++ x ∷ []))
 
 text_from_right : (bs : List ℕ) (e : Expected) (s : List ℕ) → RightAs (IsFrom e s) (BeginsFrom e) bs (text_from e s bs)
-text_from_right [] e s = nothing_passed (BeginsFrom e) [] (begins_some e both)
+text_from_right [] e s = stuck_first (BeginsFrom e) [] (begins_some e both)
 text_from_right (b ∷ bs) e s = stepped_right e b s bs (step e b) (step_means e b) (text_from_right bs)
 
 -- A text literal.
@@ -319,11 +323,11 @@ quoted b bs true e =
     subst (λ c. RightAs IsText BeginsText (c ∷ bs) (text_from Character [] bs)) (sym (eqb-true b 34 e))
     (right_on (IsFrom Character []) (BeginsFrom Character) IsText BeginsText (34 ∷ []) bs (text_from Character [] bs)
     (λ v w k. subst (λ y. IsText y (34 ∷ w)) (sym k.1) (whole_text k.0 w k.2)) (λ c w k. (k.0, k.1, whole_text k.0 (w ++ k.1) k.2)) (text_from_right bs Character []))
-quoted b bs false e = nothing_passed BeginsText (b ∷ bs) ([], 34 ∷ 34 ∷ [], (refl, ([], (refl, refl))))
+quoted b bs false e = stuck_first BeginsText (b ∷ bs) ([], 34 ∷ 34 ∷ [], (refl, ([], (refl, refl))))
 
 pub text_right : (bs : List ℕ) → RightAs IsText BeginsText bs (text_literal bs)
 unfolding text_literal
-text_right [] = nothing_passed BeginsText [] ([], 34 ∷ 34 ∷ [], (refl, ([], (refl, refl))))
+text_right [] = stuck_first BeginsText [] ([], 34 ∷ 34 ∷ [], (refl, ([], (refl, refl))))
 text_right (b ∷ bs) = quoted b bs (b == 34) refl
 
 -- what a first byte begins

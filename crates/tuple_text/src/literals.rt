@@ -203,3 +203,72 @@ impl<'a> Reader<'a> {
         }
     }
 }
+
+#[cfg(test)]
+mod tests {
+    use crate::reader::{Reader, Stop};
+    use std::test::Fail;
+
+    #[test]
+    fn reads_a_text(rt: HostRuntime) -> Result<(), Fail> {
+        let line = b"\"\\\"\\\\\\n\\x01\\x1f\x7f \xC3\xA9\xE2\x82\xAC\xF0\x9D\x84\x9E\")";
+        let mut reader = Reader::new(line);
+        let Ok(text) = reader.text_literal(rt.alloc()) else {
+            return Err(Fail::new("it is a text"));
+        };
+        assert_eq!(rt; text.as_str(), "\"\\\n\u{1}\u{1f}\u{7f} é€𝄞");
+        assert_eq!(rt; reader.left(), 1);
+        Ok(())
+    }
+
+    #[test]
+    fn stops_where_no_text_goes_on(rt: HostRuntime) {
+        let lines: [(&[u8], usize); 18] = [
+            (b"\"abc", 0),
+            (b"\"\t\"", 2),
+            (b"\"\\t\"", 2),
+            (b"\"\\xA0\"", 3),
+            (b"\"\\x20\"", 3),
+            (b"\"\\x0a\"", 2),
+            (b"\"\\x1F\"", 2),
+            (b"\"\x80\"", 2),
+            (b"\"\xC1\xBF\"", 3),
+            (b"\"\xC3\"", 1),
+            (b"\"\xE0\x9F\xBF\"", 3),
+            (b"\"\xED\xA0\x80\"", 3),
+            (b"\"\xE2\x82\"", 1),
+            (b"\"\xF0\x8F\xBF\xBF\"", 4),
+            (b"\"\xF4\x90\x80\x80\"", 4),
+            (b"\"\xF0\x9D\x84", 0),
+            (b"\"\xF5\x80\x80\x80\"", 5),
+            (b"x00", 3),
+        ];
+        for (line, left) in lines {
+            let mut reader = Reader::new(line);
+            assert!(rt;
+                matches!(reader.text_literal(rt.alloc()), Err(Stop::BadByte)),
+                "{left}"
+            );
+            assert_eq!(rt; reader.left(), left);
+        }
+    }
+
+    #[test]
+    fn reads_byte_strings(rt: HostRuntime) -> Result<(), Fail> {
+        let mut reader = Reader::new(b"x00fFx");
+        assert!(rt; matches!(reader.bytes_literal(rt.alloc()), Err(Stop::BadByte)));
+        assert_eq!(rt; reader.left(), 2);
+        let mut reader = Reader::new(b"x09af)");
+        let Ok(bytes) = reader.bytes_literal(rt.alloc()) else {
+            return Err(Fail::new("it is a byte string"));
+        };
+        assert_eq!(rt; bytes.as_slice(), [0x09, 0xAF].as_slice());
+        assert_eq!(rt; reader.left(), 1);
+        let mut reader = Reader::new(b"x");
+        let Ok(bytes) = reader.bytes_literal(rt.alloc()) else {
+            return Err(Fail::new("it is an empty byte string"));
+        };
+        assert!(rt; bytes.is_empty());
+        Ok(())
+    }
+}
