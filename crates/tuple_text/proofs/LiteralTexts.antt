@@ -37,12 +37,12 @@ abbrev InRange : ℕ → ℕ → (List ℕ → Type 0) → List ℕ → Type 0
 InRange low high P [] = ⊥
 InRange low high P (b ∷ t) = (low ≤ b) × (b ≤ high) × P t
 
-abbrev None : List ℕ → Type 0
-None [] = Unit {0}
-None (b ∷ t) = ⊥
+abbrev Nothing : List ℕ → Type 0
+Nothing [] = Unit {0}
+Nothing (b ∷ t) = ⊥
 
 abbrev One : ℕ → ℕ → List ℕ → Type 0
-One low high = InRange low high None
+One low high = InRange low high Nothing
 
 abbrev Two : ℕ → ℕ → List ℕ → Type 0
 Two low high = InRange low high (One 128 191)
@@ -72,31 +72,11 @@ LeftOf BytesBehindF4 t w = (w ≡ t) × Three 128 143 t
 -- the same, and a whole character where one is expected
 abbrev More : Expected → List ℕ → List ℕ → Type 0
 More Character t w = IsSpelled t w
-More Escape t w = LeftOf Escape t w
-More FirstDigit t w = LeftOf FirstDigit t w
-More DigitBehindZero t w = LeftOf DigitBehindZero t w
-More DigitBehindOne t w = LeftOf DigitBehindOne t w
-More OneByte t w = LeftOf OneByte t w
-More TwoBytes t w = LeftOf TwoBytes t w
-More ThreeBytes t w = LeftOf ThreeBytes t w
-More BytesBehindE0 t w = LeftOf BytesBehindE0 t w
-More BytesBehindEd t w = LeftOf BytesBehindEd t w
-More BytesBehindF0 t w = LeftOf BytesBehindF0 t w
-More BytesBehindF4 t w = LeftOf BytesBehindF4 t w
+More e t w = LeftOf e t w
 
 abbrev Closes : Expected → ℕ → Type 0
 Closes Character b = b ≡ 34
-Closes Escape b = ⊥
-Closes FirstDigit b = ⊥
-Closes DigitBehindZero b = ⊥
-Closes DigitBehindOne b = ⊥
-Closes OneByte b = ⊥
-Closes TwoBytes b = ⊥
-Closes ThreeBytes b = ⊥
-Closes BytesBehindE0 b = ⊥
-Closes BytesBehindEd b = ⊥
-Closes BytesBehindF0 b = ⊥
-Closes BytesBehindF4 b = ⊥
+Closes e b = ⊥
 
 -- what a step means
 abbrev Means : Expected → ℕ → Step → Type 0
@@ -147,8 +127,8 @@ led_means b =
     cond_both (is_between 241 243 b) _ _ (Means Character b) (λ h t w l. let r = between_parts 241 243 b h in led_four 128 191 b t w (omega (arith, r.0)) (omega (arith, r.1)) (omega arith) (omega arith) (λ i. absurd (eqb-false b 240 h3 i)) (λ i. omega (arith, r.1, i)) l.0 l.1) (λ _.
     cond_both (b == 244) _ _ (Means Character b) (λ h t w l. let r = eqb-true b 244 h in led_four 128 143 b t w (omega arith) (omega arith) (omega arith) (omega arith) (λ i. omega arith) (λ i. omega arith) l.0 l.1) (λ _. tt)))))))
 
-none_of : (t : List ℕ) → t ≡ [] → None t
-none_of t e = subst None (sym e) tt
+nothing_of : (t : List ℕ) → t ≡ [] → Nothing t
+nothing_of t e = subst Nothing (sym e) tt
 
 -- the last byte of an escape
 escape_ends : (v b : ℕ) (front t w : List ℕ) → v < 128 → t ≡ [] → w ≡ [] → escaped v ≡ front ++ b ∷ [] → LeftOfEscape front (v ∷ t) (b ∷ w)
@@ -189,7 +169,7 @@ step_means DigitBehindOne b =
     escape_ends (16 + hex_value b) b (92 ∷ 120 ∷ 49 ∷ []) t w (omega arith) l.0 l.1 (by_number 1 (16 + hex_value b) b (omega arith) (λ i. omega arith) (hex_value b) p (omega arith) r.1))
     (λ _. tt)
 step_means OneByte b =
-    cond_both (is_between 128 191 b) _ _ (Means OneByte b) (λ h t w l. let r = between_parts 128 191 b h in (ap (λ y. b ∷ y) (l.1 ∙ sym l.0), (r.0, r.1, none_of t l.0))) (λ _. tt)
+    cond_both (is_between 128 191 b) _ _ (Means OneByte b) (λ h t w l. let r = between_parts 128 191 b h in (ap (λ y. b ∷ y) (l.1 ∙ sym l.0), (r.0, r.1, nothing_of t l.0))) (λ _. tt)
 step_means TwoBytes b =
     cond_both (is_between 128 191 b) _ _ (Means TwoBytes b) (λ h t w l. let r = between_parts 128 191 b h in (ap (λ y. b ∷ y) l.0, (r.0, r.1, l.1))) (λ _. tt)
 step_means ThreeBytes b =
@@ -226,31 +206,11 @@ spelled_on cs t front rest h k =
 
 more_left : (e : Expected) (t front cs rest : List ℕ) → More e t front → Body cs rest → Left e (t ++ encode_utf8_all cs) (front ++ rest)
 more_left Character t front cs rest h k = let s = spelled_on cs t front rest h k in ([], [], s.0, front ++ rest, (refl, refl), s.1, sym s.2, refl)
-more_left Escape t front cs rest h k = (t, front, cs, rest, h, k, refl, refl)
-more_left FirstDigit t front cs rest h k = (t, front, cs, rest, h, k, refl, refl)
-more_left DigitBehindZero t front cs rest h k = (t, front, cs, rest, h, k, refl, refl)
-more_left DigitBehindOne t front cs rest h k = (t, front, cs, rest, h, k, refl, refl)
-more_left OneByte t front cs rest h k = (t, front, cs, rest, h, k, refl, refl)
-more_left TwoBytes t front cs rest h k = (t, front, cs, rest, h, k, refl, refl)
-more_left ThreeBytes t front cs rest h k = (t, front, cs, rest, h, k, refl, refl)
-more_left BytesBehindE0 t front cs rest h k = (t, front, cs, rest, h, k, refl, refl)
-more_left BytesBehindEd t front cs rest h k = (t, front, cs, rest, h, k, refl, refl)
-more_left BytesBehindF0 t front cs rest h k = (t, front, cs, rest, h, k, refl, refl)
-more_left BytesBehindF4 t front cs rest h k = (t, front, cs, rest, h, k, refl, refl)
+more_left e t front cs rest h k = (t, front, cs, rest, h, k, refl, refl)
 
 closed : (e : Expected) (b : ℕ) → Closes e b → Left e [] (b ∷ [])
 closed Character b h = ([], [], [], b ∷ [], (refl, refl), (refl, ap (λ y. y ∷ []) h), refl, refl)
-closed Escape b h = absurd h
-closed FirstDigit b h = absurd h
-closed DigitBehindZero b h = absurd h
-closed DigitBehindOne b h = absurd h
-closed OneByte b h = absurd h
-closed TwoBytes b h = absurd h
-closed ThreeBytes b h = absurd h
-closed BytesBehindE0 b h = absurd h
-closed BytesBehindEd b h = absurd h
-closed BytesBehindF0 b h = absurd h
-closed BytesBehindF4 b h = absurd h
+closed e b h = absurd h
 
 -- Whatever is expected can come.
 some_left : (e : Expected) → (t front : List ℕ) × LeftOf e t front
