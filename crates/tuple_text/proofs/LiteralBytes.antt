@@ -4,7 +4,7 @@ use Rattle.std.proofs.lemmas.Bool.{eqb-true}
 use Rattle.std.specs.List.{flat_map}
 use Rattle.tuple_tree.specs.Values.{bytes, AreBytes}
 use Rattle.tuple_text.specs.Texts.{hex_digit, hex_pair, datum_text}
-use Rattle.tuple_text.specs.Reading.{got, stop}
+use Rattle.tuple_text.specs.Read.{got, stop}
 use Rattle.tuple_text.specs.Literals.{is_hex, hex_value, pairs, bytes_literal}
 use Rattle.tuple_text.specs.declared.reader.Stop.TheVariants.{BadByte}
 use Rattle.tuple_text.proofs.Right.{Limits, both, RightAs, right_on}

@@ -7,7 +7,7 @@ use Rattle.std.specs.Str.{IsUtf8, all_scalars, encode_utf8_all}
 use Rattle.std.specs.List.{flat_map}
 use Rattle.tuple_tree.specs.Values.{text}
 use Rattle.tuple_text.specs.Texts.{escaped, hex_digit, hex_pair, datum_text}
-use Rattle.tuple_text.specs.Reading.{got, stop}
+use Rattle.tuple_text.specs.Read.{got, stop}
 use Rattle.tuple_text.specs.Literals.{is_hex, hex_value, is_between, continued, led, step, stepped, text_from, text_literal}
 use Rattle.tuple_text.specs.declared.reader.Stop.TheVariants.{BadByte}
 use Rattle.tuple_text.specs.declared.literals.Expected.{Expected}
@@ -267,31 +267,31 @@ text_from_right [] e s = stuck_first (BeginsFrom e) [] (begins_some e both)
 text_from_right (b ∷ bs) e s = stepped_right e b s bs (step e b) (step_means e b) (text_from_right bs)
 
 -- A text literal.
-abbrev pub IsText : List ℕ → List ℕ → Type 0
-IsText s w = (w ≡ datum_text (text s)) × IsUtf8 s
+abbrev pub IsTextLiteral : List ℕ → List ℕ → Type 0
+IsTextLiteral s w = (w ≡ datum_text (text s)) × IsUtf8 s
 
-abbrev pub BeginsText : Limits → List ℕ → Type 0
-BeginsText c w = (s : List ℕ) × (u : List ℕ) × IsText s (w ++ u)
+abbrev pub BeginsTextLiteral : Limits → List ℕ → Type 0
+BeginsTextLiteral c w = (s : List ℕ) × (u : List ℕ) × IsTextLiteral s (w ++ u)
 
-whole_text : (v w : List ℕ) → Left Character v w → IsText v (34 ∷ w)
+whole_text : (v w : List ℕ) → Left Character v w → IsTextLiteral v (34 ∷ w)
 whole_text v w h =
     let e : v ≡ encode_utf8_all h.2 = h.6 ∙ ap (λ y. y ++ encode_utf8_all h.2) h.4.0 in
     (ap (λ y. 34 ∷ y) (h.7 ∙ ap (λ y. y ++ h.3) h.4.1 ∙ h.5.1 ∙ ap (λ y. flat_map escaped y ++ 34 ∷ []) (sym e)), (h.2, (h.5.0, sym e)))
 
-quoted : (b : ℕ) (bs : List ℕ) (t : Bool) → (b == 34) ≡ t → RightAs IsText BeginsText (b ∷ bs) (cond t (text_from Character [] bs) (stop BadByte (b ∷ bs)))
+quoted : (b : ℕ) (bs : List ℕ) (t : Bool) → (b == 34) ≡ t → RightAs IsTextLiteral BeginsTextLiteral (b ∷ bs) (cond t (text_from Character [] bs) (stop BadByte (b ∷ bs)))
 quoted b bs true e =
-    subst (λ c. RightAs IsText BeginsText (c ∷ bs) (text_from Character [] bs)) (sym (eqb-true b 34 e))
-    (right_on (IsFrom Character []) (BeginsFrom Character) IsText BeginsText (34 ∷ []) bs (text_from Character [] bs)
-    (λ v w k. subst (λ y. IsText y (34 ∷ w)) (sym k.1) (whole_text k.0 w k.2)) (λ c w k. (k.0, k.1, whole_text k.0 (w ++ k.1) k.2)) (text_from_right bs Character []))
-quoted b bs false e = stuck_first BeginsText (b ∷ bs) ([], 34 ∷ 34 ∷ [], (refl, ([], (refl, refl))))
+    subst (λ c. RightAs IsTextLiteral BeginsTextLiteral (c ∷ bs) (text_from Character [] bs)) (sym (eqb-true b 34 e))
+    (right_on (IsFrom Character []) (BeginsFrom Character) IsTextLiteral BeginsTextLiteral (34 ∷ []) bs (text_from Character [] bs)
+    (λ v w k. subst (λ y. IsTextLiteral y (34 ∷ w)) (sym k.1) (whole_text k.0 w k.2)) (λ c w k. (k.0, k.1, whole_text k.0 (w ++ k.1) k.2)) (text_from_right bs Character []))
+quoted b bs false e = stuck_first BeginsTextLiteral (b ∷ bs) ([], 34 ∷ 34 ∷ [], (refl, ([], (refl, refl))))
 
-pub text_right : (bs : List ℕ) → RightAs IsText BeginsText bs (text_literal bs)
+pub text_right : (bs : List ℕ) → RightAs IsTextLiteral BeginsTextLiteral bs (text_literal bs)
 unfolding text_literal
-text_right [] = stuck_first BeginsText [] ([], 34 ∷ 34 ∷ [], (refl, ([], (refl, refl))))
+text_right [] = stuck_first BeginsTextLiteral [] ([], 34 ∷ 34 ∷ [], (refl, ([], (refl, refl))))
 text_right (b ∷ bs) = quoted b bs (b == 34) refl
 
 -- what a first byte begins
-pub text_starts : (c : Limits) → BeginsText c (34 ∷ [])
+pub text_starts : (c : Limits) → BeginsTextLiteral c (34 ∷ [])
 text_starts c = ([], 34 ∷ [], (refl, ([], (refl, refl))))
 
 pub text_head : (s : List ℕ) → (t : List ℕ) × (datum_text (text s) ≡ 34 ∷ t)

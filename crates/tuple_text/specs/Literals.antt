@@ -1,6 +1,6 @@
 -- What a reader of the literals of texts and byte strings reads at the front of bytes.
 use Rattle.std.specs.Prelude.{ℕ, ◌+◌, ◌-◌, ◌*◌, ◌==◌, nat_le, nat_lt, Bool, ◌&&◌, ◌||◌, if◌then◌else◌, List, [], ◌∷◌, ◌++◌, Option, None, Some}
-use Rattle.tuple_text.specs.Reading.{got, stop, Reading}
+use Rattle.tuple_text.specs.Read.{got, stop, Reading}
 use Rattle.tuple_text.specs.declared.reader.Stop.TheVariants.{BadByte}
 use Rattle.tuple_text.specs.declared.literals.Expected.{Expected}
 use Rattle.tuple_text.specs.declared.literals.Expected.TheVariants.{Character, Escape, FirstDigit, DigitBehindZero, DigitBehindOne, OneByte, TwoBytes, ThreeBytes, BytesBehindE0, BytesBehindEd, BytesBehindF0, BytesBehindF4}
