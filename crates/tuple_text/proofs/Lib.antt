@@ -15,4 +15,7 @@ pub mod Arguments
 pub mod LineRight
 pub mod LineAgain
 pub mod Judging
+pub mod LiteralCharacters
+pub mod LiteralTexts
+pub mod LiteralBytes
 pub mod Writing

@@ -10,13 +10,7 @@ use Rattle.tuple_text.specs.declared.reader.Stop.{Stop}
 use Rattle.tuple_text.specs.declared.reader.Stop.TheVariants.{BadByte, TooDeep, TooManyFields, TooLong, NoMemory}
 use Rattle.tuple_text.specs.declared.faults.LineFault.{LineFault}
 use Rattle.tuple_text.specs.declared.faults.LineFault.TheVariants as faults
-
-pub data Read (V : Type 0) : Type 0 where
-  got : V → List ℕ → Read V
-  stop : Stop → List ℕ → Read V
-
-abbrev pub Reading : Type 0 → Type 0
-Reading V = List ℕ → Read V
+pub use Rattle.tuple_text.specs.Read.{Read, got, stop, Reading}
 
 -- On with the bytes that are left.
 infixl 10 ◌>>=◌

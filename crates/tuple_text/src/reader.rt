@@ -50,7 +50,7 @@ impl Stop {
 /// A reader of a line. Where it stops it stands before the byte that it stops at.
 #[derive(Drop)]
 pub(crate) struct Reader<'a> {
-    rest: &'a [u8],
+    pub(crate) rest: &'a [u8],
 }
 
 impl<'a> Reader<'a> {
