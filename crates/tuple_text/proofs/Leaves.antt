@@ -4,12 +4,18 @@ use Rattle.std.proofs.lemmas.Bool.{eqb-true, ne_eqb, eq-eqb, or_cases, or_left, 
 use Rattle.std.proofs.lemmas.Int.{ints}
 use Rattle.std.proofs.lemmas.Fmt.{decimal_digit}
 use Rattle.std.specs.Fmt.{decimal}
-use Rattle.tuple_tree.specs.Values.{Datum, number, text, bytes, truth, Slot, actual, any, formal, IsDatum, IsSlot}
+use Rattle.tuple_tree.specs.Values.{Datum, number, text, bytes, truth, Slot, actual, any, formal, IsDatum, IsSlot, AreBytes}
 use Rattle.tuple_tree.specs.declared.atoms.Kind.{Kind}
 use Rattle.tuple_tree.specs.declared.atoms.Kind.TheVariants as kinds
-use Rattle.tuple_text.specs.Texts.{datum_text, slot_text, formal_text}
+use Rattle.std.proofs.lemmas.Str.{IsUtf8-nil}
+use Rattle.std.specs.Str.{IsUtf8}
+use Rattle.std.specs.List.{flat_map}
+use Rattle.tuple_text.specs.Texts.{datum_text, slot_text, formal_text, escaped, hex_pair}
+use Rattle.tuple_text.specs.Literals.{text_literal, bytes_literal, is_hex}
+use Rattle.tuple_text.proofs.LiteralTexts.{IsTextLiteral, BeginsTextLiteral, text_right, text_again}
+use Rattle.tuple_text.proofs.LiteralBytes.{IsByteString, BeginsByteString, bytes_right, bytes_again, NoHex}
 use Rattle.tuple_text.specs.Covered.{IsCoveredDatum, IsCoveredSlot}
-use Rattle.tuple_text.specs.Reading.{Read, got, Reading, ◌>>=◌, look, nothing, named, word, signed, numeral, datum, kind_b, kind_t, kind, formal_slot, actual_slot, slot, begins_datum, begins_slot}
+use Rattle.tuple_text.specs.Reading.{Read, got, Reading, ◌>>=◌, look, nothing, named, word, signed, numeral, quoted, byte_string, truth_or_number, datum, kind_b, kind_t, kind, formal_slot, actual_slot, slot, begins_datum, begins_slot}
 use Rattle.tuple_text.proofs.Right.{Limits, both, RightAs, Never, Found, then_right, look_right, nothing_right}
 use Rattle.tuple_text.proofs.Numbers.{IsSigned, BeginsSigned, signed_right, signed_again, signed_head, NoDigit, is_digit, digit_range, digit_is, ends_there}
 use Rattle.tuple_text.proofs.Blanks.{IsWord, BeginsWord, word_right}
@@ -75,11 +81,21 @@ truth_right b bs = named_right IsDatumText BeginsDatum (datum_text (truth b)) (t
 pub some_datum : BeginsDatum both []
 some_datum = (truth true, codes "true", (refl, (tt, tt)))
 
+quoted_right : (bs : List ℕ) → RightAs IsDatumText BeginsDatum bs (quoted bs)
+unfolding quoted
+quoted_right bs = mapped_right IsTextLiteral BeginsTextLiteral IsDatumText BeginsDatum text bs (text_literal bs) (λ c w h. (text h.0, h.1, (h.2.0, (h.2.1, tt)))) (λ s w h. (h.0, (h.1, tt))) (text_right bs)
+
+byte_string_right : (bs : List ℕ) → RightAs IsDatumText BeginsDatum bs (byte_string bs)
+unfolding byte_string
+byte_string_right bs = mapped_right IsByteString BeginsByteString IsDatumText BeginsDatum bytes bs (bytes_literal bs) (λ c w h. (bytes h.0, h.1, (h.2.0, (h.2.1, tt)))) (λ s w h. (h.0, (h.1, tt))) (bytes_right bs)
+
 pub datum_right : (bs : List ℕ) → RightAs (IsText datum_text IsRead) (BeginsText datum_text IsRead) bs (datum bs)
 unfolding datum
 datum_right bs =
-    look_right IsDatumText BeginsDatum Never 116 (named (codes "true") (truth true)) (look 102 (named (codes "false") (truth false)) numeral) some_datum (truth_right true)
-    (look_right IsDatumText BeginsDatum Never 102 (named (codes "false") (truth false)) numeral some_datum (truth_right false) numeral_right) bs
+    look_right IsDatumText BeginsDatum Never 34 quoted (look 120 byte_string truth_or_number) some_datum quoted_right
+    (look_right IsDatumText BeginsDatum Never 120 byte_string truth_or_number some_datum byte_string_right
+    (look_right IsDatumText BeginsDatum Never 116 (named (codes "true") (truth true)) (look 102 (named (codes "false") (truth false)) numeral) some_datum (truth_right true)
+    (look_right IsDatumText BeginsDatum Never 102 (named (codes "false") (truth false)) numeral some_datum (truth_right false) numeral_right))) bs
 
 minus : FitsSigned w64 (negsuc 0)
 minus = omega (arith, ints)
@@ -94,12 +110,21 @@ signed_starts c b e = elim (or_cases (b == 45) (is_digit b) e) [
       (pos (b - 48), [], (sym (decimal_digit (b - 48) (omega (arith, r.0, r.1)) ∙ ap (λ d. d ∷ []) (let g : 48 + (b - 48) ≡ b = omega (arith, r.0) in g)), small (b - 48) (omega (arith, r.0, r.1))))
 ]
 
+abbrev plain_begins : ℕ → Bool
+plain_begins b = b == 116 || (b == 102 || (b == 45 || is_digit b))
+
 pub datum_starts : (c : Limits) (b : ℕ) → begins_datum b ≡ true → BeginsText datum_text IsRead c (b ∷ [])
-datum_starts c b e = elim (or_cases (b == 116) (b == 102 || (b == 45 || is_digit b)) e) [
-  | inl p ↦ (truth true, codes "rue", (ap (λ d. d ∷ codes "rue") (eqb-true b 116 p), (tt, tt)))
-  | inr q ↦ elim (or_cases (b == 102) (b == 45 || is_digit b) q) [
-    | inl p ↦ (truth false, codes "alse", (ap (λ d. d ∷ codes "alse") (eqb-true b 102 p), (tt, tt)))
-    | inr p ↦ let h = signed_starts c b p in (number h.0, h.1, (h.2.0, (h.2.1, tt)))
+datum_starts c b e = elim (or_cases (b == 34) (b == 120 || plain_begins b) e) [
+  | inl p ↦ (text [], 34 ∷ [], (ap (λ d. d ∷ 34 ∷ []) (eqb-true b 34 p), (IsUtf8-nil, tt)))
+  | inr q ↦ elim (or_cases (b == 120) (plain_begins b) q) [
+    | inl p ↦ (bytes [], [], (ap (λ d. d ∷ []) (eqb-true b 120 p), ((λ i. omega arith), tt)))
+    | inr r ↦ elim (or_cases (b == 116) (b == 102 || (b == 45 || is_digit b)) r) [
+      | inl p ↦ (truth true, codes "rue", (ap (λ d. d ∷ codes "rue") (eqb-true b 116 p), (tt, tt)))
+      | inr q ↦ elim (or_cases (b == 102) (b == 45 || is_digit b) q) [
+        | inl p ↦ (truth false, codes "alse", (ap (λ d. d ∷ codes "alse") (eqb-true b 102 p), (tt, tt)))
+        | inr p ↦ let h = signed_starts c b p in (number h.0, h.1, (h.2.0, (h.2.1, tt)))
+      ]
+    ]
   ]
 ]
 
@@ -108,13 +133,14 @@ number_begins b (inl e) = or_left (b == 45) (is_digit b) (eq-eqb b 45 e)
 number_begins b (inr r) = or_right (b == 45) (is_digit b) (digit_is b r.0 r.1)
 
 datum_begins : (b : ℕ) → (b == 45 || is_digit b) ≡ true → begins_datum b ≡ true
-datum_begins b e = or_right (b == 116) (b == 102 || (b == 45 || is_digit b)) (or_right (b == 102) (b == 45 || is_digit b) e)
+datum_begins b e =
+    or_right (b == 34) (b == 120 || plain_begins b) (or_right (b == 120) (plain_begins b) (or_right (b == 116) (b == 102 || (b == 45 || is_digit b)) (or_right (b == 102) (b == 45 || is_digit b) e)))
 
 -- the first byte of a text
 pub datum_head : (x : Datum) → IsRead x → (b : ℕ) × (t : List ℕ) × (datum_text x ≡ b ∷ t) × (begins_datum b ≡ true)
 datum_head (number n) h = let k = signed_head n h.0 in (k.0, k.1, k.2, datum_begins k.0 (number_begins k.0 k.3))
-datum_head (text s) h = absurd h.1
-datum_head (bytes s) h = absurd h.1
+datum_head (text s) h = (34, flat_map escaped s ++ 34 ∷ [], refl, refl)
+datum_head (bytes s) h = (120, flat_map hex_pair s, refl, refl)
 datum_head (truth true) h = (116, codes "rue", refl, refl)
 datum_head (truth false) h = (102, codes "alse", refl, refl)
 
@@ -123,11 +149,26 @@ ends_no_digit [] h = tt
 ends_no_digit (b ∷ u) (inl e) = ap is_digit e
 ends_no_digit (b ∷ u) (inr e) = ap is_digit e
 
+ends_no_hex : (u : List ℕ) → EndsItem u → NoHex u
+ends_no_hex [] h = tt
+ends_no_hex (b ∷ u) (inl e) = ap is_hex e
+ends_no_hex (b ∷ u) (inr e) = ap is_hex e
+
 at_number : (b : ℕ) (u : List ℕ) → (b == 45 || is_digit b) ≡ true → datum (b ∷ u) ≡ numeral (b ∷ u)
 unfolding datum
 at_number b u e =
-    look_other 116 b u (named (codes "true") (truth true)) (look 102 (named (codes "false") (truth false)) numeral) (apart (λ b. b == 45 || is_digit b) 116 b e refl)
+    look_other 34 b u quoted (look 120 byte_string truth_or_number) (apart (λ b. b == 45 || is_digit b) 34 b e refl)
+    ∙ look_other 120 b u byte_string truth_or_number (apart (λ b. b == 45 || is_digit b) 120 b e refl)
+    ∙ look_other 116 b u (named (codes "true") (truth true)) (look 102 (named (codes "false") (truth false)) numeral) (apart (λ b. b == 45 || is_digit b) 116 b e refl)
     ∙ look_other 102 b u (named (codes "false") (truth false)) numeral (apart (λ b. b == 45 || is_digit b) 102 b e refl)
+
+quoted_again : (s u : List ℕ) → IsUtf8 s → datum (datum_text (text s) ++ u) ≡ got (text s) u
+unfolding datum quoted
+quoted_again s u h = ap (λ y. y >>= λ s rest. got (text s) rest) (text_again s u h)
+
+byte_string_again : (s u : List ℕ) → AreBytes s → NoHex u → datum (datum_text (bytes s) ++ u) ≡ got (bytes s) u
+unfolding datum byte_string
+byte_string_again s u h k = ap (λ y. y >>= λ s rest. got (bytes s) rest) (bytes_again s u h k)
 
 true_again : (u : List ℕ) → datum (codes "true" ++ u) ≡ got (truth true) u
 unfolding datum
@@ -147,8 +188,8 @@ datum_again (number n) u h k =
     let e = ap (λ s. s ++ u) d.2 in
     ap datum e ∙ at_number d.0 (d.1 ++ u) (number_begins d.0 d.3) ∙ ap numeral (sym e) ∙ numeral_reads (datum_text (number n)) u
     ∙ ap (λ y. y >>= λ n rest. got (number n) rest) (signed_again n u h.0 (ends_no_digit u k))
-datum_again (text s) u h k = absurd h.1
-datum_again (bytes s) u h k = absurd h.1
+datum_again (text s) u h k = quoted_again s u h.0
+datum_again (bytes s) u h k = byte_string_again s u h.0 (ends_no_hex u k)
 datum_again (truth true) u h k = true_again u
 datum_again (truth false) u h k = false_again u
 

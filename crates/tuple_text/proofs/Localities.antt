@@ -2,11 +2,14 @@
 use Rattle.std.proofs.Common.{◌≡◌, ℕ, zero, suc, ◌-◌, ◌+◌, ◌*◌, ◌/◌, Bool, true, false, cond, ◌&&◌, List, [], ◌∷◌, codes, pos, negsuc, Option, None, Some, option_map, refl, if◌then◌else◌}
 use Rattle.std.specs.Prelude.{◌==◌, nat_le}
 use Rattle.tuple_tree.specs.Items.{Item, leaf, inner, Items, none}
-use Rattle.tuple_tree.specs.Values.{number, truth, actual, any, formal, datum_length, slot_length}
+use Rattle.tuple_tree.specs.Values.{number, text, bytes, truth, actual, any, formal, datum_length, slot_length}
 use Rattle.tuple_tree.specs.declared.atoms.Kind.TheVariants as kinds
 use Rattle.tuple_codec.specs.Operations.{Operation, out, rdp, inp, cas, rd_all}
-use Rattle.tuple_text.specs.Reading.{got, stop, Reading, ◌>>=◌, nothing, look, blanks, word, named, gap, finish, digits, positive, MOST, signed, numeral, datum, kind_b, kind_t, kind, formal_slot, actual_slot, slot, begins_datum, begins_slot, full, follows, turn, items, no_room, kept_with, leaf_item, list, item_at, items_at, close, whole, tuple, template, argument, ending, ended, out_line, inp_line, cas_line, rdp_line, all_line, rd_line, operation, line}
+use Rattle.tuple_text.specs.Reading.{got, stop, Reading, ◌>>=◌, nothing, look, blanks, word, named, gap, finish, digits, positive, MOST, signed, numeral, quoted, byte_string, truth_or_number, datum, kind_b, kind_t, kind, formal_slot, actual_slot, slot, begins_datum, begins_slot, full, follows, turn, items, no_room, kept_with, leaf_item, list, item_at, items_at, close, whole, tuple, template, argument, ending, ended, out_line, inp_line, cas_line, rdp_line, all_line, rd_line, operation, line}
 use Rattle.tuple_text.specs.declared.reader.Stop.{Stop}
+use Rattle.tuple_text.specs.Literals.{text_literal, bytes_literal}
+use Rattle.tuple_text.proofs.LiteralTexts.{text_local}
+use Rattle.tuple_text.proofs.LiteralBytes.{bytes_local}
 use Rattle.tuple_text.specs.declared.reader.Stop.TheVariants.{BadByte, TooDeep, TooLong}
 use Rattle.tuple_text.proofs.Local.{LocalAs, IsLocal, local_got, local_stop, local_then, local_if, local_look, local_empty, local_test, passing, local_passing, local_choice}
 
@@ -60,11 +63,21 @@ numeral_local : IsLocal numeral
 unfolding numeral
 numeral_local = local_then signed (λ n rest. got (number n) rest) signed_local (λ n. local_got (number n))
 
+quoted_local : IsLocal quoted
+unfolding quoted
+quoted_local = local_then text_literal (λ s rest. got (text s) rest) text_local (λ s. local_got (text s))
+
+byte_string_local : IsLocal byte_string
+unfolding byte_string
+byte_string_local = local_then bytes_literal (λ s rest. got (bytes s) rest) bytes_local (λ s. local_got (bytes s))
+
 pub datum_local : IsLocal datum
 unfolding datum
 datum_local =
-    local_choice 116 (named (codes "true") (truth true)) (look 102 (named (codes "false") (truth false)) numeral) (named_local (codes "true") (truth true))
-    (local_choice 102 (named (codes "false") (truth false)) numeral (named_local (codes "false") (truth false)) numeral_local)
+    local_choice 34 quoted (look 120 byte_string truth_or_number) quoted_local
+    (local_choice 120 byte_string truth_or_number byte_string_local
+    (local_choice 116 (named (codes "true") (truth true)) (look 102 (named (codes "false") (truth false)) numeral) (named_local (codes "true") (truth true))
+    (local_choice 102 (named (codes "false") (truth false)) numeral (named_local (codes "false") (truth false)) numeral_local)))
 
 kind_b_local : IsLocal kind_b
 unfolding kind_b

@@ -15,8 +15,8 @@ module _ {L : Type 0} (Covers : L → Type 0) where
 
 abbrev pub IsCoveredDatum : Datum → Type 0
 IsCoveredDatum (number n) = Unit {0}
-IsCoveredDatum (text s) = ⊥
-IsCoveredDatum (bytes s) = ⊥
+IsCoveredDatum (text s) = Unit {0}
+IsCoveredDatum (bytes s) = Unit {0}
 IsCoveredDatum (truth b) = Unit {0}
 
 abbrev pub IsCoveredSlot : Slot → Type 0

@@ -2,7 +2,7 @@
 -- that it stops at.
 use Rattle.std.specs.Prelude.{◌≡◌, ℕ, zero, suc, ◌+◌, ◌-◌, ◌*◌, ◌/◌, ◌==◌, nat_le, ℤ, pos, negsuc, Bool, true, false, ◌&&◌, ◌||◌, if◌then◌else◌, List, [], ◌∷◌, codes, Result, Ok, Err, Option, None, Some, option_map}
 use Rattle.tuple_tree.specs.Items.{Item, leaf, inner, Items, none, with_last, whole_length}
-use Rattle.tuple_tree.specs.Values.{Datum, number, truth, Slot, actual, any, formal, TupleTree, TemplateTree, datum_length, slot_length}
+use Rattle.tuple_tree.specs.Values.{Datum, number, text, bytes, truth, Slot, actual, any, formal, TupleTree, TemplateTree, datum_length, slot_length}
 use Rattle.tuple_tree.specs.declared.atoms.Kind.{Kind}
 use Rattle.tuple_tree.specs.declared.atoms.Kind.TheVariants as kinds
 use Rattle.tuple_codec.specs.Operations.{Operation, out, rdp, inp, cas, rd_all}
@@ -11,6 +11,7 @@ use Rattle.tuple_text.specs.declared.reader.Stop.TheVariants.{BadByte, TooDeep, 
 use Rattle.tuple_text.specs.declared.faults.LineFault.{LineFault}
 use Rattle.tuple_text.specs.declared.faults.LineFault.TheVariants as faults
 pub use Rattle.tuple_text.specs.Read.{Read, got, stop, Reading}
+use Rattle.tuple_text.specs.Literals.{text_literal, bytes_literal}
 
 -- On with the bytes that are left.
 infixl 10 ◌>>=◌
@@ -73,9 +74,18 @@ signed (b ∷ bs) =
 unfoldable pub numeral : Reading Datum
 numeral bs = signed bs >>= λ n rest. got (number n) rest
 
+unfoldable pub quoted : Reading Datum
+quoted bs = text_literal bs >>= λ s rest. got (text s) rest
+
+unfoldable pub byte_string : Reading Datum
+byte_string bs = bytes_literal bs >>= λ s rest. got (bytes s) rest
+
+abbrev pub truth_or_number : Reading Datum
+truth_or_number = look 116 (named (codes "true") (truth true)) (look 102 (named (codes "false") (truth false)) numeral)
+
 -- a value that is no tuple
 unfoldable pub datum : Reading Datum
-datum bs = look 116 (named (codes "true") (truth true)) (look 102 (named (codes "false") (truth false)) numeral) bs
+datum bs = look 34 quoted (look 120 byte_string truth_or_number) bs
 
 -- the kinds that begin with b, and with t
 unfoldable pub kind_b : Reading Kind
@@ -102,7 +112,7 @@ slot_item bs = slot bs >>= λ x rest. got (leaf x) rest
 
 -- whether some value that is no tuple begins so
 abbrev pub begins_datum : ℕ → Bool
-begins_datum b = b == 116 || (b == 102 || (b == 45 || (nat_le 48 b && nat_le b 57)))
+begins_datum b = b == 34 || (b == 120 || (b == 116 || (b == 102 || (b == 45 || (nat_le 48 b && nat_le b 57)))))
 
 abbrev pub begins_slot : ℕ → Bool
 begins_slot b = b == 42 || (b == 63 || begins_datum b)

@@ -193,12 +193,20 @@ impl<'a> Reader<'a> {
     }
 
     // A value that is no tuple.
-    #[tactic(auto, unfolding(crate::specs::Reading::datum))]
-    fn atom(&mut self) -> Result<Atom<Global>, Stop>
+    #[tactic(auto, unfolding(crate::specs::Reading::datum, crate::specs::Reading::quoted, crate::specs::Reading::byte_string))]
+    fn atom(&mut self, alloc: Global) -> Result<Atom<Global>, Stop>
         ensures { Gives datum_of result (datum self.old.rest.now) self.new.rest.now }
     {
         match self.rest {
             [] => Err(Stop::BadByte),
+            [b'"', ..] => {
+                let text = self.text_literal(alloc)?;
+                Ok(Atom::Text(text))
+            }
+            [b'x', ..] => {
+                let bytes = self.bytes_literal(alloc)?;
+                Ok(Atom::Bytes(bytes))
+            }
             [b't', ..] => {
                 self.word(b"true")?;
                 Ok(Atom::Truth(true))
@@ -266,7 +274,7 @@ impl<'a> Reader<'a> {
 
     // A field that is no template.
     #[tactic(auto, unfolding(crate::specs::Reading::slot, crate::specs::Reading::formal_slot, crate::specs::Reading::actual_slot))]
-    fn plain_field(&mut self) -> Result<Field<Global>, Stop>
+    fn plain_field(&mut self, alloc: Global) -> Result<Field<Global>, Stop>
         ensures { Gives field_of result (slot_item self.old.rest.now) self.new.rest.now }
     {
         match self.rest {
@@ -281,7 +289,7 @@ impl<'a> Reader<'a> {
                 Ok(Field::Formal(kind))
             }
             [_, ..] => {
-                let atom = self.atom()?;
+                let atom = self.atom(alloc)?;
                 Ok(Field::Actual(atom))
             }
         }
@@ -315,7 +323,7 @@ impl<'a> Reader<'a> {
     {
         match self.rest {
             [b'(', ..] if levels == 0 => Stop::TooDeep,
-            [b'(' | b't' | b'f' | b'-' | b'0'..=b'9', ..] => Stop::TooManyFields,
+            [b'(' | b'"' | b'x' | b't' | b'f' | b'-' | b'0'..=b'9', ..] => Stop::TooManyFields,
             _ => Stop::BadByte,
         }
     }
@@ -326,7 +334,7 @@ impl<'a> Reader<'a> {
     {
         match self.rest {
             [b'(', ..] if levels == 0 => Stop::TooDeep,
-            [b'(' | b'*' | b'?' | b't' | b'f' | b'-' | b'0'..=b'9', ..] => Stop::TooManyFields,
+            [b'(' | b'*' | b'?' | b'"' | b'x' | b't' | b'f' | b'-' | b'0'..=b'9', ..] => Stop::TooManyFields,
             _ => Stop::BadByte,
         }
     }
@@ -344,7 +352,7 @@ impl<'a> Reader<'a> {
         ensures { Gives (option_map value_of) result (item_at datum_length begins_datum datum levels self.old.rest.now) self.new.rest.now }
     {
         if !self.opens() {
-            let atom = self.atom()?;
+            let atom = self.atom(alloc)?;
             return Ok(Some(Value::Atom(atom)));
         }
         if levels == 0 {
@@ -419,7 +427,7 @@ impl<'a> Reader<'a> {
         ensures { Gives (option_map field_of) result (item_at slot_length begins_slot slot levels self.old.rest.now) self.new.rest.now }
     {
         if !self.opens() {
-            let field = self.plain_field()?;
+            let field = self.plain_field(alloc)?;
             return Ok(Some(field));
         }
         if levels == 0 {
