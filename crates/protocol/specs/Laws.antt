@@ -1,0 +1,49 @@
+-- The laws of agreement.
+use Rattle.std.specs.Prelude.{◌≡◌, ℕ, ◌≤◌, ◌<◌, ◌⊎◌, true, List, Some}
+use Rattle.sha2.specs.Sha256.{sha256}
+use Rattle.protocol.specs.Configuration.{Configuration, IsConfiguration, is_correct_replica}
+use Rattle.protocol.specs.Wire.{NewView}
+use Rattle.protocol.specs.Trace.{Entry, history_of, Once, Unforged}
+use Rattle.protocol.specs.Certificates.{Prepared, Committed, taken, batch_begun}
+use Rattle.protocol.specs.RightReplica.{RightReplica}
+use Rattle.protocol.specs.Texts.{NoCollision, ExecutesBatch}
+
+-- Each correct replica's history is right.
+abbrev pub AreReplicasRight : Configuration → List Entry → Type 0
+AreReplicasRight c trace = (p : ℕ) → is_correct_replica c p ≡ true → RightReplica c p (history_of p trace)
+
+-- What two correct replicas hold prepared in one view for one number has one digest.
+abbrev pub PreparedAgree : Type 0
+PreparedAgree =
+    (c : Configuration) → IsConfiguration c → (trace : List Entry) → AreReplicasRight c trace → Unforged c trace
+    → (p q v i : ℕ) (a b : List ℕ) → is_correct_replica c p ≡ true → is_correct_replica c q ≡ true
+    → Prepared c p (history_of p trace) v i a → Prepared c q (history_of q trace) v i b → sha256 a ≡ sha256 b
+
+-- the new view has a batch of this digest for the number, or starts at or above it
+abbrev pub HasOrStartsAbove : ℕ → List ℕ → NewView → Type 0
+HasOrStartsAbove i digest new = (i ≤ new.start) ⊎ ((batch : List ℕ) × (batch_begun new.view i new ≡ Some batch) × (sha256 batch ≡ digest))
+
+abbrev pub Takes : Configuration → NewView → List Entry → Entry → Type 0
+Takes c new past e = taken c past e ≡ Some new
+
+-- What is committed for a number, each new view of a later view that a correct replica takes or sends has there, or it
+-- starts at or above the number.
+abbrev pub CommittedStays : Type 0
+CommittedStays =
+    (c : Configuration) → IsConfiguration c → (trace : List Entry) → AreReplicasRight c trace → Unforged c trace
+    → (p q v i : ℕ) (a : List ℕ) (new : NewView) → is_correct_replica c p ≡ true → is_correct_replica c q ≡ true
+    → Committed c p (history_of p trace) v i a → Once (Takes c new) (history_of q trace) → v < new.view
+    → HasOrStartsAbove i (sha256 a) new
+
+-- What two correct replicas hold committed for one number has one digest, over all views.
+abbrev pub CommittedAgree : Type 0
+CommittedAgree =
+    (c : Configuration) → IsConfiguration c → (trace : List Entry) → AreReplicasRight c trace → Unforged c trace
+    → (p q v w i : ℕ) (a b : List ℕ) → is_correct_replica c p ≡ true → is_correct_replica c q ≡ true
+    → Committed c p (history_of p trace) v i a → Committed c q (history_of q trace) w i b → sha256 a ≡ sha256 b
+
+-- What two correct replicas execute for one number is one batch.
+abbrev pub ExecutedAgree : Type 0
+ExecutedAgree =
+    (c : Configuration) → IsConfiguration c → (trace : List Entry) → AreReplicasRight c trace → Unforged c trace → NoCollision c trace
+    → (k : ℕ) (a b : List ℕ) → Once (ExecutesBatch c k a) trace → Once (ExecutesBatch c k b) trace → a ≡ b
