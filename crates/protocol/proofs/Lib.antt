@@ -6,3 +6,10 @@ pub mod Signatures
 pub mod Marks
 pub mod Offers
 pub mod Agreeing
+pub mod Signed
+pub mod Commits
+pub mod Changes
+pub mod Lists
+pub mod Settling
+pub mod Staying
+pub mod Executing
