@@ -3,3 +3,4 @@ pub mod Listing
 pub mod Paging
 pub mod Keeping
 pub mod Finding
+pub mod Texts

@@ -9,6 +9,7 @@
 mod births;
 mod laws;
 mod matching;
+mod pages;
 #[cfg(test)]
 mod tests;
 mod tuples;
