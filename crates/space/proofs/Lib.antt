@@ -4,3 +4,5 @@ pub mod Paging
 pub mod Keeping
 pub mod Finding
 pub mod Texts
+pub mod Determining
+pub mod Batches

@@ -19,3 +19,13 @@ on_page page es = filter (λ e. e.0 % 256 == page) es
 
 abbrev pub page_text : SpaceState → ℕ → List ℕ
 page_text s page = entries_text (on_page page s.entries)
+
+-- the text of the header behind this many executed batches
+abbrev pub header_text : SpaceState → ℕ → List ℕ
+header_text s number = 1 ∷ to_be_bytes w64 number ++ to_be_bytes w64 s.next
+
+-- A state behind so many executed batches: each batch has at most 16 requests, and each request takes at most 256 births.
+pub record IsStateAt (s : SpaceState) (number : ℕ) : Type 0 where
+  pub state : IsState s
+  pub births : s.next ≤ 4096 * number
+  pub few : number < 2 ^ 48
