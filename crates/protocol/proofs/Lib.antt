@@ -13,3 +13,7 @@ pub mod Lists
 pub mod Settling
 pub mod Staying
 pub mod Executing
+pub mod Bodies
+pub mod Leaving
+pub mod Paging
+pub mod Roots

@@ -1,11 +1,12 @@
 -- The laws of agreement.
-use Rattle.std.specs.Prelude.{◌≡◌, ℕ, ◌≤◌, ◌<◌, ◌⊎◌, true, List, Some}
+use Rattle.std.specs.Prelude.{◌≡◌, ℕ, ◌^◌, ◌≤◌, ◌<◌, ◌⊎◌, true, List, length, Some}
 use Rattle.sha2.specs.Sha256.{sha256}
 use Rattle.protocol.specs.Configuration.{Configuration, IsConfiguration, is_correct_replica}
 use Rattle.protocol.specs.Wire.{NewView}
 use Rattle.protocol.specs.Trace.{Entry, history_of, Once, Unforged}
 use Rattle.protocol.specs.Certificates.{Prepared, Committed, taken, batch_begun}
 use Rattle.protocol.specs.RightReplica.{RightReplica}
+use Rattle.protocol.specs.State.{State, IsState, opening, after_batches, page_text}
 use Rattle.protocol.specs.Texts.{NoCollision, ExecutesBatch}
 
 -- Each correct replica's history is right.
@@ -47,3 +48,13 @@ abbrev pub ExecutedAgree : Type 0
 ExecutedAgree =
     (c : Configuration) → IsConfiguration c → (trace : List Entry) → AreReplicasRight c trace → Unforged c trace → NoCollision c trace
     → (k : ℕ) (a b : List ℕ) → Once (ExecutesBatch c k a) trace → Once (ExecutesBatch c k b) trace → a ≡ b
+
+-- ---- states
+
+-- States are equal where their pages are.
+abbrev pub PagesDetermine : Type 0
+PagesDetermine = (st other : State) → IsState st → IsState other → ((i : ℕ) → i < 1024 → page_text st i ≡ page_text other i) → st ≡ other
+
+-- Batches leave a state, as long as there are fewer than 2^48.
+abbrev pub BatchesLeaveStates : Type 0
+BatchesLeaveStates = (c : Configuration) (batches : List (List ℕ)) → IsConfiguration c → length batches < 2 ^ 48 → IsState (after_batches c opening batches)

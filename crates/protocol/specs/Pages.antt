@@ -1,10 +1,8 @@
--- Kept replies, and the texts of the pages. A stand-in for words of the crates space and reply_cache.
-use Rattle.std.specs.Prelude.{ℕ, ◌%◌, List, [], ◌++◌, map, filter, ◌==◌, Option, Some, None}
-use Rattle.std.specs.List.{concat}
+-- Kept replies and the texts of their pages. A stand-in for words of the crate reply_cache.
+use Rattle.std.specs.Prelude.{ℕ, ◌^◌, ◌≤◌, ◌<◌, List, [], ◌++◌, Option, Some, None}
 use Rattle.std.specs.Int.{w64, to_be_bytes}
-use Rattle.tuple_codec.specs.Operations.{Outcome}
-use Rattle.tuple_codec.specs.Spelling.{tuple_spelling, outcome_spelling}
-use Rattle.space.specs.Births.{Entry, SpaceState}
+use Rattle.tuple_codec.specs.Operations.{Outcome, IsOutcome}
+use Rattle.tuple_codec.specs.Spelling.{outcome_spelling}
 
 -- a client's last request that ran: its timestamp, the number of its batch, and the answer
 pub record Kept : Type 0 where
@@ -12,12 +10,12 @@ pub record Kept : Type 0 where
   pub number : ℕ
   pub answer : Outcome
 
-abbrev pub entry_text : Entry → List ℕ
-entry_text e = to_be_bytes w64 e.0 ++ tuple_spelling e.1
-
--- a page of tuples, 0 to 255: those whose birth number has this remainder by 256, the oldest first
-unfoldable pub tuple_page : SpaceState → ℕ → List ℕ
-tuple_page s page = concat (map entry_text (filter (λ e. e.0 % 256 == page) s.entries))
+-- a reply that can be kept: timestamps begin at 1, and all of it fits its bytes
+pub record IsKept (kept : Kept) : Type 0 where
+  pub time_some : 1 ≤ kept.timestamp
+  pub time_fits : kept.timestamp < 2 ^ 64
+  pub number_fits : kept.number < 2 ^ 64
+  pub answer : IsOutcome kept.answer
 
 -- the page of a client
 unfoldable pub reply_page : Option Kept → List ℕ

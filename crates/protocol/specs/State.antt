@@ -1,17 +1,17 @@
 -- The state that batches leave, its pages and its root (Castro and Liskov, TOCS 2002, sections 4.3 and 4.4).
-use Rattle.std.specs.Prelude.{◌≡◌, ℕ, suc, ◌-◌, ◌*◌, ◌^◌, ◌≤◌, ◌<◌, Bool, ◌&&◌, not, List, [], ◌∷◌, ◌++◌, length, map, replicate, nat_lt, ◌==◌, if◌then◌else◌, Option, Some, None, slice_get, slice_set, option_and_then, fold}
+use Rattle.std.specs.Prelude.{◌≡◌, ℕ, suc, ◌-◌, Bool, ◌&&◌, not, List, [], ◌∷◌, ◌++◌, length, map, replicate, nat_lt, ◌==◌, if◌then◌else◌, Option, Some, None, slice_get, slice_set, option_and_then, fold}
 use Rattle.std.specs.List.{range_with_len}
 use Rattle.std.specs.Option.{option_map_or}
-use Rattle.std.specs.Int.{w64, to_be_bytes}
 use Rattle.tuple_tree.specs.Values.{TupleTree}
-use Rattle.tuple_codec.specs.Operations.{Operation, IsOutcome}
+use Rattle.tuple_codec.specs.Operations.{Operation}
 use Rattle.space.specs.Applying.{outcome}
-use Rattle.space.specs.Births.{SpaceState, empty_state, tuples_of, state_after, IsState as IsSpace}
+use Rattle.space.specs.Births.{SpaceState, empty_state, tuples_of, state_after}
+use Rattle.space.specs.Pages.{IsStateAt, header_text, page_text as tuple_page}
 use Rattle.partition_tree.specs.Digests.{root_of as root_of_pages}
 use Rattle.protocol.specs.Configuration.{Configuration, is_client}
 use Rattle.protocol.specs.Wire.{Body, requests_of, said}
 use Rattle.protocol.specs.Wire.Message.{Request}
-use Rattle.protocol.specs.Pages.{Kept, tuple_page, reply_page}
+use Rattle.protocol.specs.Pages.{Kept, IsKept, reply_page}
 
 -- The space, the number of the last batch, and for each client, by its number, its last request that ran.
 pub record State : Type 0 where
@@ -93,18 +93,9 @@ ran_in c number st (frame ∷ frames) = option_map_or (ran_by st number) (call_o
 
 -- ---- what a state is
 
-pub record IsKept (kept : Kept) : Type 0 where
-  pub time_some : 1 ≤ kept.timestamp
-  pub time_fits : kept.timestamp < 2 ^ 64
-  pub number_fits : kept.number < 2 ^ 64
-  pub answer : IsOutcome kept.answer
-
--- A state: that of a space, whose births are at most 4096 a batch, of a number below 2^48, and with a reply or none for
--- each of 256 clients. All of it fits its pages.
+-- A state: that of a space behind so many batches, and with a reply or none for each of 256 clients.
 pub record IsState (st : State) : Type 0 where
-  pub space : IsSpace st.space
-  pub births : st.space.next ≤ 4096 * st.number
-  pub number : st.number < 2 ^ 48
+  pub space : IsStateAt st.space st.number
   pub clients : length st.replies ≡ 256
   pub replies : (client : ℕ) (kept : Kept) → kept_of st client ≡ Some kept → IsKept kept
 
@@ -114,11 +105,11 @@ unfoldable pub page_text : State → ℕ → List ℕ
 page_text st page =
     if nat_lt page 256 then tuple_page st.space page else
     if nat_lt page 512 then reply_page (kept_of st (page - 256)) else
-    if page == 512 then 1 ∷ to_be_bytes w64 st.number ++ to_be_bytes w64 st.space.next else
+    if page == 512 then header_text st.space st.number else
     []
 
 -- the texts of all 1,024 pages
-abbrev pub all_pages : (ℕ → List ℕ) → List (List ℕ)
+unfoldable pub all_pages : (ℕ → List ℕ) → List (List ℕ)
 all_pages page = map page (range_with_len 0 1024)
 
 abbrev pub pages_of : State → List (List ℕ)

@@ -1,6 +1,7 @@
 -- Frames and bodies, and how they are read from bytes. A stand-in for the crate wire, whose words of these names take
--- its place; the laws use no more of it than proofs/Reading proves.
-use Rattle.std.specs.Prelude.{ℕ, zero, suc, ◌+◌, ◌*◌, ◌^◌, Bool, List, [], ◌∷◌, ◌++◌, length, take, drop, nat_lt, nat_le, ◌==◌, if◌then◌else◌, Option, Some, None, option_and_then, slice_index, fold}
+-- its place; the laws use no more of it than proofs/Bodies.antt proves.
+use Rattle.std.specs.Prelude.{ℕ, zero, suc, ◌+◌, ◌*◌, ◌^◌, Bool, List, [], ◌∷◌, ◌++◌, length, take, drop, nat_lt, nat_le, ◌==◌, if◌then◌else◌, Option, Some, None, option_and_then, slice_index, fold, ◌&&◌}
+use Rattle.std.specs.List.{list_all}
 use Rattle.tuple_codec.specs.Operations.{Operation, Outcome}
 use Rattle.tuple_codec.specs.Reading.{operation_at, outcome_at}
 
@@ -106,9 +107,9 @@ unfoldable pub body_of : List ℕ → Option Body
 body_of bytes = option_and_then (λ message. Some (record { sender = number_at 2 1 bytes; message = message }))
     (message_of (slice_index bytes 0) (drop 3 bytes))
 
--- the frame that the bytes spell
+-- the frame that the bytes spell: a list that isn't of bytes spells none
 unfoldable pub frame_of : List ℕ → Option Frame
-frame_of bytes = if nat_le (4 + number_at 4 0 bytes) (length bytes)
+frame_of bytes = if list_all (λ b. nat_lt b 256) bytes && nat_le (4 + number_at 4 0 bytes) (length bytes)
     then Some (record { text = take (number_at 4 0 bytes) (drop 4 bytes); proof = Signature (drop (4 + number_at 4 0 bytes) bytes) })
     else None
 
