@@ -17,3 +17,5 @@ pub mod Bodies
 pub mod Leaving
 pub mod Paging
 pub mod Roots
+pub mod States
+pub mod Uniting

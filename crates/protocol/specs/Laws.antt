@@ -4,10 +4,11 @@ use Rattle.sha2.specs.Sha256.{sha256}
 use Rattle.protocol.specs.Configuration.{Configuration, IsConfiguration, is_correct_replica}
 use Rattle.protocol.specs.Wire.{NewView}
 use Rattle.protocol.specs.Trace.{Entry, history_of, Once, Unforged}
+use Rattle.protocol.specs.Trace.Entry.{Installed}
 use Rattle.protocol.specs.Certificates.{Prepared, Committed, taken, batch_begun}
-use Rattle.protocol.specs.RightReplica.{RightReplica}
-use Rattle.protocol.specs.State.{State, IsState, opening, after_batches, page_text}
-use Rattle.protocol.specs.Texts.{NoCollision, ExecutesBatch}
+use Rattle.protocol.specs.RightReplica.{RightReplica, Point, Leaves, HadQuorum, StartsAt}
+use Rattle.protocol.specs.State.{State, IsState, opening, after_batches, page_text, root_of}
+use Rattle.protocol.specs.Texts.{NoCollision, ExecutesBatch, AreExecuted}
 
 -- Each correct replica's history is right.
 abbrev pub AreReplicasRight : Configuration → List Entry → Type 0
@@ -58,3 +59,38 @@ PagesDetermine = (st other : State) → IsState st → IsState other → ((i : �
 -- Batches leave a state, as long as there are fewer than 2^48.
 abbrev pub BatchesLeaveStates : Type 0
 BatchesLeaveStates = (c : Configuration) (batches : List (List ℕ)) → IsConfiguration c → length batches < 2 ^ 48 → IsState (after_batches c opening batches)
+
+-- Two correct replicas' states of one number are one state.
+abbrev pub StatesAgree : Type 0
+StatesAgree =
+    (c : Configuration) → IsConfiguration c → (trace : List Entry) → AreReplicasRight c trace → Unforged c trace → NoCollision c trace
+    → (p q : ℕ) (x y : Point) → is_correct_replica c p ≡ true → is_correct_replica c q ≡ true
+    → Leaves c p (history_of p trace) x → Leaves c q (history_of q trace) y → x.state.number ≡ y.state.number → x.state ≡ y.state
+
+-- the root is that of the state of the executed batches up to the number
+pub record IsRootOf (c : Configuration) (trace : List Entry) (k : ℕ) (root : List ℕ) : Type 0 where
+  pub batches : List (List ℕ)
+  pub long : length batches ≡ k
+  pub executed : AreExecuted c trace 1 batches
+  pub root_is : root ≡ root_of (after_batches c opening batches)
+
+abbrev pub Installs : ℕ → List ℕ → List Entry → Entry → Type 0
+Installs k root past (Installed r number digest) = (number ≡ k) × (digest ≡ root)
+Installs k root past _ = ⊥
+
+-- what happens at a correct replica with a number and a root gives the root of the executed batches
+abbrev pub GivesRoots : (Configuration → ℕ → List ℕ → List Entry → Type 0) → Type 0
+GivesRoots Happens =
+    (c : Configuration) → IsConfiguration c → (trace : List Entry) → AreReplicasRight c trace → Unforged c trace → NoCollision c trace
+    → (r k : ℕ) (root : List ℕ) → is_correct_replica c r ≡ true → Happens c k root (history_of r trace) → IsRootOf c trace k root
+
+-- What a quorum of checkpoints says, what is installed, and what a new view starts with, has the root of the executed
+-- batches.
+abbrev pub StableAgree : Type 0
+StableAgree = GivesRoots (λ c k root history. HadQuorum c (record { number = k; digest = root }) history)
+
+abbrev pub InstalledAgree : Type 0
+InstalledAgree = GivesRoots (λ c k root history. Once (Installs k root) history)
+
+abbrev pub StartsAgree : Type 0
+StartsAgree = GivesRoots (λ c k root history. Once (StartsAt c k root) history)

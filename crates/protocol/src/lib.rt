@@ -1,7 +1,7 @@
 //! The laws of the protocol, over every trace of correct replicas and clients.
 #![tactic(auto)]
 
-ghost use Rattle.protocol.specs.Laws.{PreparedAgree, CommittedStays, CommittedAgree, ExecutedAgree};
+ghost use Rattle.protocol.specs.Laws.{PreparedAgree, CommittedStays, CommittedAgree, ExecutedAgree, PagesDetermine, BatchesLeaveStates, StatesAgree, StableAgree, InstalledAgree, StartsAgree};
 
 /// Two correct replicas hold batches of one digest prepared in one view for one number (Castro and Liskov, TOCS 2002,
 /// section 4.5).
@@ -22,4 +22,27 @@ pub fn committed_agree()
 /// Two correct replicas execute one batch for one number.
 pub fn executed_agree()
     ensures agree { ExecutedAgree }
+{}
+
+/// States are equal where their pages are.
+pub fn pages_determine()
+    ensures determine { PagesDetermine }
+{}
+
+/// Batches leave states.
+pub fn batches_leave_states()
+    ensures leave { BatchesLeaveStates }
+{}
+
+/// Two correct replicas' states of one number are one state.
+pub fn states_agree()
+    ensures agree { StatesAgree }
+{}
+
+/// Stable roots, installed roots and the roots that new views start with are those of the executed batches (Castro and
+/// Liskov, TOCS 2002, sections 4.4 and 4.5).
+pub fn roots_agree()
+    ensures stable { StableAgree }
+    ensures installed { InstalledAgree }
+    ensures starts { StartsAgree }
 {}
