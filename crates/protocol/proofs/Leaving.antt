@@ -80,7 +80,7 @@ get_set (x ∷ xs) (suc i) (suc j) y z h = go (get_set xs i j y z h)
     go (inl k) = inl (k.0, ap suc k.1)
     go (inr k) = inr k
 
-length_set : {A : Type 0} (xs : List A) (i : ℕ) (y : A) → length (slice_set xs i y) ≡ length xs
+pub length_set : {A : Type 0} (xs : List A) (i : ℕ) (y : A) → length (slice_set xs i y) ≡ length xs
 length_set [] i y = refl
 length_set (x ∷ xs) zero y = refl
 length_set (x ∷ xs) (suc i) y = ap suc (length_set xs i y)

@@ -19,3 +19,13 @@ pub mod Paging
 pub mod Roots
 pub mod States
 pub mod Uniting
+pub mod Levels
+pub mod Reading
+pub mod Asking
+pub mod Sorting
+pub mod Legality
+pub mod Ordering
+pub mod Running
+pub mod Ran
+pub mod Keeping
+pub mod Invoking

@@ -1,5 +1,5 @@
 -- The derived keys, and what a party takes as genuine. A stand-in for words of the crates authenticator and signing.
-use Rattle.std.specs.Prelude.{◌≡◌, ℕ, Bool, true, false, ◌&&◌, List, [], ◌∷◌, ◌++◌, length, nat_lt, ◌==◌, if◌then◌else◌, Option, Some, None, bytes_eq, option_and_then, slice_index, ⊤}
+use Rattle.std.specs.Prelude.{◌≡◌, ℕ, Bool, true, false, ◌&&◌, List, [], ◌∷◌, ◌++◌, length, map, nat_lt, ◌==◌, if◌then◌else◌, Option, Some, None, bytes_eq, option_and_then, slice_index, ⊤}
 use Rattle.std.specs.List.{list_any}
 use Rattle.std.specs.Int.{w16, to_be_bytes}
 use Rattle.authenticator.specs.Mac.{hmac_of}
@@ -57,3 +57,7 @@ AreMacs c me text (x ∷ entries) = (x.1 ≡ hmac_of (key_between c me x.0) text
 -- the frame is the party's own: sealed under its keys, or with a signature that verifies
 abbrev pub IsSealed : Configuration → ℕ → Frame → Type 0
 IsSealed c me frame = elim frame.proof [ Macs entries ↦ AreMacs c me frame.text entries | Signature signature ↦ verify (public_of c me) frame.text signature ≡ true ]
+
+abbrev pub receivers_of : Proof → List ℕ
+receivers_of (Macs entries) = map (λ x. x.0) entries
+receivers_of (Signature signature) = []

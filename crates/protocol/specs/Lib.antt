@@ -9,3 +9,5 @@ pub mod State
 pub mod RightReplica
 pub mod Texts
 pub mod Laws
+pub mod RightClient
+pub mod Linear
