@@ -29,3 +29,6 @@ pub mod Running
 pub mod Ran
 pub mod Keeping
 pub mod Invoking
+pub mod Accepting
+pub mod Readings
+pub mod Whole

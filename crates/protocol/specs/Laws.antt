@@ -1,12 +1,14 @@
 -- The laws of agreement.
 use Rattle.std.specs.Prelude.{◌≡◌, ℕ, ◌^◌, ◌≤◌, ◌<◌, ◌⊎◌, true, List, length, Some}
 use Rattle.sha2.specs.Sha256.{sha256}
-use Rattle.protocol.specs.Configuration.{Configuration, IsConfiguration, is_correct_replica}
+use Rattle.protocol.specs.Configuration.{Configuration, IsConfiguration, is_correct, is_correct_replica, is_correct_client}
 use Rattle.protocol.specs.Wire.{NewView}
-use Rattle.protocol.specs.Trace.{Entry, history_of, Once, Unforged}
+use Rattle.protocol.specs.Trace.{Entry, party_of, history_of, Once, Always, Unforged}
 use Rattle.protocol.specs.Trace.Entry.{Installed}
 use Rattle.protocol.specs.Certificates.{Prepared, Committed, taken, batch_begun}
 use Rattle.protocol.specs.RightReplica.{RightReplica, Point, Leaves, HadQuorum, StartsAt}
+use Rattle.protocol.specs.RightClient.{RightClient}
+use Rattle.protocol.specs.Linear.{points, IsLinear}
 use Rattle.protocol.specs.State.{State, IsState, opening, after_batches, page_text, root_of}
 use Rattle.protocol.specs.Texts.{NoCollision, ExecutesBatch, AreExecuted}
 
@@ -94,3 +96,16 @@ InstalledAgree = GivesRoots (λ c k root history. Once (Installs k root) history
 
 abbrev pub StartsAgree : Type 0
 StartsAgree = GivesRoots (λ c k root history. Once (StartsAt c k root) history)
+
+-- ---- points
+
+-- what the laws use of a run: what its correct replicas and clients do, they may do, and no others have entries
+pub record IsRight (c : Configuration) (trace : List Entry) : Type 0 where
+  pub replicas : AreReplicasRight c trace
+  pub clients : (p : ℕ) → is_correct_client c p ≡ true → RightClient c p (history_of p trace)
+  pub parties : Always (λ past e. is_correct c (party_of e) ≡ true) trace
+
+abbrev pub LinearOfRight : Type 0
+LinearOfRight =
+    (c : Configuration) → IsConfiguration c → (trace : List Entry) → IsRight c trace → Unforged c trace → NoCollision c trace
+    → IsLinear c (points c trace) trace
