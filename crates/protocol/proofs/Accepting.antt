@@ -59,18 +59,29 @@ accepting c past cl t a run = go (is_correct_replica c (256 + cl)) refl run.part
   where
     most : c.faults ≤ 3
     most = run.setting.most
+
     no_replica : is_correct_replica c (256 + cl) ≡ true → ⊥
     no_replica h = let b : 256 + cl < 3 * c.faults + 1 = ltb-true (256 + cl) (3 * c.faults + 1) (and_parts (is_replica c (256 + cl)) _ h).0 in let m = most in omega arith
+
     build : is_correct_client c (256 + cl) ≡ true → MayAccept c (256 + cl) (history_of (256 + cl) past) t a → Accepting c past (256 + cl) t a
     build client m = record {
-        client = client; run = run_earlier c (Accepted cl t a) past run; call = m.0; vote = m.1; opened = m.2; time = m.3; answer = m.4; newest = m.5;
-        complete =
-            let q : 2 * c.faults + 1 ≤ count_alike c (256 + cl) (history_of (256 + cl) past) m.0.timestamp m.1 = leb-true (2 * c.faults + 1) (count_alike c (256 + cl) (history_of (256 + cl) past) m.0.timestamp m.1) m.6 in
-            subst (λ (i : ℕ). 2 * c.faults + 1 ≤ count_below (λ s. is_alike m.1 (latest c (256 + cl) (history_of (256 + cl) past) i m.1.read_only s)) (3 * c.faults + 1)) m.3 q;
-      }
+      client = client;
+      run = run_earlier c (Accepted cl t a) past run;
+      call = m.0;
+      vote = m.1;
+      opened = m.2;
+      time = m.3;
+      answer = m.4;
+      newest = m.5;
+      complete =
+          let q : 2 * c.faults + 1 ≤ count_alike c (256 + cl) (history_of (256 + cl) past) m.0.timestamp m.1 = leb-true (2 * c.faults + 1) (count_alike c (256 + cl) (history_of (256 + cl) past) m.0.timestamp m.1) m.6 in
+          subst (λ (i : ℕ). 2 * c.faults + 1 ≤ count_below (λ s. is_alike m.1 (latest c (256 + cl) (history_of (256 + cl) past) i m.1.read_only s)) (3 * c.faults + 1)) m.3 q;
+    }
+
     head : (b : Bool) → b ≡ true → is_correct_client c (256 + cl) ≡ true → RightClient c (256 + cl) (cond b (Accepted cl t a ∷ history_of (256 + cl) past) (history_of (256 + cl) past)) → Accepting c past (256 + cl) t a
     head true e client r = build client r.0.1
     head false e client r = absurd cc
+
     go : (b : Bool) → is_correct_replica c (256 + cl) ≡ b → (b || is_correct_client c (256 + cl)) ≡ true → Accepting c past (256 + cl) t a
     go true is h = absurd (no_replica is)
     go false is h = head (256 + cl == 256 + cl) (eq-eqb (256 + cl) (256 + cl) refl) h (run.runs.clients (256 + cl) h)
@@ -151,7 +162,7 @@ accepted_level c past p t a x = go x.vote.read_only refl x.complete
 pub read_before : (c : Configuration) (past : List Entry) (p t : ℕ) (a : Outcome) (x : Accepting c past p t a) → x.vote.read_only ≡ true → (k : ℕ) → x.vote.number < k → is_level c (invoke_past p past) k ≡ true → ⊥
 read_before c past p t a x is =
     read_level_before c x.run.setting past x.run.runs p t x.client x.vote is (last_time_is c past p t a x)
-        (subst (λ (b : Bool). 2 * c.faults + 1 ≤ count_below (λ s. is_alike x.vote (latest c p (history_of p past) t b s)) (3 * c.faults + 1)) is x.complete)
+    (subst (λ (b : Bool). 2 * c.faults + 1 ≤ count_below (λ s. is_alike x.vote (latest c p (history_of p past) t b s)) (3 * c.faults + 1)) is x.complete)
 
 level_place : (c : Configuration) (xs : List Entry) (k : ℕ) → (xs ≡ [] → ⊥) → is_level c xs k ≡ true → (q : ℕ) × (first_position c xs k ≡ Some q)
 level_place c [] k none h = absurd (none refl)
@@ -220,9 +231,9 @@ pub replied : (c : Configuration) (trace : List Entry) (s p t : ℕ) (kind : Boo
 replied c trace s p t kind number answer run correct h =
     let goods = states_agree c run.setting trace run.runs.replicas run.runs.unforged run.apart s correct in
     let at = once_split (λ past e. GoodHere c trace s past × (RightAt c s past e × Speaks (record { sender = s; message = Reply p t kind number answer }) past e × Always (RightAt c s) past) × Always (λ past e. GoodHere c trace s past) past)
-        (history_of s trace)
-        (once_always (λ past e. GoodHere c trace s past) (λ past e. RightAt c s past e × Speaks (record { sender = s; message = Reply p t kind number answer }) past e × Always (RightAt c s) past) (history_of s trace) goods.1
-            (once_right c s (Speaks (record { sender = s; message = Reply p t kind number answer })) (history_of s trace) (run.runs.replicas s correct) h)) in
+    (history_of s trace)
+    (once_always (λ past e. GoodHere c trace s past) (λ past e. RightAt c s past e × Speaks (record { sender = s; message = Reply p t kind number answer }) past e × Always (RightAt c s) past) (history_of s trace) goods.1
+    (once_right c s (Speaks (record { sender = s; message = Reply p t kind number answer })) (history_of s trace) (run.runs.replicas s correct) h)) in
     let m = reply_may c s p t kind number answer at.past at.entry at.holds.1.0 at.holds.1.1 in
     record { past = at.past; entry = at.entry; later = at.later; is = at.is; good = (at.holds.0, at.holds.2); point = m.0; leaves = m.1; may = m.2 }
 
@@ -238,12 +249,16 @@ pub read_replied : (c : Configuration) (trace : List Entry) (s p t number : ℕ)
 read_replied c trace s p t number answer run correct client r =
     let m : MayReplyRead c s r.past r.point p t number answer = r.may in
     let hears : Once (Hears c s (asking p t true m.op)) (history_of s trace) =
-        subst (λ (ys : List Entry). Once (Hears c s (asking p t true m.op)) ys) (sym r.is) (once_append (Hears c s (asking p t true m.op)) r.later (r.entry ∷ r.past) (inr m.heard)) in
+    subst (λ (ys : List Entry). Once (Hears c s (asking p t true m.op)) ys) (sym r.is) (once_append (Hears c s (asking p t true m.op)) r.later (r.entry ∷ r.past) (inr m.heard)) in
     let said' = heard_was_said c trace s (asking p t true m.op) run.runs.unforged (correct_replica c s correct) (correct_client c p client) hears in
     let by = is_by c trace r.point.state run (r.good.0 r.point r.leaves).state in
     let state : r.point.state ≡ state_by c trace opening 1 number = by.is ∙ ap (state_by c trace opening 1) (sym m.number_is) in
-    record { op = m.op; kind = m.is_read; invoked = asked_op c p t true m.op (history_of p trace) (run.runs.clients p client) said';
-        answer_is = m.answer_is ∙ ap (λ (st : State). outcome (tuples st) m.op) state }
+    record {
+      op = m.op;
+      kind = m.is_read;
+      invoked = asked_op c p t true m.op (history_of p trace) (run.runs.clients p client) said';
+      answer_is = m.answer_is ∙ ap (λ (st : State). outcome (tuples st) m.op) state;
+    }
 
 -- an ordered reply is of a request that ran
 abbrev pub Answers : ℕ → ℕ → ℕ → Outcome → ℕ → Ran → Type 0
@@ -274,43 +289,47 @@ ordered_replied c trace s p t number answer run correct client r = go r.may
   where
     by : Running.IsBy c trace r.point.state
     by = is_by c trace r.point.state run (r.good.0 r.point r.leaves).state
+
     most : r.point.state.number ≤ last_executed trace
     most = pick r.point.state.number refl
       where
         pick : (n : ℕ) → r.point.state.number ≡ n → n ≤ last_executed trace
         pick zero e = omega arith
         pick (suc n) e = let one : 1 ≤ suc n = omega arith in let l : suc n ≤ r.point.state.number = omega arith in let b = by.executed (suc n) one l in executed_greatest c (suc n) b.0 trace b.1
+
     emb : (k : ℕ) (b : List ℕ) → Once (ExecutesBatch c k b) r.past → Once (ExecutesBatch c k b) trace
     emb k b h =
         let there : Once (ExecutesBatch c k b) (history_of s trace) = subst (λ (ys : List Entry). Once (ExecutesBatch c k b) ys) (sym r.is) (once_append (ExecutesBatch c k b) r.later (r.entry ∷ r.past) (inr h)) in
         once_weaker (λ past e. (party_of e ≡ s) × ExecutesBatch c k b (history_of s past) e) (ExecutesBatch c k b) (λ past e u. executes_any c k b (history_of s past) past e u.1) trace (once_in_trace (ExecutesBatch c k b) s trace there)
+
     more : (Q : ℕ → Ran → Type 0) → ((j : ℕ) (x : Ran) → Q j x → Answers p t number answer j x) → RanBy c trace opening 1 r.point.state.number Q → RanBy c trace opening 1 (last_executed trace) (Answers p t number answer)
     more Q f h = ran_by-more c trace opening 1 r.point.state.number (last_executed trace) (Answers p t number answer) most (ran_by-weaker c trace opening 1 r.point.state.number Q (Answers p t number answer) f h)
+
     go : MayReply c s r.past r.point p t false number answer → RanBy c trace opening 1 (last_executed trace) (Answers p t number answer)
     go (inl h) =
         let x = has_some (λ (ran : Ran). RepliesTo p t number answer ran.call.client ran.kept) r.point.ran h in
         more (IsRun x.0) (λ j y u.
-                let e : y ≡ x.0 = u.0 in
-                let cl : y.call.client ≡ x.0.call.client = ap (λ (z : Ran). z.call.client) e in
-                let a = x.2.client_is in
-                let is_client' : 256 + y.call.client ≡ p = omega arith in
-                let time : y.call.timestamp ≡ t = sym u.2 ∙ ap (λ (z : Ran). z.kept.timestamp) e ∙ x.2.time in
-                let text : y.kept.answer ≡ answer = ap (λ (z : Ran). z.kept.answer) e ∙ x.2.answer_is in
-                let number' : number ≡ j = sym x.2.number_is ∙ sym (ap (λ (z : Ran). z.kept.number) e) ∙ u.1 in
-                (is_client', time, text, number'))
-            (rans_ran c trace run s correct r.past emb r.good r.point r.leaves x.0 x.1)
+        let e : y ≡ x.0 = u.0 in
+        let cl : y.call.client ≡ x.0.call.client = ap (λ (z : Ran). z.call.client) e in
+        let a = x.2.client_is in
+        let is_client' : 256 + y.call.client ≡ p = omega arith in
+        let time : y.call.timestamp ≡ t = sym u.2 ∙ ap (λ (z : Ran). z.kept.timestamp) e ∙ x.2.time in
+        let text : y.kept.answer ≡ answer = ap (λ (z : Ran). z.kept.answer) e ∙ x.2.answer_is in
+        let number' : number ≡ j = sym x.2.number_is ∙ sym (ap (λ (z : Ran). z.kept.number) e) ∙ u.1 in
+        (is_client', time, text, number'))
+        (rans_ran c trace run s correct r.past emb r.good r.point r.leaves x.0 x.1)
     go (inr h) =
         let there : kept_of (state_by c trace opening 1 r.point.state.number) h.0 ≡ Some h.1 = subst (λ (st : State). kept_of st h.0 ≡ Some h.1) by.is h.2 in
         more (Keeps h.0 h.1) (λ j y u.
-                let e : y.kept ≡ h.1 = u.0 in
-                let cl = u.1 in
-                let a = h.3.client_is in
-                let is_client' : 256 + y.call.client ≡ p = omega arith in
-                let time : y.call.timestamp ≡ t = sym u.3 ∙ ap (λ (z : Kept). z.timestamp) e ∙ h.3.time in
-                let text : y.kept.answer ≡ answer = ap (λ (z : Kept). z.answer) e ∙ h.3.answer_is in
-                let number' : number ≡ j = sym h.3.number_is ∙ u.2 in
-                (is_client', time, text, number'))
-            (kept_ran-opening c trace r.point.state.number h.0 h.1 there)
+        let e : y.kept ≡ h.1 = u.0 in
+        let cl = u.1 in
+        let a = h.3.client_is in
+        let is_client' : 256 + y.call.client ≡ p = omega arith in
+        let time : y.call.timestamp ≡ t = sym u.3 ∙ ap (λ (z : Kept). z.timestamp) e ∙ h.3.time in
+        let text : y.kept.answer ≡ answer = ap (λ (z : Kept). z.answer) e ∙ h.3.answer_is in
+        let number' : number ≡ j = sym h.3.number_is ∙ u.2 in
+        (is_client', time, text, number'))
+        (kept_ran-opening c trace r.point.state.number h.0 h.1 there)
 
 -- ---- answers that are heard are within the limits
 
@@ -360,9 +379,11 @@ voted c past p t a x =
   where
     own : Always (λ past e. party_of e ≡ p) (history_of p past)
     own = own_entries c p (history_of p past) (x.run.runs.clients p x.client)
+
     hears : (s : ℕ) (kind : Bool) (v : Vote) → latest c p (history_of p past) t kind s ≡ Some v → Once (Hears c p (record { sender = s; message = Reply p t kind v.number v.answer })) (history_of p past)
     hears s true v is = latest_heard c p t s v (history_of p past) own is
     hears s false v is = latest_ordered c p t s v (history_of p past) own is
+
     go : (s : ℕ) → is_correct_replica c s ≡ true → (kind : Bool) (o : Option Vote) → latest c p (history_of p past) t kind s ≡ o → is_alike x.vote o ≡ true
         → Once (Speaks (record { sender = s; message = Reply p t kind x.vote.number x.vote.answer })) (history_of s past)
     go s correct kind None is k = absurd cc
@@ -370,8 +391,8 @@ voted c past p t a x =
         let q = and_parts (v.number == x.vote.number) (bytes_eq (outcome_spelling v.answer) (outcome_spelling x.vote.answer)) k in
         let n : v.number ≡ x.vote.number = eqb-true v.number x.vote.number q.0 in
         let m : v.answer ≡ x.vote.answer =
-            same_outcome v.answer x.vote.answer (heard_answer c p s t kind v.number v.answer (history_of p past) (hears s kind v is)) (newest_answer c p t x.vote (history_of p past) x.newest)
-                ((bytes_eq-Decides (outcome_spelling v.answer) (outcome_spelling x.vote.answer)).0 q.1) in
+        same_outcome v.answer x.vote.answer (heard_answer c p s t kind v.number v.answer (history_of p past) (hears s kind v is)) (newest_answer c p t x.vote (history_of p past) x.newest)
+        ((bytes_eq-Decides (outcome_spelling v.answer) (outcome_spelling x.vote.answer)).0 q.1) in
         let said' = heard_was_said c past p (record { sender = s; message = Reply p t kind v.number v.answer }) x.run.runs.unforged (correct_client c p x.client) (correct_replica c s correct) (hears s kind v is) in
         subst (λ (i : ℕ). Once (Speaks (record { sender = s; message = Reply p t kind i x.vote.answer })) (history_of s past)) n
-            (subst (λ (b : Outcome). Once (Speaks (record { sender = s; message = Reply p t kind v.number b })) (history_of s past)) m said')
+        (subst (λ (b : Outcome). Once (Speaks (record { sender = s; message = Reply p t kind v.number b })) (history_of s past)) m said')

@@ -109,9 +109,10 @@ heard_asked c r v i a bytes sender (PrePrepare view number b) is h frame has =
     let p = and_parts ((view == v) && (number == i) && (sender == primary c v)) (are_genuine c r b) g.0 in
     let has' : Has (λ x. x ≡ frame) (requests_of b) = subst (λ (x : List ℕ). Has (λ y. y ≡ frame) (requests_of x)) (sym g.1) has in
     let parts = heard_parts c r bytes (record { sender = sender; message = PrePrepare view number b }) is in
-    let says : said bytes ≡ Some (record { sender = sender; message = PrePrepare view number b }) = rw parts.1 parts.2 in
-    (every_has (λ request. is_some (heard c r request)) (requests_of b) frame p.1 has',
-     inr (carried_prepare bytes (record { sender = sender; message = PrePrepare view number b }) view number b frame says refl has'))
+    let says : said bytes ≡ Some (record { sender = sender; message = PrePrepare view number b }) = rw parts.1 parts.2 in (
+      every_has (λ request. is_some (heard c r request)) (requests_of b) frame p.1 has',
+      inr (carried_prepare bytes (record { sender = sender; message = PrePrepare view number b }) view number b frame says refl has'),
+    )
 heard_asked c r v i a bytes sender _ is h frame has = absurd cc
 
 sent_genuine : (c : Configuration) (r v i : ℕ) (a : List ℕ) (sender : ℕ) (message : Message)
@@ -119,9 +120,10 @@ sent_genuine : (c : Configuration) (r v i : ℕ) (a : List ℕ) (sender : ℕ) (
 unfolding carried
 sent_genuine c r v i a sender (PrePrepare view number b) h =
     let g = give_if_some ((view == v) && (number == i) && (sender == primary c v) && are_genuine c r b) b a h in
-    let p = and_parts ((view == v) && (number == i) && (sender == primary c v)) (are_genuine c r b) g.0 in
-    (subst (λ (x : List ℕ). are_genuine c r x ≡ true) g.1 p.1,
-     λ frame has. subst (λ (x : List ℕ). Has (λ y. y ≡ frame) (requests_of x)) (sym g.1) has)
+    let p = and_parts ((view == v) && (number == i) && (sender == primary c v)) (are_genuine c r b) g.0 in (
+      subst (λ (x : List ℕ). are_genuine c r x ≡ true) g.1 p.1,
+      λ frame has. subst (λ (x : List ℕ). Has (λ y. y ≡ frame) (requests_of x)) (sym g.1) has,
+    )
 sent_genuine c r v i a sender _ h = absurd cc
 
 entry_asked : (c : Configuration) → IsConfiguration c → (r v i : ℕ) (a : List ℕ) (xs past : List Entry) (e : Entry) → ((R : List Entry → Entry → Type 0) → R past e ⊎ Once R past → Once R xs) → is_correct_replica c r ≡ true
@@ -158,7 +160,6 @@ null_asked c trace a h frame call has is =
 -- ---- by induction over the views
 
 module _ (c : Configuration) (setting : IsConfiguration c) (trace : List Entry) (right : AreReplicasRight c trace) (unforged : Unforged c trace) (apart : NoCollision c trace) where
-
   AskedIn : ℕ → Type 0
   AskedIn v = (r i : ℕ) (a : List ℕ) → is_correct_replica c r ≡ true → logged c r (history_of r trace) v i ≡ Some a → Asked c trace a
 
@@ -192,18 +193,23 @@ module _ (c : Configuration) (setting : IsConfiguration c) (trace : List Entry) 
     where
       sel : Selected c new
       sel = selected c new may
+
       at : Proposes c v i new
       at = proposes c v i new a has
+
       place : i ≡ suc new.start + (i - new.start - 1)
       place = let above = at.above in omega arith
+
       get : slice_get new.batches (i - new.start - 1) ≡ Some a
       get = go ((new.view == v) && nat_lt new.start i) has
         where
           go : (b : Bool) → cond b (slice_get new.batches (i - new.start - 1)) None ≡ Some a → slice_get new.batches (i - new.start - 1) ≡ Some a
           go true h = h
           go false h = absurd cc
+
       stand : may_stand c new.view (changes_of c new) i a ≡ true
       stand = stands_at c new.view (changes_of c new) (suc new.start) new.batches (i - new.start - 1) a sel.stand get i place
+
       by : (nat_lt 0 (count_below (may_stand_at c (changes_of c new) i (sha256 a)) new.view) ≡ true) ⊎ ((is_null a && may_be_null c (changes_of c new) i) ≡ true) → Asked c trace a
       by (inl k) =
           let x = some_below (may_stand_at c (changes_of c new) i (sha256 a)) new.view k in
@@ -223,19 +229,20 @@ module _ (c : Configuration) (setting : IsConfiguration c) (trace : List Entry) 
       begun true k =
           let t = and_then_some (batch_begun v i) (taken c past e) a k in
           begun_asked v below r i a t.0 correct logs (emb (Takes c t.0) (inl t.1)) t.2 (selected_in c e t.0 (takes c r past e t.0 t.1).brought)
+
       go : (begun_proposal c r past e v i ≡ Some a) ⊎ (entry_proposal c r past e v i ≡ Some a) → Asked c trace a
       go (inl k) = begun (is_in_marks c (low c r (e ∷ past)) i) k
       go (inr k) = λ frame call has is.
           let there : Once (AsksFrame c frame) (history_of r trace) = entry_asked c setting r v i a (history_of r trace) past e (λ R u. emb R u) correct rights k frame call has is in
           once_weaker (λ past e. (party_of e ≡ r) × AsksFrame c frame (history_of r past) e) (AsksFrame c frame) (λ past e t. asks_any c frame (history_of r past) past e t.1) trace
-              (once_in_trace (AsksFrame c frame) r trace there)
+          (once_in_trace (AsksFrame c frame) r trace there)
 
   asked_at : (v : ℕ) → ((u : ℕ) → u < v → AskedIn u) → AskedIn v
   unfolding AskedIn logged
   asked_at v below r i a correct h =
       let q = right r correct in
       logged_asked v below r i a correct h (history_of r trace) (λ R x. x) (right_always c r (history_of r trace) q.0 q.1)
-          (given_once (λ earlier e. proposal c r earlier e v i) a (history_of r trace) h)
+      (given_once (λ earlier e. proposal c r earlier e v i) a (history_of r trace) h)
 
   asked_below : (k v : ℕ) → v < k → AskedIn v
   asked_below zero v l = absurd (omega arith)

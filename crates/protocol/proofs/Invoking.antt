@@ -139,8 +139,8 @@ asks_said c xs frame body runs is from h =
     once_in_history (Speaks body) body.sender xs
     (once_once (λ past e. (party_of e ≡ body.sender) × Speaks body (history_of body.sender past) e) xs
     (once_weaker (λ past e. IsUnforgedAt c past e × AsksFrame c frame past e × Always (IsUnforgedAt c) past)
-        (λ past e. Once (λ past e. (party_of e ≡ body.sender) × Speaks body (history_of body.sender past) e) past)
-        step xs
+    (λ past e. Once (λ past e. (party_of e ≡ body.sender) × Speaks body (history_of body.sender past) e) past)
+    step xs
     (once_always (IsUnforgedAt c) (AsksFrame c frame) xs runs.unforged h)))
   where
     known : (p : ℕ) (o : Option Body) → heard c p frame ≡ o → is_some o ≡ true → heard c p frame ≡ Some body
@@ -149,6 +149,7 @@ asks_said c xs frame body runs is from h =
         let parts = heard_parts c p frame b e in
         let said' : said frame ≡ Some b = rw parts.1 parts.2 in
         e ∙ sym said' ∙ is
+
     step : (past : List Entry) (e : Entry) → IsUnforgedAt c past e × AsksFrame c frame past e × Always (IsUnforgedAt c) past
         → Once (λ past e. (party_of e ≡ body.sender) × Speaks body (history_of body.sender past) e) past
     step past (Got q bytes) t =
@@ -197,6 +198,7 @@ asks_request c frame sender t op is past (Got p bytes) h = (h.0, there (frames_i
         let parts = heard_parts c p frame b e in
         let said' : said frame ≡ Some b = rw parts.1 parts.2 in
         e ∙ sym said' ∙ is
+
     there : (xs : List (List ℕ)) → Has (λ x. x ≡ frame) xs → Has (λ x. heard c p x ≡ Some (record { sender = sender; message = Request t false op })) xs
     there [] k = k
     there (x ∷ xs) (inl k) = inl (subst (λ (y : List ℕ). heard c p y ≡ Some (asking sender t false op)) (sym k) (known (heard c p frame) refl h.1))
@@ -219,7 +221,6 @@ executed_asked c xs k b run h frame call has is =
     all_asked c run.setting xs run.runs.replicas run.runs.unforged run.apart ready.view p.0 k b p.1 ready.committed.prepared.logged frame call has is
 
 module _ (c : Configuration) (trace : List Entry) (run : Run c trace) (x : Point) (s : Source c trace x) (positive : 1 ≤ x.number) where
-
   -- the request was asked where its batch's level came, or before
   source_asked : At (λ past e. (length past ≡ s.position) × Once (AsksFrame c s.from.frame) (e ∷ past)) trace
   source_asked =
@@ -235,8 +236,13 @@ module _ (c : Configuration) (trace : List Entry) (run : Run c trace) (x : Point
       let there : Once (ExecutesBatch c s.number ex.0) trace = subst (λ (t : List Entry). Once (ExecutesBatch c s.number ex.0) t) (sym at.is) (once_append (ExecutesBatch c s.number ex.0) at.later (at.entry ∷ at.past) ex.1) in
       let same : batch_of trace s.number ≡ ex.0 = batch_is c trace s.number ex.0 run there in
       let has : Has (λ y. y ≡ s.from.frame) (requests_of ex.0) = subst (λ (b : List ℕ). Has (λ y. y ≡ s.from.frame) (requests_of b)) same s.from.is_there in
-      record { past = at.past; entry = at.entry; later = at.later; is = at.is;
-          holds = (g.1, executed_asked c (at.entry ∷ at.past) s.number ex.0 here ex.1 s.from.frame s.ran.call has s.from.is_call) }
+      record {
+        past = at.past;
+        entry = at.entry;
+        later = at.later;
+        is = at.is;
+        holds = (g.1, executed_asked c (at.entry ∷ at.past) s.number ex.0 here ex.1 s.from.frame s.ran.call has s.from.is_call);
+      }
 
   spelled : said s.from.frame ≡ Some (asking (256 + s.ran.call.client) s.ran.call.timestamp false s.ran.call.op)
   spelled = call_body c s.from.frame s.ran.call s.from.is_call
@@ -245,17 +251,17 @@ module _ (c : Configuration) (trace : List Entry) (run : Run c trace) (x : Point
   whole_once Q at h =
       let n = at.holds.0 in
       let near : Once (λ past e. Q past e × (length past ≤ s.position)) (at.entry ∷ at.past) =
-          once_weaker (λ past e. Q past e × (length past < length (at.entry ∷ at.past))) (λ past e. Q past e × (length past ≤ s.position))
-              (λ past e t. (t.0, let l = t.1 in omega arith)) (at.entry ∷ at.past) (once_within Q (at.entry ∷ at.past) h) in
+      once_weaker (λ past e. Q past e × (length past < length (at.entry ∷ at.past))) (λ past e. Q past e × (length past ≤ s.position))
+      (λ past e t. (t.0, let l = t.1 in omega arith)) (at.entry ∷ at.past) (once_within Q (at.entry ∷ at.past) h) in
       subst (λ (t : List Entry). Once (λ past e. Q past e × (length past ≤ s.position)) t) (sym at.is) (once_append (λ past e. Q past e × (length past ≤ s.position)) at.later (at.entry ∷ at.past) near)
 
   pub ran_asked : Once (λ past e. Asks c x.item.client x.item.timestamp x.item.op past e × (length past ≤ x.item.position)) trace
   ran_asked =
       let at = source_asked in
       subst (λ (y : Point). Once (λ past e. Asks c y.item.client y.item.timestamp y.item.op past e × (length past ≤ y.item.position)) trace) (sym s.is)
-          (whole_once (Asks c (256 + s.ran.call.client) s.ran.call.timestamp s.ran.call.op) at
-              (once_weaker (AsksFrame c s.from.frame) (Asks c (256 + s.ran.call.client) s.ran.call.timestamp s.ran.call.op)
-                  (asks_request c s.from.frame (256 + s.ran.call.client) s.ran.call.timestamp s.ran.call.op spelled) (at.entry ∷ at.past) at.holds.1))
+      (whole_once (Asks c (256 + s.ran.call.client) s.ran.call.timestamp s.ran.call.op) at
+      (once_weaker (AsksFrame c s.from.frame) (Asks c (256 + s.ran.call.client) s.ran.call.timestamp s.ran.call.op)
+      (asks_request c s.from.frame (256 + s.ran.call.client) s.ran.call.timestamp s.ran.call.op spelled) (at.entry ∷ at.past) at.holds.1))
 
   pub ran_invoked : is_correct_client c x.item.client ≡ true → Once (λ past e. Invokes x.item.client x.item.timestamp x.item.op past e × (length past ≤ x.item.position)) trace
   ran_invoked correct =
@@ -266,5 +272,5 @@ module _ (c : Configuration) (trace : List Entry) (run : Run c trace) (x : Point
       let says = asks_said c (at.entry ∷ at.past) s.from.frame (asking (256 + s.ran.call.client) s.ran.call.timestamp false s.ran.call.op) here.runs spelled (correct_client c (256 + s.ran.call.client) client) at.holds.1 in
       let invoked = asked_op c (256 + s.ran.call.client) s.ran.call.timestamp false s.ran.call.op (history_of (256 + s.ran.call.client) (at.entry ∷ at.past)) (here.runs.clients (256 + s.ran.call.client) client) says in
       subst (λ (y : Point). Once (λ past e. Invokes y.item.client y.item.timestamp y.item.op past e × (length past ≤ y.item.position)) trace) (sym s.is)
-          (whole_once (Invokes (256 + s.ran.call.client) s.ran.call.timestamp s.ran.call.op) at
-              (invoked_in_trace (256 + s.ran.call.client) s.ran.call.timestamp s.ran.call.op (at.entry ∷ at.past) invoked))
+      (whole_once (Invokes (256 + s.ran.call.client) s.ran.call.timestamp s.ran.call.op) at
+      (invoked_in_trace (256 + s.ran.call.client) s.ran.call.timestamp s.ran.call.op (at.entry ∷ at.past) invoked))

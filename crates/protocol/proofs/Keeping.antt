@@ -62,6 +62,7 @@ frames_kept c k st (frame ∷ frames) cl kept h = go (call_of c frame) (frames_k
             → (kept_of st cl ≡ Some kept) ⊎ Has (Keeps cl kept k) (let x : Ran = record { call = call; kept = kept_by st k call } in x ∷ rest)
         pick o is (inl e) = let same : kept_by st k call ≡ kept = some_injective (kept_by st k call) kept (sym e.0 ∙ is) in inr (inl (same, e.1, sym (ap (λ (x : Kept). x.number) same), refl))
         pick o is (inr e) = inl (ap (option_and_then (λ (x : Option Kept). x)) e ∙ is)
+
     go : (o : Option Call) → (kept_of (option_map_or (run_call st k) o st) cl ≡ Some kept) ⊎ Has (Keeps cl kept k) (ran_in c k (run_frame c k st frame) frames)
         → (kept_of st cl ≡ Some kept) ⊎ Has (Keeps cl kept k) (option_map_or (ran_by st k) o [] ++ ran_in c k (run_frame c k st frame) frames)
     go None h = h
@@ -84,7 +85,7 @@ kept_ran c xs st k (suc n) cl kept is h =
     go (inr h) = inr (inr h)
     go (inl h) =
         let there : kept_of (fold (run_frame c k) st (requests_of (batch_of xs k))) cl ≡ Some kept =
-            ap (λ (i : ℕ). kept_of (fold (run_frame c i) st (requests_of (batch_of xs k))) cl) is ∙ sym (executed_kept c st (batch_of xs k) cl) ∙ h in
+        ap (λ (i : ℕ). kept_of (fold (run_frame c i) st (requests_of (batch_of xs k))) cl) is ∙ sym (executed_kept c st (batch_of xs k) cl) ∙ h in
         pick (frames_kept c k st (requests_of (batch_of xs k)) cl kept there)
       where
         pick : (kept_of st cl ≡ Some kept) ⊎ Has (Keeps cl kept k) (ran_in c k st (requests_of (batch_of xs k))) → (kept_of st cl ≡ Some kept) ⊎ RanBy c xs st k (suc n) (Keeps cl kept)
@@ -121,6 +122,7 @@ ran_here c k st (frame ∷ frames) x h = go (call_of c frame) h (ran_here c k (r
     test call false rest below h = below h
     test call true rest below (inl h) = inl (h, refl, refl)
     test call true rest below (inr h) = inr (below h)
+
     go : (o : Option Call) → Has (λ y. y ≡ x) (option_map_or (ran_by st k) o [] ++ ran_in c k (run_frame c k st frame) frames)
         → (Has (λ y. y ≡ x) (ran_in c k (run_frame c k st frame) frames) → Has (IsRun x k) (ran_in c k (run_frame c k st frame) frames))
         → Has (IsRun x k) (option_map_or (ran_by st k) o [] ++ ran_in c k (run_frame c k st frame) frames)
@@ -137,7 +139,6 @@ has_either P (x ∷ xs) ys (inr h) = go (has_either P xs ys h)
     go (inr k) = inr k
 
 module _ (c : Configuration) (xs : List Entry) (run : Run c xs) (r : ℕ) (correct : is_correct_replica c r ≡ true) where
-
   pub rans_ran : (history : List Entry) → ((k : ℕ) (b : List ℕ) → Once (ExecutesBatch c k b) history → Once (ExecutesBatch c k b) xs) → GoodAll c xs r history
       → (point : RightReplica.Point) → Leaves c r history point → (x : Ran) → Has (λ y. y ≡ x) point.ran → RanBy c xs opening 1 point.state.number (IsRun x)
   rans_ran [] emb good point leaves x h = absurd (subst (λ (p : RightReplica.Point). Has (λ y. y ≡ x) p.ran) leaves h)
@@ -145,6 +146,7 @@ module _ (c : Configuration) (xs : List Entry) (run : Run c xs) (r : ℕ) (corre
     where
       ran_same : (p : RightReplica.Point) → point ≡ p → p.ran ≡ [] → RanBy c xs opening 1 point.state.number (IsRun x)
       ran_same p e none = absurd (subst (λ (rans : List Ran). Has (λ y. y ≡ x) rans) (ap (λ (q : RightReplica.Point). q.ran) e ∙ none) h)
+
       go : (e : Entry) → party_of e ≡ r → ((k : ℕ) (b : List ℕ) → ExecutesBatch c k b past e → Once (ExecutesBatch c k b) xs) → May c r past leaves.0 e → Moves c r past leaves.0 e point
           → (Has (λ y. y ≡ x) leaves.0.ran → RanBy c xs opening 1 leaves.0.state.number (IsRun x)) → RanBy c xs opening 1 point.state.number (IsRun x)
       go (Got p bytes) own there may move below = ran_same (record leaves.0 { ran = []; waiting = waiting_after c r leaves.0 bytes }) move refl
@@ -163,6 +165,7 @@ module _ (c : Configuration) (xs : List Entry) (run : Run c xs) (r : ℕ) (corre
         where
           number : point.state.number ≡ suc leaves.0.state.number
           number = ap (λ (q : RightReplica.Point). q.state.number) move ∙ executed_number c leaves.0.state batch
+
           pick : Has (λ y. y ≡ x) leaves.0.ran ⊎ Has (λ y. y ≡ x) (ran_in c k leaves.0.state (requests_of batch)) → RanBy c xs opening 1 point.state.number (IsRun x)
           pick (inl u) = let n = number in let l : leaves.0.state.number ≤ point.state.number = omega arith in ran_by-more c xs opening 1 leaves.0.state.number point.state.number (IsRun x) l (below u)
           pick (inr u) =
@@ -208,10 +211,12 @@ ran_point c trace st k (suc n) (suc more) Q places l (inl h) =
     each p is [] h = absurd h
     each p is (x ∷ xs) (inl h) = inl (record { number = k; position = p; ran = x; is = refl; place = is; holds = h })
     each p is (x ∷ xs) (inr h) = inr (each p is xs h)
+
     none : (xs : List Ran) → Has (Q k) xs → first_position c trace k ≡ None → ⊥
     none [] h e = h
     none (x ∷ xs) (inl h) e = let p = places k x h in let bad : None ≡ Some p.0 = sym e ∙ p.1 in absurd cc
     none (x ∷ xs) (inr h) e = none xs h e
+
     go : (o : Option ℕ) → first_position c trace k ≡ o → Has (IsRanPoint c trace Q) (option_map_or (λ position. map (ordered_point position k) (ran_in c k st (requests_of (batch_of trace k)))) o [])
     go None is = absurd (none (ran_in c k st (requests_of (batch_of trace k))) h is)
     go (Some p) is = each p is (ran_in c k st (requests_of (batch_of trace k))) h
@@ -296,7 +301,7 @@ time_grows st k call cl l m = go (call.client == cl) refl
     go true e = let same : call.client ≡ cl = eqb-true call.client cl e in subst (λ (i : ℕ). last_time st i ≤ last_time (after_call st k call) i) same (let h = time_here st k call l in omega arith)
     go false e =
         let h : last_time (after_call st k call) cl ≡ last_time st cl = ap (λ (o : Option (Option Kept)). option_map_or (λ (kept : Kept). kept.timestamp) (option_and_then (λ (x : Option Kept). x) o) 0)
-            (set_there st.replies call.client cl (Some (kept_by st k call)) (eqb-false call.client cl e)) in omega arith
+        (set_there st.replies call.client cl (Some (kept_by st k call)) (eqb-false call.client cl e)) in omega arith
 
 call_small : (c : Configuration) → IsConfiguration c → (frame : List ℕ) (call : Call) → call_of c frame ≡ Some call → call.client < 256
 call_small c setting frame call h =
@@ -305,6 +310,7 @@ call_small c setting frame call h =
   where
     few : c.clients ≤ 256
     few = setting.clients
+
     go : (sender : ℕ) (message : Message) → call_in c (record { sender = sender; message = message }) ≡ Some call → call.client < 256
     go sender (Request t read_only op) h = test (not read_only && is_client c sender) refl h
       where
@@ -331,6 +337,7 @@ frames_full c k st (frame ∷ frames) full = frames_full c k (run_frame c k st f
     test : (call : Call) (b : Bool) → Full (cond b (after_call st k call) st)
     test call true = length_set st.replies call.client (Some (kept_by st k call)) ∙ full
     test call false = full
+
     go : (o : Option Call) → Full (option_map_or (run_call st k) o st)
     go None = full
     go (Some call) = test call (runs st call)
@@ -356,12 +363,18 @@ frames_differ c setting p k st (frame ∷ frames) rest full later differ = go (c
         let l : call.client < length st.replies = omega arith in
         let newer : last_time st call.client < call.timestamp = ltb-true (last_time st call.client) call.timestamp e in
         let r = below (length_set st.replies call.client (Some (kept_by st k call)) ∙ full) in
-        let xs : List Point = map (ordered_point p k) (ran_in c k (after_call st k call) frames) ++ rest in
-        ((λ cl is_cl. let n : call.client ≡ cl = omega arith in subst (λ (i : ℕ). last_time st i < call.timestamp) n newer,
-          all_weaker (Later (after_call st k call)) (Later st) (λ x h cl is_cl. let a = h cl is_cl in let g = time_grows st k call cl l newer in omega arith) xs r.0),
-         (all_weaker (Later (after_call st k call)) (Differ (ordered_point p k (record { call = call; kept = kept_by st k call })))
-            (λ x h same time. let a = h call.client (sym same) in let b = time_here st k call l in let t : call.timestamp ≡ x.item.timestamp = time in absurd (omega arith)) xs r.0,
-          r.1))
+        let xs : List Point = map (ordered_point p k) (ran_in c k (after_call st k call) frames) ++ rest in (
+          (
+            λ cl is_cl. let n : call.client ≡ cl = omega arith in subst (λ (i : ℕ). last_time st i < call.timestamp) n newer,
+            all_weaker (Later (after_call st k call)) (Later st) (λ x h cl is_cl. let a = h cl is_cl in let g = time_grows st k call cl l newer in omega arith) xs r.0,
+          ),
+          (
+            all_weaker (Later (after_call st k call)) (Differ (ordered_point p k (record { call = call; kept = kept_by st k call })))
+                (λ x h same time. let a = h call.client (sym same) in let b = time_here st k call l in let t : call.timestamp ≡ x.item.timestamp = time in absurd (omega arith)) xs r.0,
+            r.1,
+          ),
+        )
+
     go : (o : Option Call) → call_of c frame ≡ o → (Full (option_map_or (run_call st k) o st) → DifferWith p k rest (option_map_or (run_call st k) o st) (ran_in c k (option_map_or (run_call st k) o st) frames))
         → DifferWith p k rest st (option_map_or (ran_by st k) o [] ++ ran_in c k (option_map_or (run_call st k) o st) frames)
     go None is below = below full
@@ -384,12 +397,13 @@ points_differ c setting trace st k (suc more) is full =
         let a = h cl is_cl in
         let b = executed_times c st (batch_of trace k) cl in
         let d : last_time (fold (run_frame c k) st (requests_of (batch_of trace k))) cl ≡ last_time (fold (run_frame c (suc st.number)) st (requests_of (batch_of trace k))) cl =
-            ap (λ (i : ℕ). last_time (fold (run_frame c i) st (requests_of (batch_of trace k))) cl) is in
+        ap (λ (i : ℕ). last_time (fold (run_frame c i) st (requests_of (batch_of trace k))) cl) is in
         omega arith
+
     go : (o : Option ℕ) → first_position c trace k ≡ o
         → AllOf (Later (execute c st (batch_of trace k))) (ordered_points c trace (execute c st (batch_of trace k)) (suc k) more) × AllDiffer (ordered_points c trace (execute c st (batch_of trace k)) (suc k) more)
         → AllOf (Later st) (option_map_or (λ position. map (ordered_point position k) (ran_in c k st (requests_of (batch_of trace k)))) o [] ++ ordered_points c trace (execute c st (batch_of trace k)) (suc k) more)
-            × AllDiffer (option_map_or (λ position. map (ordered_point position k) (ran_in c k st (requests_of (batch_of trace k)))) o [] ++ ordered_points c trace (execute c st (batch_of trace k)) (suc k) more)
+        × AllDiffer (option_map_or (λ position. map (ordered_point position k) (ran_in c k st (requests_of (batch_of trace k)))) o [] ++ ordered_points c trace (execute c st (batch_of trace k)) (suc k) more)
     go None e below = rw (none_points c trace (execute c st (batch_of trace k)) (suc k) more (none_later c k trace e)) (tt, tt)
     go (Some p) e below = frames_differ c setting p k st (requests_of (batch_of trace k)) (ordered_points c trace (execute c st (batch_of trace k)) (suc k) more) full
         (all_weaker (Later (execute c st (batch_of trace k))) (Later (fold (run_frame c k) st (requests_of (batch_of trace k)))) moved (ordered_points c trace (execute c st (batch_of trace k)) (suc k) more) below.0) below.1

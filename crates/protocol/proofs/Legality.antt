@@ -28,11 +28,13 @@ legal_ran c position k st (frame ∷ frames) rest h = go (call_of c frame) refl 
   where
     after : (o : Option Call) → State
     after o = option_map_or (run_call st k) o st
+
     step : (call : Call) → (b : Bool)
         → LegalFrom (tuples (cond b (ran_call st k call) st)) (map (item_of position k) (ran_in c k (cond b (ran_call st k call) st) frames) ++ rest)
         → LegalFrom (tuples st) (map (item_of position k) (cond b (record { call = call; kept = kept_by st k call } ∷ []) [] ++ ran_in c k (cond b (ran_call st k call) st) frames) ++ rest)
     step call true below = (refl, subst (λ (t : List TupleTree). LegalFrom t (map (item_of position k) (ran_in c k (ran_call st k call) frames) ++ rest)) (tuples_of-state_after st.space call.op) below)
     step call false below = below
+
     go : (o : Option Call) → call_of c frame ≡ o
         → LegalFrom (tuples (option_map_or (run_call st k) o st)) (map (item_of position k) (ran_in c k (option_map_or (run_call st k) o st) frames) ++ rest)
         → LegalFrom (tuples st) (map (item_of position k) (option_map_or (ran_by st k) o [] ++ ran_in c k (option_map_or (run_call st k) o st) frames) ++ rest)
@@ -81,17 +83,18 @@ legal_ordered c trace st k (suc more) is = go (first_position c trace k) refl (l
   where
     next : suc k ≡ suc (execute c st (batch_of trace k)).number
     next = let n = executed_number c st (batch_of trace k) in omega arith
+
     go : (o : Option ℕ) → first_position c trace k ≡ o → LegalFrom (tuples (execute c st (batch_of trace k))) (map (λ (x : Point). x.item) (ordered_points c trace (execute c st (batch_of trace k)) (suc k) more))
         → LegalFrom (tuples st) (map (λ (x : Point). x.item) (option_map_or (λ position. map (ordered_point position k) (ran_in c k st (requests_of (batch_of trace k)))) o [] ++ ordered_points c trace (execute c st (batch_of trace k)) (suc k) more))
     go None e below = rw (none_points c trace (execute c st (batch_of trace k)) (suc k) more (none_later c k trace e)) tt
     go (Some position) e below =
         let rest : List Item = map (λ (x : Point). x.item) (ordered_points c trace (execute c st (batch_of trace k)) (suc k) more) in
         let at : LegalFrom (tuples (fold (run_frame c k) st (requests_of (batch_of trace k)))) (map (λ (x : Point). x.item) (ordered_points c trace (execute c st (batch_of trace k)) (suc k) more)) =
-            subst (λ (n : ℕ). LegalFrom (tuples (fold (run_frame c n) st (requests_of (batch_of trace k)))) (map (λ (x : Point). x.item) (ordered_points c trace (execute c st (batch_of trace k)) (suc k) more))) (sym is)
-                (subst (λ (t : List TupleTree). LegalFrom t (map (λ (x : Point). x.item) (ordered_points c trace (execute c st (batch_of trace k)) (suc k) more))) (executed_tuples c st (batch_of trace k)) below) in
+        subst (λ (n : ℕ). LegalFrom (tuples (fold (run_frame c n) st (requests_of (batch_of trace k)))) (map (λ (x : Point). x.item) (ordered_points c trace (execute c st (batch_of trace k)) (suc k) more))) (sym is)
+        (subst (λ (t : List TupleTree). LegalFrom t (map (λ (x : Point). x.item) (ordered_points c trace (execute c st (batch_of trace k)) (suc k) more))) (executed_tuples c st (batch_of trace k)) below) in
         let ran = legal_ran c position k st (requests_of (batch_of trace k)) (map (λ (x : Point). x.item) (ordered_points c trace (execute c st (batch_of trace k)) (suc k) more)) at in
         let shape : map (λ (x : Point). x.item) (map (ordered_point position k) (ran_in c k st (requests_of (batch_of trace k))) ++ ordered_points c trace (execute c st (batch_of trace k)) (suc k) more)
-                ≡ map (item_of position k) (ran_in c k st (requests_of (batch_of trace k))) ++ map (λ (x : Point). x.item) (ordered_points c trace (execute c st (batch_of trace k)) (suc k) more) =
-            map_items (map (ordered_point position k) (ran_in c k st (requests_of (batch_of trace k)))) (ordered_points c trace (execute c st (batch_of trace k)) (suc k) more)
-            ∙ ap (λ t. t ++ map (λ (x : Point). x.item) (ordered_points c trace (execute c st (batch_of trace k)) (suc k) more)) (ran_items position k (ran_in c k st (requests_of (batch_of trace k)))) in
+        ≡ map (item_of position k) (ran_in c k st (requests_of (batch_of trace k))) ++ map (λ (x : Point). x.item) (ordered_points c trace (execute c st (batch_of trace k)) (suc k) more) =
+        map_items (map (ordered_point position k) (ran_in c k st (requests_of (batch_of trace k)))) (ordered_points c trace (execute c st (batch_of trace k)) (suc k) more)
+        ∙ ap (λ t. t ++ map (λ (x : Point). x.item) (ordered_points c trace (execute c st (batch_of trace k)) (suc k) more)) (ran_items position k (ran_in c k st (requests_of (batch_of trace k)))) in
         subst (λ (t : List Item). LegalFrom (tuples st) t) (sym shape) ran

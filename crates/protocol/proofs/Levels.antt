@@ -21,7 +21,7 @@ many_correct c setting =
     let few = setting.few in
     let all : count_below (is_faulty_replica c) (3 * c.faults + 1) + count_below (λ k. not (is_faulty_replica c k)) (3 * c.faults + 1) ≡ 3 * c.faults + 1 = count_not (is_faulty_replica c) (3 * c.faults + 1) in
     let more : count_below (λ k. not (is_faulty_replica c k)) (3 * c.faults + 1) ≤ count_below (is_correct_replica c) (3 * c.faults + 1) =
-        count_mono (λ k. not (is_faulty_replica c k)) (is_correct_replica c) (3 * c.faults + 1) (λ k l h. and_from (is_replica c k) (not (is_faulty_replica c k)) (lt-ltb k (3 * c.faults + 1) l) h) in
+    count_mono (λ k. not (is_faulty_replica c k)) (is_correct_replica c) (3 * c.faults + 1) (λ k l h. and_from (is_replica c k) (not (is_faulty_replica c k)) (lt-ltb k (3 * c.faults + 1) l) h) in
     omega arith
 
 -- ---- what was reached stays
@@ -67,11 +67,10 @@ module _ (c : Configuration) (setting : IsConfiguration c) (before after : List 
     (enough : 2 * c.faults + 1 ≤ count_below answered (3 * c.faults + 1))
     (high : (s : ℕ) → is_correct_replica c s ≡ true → answered s ≡ true → r ≤ reached after s)
     (low : (s : ℕ) → is_correct_replica c s ≡ true → answered s ≡ true → reached before s ≤ r) where
-
   correct_answers : count_correct c ≤ count_below (λ s. is_correct_replica c s && answered s) (3 * c.faults + 1) + c.faults
   correct_answers =
       let meet : count_below (is_correct_replica c) (3 * c.faults + 1) + count_below answered (3 * c.faults + 1) ≤ 3 * c.faults + 1 + count_below (λ s. is_correct_replica c s && answered s) (3 * c.faults + 1) =
-          two_meet (is_correct_replica c) answered (3 * c.faults + 1) in
+      two_meet (is_correct_replica c) answered (3 * c.faults + 1) in
       omega arith
 
   pub level_after : is_level c after r ≡ true
@@ -88,20 +87,21 @@ module _ (c : Configuration) (setting : IsConfiguration c) (before after : List 
   pub level_before : (k : ℕ) → r < k → is_level c before k ≡ true → ⊥
   level_before k above h =
       let had : count_correct c ≤ count_below (λ s. is_correct_replica c s && nat_le k (reached before s)) (3 * c.faults + 1) + c.faults =
-          leb-true (count_correct c) (count_below (has_reached c before k) (3 * c.faults + 1) + c.faults) h in
+      leb-true (count_correct c) (count_below (has_reached c before k) (3 * c.faults + 1) + c.faults) h in
       let more = count_mono (λ s. is_correct_replica c s && answered s) (λ s. is_correct_replica c s && nat_le (reached before s) r) (3 * c.faults + 1) keeps in
       let a = correct_answers in
       let both : count_below (λ s. is_correct_replica c s && nat_le (reached before s) r) (3 * c.faults + 1) + count_below (λ s. is_correct_replica c s && nat_le k (reached before s)) (3 * c.faults + 1)
-              ≤ count_below (is_correct_replica c) (3 * c.faults + 1) + count_below (λ s. is_correct_replica c s && (nat_le (reached before s) r && nat_le k (reached before s))) (3 * c.faults + 1) =
-          two_within (is_correct_replica c) (λ s. nat_le (reached before s) r) (λ s. nat_le k (reached before s)) (3 * c.faults + 1) in
+      ≤ count_below (is_correct_replica c) (3 * c.faults + 1) + count_below (λ s. is_correct_replica c s && (nat_le (reached before s) r && nat_le k (reached before s))) (3 * c.faults + 1) =
+      two_within (is_correct_replica c) (λ s. nat_le (reached before s) r) (λ s. nat_le k (reached before s)) (3 * c.faults + 1) in
       let none : count_below (λ s. is_correct_replica c s && (nat_le (reached before s) r && nat_le k (reached before s))) (3 * c.faults + 1) ≡ 0 =
-          count_none (λ s. is_correct_replica c s && (nat_le (reached before s) r && nat_le k (reached before s))) (3 * c.faults + 1) apart in
+      count_none (λ s. is_correct_replica c s && (nat_le (reached before s) r && nat_le k (reached before s))) (3 * c.faults + 1) apart in
       let many = many_correct c setting in
       omega arith
     where
       keeps : (s : ℕ) → s < 3 * c.faults + 1 → (is_correct_replica c s && answered s) ≡ true → (is_correct_replica c s && nat_le (reached before s) r) ≡ true
       keeps s l g = let p = and_parts (is_correct_replica c s) (answered s) g in
           and_from (is_correct_replica c s) (nat_le (reached before s) r) p.0 (le-leb (reached before s) r (low s p.0 p.1))
+
       apart : (s : ℕ) → (is_correct_replica c s && (nat_le (reached before s) r && nat_le k (reached before s))) ≡ false
       apart s = and_right (is_correct_replica c s) (nat_le (reached before s) r && nat_le k (reached before s)) (false_from_ne_true (nat_le (reached before s) r && nat_le k (reached before s)) both_ways)
         where
@@ -126,6 +126,7 @@ reached_history r (e ∷ xs) = go (party_of e == r) refl (reached_history r xs)
     outside (Tick x) h = refl
     outside (Sent x y) h = refl
     outside (Accepted x y z) h = refl
+
     go : (b : Bool) → (party_of e == r) ≡ b → reached (history_of r xs) r ≡ reached xs r → reached (cond b (e ∷ history_of r xs) (history_of r xs)) r ≡ max (reached_at r e) (reached xs r)
     go true is below = ap (λ n. max (reached_at r e) n) below
     go false is below = let z = outside e is in omega arith

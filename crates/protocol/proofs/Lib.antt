@@ -31,4 +31,5 @@ pub mod Keeping
 pub mod Invoking
 pub mod Accepting
 pub mod Readings
+pub mod Reacting
 pub mod Whole

@@ -65,6 +65,7 @@ ran_number c k st (frame ∷ frames) ran h = go (call_of c frame) h (ran_number 
     test call true rest (inl e) below = sym (ap (λ (x : Ran). x.kept.number) e)
     test call true rest (inr e) below = below e
     test call false rest e below = below e
+
     go : (o : Option Call) → Has (λ x. x ≡ ran) (option_map_or (ran_by st k) o [] ++ ran_in c k (run_frame c k st frame) frames)
         → (Has (λ x. x ≡ ran) (ran_in c k (run_frame c k st frame) frames) → ran.kept.number ≡ k) → ran.kept.number ≡ k
     go None h below = below h
@@ -111,6 +112,7 @@ ran_at_most c r (e ∷ past) point h x k = go e h.2.may h.2.moves (ran_at_most c
   where
     at : (new : RightReplica.Point) → point ≡ new → Has (λ y. y ≡ x) new.ran
     at new is = subst (λ (p : RightReplica.Point). Has (λ y. y ≡ x) p.ran) is k
+
     go : (e : Entry) → May c r past h.0 e → Moves c r past h.0 e point → (Has (λ y. y ≡ x) h.0.ran → x.kept.number ≤ h.0.state.number) → x.kept.number ≤ point.state.number
     go (Got p bytes) may move below = absurd (at (record h.0 { ran = []; waiting = waiting_after c r h.0 bytes }) move)
     go (Tick p) may move below = absurd (at (record h.0 { ran = [] }) move)
@@ -121,6 +123,7 @@ ran_at_most c r (e ∷ past) point h x k = go e h.2.may h.2.moves (ran_at_most c
       where
         number : point.state.number ≡ suc h.0.state.number
         number = ap (λ (q : RightReplica.Point). q.state.number) move ∙ executed_number c h.0.state batch
+
         pick : Has (λ y. y ≡ x) h.0.ran ⊎ Has (λ y. y ≡ x) (ran_in c j h.0.state (requests_of batch)) → x.kept.number ≤ point.state.number
         pick (inl a) = let m = below a in let n = number in omega arith
         pick (inr a) = let m = ran_number c j h.0.state (requests_of batch) x a in let j_is = may.next in let n = number in omega arith
@@ -140,6 +143,7 @@ says_ordered c trace s p t number answer past (Sent q bytes) r good h =
   where
     at : r.point.state.number ≡ reached past s
     at = number_reached c s past r.point r.leaves
+
     go : MayReply c s past r.point p t false number answer → number ≤ reached past s
     go (inl h) =
         let x = has_some (λ (ran : Ran). RepliesTo p t number answer ran.call.client ran.kept) r.point.ran h in
@@ -157,11 +161,11 @@ ordered_reached : (c : Configuration) → IsConfiguration c → (s p t number : 
 ordered_reached c setting s p t number answer xs runs apart correct h =
     let goods = states_agree c setting xs runs.replicas runs.unforged apart s correct in
     let there : number ≤ reached (history_of s xs) s =
-        once_stays (λ past. number ≤ reached past s) (λ e past k. let g = reached_grows e past s in omega arith) (history_of s xs)
-            (once_weaker (λ past e. GoodHere c xs s past × (RightAt c s past e × Speaks (ordering s p t number answer) past e × Always (RightAt c s) past) × Always (λ past e. GoodHere c xs s past) past) (λ past e. number ≤ reached past s)
-                (λ past e u. says_ordered c xs s p t number answer past e u.1.0 u.0 u.1.1) (history_of s xs)
-                (once_always (λ past e. GoodHere c xs s past) (λ past e. RightAt c s past e × Speaks (ordering s p t number answer) past e × Always (RightAt c s) past) (history_of s xs) goods.1
-                    (once_right c s (Speaks (ordering s p t number answer)) (history_of s xs) (runs.replicas s correct) h))) in
+    once_stays (λ past. number ≤ reached past s) (λ e past k. let g = reached_grows e past s in omega arith) (history_of s xs)
+    (once_weaker (λ past e. GoodHere c xs s past × (RightAt c s past e × Speaks (ordering s p t number answer) past e × Always (RightAt c s) past) × Always (λ past e. GoodHere c xs s past) past) (λ past e. number ≤ reached past s)
+    (λ past e u. says_ordered c xs s p t number answer past e u.1.0 u.0 u.1.1) (history_of s xs)
+    (once_always (λ past e. GoodHere c xs s past) (λ past e. RightAt c s past e × Speaks (ordering s p t number answer) past e × Always (RightAt c s) past) (history_of s xs) goods.1
+    (once_right c s (Speaks (ordering s p t number answer)) (history_of s xs) (runs.replicas s correct) h))) in
     let same = reached_history s xs in omega arith
 
 vote_body : (me t s : ℕ) (vote : Vote) (sender : ℕ) (message : Message) → vote_of me t s (record { sender = sender; message = message }) ≡ Some vote → vote.read_only ≡ false

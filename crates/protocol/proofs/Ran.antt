@@ -68,9 +68,11 @@ ran_frames c k st (frame ∷ frames) = go (call_of c frame) refl (all_weaker (Fr
   where
     more : (x : Ran) → FromFrame c frames x → FromFrame c (frame ∷ frames) x
     more x f = record { frame = f.frame; is_there = inr f.is_there; is_call = f.is_call; time = f.time }
+
     test : (call : Call) → call_of c frame ≡ Some call → (b : Bool) (rest : List Ran) → AllOf (FromFrame c (frame ∷ frames)) rest → AllOf (FromFrame c (frame ∷ frames)) (cond b (record { call = call; kept = kept_by st k call } ∷ []) [] ++ rest)
     test call is true rest a = (record { frame = frame; is_there = inl refl; is_call = is; time = refl }, a)
     test call is false rest a = a
+
     go : (o : Option Call) → call_of c frame ≡ o → AllOf (FromFrame c (frame ∷ frames)) (ran_in c k (run_frame c k st frame) frames)
         → AllOf (FromFrame c (frame ∷ frames)) (option_map_or (ran_by st k) o [] ++ ran_in c k (run_frame c k st frame) frames)
     go None is a = a
@@ -92,14 +94,14 @@ ordered_sources c trace st k (suc more) = all_append (Source c trace) _ _ (go (f
     go None is = tt
     go (Some p) is = has_map_all (Source c trace) (ordered_point p k) (ran_in c k st (requests_of (batch_of trace k)))
         (all_weaker (FromFrame c (requests_of (batch_of trace k))) (λ x. Source c trace (ordered_point p k x)) (λ x f. record { ran = x; position = p; number = k; is = refl; from = f; place = is })
-            (ran_in c k st (requests_of (batch_of trace k))) (ran_frames c k st (requests_of (batch_of trace k))))
+        (ran_in c k st (requests_of (batch_of trace k))) (ran_frames c k st (requests_of (batch_of trace k))))
 
 pub source_ordered : (c : Configuration) (trace : List Entry) (x : Point) → Source c trace x → IsOrdered (first_position c trace) x
 source_ordered c trace x s = subst (IsOrdered (first_position c trace)) (sym s.is) (record {
-    stands = record { at = s.position; is_at = s.place; after = omega arith; before = before };
-    exact = omega arith;
-    kind = refl;
-  })
+  stands = record { at = s.position; is_at = s.place; after = omega arith; before = before };
+  exact = omega arith;
+  kind = refl;
+})
   where
     before : (k p : ℕ) → s.number < k → first_position c trace k ≡ Some p → s.position ≤ p
     before k p l h = let m : s.number ≤ k = omega arith in let t = place_lower c trace s.number k p m h in let e : s.position ≡ t.0 = some_injective s.position t.0 (sym s.place ∙ t.1) in let b = t.2 in omega arith
@@ -108,11 +110,12 @@ pub points_from : (c : Configuration) (trace : List Entry) (st : State) (k more 
 points_from c trace st k zero = tt
 points_from c trace st k (suc more) =
     all_append (λ x. k ≤ x.number) _ _ (go (first_position c trace k))
-        (all_weaker (λ x. suc k ≤ x.number) (λ x. k ≤ x.number) (λ x l. omega arith) (ordered_points c trace (execute c st (batch_of trace k)) (suc k) more) (points_from c trace (execute c st (batch_of trace k)) (suc k) more))
+    (all_weaker (λ x. suc k ≤ x.number) (λ x. k ≤ x.number) (λ x l. omega arith) (ordered_points c trace (execute c st (batch_of trace k)) (suc k) more) (points_from c trace (execute c st (batch_of trace k)) (suc k) more))
   where
     each : (p : ℕ) (xs : List Ran) → AllOf (λ x. k ≤ x.number) (map (ordered_point p k) xs)
     each p [] = tt
     each p (x ∷ xs) = (omega arith, each p xs)
+
     go : (o : Option ℕ) → AllOf (λ x. k ≤ x.number) (option_map_or (λ position. map (ordered_point position k) (ran_in c k st (requests_of (batch_of trace k)))) o [])
     go None = tt
     go (Some p) = each p (ran_in c k st (requests_of (batch_of trace k)))
@@ -128,6 +131,7 @@ points_ascend c trace st k (suc more) = go (first_position c trace k) (points_as
         same : (xs : List Ran) → AllOf (λ y. k ≤ y.number) (map (ordered_point p k) xs)
         same [] = tt
         same (y ∷ ys) = (omega arith, same ys)
+
     go : (o : Option ℕ) → Ascends (λ x. x.number) (ordered_points c trace (execute c st (batch_of trace k)) (suc k) more) → AllOf (λ x. suc k ≤ x.number) (ordered_points c trace (execute c st (batch_of trace k)) (suc k) more)
         → Ascends (λ x. x.number) (option_map_or (λ position. map (ordered_point position k) (ran_in c k st (requests_of (batch_of trace k)))) o [] ++ ordered_points c trace (execute c st (batch_of trace k)) (suc k) more)
     go None a l = a
@@ -149,9 +153,10 @@ ran_tuples c position k r st (frame ∷ frames) l = go (call_of c frame) refl (r
     step call false below = below
     step call true below =
         let e1 : cond (nat_le k r) (after_item (tuples st) (ordered_point position k (record { call = call; kept = kept_by st k call })).item) (tuples st) ≡ tuples_after (tuples st) call.op =
-            ap (λ (b : Bool). cond b (tuples_after (tuples st) call.op) (tuples st)) (le-leb k r l) in
+        ap (λ (b : Bool). cond b (tuples_after (tuples st) call.op) (tuples st)) (le-leb k r l) in
         let e2 : tuples_after (tuples st) call.op ≡ tuples (ran_call st k call) = sym (tuples_of-state_after st.space call.op) in
         ap (λ (t : List TupleTree). tuples_at r t (map (ordered_point position k) (ran_in c k (ran_call st k call) frames))) (e1 ∙ e2) ∙ below
+
     go : (o : Option Call) → call_of c frame ≡ o
         → tuples_at r (tuples (option_map_or (run_call st k) o st)) (map (ordered_point position k) (ran_in c k (option_map_or (run_call st k) o st) frames)) ≡ tuples (fold (run_frame c k) (option_map_or (run_call st k) o st) frames)
         → tuples_at r (tuples st) (map (ordered_point position k) (option_map_or (ran_by st k) o [] ++ ran_in c k (option_map_or (run_call st k) o st) frames)) ≡ tuples (fold (run_frame c k) (option_map_or (run_call st k) o st) frames)
@@ -178,7 +183,7 @@ tuples_by c trace st k (suc more) (suc n) r is at le places =
     let le' : n ≤ more = omega arith in
     let rest = tuples_by c trace (execute c st (batch_of trace k)) (suc k) more n r is' at' le' (λ j a b. let l : k ≤ j = omega arith in places j l b) in
     let first : tuples_at r (tuples st) (map (ordered_point p.0 k) (ran_in c k st (requests_of (batch_of trace k)))) ≡ tuples (execute c st (batch_of trace k)) =
-        ran_tuples c p.0 k r st (requests_of (batch_of trace k)) there ∙ ap (λ (x : ℕ). tuples (fold (run_frame c x) st (requests_of (batch_of trace k)))) is ∙ sym (executed_tuples c st (batch_of trace k)) in
+    ran_tuples c p.0 k r st (requests_of (batch_of trace k)) there ∙ ap (λ (x : ℕ). tuples (fold (run_frame c x) st (requests_of (batch_of trace k)))) is ∙ sym (executed_tuples c st (batch_of trace k)) in
     ap (λ (o : Option ℕ). tuples_at r (tuples st) (option_map_or (λ position. map (ordered_point position k) (ran_in c k st (requests_of (batch_of trace k)))) o [] ++ ordered_points c trace (execute c st (batch_of trace k)) (suc k) more)) p.1
     ∙ tuples_append r (tuples st) (map (ordered_point p.0 k) (ran_in c k st (requests_of (batch_of trace k)))) (ordered_points c trace (execute c st (batch_of trace k)) (suc k) more)
     ∙ ap (λ (t : List TupleTree). tuples_at r t (ordered_points c trace (execute c st (batch_of trace k)) (suc k) more)) first

@@ -31,10 +31,10 @@ pub record Runs (c : Configuration) (xs : List Entry) : Type 0 where
 
 pub runs_earlier : (c : Configuration) (e : Entry) (xs : List Entry) → Runs c (e ∷ xs) → Runs c xs
 runs_earlier c e xs r = record {
-    unforged = r.unforged.1;
-    replicas = λ p h. right_append c p (e ∷ []) xs (r.replicas p h);
-    clients = λ p h. go p (party_of e == p) (r.clients p h);
-  }
+  unforged = r.unforged.1;
+  replicas = λ p h. right_append c p (e ∷ []) xs (r.replicas p h);
+  clients = λ p h. go p (party_of e == p) (r.clients p h);
+}
   where
     go : (p : ℕ) (b : Bool) → RightClient c p (cond b (e ∷ history_of p xs) (history_of p xs)) → RightClient c p (history_of p xs)
     go p true h = h.1
@@ -133,19 +133,20 @@ pub read_answered : (c : Configuration) (s p t number : ℕ) (answer : Outcome) 
 unfolding Answered ReadAt
 read_answered c s p t number answer xs runs correct client h =
     let reads : Once (ReadAt c s p t number) (history_of s xs) =
-        once_weaker (λ past e. RightAt c s past e × Speaks (replying s p t number answer) past e × Always (RightAt c s) past) (ReadAt c s p t number)
-            (λ past e u. says_read c s p t number answer past e u.0 u.1) (history_of s xs)
-            (once_right c s (Speaks (replying s p t number answer)) (history_of s xs) (runs.replicas s correct) h) in
+    once_weaker (λ past e. RightAt c s past e × Speaks (replying s p t number answer) past e × Always (RightAt c s) past) (ReadAt c s p t number)
+    (λ past e u. says_read c s p t number answer past e u.0 u.1) (history_of s xs)
+    (once_right c s (Speaks (replying s p t number answer)) (history_of s xs) (runs.replicas s correct) h) in
     once_weaker (λ past e. Runs c past × ((party_of e ≡ s) × ReadAt c s p t number (history_of s past) e)) (Answered s p t number) step xs
-        (once_runs c (λ past e. (party_of e ≡ s) × ReadAt c s p t number (history_of s past) e) xs runs (once_in_trace (ReadAt c s p t number) s xs reads))
+    (once_runs c (λ past e. (party_of e ≡ s) × ReadAt c s p t number (history_of s past) e) xs runs (once_in_trace (ReadAt c s p t number) s xs reads))
   where
     step : (past : List Entry) (e : Entry) → Runs c past × ((party_of e ≡ s) × ((reached (history_of s past) s ≡ number) × ((text : Operation) × Once (Hears c s (asking p t true text)) (history_of s past))))
         → (reached past s ≡ number) × Once (InvokesAt p t) past
     step past e u =
         let said' = heard_was_said c past s (asking p t true u.1.1.1.0) u.0.unforged (correct_replica c s correct) (correct_client c p client) u.1.1.1.1 in
-        let invoked = asked_invoked c p t true u.1.1.1.0 (history_of p past) (u.0.clients p client) said' in
-        (sym (reached_history s past) ∙ u.1.1.0,
-         once_weaker (λ past e. (party_of e ≡ p) × InvokesAt p t (history_of p past) e) (InvokesAt p t) (invokes_any p t p) past (once_in_trace (InvokesAt p t) p past invoked))
+        let invoked = asked_invoked c p t true u.1.1.1.0 (history_of p past) (u.0.clients p client) said' in (
+          sym (reached_history s past) ∙ u.1.1.0,
+          once_weaker (λ past e. (party_of e ≡ p) × InvokesAt p t (history_of p past) e) (InvokesAt p t) (invokes_any p t p) past (once_in_trace (InvokesAt p t) p past invoked),
+        )
 
 -- ---- the votes of a client
 
@@ -281,7 +282,7 @@ at_latest c s p t number [] runs client is h = absurd h
 at_latest c s p t number (Invoke x timestamp op ∷ past) runs client is (inl h) = rw (eq-eqb (256 + x) p h.0.0) h.1
 at_latest c s p t number (Invoke x timestamp op ∷ past) runs client is (inr h) =
     go (256 + x == p) refl is (at_latest c s p t number past (runs_earlier c (Invoke x timestamp op) past runs) client)
-        (invoked_le c p t past (runs_earlier c (Invoke x timestamp op) past runs) client (once_weaker (InvokedLow s p t number) (InvokesAt p t) (λ past e u. u.0) past h))
+    (invoked_le c p t past (runs_earlier c (Invoke x timestamp op) past runs) client (once_weaker (InvokedLow s p t number) (InvokesAt p t) (λ past e u. u.0) past h))
   where
     go : (b : Bool) → (256 + x == p) ≡ b → cond b timestamp (last_of p past) ≡ t → (last_of p past ≡ t → Once (InvokedLow s p t number) past → reached (invoke_past p past) s ≤ number) → t ≤ last_of p past
         → reached (cond b past (invoke_past p past)) s ≤ number
@@ -325,7 +326,6 @@ answered_high s p t number (e ∷ past) (inr h) = let g = reached_grows e past s
 module _ (c : Configuration) (setting : IsConfiguration c) (past : List Entry) (runs : Runs c past) (p t : ℕ) (client : is_correct_client c p ≡ true) (vote : Vote)
     (read_only : vote.read_only ≡ true) (open' : last_of p past ≡ t)
     (enough : 2 * c.faults + 1 ≤ count_below (λ s. is_alike vote (latest c p (history_of p past) t true s)) (3 * c.faults + 1)) where
-
   answers : (s : ℕ) → is_correct_replica c s ≡ true → is_alike vote (latest c p (history_of p past) t true s) ≡ true → Once (Answered s p t vote.number) past
   answers s correct h = go (latest c p (history_of p past) t true s) refl h
     where

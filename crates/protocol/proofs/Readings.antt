@@ -31,11 +31,16 @@ use Rattle.tuple_codec.specs.Operations.{Outcome, Operation}
 
 abbrev pub read_of : Configuration → List Entry → ℕ → OpenCall → Outcome → List Entry → Vote → Point
 read_of c trace p call a past vote = record {
-    item = record { client = p; timestamp = call.timestamp; op = call.op; answer = a;
-        position = max (invoked_at p past) (option_map_or (λ x. x) (first_position c trace vote.number) 0) };
-    number = vote.number;
-    read_only = true;
-  }
+  item = record {
+    client = p;
+    timestamp = call.timestamp;
+    op = call.op;
+    answer = a;
+    position = max (invoked_at p past) (option_map_or (λ x. x) (first_position c trace vote.number) 0);
+  };
+  number = vote.number;
+  read_only = true;
+}
 
 -- the point is that of the read accepted at the entry
 abbrev pub MadeAt : Configuration → List Entry → Point → List Entry → Entry → Type 0
@@ -117,7 +122,7 @@ not_again : (c : Configuration) (b d : Bool) (p t : ℕ) (past : List Entry) (e 
 not_again c b d p t past (Accepted x y z) run h k =
     let r = kind_accepts c d p t past k in
     accepted_once c past (256 + x) y z r.0 (accepting c past x y z run)
-        (subst (λ (i : ℕ). Once (Accepts i y r.0) past) (sym h.0) (subst (λ (i : ℕ). Once (Accepts p i r.0) past) (sym h.1) r.1))
+    (subst (λ (i : ℕ). Once (Accepts i y r.0) past) (sym h.0) (subst (λ (i : ℕ). Once (Accepts p i r.0) past) (sym h.1) r.1))
 not_again c b d p t past (Invoke x y z) run h k = h
 not_again c b d p t past (Got x y) run h k = h
 not_again c b d p t past (Tick x) run h k = h
@@ -168,14 +173,15 @@ reads_differ c trace (Accepted cl t a ∷ past) run = go (made_option c trace (2
   where
     go : (o : Option Point) → made_option c trace (256 + cl) t a past ≡ o → AllDiffer (read_points c trace past) → AllDiffer (option_map_or (λ point. point ∷ []) o [] ++ read_points c trace past)
     go None is rest = rest
-    go (Some y) is rest =
-        (all_weaker (λ z. Once (MadeAt c trace z) past) (Differ y) (λ z h same time.
-                let k = kind_made c trace y past (Accepted cl t a) run (made_here c trace y past cl t a is) in
-                let early = made_kind c trace z past (run_earlier c (Accepted cl t a) past run) h in
-                let moved : Once (KindAt c true y.item.client y.item.timestamp) past = subst (λ (i : ℕ). Once (KindAt c true i y.item.timestamp) past) (sym same) (subst (λ (i : ℕ). Once (KindAt c true z.item.client i) past) (sym time) early) in
-                not_again c true true y.item.client y.item.timestamp past (Accepted cl t a) run k moved)
-            (read_points c trace past) (reads_made c trace past),
-         rest)
+    go (Some y) is rest = (
+      all_weaker (λ z. Once (MadeAt c trace z) past) (Differ y) (λ z h same time.
+          let k = kind_made c trace y past (Accepted cl t a) run (made_here c trace y past cl t a is) in
+          let early = made_kind c trace z past (run_earlier c (Accepted cl t a) past run) h in
+          let moved : Once (KindAt c true y.item.client y.item.timestamp) past = subst (λ (i : ℕ). Once (KindAt c true i y.item.timestamp) past) (sym same) (subst (λ (i : ℕ). Once (KindAt c true z.item.client i) past) (sym time) early) in
+          not_again c true true y.item.client y.item.timestamp past (Accepted cl t a) run k moved)
+          (read_points c trace past) (reads_made c trace past),
+      rest,
+    )
 reads_differ c trace (Invoke x y z ∷ past) run = reads_differ c trace past (run_earlier c (Invoke x y z) past run)
 reads_differ c trace (Got x y ∷ past) run = reads_differ c trace past (run_earlier c (Got x y) past run)
 reads_differ c trace (Tick x ∷ past) run = reads_differ c trace past (run_earlier c (Tick x) past run)
@@ -274,7 +280,6 @@ pub record ReadFacts (c : Configuration) (trace : List Entry) (y : Point) : Type
   pub right : IsReadAt (tuples_at y.number [] (all_ordered c trace)) y.item
 
 module _ (c : Configuration) (trace : List Entry) (run : Run c trace) (later past : List Entry) (e : Entry) (is : trace ≡ later ++ e ∷ past) (p t : ℕ) (a : Outcome) (x : Accepting c past p t a) where
-
   place : (q : ℕ) × (first_position c trace x.vote.number ≡ Some q) × (q < length past)
   place = accepted_place c trace later past e p t a is x
 
@@ -301,7 +306,7 @@ module _ (c : Configuration) (trace : List Entry) (run : Run c trace) (later pas
       go (inr (inr m)) =
           let r = invoke_behind p past in
           let shape : trace ≡ (later ++ e ∷ r.0) ++ invoke_past p past =
-              is ∙ ap (λ (ys : List Entry). later ++ e ∷ ys) r.1 ∙ sym (append_assoc later (e ∷ r.0) (invoke_past p past)) in
+          is ∙ ap (λ (ys : List Entry). later ++ e ∷ ys) r.1 ∙ sym (append_assoc later (e ∷ r.0) (invoke_past p past)) in
           let n = invoked_length p past in
           let near : q < length (invoke_past p past) = omega arith in
           let up : is_level c (invoke_past p past) k ≡ true = level_behind c (later ++ e ∷ r.0) (invoke_past p past) k q (subst (λ (ys : List Entry). first_position c ys k ≡ Some q) shape h) near in
@@ -324,30 +329,36 @@ module _ (c : Configuration) (trace : List Entry) (run : Run c trace) (later pas
       let r = replied c trace v.replica p t x.vote.read_only x.vote.number x.vote.answer run v.is_correct there in
       let reply = read_replied c trace v.replica p t x.vote.number x.vote.answer run v.is_correct x.client (subst (λ (b : Bool). Accepting.Replied c trace v.replica p t b x.vote.number x.vote.answer) kind r) in
       let own : Once (Invokes p t x.call.op) (history_of p trace) =
-          embedded (Invokes p t x.call.op) p trace later past e is (subst (λ (i : ℕ). Once (Invokes p i x.call.op) (history_of p past)) x.time (opened_invoked c p x.call (history_of p past) (x.run.runs.clients p x.client) x.opened)) in
+      embedded (Invokes p t x.call.op) p trace later past e is (subst (λ (i : ℕ). Once (Invokes p i x.call.op) (history_of p past)) x.time (opened_invoked c p x.call (history_of p past) (x.run.runs.clients p x.client) x.opened)) in
       let same : reply.op ≡ x.call.op = one_invocation c p t reply.op x.call.op (history_of p trace) (run.runs.clients p x.client) reply.invoked own in
       let number : x.vote.number ≡ opening.number + x.vote.number = omega arith in
       let state : tuples_at x.vote.number [] (all_ordered c trace) ≡ tuples (state_by c trace opening 1 x.vote.number) =
-          tuples_by c trace opening 1 (last_executed trace) x.vote.number x.vote.number refl number at_most (λ j l m. let u = place_lower c trace j x.vote.number q.0 m q.1 in (u.0, u.1)) in
+      tuples_by c trace opening 1 (last_executed trace) x.vote.number x.vote.number refl number at_most (λ j l m. let u = place_lower c trace j x.vote.number q.0 m q.1 in (u.0, u.1)) in
       record {
-        stands = record { at = q.0; is_at = q.1; after = omega arith; before = λ k w l h.
-            let m : x.vote.number ≤ k = omega arith in
-            let u = place_lower c trace x.vote.number k w m h in
-            let eq : q.0 ≡ u.0 = some_injective q.0 u.0 (sym q.1 ∙ u.1) in
-            let b = u.2 in
-            let i = invoked_place k w kind l h in
-            omega arith };
+        stands = record {
+          at = q.0;
+          is_at = q.1;
+          after = omega arith;
+          before = λ k w l h.
+              let m : x.vote.number ≤ k = omega arith in
+              let u = place_lower c trace x.vote.number k w m h in
+              let eq : q.0 ≡ u.0 = some_injective q.0 u.0 (sym q.1 ∙ u.1) in
+              let b = u.2 in
+              let i = invoked_place k w kind l h in
+              omega arith;
+        };
         client = x.client;
         invoked =
             let by = invoked_by p x.call.timestamp x.call.op past call_invoked in
             let near : Once (λ past' e'. Invokes p x.call.timestamp x.call.op past' e' × (length past' ≤ (read_of c trace p x.call a past x.vote).item.position)) past =
-                once_weaker (λ past' e'. Invokes p x.call.timestamp x.call.op past' e' × (length past' ≤ invoked_at p past))
-                    (λ past' e'. Invokes p x.call.timestamp x.call.op past' e' × (length past' ≤ (read_of c trace p x.call a past x.vote).item.position)) (λ past' e' u. (u.0, let l = u.1 in omega arith)) past by in
+            once_weaker (λ past' e'. Invokes p x.call.timestamp x.call.op past' e' × (length past' ≤ invoked_at p past))
+            (λ past' e'. Invokes p x.call.timestamp x.call.op past' e' × (length past' ≤ (read_of c trace p x.call a past x.vote).item.position)) (λ past' e' u. (u.0, let l = u.1 in omega arith)) past by in
             subst (λ (ys : List Entry). Once (λ past' e'. Invokes p x.call.timestamp x.call.op past' e' × (length past' ≤ (read_of c trace p x.call a past x.vote).item.position)) ys) (sym is)
-                (once_append (λ past' e'. Invokes p x.call.timestamp x.call.op past' e' × (length past' ≤ (read_of c trace p x.call a past x.vote).item.position)) later (e ∷ past) (inr near));
+            (once_append (λ past' e'. Invokes p x.call.timestamp x.call.op past' e' × (length past' ≤ (read_of c trace p x.call a past x.vote).item.position)) later (e ∷ past) (inr near));
         right = record {
-            kind = subst (λ (o : Operation). is_read_only o ≡ true) same reply.kind;
-            answer = sym x.answer ∙ reply.answer_is ∙ ap (λ (ts : List TupleTree). outcome ts reply.op) (sym state) ∙ ap (outcome (tuples_at x.vote.number [] (all_ordered c trace))) same };
+          kind = subst (λ (o : Operation). is_read_only o ≡ true) same reply.kind;
+          answer = sym x.answer ∙ reply.answer_is ∙ ap (λ (ts : List TupleTree). outcome ts reply.op) (sym state) ∙ ap (outcome (tuples_at x.vote.number [] (all_ordered c trace))) same;
+        };
       }
 
   -- an ordered call's request ran
@@ -360,4 +371,4 @@ module _ (c : Configuration) (trace : List Entry) (run : Run c trace) (later pas
       let ran = ordered_replied c trace v.replica p t x.vote.number x.vote.answer run v.is_correct x.client (subst (λ (b : Bool). Accepting.Replied c trace v.replica p t b x.vote.number x.vote.answer) kind r) in
       let self : last_executed trace ≤ last_executed trace = omega arith in
       ran_point c trace opening 1 (last_executed trace) (last_executed trace) (Answers p t x.vote.number x.vote.answer)
-          (λ j y u. (q.0, subst (λ (i : ℕ). first_position c trace i ≡ Some q.0) u.3 q.1)) self ran
+      (λ j y u. (q.0, subst (λ (i : ℕ). first_position c trace i ≡ Some q.0) u.3 q.1)) self ran

@@ -43,9 +43,18 @@ holds_later c e xs page h = go (party_of e == h.replica) refl
     splits : (b : Bool) → (party_of e == h.replica) ≡ b → cond b (e ∷ history_of h.replica xs) (history_of h.replica xs) ≡ cond b (e ∷ h.later) h.later ++ h.past
     splits true is = ap (λ t. e ∷ t) h.splits
     splits false is = h.splits
+
     go : (b : Bool) → (party_of e == h.replica) ≡ b → Holds c (e ∷ xs) page
-    go b is = record { replica = h.replica; later = cond (party_of e == h.replica) (e ∷ h.later) h.later; past = h.past; is_correct = h.is_correct;
-        splits = splits (party_of e == h.replica) refl; point = h.point; leaves = h.leaves; each = h.each }
+    go b is = record {
+      replica = h.replica;
+      later = cond (party_of e == h.replica) (e ∷ h.later) h.later;
+      past = h.past;
+      is_correct = h.is_correct;
+      splits = splits (party_of e == h.replica) refl;
+      point = h.point;
+      leaves = h.leaves;
+      each = h.each;
+    }
 
 text_later : (c : Configuration) (e : Entry) (xs : List Entry) (text : List ℕ) → IsText c xs text → IsText c (e ∷ xs) text
 text_later c e xs _ null = null
@@ -57,10 +66,11 @@ text_later c e xs text (under batches _ h u) = under batches text (executed_late
 
 pub run_earlier : (c : Configuration) (e : Entry) (xs : List Entry) → Run c (e ∷ xs) → Run c xs
 run_earlier c e xs r = record {
-    setting = r.setting; runs = runs_earlier c e xs r.runs;
-    apart = λ x y a b. r.apart x y (text_later c e xs x a) (text_later c e xs y b);
-    parties = r.parties.1;
-  }
+  setting = r.setting;
+  runs = runs_earlier c e xs r.runs;
+  apart = λ x y a b. r.apart x y (text_later c e xs x a) (text_later c e xs y b);
+  parties = r.parties.1;
+}
 
 pub once_run : (c : Configuration) (Q : List Entry → Entry → Type 0) (xs : List Entry) → Run c xs → Once Q xs → Once (λ past e. Run c (e ∷ past) × Q past e) xs
 once_run c Q [] r h = h
@@ -81,6 +91,7 @@ given_executed c k b past (Executed r number text) run h =
     own : (x : Bool) → (r == r) ≡ x → x ≡ true → RightClient c r (cond x (Executed r number text ∷ history_of r past) (history_of r past)) → ⊥
     own true is e right = right.0.1
     own false is e right = absurd cc
+
     pick : (x : Bool) → is_correct_replica c r ≡ x → (x || is_correct_client c r) ≡ true → is_correct_replica c r ≡ true
     pick true is h = is
     pick false is h = absurd (own (r == r) refl (eq-eqb r r refl) (run.runs.clients r h))
@@ -114,8 +125,8 @@ pub batch_is : (c : Configuration) (xs : List Entry) (k : ℕ) (b : List ℕ) �
 batch_is c xs k b run h =
     let s = some_given c k b xs h in
     let there : Once (ExecutesBatch c k s.0) xs =
-        once_weaker (λ past e. Run c (e ∷ past) × (batch_at k e ≡ Some s.0)) (ExecutesBatch c k s.0) (λ past e t. given_executed c k s.0 past e t.0 t.1) xs
-            (once_run c (λ past e. batch_at k e ≡ Some s.0) xs run (given_once (λ past e. batch_at k e) s.0 xs s.1)) in
+    once_weaker (λ past e. Run c (e ∷ past) × (batch_at k e ≡ Some s.0)) (ExecutesBatch c k s.0) (λ past e t. given_executed c k s.0 past e t.0 t.1) xs
+    (once_run c (λ past e. batch_at k e ≡ Some s.0) xs run (given_once (λ past e. batch_at k e) s.0 xs s.1)) in
     let same = executed_agree c run.setting xs run.runs.replicas run.runs.unforged run.apart k s.0 b there h in
     ap (λ (o : Option (List ℕ)). option_map_or (λ batch. batch) o (0 ∷ [])) s.1 ∙ same
 

@@ -96,12 +96,12 @@ pub record IsOrdered (place : ℕ → Option ℕ) (x : Point) : Type 0 where
   pub kind : x.read_only ≡ false
 
 module _ (place : ℕ → Option ℕ) where
-
   comes_number : (x y : Point) → Stands place x → Stands place y → comes_before x y ≡ true → x.number ≤ y.number
   comes_number x y s t h = go (comes_cases x y h)
     where
       late : y.number < x.number → y.item.position ≤ x.item.position
       late l = let b = t.before x.number s.at l s.is_at in let a = s.after in omega arith
+
       go : (x.item.position < y.item.position) ⊎ ((x.item.position ≡ y.item.position) × (x.number ≤ y.number)) → x.number ≤ y.number
       go (inl l) = order (cases_order x.number y.number)
         where
@@ -116,6 +116,7 @@ module _ (place : ℕ → Option ℕ) where
     where
       late : x.number < y.number → x.item.position ≤ y.item.position
       late l = let b = s.before y.number t.at l t.is_at in let a = t.after in omega arith
+
       go : (y.item.position < x.item.position) ⊎ ((x.item.position ≡ y.item.position) × ((y.number < x.number) ⊎ ((x.number ≡ y.number) × (x.read_only ≡ true)))) → y.number ≤ x.number
       go (inl l) = order (cases_order x.number y.number)
         where
@@ -134,8 +135,10 @@ module _ (place : ℕ → Option ℕ) where
     where
       same : o.number ≡ x.number → o.item.position ≤ x.item.position
       same e = let k : s.stands.at ≡ t.at = some_injective s.stands.at t.at (sym s.stands.is_at ∙ ap place e ∙ t.is_at) in let a = s.exact in let b = t.after in omega arith
+
       lower : o.number < x.number → o.item.position ≤ x.item.position
       lower m = let b = s.stands.before x.number t.at m t.is_at in let a = t.after in omega arith
+
       go : (b : Bool) → comes_before o x ≡ b → b ≡ true
       go true e = refl
       go false e = pick (comes_not_cases o x e)
@@ -195,6 +198,7 @@ position_fits x y = (λ h. one (comes_cases x y h), λ h. two (comes_not_cases x
     one : (x.item.position < y.item.position) ⊎ ((x.item.position ≡ y.item.position) × (x.number ≤ y.number)) → x.item.position ≤ y.item.position
     one (inl l) = omega arith
     one (inr e) = let k = e.0 in omega arith
+
     two : (y.item.position < x.item.position) ⊎ ((x.item.position ≡ y.item.position) × ((y.number < x.number) ⊎ ((x.number ≡ y.number) × (x.read_only ≡ true)))) → y.item.position ≤ x.item.position
     two (inl l) = omega arith
     two (inr e) = let k = e.0 in omega arith
@@ -291,7 +295,6 @@ abbrev pub Changes : Point → Type 0
 Changes o = (tuples : List TupleTree) → after_item tuples o.item ≡ tuples
 
 module _ (place : ℕ → Option ℕ) (keep : Point → Bool) where
-
   abbrev Below : List Point → Type 0
   Below os = (rs : List Point) (tuples : List TupleTree) → AllOf (Stands place) rs → Ascends (λ x. x.number) rs → LegalFrom tuples (items os) → AllOf (IsRight tuples os) rs
       → LegalFrom tuples (items (insert_each (filter keep os) rs))
@@ -301,10 +304,10 @@ module _ (place : ℕ → Option ℕ) (keep : Point → Bool) where
       → LegalFrom tuples (items (insert_point o (insert_each (filter keep os) rs)))
   kept_step o os [] tuples io ios low stands asc legal right below =
       let all : AllOf (λ y. comes_before o y ≡ true) (insert_each (filter keep os) []) =
-          each_all (λ y. comes_before o y ≡ true) (filter keep os) [] (all_filter (λ y. comes_before o y ≡ true) keep os
-              (all_weaker (λ y. IsOrdered place y × (o.number ≤ y.number)) (λ y. comes_before o y ≡ true) (λ y t. ordered_first place o y io t.0.stands t.1) os (all_both (IsOrdered place) (λ y. o.number ≤ y.number) os ios low))) tt in
+      each_all (λ y. comes_before o y ≡ true) (filter keep os) [] (all_filter (λ y. comes_before o y ≡ true) keep os
+      (all_weaker (λ y. IsOrdered place y × (o.number ≤ y.number)) (λ y. comes_before o y ≡ true) (λ y t. ordered_first place o y io t.0.stands t.1) os (all_both (IsOrdered place) (λ y. o.number ≤ y.number) os ios low))) tt in
       subst (λ (t : List Point). LegalFrom tuples (items t)) (sym (insert_front o (insert_each (filter keep os) []) all))
-          (legal.0, below [] (tuples_after tuples o.item.op) tt tt legal.1 tt)
+      (legal.0, below [] (tuples_after tuples o.item.op) tt tt legal.1 tt)
   kept_step o os (x ∷ rs) tuples io ios low stands asc legal right below = go (nat_le o.number x.number) refl (kept_step o os rs tuples io ios low stands.1 asc.1 legal right.1 below)
     where
       go : (b : Bool) → nat_le o.number x.number ≡ b → LegalFrom tuples (items (insert_point o (insert_each (filter keep os) rs))) → LegalFrom tuples (items (insert_point o (insert_each (filter keep os) (x ∷ rs))))
@@ -312,10 +315,10 @@ module _ (place : ℕ → Option ℕ) (keep : Point → Bool) where
           let l : x.number < o.number = leb-false o.number x.number e in
           let later : AllOf (λ y. x.number < y.number) os = all_weaker (λ y. o.number ≤ y.number) (λ y. x.number < y.number) (λ y m. omega arith) os low in
           let none : AllOf (λ y. comes_before y x ≡ false) (filter keep os) = all_filter (λ y. comes_before y x ≡ false) keep os
-              (all_weaker (λ y. IsOrdered place y × (x.number < y.number)) (λ y. comes_before y x ≡ false) (λ y t. ordered_not_first place y x t.0.stands stands.0 t.1) os (all_both (IsOrdered place) (λ y. x.number < y.number) os ios later)) in
+          (all_weaker (λ y. IsOrdered place y × (x.number < y.number)) (λ y. comes_before y x ≡ false) (λ y t. ordered_not_first place y x t.0.stands stands.0 t.1) os (all_both (IsOrdered place) (λ y. x.number < y.number) os ios later)) in
           let first : IsReadAt tuples x.item = subst (λ t. IsReadAt t x.item) (early x.number tuples (o ∷ os) (l, later)) right.0 in
           let shape : insert_point o (insert_each (filter keep os) (x ∷ rs)) ≡ x ∷ insert_point o (insert_each (filter keep os) rs) =
-              ap (insert_point o) (each_behind (filter keep os) rs x none) ∙ behind (comes_before o x) (ordered_not_first place o x io.stands stands.0 l) in
+          ap (insert_point o) (each_behind (filter keep os) rs x none) ∙ behind (comes_before o x) (ordered_not_first place o x io.stands stands.0 l) in
           subst (λ (t : List Point). LegalFrom tuples (items t)) (sym shape) (read_legal tuples x.item (items (insert_point o (insert_each (filter keep os) rs))) first rest)
         where
           behind : (b : Bool) → b ≡ false → cond b (o ∷ x ∷ insert_each (filter keep os) rs) (x ∷ insert_point o (insert_each (filter keep os) rs)) ≡ x ∷ insert_point o (insert_each (filter keep os) rs)
@@ -325,17 +328,17 @@ module _ (place : ℕ → Option ℕ) (keep : Point → Bool) where
           let l : o.number ≤ x.number = leb-true o.number x.number e in
           let high : AllOf (λ y. o.number ≤ y.number) (x ∷ rs) = (l, all_weaker (λ y. x.number ≤ y.number) (λ y. o.number ≤ y.number) (λ y m. omega arith) rs asc.0) in
           let firsts : AllOf (λ y. comes_before o y ≡ true) (x ∷ rs) =
-              all_weaker (λ y. Stands place y × (o.number ≤ y.number)) (λ y. comes_before o y ≡ true) (λ y t. ordered_first place o y io t.0 t.1) (x ∷ rs) (all_both (Stands place) (λ y. o.number ≤ y.number) (x ∷ rs) stands high) in
+          all_weaker (λ y. Stands place y × (o.number ≤ y.number)) (λ y. comes_before o y ≡ true) (λ y t. ordered_first place o y io t.0 t.1) (x ∷ rs) (all_both (Stands place) (λ y. o.number ≤ y.number) (x ∷ rs) stands high) in
           let all : AllOf (λ y. comes_before o y ≡ true) (insert_each (filter keep os) (x ∷ rs)) =
-              each_all (λ y. comes_before o y ≡ true) (filter keep os) (x ∷ rs) (all_filter (λ y. comes_before o y ≡ true) keep os
-                  (all_weaker (λ y. IsOrdered place y × (o.number ≤ y.number)) (λ y. comes_before o y ≡ true) (λ y t. ordered_first place o y io t.0.stands t.1) os (all_both (IsOrdered place) (λ y. o.number ≤ y.number) os ios low))) firsts in
+          each_all (λ y. comes_before o y ≡ true) (filter keep os) (x ∷ rs) (all_filter (λ y. comes_before o y ≡ true) keep os
+          (all_weaker (λ y. IsOrdered place y × (o.number ≤ y.number)) (λ y. comes_before o y ≡ true) (λ y t. ordered_first place o y io t.0.stands t.1) os (all_both (IsOrdered place) (λ y. o.number ≤ y.number) os ios low))) firsts in
           let after : after_item tuples o.item ≡ tuples_after tuples o.item.op = refl in
           let moved : AllOf (IsRight (tuples_after tuples o.item.op) os) (x ∷ rs) =
-              all_weaker (λ y. IsRight tuples (o ∷ os) y × (o.number ≤ y.number)) (IsRight (tuples_after tuples o.item.op) os)
-                  (λ y t. subst (λ u. IsReadAt (tuples_at y.number u os) y.item) after (at y (nat_le o.number y.number) (le-leb o.number y.number t.1) t.0)) (x ∷ rs)
-                  (all_both (IsRight tuples (o ∷ os)) (λ y. o.number ≤ y.number) (x ∷ rs) right high) in
+          all_weaker (λ y. IsRight tuples (o ∷ os) y × (o.number ≤ y.number)) (IsRight (tuples_after tuples o.item.op) os)
+          (λ y t. subst (λ u. IsReadAt (tuples_at y.number u os) y.item) after (at y (nat_le o.number y.number) (le-leb o.number y.number t.1) t.0)) (x ∷ rs)
+          (all_both (IsRight tuples (o ∷ os)) (λ y. o.number ≤ y.number) (x ∷ rs) right high) in
           subst (λ (t : List Point). LegalFrom tuples (items t)) (sym (insert_front o (insert_each (filter keep os) (x ∷ rs)) all))
-              (legal.0, below (x ∷ rs) (tuples_after tuples o.item.op) stands asc legal.1 moved)
+          (legal.0, below (x ∷ rs) (tuples_after tuples o.item.op) stands asc legal.1 moved)
         where
           at : (y : Point) (b : Bool) → b ≡ true → IsReadAt (tuples_at y.number (cond b (after_item tuples o.item) tuples) os) y.item → IsReadAt (tuples_at y.number (after_item tuples o.item) os) y.item
           at y true e h = h
@@ -370,5 +373,5 @@ module _ (place : ℕ → Option ℕ) (keep : Point → Bool) where
       → AllOf (Stands place) rs → LegalFrom tuples (items os) → AllOf (IsRight tuples os) rs → LegalFrom tuples (items (sorted (filter keep os ++ rs)))
   sorted_legal os rs tuples io asc drops stands legal right =
       subst (λ (t : List Point). LegalFrom tuples (items t)) (sym (sorted_append (filter keep os) rs))
-          (legal_with os io asc drops (sorted rs) tuples (sorted_all (Stands place) rs stands)
-              (sorted_ascends (Stands place) (λ x. x.number) (λ x y s t. (comes_number place x y s t, comes_not_number place x y s t)) rs stands) legal (sorted_all (IsRight tuples os) rs right))
+      (legal_with os io asc drops (sorted rs) tuples (sorted_all (Stands place) rs stands)
+      (sorted_ascends (Stands place) (λ x. x.number) (λ x y s t. (comes_number place x y s t, comes_not_number place x y s t)) rs stands) legal (sorted_all (IsRight tuples os) rs right))

@@ -26,6 +26,8 @@ use Rattle.protocol.proofs.Accepting.{Accepting, accepting, Answers, accepted_pl
 use Rattle.protocol.proofs.Readings.{read_of, MadeAt, KindAt, reads_made, made_read, made_kind, one_kind, reads_differ, all_ordered, ReadFacts, read_facts, read_bound, ordered_has}
 use Rattle.protocol.specs.Linear.{last_executed}
 use Rattle.tuple_codec.specs.Operations.{Operation, Outcome}
+use Rattle.protocol.specs.Run.{PointsAreLinear}
+use Rattle.protocol.proofs.Reacting.{is_replica_right, is_client_right}
 
 -- ---- lists
 
@@ -79,8 +81,11 @@ not_double (y ∷ ys) x h = go ((y.item.client == x.item.client) && (y.item.time
   where
     go : (b : Bool) → ((y.item.client == x.item.client) && (y.item.timestamp == x.item.timestamp)) ≡ b → (b || is_double ys x) ≡ false → (is_double ys x ≡ false → AllOf (Differ x) ys) → AllOf (Differ x) (y ∷ ys)
     go true e k below = absurd cc
-    go false e k below = (λ same time. let a = eq-eqb y.item.client x.item.client (sym same) in let b = eq-eqb y.item.timestamp x.item.timestamp (sym time) in
-        let both : ((y.item.client == x.item.client) && (y.item.timestamp == x.item.timestamp)) ≡ true = rw a b in absurd (let bad : true ≡ false = sym both ∙ e in cc), below k)
+    go false e k below = (
+      λ same time. let a = eq-eqb y.item.client x.item.client (sym same) in let b = eq-eqb y.item.timestamp x.item.timestamp (sym time) in
+          let both : ((y.item.client == x.item.client) && (y.item.timestamp == x.item.timestamp)) ≡ true = rw a b in absurd (let bad : true ≡ false = sym both ∙ e in cc),
+      below k,
+    )
 
 double_has : (ys : List Point) (x : Point) → is_double ys x ≡ true → (y : Point) × Has (λ z. z ≡ y) ys × (y.item.client ≡ x.item.client) × (y.item.timestamp ≡ x.item.timestamp)
 double_has [] x h = absurd cc
@@ -120,7 +125,6 @@ pub record ItemFacts (c : Configuration) (trace : List Entry) (item : Item) : Ty
   pub asked : is_correct_client c item.client ≡ false → Once (λ past e. Asks c item.client item.timestamp item.op past e × (length past ≤ item.position)) trace
 
 module _ (c : Configuration) (trace : List Entry) (run : Run c trace) where
-
   abbrev reads : List Point
   reads = read_points c trace trace
 
@@ -150,7 +154,7 @@ module _ (c : Configuration) (trace : List Entry) (run : Run c trace) where
           let vote = Options.some_injective x.vote m.1 (sym x.newest ∙ m.3) in
           let kind : x.vote.read_only ≡ true = ap (λ (v : Vote). v.read_only) vote ∙ m.4 in
           let same : read_of c trace (256 + cl) x.call a past x.vote ≡ y =
-              ap (λ (o : OpenCall). read_of c trace (256 + cl) o a past x.vote) call ∙ ap (λ (v : Vote). read_of c trace (256 + cl) m.0 a past v) vote ∙ m.5 in
+          ap (λ (o : OpenCall). read_of c trace (256 + cl) o a past x.vote) call ∙ ap (λ (v : Vote). read_of c trace (256 + cl) m.0 a past v) vote ∙ m.5 in
           subst (ReadFacts c trace) same (read_facts c trace run later past (Accepted cl t a) is (256 + cl) t a x kind)
       go later past (Invoke x z w) is m = absurd m
       go later past (Got x z) is m = absurd m
@@ -173,14 +177,14 @@ module _ (c : Configuration) (trace : List Entry) (run : Run c trace) where
           let client : is_correct_client c o.item.client ≡ true = subst (λ (i : ℕ). is_correct_client c i ≡ true) d.2 y.client in
           let mine = ran_invoked c trace run o s.0 s.1 client in
           let own : Once (Invokes o.item.client o.item.timestamp o.item.op) trace =
-              once_weaker (λ past e. Invokes o.item.client o.item.timestamp o.item.op past e × (length past ≤ o.item.position)) (Invokes o.item.client o.item.timestamp o.item.op) (λ past e u. u.0) trace mine in
+          once_weaker (λ past e. Invokes o.item.client o.item.timestamp o.item.op past e × (length past ≤ o.item.position)) (Invokes o.item.client o.item.timestamp o.item.op) (λ past e u. u.0) trace mine in
           let other : Once (Invokes d.0.item.client d.0.item.timestamp d.0.item.op) trace =
-              once_weaker (λ past e. Invokes d.0.item.client d.0.item.timestamp d.0.item.op past e × (length past ≤ d.0.item.position)) (Invokes d.0.item.client d.0.item.timestamp d.0.item.op) (λ past e u. u.0) trace y.invoked in
+          once_weaker (λ past e. Invokes d.0.item.client d.0.item.timestamp d.0.item.op past e × (length past ≤ d.0.item.position)) (Invokes d.0.item.client d.0.item.timestamp d.0.item.op) (λ past e u. u.0) trace y.invoked in
           let moved : Once (Invokes o.item.client o.item.timestamp d.0.item.op) trace =
-              subst (λ (i : ℕ). Once (Invokes o.item.client i d.0.item.op) trace) d.3 (subst (λ (i : ℕ). Once (Invokes i d.0.item.timestamp d.0.item.op) trace) d.2 other) in
+          subst (λ (i : ℕ). Once (Invokes o.item.client i d.0.item.op) trace) d.3 (subst (λ (i : ℕ). Once (Invokes i d.0.item.timestamp d.0.item.op) trace) d.2 other) in
           let same : o.item.op ≡ d.0.item.op =
-              one_invocation c o.item.client o.item.timestamp o.item.op d.0.item.op (history_of o.item.client trace) (run.runs.clients o.item.client client)
-                  (invoked_in_history o.item.client o.item.timestamp o.item.op trace own) (invoked_in_history o.item.client o.item.timestamp d.0.item.op trace moved) in
+          one_invocation c o.item.client o.item.timestamp o.item.op d.0.item.op (history_of o.item.client trace) (run.runs.clients o.item.client client)
+          (invoked_in_history o.item.client o.item.timestamp o.item.op trace own) (invoked_in_history o.item.client o.item.timestamp d.0.item.op trace moved) in
           ap (tuples_after ts) same ∙ read_same ts d.0.item.op y.right.kind
         where
           double : (b : Bool) → not b ≡ false → b ≡ true
@@ -206,7 +210,7 @@ module _ (c : Configuration) (trace : List Entry) (run : Run c trace) where
   item_facts : AllOf (λ x. ItemFacts c trace x.item) all_points
   item_facts = all_append (λ x. ItemFacts c trace x.item) kept reads
       (all_filter (λ x. ItemFacts c trace x.item) keep (all_ordered c trace)
-          (all_weaker (λ x. Source c trace x × (1 ≤ x.number)) (λ x. ItemFacts c trace x.item) (λ x s. record { invoked = ran_invoked c trace run x s.0 s.1; asked = λ other. ran_asked c trace run x s.0 s.1 }) (all_ordered c trace) sources))
+      (all_weaker (λ x. Source c trace x × (1 ≤ x.number)) (λ x. ItemFacts c trace x.item) (λ x s. record { invoked = ran_invoked c trace run x s.0 s.1; asked = λ other. ran_asked c trace run x s.0 s.1 }) (all_ordered c trace) sources))
       (all_weaker (ReadFacts c trace) (λ x. ItemFacts c trace x.item) (λ y f. record { invoked = λ client. f.invoked; asked = λ other. absurd (let bad : true ≡ false = sym f.client ∙ other in cc) }) reads facts)
 
   -- ---- acceptances
@@ -225,16 +229,20 @@ module _ (c : Configuration) (trace : List Entry) (run : Run c trace) where
     where
       x : Accepting c past (256 + cl) t a
       x = accepting c past cl t a (run_part c later (Accepted cl t a ∷ past) (subst (Run c) is run))
+
       whole : (Q : List Entry → Entry → Type 0) → Q past (Accepted cl t a) → Once Q trace
       whole Q h = subst (λ (ys : List Entry). Once Q ys) (sym is) (States.once_append Q later (Accepted cl t a ∷ past) (inl h))
+
       go : (b : Bool) → x.vote.read_only ≡ b → Shown (256 + cl) t a past
       go true kind = record {
-          point = read_of c trace (256 + cl) x.call a past x.vote;
-          is_there = has_right (λ z. z ≡ read_of c trace (256 + cl) x.call a past x.vote) kept reads
-              (made_read c trace (read_of c trace (256 + cl) x.call a past x.vote) trace (whole (MadeAt c trace (read_of c trace (256 + cl) x.call a past x.vote)) (x.call, x.vote, x.opened, x.newest, kind, refl)));
-          client = refl; time = x.time; answer = refl;
-          bound = read_bound c trace run later past (Accepted cl t a) is (256 + cl) t a x;
-        }
+        point = read_of c trace (256 + cl) x.call a past x.vote;
+        is_there = has_right (λ z. z ≡ read_of c trace (256 + cl) x.call a past x.vote) kept reads
+            (made_read c trace (read_of c trace (256 + cl) x.call a past x.vote) trace (whole (MadeAt c trace (read_of c trace (256 + cl) x.call a past x.vote)) (x.call, x.vote, x.opened, x.newest, kind, refl)));
+        client = refl;
+        time = x.time;
+        answer = refl;
+        bound = read_bound c trace run later past (Accepted cl t a) is (256 + cl) t a x;
+      }
       go false kind =
           let r = has_some (IsRanPoint c trace (Answers (256 + cl) t x.vote.number x.vote.answer)) (all_ordered c trace) (ordered_has c trace run later past (Accepted cl t a) is (256 + cl) t a x kind) in
           let q = accepted_place c trace later past (Accepted cl t a) (256 + cl) t a is x in
@@ -247,7 +255,8 @@ module _ (c : Configuration) (trace : List Entry) (run : Run c trace) where
           record {
             point = r.0;
             is_there = has_left (λ z. z ≡ r.0) kept reads (has_filter keep (all_ordered c trace) r.0 r.1 (single r.0 client time (is_double reads r.0) refl));
-            client = client; time = time;
+            client = client;
+            time = time;
             answer = ap (λ (z : Point). z.item.answer) f.is ∙ f.holds.2 ∙ x.answer;
             bound = omega arith;
           }
@@ -272,12 +281,13 @@ module _ (c : Configuration) (trace : List Entry) (run : Run c trace) where
           let f = all_has (λ x. ItemFacts c trace x.item) all_points s.point item_facts s.is_there in
           let right : is_correct_client c s.point.item.client ≡ true = subst (λ (i : ℕ). is_correct_client c i ≡ true) (sym s.client) client in
           let own : Once (Invokes s.point.item.client s.point.item.timestamp s.point.item.op) trace =
-              once_weaker (λ past e. Invokes s.point.item.client s.point.item.timestamp s.point.item.op past e × (length past ≤ s.point.item.position)) (Invokes s.point.item.client s.point.item.timestamp s.point.item.op) (λ past e u. u.0) trace (f.invoked right) in
+          once_weaker (λ past e. Invokes s.point.item.client s.point.item.timestamp s.point.item.op past e × (length past ≤ s.point.item.position)) (Invokes s.point.item.client s.point.item.timestamp s.point.item.op) (λ past e u. u.0) trace (f.invoked right) in
           let moved : Once (Invokes p t s.point.item.op) trace =
-              subst (λ (i : ℕ). Once (Invokes p i s.point.item.op) trace) s.time (subst (λ (i : ℕ). Once (Invokes i s.point.item.timestamp s.point.item.op) trace) s.client own) in
+          subst (λ (i : ℕ). Once (Invokes p i s.point.item.op) trace) s.time (subst (λ (i : ℕ). Once (Invokes i s.point.item.timestamp s.point.item.op) trace) s.client own) in
           has_items (λ item. (item.client ≡ p) × (item.timestamp ≡ t) × (item.answer ≡ a) × Once (Invokes p t item.op) trace) (sorted all_points)
-              (has_sorted (λ x. (x.item.client ≡ p) × (x.item.timestamp ≡ t) × (x.item.answer ≡ a) × Once (Invokes p t x.item.op) trace) all_points
-                  (has_at (λ x. (x.item.client ≡ p) × (x.item.timestamp ≡ t) × (x.item.answer ≡ a) × Once (Invokes p t x.item.op) trace) all_points s.point s.is_there (s.client, s.time, s.answer, moved)))
+          (has_sorted (λ x. (x.item.client ≡ p) × (x.item.timestamp ≡ t) × (x.item.answer ≡ a) × Once (Invokes p t x.item.op) trace) all_points
+          (has_at (λ x. (x.item.client ≡ p) × (x.item.timestamp ≡ t) × (x.item.answer ≡ a) × Once (Invokes p t x.item.op) trace) all_points s.point s.is_there (s.client, s.time, s.answer, moved)))
+
       go : (later past : List Entry) (e : Entry) → trace ≡ later ++ e ∷ past → Accepts p t a past e → Has (λ item. (item.client ≡ p) × (item.timestamp ≡ t) × (item.answer ≡ a) × Once (Invokes p t item.op) trace) (map (λ (x : Point). x.item) (sorted all_points))
       go later past (Accepted cl time answer) is k =
           make past (subst (λ (i : ℕ). Shown i t a past) k.0 (subst (λ (i : ℕ). Shown (256 + cl) i a past) k.1 (subst (λ (b : Outcome). Shown (256 + cl) time b past) k.2 (shown later past cl time answer is))))
@@ -311,20 +321,20 @@ module _ (c : Configuration) (trace : List Entry) (run : Run c trace) where
 
   linear : IsLinear c (map (λ (x : Point). x.item) (sorted all_points)) trace
   linear = record {
-      legal = legal;
-      covers = record {
-          accepted = accepted_there;
-          invoked = λ item h client. let f = item_has (ItemFacts c trace) item_facts item h in
-              once_weaker (λ past e. Invokes item.client item.timestamp item.op past e × (length past ≤ item.position)) (Invokes item.client item.timestamp item.op) (λ past e u. u.0) trace (f.invoked client);
-          asked = λ item h other. (item_has (ItemFacts c trace) item_facts item h).asked other;
-          once = none_twice (sorted all_points) (differ_sorted all_points differ);
-        };
-      placed = record {
-          in_order = sorted_never_fall all_points;
-          after = λ item h client. (item_has (ItemFacts c trace) item_facts item h).invoked client;
-          before = λ item a h client. item_has (λ i. (a : Outcome) → Always (λ past e. Accepts i.client i.timestamp a past e → i.position ≤ length past) trace) (all_of (λ x. (a : Outcome) → Always (λ past e. Accepts x.item.client x.item.timestamp a past e → x.item.position ≤ length past) trace) all_points before_accepted) item h a;
-        };
-    }
+    legal = legal;
+    covers = record {
+      accepted = accepted_there;
+      invoked = λ item h client. let f = item_has (ItemFacts c trace) item_facts item h in
+          once_weaker (λ past e. Invokes item.client item.timestamp item.op past e × (length past ≤ item.position)) (Invokes item.client item.timestamp item.op) (λ past e u. u.0) trace (f.invoked client);
+      asked = λ item h other. (item_has (ItemFacts c trace) item_facts item h).asked other;
+      once = none_twice (sorted all_points) (differ_sorted all_points differ);
+    };
+    placed = record {
+      in_order = sorted_never_fall all_points;
+      after = λ item h client. (item_has (ItemFacts c trace) item_facts item h).invoked client;
+      before = λ item a h client. item_has (λ i. (a : Outcome) → Always (λ past e. Accepts i.client i.timestamp a past e → i.position ≤ length past) trace) (all_of (λ x. (a : Outcome) → Always (λ past e. Accepts x.item.client x.item.timestamp a past e → x.item.position ≤ length past) trace) all_points before_accepted) item h a;
+    };
+  }
 
   pub points_linear : IsLinear c (points c trace) trace
   unfolding points
@@ -333,7 +343,18 @@ module _ (c : Configuration) (trace : List Entry) (run : Run c trace) where
 pub linear_of_right : LinearOfRight
 linear_of_right c setting trace right unforged apart =
     points_linear c trace (record {
-        setting = setting;
-        runs = record { unforged = unforged; replicas = right.replicas; clients = right.clients };
-        apart = apart; parties = right.parties;
-      })
+      setting = setting;
+      runs = record { unforged = unforged; replicas = right.replicas; clients = right.clients };
+      apart = apart;
+      parties = right.parties;
+    })
+
+pub points_are_linear : PointsAreLinear
+points_are_linear c setting trace run unforged apart =
+    linear_of_right c setting trace
+    (record {
+      replicas = λ p correct. is_replica_right c p (history_of p trace) (run.replicas p correct);
+      clients = λ p correct. is_client_right c p (history_of p trace) (run.clients p correct);
+      parties = run.parties;
+    })
+    unforged apart

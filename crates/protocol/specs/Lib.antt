@@ -11,3 +11,5 @@ pub mod Texts
 pub mod Laws
 pub mod RightClient
 pub mod Linear
+pub mod Owed
+pub mod Run

@@ -60,10 +60,10 @@ NoneTwice (item ∷ items) = (Has (λ x. (x.client ≡ item.client) × (x.timest
 -- faulty one some correct replica had been asked by then; and nothing is there twice.
 pub record Covers (c : Configuration) (items : List Item) (trace : List Entry) : Type 0 where
   pub accepted : (p timestamp : ℕ) (answer : Outcome) → is_correct_client c p ≡ true → Once (Accepts p timestamp answer) trace
-    → Has (λ item. (item.client ≡ p) × (item.timestamp ≡ timestamp) × (item.answer ≡ answer) × Once (Invokes p timestamp item.op) trace) items
+      → Has (λ item. (item.client ≡ p) × (item.timestamp ≡ timestamp) × (item.answer ≡ answer) × Once (Invokes p timestamp item.op) trace) items
   pub invoked : (item : Item) → Has (λ x. x ≡ item) items → is_correct_client c item.client ≡ true → Once (Invokes item.client item.timestamp item.op) trace
   pub asked : (item : Item) → Has (λ x. x ≡ item) items → is_correct_client c item.client ≡ false
-    → Once (λ past e. Asks c item.client item.timestamp item.op past e × (length past ≤ item.position)) trace
+      → Once (λ past e. Asks c item.client item.timestamp item.op past e × (length past ≤ item.position)) trace
   pub once : NoneTwice items
 
 -- ---- placed
@@ -78,9 +78,9 @@ NeverFall (x ∷ y ∷ items) = (x.position ≤ y.position) × NeverFall (y ∷ 
 pub record Placed (c : Configuration) (items : List Item) (trace : List Entry) : Type 0 where
   pub in_order : NeverFall items
   pub after : (item : Item) → Has (λ x. x ≡ item) items → is_correct_client c item.client ≡ true
-    → Once (λ past e. Invokes item.client item.timestamp item.op past e × (length past ≤ item.position)) trace
+      → Once (λ past e. Invokes item.client item.timestamp item.op past e × (length past ≤ item.position)) trace
   pub before : (item : Item) (answer : Outcome) → Has (λ x. x ≡ item) items → is_correct_client c item.client ≡ true
-    → Always (λ past e. Accepts item.client item.timestamp answer past e → item.position ≤ length past) trace
+      → Always (λ past e. Accepts item.client item.timestamp answer past e → item.position ≤ length past) trace
 
 pub record IsLinear (c : Configuration) (items : List Item) (trace : List Entry) : Type 0 where
   pub legal : Legal items
@@ -139,10 +139,10 @@ pub record Point : Type 0 where
 
 abbrev pub ordered_point : ℕ → ℕ → Ran → Point
 ordered_point position number ran = record {
-    item = record { client = 256 + ran.call.client; timestamp = ran.call.timestamp; op = ran.call.op; answer = ran.kept.answer; position = position };
-    number = number;
-    read_only = false;
-  }
+  item = record { client = 256 + ran.call.client; timestamp = ran.call.timestamp; op = ran.call.op; answer = ran.kept.answer; position = position };
+  number = number;
+  read_only = false;
+}
 
 -- the requests that ran, batch by batch from the number k on, where their level comes
 abbrev pub ordered_points : Configuration → List Entry → State → ℕ → ℕ → List Point
@@ -159,19 +159,23 @@ invoked_at p (_ ∷ past) = invoked_at p past
 -- the read that an acceptance ends, where its replies were read-only
 abbrev pub read_point : Configuration → List Entry → ℕ → OpenCall → Outcome → List Entry → Vote → Option Point
 read_point c trace p call answer past vote = give_if vote.read_only (record {
-    item = record {
-        client = p; timestamp = call.timestamp; op = call.op; answer = answer;
-        position = max (invoked_at p past) (option_map_or (λ x. x) (first_position c trace vote.number) 0) };
-    number = vote.number;
-    read_only = true;
-  })
+  item = record {
+    client = p;
+    timestamp = call.timestamp;
+    op = call.op;
+    answer = answer;
+    position = max (invoked_at p past) (option_map_or (λ x. x) (first_position c trace vote.number) 0);
+  };
+  number = vote.number;
+  read_only = true;
+})
 
 abbrev pub read_points : Configuration → List Entry → List Entry → List Point
 read_points c trace [] = []
 read_points c trace (Accepted client timestamp answer ∷ past) =
     option_map_or (λ point. point ∷ [])
-        (option_and_then (λ call. option_and_then (read_point c trace (256 + client) call answer past) (newest_vote c (256 + client) (history_of (256 + client) past) timestamp))
-            (open_call (history_of (256 + client) past))) []
+    (option_and_then (λ call. option_and_then (read_point c trace (256 + client) call answer past) (newest_vote c (256 + client) (history_of (256 + client) past) timestamp))
+    (open_call (history_of (256 + client) past))) []
     ++ read_points c trace past
 read_points c trace (_ ∷ past) = read_points c trace past
 

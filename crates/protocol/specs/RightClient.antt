@@ -45,8 +45,9 @@ pub record Vote : Type 0 where
 
 abbrev pub vote_of : ℕ → ℕ → ℕ → Body → Option Vote
 vote_of me timestamp s body = elim body.message [
-    Reply client t read_only number answer ↦ give_if ((body.sender == s) && (client == me) && (t == timestamp)) (record { read_only = read_only; number = number; answer = answer })
-  | _ ↦ None ]
+  | Reply client t read_only number answer ↦ give_if ((body.sender == s) && (client == me) && (t == timestamp)) (record { read_only = read_only; number = number; answer = answer })
+  | _ ↦ None
+]
 
 abbrev pub later_vote : Bool → Option Vote → Option Vote → Option Vote
 later_vote read_only None earlier = earlier
@@ -76,9 +77,9 @@ is_complete c me past timestamp vote = is_quorum c (count_alike c me past timest
 -- the vote that the newest entry brings
 abbrev pub newest_vote : Configuration → ℕ → List Entry → ℕ → Option Vote
 newest_vote c me past timestamp = elim past [
-    [] ↦ None
+  | [] ↦ None
   | e ∷ earlier ↦ (elim e [ Got p bytes ↦ option_and_then (λ body. vote_of me timestamp body.sender body) (heard c me bytes) | _ ↦ None ])
-  ]
+]
 
 -- ---- what a client gives
 

@@ -2,6 +2,7 @@
 #![tactic(auto)]
 
 ghost use Rattle.protocol.specs.Laws.{PreparedAgree, CommittedStays, CommittedAgree, ExecutedAgree, PagesDetermine, BatchesLeaveStates, StatesAgree, StableAgree, InstalledAgree, StartsAgree};
+ghost use Rattle.protocol.specs.Run.{PointsAreLinear};
 
 /// Two correct replicas hold batches of one digest prepared in one view for one number (Castro and Liskov, TOCS 2002,
 /// section 4.5).
@@ -45,4 +46,12 @@ pub fn roots_agree()
     ensures stable { StableAgree }
     ensures installed { InstalledAgree }
     ensures starts { StartsAgree }
+{}
+
+/// Over every run of a valid configuration, if no message of a correct party is forged and no digests collide, the
+/// points of the trace are legal, cover it and are placed: the answers that correct clients accept, of reads and writes
+/// alike, are those of one sequential tuple space, in which each operation acts at most once, an accepted one exactly
+/// once, at a position between its invocation and its acceptance (Herlihy and Wing, TOPLAS 1990, section 2).
+pub fn points_are_linear()
+    ensures linear { PointsAreLinear }
 {}
