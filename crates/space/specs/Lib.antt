@@ -1,3 +1,4 @@
 pub mod Applying
 pub mod Births
 pub mod Counted
+pub mod Pages

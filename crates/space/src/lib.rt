@@ -9,10 +9,14 @@
 mod births;
 mod laws;
 mod matching;
+mod pages;
 #[cfg(test)]
 mod tests;
 mod tuples;
 
 pub use births::{MAX_ON_PAGE, PAGES};
-pub use laws::{births_are_least, states_stay_states, tuples_follow_states};
+pub use laws::{
+    batches_leave_states, births_are_least, pages_determine, states_stay_states,
+    tuples_follow_states,
+};
 pub use tuples::{MAX_TUPLES, PeekFault, Space};

@@ -6,10 +6,12 @@ ghost use Rattle.tuple_codec.specs.Operations.{cas, rd_all};
 ghost use Rattle.template_match.specs.Tests.{is_match};
 ghost use Rattle.tuple_codec.specs.OperationView.{operation_of, outcome_of};
 ghost use Rattle.space.specs.Applying.{outcome, tuples_after, first_match, found_or_absent, has_room, is_read_only};
+ghost use Rattle.space.specs.Pages.{page_text};
 ghost use Rattle.space.specs.Births.{IsState, empty_state, tuples_of, state_after, with_birth, with_tuple, without_match};
 
 use crate::births::{PAGES, empty_pages, next_birth};
 use crate::matching::{copies_of_matches, index_of_match};
+use crate::pages::text_of_page;
 use std::alloc::{Allocator, Global};
 use std::marker::Model;
 use thiserror::Error;
@@ -92,6 +94,15 @@ impl Space {
         ensures { IsTrue result ↔ (self.now.next < 2 ^ 62) }
     {
         self.next < BIRTHS_END
+    }
+
+    /// The text of page `page`, 0 to 255: its tuples in the order of births, each as 8 bytes of birth number, high byte
+    /// first, and its spelling. At most 64 * 1,032 bytes.
+    pub fn page_text(&self, page: usize) -> Result<Vec<u8>, NoMemory>
+        requires { page < PAGES }
+        ensures { IfOk result (λ text. text.items ≡ page_text self.now page) }
+    {
+        text_of_page(self.alloc, self.entries.as_slice(), page)
     }
 
     // The value of each space is a state.

@@ -1,0 +1,5 @@
+use Rattle.protocol.proofs.Leaving
+use Rattle.protocol.proofs.batches_leave_states.Goals as goal
+
+pub returns : goal.returns
+returns c = record { leave = Leaving.batches_leave_states }

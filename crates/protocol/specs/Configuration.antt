@@ -1,0 +1,66 @@
+-- The configuration: how many replicas may be faulty, which are, and what all are given (Castro and Liskov, TOCS 2002,
+-- section 2: 3f + 1 replicas, of which at most f are faulty).
+use Rattle.std.specs.Prelude.{◌≡◌, ◌≢◌, ℕ, ◌+◌, ◌-◌, ◌*◌, ◌%◌, ◌^◌, ◌≤◌, ◌<◌, Bool, ◌&&◌, ◌||◌, not, List, length, nat_lt, nat_le, All, AllPairs}
+use Rattle.quorum.specs.Quorum.{member}
+
+-- Numbers of replicas are 0 to 3f, of clients 0 to clients - 1. The period is the number of batches from one checkpoint
+-- to the next.
+pub record Configuration : Type 0 where
+  pub faults : ℕ
+  pub clients : ℕ
+  pub seed : List ℕ
+  pub period : ℕ
+  pub faulty_replicas : List ℕ
+  pub faulty_clients : List ℕ
+
+abbrev pub replicas : Configuration → ℕ
+replicas c = 3 * c.faults + 1
+
+-- what makes a configuration valid
+pub record IsConfiguration (c : Configuration) : Type 0 where
+  pub some_faults : 1 ≤ c.faults
+  pub most : c.faults ≤ 3
+  pub some_clients : 1 ≤ c.clients
+  pub clients : c.clients ≤ 256
+  pub seed : length c.seed ≡ 32
+  pub period : 1 ≤ c.period
+  pub period_most : c.period ≤ 16
+  pub few : length c.faulty_replicas ≤ c.faults
+  pub replicas_are : All (λ r. r < replicas c) c.faulty_replicas
+  pub replicas_differ : AllPairs (λ r s. r ≢ s) c.faulty_replicas
+  pub clients_are : All (λ k. k < c.clients) c.faulty_clients
+  pub clients_differ : AllPairs (λ k l. k ≢ l) c.faulty_clients
+
+-- ---- parties: replica r is the party r, client k the party 256 + k
+
+abbrev pub is_replica : Configuration → ℕ → Bool
+is_replica c p = nat_lt p (replicas c)
+
+abbrev pub is_client : Configuration → ℕ → Bool
+is_client c p = nat_le 256 p && nat_lt p (256 + c.clients)
+
+abbrev pub is_faulty_replica : Configuration → ℕ → Bool
+is_faulty_replica c = member c.faulty_replicas
+
+abbrev pub is_correct_replica : Configuration → ℕ → Bool
+is_correct_replica c p = is_replica c p && not (is_faulty_replica c p)
+
+abbrev pub is_correct_client : Configuration → ℕ → Bool
+is_correct_client c p = is_client c p && not (member c.faulty_clients (p - 256))
+
+abbrev pub is_correct : Configuration → ℕ → Bool
+is_correct c p = is_correct_replica c p || is_correct_client c p
+
+-- ---- views and numbers
+
+-- the primary of a view
+abbrev pub primary : Configuration → ℕ → ℕ
+primary c view = view % replicas c
+
+-- how far the high mark is above the low one
+abbrev pub span : Configuration → ℕ
+span c = 2 * c.period
+
+-- Views and numbers end here: what is at or above it is none.
+abbrev pub is_number : ℕ → Bool
+is_number n = nat_lt n (2 ^ 48)

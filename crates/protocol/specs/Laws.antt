@@ -1,0 +1,111 @@
+-- The laws of agreement.
+use Rattle.std.specs.Prelude.{◌≡◌, ℕ, ◌^◌, ◌≤◌, ◌<◌, ◌⊎◌, true, List, length, Some}
+use Rattle.sha2.specs.Sha256.{sha256}
+use Rattle.protocol.specs.Configuration.{Configuration, IsConfiguration, is_correct, is_correct_replica, is_correct_client}
+use Rattle.protocol.specs.Wire.{NewView}
+use Rattle.protocol.specs.Trace.{Entry, party_of, history_of, Once, Always, Unforged}
+use Rattle.protocol.specs.Trace.Entry.{Installed}
+use Rattle.protocol.specs.Certificates.{Prepared, Committed, taken, batch_begun}
+use Rattle.protocol.specs.RightReplica.{RightReplica, Point, Leaves, HadQuorum, StartsAt}
+use Rattle.protocol.specs.RightClient.{RightClient}
+use Rattle.protocol.specs.Linear.{points, IsLinear}
+use Rattle.protocol.specs.State.{State, IsState, opening, after_batches, page_text, root_of}
+use Rattle.protocol.specs.Texts.{NoCollision, ExecutesBatch, AreExecuted}
+
+-- Each correct replica's history is right.
+abbrev pub AreReplicasRight : Configuration → List Entry → Type 0
+AreReplicasRight c trace = (p : ℕ) → is_correct_replica c p ≡ true → RightReplica c p (history_of p trace)
+
+-- What two correct replicas hold prepared in one view for one number has one digest.
+abbrev pub PreparedAgree : Type 0
+PreparedAgree =
+    (c : Configuration) → IsConfiguration c → (trace : List Entry) → AreReplicasRight c trace → Unforged c trace
+    → (p q v i : ℕ) (a b : List ℕ) → is_correct_replica c p ≡ true → is_correct_replica c q ≡ true
+    → Prepared c p (history_of p trace) v i a → Prepared c q (history_of q trace) v i b → sha256 a ≡ sha256 b
+
+-- the new view has a batch of this digest for the number, or starts at or above it
+abbrev pub HasOrStartsAbove : ℕ → List ℕ → NewView → Type 0
+HasOrStartsAbove i digest new = (i ≤ new.start) ⊎ ((batch : List ℕ) × (batch_begun new.view i new ≡ Some batch) × (sha256 batch ≡ digest))
+
+abbrev pub Takes : Configuration → NewView → List Entry → Entry → Type 0
+Takes c new past e = taken c past e ≡ Some new
+
+-- What is committed for a number, each new view of a later view that a correct replica takes or sends has there, or it
+-- starts at or above the number.
+abbrev pub CommittedStays : Type 0
+CommittedStays =
+    (c : Configuration) → IsConfiguration c → (trace : List Entry) → AreReplicasRight c trace → Unforged c trace
+    → (p q v i : ℕ) (a : List ℕ) (new : NewView) → is_correct_replica c p ≡ true → is_correct_replica c q ≡ true
+    → Committed c p (history_of p trace) v i a → Once (Takes c new) (history_of q trace) → v < new.view
+    → HasOrStartsAbove i (sha256 a) new
+
+-- What two correct replicas hold committed for one number has one digest, over all views.
+abbrev pub CommittedAgree : Type 0
+CommittedAgree =
+    (c : Configuration) → IsConfiguration c → (trace : List Entry) → AreReplicasRight c trace → Unforged c trace
+    → (p q v w i : ℕ) (a b : List ℕ) → is_correct_replica c p ≡ true → is_correct_replica c q ≡ true
+    → Committed c p (history_of p trace) v i a → Committed c q (history_of q trace) w i b → sha256 a ≡ sha256 b
+
+-- What two correct replicas execute for one number is one batch.
+abbrev pub ExecutedAgree : Type 0
+ExecutedAgree =
+    (c : Configuration) → IsConfiguration c → (trace : List Entry) → AreReplicasRight c trace → Unforged c trace → NoCollision c trace
+    → (k : ℕ) (a b : List ℕ) → Once (ExecutesBatch c k a) trace → Once (ExecutesBatch c k b) trace → a ≡ b
+
+-- ---- states
+
+-- States are equal where their pages are.
+abbrev pub PagesDetermine : Type 0
+PagesDetermine = (st other : State) → IsState st → IsState other → ((i : ℕ) → i < 1024 → page_text st i ≡ page_text other i) → st ≡ other
+
+-- Batches leave a state, as long as there are fewer than 2^48.
+abbrev pub BatchesLeaveStates : Type 0
+BatchesLeaveStates = (c : Configuration) (batches : List (List ℕ)) → IsConfiguration c → length batches < 2 ^ 48 → IsState (after_batches c opening batches)
+
+-- Two correct replicas' states of one number are one state.
+abbrev pub StatesAgree : Type 0
+StatesAgree =
+    (c : Configuration) → IsConfiguration c → (trace : List Entry) → AreReplicasRight c trace → Unforged c trace → NoCollision c trace
+    → (p q : ℕ) (x y : Point) → is_correct_replica c p ≡ true → is_correct_replica c q ≡ true
+    → Leaves c p (history_of p trace) x → Leaves c q (history_of q trace) y → x.state.number ≡ y.state.number → x.state ≡ y.state
+
+-- the root is that of the state of the executed batches up to the number
+pub record IsRootOf (c : Configuration) (trace : List Entry) (k : ℕ) (root : List ℕ) : Type 0 where
+  pub batches : List (List ℕ)
+  pub long : length batches ≡ k
+  pub executed : AreExecuted c trace 1 batches
+  pub root_is : root ≡ root_of (after_batches c opening batches)
+
+abbrev pub Installs : ℕ → List ℕ → List Entry → Entry → Type 0
+Installs k root past (Installed r number digest) = (number ≡ k) × (digest ≡ root)
+Installs k root past _ = ⊥
+
+-- what happens at a correct replica with a number and a root gives the root of the executed batches
+abbrev pub GivesRoots : (Configuration → ℕ → List ℕ → List Entry → Type 0) → Type 0
+GivesRoots Happens =
+    (c : Configuration) → IsConfiguration c → (trace : List Entry) → AreReplicasRight c trace → Unforged c trace → NoCollision c trace
+    → (r k : ℕ) (root : List ℕ) → is_correct_replica c r ≡ true → Happens c k root (history_of r trace) → IsRootOf c trace k root
+
+-- What a quorum of checkpoints says, what is installed, and what a new view starts with, has the root of the executed
+-- batches.
+abbrev pub StableAgree : Type 0
+StableAgree = GivesRoots (λ c k root history. HadQuorum c (record { number = k; digest = root }) history)
+
+abbrev pub InstalledAgree : Type 0
+InstalledAgree = GivesRoots (λ c k root history. Once (Installs k root) history)
+
+abbrev pub StartsAgree : Type 0
+StartsAgree = GivesRoots (λ c k root history. Once (StartsAt c k root) history)
+
+-- ---- points
+
+-- what the laws use of a run: what its correct replicas and clients do, they may do, and no others have entries
+pub record IsRight (c : Configuration) (trace : List Entry) : Type 0 where
+  pub replicas : AreReplicasRight c trace
+  pub clients : (p : ℕ) → is_correct_client c p ≡ true → RightClient c p (history_of p trace)
+  pub parties : Always (λ past e. is_correct c (party_of e) ≡ true) trace
+
+abbrev pub LinearOfRight : Type 0
+LinearOfRight =
+    (c : Configuration) → IsConfiguration c → (trace : List Entry) → IsRight c trace → Unforged c trace → NoCollision c trace
+    → IsLinear c (points c trace) trace

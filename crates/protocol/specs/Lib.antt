@@ -1,0 +1,15 @@
+pub mod Configuration
+pub mod Wire
+pub mod Keys
+pub mod Pages
+pub mod Trace
+pub mod Selection
+pub mod Certificates
+pub mod State
+pub mod RightReplica
+pub mod Texts
+pub mod Laws
+pub mod RightClient
+pub mod Linear
+pub mod Owed
+pub mod Run

@@ -1,0 +1,166 @@
+-- What a correct replica owes in an event: everything that the event's input brings about, and nothing where the input is
+-- dropped (Castro and Liskov, TOCS 2002, sections 4.2 to 4.5). No law of agreement uses it. It speaks of the same states
+-- as what the replica may do.
+use Rattle.std.specs.Prelude.{◌≡◌, ◌≢◌, ℕ, suc, ◌+◌, ◌%◌, ◌^◌, ◌≤◌, ◌<◌, ◌⊎◌, Bool, true, false, ◌&&◌, not, List, [], ◌∷◌, ◌++◌, reverse, nat_lt, ◌==◌, if◌then◌else◌, Option, Some, None, is_some, option_and_then, ⊤}
+use Rattle.std.specs.List.{list_any}
+use Rattle.std.specs.Option.{option_map_or}
+use Rattle.sha2.specs.Sha256.{sha256}
+use Rattle.tuple_codec.specs.Operations.{Operation}
+use Rattle.space.specs.Applying.{outcome, is_read_only}
+use Rattle.protocol.specs.Configuration.{Configuration, primary, is_number}
+use Rattle.protocol.specs.Wire.{Body, Message, NewView, Mark, said, requests_of}
+use Rattle.protocol.specs.Wire.Message.{Request, PrePrepare, Prepare, Commit, Checkpoint, Change, Begin, Reply, Fetch, Meta, Page}
+use Rattle.protocol.specs.Keys.{heard, signed_body}
+use Rattle.protocol.specs.Trace.{Entry, party_of, Once, Has, Each, Hears}
+use Rattle.protocol.specs.Trace.Entry.{Got, Tick, Sent}
+use Rattle.protocol.specs.Selection.{is_quorum, signed_change, is_within}
+use Rattle.protocol.specs.Certificates.{greatest, view, is_active_in, taken, marks_of, count_marks, low, is_in_marks, entry_proposal, logged, prepare_from, commit_from, vote_in, prepare_of, commit_of, Prepared, Committed}
+use Rattle.protocol.specs.Pages.{Kept}
+use Rattle.protocol.specs.State.{State, Call, call_of, Ran, kept_of, last_time, tuples, root_of, page_text}
+use Rattle.protocol.specs.RightReplica.{Point, start, IsStep, KeptState, Executes, digests_at}
+use Rattle.protocol.specs.RightClient.{is_output, either}
+
+-- ---- words on outputs
+
+abbrev pub IsSaying : ℕ → Message → Entry → Type 0
+IsSaying me message (Sent p bytes) = said bytes ≡ Some (record { sender = me; message = message })
+IsSaying me message _ = ⊥
+
+-- one of the outputs is a frame of this message
+abbrev pub Gives : ℕ → Message → List Entry → Type 0
+Gives me message outputs = Has (IsSaying me message) outputs
+
+-- at each of the outputs, the oldest first, with its past
+abbrev pub AtOutputs : (List Entry → Entry → Type 0) → List Entry → List Entry → Type 0
+AtOutputs P past [] = ⊤
+AtOutputs P past (e ∷ outputs) = P past e × AtOutputs P (e ∷ past) outputs
+
+abbrev pub fetch_sent : Entry → ℕ
+fetch_sent (Sent p bytes) = option_map_or (λ body. elim body.message [ Fetch k level index ↦ k | _ ↦ 0 ]) (said bytes) 0
+fetch_sent _ = 0
+
+-- the number of the latest transfer, which is open while it is above the state's
+abbrev pub fetching : List Entry → ℕ
+fetching past = greatest fetch_sent past
+
+-- ---- requests that a view has numbered
+
+abbrev pub BeginsWith : Configuration → ℕ → List ℕ → List Entry → Entry → Type 0
+BeginsWith c v batch past e = (new : NewView) × (taken c past e ≡ Some new) × (new.view ≡ v) × Has (λ x. x ≡ batch) new.batches
+
+-- the batch was pre-prepared in the view, or stands in the new view that began it, at whatever number
+abbrev pub IsOfView : Configuration → ℕ → List Entry → ℕ → List ℕ → Type 0
+IsOfView c me past v batch = ((i : ℕ) × (logged c me past v i ≡ Some batch)) ⊎ Once (BeginsWith c v batch) past
+
+abbrev pub HasRequest : Configuration → ℕ → ℕ → List ℕ → Type 0
+HasRequest c client timestamp batch = Has (λ frame. (call : Call) × (call_of c frame ≡ Some call) × (call.client ≡ client) × (call.timestamp ≡ timestamp)) (requests_of batch)
+
+-- the client's request of this timestamp has a number in the view
+abbrev pub IsNumbered : Configuration → ℕ → List Entry → ℕ → ℕ → ℕ → Type 0
+IsNumbered c me past v client timestamp = (batch : List ℕ) × IsOfView c me past v batch × HasRequest c client timestamp batch
+
+-- a number in the marks above all that the view has used
+abbrev pub IsFree : Configuration → ℕ → List Entry → ℕ → ℕ → Type 0
+IsFree c me past v i = (is_in_marks c (low c me past) i ≡ true) × ((j : ℕ) → i ≤ j → logged c me past v j ≡ None)
+
+-- a pre-prepare that isn't sent again numbers no request that the view has numbered
+abbrev pub NumbersOnce : Configuration → ℕ → List Entry → Entry → Type 0
+NumbersOnce c me past (Sent p bytes) =
+    (v i : ℕ) (batch : List ℕ) → said bytes ≡ Some (record { sender = me; message = PrePrepare v i batch }) → logged c me past v i ≡ None
+    → (client timestamp : ℕ) → HasRequest c client timestamp batch → IsNumbered c me past v client timestamp → ⊥
+NumbersOnce c me past _ = ⊤
+
+-- ---- inputs that count; all others are dropped
+
+abbrev pub has_number : ℕ → List Mark → Bool
+has_number k marks = list_any (λ m. m.number == k) marks
+
+-- the view of the view change that an entry brings of the replica, where it is above the view then and within its bounds
+abbrev pub change_taken : Configuration → ℕ → ℕ → List ℕ → ℕ
+change_taken c v s bytes = option_map_or (λ x. if (x.0 == s) && nat_lt v x.1.view && is_within c x.1 then x.1.view else 0) (signed_change c bytes) 0
+
+abbrev pub latest_change : Configuration → List Entry → ℕ → ℕ
+latest_change c [] s = 0
+latest_change c (Got p bytes ∷ past) s = let v : ℕ = change_taken c (view c past) s bytes in if nat_lt (latest_change c past s) v then v else latest_change c past s
+latest_change c (_ ∷ past) s = latest_change c past s
+
+-- the waiting requests of the client are older, or this very one
+abbrev pub IsNoOlder : List Call → ℕ → ℕ → Operation → Type 0
+IsNoOlder waiting client timestamp op = Each (λ call. call.client ≡ client → (call.timestamp < timestamp) ⊎ ((call.timestamp ≡ timestamp) × (call.op ≡ op))) waiting
+
+-- a rule takes the message
+abbrev pub Counts : Configuration → ℕ → List Entry → Point → List ℕ → ℕ → Message → Type 0
+Counts c me past point bytes s (Request t true op) = is_read_only op ≡ true
+Counts c me past point bytes s (Request t false op) =
+    (k : ℕ) × (s ≡ 256 + k)
+    × (((kept : Kept) × (kept_of point.state k ≡ Some kept) × (kept.timestamp ≡ t)) ⊎ ((last_time point.state k < t) × IsNoOlder point.waiting k t op))
+Counts c me past point bytes s (PrePrepare v i batch) = (entry_proposal c me past (Got me bytes) v i ≡ Some batch) × (logged c me past v i ≡ None)
+Counts c me past point bytes s (Prepare v i digest) = (vote_in c me past (Got me bytes) (prepare_from c s v i) v i ≡ Some digest) × (prepare_of c me past v i s ≡ None)
+Counts c me past point bytes s (Commit v i digest) = (vote_in c me past (Got me bytes) (commit_from s v i) v i ≡ Some digest) × (commit_of c me past v i s ≡ None)
+Counts c me past point bytes s (Checkpoint k root) =
+    (low c me past < k) × (is_number k ≡ true) × (has_number k (marks_of c past s) ≡ false) × (has_number k (marks_of c (Got me bytes ∷ past) s) ≡ true)
+Counts c me past point bytes s (Change vc) = (is_some (signed_body c bytes) ≡ true) × (view c past < vc.view) × (is_within c vc ≡ true) × (latest_change c past s < vc.view)
+Counts c me past point bytes s (Begin new) = taken c past (Got me bytes) ≡ Some new
+Counts c me past point bytes s (Reply client t kind k answer) = ⊥
+Counts c me past point bytes s (Fetch k level index) = KeptState c me past point k (λ st. ⊤)
+Counts c me past point bytes s (Meta k level index digests) = (fetching past ≡ k) × (point.state.number < k)
+Counts c me past point bytes s (Page k index text) = (fetching past ≡ k) × (point.state.number < k)
+
+abbrev pub IsDropped : Configuration → ℕ → List Entry → Point → List ℕ → Type 0
+IsDropped c me past point bytes = (body : Body) → heard c me bytes ≡ Some body → Counts c me past point bytes body.sender body.message → ⊥
+
+-- ---- what is owed
+
+-- before: the past at the input; now: the past behind the event; outputs: what lies between, the oldest first; old and
+-- new: the points at the input and behind the event
+pub record Owes (c : Configuration) (me : ℕ) (before : List Entry) (input : Entry) (outputs now : List Entry) (old new : Point) : Type 0 where
+  -- no waiting request is without a number at an active primary, while a number is free
+  pub numbers : (v i : ℕ) (call : Call) → is_active_in c now v ≡ true → primary c v ≡ me → Has (λ x. x ≡ call) new.waiting
+      → IsFree c me now v i → IsNumbered c me now v call.client call.timestamp
+  pub numbers_once : AtOutputs (NumbersOnce c me) (input ∷ before) outputs
+  -- an active backup prepares what it logs
+  pub prepares : (v i : ℕ) (batch : List ℕ) → logged c me before v i ≡ None → logged c me now v i ≡ Some batch → is_active_in c now v ≡ true → primary c v ≢ me
+      → Gives me (Prepare v i (sha256 batch)) outputs
+  -- an active replica commits what becomes prepared
+  pub commits : (v i : ℕ) (batch : List ℕ) → (Prepared c me before v i batch → ⊥) → Prepared c me now v i batch → is_active_in c now v ≡ true
+      → Gives me (Commit v i (sha256 batch)) outputs
+  -- nothing that is committed and next is left
+  pub executes : (v : ℕ) (batch : List ℕ) → Committed c me now v (suc new.state.number) batch → ⊥
+  pub replies : (ran : Ran) → Has (λ x. x ≡ ran) new.ran
+      → Gives me (Reply (256 + ran.call.client) ran.kept.timestamp false ran.kept.number ran.kept.answer) outputs
+  pub checkpoints : (k : ℕ) → Has (λ e. Executes k [] e) outputs → k % c.period ≡ 0
+      → Has (λ st. (st.number ≡ k) × Gives me (Checkpoint k (root_of st)) outputs) new.snapshots
+  -- a request of the last timestamp gets its kept reply again
+  pub again : (k timestamp : ℕ) (op : Operation) (kept : Kept) → Hears c me (record { sender = 256 + k; message = Request timestamp false op }) before input
+      → kept_of old.state k ≡ Some kept → kept.timestamp ≡ timestamp → Gives me (Reply (256 + k) timestamp false kept.number kept.answer) outputs
+  pub reads : (client timestamp : ℕ) (op : Operation) → Hears c me (record { sender = client; message = Request timestamp true op }) before input
+      → is_read_only op ≡ true → Gives me (Reply client timestamp true old.state.number (outcome (tuples old.state) op)) outputs
+  pub fetched_digests : (s k level index : ℕ) → level < 2 → Hears c me (record { sender = s; message = Fetch k level index }) before input
+      → (st : State) → KeptState c me before old k (λ x. x ≡ st) → Gives me (Meta k level index (digests_at st level index)) outputs
+  pub fetched_page : (s k index : ℕ) → Hears c me (record { sender = s; message = Fetch k 2 index }) before input
+      → (st : State) → KeptState c me before old k (λ x. x ≡ st) → Gives me (Page k index (page_text st index)) outputs
+  -- a quorum of checkpoints above the state, and above an open transfer, starts one
+  pub fetches : (k : ℕ) (root : List ℕ) → is_quorum c (count_marks c now (record { number = k; digest = root })) ≡ true
+      → new.state.number < k → fetching before < k → Gives me (Fetch k 0 0) outputs
+  pub dropped : (bytes : List ℕ) → input ≡ Got me bytes → IsDropped c me before old bytes → outputs ≡ []
+
+-- ---- histories
+
+-- The history is right and prompt, over one choice of points. outputs: those of the newest event that stand behind the
+-- list, the oldest first; new: the point behind that event; point: the one behind the list.
+abbrev pub Proceeds : Configuration → ℕ → List Entry → List Entry → Point → Point → Type 0
+Proceeds c me [] outputs new point = (point ≡ start) × (outputs ≡ [])
+Proceeds c me (e ∷ past) outputs new point =
+    (old : Point) × IsStep c me past old e point
+    × either (is_output e)
+    (Proceeds c me past (e ∷ outputs) new old)
+    (Owes c me past e outputs (reverse outputs ++ e ∷ past) old new × Proceeds c me past [] old old)
+
+abbrev pub IsInput : Entry → Type 0
+IsInput e = elim e [ Got p bytes ↦ ⊤ | Tick p ↦ ⊤ | _ ↦ ⊥ ]
+
+-- The whole of what a correct replica's history is: right and prompt; or it stopped, and from some input on there is no
+-- output at all.
+abbrev pub IsReplica : Configuration → ℕ → List Entry → Type 0
+IsReplica c me [] = ⊤
+IsReplica c me (e ∷ past) = ((point : Point) × Proceeds c me (e ∷ past) [] point point) ⊎ ((party_of e ≡ me) × IsInput e × IsReplica c me past)

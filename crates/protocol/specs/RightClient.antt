@@ -1,0 +1,225 @@
+-- What a correct client's history is (Castro and Liskov, TOCS 2002, section 4.2; that it waits for 2f + 1 replies alike in
+-- answer and number, for writes and reads alike, is our own). A client has one call at a time, and what it gives in an
+-- event is determined by its past.
+use Rattle.std.specs.Prelude.{◌≡◌, ℕ, suc, ◌+◌, ◌⊎◌, Bool, true, false, ◌&&◌, ◌||◌, not, List, [], ◌∷◌, nat_le, ◌==◌, if◌then◌else◌, Option, Some, None, is_some, option_and_then, bytes_eq, ⊤}
+use Rattle.std.specs.List.{range_with_len}
+use Rattle.std.specs.Option.{option_map_or}
+use Rattle.tuple_codec.specs.Operations.{Operation, Outcome, IsOperation}
+use Rattle.tuple_codec.specs.Spelling.{outcome_spelling}
+use Rattle.space.specs.Applying.{is_read_only}
+use Rattle.quorum.specs.Quorum.{count_below}
+use Rattle.quorum.specs.Votes.{give_if}
+use Rattle.protocol.specs.Configuration.{Configuration, replicas}
+use Rattle.protocol.specs.Wire.{Body, Frame, Message, frame_of, said}
+use Rattle.protocol.specs.Wire.Message.{Request, Reply}
+use Rattle.protocol.specs.Keys.{heard, IsSealed, receivers_of}
+use Rattle.protocol.specs.Trace.{Entry, party_of, Always}
+use Rattle.protocol.specs.Trace.Entry.{Invoke, Got, Tick, Sent, Accepted}
+use Rattle.protocol.specs.Selection.{is_quorum}
+
+-- ---- the open call
+
+-- the last timestamp, first 0
+abbrev pub last_call : List Entry → ℕ
+last_call [] = 0
+last_call (Invoke client timestamp op ∷ past) = timestamp
+last_call (_ ∷ past) = last_call past
+
+pub record OpenCall : Type 0 where
+  pub timestamp : ℕ
+  pub op : Operation
+
+abbrev pub open_call : List Entry → Option OpenCall
+open_call [] = None
+open_call (Invoke client timestamp op ∷ past) = Some (record { timestamp = timestamp; op = op })
+open_call (Accepted client timestamp answer ∷ past) = None
+open_call (_ ∷ past) = open_call past
+
+-- ---- the replies that count
+
+-- a reply: whether it is read-only, its number and its answer
+pub record Vote : Type 0 where
+  pub read_only : Bool
+  pub number : ℕ
+  pub answer : Outcome
+
+abbrev pub vote_of : ℕ → ℕ → ℕ → Body → Option Vote
+vote_of me timestamp s body = elim body.message [
+  | Reply client t read_only number answer ↦ give_if ((body.sender == s) && (client == me) && (t == timestamp)) (record { read_only = read_only; number = number; answer = answer })
+  | _ ↦ None
+]
+
+abbrev pub later_vote : Bool → Option Vote → Option Vote → Option Vote
+later_vote read_only None earlier = earlier
+later_vote true (Some vote) earlier = if vote.read_only then Some vote else earlier
+later_vote false (Some vote) earlier = if vote.read_only then earlier else Some vote
+
+-- the latest reply of the replica s of one kind that was got since the call began, and names client and timestamp
+unfoldable pub latest : Configuration → ℕ → List Entry → ℕ → Bool → ℕ → Option Vote
+latest c me [] timestamp read_only s = None
+latest c me (Invoke client t op ∷ past) timestamp read_only s = None
+latest c me (Got p bytes ∷ past) timestamp read_only s =
+    later_vote read_only (option_and_then (vote_of me timestamp s) (heard c me bytes)) (latest c me past timestamp read_only s)
+latest c me (_ ∷ past) timestamp read_only s = latest c me past timestamp read_only s
+
+-- alike in number and answer (outcomes of one spelling are one)
+abbrev pub is_alike : Vote → Option Vote → Bool
+is_alike vote other = option_map_or (λ o. (o.number == vote.number) && bytes_eq (outcome_spelling o.answer) (outcome_spelling vote.answer)) other false
+
+-- how many different replicas' latest replies of its kind are alike
+abbrev pub count_alike : Configuration → ℕ → List Entry → ℕ → Vote → ℕ
+count_alike c me past timestamp vote = count_below (λ s. is_alike vote (latest c me past timestamp vote.read_only s)) (replicas c)
+
+-- a quorum of replies ends a call
+abbrev pub is_complete : Configuration → ℕ → List Entry → ℕ → Vote → Bool
+is_complete c me past timestamp vote = is_quorum c (count_alike c me past timestamp vote)
+
+-- the vote that the newest entry brings
+abbrev pub newest_vote : Configuration → ℕ → List Entry → ℕ → Option Vote
+newest_vote c me past timestamp = elim past [
+  | [] ↦ None
+  | e ∷ earlier ↦ (elim e [ Got p bytes ↦ option_and_then (λ body. vote_of me timestamp body.sender body) (heard c me bytes) | _ ↦ None ])
+]
+
+-- ---- what a client gives
+
+-- nothing, a request of a call, or the acceptance of a call's answer
+pub data Reaction : Type 0 where
+  nothing : Reaction
+  asks : (read_only : Bool) (call : OpenCall) → Reaction
+  accepts : (timestamp : ℕ) (answer : Outcome) → Reaction
+
+abbrev pub is_ordered_request : ℕ → Body → Bool
+is_ordered_request timestamp body = elim body.message [ Request t read_only op ↦ (t == timestamp) && not read_only | _ ↦ false ]
+
+-- the open call's request was sent ordered
+abbrev pub went_ordered : List Entry → ℕ → Bool
+went_ordered [] timestamp = false
+went_ordered (Invoke client t op ∷ past) timestamp = false
+went_ordered (Sent p bytes ∷ past) timestamp = option_map_or (is_ordered_request timestamp) (said bytes) false || went_ordered past timestamp
+went_ordered (_ ∷ past) timestamp = went_ordered past timestamp
+
+-- each replica has a read-only reply
+abbrev pub is_answered : Configuration → ℕ → List Entry → ℕ → Bool
+is_answered c me past timestamp = nat_le (replicas c) (count_below (λ s. is_some (latest c me past timestamp true s)) (replicas c))
+
+-- a read falls back to an ordered request once each replica has answered it, and no quorum alike
+abbrev pub fallback : Configuration → ℕ → List Entry → OpenCall → Reaction
+fallback c me now call = if not (went_ordered now call.timestamp) && is_answered c me now call.timestamp then asks false call else nothing
+
+-- a reply that makes a quorum alike is accepted
+abbrev pub on_reply : Configuration → ℕ → List Entry → OpenCall → Vote → Reaction
+on_reply c me now call vote = if is_complete c me now call.timestamp vote then accepts call.timestamp vote.answer else fallback c me now call
+
+abbrev pub on_got : Configuration → ℕ → List Entry → OpenCall → Reaction
+on_got c me now call = option_map_or (on_reply c me now call) (newest_vote c me now call.timestamp) (fallback c me now call)
+
+-- What a client gives in the event of an input, the newest entry. A read is asked read-only first, and at a tick an open
+-- call's request goes ordered, again where it did before.
+abbrev pub reaction : Configuration → ℕ → List Entry → Reaction
+reaction c me [] = nothing
+reaction c me (Invoke client timestamp op ∷ past) = asks (is_read_only op) (record { timestamp = timestamp; op = op })
+reaction c me (Got p bytes ∷ past) = option_map_or (on_got c me (Got p bytes ∷ past)) (open_call past) nothing
+reaction c me (Tick p ∷ past) = option_map_or (asks false) (open_call past) nothing
+reaction c me (_ ∷ past) = nothing
+
+-- ---- the weak client, which the first one is: every operation is ordered, and f + 1 replies of one answer are enough,
+-- whatever their numbers
+
+abbrev pub is_same_answer : Vote → Option Vote → Bool
+is_same_answer vote other = option_map_or (λ o. bytes_eq (outcome_spelling o.answer) (outcome_spelling vote.answer)) other false
+
+abbrev pub is_weakly_complete : Configuration → ℕ → List Entry → ℕ → Vote → Bool
+is_weakly_complete c me past timestamp vote =
+    not vote.read_only && nat_le (c.faults + 1) (count_below (λ s. is_same_answer vote (latest c me past timestamp false s)) (replicas c))
+
+abbrev pub weakly_on_got : Configuration → ℕ → List Entry → OpenCall → Reaction
+weakly_on_got c me now call =
+    option_map_or (λ vote. if is_weakly_complete c me now call.timestamp vote then accepts call.timestamp vote.answer else nothing) (newest_vote c me now call.timestamp) nothing
+
+abbrev pub weak_reaction : Configuration → ℕ → List Entry → Reaction
+weak_reaction c me [] = nothing
+weak_reaction c me (Invoke client timestamp op ∷ past) = asks false (record { timestamp = timestamp; op = op })
+weak_reaction c me (Got p bytes ∷ past) = option_map_or (weakly_on_got c me (Got p bytes ∷ past)) (open_call past) nothing
+weak_reaction c me (Tick p ∷ past) = option_map_or (asks false) (open_call past) nothing
+weak_reaction c me (_ ∷ past) = nothing
+
+-- ---- histories
+
+abbrev pub is_output : Entry → Bool
+is_output e = elim e [ Invoke client t op ↦ false | Got p bytes ↦ false | Tick p ↦ false | _ ↦ true ]
+
+-- the bytes are a request of the call, sealed for all replicas
+pub record IsRequest (c : Configuration) (me : ℕ) (read_only : Bool) (call : OpenCall) (bytes : List ℕ) : Type 0 where
+  pub says : said bytes ≡ Some (record { sender = me; message = Request call.timestamp read_only call.op })
+  pub is_sealed : (frame : Frame) → frame_of bytes ≡ Some frame → IsSealed c me frame × (receivers_of frame.proof ≡ range_with_len 0 (replicas c))
+
+-- the outputs of an event, the oldest first, are what the client gives
+abbrev pub IsReaction : Configuration → ℕ → Reaction → List Entry → Type 0
+IsReaction c me nothing outputs = outputs ≡ []
+IsReaction c me (asks read_only call) outputs = (bytes : List ℕ) × (outputs ≡ Sent me bytes ∷ []) × IsRequest c me read_only call bytes
+IsReaction c me (accepts timestamp answer) outputs = (k : ℕ) × (outputs ≡ Accepted k timestamp answer ∷ [])
+
+-- a call begins where none is open, with the next timestamp
+abbrev pub MayInput : List Entry → Entry → Type 0
+MayInput past (Invoke client timestamp op) = (timestamp ≡ suc (last_call past)) × (open_call past ≡ None) × IsOperation op
+MayInput past (Got p bytes) = ⊤
+MayInput past (Tick p) = ⊤
+MayInput past _ = ⊥
+
+-- the one or the other
+abbrev pub either : Bool → Type 0 → Type 0 → Type 0
+either true one other = one
+either false one other = other
+
+-- each event gives what it is to; outputs: those of the newest event, the oldest first, that stand behind the list
+abbrev pub Reacts : Configuration → ℕ → (List Entry → Reaction) → List Entry → List Entry → Type 0
+Reacts c me react outputs [] = outputs ≡ []
+Reacts c me react outputs (e ∷ past) =
+    (party_of e ≡ me)
+    × either (is_output e) (Reacts c me react (e ∷ outputs) past) (MayInput past e × IsReaction c me (react (e ∷ past)) outputs × Reacts c me react [] past)
+
+-- Each event gives what it is to; or the client stopped, and from some input on there is no output at all.
+abbrev pub IsClientBy : Configuration → ℕ → (List Entry → Reaction) → List Entry → Type 0
+IsClientBy c me react [] = ⊤
+IsClientBy c me react (e ∷ past) = Reacts c me react [] (e ∷ past) ⊎ ((party_of e ≡ me) × MayInput past e × IsClientBy c me react past)
+
+abbrev pub IsClient : Configuration → ℕ → List Entry → Type 0
+IsClient c me history = IsClientBy c me (reaction c me) history
+
+abbrev pub IsWeakClient : Configuration → ℕ → List Entry → Type 0
+IsWeakClient c me history = IsClientBy c me (weak_reaction c me) history
+
+-- ---- what each entry may be: the part of it that the laws use
+
+abbrev pub MayAccept : Configuration → ℕ → List Entry → ℕ → Outcome → Type 0
+MayAccept c me past timestamp answer =
+    (call : OpenCall) × (vote : Vote) × (open_call past ≡ Some call) × (call.timestamp ≡ timestamp) × (vote.answer ≡ answer)
+    × (newest_vote c me past timestamp ≡ Some vote) × (is_complete c me past call.timestamp vote ≡ true)
+
+abbrev pub MayWeaklyAccept : Configuration → ℕ → List Entry → ℕ → Outcome → Type 0
+MayWeaklyAccept c me past timestamp answer =
+    (call : OpenCall) × (vote : Vote) × (open_call past ≡ Some call) × (call.timestamp ≡ timestamp) × (vote.answer ≡ answer)
+    × (newest_vote c me past timestamp ≡ Some vote) × (is_weakly_complete c me past call.timestamp vote ≡ true)
+
+-- a request of the open call, read-only for a read alone
+abbrev pub MayRequest : List Entry → ℕ → Bool → Operation → Type 0
+MayRequest past timestamp read_only op =
+    (open_call past ≡ Some (record { timestamp = timestamp; op = op })) × (read_only ≡ true → is_read_only op ≡ true)
+
+abbrev pub MayAsk : List Entry → Message → Type 0
+MayAsk past message = elim message [ Request timestamp read_only op ↦ MayRequest past timestamp read_only op | _ ↦ ⊥ ]
+
+abbrev pub MayClient : (List Entry → ℕ → Outcome → Type 0) → ℕ → List Entry → Entry → Type 0
+MayClient Accepting me past (Sent p bytes) = (body : Body) × (said bytes ≡ Some body) × (body.sender ≡ me) × MayAsk past body.message
+MayClient Accepting me past (Accepted client timestamp answer) = Accepting past timestamp answer
+MayClient Accepting me past e = MayInput past e
+
+abbrev pub RightBy : (List Entry → ℕ → Outcome → Type 0) → ℕ → List Entry → Type 0
+RightBy Accepting me history = Always (λ past e. (party_of e ≡ me) × MayClient Accepting me past e) history
+
+abbrev pub RightClient : Configuration → ℕ → List Entry → Type 0
+RightClient c me history = RightBy (MayAccept c me) me history
+
+abbrev pub WeakClient : Configuration → ℕ → List Entry → Type 0
+WeakClient c me history = RightBy (MayWeaklyAccept c me) me history

@@ -1,0 +1,37 @@
+-- Runs: what the correct replicas and clients do together, whatever the faulty ones send and however frames come.
+use Rattle.std.specs.Prelude.{◌≡◌, ℕ, true, false, List, [], ◌∷◌}
+use Rattle.protocol.specs.Configuration.{Configuration, IsConfiguration, is_correct, is_correct_replica, is_correct_client}
+use Rattle.protocol.specs.Trace.{Entry, party_of, history_of, Always, Unforged}
+use Rattle.protocol.specs.RightClient.{is_output, IsClient, IsWeakClient}
+use Rattle.protocol.specs.Owed.{IsReplica}
+use Rattle.protocol.specs.Texts.{NoCollision}
+use Rattle.protocol.specs.Linear.{points, IsLinear}
+
+-- an output follows its input, or an output of the same event
+abbrev pub Follows : List Entry → Entry → Type 0
+Follows [] e = is_output e ≡ false
+Follows (before ∷ past) e = is_output e ≡ true → party_of before ≡ party_of e
+
+-- Each correct replica's history is right and prompt, or it stopped; each correct client's is a client's; no others have
+-- entries; and the outputs of an event follow its input before the next.
+pub record IsRun (c : Configuration) (trace : List Entry) : Type 0 where
+  pub replicas : (p : ℕ) → is_correct_replica c p ≡ true → IsReplica c p (history_of p trace)
+  pub clients : (p : ℕ) → is_correct_client c p ≡ true → IsClient c p (history_of p trace)
+  pub parties : Always (λ past e. is_correct c (party_of e) ≡ true) trace
+  pub events : Always Follows trace
+
+-- a run of the first client, which accepts at f + 1 replies of one answer
+pub record IsWeakRun (c : Configuration) (trace : List Entry) : Type 0 where
+  pub replicas : (p : ℕ) → is_correct_replica c p ≡ true → IsReplica c p (history_of p trace)
+  pub clients : (p : ℕ) → is_correct_client c p ≡ true → IsWeakClient c p (history_of p trace)
+  pub parties : Always (λ past e. is_correct c (party_of e) ≡ true) trace
+  pub events : Always Follows trace
+
+-- Over every run of a valid configuration that is unforged and whose texts do not collide, the points are legal, cover the
+-- trace and are placed: the answers that correct clients accept, of reads and writes alike, are those of one sequential
+-- tuple space, in which each operation acts at most once, an accepted one exactly once, at a position between its
+-- invocation and its acceptance.
+abbrev pub PointsAreLinear : Type 0
+PointsAreLinear =
+    (c : Configuration) → IsConfiguration c → (trace : List Entry) → IsRun c trace → Unforged c trace → NoCollision c trace
+    → IsLinear c (points c trace) trace

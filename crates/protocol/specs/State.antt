@@ -1,0 +1,119 @@
+-- The state that batches leave, its pages and its root (Castro and Liskov, TOCS 2002, sections 4.3 and 4.4).
+use Rattle.std.specs.Prelude.{◌≡◌, ℕ, suc, ◌-◌, Bool, ◌&&◌, not, List, [], ◌∷◌, ◌++◌, length, map, replicate, nat_lt, ◌==◌, if◌then◌else◌, Option, Some, None, slice_get, slice_set, option_and_then, fold}
+use Rattle.std.specs.List.{range_with_len}
+use Rattle.std.specs.Option.{option_map_or}
+use Rattle.tuple_tree.specs.Values.{TupleTree}
+use Rattle.tuple_codec.specs.Operations.{Operation}
+use Rattle.space.specs.Applying.{outcome}
+use Rattle.space.specs.Births.{SpaceState, empty_state, tuples_of, state_after}
+use Rattle.space.specs.Pages.{IsStateAt, header_text, page_text as tuple_page}
+use Rattle.partition_tree.specs.Digests.{root_of as root_of_pages}
+use Rattle.protocol.specs.Configuration.{Configuration, is_client}
+use Rattle.protocol.specs.Wire.{Body, requests_of, said}
+use Rattle.protocol.specs.Wire.Message.{Request}
+use Rattle.protocol.specs.Pages.{Kept, IsKept, reply_page}
+
+-- The space, the number of the last batch, and for each client, by its number, its last request that ran.
+pub record State : Type 0 where
+  pub space : SpaceState
+  pub number : ℕ
+  pub replies : List (Option Kept)
+
+abbrev pub opening : State
+opening = record { space = empty_state; number = 0; replies = replicate 256 None }
+
+abbrev pub tuples : State → List TupleTree
+tuples st = tuples_of st.space
+
+abbrev pub kept_of : State → ℕ → Option Kept
+kept_of st client = option_and_then (λ x. x) (slice_get st.replies client)
+
+-- the last timestamp of a client, first 0
+abbrev pub last_time : State → ℕ → ℕ
+last_time st client = option_map_or (λ kept. kept.timestamp) (kept_of st client) 0
+
+-- ---- requests
+
+-- an ordered request of one of the clients
+pub record Call : Type 0 where
+  pub client : ℕ
+  pub timestamp : ℕ
+  pub op : Operation
+
+abbrev pub call_in : Configuration → Body → Option Call
+call_in c body = elim body.message [
+  | Request timestamp read_only op ↦ if not read_only && is_client c body.sender
+      then Some (record { client = body.sender - 256; timestamp = timestamp; op = op }) else None
+  | _ ↦ None
+]
+
+abbrev pub call_of : Configuration → List ℕ → Option Call
+call_of c frame = option_and_then (call_in c) (said frame)
+
+-- A request runs if its timestamp is above its client's last.
+abbrev pub runs : State → Call → Bool
+runs st call = nat_lt (last_time st call.client) call.timestamp
+
+-- what a request that runs keeps for its client
+abbrev pub kept_by : State → ℕ → Call → Kept
+kept_by st number call = record { timestamp = call.timestamp; number = number; answer = outcome (tuples st) call.op }
+
+abbrev pub ran_call : State → ℕ → Call → State
+ran_call st number call =
+    record { space = state_after st.space call.op; number = st.number; replies = slice_set st.replies call.client (Some (kept_by st number call)) }
+
+-- what a request does in the batch of a number
+abbrev pub run_call : State → ℕ → Call → State
+run_call st number call = if runs st call then ran_call st number call else st
+
+abbrev pub run_frame : Configuration → ℕ → State → List ℕ → State
+run_frame c number st frame = option_map_or (run_call st number) (call_of c frame) st
+
+-- the state after the next batch: each of its requests in order, and its number
+unfoldable pub execute : Configuration → State → List ℕ → State
+execute c st batch = record (fold (run_frame c (suc st.number)) st (requests_of batch)) { number = suc st.number }
+
+-- the state after these batches, the oldest first
+abbrev pub after_batches : Configuration → State → List (List ℕ) → State
+after_batches c st [] = st
+after_batches c st (batch ∷ batches) = after_batches c (execute c st batch) batches
+
+-- a request that ran, with what it keeps
+pub record Ran : Type 0 where
+  pub call : Call
+  pub kept : Kept
+
+abbrev pub ran_by : State → ℕ → Call → List Ran
+ran_by st number call = if runs st call then record { call = call; kept = kept_by st number call } ∷ [] else []
+
+-- the requests of the frames that run, one after another
+abbrev pub ran_in : Configuration → ℕ → State → List (List ℕ) → List Ran
+ran_in c number st [] = []
+ran_in c number st (frame ∷ frames) = option_map_or (ran_by st number) (call_of c frame) [] ++ ran_in c number (run_frame c number st frame) frames
+
+-- ---- what a state is
+
+-- A state: that of a space behind so many batches, and with a reply or none for each of 256 clients.
+pub record IsState (st : State) : Type 0 where
+  pub space : IsStateAt st.space st.number
+  pub clients : length st.replies ≡ 256
+  pub replies : (client : ℕ) (kept : Kept) → kept_of st client ≡ Some kept → IsKept kept
+
+-- ---- pages: 0 to 255 hold tuples, 256 to 511 replies, 512 the header, all others nothing
+
+unfoldable pub page_text : State → ℕ → List ℕ
+page_text st page =
+    if nat_lt page 256 then tuple_page st.space page else
+    if nat_lt page 512 then reply_page (kept_of st (page - 256)) else
+    if page == 512 then header_text st.space st.number else
+    []
+
+-- the texts of all 1,024 pages
+unfoldable pub all_pages : (ℕ → List ℕ) → List (List ℕ)
+all_pages page = map page (range_with_len 0 1024)
+
+abbrev pub pages_of : State → List (List ℕ)
+pages_of st = all_pages (page_text st)
+
+abbrev pub root_of : State → List ℕ
+root_of st = root_of_pages (pages_of st)

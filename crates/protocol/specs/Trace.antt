@@ -1,0 +1,87 @@
+-- Traces and histories. Both are lists of entries, the newest first, so that what stands behind an entry is its past,
+-- and the position of an entry is how many stand behind it.
+use Rattle.std.specs.Prelude.{◌≡◌, ℕ, ◌+◌, ◌⊎◌, true, List, [], ◌∷◌, filter, ◌==◌, Some, ⊤}
+use Rattle.std.specs.Option.{option_map_or}
+use Rattle.tuple_codec.specs.Operations.{Operation, Outcome}
+use Rattle.protocol.specs.Configuration.{Configuration, is_correct}
+use Rattle.protocol.specs.Wire.{Body, Frame, frame_of, said, carried}
+use Rattle.protocol.specs.Keys.{heard}
+
+-- What happens at the correct parties. A client stands with its number here, and 256 above it as a party.
+pub data Entry : Type 0 where
+  Invoke : (client timestamp : ℕ) (op : Operation) → Entry
+  Got : (party : ℕ) (bytes : List ℕ) → Entry
+  Tick : (party : ℕ) → Entry
+  Executed : (replica number : ℕ) (batch : List ℕ) → Entry
+  Installed : (replica number : ℕ) (root : List ℕ) → Entry
+  Sent : (party : ℕ) (bytes : List ℕ) → Entry
+  Accepted : (client timestamp : ℕ) (answer : Outcome) → Entry
+
+abbrev pub party_of : Entry → ℕ
+party_of (Invoke client timestamp op) = 256 + client
+party_of (Got party bytes) = party
+party_of (Tick party) = party
+party_of (Executed replica number batch) = replica
+party_of (Installed replica number root) = replica
+party_of (Sent party bytes) = party
+party_of (Accepted client timestamp answer) = 256 + client
+
+-- the history of one party: its entries of the trace
+abbrev pub history_of : ℕ → List Entry → List Entry
+history_of p trace = filter (λ e. party_of e == p) trace
+
+-- at some entry, with its past
+abbrev pub Once : (List Entry → Entry → Type 0) → List Entry → Type 0
+Once P [] = ⊥
+Once P (e ∷ past) = P past e ⊎ Once P past
+
+-- at each entry, with its past
+abbrev pub Always : (List Entry → Entry → Type 0) → List Entry → Type 0
+Always P [] = ⊤
+Always P (e ∷ past) = P past e × Always P past
+
+-- some element of the list
+abbrev pub Has : {A : Type 0} → (A → Type 0) → List A → Type 0
+Has P [] = ⊥
+Has P (x ∷ xs) = P x ⊎ Has P xs
+
+-- each element of the list
+abbrev pub Each : {A : Type 0} → (A → Type 0) → List A → Type 0
+Each P [] = ⊤
+Each P (x ∷ xs) = P x × Each P xs
+
+-- ---- frames
+
+-- the frames that a frame carries, which carry none, and with them the frame itself
+abbrev pub carried_by : List ℕ → List (List ℕ)
+carried_by bytes = option_map_or (λ body. carried body.message) (said bytes) []
+
+abbrev pub frames_in : List ℕ → List (List ℕ)
+frames_in bytes = bytes ∷ carried_by bytes
+
+-- the party sent a frame of this body
+abbrev pub SendsText : ℕ → List ℕ → List Entry → Entry → Type 0
+SendsText p text past (Sent party bytes) = (party ≡ p) × ((frame : Frame) × (frame_of bytes ≡ Some frame) × (frame.text ≡ text))
+SendsText p text past _ = ⊥
+
+-- the party got a frame that it takes as genuine, of this body
+abbrev pub Hears : Configuration → ℕ → Body → List Entry → Entry → Type 0
+Hears c me body past (Got p bytes) = heard c me bytes ≡ Some body
+Hears c me body past _ = ⊥
+
+-- ---- no message of a correct party is forged
+
+-- where a correct party can take the frame as a correct sender's, by its MAC or by its signature, the sender sent a
+-- frame of that body before
+abbrev pub IsFromSender : Configuration → ℕ → List Entry → List ℕ → Type 0
+IsFromSender c me past bytes = (body : Body) (frame : Frame) → frame_of bytes ≡ Some frame → heard c me bytes ≡ Some body
+    → is_correct c body.sender ≡ true → Once (SendsText body.sender frame.text) past
+
+abbrev pub IsUnforgedAt : Configuration → List Entry → Entry → Type 0
+IsUnforgedAt c past (Got me bytes) = is_correct c me ≡ true → Each (IsFromSender c me past) (frames_in bytes)
+IsUnforgedAt c past _ = ⊤
+
+-- What MACs and signatures are trusted for: each frame that a correct party got, alone or carried in another, and takes
+-- as a correct sender's, that sender sent before (Castro and Liskov, TOCS 2002, section 2).
+abbrev pub Unforged : Configuration → List Entry → Type 0
+Unforged c trace = Always (IsUnforgedAt c) trace

@@ -1,0 +1,57 @@
+//! The laws of the protocol, over every trace of correct replicas and clients.
+#![tactic(auto)]
+
+ghost use Rattle.protocol.specs.Laws.{PreparedAgree, CommittedStays, CommittedAgree, ExecutedAgree, PagesDetermine, BatchesLeaveStates, StatesAgree, StableAgree, InstalledAgree, StartsAgree};
+ghost use Rattle.protocol.specs.Run.{PointsAreLinear};
+
+/// Two correct replicas hold batches of one digest prepared in one view for one number (Castro and Liskov, TOCS 2002,
+/// section 4.5).
+pub fn prepared_agree()
+    ensures agree { PreparedAgree }
+{}
+
+/// Each later new view has what is committed, or starts at or above it (Castro and Liskov, TOCS 2002, section 4.5).
+pub fn committed_stays()
+    ensures stays { CommittedStays }
+{}
+
+/// Two correct replicas hold batches of one digest committed for one number, over all views.
+pub fn committed_agree()
+    ensures agree { CommittedAgree }
+{}
+
+/// Two correct replicas execute one batch for one number.
+pub fn executed_agree()
+    ensures agree { ExecutedAgree }
+{}
+
+/// States are equal where their pages are.
+pub fn pages_determine()
+    ensures determine { PagesDetermine }
+{}
+
+/// Batches leave states.
+pub fn batches_leave_states()
+    ensures leave { BatchesLeaveStates }
+{}
+
+/// Two correct replicas' states of one number are one state.
+pub fn states_agree()
+    ensures agree { StatesAgree }
+{}
+
+/// Stable roots, installed roots and the roots that new views start with are those of the executed batches (Castro and
+/// Liskov, TOCS 2002, sections 4.4 and 4.5).
+pub fn roots_agree()
+    ensures stable { StableAgree }
+    ensures installed { InstalledAgree }
+    ensures starts { StartsAgree }
+{}
+
+/// Over every run of a valid configuration, if no message of a correct party is forged and no digests collide, the
+/// points of the trace are legal, cover it and are placed: the answers that correct clients accept, of reads and writes
+/// alike, are those of one sequential tuple space, in which each operation acts at most once, an accepted one exactly
+/// once, at a position between its invocation and its acceptance (Herlihy and Wing, TOPLAS 1990, section 2).
+pub fn points_are_linear()
+    ensures linear { PointsAreLinear }
+{}

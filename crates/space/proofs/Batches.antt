@@ -1,0 +1,49 @@
+-- What a batch of operations leaves.
+use Rattle.std.proofs.Common.{◌≡◌, ℕ, ◌+◌, ◌*◌, ◌^◌, ◌≤◌, ◌<◌, Bool, true, false, cond, List, [], ◌∷◌, length, refl, arith}
+use Rattle.std.specs.Prelude.{All, fold, is_some}
+use Rattle.std.proofs.lemmas.Bool.{ltb-true}
+use Rattle.std.proofs.lemmas.List.{length-map}
+use Rattle.std.proofs.lemmas.List.Elements.{All-head, All-tail}
+use Rattle.tuple_tree.specs.Values.{TupleTree}
+use Rattle.tuple_codec.specs.Operations.{Operation, out, rdp, inp, cas, rd_all, IsOperation}
+use Rattle.space.specs.Applying.{has_room, first_match}
+use Rattle.space.specs.Births.{SpaceState, IsState, tuples_of, with_birth, with_tuple, state_after}
+use Rattle.space.specs.Pages.{IsStateAt}
+use Rattle.space.proofs.Keeping.{IsNextBirth-birth_of, IsState-state_after}
+
+next_with_tuple : (s : SpaceState) (t : TupleTree) → (with_tuple s t).next ≤ s.next + 256
+next_with_tuple s t = go (has_room (tuples_of s)) refl
+  where
+    go : (b : Bool) → has_room (tuples_of s) ≡ b → (cond b (with_birth s t) s).next ≤ s.next + 256
+    go true e =
+        let l = ltb-true (length (tuples_of s)) 8192 e in
+        let soon = (IsNextBirth-birth_of s (omega (arith, length-map s.entries (λ e. e.1)))).soon in
+        omega arith
+    go false e = omega arith
+
+-- An operation takes at most 256 births.
+pub next_after : (s : SpaceState) (o : Operation) → (state_after s o).next ≤ s.next + 256
+next_after s (out t) = next_with_tuple s t
+next_after s (rdp p) = omega arith
+next_after s (inp p) = omega arith
+next_after s (cas p t) = go (is_some (first_match p (tuples_of s)))
+  where
+    go : (b : Bool) → (cond b s (with_tuple s t)).next ≤ s.next + 256
+    go true = omega arith
+    go false = next_with_tuple s t
+next_after s (rd_all n p) = omega arith
+
+all_after : (s : SpaceState) (os : List Operation) → IsState s → All IsOperation os → IsState (fold state_after s os) × ((fold state_after s os).next ≤ s.next + 256 * length os)
+all_after s [] h valid = (h, omega arith)
+all_after s (o ∷ os) h valid =
+    let one = next_after s o in
+    let rest = all_after (state_after s o) os (IsState-state_after s o h (All-head IsOperation o os valid)) (All-tail IsOperation o os valid) in
+    let more = rest.1 in
+    (rest.0, omega arith)
+
+pub batches_leave_states : (s : SpaceState) (number : ℕ) (os : List Operation) → IsStateAt s number → length os ≤ 16 → All IsOperation os → number + 1 < 2 ^ 48 → IsStateAt (fold state_after s os) (number + 1)
+batches_leave_states s number os h few valid below =
+    let all = all_after s os h.state valid in
+    let births = h.births in
+    let more = all.1 in
+    record { state = all.0; births = omega arith; few = below }

@@ -1,0 +1,133 @@
+-- States are equal where their pages and headers are.
+use Rattle.std.proofs.Common.{◌≡◌, ℕ, zero, suc, ◌+◌, ◌*◌, ◌%◌, ◌^◌, ◌≤◌, ◌<◌, Bool, true, false, cond, List, [], ◌∷◌, ◌++◌, length, take, drop, get_or, refl, sym, ap, ◌∙◌, subst, arith, eq-eqb, append_assoc}
+use Rattle.std.specs.Prelude.{◌==◌, All, AllPairs, filter}
+use Rattle.std.specs.Int.{w64, to_be_bytes, from_be_bytes}
+use Rattle.std.proofs.lemmas.List.{take_at, drop_at}
+use Rattle.std.proofs.lemmas.List.Elements.{All-cons, All-head, All-tail, All-filter, All-weaker}
+use Rattle.std.proofs.lemmas.Nat.{from_be_bytes-to_be_bytes_8}
+use Rattle.tuple_tree.specs.Values.{IsTuple}
+use Rattle.tuple_codec.specs.Spelling.{Spells, tuple_spelling}
+use Rattle.tuple_codec.specs.Reading.{tuple_at}
+use Rattle.tuple_codec.proofs.Grammar.{one, tuple_reads}
+use Rattle.space.specs.Births.{Entry, SpaceState, IsState}
+use Rattle.space.specs.Pages.{entry_text, entries_text, on_page, page_text, header_text, IsStateAt}
+
+-- ---- numbers and texts
+
+bytes_same : (a b : ℕ) → a < 2 ^ 64 → b < 2 ^ 64 → to_be_bytes w64 a ≡ to_be_bytes w64 b → a ≡ b
+bytes_same a b l m e = sym (from_be_bytes-to_be_bytes_8 a l) ∙ ap (from_be_bytes w64) e ∙ from_be_bytes-to_be_bytes_8 b m
+
+pub number_split : (a b : ℕ) (u v : List ℕ) → a < 2 ^ 64 → b < 2 ^ 64 → to_be_bytes w64 a ++ u ≡ to_be_bytes w64 b ++ v → (a ≡ b) × (u ≡ v)
+number_split a b u v l m e =
+    let front : to_be_bytes w64 a ≡ to_be_bytes w64 b = sym (take_at (to_be_bytes w64 a) u 8 refl) ∙ ap (take 8) e ∙ take_at (to_be_bytes w64 b) v 8 refl in
+    let rest : u ≡ v = sym (drop_at (to_be_bytes w64 a) u 8 refl) ∙ ap (drop 8) e ∙ drop_at (to_be_bytes w64 b) v 8 refl in
+    (bytes_same a b l m front, rest)
+
+-- what an entry of a page is
+pub record IsEntry (e : Entry) : Type 0 where
+  pub fits : e.0 < 2 ^ 64
+  pub tuple : IsTuple e.1
+
+pub entry_split : (e f : Entry) (u v : List ℕ) → IsEntry e → IsEntry f → entry_text e ++ u ≡ entry_text f ++ v → (e ≡ f) × (u ≡ v)
+entry_split e f u v d g t =
+    let a : to_be_bytes w64 e.0 ++ (tuple_spelling e.1 ++ u) ≡ to_be_bytes w64 f.0 ++ (tuple_spelling f.1 ++ v) =
+    sym (append_assoc (to_be_bytes w64 e.0) (tuple_spelling e.1) u) ∙ t ∙ append_assoc (to_be_bytes w64 f.0) (tuple_spelling f.1) v in
+    let s = number_split e.0 f.0 (tuple_spelling e.1 ++ u) (tuple_spelling f.1 ++ v) d.fits g.fits a in
+    let p = one IsTuple tuple_spelling tuple_at tuple_reads (tuple_spelling e.1) (tuple_spelling f.1) u v e.1 f.1
+    (record { valid = d.tuple; spelled = refl }) (record { valid = g.tuple; spelled = refl }) s.1 in
+    let rest : u ≡ v =
+    sym (drop_at (tuple_spelling e.1) u (length (tuple_spelling e.1)) refl) ∙ ap (drop (length (tuple_spelling e.1))) s.1
+    ∙ drop_at (tuple_spelling f.1) v (length (tuple_spelling e.1)) (ap length (sym p.0)) in
+    (rw (s.0, p.1) refl, rest)
+
+pub entries_same : (es fs : List Entry) → All IsEntry es → All IsEntry fs → entries_text es ≡ entries_text fs → es ≡ fs
+entries_same [] [] d g t = refl
+entries_same [] (f ∷ fs) d g t = absurd (let h : ⊥ = cc in h)
+entries_same (e ∷ es) [] d g t = absurd (let h : ⊥ = cc in h)
+entries_same (e ∷ es) (f ∷ fs) d g t =
+    let s = entry_split e f (entries_text es) (entries_text fs) (All-head IsEntry e es d) (All-head IsEntry f fs g) t in
+    rw (s.0, entries_same es fs (All-tail IsEntry e es d) (All-tail IsEntry f fs g) s.1) refl
+
+-- ---- pages of births that rise
+
+abbrev on : ℕ → List Entry → List Entry
+on page es = filter (λ e. e.0 % 256 == page) es
+
+-- the births rise, from this number on
+abbrev Rises : ℕ → List Entry → Type 0
+Rises from [] = Unit {0}
+Rises from (e ∷ es) = (from ≤ e.0) × Rises (suc e.0) es
+
+Rises-from_pairs : (from : ℕ) (es : List Entry) → AllPairs (λ e f. e.0 < f.0) es → All (λ e. from ≤ e.0) es → Rises from es
+Rises-from_pairs from [] h a = tt
+Rises-from_pairs from (e ∷ es) h a =
+    (All-head (λ x. from ≤ x.0) e es a, Rises-from_pairs (suc e.0) es (λ i j d l m. h (suc i) (suc j) d (omega arith) (omega arith)) (λ k d l. let p = h 0 (suc k) d (omega arith) (omega arith) in omega arith))
+
+all_from : (from : ℕ) (es : List Entry) → Rises from es → All (λ e. from ≤ e.0) es
+all_from from [] h = λ k d l. absurd (omega arith)
+all_from from (e ∷ es) h =
+    All-cons (λ x. from ≤ x.0) e es h.0 (All-weaker (λ x. suc e.0 ≤ x.0) (λ x. from ≤ x.0) (λ x l. let a = h.0 in omega arith) es (all_from (suc e.0) es h.1))
+
+on_here : (e : Entry) (es : List Entry) → on (e.0 % 256) (e ∷ es) ≡ e ∷ on (e.0 % 256) es
+on_here e es = ap (λ b. cond b (e ∷ on (e.0 % 256) es) (on (e.0 % 256) es)) (eq-eqb (e.0 % 256) (e.0 % 256) refl)
+
+not_lower : (e f : Entry) (es fs : List Entry) → All (λ x. f.0 ≤ x.0) (f ∷ fs) → on (e.0 % 256) (e ∷ es) ≡ on (e.0 % 256) (f ∷ fs) → f.0 ≤ e.0
+not_lower e f es fs low t =
+    let all = All-filter (λ x. x.0 % 256 == e.0 % 256) (λ x. f.0 ≤ x.0) (f ∷ fs) low in
+    let same : on (e.0 % 256) (f ∷ fs) ≡ e ∷ on (e.0 % 256) es = sym t ∙ on_here e es in
+    All-head (λ x. f.0 ≤ x.0) e (on (e.0 % 256) es) (subst (λ (xs : List Entry). All (λ x. f.0 ≤ x.0) xs) same all)
+
+pub merged : (from : ℕ) (es fs : List Entry) → Rises from es → Rises from fs → ((page : ℕ) → page < 256 → on page es ≡ on page fs) → es ≡ fs
+merged from [] [] a b h = refl
+merged from [] (f ∷ fs) a b h = let l : f.0 % 256 < 256 = omega arith in let e : [] ≡ f ∷ on (f.0 % 256) fs = h (f.0 % 256) l ∙ on_here f fs in absurd (let g : ⊥ = cc in g)
+merged from (e ∷ es) [] a b h = let l : e.0 % 256 < 256 = omega arith in let t : e ∷ on (e.0 % 256) es ≡ [] = sym (on_here e es) ∙ h (e.0 % 256) l in absurd (let g : ⊥ = cc in g)
+merged from (e ∷ es) (f ∷ fs) a b h =
+    let le : e.0 % 256 < 256 = omega arith in
+    let lf : f.0 % 256 < 256 = omega arith in
+    let one = not_lower e f es fs (all_from f.0 (f ∷ fs) (omega arith, b.1)) (h (e.0 % 256) le) in
+    let two = not_lower f e fs es (all_from e.0 (e ∷ es) (omega arith, a.1)) (sym (h (f.0 % 256) lf)) in
+    let same : e.0 ≡ f.0 = omega arith in
+    let heads : e ∷ on (e.0 % 256) es ≡ f ∷ on (e.0 % 256) fs =
+    sym (on_here e es) ∙ h (e.0 % 256) le ∙ subst (λ (n : ℕ). on (n % 256) (f ∷ fs) ≡ f ∷ on (n % 256) fs) (sym same) (on_here f fs) in
+    let first : e ≡ f = cc in
+    let b' : Rises (suc e.0) fs = subst (λ (n : ℕ). Rises (suc n) fs) (sym same) b.1 in
+    rw (first, merged (suc e.0) es fs a.1 b' (λ page l. rest page (e.0 % 256 == page) (f.0 % 256 == page) (ap (λ (n : ℕ). n % 256 == page) same) (h page l))) refl
+  where
+    rest : (page : ℕ) (a b : Bool) → a ≡ b → cond a (e ∷ on page es) (on page es) ≡ cond b (f ∷ on page fs) (on page fs) → on page es ≡ on page fs
+    rest page true true t h = cc
+    rest page false false t h = h
+    rest page true false t h = absurd (let g : ⊥ = cc in g)
+    rest page false true t h = absurd (let g : ⊥ = cc in g)
+
+pub entries_from_pages : (es fs : List Entry) → AllPairs (λ e f. e.0 < f.0) es → AllPairs (λ e f. e.0 < f.0) fs
+    → ((page : ℕ) → page < 256 → on_page page es ≡ on_page page fs) → es ≡ fs
+unfolding on_page
+entries_from_pages es fs d g h =
+    merged 0 es fs (Rises-from_pairs 0 es d (λ k x l. omega arith)) (Rises-from_pairs 0 fs g (λ k x l. omega arith)) h
+
+-- ---- states
+
+pub entries_fit : (s : SpaceState) → IsState s → s.next < 2 ^ 64 → All IsEntry s.entries
+entries_fit s h l k d m = let b = h.below_next k d m in record { fits = omega arith; tuple = h.tuples k d m }
+
+pub on_page_fits : (s : SpaceState) (page : ℕ) → IsState s → s.next < 2 ^ 64 → All IsEntry (on_page page s.entries)
+unfolding on_page
+on_page_fits s page h l = All-filter (λ e. e.0 % 256 == page) IsEntry s.entries (entries_fit s h l)
+
+pub next_fits : (s : SpaceState) (number : ℕ) → IsStateAt s number → s.next < 2 ^ 64
+next_fits s number h = let a = h.births in let b = h.few in omega arith
+
+pub pages_determine : (s t : SpaceState) (m n : ℕ) → IsStateAt s m → IsStateAt t n → header_text s m ≡ header_text t n
+    → ((page : ℕ) → page < 256 → page_text s page ≡ page_text t page) → (m ≡ n) × (s ≡ t)
+pages_determine s t m n h k e pages =
+    let u : to_be_bytes w64 m ++ to_be_bytes w64 s.next ≡ to_be_bytes w64 n ++ to_be_bytes w64 t.next = ap (drop 1) e in
+    let hm = h.few in
+    let kn = k.few in
+    let header = number_split m n (to_be_bytes w64 s.next) (to_be_bytes w64 t.next) (omega arith) (omega arith) u in
+    let next : s.next ≡ t.next = bytes_same s.next t.next (next_fits s m h) (next_fits t n k) header.1 in
+    let entries : s.entries ≡ t.entries = entries_from_pages s.entries t.entries h.state.rising k.state.rising (λ page l.
+    entries_same (on_page page s.entries) (on_page page t.entries) (on_page_fits s page h.state (next_fits s m h)) (on_page_fits t page k.state (next_fits t n k)) (pages page l)) in
+    (header.0, build s.entries t.entries s.next t.next entries next)
+  where
+    build : (es fs : List Entry) (a b : ℕ) → es ≡ fs → a ≡ b → ◌≡◌ {A = SpaceState} (record { entries = es; next = a }) (record { entries = fs; next = b })
+    build es fs a b p q = rw (p, q) refl

@@ -1,0 +1,31 @@
+-- The pages of a space. Page i, 0 to 255, has the tuples whose birth number has the remainder i by 256, in the order of
+-- births: each as its birth number in 8 bytes, high byte first, and its spelling. What is no tuple is a header: a version
+-- byte, the number of executed batches and the next birth number.
+use Rattle.std.specs.Prelude.{◌≡◌, ℕ, ◌*◌, ◌^◌, ◌≤◌, ◌<◌, ◌%◌, List, [], ◌∷◌, ◌++◌, length, filter, flat_map, All, AllPairs, slice_index_or, ◌==◌}
+use Rattle.std.specs.Int.{w64, to_be_bytes}
+use Rattle.tuple_tree.specs.Values.{IsTuple}
+use Rattle.tuple_codec.specs.Spelling.{tuple_spelling}
+use Rattle.space.specs.Births.{Entry, SpaceState, IsState}
+
+abbrev pub entry_text : Entry → List ℕ
+entry_text e = to_be_bytes w64 e.0 ++ tuple_spelling e.1
+
+abbrev pub entries_text : List Entry → List ℕ
+entries_text es = flat_map entry_text es
+
+-- the tuples of a page, the oldest first
+unfoldable pub on_page : ℕ → List Entry → List Entry
+on_page page es = filter (λ e. e.0 % 256 == page) es
+
+abbrev pub page_text : SpaceState → ℕ → List ℕ
+page_text s page = entries_text (on_page page s.entries)
+
+-- the text of the header behind this many executed batches
+abbrev pub header_text : SpaceState → ℕ → List ℕ
+header_text s number = 1 ∷ to_be_bytes w64 number ++ to_be_bytes w64 s.next
+
+-- A state behind so many executed batches: each batch has at most 16 requests, and each request takes at most 256 births.
+pub record IsStateAt (s : SpaceState) (number : ℕ) : Type 0 where
+  pub state : IsState s
+  pub births : s.next ≤ 4096 * number
+  pub few : number < 2 ^ 48
