@@ -6,3 +6,6 @@ pub mod Finding
 pub mod Texts
 pub mod Determining
 pub mod Batches
+pub mod Placing
+pub mod Fronts
+pub mod Loading

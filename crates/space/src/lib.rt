@@ -10,6 +10,7 @@ mod births;
 mod laws;
 mod matching;
 mod pages;
+mod reading;
 #[cfg(test)]
 mod tests;
 mod tuples;
