@@ -9,3 +9,4 @@ pub mod Batches
 pub mod Placing
 pub mod Fronts
 pub mod Loading
+pub mod Restoring

@@ -1,9 +1,9 @@
 -- What the private functions that read pages speak of.
-use Rattle.std.specs.Prelude.{◌≡◌, ◌≢◌, ℕ, ◌*◌, ◌%◌, ◌^◌, ◌≤◌, ◌<◌, List, [], ◌∷◌, ◌++◌, length, take, drop, All, AllPairs}
+use Rattle.std.specs.Prelude.{◌≡◌, ◌≢◌, ℕ, ◌*◌, ◌%◌, ◌^◌, ◌≤◌, ◌<◌, List, [], ◌∷◌, ◌++◌, length, take, drop, slice_index, slice_index_or, All, AllPairs}
 use Rattle.std.specs.Int.{w64, to_be_bytes}
 use Rattle.tuple_tree.specs.Values.{IsTuple}
-use Rattle.space.specs.Births.{Entry}
-use Rattle.space.specs.Pages.{entries_text, on_page}
+use Rattle.space.specs.Births.{Entry, SpaceState, IsState}
+use Rattle.space.specs.Pages.{entries_text, on_page, page_text}
 
 -- what can be written as an entry of a page
 pub record IsEntry (e : Entry) : Type 0 where
@@ -58,3 +58,18 @@ pub record IsHeader (header : List ℕ) (number next : ℕ) : Type 0 where
   pub spelled : header ≡ 1 ∷ to_be_bytes w64 number ++ to_be_bytes w64 next
   pub births : next ≤ 4096 * number
   pub few : number < 2 ^ 48
+
+-- The first n of the pages were read: their tuples in the order of births, and how many lie on each page.
+pub record ArePagesRead (n next : ℕ) (texts : List (List ℕ)) (es : List Entry) (counts : List ℕ) : Type 0 where
+  pub rising : AllPairs (λ e f. e.0 < f.0) es
+  pub valid : (page : ℕ) → page < n → IsPage page next (on_page page es)
+  pub spelled : (page : ℕ) → page < n → slice_index_or texts page [] ≡ entries_text (on_page page es)
+  pub unread : (page : ℕ) → n ≤ page → on_page page es ≡ []
+  pub counted : (page : ℕ) → page < 256 → slice_index counts page ≡ length (on_page page es)
+  pub long : length counts ≡ 256
+
+-- the texts of pages are those of a state with this next birth number
+pub record ArePagesOf (next : ℕ) (texts : List (List ℕ)) (s : SpaceState) : Type 0 where
+  pub state : IsState s
+  pub same_next : s.next ≡ next
+  pub each : (page : ℕ) → page < 256 → slice_index_or texts page [] ≡ page_text s page

@@ -20,4 +20,5 @@ pub use laws::{
     batches_leave_states, births_are_least, pages_determine, states_stay_states,
     tuples_follow_states,
 };
+pub use pages::HEADER_LEN;
 pub use tuples::{MAX_TUPLES, PeekFault, Space};

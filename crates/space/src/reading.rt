@@ -7,14 +7,11 @@ ghost use Rattle.space.specs.Pages.{entry_text, entries_text, on_page};
 ghost use Rattle.space.specs.Reading.{IsEntry, IsEntryOf, IsPage, IsPlace, IsAdded, IsPageRead, IsHeader};
 
 use crate::births::{MAX_ON_PAGE, PAGES};
+use crate::pages::{HEADER_LEN, VERSION};
 use byteorder::{BigEndian, ByteOrder};
 use std::alloc::Global;
 use tuple_codec::{Bad, decode_tuple};
 use tuple_tree::{NoMemory, Tuple};
-
-const HEADER_LEN: usize = 17;
-
-const VERSION: u8 = 1;
 
 // The numbers of batches end here.
 const NUMBERS_END: u64 = 1 << 48;
