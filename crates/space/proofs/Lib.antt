@@ -10,3 +10,4 @@ pub mod Placing
 pub mod Fronts
 pub mod Loading
 pub mod Restoring
+pub mod Answering
