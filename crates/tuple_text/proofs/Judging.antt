@@ -7,7 +7,6 @@ use Rattle.tuple_tree.specs.Limits.{IsWithin}
 use Rattle.tuple_tree.specs.Values.{IsDatum, IsSlot, datum_length, slot_length, TupleTree, TemplateTree}
 use Rattle.tuple_codec.specs.Operations.{Operation, out, rdp, inp, cas, rd_all, IsOperation}
 use Rattle.tuple_text.specs.Texts.{AreBlanks}
-use Rattle.tuple_text.specs.Covered.{IsCovered}
 use Rattle.tuple_text.specs.Lines.{LineText, IsLine, IsSkipped, IsComment, name}
 use Rattle.tuple_text.specs.Faults.{AnyOperation, KeepsCount, KeepsBoth, EndsTooLong, Passes, StopsAt, IsBadAt, Faults}
 use Rattle.tuple_text.specs.Faults.{Begins as BeginsLine}
@@ -63,7 +62,7 @@ one_more bs n b t h =
     sym (take_take (n + 1) 65536 bs l) ∙ ap (take (n + 1)) (h.whole ∙ sym (append_assoc (take n bs) (b ∷ []) t)) ∙ take_at (take n bs ++ b ∷ []) t (n + 1) k
 
 begins_line : (c : Limits) (w : List ℕ) → Begins LimitedLine c w → BeginsLine (Keeps c) w
-begins_line c w h = (h.1, h.0, h.2.0, h.2.2, h.2.1)
+begins_line c w h = (h.1, h.0, h.2.0, h.2.1)
 
 not_before : (bs : List ℕ) (n k : ℕ) (x : Read Operation) → At bs n (left x) → k ≤ n → StopsBefore (drop k (front bs)) x → ⊥
 not_before bs n k (got o rest) h p s = s
@@ -78,10 +77,10 @@ pub passes : (bs : List ℕ) (n : ℕ) (x : Read Operation) → line (front bs) 
 passes bs n x e h b = record { within = h.within; limit = h.limit; begins = begins_line both (take n bs) b; short = short_to bs n x e h }
 
 -- Where reading stops before b, the lines that go on with b pass the limit.
-exceeds : (o : Operation) (s : Stop) (w : List ℕ) (b : ℕ) (t u : List ℕ) → ((v : List ℕ) → SameHead (b ∷ t) v → line (w ++ v) ≡ stop s v) → LineText o ((w ++ b ∷ []) ++ u) → IsCovered o → Exceeds o s
-exceeds o s w b t u a h c =
+exceeds : (o : Operation) (s : Stop) (w : List ℕ) (b : ℕ) (t u : List ℕ) → ((v : List ℕ) → SameHead (b ∷ t) v → line (w ++ v) ≡ stop s v) → LineText o ((w ++ b ∷ []) ++ u) → Exceeds o s
+exceeds o s w b t u a h =
     let e : line ((w ++ b ∷ []) ++ u) ≡ stop s (b ∷ u) = ap line (append_assoc w (b ∷ []) u) ∙ a (b ∷ u) refl in
-    let g = subst (AgainAs (Exceeds o) o []) e (line_again o ((w ++ b ∷ []) ++ u) h c) in
+    let g = subst (AgainAs (Exceeds o) o []) e (line_again o ((w ++ b ∷ []) ++ u) h) in
     g.0
 
 -- Where reading stops at the first n bytes, and what it reads of others that begin alike.
@@ -115,18 +114,18 @@ module _ (bs : List ℕ) where
   halted_passes : (s : Stop) (n : ℕ) (rest : List ℕ) → Halted bs s n rest → Passes bs n
   halted_passes s n rest h = passes bs n (stop s rest) h.read h.place (halted_begins s n rest h)
 
-  next_exceeds : (s : Stop) (n b : ℕ) (t : List ℕ) → Halted bs s n (b ∷ t) → (u : List ℕ) (o : Operation) → LineText o (take (n + 1) bs ++ u) → IsCovered o → Exceeds o s
-  next_exceeds s n b t h u o l c = exceeds o s (take n bs) b t u h.alike (subst (λ w. LineText o (w ++ u)) (one_more bs n b t h.place) l) c
+  next_exceeds : (s : Stop) (n b : ℕ) (t : List ℕ) → Halted bs s n (b ∷ t) → (u : List ℕ) (o : Operation) → LineText o (take (n + 1) bs ++ u) → Exceeds o s
+  next_exceeds s n b t h u o l = exceeds o s (take n bs) b t u h.alike (subst (λ w. LineText o (w ++ u)) (one_more bs n b t h.place) l)
 
   bad_next : (n : ℕ) (rest : List ℕ) → Halted bs BadByte n rest → n < length bs → n < 65536 → BeginsLine AnyOperation (take (n + 1) bs) → ⊥
   bad_next n [] h p q b = omega (arith, h.place.total, length-take 65536 bs)
-  bad_next n (c ∷ t) h p q b = never_bad b.1 (next_exceeds BadByte n c t h b.0 b.1 b.2 b.4)
+  bad_next n (c ∷ t) h p q b = never_bad b.1 (next_exceeds BadByte n c t h b.0 b.1 b.2)
 
-  bad_end : (n : ℕ) (rest : List ℕ) → Halted bs BadByte n rest → n ≡ length bs → (o : Operation) → LineText o bs → IsCovered o → ⊥
-  bad_end n rest h p o l c =
+  bad_end : (n : ℕ) (rest : List ℕ) → Halted bs BadByte n rest → n ≡ length bs → (o : Operation) → LineText o bs → ⊥
+  bad_end n rest h p o l =
       let whole : front bs ≡ bs = take_all 65536 bs (omega (arith, h.place.limit)) in
       let e : line bs ≡ stop BadByte rest = ap line (sym whole) ∙ h.read in
-      let g = subst (AgainAs (Exceeds o) o []) e (line_again o bs l c) in
+      let g = subst (AgainAs (Exceeds o) o []) e (line_again o bs l) in
       never_bad o g.0
 
   pub bad_at : (n : ℕ) (rest : List ℕ) → Halted bs BadByte n rest → IsBadAt bs n
@@ -148,13 +147,13 @@ module _ (bs : List ℕ) where
   many_at n rest h =
       let d = h.stuck.decides in
       let k = subst (Halted bs TooManyFields n) d.2 h in
-      (n, stops_at TooManyFields n d.0 d.1 k, next_begins levels TooManyFields n d.0 d.1 rest d.2 h d.3, λ b. keeps_counts b.1 b.3 (next_exceeds TooManyFields n d.0 d.1 k b.0 b.1 b.2 b.4))
+      (n, stops_at TooManyFields n d.0 d.1 k, next_begins levels TooManyFields n d.0 d.1 rest d.2 h d.3, λ b. keeps_counts b.1 b.3 (next_exceeds TooManyFields n d.0 d.1 k b.0 b.1 b.2))
 
   pub deep_at : (n : ℕ) (rest : List ℕ) → Halted bs TooDeep n rest → Faults faults.TooDeep bs
   deep_at n rest h =
       let d = h.stuck.decides in
       let k = subst (Halted bs TooDeep n) d.2 h in
-      (n, stops_at TooDeep n d.0 d.1 k, next_begins no_limits TooDeep n d.0 d.1 rest d.2 h d.3, λ b. keeps_levels b.1 b.3 (next_exceeds TooDeep n d.0 d.1 k b.0 b.1 b.2 b.4))
+      (n, stops_at TooDeep n d.0 d.1 k, next_begins no_limits TooDeep n d.0 d.1 rest d.2 h d.3, λ b. keeps_levels b.1 b.3 (next_exceeds TooDeep n d.0 d.1 k b.0 b.1 b.2))
 
   pub long_at : (n : ℕ) (rest : List ℕ) → Halted bs TooLong n rest → Faults faults.TooLong bs
   long_at n rest h =
@@ -261,7 +260,7 @@ read_whole bs o rest e =
 pub read_is_line : (bs : List ℕ) (o : Operation) (rest : List ℕ) → length bs ≤ 65536 → line (front bs) ≡ got o rest → IsLine o bs
 read_is_line bs o rest p e =
     let w = read_whole bs o rest (ap line (sym (take_all 65536 bs p)) ∙ e) in
-    record { text = w.0; within = w.2; size = p; covered = w.1 }
+    record { text = w.0; within = w.1; size = p }
 
 keeps_tree : {L : Type 0} → (IsLeaf : L → Type 0) (length_of : L → ℕ) (t : Items L) → IsWithin IsLeaf length_of t → (levels_of t ≤ 8) × KeepsCount t
 keeps_tree IsLeaf length_of t w = (w.levels, (w.fields, are_counted IsLeaf t w.each))
@@ -281,9 +280,9 @@ too_big bs o rest p e =
     let l : length (front bs) ≡ 65536 = omega (arith, length-take 65536 bs) in
     let place : At bs 65536 rest = record { whole = sym (append-nil (front bs)) ∙ ap (λ t. front bs ++ t) (sym n); total = omega (arith, ap length n); within = omega arith; limit = omega arith } in
     record {
-      passes = passes bs 65536 (got o rest) e place (o, [], (subst (LineText o) (sym (append-nil (front bs))) w.0, w.1, keeps_both o w.2));
+      passes = passes bs 65536 (got o rest) e place (o, [], (subst (LineText o) (sym (append-nil (front bs))) w.0, keeps_both o w.1));
       longest = λ a b c. omega arith;
-      unfinished = λ a b c d. omega arith;
+      unfinished = λ a b c. omega arith;
     }
 
 -- The line of an operation is read so.
@@ -292,7 +291,7 @@ again_is o (got p rest) w h = ap (λ q. got q rest) h.0 ∙ ap (got o) h.1
 again_is o (stop s rest) w h = absurd (within_exceeds o s w h.0)
 
 pub line_is_read : (bs : List ℕ) (o : Operation) → IsLine o bs → line (front bs) ≡ got o []
-line_is_read bs o h = ap line (take_all 65536 bs h.size) ∙ again_is o (line bs) h.within (line_again o bs h.text h.covered)
+line_is_read bs o h = ap line (take_all 65536 bs h.size) ∙ again_is o (line bs) h.within (line_again o bs h.text)
 
 pub line_reads_only : (bs : List ℕ) (o p : Operation) (rest : List ℕ) → IsLine o bs → line (front bs) ≡ got p rest → p ≡ o
 line_reads_only bs o p rest h e = let g : got p rest ≡ got o [] = sym e ∙ line_is_read bs o h in cc

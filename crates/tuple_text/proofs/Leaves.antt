@@ -14,7 +14,6 @@ use Rattle.tuple_text.specs.Texts.{datum_text, slot_text, formal_text, escaped, 
 use Rattle.tuple_text.specs.Literals.{text_literal, bytes_literal, is_hex}
 use Rattle.tuple_text.proofs.LiteralTexts.{IsTextLiteral, BeginsTextLiteral, text_right, text_again}
 use Rattle.tuple_text.proofs.LiteralBytes.{IsByteString, BeginsByteString, bytes_right, bytes_again, NoHex}
-use Rattle.tuple_text.specs.Covered.{IsCoveredDatum, IsCoveredSlot}
 use Rattle.tuple_text.specs.Reading.{Read, got, Reading, ◌>>=◌, look, nothing, named, word, signed, numeral, quoted, byte_string, truth_or_number, datum, kind_b, kind_t, kind, formal_slot, actual_slot, slot, begins_datum, begins_slot}
 use Rattle.tuple_text.proofs.Right.{Limits, both, RightAs, Never, Found, then_right, look_right, nothing_right}
 use Rattle.tuple_text.proofs.Numbers.{IsSigned, BeginsSigned, signed_right, signed_again, signed_head, NoDigit, is_digit, digit_range, digit_is, ends_there}
@@ -24,13 +23,6 @@ use Rattle.tuple_text.proofs.Blanks.{IsWord, BeginsWord, word_right}
 abbrev pub EndsItem : List ℕ → Type 0
 EndsItem [] = ⊥
 EndsItem (b ∷ bs) = (b ≡ 32) ⊎ (b ≡ 41)
-
--- the values and fields that are read
-abbrev pub IsRead : Datum → Type 0
-IsRead x = IsDatum x × IsCoveredDatum x
-
-abbrev pub IsReadSlot : Slot → Type 0
-IsReadSlot x = IsSlot x × IsCoveredSlot x
 
 module _ {L : Type 0} (leaf_text : L → List ℕ) (IsLeaf : L → Type 0) where
   abbrev pub IsText : L → List ℕ → Type 0
@@ -66,30 +58,30 @@ pub look_other : {V : Type 0} → (c b : ℕ) (u : List ℕ) (f g : Reading V) �
 look_other c b u f g e = ap (λ s. cond s (f (b ∷ u)) (g (b ∷ u))) e
 
 abbrev IsDatumText : Datum → List ℕ → Type 0
-IsDatumText = IsText datum_text IsRead
+IsDatumText = IsText datum_text IsDatum
 
 abbrev BeginsDatum : Limits → List ℕ → Type 0
-BeginsDatum = BeginsText datum_text IsRead
+BeginsDatum = BeginsText datum_text IsDatum
 
 numeral_right : (bs : List ℕ) → RightAs IsDatumText BeginsDatum bs (numeral bs)
 unfolding numeral
-numeral_right bs = mapped_right IsSigned BeginsSigned IsDatumText BeginsDatum number bs (signed bs) (λ c w h. (number h.0, h.1, (h.2.0, (h.2.1, tt)))) (λ n w h. (h.0, (h.1, tt))) (signed_right bs)
+numeral_right bs = mapped_right IsSigned BeginsSigned IsDatumText BeginsDatum number bs (signed bs) (λ c w h. (number h.0, h.1, (h.2.0, h.2.1))) (λ n w h. h) (signed_right bs)
 
 truth_right : (b : Bool) (bs : List ℕ) → RightAs IsDatumText BeginsDatum bs (named (datum_text (truth b)) (truth b) bs)
-truth_right b bs = named_right IsDatumText BeginsDatum (datum_text (truth b)) (truth b) (refl, (tt, tt)) (λ c w u e. (truth b, u, (e, (tt, tt)))) bs
+truth_right b bs = named_right IsDatumText BeginsDatum (datum_text (truth b)) (truth b) (refl, tt) (λ c w u e. (truth b, u, (e, tt))) bs
 
 pub some_datum : BeginsDatum both []
-some_datum = (truth true, codes "true", (refl, (tt, tt)))
+some_datum = (truth true, codes "true", (refl, tt))
 
 quoted_right : (bs : List ℕ) → RightAs IsDatumText BeginsDatum bs (quoted bs)
 unfolding quoted
-quoted_right bs = mapped_right IsTextLiteral BeginsTextLiteral IsDatumText BeginsDatum text bs (text_literal bs) (λ c w h. (text h.0, h.1, (h.2.0, (h.2.1, tt)))) (λ s w h. (h.0, (h.1, tt))) (text_right bs)
+quoted_right bs = mapped_right IsTextLiteral BeginsTextLiteral IsDatumText BeginsDatum text bs (text_literal bs) (λ c w h. (text h.0, h.1, (h.2.0, h.2.1))) (λ s w h. h) (text_right bs)
 
 byte_string_right : (bs : List ℕ) → RightAs IsDatumText BeginsDatum bs (byte_string bs)
 unfolding byte_string
-byte_string_right bs = mapped_right IsByteString BeginsByteString IsDatumText BeginsDatum bytes bs (bytes_literal bs) (λ c w h. (bytes h.0, h.1, (h.2.0, (h.2.1, tt)))) (λ s w h. (h.0, (h.1, tt))) (bytes_right bs)
+byte_string_right bs = mapped_right IsByteString BeginsByteString IsDatumText BeginsDatum bytes bs (bytes_literal bs) (λ c w h. (bytes h.0, h.1, (h.2.0, h.2.1))) (λ s w h. h) (bytes_right bs)
 
-pub datum_right : (bs : List ℕ) → RightAs (IsText datum_text IsRead) (BeginsText datum_text IsRead) bs (datum bs)
+pub datum_right : (bs : List ℕ) → RightAs (IsText datum_text IsDatum) (BeginsText datum_text IsDatum) bs (datum bs)
 unfolding datum
 datum_right bs =
     look_right IsDatumText BeginsDatum Never 34 quoted (look 120 byte_string truth_or_number) some_datum quoted_right
@@ -113,16 +105,16 @@ signed_starts c b e = elim (or_cases (b == 45) (is_digit b) e) [
 abbrev plain_begins : ℕ → Bool
 plain_begins b = b == 116 || (b == 102 || (b == 45 || is_digit b))
 
-pub datum_starts : (c : Limits) (b : ℕ) → begins_datum b ≡ true → BeginsText datum_text IsRead c (b ∷ [])
+pub datum_starts : (c : Limits) (b : ℕ) → begins_datum b ≡ true → BeginsText datum_text IsDatum c (b ∷ [])
 datum_starts c b e = elim (or_cases (b == 34) (b == 120 || plain_begins b) e) [
-  | inl p ↦ (text [], 34 ∷ [], (ap (λ d. d ∷ 34 ∷ []) (eqb-true b 34 p), (IsUtf8-nil, tt)))
+  | inl p ↦ (text [], 34 ∷ [], (ap (λ d. d ∷ 34 ∷ []) (eqb-true b 34 p), IsUtf8-nil))
   | inr q ↦ elim (or_cases (b == 120) (plain_begins b) q) [
-    | inl p ↦ (bytes [], [], (ap (λ d. d ∷ []) (eqb-true b 120 p), ((λ i. omega arith), tt)))
+    | inl p ↦ (bytes [], [], (ap (λ d. d ∷ []) (eqb-true b 120 p), (λ i. omega arith)))
     | inr r ↦ elim (or_cases (b == 116) (b == 102 || (b == 45 || is_digit b)) r) [
-      | inl p ↦ (truth true, codes "rue", (ap (λ d. d ∷ codes "rue") (eqb-true b 116 p), (tt, tt)))
+      | inl p ↦ (truth true, codes "rue", (ap (λ d. d ∷ codes "rue") (eqb-true b 116 p), tt))
       | inr q ↦ elim (or_cases (b == 102) (b == 45 || is_digit b) q) [
-        | inl p ↦ (truth false, codes "alse", (ap (λ d. d ∷ codes "alse") (eqb-true b 102 p), (tt, tt)))
-        | inr p ↦ let h = signed_starts c b p in (number h.0, h.1, (h.2.0, (h.2.1, tt)))
+        | inl p ↦ (truth false, codes "alse", (ap (λ d. d ∷ codes "alse") (eqb-true b 102 p), tt))
+        | inr p ↦ let h = signed_starts c b p in (number h.0, h.1, (h.2.0, h.2.1))
       ]
     ]
   ]
@@ -137,8 +129,8 @@ datum_begins b e =
     or_right (b == 34) (b == 120 || plain_begins b) (or_right (b == 120) (plain_begins b) (or_right (b == 116) (b == 102 || (b == 45 || is_digit b)) (or_right (b == 102) (b == 45 || is_digit b) e)))
 
 -- the first byte of a text
-pub datum_head : (x : Datum) → IsRead x → (b : ℕ) × (t : List ℕ) × (datum_text x ≡ b ∷ t) × (begins_datum b ≡ true)
-datum_head (number n) h = let k = signed_head n h.0 in (k.0, k.1, k.2, datum_begins k.0 (number_begins k.0 k.3))
+pub datum_head : (x : Datum) → IsDatum x → (b : ℕ) × (t : List ℕ) × (datum_text x ≡ b ∷ t) × (begins_datum b ≡ true)
+datum_head (number n) h = let k = signed_head n h in (k.0, k.1, k.2, datum_begins k.0 (number_begins k.0 k.3))
 datum_head (text s) h = (34, flat_map escaped s ++ 34 ∷ [], refl, refl)
 datum_head (bytes s) h = (120, flat_map hex_pair s, refl, refl)
 datum_head (truth true) h = (116, codes "rue", refl, refl)
@@ -182,14 +174,14 @@ numeral_reads : (t u : List ℕ) → numeral (t ++ u) ≡ (signed (t ++ u) >>= �
 unfolding numeral
 numeral_reads t u = refl
 
-pub datum_again : (x : Datum) (u : List ℕ) → IsRead x → EndsItem u → datum (datum_text x ++ u) ≡ got x u
+pub datum_again : (x : Datum) (u : List ℕ) → IsDatum x → EndsItem u → datum (datum_text x ++ u) ≡ got x u
 datum_again (number n) u h k =
-    let d = signed_head n h.0 in
+    let d = signed_head n h in
     let e = ap (λ s. s ++ u) d.2 in
     ap datum e ∙ at_number d.0 (d.1 ++ u) (number_begins d.0 d.3) ∙ ap numeral (sym e) ∙ numeral_reads (datum_text (number n)) u
-    ∙ ap (λ y. y >>= λ n rest. got (number n) rest) (signed_again n u h.0 (ends_no_digit u k))
-datum_again (text s) u h k = quoted_again s u h.0
-datum_again (bytes s) u h k = byte_string_again s u h.0 (ends_no_hex u k)
+    ∙ ap (λ y. y >>= λ n rest. got (number n) rest) (signed_again n u h (ends_no_digit u k))
+datum_again (text s) u h k = quoted_again s u h
+datum_again (bytes s) u h k = byte_string_again s u h (ends_no_hex u k)
 datum_again (truth true) u h k = true_again u
 datum_again (truth false) u h k = false_again u
 
@@ -237,40 +229,40 @@ kind_right bs =
     (look_right (KindIs (codes "?")) (BeginsKind (codes "?")) Never 116 kind_t nothing some_kind kind_t_right (nothing_right (KindIs (codes "?")) (BeginsKind (codes "?")) Never some_kind))) bs
 
 abbrev IsSlotText : Slot → List ℕ → Type 0
-IsSlotText = IsText slot_text IsReadSlot
+IsSlotText = IsText slot_text IsSlot
 
 abbrev BeginsSlot : Limits → List ℕ → Type 0
-BeginsSlot = BeginsText slot_text IsReadSlot
+BeginsSlot = BeginsText slot_text IsSlot
 
 formal_right : (bs : List ℕ) → RightAs IsSlotText BeginsSlot bs (formal_slot bs)
 unfolding formal_slot
 formal_right bs =
     then_right (IsWord (codes "?")) (BeginsWord (codes "?")) (λ _ x w. IsSlotText x (63 ∷ w)) (λ _ c w. BeginsSlot c (63 ∷ w)) IsSlotText BeginsSlot bs (word (codes "?") bs) (λ _ rest. kind rest >>= λ k after. got (formal k) after)
-    (λ c w h. (formal kinds.Number, h.0 ++ codes "int", (sym (append_assoc w h.0 (codes "int")) ∙ ap (λ t. t ++ codes "int") h.1, (tt, tt))))
+    (λ c w h. (formal kinds.Number, h.0 ++ codes "int", (sym (append_assoc w h.0 (codes "int")) ∙ ap (λ t. t ++ codes "int") h.1, tt)))
     (λ _ front e x w h. subst (λ t. IsSlotText x (t ++ w)) (sym e) h)
     (λ _ front e c w h. subst (λ t. BeginsSlot c (t ++ w)) (sym e) h)
     (word_right (codes "?") bs)
-    (λ _ rest. mapped_right (KindIs (codes "?")) (BeginsKind (codes "?")) (λ x w. IsSlotText x (63 ∷ w)) (λ c w. BeginsSlot c (63 ∷ w)) formal rest (kind rest) (λ c w h. (formal h.0, h.1, (h.2, (tt, tt)))) (λ k w h. (h, (tt, tt))) (kind_right rest))
+    (λ _ rest. mapped_right (KindIs (codes "?")) (BeginsKind (codes "?")) (λ x w. IsSlotText x (63 ∷ w)) (λ c w. BeginsSlot c (63 ∷ w)) formal rest (kind rest) (λ c w h. (formal h.0, h.1, (h.2, tt))) (λ k w h. (h, tt)) (kind_right rest))
 
 actual_right : (bs : List ℕ) → RightAs IsSlotText BeginsSlot bs (actual_slot bs)
 unfolding actual_slot
 actual_right bs = mapped_right IsDatumText BeginsDatum IsSlotText BeginsSlot actual bs (datum bs) (λ c w h. (actual h.0, h.1, h.2)) (λ x w h. h) (datum_right bs)
 
 pub some_slot : BeginsSlot both []
-some_slot = (any, codes "*", (refl, (tt, tt)))
+some_slot = (any, codes "*", (refl, tt))
 
-pub slot_right : (bs : List ℕ) → RightAs (IsText slot_text IsReadSlot) (BeginsText slot_text IsReadSlot) bs (slot bs)
+pub slot_right : (bs : List ℕ) → RightAs (IsText slot_text IsSlot) (BeginsText slot_text IsSlot) bs (slot bs)
 unfolding slot
 slot_right bs =
     look_right IsSlotText BeginsSlot Never 42 (named (codes "*") any) (look 63 formal_slot actual_slot) some_slot
-    (named_right IsSlotText BeginsSlot (codes "*") any (refl, (tt, tt)) (λ c w u e. (any, u, (e, (tt, tt)))))
+    (named_right IsSlotText BeginsSlot (codes "*") any (refl, tt) (λ c w u e. (any, u, (e, tt))))
     (look_right IsSlotText BeginsSlot Never 63 formal_slot actual_slot some_slot formal_right actual_right) bs
 
-pub slot_starts : (c : Limits) (b : ℕ) → begins_slot b ≡ true → BeginsText slot_text IsReadSlot c (b ∷ [])
+pub slot_starts : (c : Limits) (b : ℕ) → begins_slot b ≡ true → BeginsText slot_text IsSlot c (b ∷ [])
 slot_starts c b e = elim (or_cases (b == 42) (b == 63 || begins_datum b) e) [
-  | inl p ↦ (any, [], (ap (λ d. d ∷ []) (eqb-true b 42 p), (tt, tt)))
+  | inl p ↦ (any, [], (ap (λ d. d ∷ []) (eqb-true b 42 p), tt))
   | inr q ↦ elim (or_cases (b == 63) (begins_datum b) q) [
-    | inl p ↦ (formal kinds.Number, codes "int", (ap (λ d. d ∷ codes "int") (eqb-true b 63 p), (tt, tt)))
+    | inl p ↦ (formal kinds.Number, codes "int", (ap (λ d. d ∷ codes "int") (eqb-true b 63 p), tt))
     | inr p ↦ let h = datum_starts c b p in (actual h.0, h.1, h.2)
   ]
 ]
@@ -278,7 +270,7 @@ slot_starts c b e = elim (or_cases (b == 42) (b == 63 || begins_datum b) e) [
 slot_begins : (b : ℕ) → begins_datum b ≡ true → begins_slot b ≡ true
 slot_begins b e = or_right (b == 42) (b == 63 || begins_datum b) (or_right (b == 63) (begins_datum b) e)
 
-pub slot_head : (x : Slot) → IsReadSlot x → (b : ℕ) × (t : List ℕ) × (slot_text x ≡ b ∷ t) × (begins_slot b ≡ true)
+pub slot_head : (x : Slot) → IsSlot x → (b : ℕ) × (t : List ℕ) × (slot_text x ≡ b ∷ t) × (begins_slot b ≡ true)
 slot_head (actual x) h = let k = datum_head x h in (k.0, k.1, k.2, slot_begins k.0 k.3)
 slot_head any h = (42, [], refl, refl)
 slot_head (formal kinds.Number) h = (63, codes "int", refl, refl)
@@ -305,7 +297,7 @@ at_datum b u e =
     look_other 42 b u (named (codes "*") any) (look 63 formal_slot actual_slot) (apart begins_datum 42 b e refl)
     ∙ look_other 63 b u formal_slot actual_slot (apart begins_datum 63 b e refl)
 
-pub slot_again : (x : Slot) (u : List ℕ) → IsReadSlot x → EndsItem u → slot (slot_text x ++ u) ≡ got x u
+pub slot_again : (x : Slot) (u : List ℕ) → IsSlot x → EndsItem u → slot (slot_text x ++ u) ≡ got x u
 slot_again (actual x) u h k =
     let d = datum_head x h in
     let e = ap (λ s. s ++ u) d.2 in

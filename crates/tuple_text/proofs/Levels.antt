@@ -3,7 +3,6 @@ use Rattle.std.proofs.Common.{ℕ, suc, ◌<◌, ◌≤◌, arith}
 use Rattle.tuple_tree.specs.Items.{Item, leaf, inner, Items, none, item, how_many, item_levels, levels_in, whole_length}
 use Rattle.tuple_tree.specs.Limits.{IsItem, AreItems}
 use Rattle.tuple_text.specs.Lines.{EachLeaf, LeafIn}
-use Rattle.tuple_text.specs.Covered.{AreCovered, CoversItem}
 use Rattle.tuple_text.specs.declared.reader.Stop.{Stop}
 use Rattle.tuple_text.specs.declared.reader.Stop.TheVariants.{BadByte, TooDeep, TooManyFields, TooLong, NoMemory}
 use Rattle.tuple_text.proofs.Right.{Limits, both, levels, no_limits}
@@ -91,16 +90,6 @@ module _ {L : Type 0} (IsLeaf : L → Type 0) where
   each_counted n (item x xs) h = (h.0.1.1, each_counted n xs h.1)
 
 -- From the leaves of a tree to its items and back.
-module _ {L : Type 0} (P Q : L → Type 0) (weak : (x : L) → P x → Q x) where
-  mutual
-    pub each_map : (xs : Items L) → EachLeaf P xs → EachLeaf Q xs
-    each_map none h = tt
-    each_map (item x xs) h = (leaf_map x h.0, each_map xs h.1)
-
-    leaf_map : (x : Item L) → LeafIn P x → LeafIn Q x
-    leaf_map (leaf x) h = weak x h
-    leaf_map (inner xs) h = each_map xs h
-
 module _ {L : Type 0} (P : L → Type 0) where
   mutual
     pub are_items : (xs : Items L) → EachLeaf P xs → AreCounted xs → AreItems P xs
@@ -119,22 +108,3 @@ module _ {L : Type 0} (P : L → Type 0) where
     is_counted : (x : Item L) → IsItem P x → Counted x
     is_counted (leaf x) h = tt
     is_counted (inner xs) h = (h.0, are_counted xs h.1)
-
-  mutual
-    pub are_covered : (xs : Items L) → EachLeaf P xs → AreCovered P xs
-    are_covered none h = tt
-    are_covered (item x xs) h = (is_covered x h.0, are_covered xs h.1)
-
-    is_covered : (x : Item L) → LeafIn P x → CoversItem P x
-    is_covered (leaf x) h = h
-    is_covered (inner xs) h = are_covered xs h
-
-module _ {L : Type 0} (P Q : L → Type 0) where
-  mutual
-    pub each_both : (xs : Items L) → EachLeaf P xs → AreCovered Q xs → EachLeaf (λ x. P x × Q x) xs
-    each_both none h k = tt
-    each_both (item x xs) h k = (leaf_both x h.0 k.0, each_both xs h.1 k.1)
-
-    leaf_both : (x : Item L) → LeafIn P x → CoversItem Q x → LeafIn (λ x. P x × Q x) x
-    leaf_both (leaf x) h k = (h, k)
-    leaf_both (inner xs) h k = each_both xs h k

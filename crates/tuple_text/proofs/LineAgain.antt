@@ -7,7 +7,6 @@ use Rattle.tuple_tree.specs.Limits.{IsWithin}
 use Rattle.tuple_tree.specs.Values.{datum_length, slot_length, IsDatum, IsSlot, TupleTree, TemplateTree}
 use Rattle.tuple_codec.specs.Operations.{Operation, out, rdp, inp, cas, rd_all, IsOperation}
 use Rattle.tuple_text.specs.Texts.{AreBlanks, IsGap, WholeText, datum_text, slot_text}
-use Rattle.tuple_text.specs.Covered.{AreCovered, IsCoveredDatum, IsCoveredSlot, IsCovered}
 use Rattle.tuple_text.specs.Lines.{EachLeaf, LineText, TupleArgument, TemplateArgument, CountArgument, ArgumentsText, arguments, name}
 use Rattle.tuple_text.specs.Faults.{KeepsCount, KeepsLevels, KeepsCounts, EndsTooLong, ArgumentsClosed, argument_lengths}
 use Rattle.tuple_text.specs.Reading.{Read, got, stop, Reading, ◌>>=◌, positive, kept, no_room, datum, slot, begins_datum, begins_slot, close, tuple, template, argument, ended, out_line, inp_line, cas_line, rdp_line, all_line, rd_line, operation, line}
@@ -15,8 +14,8 @@ use Rattle.tuple_text.specs.declared.reader.Stop.{Stop}
 use Rattle.tuple_text.specs.declared.reader.Stop.TheVariants.{BadByte, TooDeep, TooManyFields, TooLong, NoMemory}
 use Rattle.tuple_text.proofs.Blanks.{NoBlank, blanks_again, gap_again, ending_again}
 use Rattle.tuple_text.proofs.Numbers.{NoDigit, is_digit, positive_again, head_of}
-use Rattle.tuple_text.proofs.Levels.{Exceed, each_both, are_counted}
-use Rattle.tuple_text.proofs.Leaves.{EndsItem, IsRead, IsReadSlot, datum_head, datum_again, slot_head, slot_again}
+use Rattle.tuple_text.proofs.Levels.{Exceed, are_counted}
+use Rattle.tuple_text.proofs.Leaves.{EndsItem, datum_head, datum_again, slot_head, slot_again}
 use Rattle.tuple_text.proofs.Plain.{plain_item, plain_whole, whole_seen}
 use Rattle.tuple_text.proofs.Again.{AgainAs, again_got, then_again, then_into, step_again, list_into, list_again, item_head, item_again}
 
@@ -83,25 +82,25 @@ tuple_first t space front u g h = gap_first tuple space front u g (no_blank fron
 template_first : (p : TemplateTree) (space front u : List ℕ) → IsGap space → TemplateArgument p front → argument template (space ++ (front ++ u)) ≡ plain_whole slot_length begins_slot slot (front ++ u)
 template_first p space front u g h = gap_first template space front u g (no_blank front (h.0.0 ++ 41 ∷ []) u h.0.1) ∙ whole_seen slot_length begins_slot slot (front ++ u)
 
-tuple_again : (t : TupleTree) (space front u : List ℕ) → IsGap space → TupleArgument t front → AreCovered IsCoveredDatum t → AgainAs (TreeExceeds datum_length t) t u (argument tuple (space ++ (front ++ u)))
-tuple_again t space front u g h k =
+tuple_again : (t : TupleTree) (space front u : List ℕ) → IsGap space → TupleArgument t front → AgainAs (TreeExceeds datum_length t) t u (argument tuple (space ++ (front ++ u)))
+tuple_again t space front u g h =
     subst (AgainAs (TreeExceeds datum_length t) t u) (sym (tuple_first t space front u g h))
-    (whole_again datum_text IsRead begins_datum datum datum_head datum_again refl refl refl datum_length t front u (each_both IsDatum IsCoveredDatum t h.1 k) h.0)
+    (whole_again datum_text IsDatum begins_datum datum datum_head datum_again refl refl refl datum_length t front u h.1 h.0)
 
-template_again : (p : TemplateTree) (space front u : List ℕ) → IsGap space → TemplateArgument p front → AreCovered IsCoveredSlot p → AgainAs (TreeExceeds slot_length p) p u (argument template (space ++ (front ++ u)))
-template_again p space front u g h k =
+template_again : (p : TemplateTree) (space front u : List ℕ) → IsGap space → TemplateArgument p front → AgainAs (TreeExceeds slot_length p) p u (argument template (space ++ (front ++ u)))
+template_again p space front u g h =
     subst (AgainAs (TreeExceeds slot_length p) p u) (sym (template_first p space front u g h))
-    (whole_again slot_text IsReadSlot begins_slot slot slot_head slot_again refl refl refl slot_length p front u (each_both IsSlot IsCoveredSlot p h.1 k) h.0)
+    (whole_again slot_text IsSlot begins_slot slot slot_head slot_again refl refl refl slot_length p front u h.1 h.0)
 
-tuple_stops : (t : TupleTree) (space front u : List ℕ) → IsGap space → TupleArgument t front → AreCovered IsCoveredDatum t → 1024 < whole_length datum_length t → StopsBefore u (argument tuple (space ++ (front ++ u)))
-tuple_stops t space front u g h k l =
+tuple_stops : (t : TupleTree) (space front u : List ℕ) → IsGap space → TupleArgument t front → 1024 < whole_length datum_length t → StopsBefore u (argument tuple (space ++ (front ++ u)))
+tuple_stops t space front u g h l =
     subst (StopsBefore u) (sym (tuple_first t space front u g h))
-    (whole_stops datum_text IsRead begins_datum datum datum_head datum_again refl refl refl datum_length t front u (each_both IsDatum IsCoveredDatum t h.1 k) h.0 l)
+    (whole_stops datum_text IsDatum begins_datum datum datum_head datum_again refl refl refl datum_length t front u h.1 h.0 l)
 
-template_stops : (p : TemplateTree) (space front u : List ℕ) → IsGap space → TemplateArgument p front → AreCovered IsCoveredSlot p → 1024 < whole_length slot_length p → StopsBefore u (argument template (space ++ (front ++ u)))
-template_stops p space front u g h k l =
+template_stops : (p : TemplateTree) (space front u : List ℕ) → IsGap space → TemplateArgument p front → 1024 < whole_length slot_length p → StopsBefore u (argument template (space ++ (front ++ u)))
+template_stops p space front u g h l =
     subst (StopsBefore u) (sym (template_first p space front u g h))
-    (whole_stops slot_text IsReadSlot begins_slot slot slot_head slot_again refl refl refl slot_length p front u (each_both IsSlot IsCoveredSlot p h.1 k) h.0 l)
+    (whole_stops slot_text IsSlot begins_slot slot slot_head slot_again refl refl refl slot_length p front u h.1 h.0 l)
 
 gap_no_digit : (space front : List ℕ) → IsGap space → NoDigit (space ++ front)
 gap_no_digit [] front h = absurd (let p : 0 < 0 = h.0 in omega arith)
@@ -207,42 +206,41 @@ ended_again : (o : Operation) (w : List ℕ) → AreBlanks w → ended o w ≡ g
 unfolding ended
 ended_again o w h = ap (λ y. y >>= λ _ rest. got o rest) (ending_again w h)
 
-out_again : (t : TupleTree) (E : Stop → Type 0) (k : TupleTree → Operation) (w : List ℕ) → ((s : Stop) → TreeExceeds datum_length t s → E s) → ArgumentsText (TupleArgument t ∷ []) w → AreCovered IsCoveredDatum t
-    → AgainAs E (k t) [] (argument tuple w >>= λ t rest. ended (k t) rest)
-out_again t E k w f a c =
+out_again : (t : TupleTree) (E : Stop → Type 0) (k : TupleTree → Operation) (w : List ℕ) → ((s : Stop) → TreeExceeds datum_length t s → E s) → ArgumentsText (TupleArgument t ∷ []) w → AgainAs E (k t) [] (argument tuple w >>= λ t rest. ended (k t) rest)
+out_again t E k w f a =
     subst (λ s. AgainAs E (k t) [] (argument tuple s >>= λ t rest. ended (k t) rest)) (sym a.3)
     (then_again (TreeExceeds datum_length t) E t a.2 (k t) [] (argument tuple (a.0 ++ (a.1 ++ a.2))) (λ t rest. ended (k t) rest) f (omega arith)
-    (tuple_again t a.0 a.1 a.2 a.4 a.5 c) (again_got E (k t) [] (ended (k t) a.2) (ended_again (k t) a.2 a.6)))
+    (tuple_again t a.0 a.1 a.2 a.4 a.5) (again_got E (k t) [] (ended (k t) a.2) (ended_again (k t) a.2 a.6)))
 
-takes_again : (p : TemplateTree) (k : TemplateTree → Operation) (w : List ℕ) → ArgumentsText (TemplateArgument p ∷ []) w → AreCovered IsCoveredSlot p → AgainAs (TreeExceeds slot_length p) (k p) [] (takes_rest k w)
-takes_again p k w a c =
+takes_again : (p : TemplateTree) (k : TemplateTree → Operation) (w : List ℕ) → ArgumentsText (TemplateArgument p ∷ []) w → AgainAs (TreeExceeds slot_length p) (k p) [] (takes_rest k w)
+takes_again p k w a =
     subst (λ s. AgainAs (TreeExceeds slot_length p) (k p) [] (takes_rest k s)) (sym a.3)
     (then_again (TreeExceeds slot_length p) (TreeExceeds slot_length p) p a.2 (k p) [] (argument template (a.0 ++ (a.1 ++ a.2))) (λ p rest. ended (k p) rest) (λ s e. e) (omega arith)
-    (template_again p a.0 a.1 a.2 a.4 a.5 c) (again_got (TreeExceeds slot_length p) (k p) [] (ended (k p) a.2) (ended_again (k p) a.2 a.6)))
+    (template_again p a.0 a.1 a.2 a.4 a.5) (again_got (TreeExceeds slot_length p) (k p) [] (ended (k p) a.2) (ended_again (k p) a.2 a.6)))
 
-cas_again : (p : TemplateTree) (t : TupleTree) (w : List ℕ) → ArgumentsText (TemplateArgument p ∷ TupleArgument t ∷ []) w → IsCovered (cas p t) → AgainAs (Exceeds (cas p t)) (cas p t) [] (cas_rest w)
-cas_again p t w a c =
+cas_again : (p : TemplateTree) (t : TupleTree) (w : List ℕ) → ArgumentsText (TemplateArgument p ∷ TupleArgument t ∷ []) w → AgainAs (Exceeds (cas p t)) (cas p t) [] (cas_rest w)
+cas_again p t w a =
     subst (λ s. AgainAs (Exceeds (cas p t)) (cas p t) [] (cas_rest s)) (sym a.3)
     (then_again (TreeExceeds slot_length p) (Exceeds (cas p t)) p a.2 (cas p t) [] (argument template (a.0 ++ (a.1 ++ a.2))) (λ p middle. argument tuple middle >>= λ t rest. ended (cas p t) rest) (λ s e. inl e) (omega arith)
-    (template_again p a.0 a.1 a.2 a.4 a.5 c.0) (out_again t (Exceeds (cas p t)) (cas p) a.2 (λ s e. inr e) a.6 c.1))
+    (template_again p a.0 a.1 a.2 a.4 a.5) (out_again t (Exceeds (cas p t)) (cas p) a.2 (λ s e. inr e) a.6))
 
-all_again : (n : ℕ) (p : TemplateTree) (w : List ℕ) → ArgumentsText (CountArgument n ∷ TemplateArgument p ∷ []) w → AreCovered IsCoveredSlot p → AgainAs (TreeExceeds slot_length p) (rd_all n p) [] (all_rest w)
-all_again n p w a c =
+all_again : (n : ℕ) (p : TemplateTree) (w : List ℕ) → ArgumentsText (CountArgument n ∷ TemplateArgument p ∷ []) w → AgainAs (TreeExceeds slot_length p) (rd_all n p) [] (all_rest w)
+all_again n p w a =
     let b = a.6 in
     let d : NoDigit a.2 = subst NoDigit (sym b.3) (gap_no_digit b.0 (b.1 ++ b.2) b.4) in
     subst (λ s. AgainAs (TreeExceeds slot_length p) (rd_all n p) [] (all_rest s)) (sym a.3)
     (step_again (TreeExceeds slot_length p) n a.2 (rd_all n p) [] (argument (positive 64) (a.0 ++ (a.1 ++ a.2))) (λ n middle. argument template middle >>= λ p rest. ended (rd_all n p) rest)
-    (count_again n a.0 a.1 a.2 a.4 a.5 d) (takes_again p (rd_all n) a.2 b c))
+    (count_again n a.0 a.1 a.2 a.4 a.5 d) (takes_again p (rd_all n) a.2 b))
 
-rest_again : (o : Operation) (w : List ℕ) → ArgumentsText (arguments o) w → IsCovered o → AgainAs (Exceeds o) o [] (rest_of o w)
-rest_again (out t) w a c = out_again t (TreeExceeds datum_length t) out w (λ s e. e) a c
-rest_again (rdp p) w a c = takes_again p rdp w a c
-rest_again (inp p) w a c = takes_again p inp w a c
-rest_again (cas p t) w a c = cas_again p t w a c
-rest_again (rd_all n p) w a c = all_again n p w a c
+rest_again : (o : Operation) (w : List ℕ) → ArgumentsText (arguments o) w → AgainAs (Exceeds o) o [] (rest_of o w)
+rest_again (out t) w a = out_again t (TreeExceeds datum_length t) out w (λ s e. e) a
+rest_again (rdp p) w a = takes_again p rdp w a
+rest_again (inp p) w a = takes_again p inp w a
+rest_again (cas p t) w a = cas_again p t w a
+rest_again (rd_all n p) w a = all_again n p w a
 
-pub line_again : (o : Operation) (bs : List ℕ) → LineText o bs → IsCovered o → AgainAs (Exceeds o) o [] (line bs)
-line_again o bs h k = subst (AgainAs (Exceeds o) o []) (sym (ap line h.2 ∙ line_front o h.0 h.1 h.3)) (rest_again o h.1 h.4 k)
+pub line_again : (o : Operation) (bs : List ℕ) → LineText o bs → AgainAs (Exceeds o) o [] (line bs)
+line_again o bs h = subst (AgainAs (Exceeds o) o []) (sym (ap line h.2 ∙ line_front o h.0 h.1 h.3)) (rest_again o h.1 h.4)
 
 -- Behind the last closed argument stands u.
 closed_one : (space front last rest u : List ℕ) → rest ≡ space ++ (front ++ last) → last ≡ [] → rest ++ u ≡ space ++ (front ++ u)
@@ -252,46 +250,46 @@ closed_one space front last rest u e f =
 closed_first : (space front middle rest u : List ℕ) → rest ≡ space ++ (front ++ middle) → rest ++ u ≡ space ++ (front ++ (middle ++ u))
 closed_first space front middle rest u e = ap (λ s. s ++ u) e ∙ append_assoc space (front ++ middle) u ∙ ap (λ s. space ++ s) (append_assoc front middle u)
 
-tuple_closes : (t : TupleTree) (k : TupleTree → Operation) (w u : List ℕ) → ArgumentsClosed (TupleArgument t ∷ []) w → AreCovered IsCoveredDatum t → 1024 < whole_length datum_length t → StopsBefore u (argument tuple (w ++ u) >>= λ t rest. ended (k t) rest)
-tuple_closes t k w u a c l =
+tuple_closes : (t : TupleTree) (k : TupleTree → Operation) (w u : List ℕ) → ArgumentsClosed (TupleArgument t ∷ []) w → 1024 < whole_length datum_length t → StopsBefore u (argument tuple (w ++ u) >>= λ t rest. ended (k t) rest)
+tuple_closes t k w u a l =
     subst (λ s. StopsBefore u (argument tuple s >>= λ t rest. ended (k t) rest)) (sym (closed_one a.0 a.1 a.2 w u a.3 a.6))
-    (stops_then u (argument tuple (a.0 ++ (a.1 ++ u))) (λ t rest. ended (k t) rest) (tuple_stops t a.0 a.1 u a.4 a.5 c l))
+    (stops_then u (argument tuple (a.0 ++ (a.1 ++ u))) (λ t rest. ended (k t) rest) (tuple_stops t a.0 a.1 u a.4 a.5 l))
 
-template_closes : {W : Type 0} → (p : TemplateTree) (f : TemplateTree → Reading W) (w u : List ℕ) → ArgumentsClosed (TemplateArgument p ∷ []) w → AreCovered IsCoveredSlot p → 1024 < whole_length slot_length p → StopsBefore u (argument template (w ++ u) >>= f)
-template_closes p f w u a c l =
+template_closes : {W : Type 0} → (p : TemplateTree) (f : TemplateTree → Reading W) (w u : List ℕ) → ArgumentsClosed (TemplateArgument p ∷ []) w → 1024 < whole_length slot_length p → StopsBefore u (argument template (w ++ u) >>= f)
+template_closes p f w u a l =
     subst (λ s. StopsBefore u (argument template s >>= f)) (sym (closed_one a.0 a.1 a.2 w u a.3 a.6))
-    (stops_then u (argument template (a.0 ++ (a.1 ++ u))) f (template_stops p a.0 a.1 u a.4 a.5 c l))
+    (stops_then u (argument template (a.0 ++ (a.1 ++ u))) f (template_stops p a.0 a.1 u a.4 a.5 l))
 
-cas_closes : (p : TemplateTree) (t : TupleTree) (w u : List ℕ) → ArgumentsClosed (TemplateArgument p ∷ TupleArgument t ∷ []) w → IsCovered (cas p t) → 1024 < whole_length datum_length t → StopsBefore u (cas_rest (w ++ u))
-cas_closes p t w u a c l =
+cas_closes : (p : TemplateTree) (t : TupleTree) (w u : List ℕ) → ArgumentsClosed (TemplateArgument p ∷ TupleArgument t ∷ []) w → 1024 < whole_length datum_length t → StopsBefore u (cas_rest (w ++ u))
+cas_closes p t w u a l =
     subst (λ s. StopsBefore u (cas_rest s)) (sym (closed_first a.0 a.1 a.2 w u a.3))
     (then_into (StopsBefore u) (TreeExceeds slot_length p) p (a.2 ++ u) (argument template (a.0 ++ (a.1 ++ (a.2 ++ u)))) (λ p middle. argument tuple middle >>= λ t rest. ended (cas p t) rest)
-    (λ s rest e m. omega (arith, m, length-append a.2 u)) (template_again p a.0 a.1 (a.2 ++ u) a.4 a.5 c.0) (tuple_closes t (cas p) a.2 u a.6 c.1 l))
+    (λ s rest e m. omega (arith, m, length-append a.2 u)) (template_again p a.0 a.1 (a.2 ++ u) a.4 a.5) (tuple_closes t (cas p) a.2 u a.6 l))
 
 closed_no_digit : (p : TemplateTree) (w u : List ℕ) → ArgumentsClosed (TemplateArgument p ∷ []) w → NoDigit (w ++ u)
 closed_no_digit p w u a = subst NoDigit (sym (closed_one a.0 a.1 a.2 w u a.3 a.6)) (gap_no_digit a.0 (a.1 ++ u) a.4)
 
-all_closes : (n : ℕ) (p : TemplateTree) (w u : List ℕ) → ArgumentsClosed (CountArgument n ∷ TemplateArgument p ∷ []) w → AreCovered IsCoveredSlot p → 1024 < whole_length slot_length p → StopsBefore u (all_rest (w ++ u))
-all_closes n p w u a c l =
+all_closes : (n : ℕ) (p : TemplateTree) (w u : List ℕ) → ArgumentsClosed (CountArgument n ∷ TemplateArgument p ∷ []) w → 1024 < whole_length slot_length p → StopsBefore u (all_rest (w ++ u))
+all_closes n p w u a l =
     subst (λ s. StopsBefore u (all_rest s)) (sym (closed_first a.0 a.1 a.2 w u a.3))
     (subst (λ y. StopsBefore u (y >>= λ n middle. argument template middle >>= λ p rest. ended (rd_all n p) rest)) (sym (count_again n a.0 a.1 (a.2 ++ u) a.4 a.5 (closed_no_digit p a.2 u a.6)))
-    (template_closes p (λ p rest. ended (rd_all n p) rest) a.2 u a.6 c l))
+    (template_closes p (λ p rest. ended (rd_all n p) rest) a.2 u a.6 l))
 
-rest_stops : (o : Operation) (k : ℕ) (w u : List ℕ) → IsCovered o → k < length (arguments o) → ArgumentsClosed (take (k + 1) (arguments o)) w → 1024 < slice_index (argument_lengths o) k → StopsBefore u (rest_of o (w ++ u))
-rest_stops (out t) zero w u c n h l = tuple_closes t out w u h c l
-rest_stops (out t) (suc k) w u c n h l = absurd (omega (arith, n))
-rest_stops (rdp p) zero w u c n h l = template_closes p (λ p rest. ended (rdp p) rest) w u h c l
-rest_stops (rdp p) (suc k) w u c n h l = absurd (omega (arith, n))
-rest_stops (inp p) zero w u c n h l = template_closes p (λ p rest. ended (inp p) rest) w u h c l
-rest_stops (inp p) (suc k) w u c n h l = absurd (omega (arith, n))
-rest_stops (cas p t) zero w u c n h l = template_closes p (λ p middle. argument tuple middle >>= λ t rest. ended (cas p t) rest) w u h c.0 l
-rest_stops (cas p t) (suc zero) w u c n h l = cas_closes p t w u h c l
-rest_stops (cas p t) (suc (suc k)) w u c n h l = absurd (omega (arith, n))
-rest_stops (rd_all m p) zero w u c n h l = absurd (omega (arith, l))
-rest_stops (rd_all m p) (suc zero) w u c n h l = all_closes m p w u h c l
-rest_stops (rd_all m p) (suc (suc k)) w u c n h l = absurd (omega (arith, n))
+rest_stops : (o : Operation) (k : ℕ) (w u : List ℕ) → k < length (arguments o) → ArgumentsClosed (take (k + 1) (arguments o)) w → 1024 < slice_index (argument_lengths o) k → StopsBefore u (rest_of o (w ++ u))
+rest_stops (out t) zero w u n h l = tuple_closes t out w u h l
+rest_stops (out t) (suc k) w u n h l = absurd (omega (arith, n))
+rest_stops (rdp p) zero w u n h l = template_closes p (λ p rest. ended (rdp p) rest) w u h l
+rest_stops (rdp p) (suc k) w u n h l = absurd (omega (arith, n))
+rest_stops (inp p) zero w u n h l = template_closes p (λ p rest. ended (inp p) rest) w u h l
+rest_stops (inp p) (suc k) w u n h l = absurd (omega (arith, n))
+rest_stops (cas p t) zero w u n h l = template_closes p (λ p middle. argument tuple middle >>= λ t rest. ended (cas p t) rest) w u h l
+rest_stops (cas p t) (suc zero) w u n h l = cas_closes p t w u h l
+rest_stops (cas p t) (suc (suc k)) w u n h l = absurd (omega (arith, n))
+rest_stops (rd_all m p) zero w u n h l = absurd (omega (arith, l))
+rest_stops (rd_all m p) (suc zero) w u n h l = all_closes m p w u h l
+rest_stops (rd_all m p) (suc (suc k)) w u n h l = absurd (omega (arith, n))
 
 pub too_long_stops : (bs u : List ℕ) → EndsTooLong bs → StopsBefore u (line (bs ++ u))
 too_long_stops bs u h =
     let e : bs ++ u ≡ h.lead ++ (name h.o ++ (h.rest ++ u)) = ap (λ s. s ++ u) h.whole ∙ append_assoc h.lead (name h.o ++ h.rest) u ∙ ap (λ s. h.lead ++ s) (append_assoc (name h.o) h.rest u) in
-    subst (StopsBefore u) (sym (ap line e ∙ line_front h.o h.lead (h.rest ++ u) h.blanks)) (rest_stops h.o h.k h.rest u h.covered h.last h.closed h.long)
+    subst (StopsBefore u) (sym (ap line e ∙ line_front h.o h.lead (h.rest ++ u) h.blanks)) (rest_stops h.o h.k h.rest u h.last h.closed h.long)

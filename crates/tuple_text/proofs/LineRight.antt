@@ -7,15 +7,14 @@ use Rattle.tuple_tree.specs.Limits.{IsWithin}
 use Rattle.tuple_tree.specs.Values.{datum_length, slot_length, IsDatum, IsSlot, TupleTree, TemplateTree}
 use Rattle.tuple_codec.specs.Operations.{Operation, out, rdp, inp, cas, rd_all, IsOperation}
 use Rattle.tuple_text.specs.Texts.{AreBlanks, WholeText, datum_text, slot_text}
-use Rattle.tuple_text.specs.Covered.{AreCovered, IsCoveredDatum, IsCoveredSlot, IsCovered}
 use Rattle.tuple_text.specs.Lines.{EachLeaf, LineText, name, arguments, ArgumentsText}
 use Rattle.tuple_text.specs.Faults.{KeepsCount, KeepsLevels, KeepsBoth, EndsTooLong, ArgumentsClosed, argument_lengths}
 use Rattle.tuple_text.specs.Reading.{◌>>=◌, nothing, look, blanks, positive, datum, slot, begins_datum, begins_slot, tuple, template, argument, ended, out_line, inp_line, cas_line, rdp_line, all_line, rd_line, operation, line}
 use Rattle.tuple_text.proofs.Right.{Limits, both, levels, no_limits, RightTo, Never, then_to, look_right, nothing_right}
 use Rattle.tuple_text.proofs.Blanks.{ArePassed, BeginsBlanks, blanks_right}
 use Rattle.tuple_text.proofs.Numbers.{IsPositive, positive_right}
-use Rattle.tuple_text.proofs.Levels.{OneIs, Fits, Overflows, each_weaker, each_leaf, each_levels, each_counted, each_map, are_items, are_covered}
-use Rattle.tuple_text.proofs.Leaves.{IsRead, IsReadSlot, datum_right, datum_starts, some_datum, slot_right, slot_starts, some_slot}
+use Rattle.tuple_text.proofs.Levels.{OneIs, Fits, Overflows, each_weaker, each_leaf, each_levels, each_counted, are_items}
+use Rattle.tuple_text.proofs.Leaves.{datum_right, datum_starts, some_datum, slot_right, slot_starts, some_slot}
 use Rattle.tuple_text.proofs.Plain.{whole_seen}
 use Rattle.tuple_text.proofs.Lists.{IsList, IsKept, IsLong, some_list}
 use Rattle.tuple_text.proofs.Nested.{whole_right}
@@ -27,39 +26,33 @@ KeepsTree levels t = levels_of t ≤ 8
 KeepsTree no_limits t = Unit {0}
 
 -- What a list that is read says of its tree.
-module _ {L : Type 0} (leaf_text : L → List ℕ) (IsLeaf Covers : L → Type 0) (length_of : L → ℕ) where
-  abbrev pub Readable : L → Type 0
-  Readable x = IsLeaf x × Covers x
-
+module _ {L : Type 0} (leaf_text : L → List ℕ) (IsLeaf : L → Type 0) (length_of : L → ℕ) where
   abbrev pub TreeIs : Limits → Items L → List ℕ → Type 0
-  TreeIs c t w = IsList leaf_text (OneIs Readable 7) c t w
+  TreeIs c t w = IsList leaf_text (OneIs IsLeaf 7) c t w
 
   abbrev pub KeptTree : Items L → List ℕ → Type 0
-  KeptTree t w = IsKept leaf_text (OneIs Readable 7) (Fits length_of) t w
+  KeptTree t w = IsKept leaf_text (OneIs IsLeaf 7) (Fits length_of) t w
 
   abbrev pub LongTree : List ℕ → Type 0
-  LongTree w = IsLong leaf_text (OneIs Readable 7) (Overflows length_of) w
+  LongTree w = IsLong leaf_text (OneIs IsLeaf 7) (Overflows length_of) w
 
   abbrev pub Argument : Items L → List ℕ → Type 0
   Argument t w = WholeText leaf_text t w × EachLeaf IsLeaf t
 
   pub tree_weaker : (c : Limits) (t : Items L) (w : List ℕ) → KeptTree t w → TreeIs c t w
   tree_weaker both t w h = h.0
-  tree_weaker levels t w h = record { text = h.0.text; each = each_weaker Readable 7 levels t h.0.each; count = tt }
-  tree_weaker no_limits t w h = record { text = h.0.text; each = each_weaker Readable 7 no_limits t h.0.each; count = tt }
+  tree_weaker levels t w h = record { text = h.0.text; each = each_weaker IsLeaf 7 levels t h.0.each; count = tt }
+  tree_weaker no_limits t w h = record { text = h.0.text; each = each_weaker IsLeaf 7 no_limits t h.0.each; count = tt }
 
   pub some_tree : (c : Limits) → (t : Items L) × (w : List ℕ) × TreeIs c t w
-  some_tree c = (none, 40 ∷ 41 ∷ [], some_list leaf_text (OneIs Readable 7) c)
+  some_tree c = (none, 40 ∷ 41 ∷ [], some_list leaf_text (OneIs IsLeaf 7) c)
 
   pub tree_argument : (c : Limits) (t : Items L) (w : List ℕ) → TreeIs c t w → Argument t w
-  tree_argument c t w h = (h.text, each_map Readable IsLeaf (λ x k. k.0) t (each_leaf Readable 7 c t h.each))
-
-  pub tree_covered : (c : Limits) (t : Items L) (w : List ℕ) → TreeIs c t w → AreCovered Covers t
-  tree_covered c t w h = are_covered Covers t (each_map Readable Covers (λ x k. k.1) t (each_leaf Readable 7 c t h.each))
+  tree_argument c t w h = (h.text, each_leaf IsLeaf 7 c t h.each)
 
   pub tree_keeps : (c : Limits) (t : Items L) (w : List ℕ) → TreeIs c t w → KeepsTree c t
-  tree_keeps both t w h = (omega (arith, each_levels Readable 7 t (each_weaker Readable 7 levels t h.each)), (h.count, each_counted Readable 7 t h.each))
-  tree_keeps levels t w h = omega (arith, each_levels Readable 7 t h.each)
+  tree_keeps both t w h = (omega (arith, each_levels IsLeaf 7 t (each_weaker IsLeaf 7 levels t h.each)), (h.count, each_counted IsLeaf 7 t h.each))
+  tree_keeps levels t w h = omega (arith, each_levels IsLeaf 7 t h.each)
   tree_keeps no_limits t w h = tt
 
   pub tree_within : (t : Items L) (w : List ℕ) → KeptTree t w → IsWithin IsLeaf length_of t
@@ -67,32 +60,32 @@ module _ {L : Type 0} (leaf_text : L → List ℕ) (IsLeaf Covers : L → Type 0
     fields = h.0.count;
     levels = (tree_keeps both t w h.0).0;
     length = h.1;
-    each = are_items IsLeaf t (tree_argument both t w h.0).1 (each_counted Readable 7 t h.0.each);
+    each = are_items IsLeaf t (tree_argument both t w h.0).1 (each_counted IsLeaf 7 t h.0.each);
   }
 
 abbrev pub TupleIs : Limits → TupleTree → List ℕ → Type 0
-TupleIs = TreeIs datum_text IsDatum IsCoveredDatum datum_length
+TupleIs = TreeIs datum_text IsDatum datum_length
 
 abbrev pub KeptTuple : TupleTree → List ℕ → Type 0
-KeptTuple = KeptTree datum_text IsDatum IsCoveredDatum datum_length
+KeptTuple = KeptTree datum_text IsDatum datum_length
 
 abbrev pub LongTuple : List ℕ → Type 0
-LongTuple = LongTree datum_text IsDatum IsCoveredDatum datum_length
+LongTuple = LongTree datum_text IsDatum datum_length
 
 abbrev pub TemplateIs : Limits → TemplateTree → List ℕ → Type 0
-TemplateIs = TreeIs slot_text IsSlot IsCoveredSlot slot_length
+TemplateIs = TreeIs slot_text IsSlot slot_length
 
 abbrev pub KeptTemplate : TemplateTree → List ℕ → Type 0
-KeptTemplate = KeptTree slot_text IsSlot IsCoveredSlot slot_length
+KeptTemplate = KeptTree slot_text IsSlot slot_length
 
 abbrev pub LongTemplate : List ℕ → Type 0
-LongTemplate = LongTree slot_text IsSlot IsCoveredSlot slot_length
+LongTemplate = LongTree slot_text IsSlot slot_length
 
 tuple_right : (bs : List ℕ) → RightTo KeptTuple (Begins TupleIs) LongTuple bs (tuple bs)
-tuple_right bs = subst (RightTo KeptTuple (Begins TupleIs) LongTuple bs) (sym (whole_seen datum_length begins_datum datum bs)) (whole_right datum_text IsRead begins_datum datum datum_right datum_starts some_datum datum_length bs)
+tuple_right bs = subst (RightTo KeptTuple (Begins TupleIs) LongTuple bs) (sym (whole_seen datum_length begins_datum datum bs)) (whole_right datum_text IsDatum begins_datum datum datum_right datum_starts some_datum datum_length bs)
 
 template_right : (bs : List ℕ) → RightTo KeptTemplate (Begins TemplateIs) LongTemplate bs (template bs)
-template_right bs = subst (RightTo KeptTemplate (Begins TemplateIs) LongTemplate bs) (sym (whole_seen slot_length begins_slot slot bs)) (whole_right slot_text IsReadSlot begins_slot slot slot_right slot_starts some_slot slot_length bs)
+template_right bs = subst (RightTo KeptTemplate (Begins TemplateIs) LongTemplate bs) (sym (whole_seen slot_length begins_slot slot bs)) (whole_right slot_text IsSlot begins_slot slot slot_right slot_starts some_slot slot_length bs)
 
 abbrev pub Keeps : Limits → Operation → Type 0
 Keeps both o = KeepsBoth o
@@ -104,14 +97,14 @@ abbrev Named : Operation → List ℕ → Type 0
 Named o w = (rest : List ℕ) × (w ≡ name o ++ rest) × ArgumentsText (arguments o) rest
 
 abbrev Good : Operation → List ℕ → Type 0
-Good o w = Named o w × IsCovered o × IsOperation o
+Good o w = Named o w × IsOperation o
 
 abbrev Limited : Limits → Operation → List ℕ → Type 0
-Limited c o w = Named o w × IsCovered o × Keeps c o
+Limited c o w = Named o w × Keeps c o
 
 abbrev TooLongBehind : List ℕ → Type 0
 TooLongBehind w =
-    (o : Operation) × (k : ℕ) × (rest : List ℕ) × (w ≡ name o ++ rest) × IsCovered o × ArgumentsClosed (take (k + 1) (arguments o)) rest × (k < length (arguments o)) × (1024 < slice_index (argument_lengths o) k)
+    (o : Operation) × (k : ℕ) × (rest : List ℕ) × (w ≡ name o ++ rest) × ArgumentsClosed (take (k + 1) (arguments o)) rest × (k < length (arguments o)) × (1024 < slice_index (argument_lengths o) k)
 
 argued : (space l front r w : List ℕ) → w ≡ front ++ r → front ≡ space ++ l → w ≡ space ++ (l ++ r)
 argued space l front r w e f = e ∙ ap (λ t. t ++ r) f ∙ append_assoc space l r
@@ -127,23 +120,17 @@ two_text : {V W : Type 0} → (P : V → List ℕ → Type 0) (A : V → List �
     → (o : Operation) (w : List ℕ) → (h : Then P (λ v. Then Q (λ x. IsDone (k v x))) o w) → ArgumentsText (A h.0 ∷ B h.5.0 ∷ []) w
 two_text P A Q B k f g o w h = let a = h.4 in (a.0, a.1, h.2, argued a.0 a.1 h.1 h.2 w h.3 a.2, a.3, f h.0 a.1 a.4, one_text Q B (k h.0) g o h.2 h.5)
 
-tuple_text : (c : Limits) (t : TupleTree) (w : List ℕ) → TupleIs c t w → Argument datum_text IsDatum IsCoveredDatum datum_length t w
-tuple_text = tree_argument datum_text IsDatum IsCoveredDatum datum_length
+tuple_text : (c : Limits) (t : TupleTree) (w : List ℕ) → TupleIs c t w → Argument datum_text IsDatum datum_length t w
+tuple_text = tree_argument datum_text IsDatum datum_length
 
-template_text : (c : Limits) (p : TemplateTree) (w : List ℕ) → TemplateIs c p w → Argument slot_text IsSlot IsCoveredSlot slot_length p w
-template_text = tree_argument slot_text IsSlot IsCoveredSlot slot_length
-
-tuple_covered : (c : Limits) (t : TupleTree) (w : List ℕ) → TupleIs c t w → AreCovered IsCoveredDatum t
-tuple_covered = tree_covered datum_text IsDatum IsCoveredDatum datum_length
-
-template_covered : (c : Limits) (p : TemplateTree) (w : List ℕ) → TemplateIs c p w → AreCovered IsCoveredSlot p
-template_covered = tree_covered slot_text IsSlot IsCoveredSlot slot_length
+template_text : (c : Limits) (p : TemplateTree) (w : List ℕ) → TemplateIs c p w → Argument slot_text IsSlot slot_length p w
+template_text = tree_argument slot_text IsSlot slot_length
 
 tuple_keeps : (c : Limits) (t : TupleTree) (w : List ℕ) → TupleIs c t w → KeepsTree c t
-tuple_keeps = tree_keeps datum_text IsDatum IsCoveredDatum datum_length
+tuple_keeps = tree_keeps datum_text IsDatum datum_length
 
 template_keeps : (c : Limits) (p : TemplateTree) (w : List ℕ) → TemplateIs c p w → KeepsTree c p
-template_keeps = tree_keeps slot_text IsSlot IsCoveredSlot slot_length
+template_keeps = tree_keeps slot_text IsSlot slot_length
 
 -- out
 abbrev OutIs : (TupleTree → List ℕ → Type 0) → Operation → List ℕ → Type 0
@@ -156,36 +143,35 @@ keeps_out no_limits t h = tt
 
 out_limited : (c : Limits) (o : Operation) (w : List ℕ) → OutIs (TupleIs c) o w → Limited c o (codes "out" ++ w)
 out_limited c o w h =
-    let l : Limited c (out h.0) (codes "out" ++ w) = ((w, refl, one_text (TupleIs c) (Argument datum_text IsDatum IsCoveredDatum datum_length) out (tuple_text c) o w h), tuple_covered c h.0 h.4.1 h.4.4, keeps_out c h.0 (tuple_keeps c h.0 h.4.1 h.4.4)) in
+    let l : Limited c (out h.0) (codes "out" ++ w) = ((w, refl, one_text (TupleIs c) (Argument datum_text IsDatum datum_length) out (tuple_text c) o w h), keeps_out c h.0 (tuple_keeps c h.0 h.4.1 h.4.4)) in
     subst (λ x. Limited c x (codes "out" ++ w)) (sym h.5.0) l
 
 out_good : (o : Operation) (w : List ℕ) → OutIs KeptTuple o w → Good o (codes "out" ++ w)
 out_good o w h =
     let l : Good (out h.0) (codes "out" ++ w) = (
-      (w, refl, one_text KeptTuple (Argument datum_text IsDatum IsCoveredDatum datum_length) out (λ t w k. tuple_text both t w k.0) o w h),
-      tuple_covered both h.0 h.4.1 h.4.4.0,
-      tree_within datum_text IsDatum IsCoveredDatum datum_length h.0 h.4.1 h.4.4,
+      (w, refl, one_text KeptTuple (Argument datum_text IsDatum datum_length) out (λ t w k. tuple_text both t w k.0) o w h),
+      tree_within datum_text IsDatum datum_length h.0 h.4.1 h.4.4,
     ) in
     subst (λ x. Good x (codes "out" ++ w)) (sym h.5.0) l
 
 out_long : (w : List ℕ) → LongThen KeptTuple LongTuple (λ t. Never) w → TooLongBehind (codes "out" ++ w)
 out_long w (inl h) =
     let l = h.4 in
-    (out l.0, 0, w, refl, tuple_covered both l.0 h.1 l.1, (h.0, h.1, [], last_argued h.0 h.1 w h.2, h.3, tuple_text both l.0 h.1 l.1, refl), omega arith, l.2)
+    (out l.0, 0, w, refl, (h.0, h.1, [], last_argued h.0 h.1 w h.2, h.3, tuple_text both l.0 h.1 l.1, refl), omega arith, l.2)
 out_long w (inr h) = absurd h.5
 
 some_out : (c : Limits) → (o : Operation) × (w : List ℕ) × OutIs (TupleIs c) o w
 some_out c =
-    some_then KeptTuple TupleIs LongTuple (some_tree datum_text IsDatum IsCoveredDatum datum_length) (tree_weaker datum_text IsDatum IsCoveredDatum datum_length) (λ t. IsDone (out t)) (λ t c. IsDone (out t)) (λ t. Never) c (λ t. (out t, [], (refl, tt)))
+    some_then KeptTuple TupleIs LongTuple (some_tree datum_text IsDatum datum_length) (tree_weaker datum_text IsDatum datum_length) (λ t. IsDone (out t)) (λ t c. IsDone (out t)) (λ t. Never) c (λ t. (out t, [], (refl, tt)))
 
 tuple_last : (k : TupleTree → Operation) (bs : List ℕ) → RightTo (Then KeptTuple (λ t. IsDone (k t))) (Begins (λ c. Then (TupleIs c) (λ t. IsDone (k t)))) (LongThen KeptTuple LongTuple (λ t. Never)) bs (argument tuple bs >>= λ t rest. ended (k t) rest)
 tuple_last k bs =
-    argument_then KeptTuple TupleIs LongTuple (some_tree datum_text IsDatum IsCoveredDatum datum_length) (tree_weaker datum_text IsDatum IsCoveredDatum datum_length) (λ t. IsDone (k t)) (λ t c. IsDone (k t)) (λ t. Never)
+    argument_then KeptTuple TupleIs LongTuple (some_tree datum_text IsDatum datum_length) (tree_weaker datum_text IsDatum datum_length) (λ t. IsDone (k t)) (λ t c. IsDone (k t)) (λ t. Never)
     tuple (λ t rest. ended (k t) rest) bs (λ t c. (k t, [], (refl, tt))) tuple_right (λ t rest. done_right (k t) rest)
 
 template_last : (k : TemplateTree → Operation) (bs : List ℕ) → RightTo (Then KeptTemplate (λ p. IsDone (k p))) (Begins (λ c. Then (TemplateIs c) (λ p. IsDone (k p)))) (LongThen KeptTemplate LongTemplate (λ p. Never)) bs (argument template bs >>= λ p rest. ended (k p) rest)
 template_last k bs =
-    argument_then KeptTemplate TemplateIs LongTemplate (some_tree slot_text IsSlot IsCoveredSlot slot_length) (tree_weaker slot_text IsSlot IsCoveredSlot slot_length) (λ p. IsDone (k p)) (λ p c. IsDone (k p)) (λ p. Never)
+    argument_then KeptTemplate TemplateIs LongTemplate (some_tree slot_text IsSlot slot_length) (tree_weaker slot_text IsSlot slot_length) (λ p. IsDone (k p)) (λ p c. IsDone (k p)) (λ p. Never)
     template (λ p rest. ended (k p) rest) bs (λ p c. (k p, [], (refl, tt))) template_right (λ p rest. done_right (k p) rest)
 
 out_right : (bs : List ℕ) → RightTo Good (Begins Limited) TooLongBehind bs (out_line bs)
@@ -200,13 +186,13 @@ TakesIs k P = Then P (λ p. IsDone (k p))
 
 some_takes : (k : TemplateTree → Operation) (c : Limits) → (o : Operation) × (w : List ℕ) × TakesIs k (TemplateIs c) o w
 some_takes k c =
-    some_then KeptTemplate TemplateIs LongTemplate (some_tree slot_text IsSlot IsCoveredSlot slot_length) (tree_weaker slot_text IsSlot IsCoveredSlot slot_length) (λ p. IsDone (k p)) (λ p c. IsDone (k p)) (λ p. Never) c (λ p. (k p, [], (refl, tt)))
+    some_then KeptTemplate TemplateIs LongTemplate (some_tree slot_text IsSlot slot_length) (tree_weaker slot_text IsSlot slot_length) (λ p. IsDone (k p)) (λ p c. IsDone (k p)) (λ p. Never) c (λ p. (k p, [], (refl, tt)))
 
-takes_text : (c : Limits) (k : TemplateTree → Operation) (o : Operation) (w : List ℕ) → (h : TakesIs k (TemplateIs c) o w) → ArgumentsText (Argument slot_text IsSlot IsCoveredSlot slot_length h.0 ∷ []) w
-takes_text c k o w h = one_text (TemplateIs c) (Argument slot_text IsSlot IsCoveredSlot slot_length) k (template_text c) o w h
+takes_text : (c : Limits) (k : TemplateTree → Operation) (o : Operation) (w : List ℕ) → (h : TakesIs k (TemplateIs c) o w) → ArgumentsText (Argument slot_text IsSlot slot_length h.0 ∷ []) w
+takes_text c k o w h = one_text (TemplateIs c) (Argument slot_text IsSlot slot_length) k (template_text c) o w h
 
-kept_text : (k : TemplateTree → Operation) (o : Operation) (w : List ℕ) → (h : TakesIs k KeptTemplate o w) → ArgumentsText (Argument slot_text IsSlot IsCoveredSlot slot_length h.0 ∷ []) w
-kept_text k o w h = one_text KeptTemplate (Argument slot_text IsSlot IsCoveredSlot slot_length) k (λ p w k. template_text both p w k.0) o w h
+kept_text : (k : TemplateTree → Operation) (o : Operation) (w : List ℕ) → (h : TakesIs k KeptTemplate o w) → ArgumentsText (Argument slot_text IsSlot slot_length h.0 ∷ []) w
+kept_text k o w h = one_text KeptTemplate (Argument slot_text IsSlot slot_length) k (λ p w k. template_text both p w k.0) o w h
 
 keeps_inp : (c : Limits) (p : TemplateTree) → KeepsTree c p → Keeps c (inp p)
 keeps_inp both p h = h
@@ -215,18 +201,18 @@ keeps_inp no_limits p h = tt
 
 inp_limited : (c : Limits) (o : Operation) (w : List ℕ) → TakesIs inp (TemplateIs c) o w → Limited c o (codes "inp" ++ w)
 inp_limited c o w h =
-    let l : Limited c (inp h.0) (codes "inp" ++ w) = ((w, refl, takes_text c inp o w h), template_covered c h.0 h.4.1 h.4.4, keeps_inp c h.0 (template_keeps c h.0 h.4.1 h.4.4)) in
+    let l : Limited c (inp h.0) (codes "inp" ++ w) = ((w, refl, takes_text c inp o w h), keeps_inp c h.0 (template_keeps c h.0 h.4.1 h.4.4)) in
     subst (λ x. Limited c x (codes "inp" ++ w)) (sym h.5.0) l
 
 inp_good : (o : Operation) (w : List ℕ) → TakesIs inp KeptTemplate o w → Good o (codes "inp" ++ w)
 inp_good o w h =
-    let l : Good (inp h.0) (codes "inp" ++ w) = ((w, refl, kept_text inp o w h), template_covered both h.0 h.4.1 h.4.4.0, tree_within slot_text IsSlot IsCoveredSlot slot_length h.0 h.4.1 h.4.4) in
+    let l : Good (inp h.0) (codes "inp" ++ w) = ((w, refl, kept_text inp o w h), tree_within slot_text IsSlot slot_length h.0 h.4.1 h.4.4) in
     subst (λ x. Good x (codes "inp" ++ w)) (sym h.5.0) l
 
 inp_long : (w : List ℕ) → LongThen KeptTemplate LongTemplate (λ p. Never) w → TooLongBehind (codes "inp" ++ w)
 inp_long w (inl h) =
     let l = h.4 in
-    (inp l.0, 0, w, refl, template_covered both l.0 h.1 l.1, (h.0, h.1, [], last_argued h.0 h.1 w h.2, h.3, template_text both l.0 h.1 l.1, refl), omega arith, l.2)
+    (inp l.0, 0, w, refl, (h.0, h.1, [], last_argued h.0 h.1 w h.2, h.3, template_text both l.0 h.1 l.1, refl), omega arith, l.2)
 inp_long w (inr h) = absurd h.5
 
 inp_right : (bs : List ℕ) → RightTo Good (Begins Limited) TooLongBehind bs (inp_line bs)
@@ -242,18 +228,18 @@ keeps_rdp no_limits p h = tt
 
 rdp_limited : (c : Limits) (o : Operation) (w : List ℕ) → TakesIs rdp (TemplateIs c) o w → Limited c o (codes "rd" ++ (codes "p" ++ w))
 rdp_limited c o w h =
-    let l : Limited c (rdp h.0) (codes "rd" ++ (codes "p" ++ w)) = ((w, refl, takes_text c rdp o w h), template_covered c h.0 h.4.1 h.4.4, keeps_rdp c h.0 (template_keeps c h.0 h.4.1 h.4.4)) in
+    let l : Limited c (rdp h.0) (codes "rd" ++ (codes "p" ++ w)) = ((w, refl, takes_text c rdp o w h), keeps_rdp c h.0 (template_keeps c h.0 h.4.1 h.4.4)) in
     subst (λ x. Limited c x (codes "rd" ++ (codes "p" ++ w))) (sym h.5.0) l
 
 rdp_good : (o : Operation) (w : List ℕ) → TakesIs rdp KeptTemplate o w → Good o (codes "rd" ++ (codes "p" ++ w))
 rdp_good o w h =
-    let l : Good (rdp h.0) (codes "rd" ++ (codes "p" ++ w)) = ((w, refl, kept_text rdp o w h), template_covered both h.0 h.4.1 h.4.4.0, tree_within slot_text IsSlot IsCoveredSlot slot_length h.0 h.4.1 h.4.4) in
+    let l : Good (rdp h.0) (codes "rd" ++ (codes "p" ++ w)) = ((w, refl, kept_text rdp o w h), tree_within slot_text IsSlot slot_length h.0 h.4.1 h.4.4) in
     subst (λ x. Good x (codes "rd" ++ (codes "p" ++ w))) (sym h.5.0) l
 
 rdp_long : (w : List ℕ) → LongThen KeptTemplate LongTemplate (λ p. Never) w → TooLongBehind (codes "rd" ++ (codes "p" ++ w))
 rdp_long w (inl h) =
     let l = h.4 in
-    (rdp l.0, 0, w, refl, template_covered both l.0 h.1 l.1, (h.0, h.1, [], last_argued h.0 h.1 w h.2, h.3, template_text both l.0 h.1 l.1, refl), omega arith, l.2)
+    (rdp l.0, 0, w, refl, (h.0, h.1, [], last_argued h.0 h.1 w h.2, h.3, template_text both l.0 h.1 l.1, refl), omega arith, l.2)
 rdp_long w (inr h) = absurd h.5
 
 rdp_right : (bs : List ℕ) → RightTo (λ o w. Good o (codes "rd" ++ w)) (λ c w. Begins Limited c (codes "rd" ++ w)) (λ w. TooLongBehind (codes "rd" ++ w)) bs (rdp_line bs)
@@ -286,7 +272,7 @@ all_limited : (c : Limits) (o : Operation) (w : List ℕ) → AllIs (TemplateIs 
 all_limited c o w h =
     let m = h.5 in
     let l : Limited c (rd_all h.0 m.0) (codes "rd" ++ (codes "All" ++ w)) =
-    ((w, refl, two_text (IsPositive 64) (IsPositive 64) (TemplateIs c) (Argument slot_text IsSlot IsCoveredSlot slot_length) rd_all (λ n w k. k) (template_text c) o w h), template_covered c m.0 m.4.1 m.4.4, keeps_all c h.0 m.0 (template_keeps c m.0 m.4.1 m.4.4)) in
+    ((w, refl, two_text (IsPositive 64) (IsPositive 64) (TemplateIs c) (Argument slot_text IsSlot slot_length) rd_all (λ n w k. k) (template_text c) o w h), keeps_all c h.0 m.0 (template_keeps c m.0 m.4.1 m.4.4)) in
     subst (λ x. Limited c x (codes "rd" ++ (codes "All" ++ w))) (sym m.5.0) l
 
 all_good : (o : Operation) (w : List ℕ) → AllIs KeptTemplate o w → Good o (codes "rd" ++ (codes "All" ++ w))
@@ -294,9 +280,8 @@ all_good o w h =
     let m = h.5 in
     let n = h.4.4 in
     let l : Good (rd_all h.0 m.0) (codes "rd" ++ (codes "All" ++ w)) = (
-      (w, refl, two_text (IsPositive 64) (IsPositive 64) KeptTemplate (Argument slot_text IsSlot IsCoveredSlot slot_length) rd_all (λ n w k. k) (λ p w k. template_text both p w k.0) o w h),
-      template_covered both m.0 m.4.1 m.4.4.0,
-      (n.1, n.2, tree_within slot_text IsSlot IsCoveredSlot slot_length m.0 m.4.1 m.4.4),
+      (w, refl, two_text (IsPositive 64) (IsPositive 64) KeptTemplate (Argument slot_text IsSlot slot_length) rd_all (λ n w k. k) (λ p w k. template_text both p w k.0) o w h),
+      (n.1, n.2, tree_within slot_text IsSlot slot_length m.0 m.4.1 m.4.4),
     ) in
     subst (λ x. Good x (codes "rd" ++ (codes "All" ++ w))) (sym m.5.0) l
 
@@ -310,7 +295,6 @@ all_long w (inr h) = elim h.5 [
         1,
         w,
         refl,
-        template_covered both l.0 m.1 l.1,
         (a.0, a.1, h.2, argued a.0 a.1 h.1 h.2 w h.3 a.2, a.3, a.4, (m.0, m.1, [], last_argued m.0 m.1 h.2 m.2, m.3, template_text both l.0 m.1 l.1, refl)),
         omega arith,
         l.2,
@@ -335,11 +319,11 @@ LongCas = LongThen KeptTemplate LongTemplate (λ p. LongThen KeptTuple LongTuple
 
 some_last : (k : TupleTree → Operation) (c : Limits) → (o : Operation) × (w : List ℕ) × Then (TupleIs c) (λ t. IsDone (k t)) o w
 some_last k c =
-    some_then KeptTuple TupleIs LongTuple (some_tree datum_text IsDatum IsCoveredDatum datum_length) (tree_weaker datum_text IsDatum IsCoveredDatum datum_length) (λ t. IsDone (k t)) (λ t c. IsDone (k t)) (λ t. Never) c (λ t. (k t, [], (refl, tt)))
+    some_then KeptTuple TupleIs LongTuple (some_tree datum_text IsDatum datum_length) (tree_weaker datum_text IsDatum datum_length) (λ t. IsDone (k t)) (λ t c. IsDone (k t)) (λ t. Never) c (λ t. (k t, [], (refl, tt)))
 
 some_cas : (c : Limits) → (o : Operation) × (w : List ℕ) × CasIs (TemplateIs c) (TupleIs c) o w
 some_cas c =
-    some_then KeptTemplate TemplateIs LongTemplate (some_tree slot_text IsSlot IsCoveredSlot slot_length) (tree_weaker slot_text IsSlot IsCoveredSlot slot_length) (λ p. Then KeptTuple (λ t. IsDone (cas p t))) (λ p c. Then (TupleIs c) (λ t. IsDone (cas p t))) (λ p. LongThen KeptTuple LongTuple (λ t. Never)) c
+    some_then KeptTemplate TemplateIs LongTemplate (some_tree slot_text IsSlot slot_length) (tree_weaker slot_text IsSlot slot_length) (λ p. Then KeptTuple (λ t. IsDone (cas p t))) (λ p c. Then (TupleIs c) (λ t. IsDone (cas p t))) (λ p. LongThen KeptTuple LongTuple (λ t. Never)) c
     (λ p. some_last (cas p) c)
 
 keeps_cas : (c : Limits) (p : TemplateTree) (t : TupleTree) → KeepsTree c p → KeepsTree c t → Keeps c (cas p t)
@@ -351,8 +335,7 @@ cas_limited : (c : Limits) (o : Operation) (w : List ℕ) → CasIs (TemplateIs 
 cas_limited c o w h =
     let m = h.5 in
     let l : Limited c (cas h.0 m.0) (codes "cas" ++ w) = (
-      (w, refl, two_text (TemplateIs c) (Argument slot_text IsSlot IsCoveredSlot slot_length) (TupleIs c) (Argument datum_text IsDatum IsCoveredDatum datum_length) cas (template_text c) (tuple_text c) o w h),
-      (template_covered c h.0 h.4.1 h.4.4, tuple_covered c m.0 m.4.1 m.4.4),
+      (w, refl, two_text (TemplateIs c) (Argument slot_text IsSlot slot_length) (TupleIs c) (Argument datum_text IsDatum datum_length) cas (template_text c) (tuple_text c) o w h),
       keeps_cas c h.0 m.0 (template_keeps c h.0 h.4.1 h.4.4) (tuple_keeps c m.0 m.4.1 m.4.4),
     ) in
     subst (λ x. Limited c x (codes "cas" ++ w)) (sym m.5.0) l
@@ -361,16 +344,15 @@ cas_good : (o : Operation) (w : List ℕ) → CasIs KeptTemplate KeptTuple o w �
 cas_good o w h =
     let m = h.5 in
     let l : Good (cas h.0 m.0) (codes "cas" ++ w) = (
-      (w, refl, two_text KeptTemplate (Argument slot_text IsSlot IsCoveredSlot slot_length) KeptTuple (Argument datum_text IsDatum IsCoveredDatum datum_length) cas (λ p w k. template_text both p w k.0) (λ t w k. tuple_text both t w k.0) o w h),
-      (template_covered both h.0 h.4.1 h.4.4.0, tuple_covered both m.0 m.4.1 m.4.4.0),
-      (tree_within slot_text IsSlot IsCoveredSlot slot_length h.0 h.4.1 h.4.4, tree_within datum_text IsDatum IsCoveredDatum datum_length m.0 m.4.1 m.4.4),
+      (w, refl, two_text KeptTemplate (Argument slot_text IsSlot slot_length) KeptTuple (Argument datum_text IsDatum datum_length) cas (λ p w k. template_text both p w k.0) (λ t w k. tuple_text both t w k.0) o w h),
+      (tree_within slot_text IsSlot slot_length h.0 h.4.1 h.4.4, tree_within datum_text IsDatum datum_length m.0 m.4.1 m.4.4),
     ) in
     subst (λ x. Good x (codes "cas" ++ w)) (sym m.5.0) l
 
 cas_long : (w : List ℕ) → LongCas w → TooLongBehind (codes "cas" ++ w)
 cas_long w (inl h) =
     let l = h.4 in
-    (cas l.0 none, 0, w, refl, (template_covered both l.0 h.1 l.1, tt), (h.0, h.1, [], last_argued h.0 h.1 w h.2, h.3, template_text both l.0 h.1 l.1, refl), omega arith, l.2)
+    (cas l.0 none, 0, w, refl, (h.0, h.1, [], last_argued h.0 h.1 w h.2, h.3, template_text both l.0 h.1 l.1, refl), omega arith, l.2)
 cas_long w (inr h) = elim h.5 [
   | inl m ↦
       let a = h.4 in
@@ -379,7 +361,6 @@ cas_long w (inr h) = elim h.5 [
         1,
         w,
         refl,
-        (template_covered both h.0 a.1 a.4.0, tuple_covered both l.0 m.1 l.1),
         (a.0, a.1, h.2, argued a.0 a.1 h.1 h.2 w h.3 a.2, a.3, template_text both h.0 a.1 a.4.0, (m.0, m.1, [], last_argued m.0 m.1 h.2 m.2, m.3, tuple_text both l.0 m.1 l.1, refl)),
         omega arith,
         l.2,
@@ -392,7 +373,7 @@ unfolding cas_line
 cas_right bs =
     named_to Good Limited TooLongBehind [] (codes "cas") (CasIs KeptTemplate KeptTuple) (λ c. CasIs (TemplateIs c) (TupleIs c)) LongCas cas_good cas_limited cas_long some_cas
     (λ behind. argument template behind >>= λ p middle. argument tuple middle >>= λ t rest. ended (cas p t) rest)
-    (λ behind. argument_then KeptTemplate TemplateIs LongTemplate (some_tree slot_text IsSlot IsCoveredSlot slot_length) (tree_weaker slot_text IsSlot IsCoveredSlot slot_length) (λ p. Then KeptTuple (λ t. IsDone (cas p t))) (λ p c. Then (TupleIs c) (λ t. IsDone (cas p t)))
+    (λ behind. argument_then KeptTemplate TemplateIs LongTemplate (some_tree slot_text IsSlot slot_length) (tree_weaker slot_text IsSlot slot_length) (λ p. Then KeptTuple (λ t. IsDone (cas p t))) (λ p c. Then (TupleIs c) (λ t. IsDone (cas p t)))
     (λ p. LongThen KeptTuple LongTuple (λ t. Never)) template (λ p middle. argument tuple middle >>= λ t rest. ended (cas p t) rest) behind (λ p c. some_last (cas p) c) template_right (λ p rest. tuple_last (cas p) rest)) bs
 
 -- the operations
@@ -419,24 +400,24 @@ operation_right bs =
 
 -- the line of an operation, and one that keeps the limits c
 abbrev pub GoodLine : Operation → List ℕ → Type 0
-GoodLine o w = LineText o w × IsCovered o × IsOperation o
+GoodLine o w = LineText o w × IsOperation o
 
 abbrev pub LimitedLine : Limits → Operation → List ℕ → Type 0
-LimitedLine c o w = LineText o w × IsCovered o × Keeps c o
+LimitedLine c o w = LineText o w × Keeps c o
 
 lined : (o : Operation) (lead w : List ℕ) → AreBlanks lead → Named o w → LineText o (lead ++ w)
 lined o lead w b h = (lead, h.0, ap (λ s. lead ++ s) h.1, b, h.2)
 
 long_line : (lead w : List ℕ) → AreBlanks lead → TooLongBehind w → EndsTooLong (lead ++ w)
-long_line lead w b h = record { o = h.0; k = h.1; lead = lead; rest = h.2; whole = ap (λ s. lead ++ s) h.3; blanks = b; covered = h.4; closed = h.5; last = h.6; long = h.7 }
+long_line lead w b h = record { o = h.0; k = h.1; lead = lead; rest = h.2; whole = ap (λ s. lead ++ s) h.3; blanks = b; closed = h.4; last = h.5; long = h.6 }
 
 pub line_right : (bs : List ℕ) → RightTo GoodLine (Begins LimitedLine) EndsTooLong bs (line bs)
 unfolding line
 line_right bs =
     then_to (ArePassed true) BeginsBlanks Never (λ _. Good) (λ _. Begins Limited) (λ _. TooLongBehind) GoodLine (Begins LimitedLine) EndsTooLong bs (blanks true bs) (λ _ rest. operation rest)
-    (λ c w h. let s = some_line c in (s.0, s.1, (lined s.0 w s.1 h s.2.0, s.2.1, s.2.2)))
+    (λ c w h. let s = some_line c in (s.0, s.1, (lined s.0 w s.1 h s.2.0, s.2.1)))
     (λ w d. absurd d)
-    (λ _ front h o w k. (lined o front w h.0 k.0, k.1, k.2))
-    (λ _ front h c w k. (k.0, k.1, (subst (LineText k.0) (sym (append_assoc front w k.1)) (lined k.0 front (w ++ k.1) h.0 k.2.0), k.2.1, k.2.2)))
+    (λ _ front h o w k. (lined o front w h.0 k.0, k.1))
+    (λ _ front h c w k. (k.0, k.1, (subst (LineText k.0) (sym (append_assoc front w k.1)) (lined k.0 front (w ++ k.1) h.0 k.2.0), k.2.1)))
     (λ _ front h w d. long_line front w h.0 d)
     (blanks_right true bs) (λ _ rest. operation_right rest)

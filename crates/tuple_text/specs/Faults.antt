@@ -9,7 +9,6 @@ use Rattle.tuple_tree.specs.Values.{datum_length, slot_length}
 use Rattle.tuple_codec.specs.Operations.{Operation, out, rdp, inp, cas, rd_all}
 use Rattle.tuple_text.specs.Texts.{AreBlanks, IsGap}
 use Rattle.tuple_text.specs.Lines.{name, arguments, LineText, IsSkipped}
-use Rattle.tuple_text.specs.Covered.{IsCovered}
 use Rattle.tuple_text.specs.declared.faults.LineFault.{LineFault}
 use Rattle.tuple_text.specs.declared.faults.LineFault.TheVariants.{BadByte, TooDeep, TooManyFields, TooLong, NoMemory}
 
@@ -39,7 +38,7 @@ KeepsBoth o = KeepsLevels o × KeepsCounts o
 
 -- Some line of an operation of which P holds begins so.
 abbrev pub Begins : (Operation → Type 0) → List ℕ → Type 0
-Begins P bs = (rest : List ℕ) × (o : Operation) × LineText o (bs ++ rest) × P o × IsCovered o
+Begins P bs = (rest : List ℕ) × (o : Operation) × LineText o (bs ++ rest) × P o
 
 -- each argument behind a gap, and nothing behind the last
 abbrev pub ArgumentsClosed : List (List ℕ → Type 0) → List ℕ → Type 0
@@ -63,7 +62,6 @@ pub record EndsTooLong (bs : List ℕ) : Type 0 where
   pub rest : List ℕ
   pub whole : bs ≡ lead ++ (name o ++ rest)
   pub blanks : AreBlanks lead
-  pub covered : IsCovered o
   pub closed : ArgumentsClosed (take (k + 1) (arguments o)) rest
   pub last : k < length (arguments o)
   pub long : 1024 < slice_index (argument_lengths o) k
@@ -85,7 +83,7 @@ pub record StopsAt (bs : List ℕ) (n : ℕ) : Type 0 where
 pub record IsBadAt (bs : List ℕ) (n : ℕ) : Type 0 where
   pub passes : Passes bs n
   pub longest : n < length bs → n < 65536 → Begins AnyOperation (take (n + 1) bs) → ⊥
-  pub unfinished : n ≡ length bs → (o : Operation) → LineText o bs → IsCovered o → ⊥
+  pub unfinished : n ≡ length bs → (o : Operation) → LineText o bs → ⊥
 
 abbrev pub Faults : LineFault → List ℕ → Type 0
 Faults (BadByte n) bs = IsBadAt bs n

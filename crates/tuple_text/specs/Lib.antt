@@ -1,5 +1,4 @@
 pub mod Texts
-pub mod Covered
 pub mod Lines
 pub mod Faults
 pub mod Read

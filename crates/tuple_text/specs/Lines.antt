@@ -6,7 +6,6 @@ use Rattle.tuple_tree.specs.Items.{Item, leaf, inner, Items, none, item}
 use Rattle.tuple_tree.specs.Values.{IsDatum, IsSlot, TupleTree, TemplateTree}
 use Rattle.tuple_codec.specs.Operations.{Operation, out, rdp, inp, cas, rd_all, IsOperation}
 use Rattle.tuple_text.specs.Texts.{AreBlanks, IsGap, TupleText, TemplateText}
-use Rattle.tuple_text.specs.Covered.{IsCovered}
 
 -- each leaf is a right one
 module _ {L : Type 0} (IsLeaf : L → Type 0) where
@@ -57,7 +56,6 @@ pub record IsLine (o : Operation) (bs : List ℕ) : Type 0 where
   pub text : LineText o bs
   pub within : IsOperation o
   pub size : length bs ≤ 65536
-  pub covered : IsCovered o
 
 -- A line of blanks alone, or whose first byte is a hash, has no operation and is skipped.
 abbrev pub IsComment : List ℕ → Type 0
