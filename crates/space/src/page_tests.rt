@@ -173,18 +173,21 @@ fn page_of(alloc: Global, count: u64) -> Result<Vec<u8>, AllocError> {
     Ok(text)
 }
 
+// Whether a state with this page 1 alone is read, after five batches and with 20,480 as the next birth number.
+fn is_page_read(alloc: Global, text: &[u8]) -> Result<bool, Bad> {
+    let mut pages: [&[u8]; PAGES] = [&[]; PAGES];
+    pages[1] = text;
+    let header = b"\x01\0\0\0\0\0\0\0\x05\0\0\0\0\0\0\x50\0".as_slice();
+    is_read(alloc, pages.as_slice(), header)
+}
+
 #[test]
 fn pages_of_64_tuples(rt: HostRuntime) -> Result<(), Fail> {
-    let mut pages: [&[u8]; PAGES] = [&[]; PAGES];
-    // Five batches, and 20,480 as the next birth number.
-    let header = b"\x01\0\0\0\0\0\0\0\x05\0\0\0\0\0\0\x50\0".as_slice();
     let most = page_of(rt.alloc(), 64)?;
-    pages[1] = most.as_slice();
-    assert_eq!(rt; is_read(rt.alloc(), pages.as_slice(), header), Ok(true));
+    assert_eq!(rt; is_page_read(rt.alloc(), most.as_slice()), Ok(true));
     let more = page_of(rt.alloc(), 65)?;
-    pages[1] = more.as_slice();
     assert_eq!(rt;
-        is_read(rt.alloc(), pages.as_slice(), header),
+        is_page_read(rt.alloc(), more.as_slice()),
         Err(Bad::Malformed)
     );
     Ok(())
