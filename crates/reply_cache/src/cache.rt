@@ -53,9 +53,8 @@ impl ReplyCache {
     pub fn new(alloc: Global) -> ReplyCache
         ensures { result ≡ no_replies }
     {
-        ReplyCache {
-            slots: Vec::new(alloc),
-        }
+        let slots = Vec::new(alloc);
+        ReplyCache { slots }
     }
 
     /// The reply to the client's last request. Takes no memory.

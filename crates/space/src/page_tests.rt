@@ -163,29 +163,66 @@ fn pages_of_no_state(rt: HostRuntime) {
     }
 }
 
-// The page 1 with so many empty tuples: births 1, 257 and so on.
-fn page_of(alloc: Global, count: u64) -> Result<Vec<u8>, AllocError> {
+// Five batches, and 20,480 as the next birth number.
+const MANY_HEADER: &[u8; 17] = b"\x01\0\0\0\0\0\0\0\x05\0\0\0\0\0\0\x50\0";
+
+// A page with the first so many of its births, each of an empty tuple.
+fn page_of(alloc: Global, page: u64, count: u64) -> Result<Vec<u8>, AllocError> {
     let mut text = Vec::new(alloc);
     for nth in 0..count.min(100) {
-        text.extend_from_slice(&(256 * nth + 1).to_be_bytes())?;
+        text.extend_from_slice(&(256 * nth + page.min(255)).to_be_bytes())?;
         text.extend_from_slice(b"\0")?;
     }
     Ok(text)
 }
 
+// 128 full pages, and so many tuples on the next page.
+fn texts_of(alloc: Global, more: u64) -> Result<Vec<Vec<u8>>, AllocError> {
+    let mut texts = Vec::new(alloc);
+    for page in 0..256 {
+        let count = match page {
+            0..128 => 64,
+            128 => more,
+            _ => 0,
+        };
+        texts.push(page_of(alloc, page, count)?)?;
+    }
+    Ok(texts)
+}
+
+fn are_read(alloc: Global, texts: &[Vec<u8>]) -> Result<bool, Bad> {
+    let mut pages: [&[u8]; PAGES] = [&[]; PAGES];
+    for (page, text) in texts.iter().enumerate() {
+        if page < PAGES {
+            pages[page] = text.as_slice();
+        }
+    }
+    is_read(alloc, pages.as_slice(), MANY_HEADER.as_slice())
+}
+
+fn is_page_read(alloc: Global, text: &[u8]) -> Result<bool, Bad> {
+    let mut pages: [&[u8]; PAGES] = [&[]; PAGES];
+    pages[1] = text;
+    is_read(alloc, pages.as_slice(), MANY_HEADER.as_slice())
+}
+
 #[test]
 fn pages_of_64_tuples(rt: HostRuntime) -> Result<(), Fail> {
-    let mut pages: [&[u8]; PAGES] = [&[]; PAGES];
-    // Five batches, and 20,480 as the next birth number.
-    let header = b"\x01\0\0\0\0\0\0\0\x05\0\0\0\0\0\0\x50\0".as_slice();
-    let most = page_of(rt.alloc(), 64)?;
-    pages[1] = most.as_slice();
-    assert_eq!(rt; is_read(rt.alloc(), pages.as_slice(), header), Ok(true));
-    let more = page_of(rt.alloc(), 65)?;
-    pages[1] = more.as_slice();
+    let most = page_of(rt.alloc(), 1, 64)?;
+    assert_eq!(rt; is_page_read(rt.alloc(), most.as_slice()), Ok(true));
+    let more = page_of(rt.alloc(), 1, 65)?;
     assert_eq!(rt;
-        is_read(rt.alloc(), pages.as_slice(), header),
+        is_page_read(rt.alloc(), more.as_slice()),
         Err(Bad::Malformed)
     );
+    Ok(())
+}
+
+#[test]
+fn pages_of_8192_tuples(rt: HostRuntime) -> Result<(), Fail> {
+    let most = texts_of(rt.alloc(), 0)?;
+    assert_eq!(rt; are_read(rt.alloc(), most.as_slice()), Ok(true));
+    let more = texts_of(rt.alloc(), 1)?;
+    assert_eq!(rt; are_read(rt.alloc(), more.as_slice()), Err(Bad::Malformed));
     Ok(())
 }

@@ -4,4 +4,4 @@ use Rattle.reply_cache.proofs.Slots.{padded-none}
 use Rattle.reply_cache.proofs.cache.ReplyCache.new.Goals as goal
 
 pub returns : goal.returns
-returns c = ap padded c.new.ensures.items ∙ padded-none
+returns c = ap padded c.new-slots.ensures.items ∙ padded-none
