@@ -1,5 +1,7 @@
 //! Worked scripts, digits and words.
 
+mod rows;
+
 use crate::complaints::Complaint;
 use crate::local::{LocalFault, local};
 use crate::show::{ShowFault, show};
