@@ -102,4 +102,6 @@ fn complain<R: Eprint>(rt: &R, complaint: Complaint<'_>) -> u8 {
 }
 
 #[cfg(test)]
+mod examples;
+#[cfg(test)]
 mod tests;

@@ -121,7 +121,7 @@ fn runs_scripts(rt: HostRuntime) {
         ("out (01)\n", "", bad_byte(1, 6)),
         ("out (1", "", bad_byte(1, 6)),
         ("rdp (1)(2)\n", "", bad_byte(1, 7)),
-        ("out (3)\n\nrdp (x)\nout (4)\n", "done\n", bad_byte(3, 5)),
+        ("out (3)\n\nrdp (y)\nout (4)\n", "done\n", bad_byte(3, 5)),
     ];
     for (script, results, ending) in rows {
         let mut written = Vec::new(rt.alloc());
