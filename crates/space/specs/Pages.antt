@@ -1,6 +1,6 @@
 -- The pages of a space. Page i, 0 to 255, has the tuples whose birth number has the remainder i by 256, in the order of
--- births: each as its birth number in 8 bytes, high byte first, and its spelling. What is no tuple is a header: a version
--- byte, the number of executed batches and the next birth number.
+-- births: each as its birth number in 8 bytes, high byte first, and its spelling. What else a state has stands in a header:
+-- a version byte, the number of executed batches and the next birth number, both in 8 bytes.
 use Rattle.std.specs.Prelude.{◌≡◌, ℕ, ◌*◌, ◌^◌, ◌≤◌, ◌<◌, ◌%◌, List, [], ◌∷◌, ◌++◌, length, filter, flat_map, slice_index_or, ◌==◌}
 use Rattle.std.specs.Int.{w64, to_be_bytes}
 use Rattle.tuple_codec.specs.Spelling.{tuple_spelling}
@@ -19,17 +19,17 @@ on_page page es = filter (λ e. e.0 % 256 == page) es
 abbrev pub page_text : SpaceState → ℕ → List ℕ
 page_text s page = entries_text (on_page page s.entries)
 
--- the text of the header behind this many executed batches
+-- the text of the header after so many executed batches
 abbrev pub header_text : SpaceState → ℕ → List ℕ
 header_text s number = 1 ∷ to_be_bytes w64 number ++ to_be_bytes w64 s.next
 
--- A state behind so many executed batches: each batch has at most 16 requests, and each request takes at most 256 births.
+-- A state after so many executed batches: each batch has at most 16 requests, and each request takes at most 256 births.
 pub record IsStateAt (s : SpaceState) (number : ℕ) : Type 0 where
   pub state : IsState s
   pub births : s.next ≤ 4096 * number
   pub few : number < 2 ^ 48
 
--- The texts of pages 0 to 255 and the header are those of a state behind so many executed batches.
+-- The texts of pages 0 to 255 and the header are those of a state after so many executed batches.
 pub record ArePages (texts : List (List ℕ)) (header : List ℕ) (s : SpaceState) (number : ℕ) : Type 0 where
   pub state : IsStateAt s number
   pub heading : header ≡ header_text s number

@@ -31,7 +31,7 @@ pub fn pages_determine()
     ensures { (s t : SpaceState) (m n : ℕ) → IsStateAt s m → IsStateAt t n → header_text s m ≡ header_text t n → ((page : ℕ) → page < 256 → page_text s page ≡ page_text t page) → (m ≡ n) × (s ≡ t) }
 {}
 
-/// A batch of at most 16 operations leaves a state behind one more batch, where fewer than 2^48 were executed.
+/// A batch of at most 16 operations leaves a state after one more batch, where fewer than 2^48 were executed.
 pub fn batches_leave_states()
     ensures { (s : SpaceState) (number : ℕ) (os : List Operation) → IsStateAt s number → length os ≤ 16 → All IsOperation os → number + 1 < 2 ^ 48 → IsStateAt (fold state_after s os) (number + 1) }
 {}

@@ -116,9 +116,18 @@ pub fn read_page(
     Ok(count)
 }
 
-/// The numbers of a header, first that of the executed batches, then the next birth number; none where it is no state's.
-pub fn read_header(header: &[u8]) -> Option<(u64, u64)>
-    ensures found { IfSome result (λ x. IsHeader header.now x.0 x.1) }
+/// The numbers of a header.
+#[derive(Clone, Copy)]
+pub struct Header {
+    /// How many batches were executed.
+    pub number: u64,
+    /// The next birth number.
+    pub next: u64,
+}
+
+/// The numbers of a header; none where it is no state's.
+pub fn read_header(header: &[u8]) -> Option<Header>
+    ensures found { IfSome result (λ h. IsHeader header.now h.number h.next) }
     ensures only { (number next : ℕ) → IsHeader header.now number next → IsSome result }
 {
     if header.len() != HEADER_LEN || header[0] != VERSION {
@@ -127,7 +136,7 @@ pub fn read_header(header: &[u8]) -> Option<(u64, u64)>
     let number = BigEndian::read_u64(behind(header, 1));
     let next = BigEndian::read_u64(behind(header, 9));
     if number < NUMBERS_END && next <= number * BIRTHS_A_BATCH {
-        Some((number, next))
+        Some(Header { number, next })
     } else {
         None
     }

@@ -102,7 +102,10 @@ impl Space {
             return Err(Bad::Malformed);
         }
         match read_header(header) {
-            Some((number, next)) => Ok((Space::with_pages(alloc, pages, next)?, number)),
+            Some(numbers) => {
+                let space = Space::with_pages(alloc, pages, numbers.next)?;
+                Ok((space, numbers.number))
+            }
             None => Err(Bad::Malformed),
         }
     }
@@ -153,7 +156,7 @@ impl Space {
         text_of_page(self.alloc, self.entries.as_slice(), page)
     }
 
-    /// The text of the header behind `number` executed batches: a version byte, the number and the next birth number,
+    /// The text of the header after `number` executed batches: a version byte, the number and the next birth number,
     /// both in 8 bytes, high byte first.
     pub fn header_text(&self, number: u64) -> [u8; HEADER_LEN]
         ensures { result ≡ header_text self.now number }
