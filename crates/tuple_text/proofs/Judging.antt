@@ -342,15 +342,18 @@ left_nothing bs v rest e h =
     ap length r
 
 -- What the program's reading says.
-pub shorter_front : (bs : List ℕ) (m : ℕ) → (m ≡ length bs) ⊎ (m ≡ 65536) → m ≤ length bs → m ≤ 65536 → take m bs ≡ front bs
-shorter_front bs m (inl e) p q = take_all m bs (omega arith) ∙ sym (take_all 65536 bs (omega arith))
-shorter_front bs m (inr e) p q = ap (λ n. take n bs) e
-
 min_is : (m a b : ℕ) → m ≡ min a b → (m ≡ a) ⊎ (m ≡ b)
 min_is m a b e = elim (cases_lt a b) [ inl h ↦ inl (omega arith) | inr h ↦ inr (omega arith) ]
 
+shorter_to : (bs : List ℕ) (m n : ℕ) → (m ≡ length bs) ⊎ (m ≡ n) → m ≤ length bs → m ≤ n → take m bs ≡ take n bs
+shorter_to bs m n (inl e) p q = take_all m bs (omega arith) ∙ sym (take_all n bs (omega arith))
+shorter_to bs m n (inr e) p q = ap (λ k. take k bs) e
+
+pub front_to : (bs : List ℕ) (m n : ℕ) → m ≡ min (length bs) n → take m bs ≡ take n bs
+front_to bs m n e = shorter_to bs m n (min_is m (length bs) n e) (omega arith) (omega arith)
+
 pub front_is : (bs : List ℕ) (m : ℕ) → m ≡ min (length bs) 65536 → take m bs ≡ front bs
-front_is bs m e = shorter_front bs m (min_is m (length bs) 65536 e) (omega arith) (omega arith)
+front_is bs m e = front_to bs m 65536 e
 
 pub stops_faults : (bs : List ℕ) (s : Stop) (at rest : List ℕ) → at ≡ front bs → Stops s (line at) rest → Faults (fault_at (length at - length rest) s) bs
 stops_faults bs NoMemory at rest e h = tt

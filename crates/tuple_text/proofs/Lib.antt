@@ -19,3 +19,5 @@ pub mod LiteralCharacters
 pub mod LiteralTexts
 pub mod LiteralBytes
 pub mod Writing
+pub mod WrittenAgain
+pub mod Alone

@@ -184,8 +184,11 @@ ended_local o = local_then ending (λ _ rest. got o rest) ending_local (λ _. lo
 tuple_argument_local : IsLocal (argument tuple)
 tuple_argument_local = argument_local tuple (whole_local datum_length begins_datum datum datum_local)
 
+pub template_local : IsLocal template
+template_local = whole_local slot_length begins_slot slot slot_local
+
 template_argument_local : IsLocal (argument template)
-template_argument_local = argument_local template (whole_local slot_length begins_slot slot slot_local)
+template_argument_local = argument_local template template_local
 
 out_local : IsLocal out_line
 unfolding out_line

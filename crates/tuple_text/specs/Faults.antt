@@ -95,3 +95,11 @@ Faults NoMemory bs = Unit {0}
 -- The line is not skipped, and is refused so.
 abbrev pub Refuses : LineFault → List ℕ → Type 0
 Refuses fault bs = (IsSkipped bs → ⊥) × Faults fault bs
+
+-- the same fault with n bytes in front
+abbrev pub behind : ℕ → LineFault → LineFault
+behind n (BadByte m) = BadByte (n + m)
+behind n TooDeep = TooDeep
+behind n TooManyFields = TooManyFields
+behind n TooLong = TooLong
+behind n NoMemory = NoMemory

@@ -233,6 +233,10 @@ operation bs = look 111 out_line (look 114 rd_line (look 105 inp_line (look 99 c
 unfoldable pub line : Reading Operation
 line bs = blanks true bs >>= λ _ rest. operation rest
 
+-- a template, with blanks at both ends
+unfoldable pub lone_template : Reading TemplateTree
+lone_template bs = blanks true bs >>= λ _ rest. template rest >>= λ p after. ending after >>= λ _ last. got p last
+
 -- That a method of the program reads so, unless memory ran out; behind it stands the reader at these bytes.
 abbrev pub Stops : {V : Type 0} → Stop → Read V → List ℕ → Type 0
 Stops NoMemory read rest = Unit {0}

@@ -5,8 +5,10 @@ mod faults;
 mod lines;
 mod literals;
 mod reader;
+#[cfg(test)]
+mod tests;
 mod write;
 
 pub use faults::{LineFault, MAX_LINE};
-pub use lines::read_line;
-pub use write::{write_answer, write_tuple, written_is_text};
+pub use lines::{read_line, read_template};
+pub use write::{write_answer, write_tuple, written_is_read, written_is_text};

@@ -1,15 +1,20 @@
 //! Script lines.
 
-ghost use Rattle.std.specs.Prelude.{◌≡◌, ◌+◌, ◌≤◌, ℕ, length, IsTrue, ◌↔◌, MatchResult, MatchOption};
-ghost use Rattle.tuple_codec.specs.Operations.{Operation};
+ghost use Rattle.std.specs.Prelude.{◌≡◌, ◌+◌, ◌++◌, ◌≤◌, ℕ, codes, length, IsTrue, ◌↔◌, MatchResult, MatchOption};
+ghost use Rattle.tuple_tree.specs.Values.{TemplateTree};
+ghost use Rattle.tuple_codec.specs.Operations.{Operation, rdp};
 ghost use Rattle.tuple_codec.specs.OperationView.{operation_of};
 ghost use Rattle.tuple_text.specs.Lines.{IsLine, IsSkipped};
-ghost use Rattle.tuple_text.specs.Faults.{Refuses};
+ghost use Rattle.tuple_text.specs.Faults.{Refuses, Faults, behind};
 
 use crate::faults::{LineFault, MAX_LINE};
 use crate::reader::Reader;
 use std::alloc::Global;
 use tuple_codec::Op;
+use tuple_tree::Template;
+
+// How many bytes the text of a template has at the most: as many as fit into a line behind `rdp `.
+const MAX_TEXT: usize = MAX_LINE - 4;
 
 fn is_skipped(line: &[u8]) -> bool
     ensures { IsTrue result ↔ IsSkipped line.now }
@@ -48,5 +53,30 @@ pub fn read_line(alloc: Global, line: &[u8]) -> Result<Option<Op<Global>>, LineF
             Ok(Some(op))
         }
         Err(stop) => Err(stop.fault(front.len().saturating_sub(reader.left()))),
+    }
+}
+
+/// The template whose text this is, with blanks at both ends: the one that an `rdp` before the text would ask for.
+///
+/// # Errors
+///
+/// As of the line `rdp TEXT`; offsets count from the text's first byte. The byte 65,532 counts as one with which no
+/// text goes on.
+pub fn read_template(alloc: Global, text: &[u8]) -> Result<Template<Global>, LineFault>
+    ensures answer { MatchResult result (λ p. IsLine (rdp p) (codes "rdp " ++ text.now)) (λ fault. Faults (behind 4 fault) (codes "rdp " ++ text.now)) }
+
+    // A template's text is read so, unless memory runs out.
+    ensures only { (p : TemplateTree) → IsLine (rdp p) (codes "rdp " ++ text.now) → MatchResult result (λ read. read ≡ p) (λ fault. fault ≡ LineFault.NoMemory) }
+{
+    let taken = &text[..text.len().min(MAX_TEXT)];
+    let mut reader = Reader::new(taken);
+    match reader.lone_template(alloc) {
+        Ok(template) => {
+            if text.len() > MAX_TEXT {
+                return Err(LineFault::BadByte { offset: MAX_TEXT });
+            }
+            Ok(template)
+        }
+        Err(stop) => Err(stop.fault(taken.len().saturating_sub(reader.left()))),
     }
 }

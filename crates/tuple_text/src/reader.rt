@@ -7,7 +7,7 @@ ghost use Rattle.tuple_tree.specs.TupleView.{value_of};
 ghost use Rattle.tuple_tree.specs.TemplateView.{field_of};
 ghost use Rattle.tuple_codec.specs.OperationView.{operation_of};
 ghost use Rattle.tuple_text.specs.Texts.{AreBlanks};
-ghost use Rattle.tuple_text.specs.Reading.{fault_at, blanks, word, gap, finish, digits, positive, signed, numeral, datum, kind, kind_b, kind_t, slot, slot_item, turn, follows, full, no_room, got, stop, begins_datum, begins_slot, opens, kept_with, item_at, list_at, items_at, tuple, template, argument, ending, operation, line, out_line, inp_line, cas_line, rdp_line, all_line, rd_line, Gives};
+ghost use Rattle.tuple_text.specs.Reading.{fault_at, blanks, word, gap, finish, digits, positive, signed, numeral, datum, kind, kind_b, kind_t, slot, slot_item, turn, follows, full, no_room, got, stop, begins_datum, begins_slot, opens, kept_with, item_at, list_at, items_at, tuple, template, argument, ending, operation, line, out_line, inp_line, cas_line, rdp_line, all_line, rd_line, lone_template, Gives};
 ghost use Rattle.tuple_text.specs.Reading as Reading;
 
 use crate::faults::LineFault;
@@ -334,7 +334,10 @@ impl<'a> Reader<'a> {
     {
         match self.rest {
             [b'(', ..] if levels == 0 => Stop::TooDeep,
-            [b'(' | b'*' | b'?' | b'"' | b'x' | b't' | b'f' | b'-' | b'0'..=b'9', ..] => Stop::TooManyFields,
+            [
+                b'(' | b'*' | b'?' | b'"' | b'x' | b't' | b'f' | b'-' | b'0'..=b'9',
+                ..
+            ] => Stop::TooManyFields,
             _ => Stop::BadByte,
         }
     }
@@ -613,6 +616,17 @@ impl<'a> Reader<'a> {
             [b'c', ..] => self.cas_line(alloc),
             _ => Err(Stop::BadByte),
         }
+    }
+
+    /// The template that stands alone, with blanks at both ends.
+    #[tactic(auto, unfolding(crate::specs::Reading::lone_template))]
+    pub(crate) fn lone_template(&mut self, alloc: Global) -> Result<Template<Global>, Stop>
+        ensures { Gives (λ p. p) result (lone_template self.old.rest.now) self.new.rest.now }
+    {
+        self.blanks(true);
+        let template = self.template(alloc)?;
+        self.ending()?;
+        Ok(template)
     }
 
     /// The operation of the line.

@@ -1,12 +1,14 @@
 //! From values to text.
 
-ghost use Rattle.std.specs.Prelude.{◌≡◌, ◌+◌, ◌≤◌, ◌<◌, ◌++◌, ◌∷◌, [], OnOk, OnErr, take, length, vec_len};
+ghost use Rattle.std.specs.Prelude.{◌≡◌, ◌+◌, ◌≤◌, ◌<◌, ◌++◌, ◌∷◌, [], OnOk, OnErr, ℕ, List, codes, take, length, vec_len};
 ghost use Rattle.std.specs.List.{flat_map};
 ghost use Rattle.std.specs.Fmt.{decimal, signed_decimal};
-ghost use Rattle.tuple_tree.specs.Values.{TupleTree, TemplateTree};
+ghost use Rattle.tuple_tree.specs.Values.{TupleTree, TemplateTree, IsTuple, IsTemplate};
 ghost use Rattle.tuple_tree.specs.AtomView.{datum_of};
 ghost use Rattle.tuple_tree.specs.TupleView.{value_of, tuple_of};
+ghost use Rattle.tuple_codec.specs.Operations.{Operation, out, rdp};
 ghost use Rattle.tuple_codec.specs.OperationView.{outcome_of};
+ghost use Rattle.tuple_text.specs.Lines.{IsLine};
 ghost use Rattle.tuple_text.specs.Texts.{TupleText, TemplateText, datum_text, truth_text, escaped, hex_pair};
 ghost use Rattle.tuple_text.specs.Texts as Texts;
 ghost use Rattle.tuple_text.specs.Written.{item_written, items_written, tuple_written, template_written, tuples_written, outcome_text};
@@ -58,6 +60,14 @@ pub fn write_answer<A: Allocator, B: Allocator>(
 pub fn written_is_text()
     ensures tuples { (t : TupleTree) → TupleText t (tuple_written t) }
     ensures templates { (p : TemplateTree) → TemplateText p (template_written p) }
+{}
+
+/// A law: what is written of a tuple within the limits is read again as that tuple by [`read_line`](crate::read_line),
+/// behind `out `, and what is written of a template as that template, behind `rdp `. No line is that of two operations.
+pub fn written_is_read()
+    ensures tuples { (t : TupleTree) → IsTuple t → IsLine (out t) (codes "out " ++ tuple_written t) }
+    ensures templates { (p : TemplateTree) → IsTemplate p → IsLine (rdp p) (codes "rdp " ++ template_written p) }
+    ensures one { (o p : Operation) (line : List ℕ) → IsLine o line → IsLine p line → o ≡ p }
 {}
 
 fn put_answer<A: Allocator, B: Allocator>(
@@ -242,7 +252,7 @@ fn hex_digit(digit: u8) -> u8
 
 #[cfg(test)]
 mod tests {
-    use super::{write_answer, write_tuple, written_is_text};
+    use super::{write_answer, write_tuple, written_is_read, written_is_text};
     use std::string::String;
     use std::test::Fail;
     use tuple_codec::{Answer, Tuples};
@@ -286,6 +296,7 @@ mod tests {
         write_answer(&answer, &mut out)?;
         assert_eq!(rt; out.as_slice(), b"all 1 (x00ff -7)".as_slice());
         written_is_text();
+        written_is_read();
         Ok(())
     }
 }
