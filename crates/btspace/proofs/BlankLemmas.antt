@@ -80,7 +80,6 @@ module _ (l : List ℕ) (n : ℕ) (blank : AreBlanks (take n l)) (least : 65536 
         out none,
         (take n l, behind, refl, blank, (32 ∷ [], 40 ∷ 41 ∷ [], [], refl, (omega arith, (refl, tt)), (([], refl, tt), tt), tt)),
         (omega arith, (omega arith, tt)),
-        tt,
       )
 
   short : (k : ℕ) → k ≤ n → EndsTooLong (take k l) → ⊥
