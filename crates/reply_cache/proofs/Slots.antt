@@ -86,6 +86,10 @@ AreReplies-padded slots h = record {
   each = λ client. subst IsReply (sym (last-padded slots client)) (h.each client);
 }
 
+pub AreReplies-none : AreReplies no_replies
+unfolding no_replies
+AreReplies-none = record { all = length-replicate {A = Option Kept} 256 None; each = λ client. subst IsReply (sym (get_or-empty 256 client)) tt }
+
 pub AreReplies-with : (rs : Replies) (client : ℕ) (k : Kept) → AreReplies rs → IsKept k → client < 256 → AreReplies (with_reply rs client k)
 AreReplies-with rs client k h valid l = record {
   all = length-set rs client (Some k) ∙ h.all;

@@ -51,7 +51,8 @@ impl Model for ReplyCache {
 impl ReplyCache {
     /// No replies. Takes no memory.
     pub fn new(alloc: Global) -> ReplyCache
-        ensures { result ≡ no_replies }
+        ensures replies { result ≡ no_replies }
+        ensures valid { AreReplies result }
     {
         let slots = Vec::new(alloc);
         ReplyCache { slots }

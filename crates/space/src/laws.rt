@@ -4,7 +4,7 @@ ghost use Rattle.std.specs.Prelude.{◌≡◌, ℕ, ◌+◌, ◌^◌, ◌<◌, �
 ghost use Rattle.tuple_codec.specs.Operations.{Operation, IsOperation, IsOutcome};
 ghost use Rattle.space.specs.Applying.{outcome, tuples_after};
 ghost use Rattle.space.specs.Pages.{IsStateAt, page_text, header_text};
-ghost use Rattle.space.specs.Births.{SpaceState, IsState, IsNextBirth, birth_of, state_after, tuples_of};
+ghost use Rattle.space.specs.Births.{SpaceState, IsState, IsNextBirth, birth_of, empty_state, state_after, tuples_of};
 
 /// A new tuple takes the least birth number whose page has room, and such a number is never far.
 pub fn births_are_least()
@@ -31,7 +31,9 @@ pub fn pages_determine()
     ensures { (s t : SpaceState) (m n : ℕ) → IsStateAt s m → IsStateAt t n → header_text s m ≡ header_text t n → ((page : ℕ) → page < 256 → page_text s page ≡ page_text t page) → (m ≡ n) × (s ≡ t) }
 {}
 
-/// A batch of at most 16 operations leaves a state after one more batch, where fewer than 2^48 were executed.
+/// A new space is a state before any batch, and a batch of at most 16 operations leaves a state after one more batch,
+/// where fewer than 2^48 were executed.
 pub fn batches_leave_states()
-    ensures { (s : SpaceState) (number : ℕ) (os : List Operation) → IsStateAt s number → length os ≤ 16 → All IsOperation os → number + 1 < 2 ^ 48 → IsStateAt (fold state_after s os) (number + 1) }
+    ensures new { IsStateAt empty_state 0 }
+    ensures more { (s : SpaceState) (number : ℕ) (os : List Operation) → IsStateAt s number → length os ≤ 16 → All IsOperation os → number + 1 < 2 ^ 48 → IsStateAt (fold state_after s os) (number + 1) }
 {}
