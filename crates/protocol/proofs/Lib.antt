@@ -33,3 +33,4 @@ pub mod Accepting
 pub mod Readings
 pub mod Reacting
 pub mod Whole
+pub mod Weakly
