@@ -273,7 +273,7 @@ differ_same (z ∷ xs) a x y (inr h) (inr k) e f = differ_same xs a.1 x y h k e 
 
 -- ---- timestamps grow
 
-set_here : {A : Type 0} (xs : List A) (i : ℕ) (y : A) → i < length xs → slice_get (slice_set xs i y) i ≡ Some y
+pub set_here : {A : Type 0} (xs : List A) (i : ℕ) (y : A) → i < length xs → slice_get (slice_set xs i y) i ≡ Some y
 set_here [] i y l = absurd (omega arith)
 set_here (x ∷ xs) zero y l = refl
 set_here (x ∷ xs) (suc i) y l = let m : i < length xs = omega arith in set_here xs i y m

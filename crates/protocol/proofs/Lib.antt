@@ -34,3 +34,4 @@ pub mod Readings
 pub mod Reacting
 pub mod Whole
 pub mod Weakly
+pub mod Refusing
