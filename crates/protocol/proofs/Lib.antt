@@ -35,3 +35,4 @@ pub mod Reacting
 pub mod Whole
 pub mod Weakly
 pub mod Refusing
+pub mod FirstBatch

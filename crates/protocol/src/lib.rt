@@ -1,6 +1,7 @@
 //! The laws of the protocol, over every trace of correct replicas and clients.
 #![tactic(auto)]
 
+pub mod accepted;
 pub mod refused;
 
 ghost use Rattle.protocol.specs.Laws.{PreparedAgree, CommittedStays, CommittedAgree, ExecutedAgree, PagesDetermine, BatchesLeaveStates, StatesAgree, StableAgree, InstalledAgree, StartsAgree};
