@@ -1,15 +1,16 @@
 -- States are equal where their pages and headers are.
-use Rattle.std.proofs.Common.{◌≡◌, ℕ, zero, suc, ◌+◌, ◌*◌, ◌%◌, ◌^◌, ◌≤◌, ◌<◌, Bool, true, false, cond, List, [], ◌∷◌, ◌++◌, length, take, drop, get_or, refl, sym, ap, ◌∙◌, subst, arith, eq-eqb, append_assoc}
+use Rattle.std.proofs.Common.{◌≡◌, ℕ, suc, ◌%◌, ◌^◌, ◌≤◌, ◌<◌, Bool, true, false, cond, List, [], ◌∷◌, ◌++◌, length, take, drop, refl, sym, ap, ◌∙◌, subst, arith, eq-eqb, append_assoc}
 use Rattle.std.specs.Prelude.{◌==◌, All, AllPairs, filter}
 use Rattle.std.specs.Int.{w64, to_be_bytes, from_be_bytes}
 use Rattle.std.proofs.lemmas.List.{take_at, drop_at}
 use Rattle.std.proofs.lemmas.List.Elements.{All-cons, All-head, All-tail, All-filter, All-weaker}
 use Rattle.std.proofs.lemmas.Nat.{from_be_bytes-to_be_bytes_8}
 use Rattle.tuple_tree.specs.Values.{IsTuple}
-use Rattle.tuple_codec.specs.Spelling.{Spells, tuple_spelling}
+use Rattle.tuple_codec.specs.Spelling.{tuple_spelling}
 use Rattle.tuple_codec.specs.Reading.{tuple_at}
 use Rattle.tuple_codec.proofs.Grammar.{one, tuple_reads}
 use Rattle.space.specs.Births.{Entry, SpaceState, IsState}
+use Rattle.space.specs.Reading.{IsEntry}
 use Rattle.space.specs.Pages.{entry_text, entries_text, on_page, page_text, header_text, IsStateAt}
 
 -- ---- numbers and texts
@@ -22,11 +23,6 @@ number_split a b u v l m e =
     let front : to_be_bytes w64 a ≡ to_be_bytes w64 b = sym (take_at (to_be_bytes w64 a) u 8 refl) ∙ ap (take 8) e ∙ take_at (to_be_bytes w64 b) v 8 refl in
     let rest : u ≡ v = sym (drop_at (to_be_bytes w64 a) u 8 refl) ∙ ap (drop 8) e ∙ drop_at (to_be_bytes w64 b) v 8 refl in
     (bytes_same a b l m front, rest)
-
--- what an entry of a page is
-pub record IsEntry (e : Entry) : Type 0 where
-  pub fits : e.0 < 2 ^ 64
-  pub tuple : IsTuple e.1
 
 pub entry_split : (e f : Entry) (u v : List ℕ) → IsEntry e → IsEntry f → entry_text e ++ u ≡ entry_text f ++ v → (e ≡ f) × (u ≡ v)
 entry_split e f u v d g t =
@@ -54,16 +50,16 @@ abbrev on : ℕ → List Entry → List Entry
 on page es = filter (λ e. e.0 % 256 == page) es
 
 -- the births rise, from this number on
-abbrev Rises : ℕ → List Entry → Type 0
+abbrev pub Rises : ℕ → List Entry → Type 0
 Rises from [] = Unit {0}
 Rises from (e ∷ es) = (from ≤ e.0) × Rises (suc e.0) es
 
-Rises-from_pairs : (from : ℕ) (es : List Entry) → AllPairs (λ e f. e.0 < f.0) es → All (λ e. from ≤ e.0) es → Rises from es
+pub Rises-from_pairs : (from : ℕ) (es : List Entry) → AllPairs (λ e f. e.0 < f.0) es → All (λ e. from ≤ e.0) es → Rises from es
 Rises-from_pairs from [] h a = tt
 Rises-from_pairs from (e ∷ es) h a =
     (All-head (λ x. from ≤ x.0) e es a, Rises-from_pairs (suc e.0) es (λ i j d l m. h (suc i) (suc j) d (omega arith) (omega arith)) (λ k d l. let p = h 0 (suc k) d (omega arith) (omega arith) in omega arith))
 
-all_from : (from : ℕ) (es : List Entry) → Rises from es → All (λ e. from ≤ e.0) es
+pub all_from : (from : ℕ) (es : List Entry) → Rises from es → All (λ e. from ≤ e.0) es
 all_from from [] h = λ k d l. absurd (omega arith)
 all_from from (e ∷ es) h =
     All-cons (λ x. from ≤ x.0) e es h.0 (All-weaker (λ x. suc e.0 ≤ x.0) (λ x. from ≤ x.0) (λ x l. let a = h.0 in omega arith) es (all_from (suc e.0) es h.1))

@@ -6,3 +6,8 @@ pub mod Finding
 pub mod Texts
 pub mod Determining
 pub mod Batches
+pub mod Placing
+pub mod Fronts
+pub mod Loading
+pub mod Restoring
+pub mod Answering

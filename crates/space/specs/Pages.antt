@@ -1,9 +1,8 @@
 -- The pages of a space. Page i, 0 to 255, has the tuples whose birth number has the remainder i by 256, in the order of
 -- births: each as its birth number in 8 bytes, high byte first, and its spelling. What is no tuple is a header: a version
 -- byte, the number of executed batches and the next birth number.
-use Rattle.std.specs.Prelude.{◌≡◌, ℕ, ◌*◌, ◌^◌, ◌≤◌, ◌<◌, ◌%◌, List, [], ◌∷◌, ◌++◌, length, filter, flat_map, All, AllPairs, slice_index_or, ◌==◌}
+use Rattle.std.specs.Prelude.{◌≡◌, ℕ, ◌*◌, ◌^◌, ◌≤◌, ◌<◌, ◌%◌, List, [], ◌∷◌, ◌++◌, length, filter, flat_map, slice_index_or, ◌==◌}
 use Rattle.std.specs.Int.{w64, to_be_bytes}
-use Rattle.tuple_tree.specs.Values.{IsTuple}
 use Rattle.tuple_codec.specs.Spelling.{tuple_spelling}
 use Rattle.space.specs.Births.{Entry, SpaceState, IsState}
 
@@ -29,3 +28,10 @@ pub record IsStateAt (s : SpaceState) (number : ℕ) : Type 0 where
   pub state : IsState s
   pub births : s.next ≤ 4096 * number
   pub few : number < 2 ^ 48
+
+-- The texts of pages 0 to 255 and the header are those of a state behind so many executed batches.
+pub record ArePages (texts : List (List ℕ)) (header : List ℕ) (s : SpaceState) (number : ℕ) : Type 0 where
+  pub state : IsStateAt s number
+  pub heading : header ≡ header_text s number
+  pub all : length texts ≡ 256
+  pub each : (page : ℕ) → page < 256 → slice_index_or texts page [] ≡ page_text s page

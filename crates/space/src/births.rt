@@ -11,7 +11,8 @@ pub const MAX_ON_PAGE: u8 = 64;
 
 /// The table of pages with no tuple.
 pub fn empty_pages() -> [u8; PAGES]
-    ensures { (page : ℕ) → page < 256 → slice_index result page ≡ 0 }
+    ensures none { (page : ℕ) → page < 256 → slice_index result page ≡ 0 }
+    ensures len { length result ≡ 256 }
 {
     [0; PAGES]
 }

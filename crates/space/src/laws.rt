@@ -1,8 +1,8 @@
 //! Laws of the definitions that the space keeps to.
 
 ghost use Rattle.std.specs.Prelude.{◌≡◌, ℕ, ◌+◌, ◌^◌, ◌<◌, ◌≤◌, List, length, fold, All};
-ghost use Rattle.tuple_codec.specs.Operations.{Operation, IsOperation};
-ghost use Rattle.space.specs.Applying.{tuples_after};
+ghost use Rattle.tuple_codec.specs.Operations.{Operation, IsOperation, IsOutcome};
+ghost use Rattle.space.specs.Applying.{outcome, tuples_after};
 ghost use Rattle.space.specs.Pages.{IsStateAt, page_text, header_text};
 ghost use Rattle.space.specs.Births.{SpaceState, IsState, IsNextBirth, birth_of, state_after, tuples_of};
 
@@ -14,6 +14,11 @@ pub fn births_are_least()
 /// Each operation leaves a state.
 pub fn states_stay_states()
     ensures { (s : SpaceState) (o : Operation) → IsState s → IsOperation o → IsState (state_after s o) }
+{}
+
+/// Each answer of a state is within the limits.
+pub fn answers_are_valid()
+    ensures { (s : SpaceState) (o : Operation) → IsState s → IsOperation o → IsOutcome (outcome (tuples_of s) o) }
 {}
 
 /// Births aside, a state changes as the list of its tuples.

@@ -9,14 +9,18 @@
 mod births;
 mod laws;
 mod matching;
+#[cfg(test)]
+mod page_tests;
 mod pages;
+mod reading;
 #[cfg(test)]
 mod tests;
 mod tuples;
 
 pub use births::{MAX_ON_PAGE, PAGES};
 pub use laws::{
-    batches_leave_states, births_are_least, pages_determine, states_stay_states,
+    answers_are_valid, batches_leave_states, births_are_least, pages_determine, states_stay_states,
     tuples_follow_states,
 };
+pub use pages::HEADER_LEN;
 pub use tuples::{MAX_TUPLES, PeekFault, Space};

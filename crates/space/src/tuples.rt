@@ -1,21 +1,23 @@
 //! The space and its operations.
 
-ghost use Rattle.std.specs.Prelude.{◌≡◌, ◌^◌, ◌<◌, ◌≤◌, false, length, remove, slice_index_or, position, is_some, OnOk, OnErr, IfOk, IsTrue, ◌↔◌};
+ghost use Rattle.std.specs.Prelude.{◌≡◌, ◌^◌, ◌<◌, ◌≤◌, false, length, remove, slice_index_or, position, is_some, OnOk, OnErr, IfOk, IfErr, MatchResult, IsTrue, ◌↔◌, ℕ, map};
 ghost use Rattle.tuple_tree.specs.Values.{IsTuple};
 ghost use Rattle.tuple_codec.specs.Operations.{cas, rd_all};
 ghost use Rattle.template_match.specs.Tests.{is_match};
 ghost use Rattle.tuple_codec.specs.OperationView.{operation_of, outcome_of};
 ghost use Rattle.space.specs.Applying.{outcome, tuples_after, first_match, found_or_absent, has_room, is_read_only};
-ghost use Rattle.space.specs.Pages.{page_text};
-ghost use Rattle.space.specs.Births.{IsState, empty_state, tuples_of, state_after, with_birth, with_tuple, without_match};
+ghost use Rattle.space.specs.Pages.{page_text, header_text, ArePages};
+ghost use Rattle.space.specs.Reading.{ArePagesOf};
+ghost use Rattle.space.specs.Births.{SpaceState, IsState, empty_state, tuples_of, state_after, with_birth, with_tuple, without_match};
 
 use crate::births::{PAGES, empty_pages, next_birth};
 use crate::matching::{copies_of_matches, index_of_match};
-use crate::pages::text_of_page;
+use crate::pages::{HEADER_LEN, header_of, text_of_page};
+use crate::reading::{read_header, read_page};
 use std::alloc::{Allocator, Global};
 use std::marker::Model;
 use thiserror::Error;
-use tuple_codec::{Answer, Max, Op};
+use tuple_codec::{Answer, Bad, Max, Op};
 use tuple_tree::{NoMemory, Template, Tuple};
 
 /// How many tuples a space holds at the most.
@@ -81,6 +83,52 @@ impl Space {
         }
     }
 
+    /// The space of a state by the texts of its pages 0 to 255 and its header, and how many batches were executed by the
+    /// header.
+    ///
+    /// # Errors
+    ///
+    /// Malformed where these are those of no state within the limits: births that rise on their page and are below the
+    /// next one, at most 64 tuples on a page and 8,192 in all, each tuple spelled, at most 4,096 births for each executed
+    /// batch, and fewer than 2 to the power of 48 batches. Else NoMemory where memory runs out.
+    pub fn from_pages(alloc: Global, pages: &[&[u8]], header: &[u8]) -> Result<(Space, u64), Bad>
+        // What is read has these pages.
+        ensures found { IfOk result (λ x. ArePages (map (λ page. page.now) pages.now) header.now x.0 x.1) }
+
+        // The state with these pages is read, unless memory runs out.
+        ensures only { (s : SpaceState) (number : ℕ) → ArePages (map (λ page. page.now) pages.now) header.now s number → MatchResult result (λ x. (x.0 ≡ s) × (x.1 ≡ number)) (λ bad. bad ≡ Bad.NoMemory) }
+    {
+        if pages.len() != PAGES {
+            return Err(Bad::Malformed);
+        }
+        match read_header(header) {
+            Some((number, next)) => Ok((Space::with_pages(alloc, pages, next)?, number)),
+            None => Err(Bad::Malformed),
+        }
+    }
+
+    // The space by the texts of its pages 0 to 255 and its next birth number.
+    fn with_pages(alloc: Global, pages: &[&[u8]], next: u64) -> Result<Space, Bad>
+        requires { length pages.now ≡ 256 }
+        ensures found { IfOk result (λ s. ArePagesOf next (map (λ page. page.now) pages.now) s) }
+        ensures only { (s : SpaceState) → ArePagesOf next (map (λ page. page.now) pages.now) s → IfErr result (λ bad. bad ≡ Bad.NoMemory) }
+    {
+        let mut entries = Vec::new(alloc);
+        let mut page_counts = empty_pages();
+        for (page, text) in pages.iter().enumerate() {
+            page_counts[page] = read_page(&mut entries, text, page, next)?;
+        }
+        if entries.len() > MAX_TUPLES {
+            return Err(Bad::Malformed);
+        }
+        Ok(Space {
+            alloc,
+            entries,
+            next,
+            page_counts,
+        })
+    }
+
     /// How many tuples there are, 0 to 8,192.
     pub fn count(&self) -> usize
         ensures value { result ≡ length (tuples_of self.now) }
@@ -103,6 +151,14 @@ impl Space {
         ensures { IfOk result (λ text. text.items ≡ page_text self.now page) }
     {
         text_of_page(self.alloc, self.entries.as_slice(), page)
+    }
+
+    /// The text of the header behind `number` executed batches: a version byte, the number and the next birth number,
+    /// both in 8 bytes, high byte first.
+    pub fn header_text(&self, number: u64) -> [u8; HEADER_LEN]
+        ensures { result ≡ header_text self.now number }
+    {
+        header_of(number, self.next)
     }
 
     // The value of each space is a state.

@@ -4,7 +4,7 @@ use Rattle.std.proofs.lemmas.Bool.{eqb-true, eq-eqb}
 use Rattle.tuple_text.specs.Texts.{AreBlanks, IsGap}
 use Rattle.tuple_text.specs.Reading.{Read, got, stop, ◌>>=◌, blanks, word, gap, finish, ending}
 use Rattle.tuple_text.specs.declared.reader.Stop.TheVariants.{BadByte}
-use Rattle.tuple_text.proofs.Right.{Limits, RightAs, right_on, then_right, nothing_passed}
+use Rattle.tuple_text.proofs.Right.{Limits, RightAs, Never, right_on, then_right, nothing_passed}
 
 -- blanks behind which an item may begin, if it may where free is so
 abbrev pub Frees : Bool → List ℕ → Type 0
@@ -41,11 +41,11 @@ word_case : (d : ℕ) (cs : List ℕ) (b : ℕ) (bs : List ℕ) (s : Bool) → (
 word_case d cs b bs true e h =
     subst (λ c. RightAs (IsWord (d ∷ cs)) (BeginsWord (d ∷ cs)) (c ∷ bs) (word cs bs)) (sym (eqb-true b d e))
     (right_on (IsWord cs) (BeginsWord cs) (IsWord (d ∷ cs)) (BeginsWord (d ∷ cs)) (d ∷ []) bs (word cs bs) (λ v w k. ap (λ t. d ∷ t) k) (λ c w k. (k.0, ap (λ t. d ∷ t) k.1)) h)
-word_case d cs b bs false e h = nothing_passed (BeginsWord (d ∷ cs)) (b ∷ bs) (d ∷ cs, refl)
+word_case d cs b bs false e h = nothing_passed (BeginsWord (d ∷ cs)) Never (b ∷ bs) (d ∷ cs, refl)
 
 pub word_right : (cs bs : List ℕ) → RightAs (IsWord cs) (BeginsWord cs) bs (word cs bs)
 word_right [] bs = record { passed = []; whole = refl; is = refl }
-word_right (d ∷ cs) [] = nothing_passed (BeginsWord (d ∷ cs)) [] (d ∷ cs, refl)
+word_right (d ∷ cs) [] = nothing_passed (BeginsWord (d ∷ cs)) Never [] (d ∷ cs, refl)
 word_right (d ∷ cs) (b ∷ bs) = word_case d cs b bs (b == d) refl (word_right cs bs)
 
 pub blanks_append : (v w : List ℕ) → AreBlanks v → AreBlanks w → AreBlanks (v ++ w)
@@ -79,7 +79,7 @@ Ending v w = AreBlanks w
 
 finish_right : (bs : List ℕ) → RightAs (λ v w. w ≡ []) (λ c w. w ≡ []) bs (finish bs)
 finish_right [] = record { passed = []; whole = refl; is = refl }
-finish_right (b ∷ bs) = nothing_passed (λ c w. w ≡ []) (b ∷ bs) refl
+finish_right (b ∷ bs) = nothing_passed (λ c w. w ≡ []) Never (b ∷ bs) refl
 
 pub ending_right : (bs : List ℕ) → RightAs Ending BeginsBlanks bs (ending bs)
 unfolding ending

@@ -2,22 +2,26 @@
 use Rattle.std.proofs.Common.{◌≡◌, ℕ, zero, suc, ◌+◌, ◌-◌, ◌<◌, ◌≤◌, ◌==◌, min, Bool, true, false, cond, List, [], ◌∷◌, ◌++◌, length, take, drop, codes, refl, ap, sym, subst, ◌∙◌, append_assoc, append-nil, arith, ◌⊎◌, inl, inr, length-append}
 use Rattle.std.proofs.lemmas.List.{take_at, length-take, length-drop, take-append-drop}
 use Rattle.std.proofs.lemmas.Bool.{cases_lt}
+use Rattle.tuple_tree.specs.Items.{Items, levels_of}
+use Rattle.tuple_tree.specs.Limits.{IsWithin}
+use Rattle.tuple_tree.specs.Values.{IsDatum, IsSlot, datum_length, slot_length, TupleTree, TemplateTree}
 use Rattle.tuple_codec.specs.Operations.{Operation, out, rdp, inp, cas, rd_all, IsOperation}
 use Rattle.tuple_text.specs.Texts.{AreBlanks}
 use Rattle.tuple_text.specs.Covered.{IsCovered}
 use Rattle.tuple_text.specs.Lines.{LineText, IsLine, IsSkipped, IsComment, name}
-use Rattle.tuple_text.specs.Faults.{AnyOperation, EndsTooLong, Passes, StopsAt, IsBadAt, Faults}
+use Rattle.tuple_text.specs.Faults.{AnyOperation, KeepsCount, KeepsBoth, EndsTooLong, Passes, StopsAt, IsBadAt, Faults}
 use Rattle.tuple_text.specs.Faults.{Begins as BeginsLine}
-use Rattle.tuple_text.specs.Reading.{Read, got, stop, Reading, ◌>>=◌, blanks, word, finish, ending, argument, tuple, template, out_line, rdp_line, operation, line, fault_at, Stops}
+use Rattle.tuple_text.specs.Reading.{Read, got, stop, Reading, ◌>>=◌, nothing, look, blanks, word, finish, ending, ended, positive, argument, tuple, template, out_line, inp_line, cas_line, rdp_line, all_line, rd_line, operation, line, fault_at, Stops}
 use Rattle.tuple_text.specs.declared.reader.Stop.{Stop}
 use Rattle.tuple_text.specs.declared.reader.Stop.TheVariants.{BadByte, TooDeep, TooManyFields, TooLong, NoMemory}
 use Rattle.tuple_text.specs.declared.faults.LineFault.TheVariants as faults
 use Rattle.tuple_text.proofs.Local.{LocalAs, SameHead, left}
 use Rattle.tuple_text.proofs.Localities.{line_local}
-use Rattle.tuple_text.proofs.Right.{Limits, both, levels, no_limits, RightAs, Stuck}
+use Rattle.tuple_text.proofs.Right.{Limits, both, levels, no_limits, RightAs, RightTo, StuckAt}
 use Rattle.tuple_text.proofs.Blanks.{ArePassed, BeginsBlanks, blanks_right, blanks_again, freed}
+use Rattle.tuple_text.proofs.Levels.{are_counted}
 use Rattle.tuple_text.proofs.Arguments.{Begins}
-use Rattle.tuple_text.proofs.LineRight.{WholeLine, line_right, whole_lined, Keeps, any_within}
+use Rattle.tuple_text.proofs.LineRight.{GoodLine, LimitedLine, line_right, Keeps}
 use Rattle.tuple_text.proofs.Again.{AgainAs}
 use Rattle.tuple_text.proofs.LineAgain.{Exceeds, line_again, never_bad, keeps_counts, keeps_levels, within_exceeds, StopsBefore, too_long_stops}
 
@@ -58,8 +62,8 @@ one_more bs n b t h =
     let k : length (take n bs ++ b ∷ []) ≡ n + 1 = omega (arith, length-append (take n bs) (b ∷ []), length-take n bs, h.within) in
     sym (take_take (n + 1) 65536 bs l) ∙ ap (take (n + 1)) (h.whole ∙ sym (append_assoc (take n bs) (b ∷ []) t)) ∙ take_at (take n bs ++ b ∷ []) t (n + 1) k
 
-begins_line : (c : Limits) (w : List ℕ) → Begins WholeLine c w → BeginsLine (Keeps c) w
-begins_line c w h = let l = whole_lined c h.0 (w ++ h.1) h.2 in (h.1, h.0, l.text, l.keeps, l.covered)
+begins_line : (c : Limits) (w : List ℕ) → Begins LimitedLine c w → BeginsLine (Keeps c) w
+begins_line c w h = (h.1, h.0, h.2.0, h.2.2, h.2.1)
 
 not_before : (bs : List ℕ) (n k : ℕ) (x : Read Operation) → At bs n (left x) → k ≤ n → StopsBefore (drop k (front bs)) x → ⊥
 not_before bs n k (got o rest) h p s = s
@@ -70,7 +74,7 @@ short_to bs n x e h k p l =
     let w : take k bs ++ drop k (front bs) ≡ front bs = ap (λ s. s ++ drop k (front bs)) (sym (take_take k 65536 bs (omega (arith, h.limit)))) ∙ take-append-drop k (front bs) in
     not_before bs n k x h p (subst (StopsBefore (drop k (front bs))) (ap line w ∙ e) (too_long_stops (take k bs) (drop k (front bs)) l))
 
-pub passes : (bs : List ℕ) (n : ℕ) (x : Read Operation) → line (front bs) ≡ x → At bs n (left x) → Begins WholeLine both (take n bs) → Passes bs n
+pub passes : (bs : List ℕ) (n : ℕ) (x : Read Operation) → line (front bs) ≡ x → At bs n (left x) → Begins LimitedLine both (take n bs) → Passes bs n
 passes bs n x e h b = record { within = h.within; limit = h.limit; begins = begins_line both (take n bs) b; short = short_to bs n x e h }
 
 -- Where reading stops before b, the lines that go on with b pass the limit.
@@ -85,10 +89,10 @@ pub record Halted (bs : List ℕ) (s : Stop) (n : ℕ) (rest : List ℕ) : Type 
   pub read : line (front bs) ≡ stop s rest
   pub place : At bs n rest
   pub alike : (v : List ℕ) → SameHead rest v → line (take n bs ++ v) ≡ stop s v
-  pub stuck : Stuck (Begins WholeLine) s (front bs) rest
+  pub stuck : StuckAt (Begins LimitedLine) EndsTooLong s (front bs) rest
   pub same : stuck.passed ≡ take n bs
 
-halts : (bs : List ℕ) (s : Stop) (rest : List ℕ) → line (front bs) ≡ stop s rest → LocalAs line (front bs) (stop s rest) → Stuck (Begins WholeLine) s (front bs) rest → (n : ℕ) × (n ≡ length (front bs) - length rest) × Halted bs s n rest
+halts : (bs : List ℕ) (s : Stop) (rest : List ℕ) → line (front bs) ≡ stop s rest → LocalAs line (front bs) (stop s rest) → StuckAt (Begins LimitedLine) EndsTooLong s (front bs) rest → (n : ℕ) × (n ≡ length (front bs) - length rest) × Halted bs s n rest
 halts bs s rest e l k =
     let a = at_from bs l.passed rest l.whole in
     let b = at_from bs k.passed rest k.whole in
@@ -105,8 +109,8 @@ halts bs s rest e l k =
     )
 
 module _ (bs : List ℕ) where
-  halted_begins : (s : Stop) (n : ℕ) (rest : List ℕ) → Halted bs s n rest → Begins WholeLine both (take n bs)
-  halted_begins s n rest h = subst (Begins WholeLine both) h.same h.stuck.begins
+  halted_begins : (s : Stop) (n : ℕ) (rest : List ℕ) → Halted bs s n rest → Begins LimitedLine both (take n bs)
+  halted_begins s n rest h = subst (Begins LimitedLine both) h.same h.stuck.begins
 
   halted_passes : (s : Stop) (n : ℕ) (rest : List ℕ) → Halted bs s n rest → Passes bs n
   halted_passes s n rest h = passes bs n (stop s rest) h.read h.place (halted_begins s n rest h)
@@ -135,10 +139,10 @@ module _ (bs : List ℕ) where
     limit = omega (arith, h.place.total, length-take 65536 bs);
   }
 
-  next_begins : (c : Limits) (s : Stop) (n b : ℕ) (t rest : List ℕ) → rest ≡ b ∷ t → (h : Halted bs s n rest) → Begins WholeLine c (h.stuck.passed ++ b ∷ []) → BeginsLine (Keeps c) (take (n + 1) bs)
+  next_begins : (c : Limits) (s : Stop) (n b : ℕ) (t rest : List ℕ) → rest ≡ b ∷ t → (h : Halted bs s n rest) → Begins LimitedLine c (h.stuck.passed ++ b ∷ []) → BeginsLine (Keeps c) (take (n + 1) bs)
   next_begins c s n b t rest e h k =
       let p = subst (At bs n) e h.place in
-      begins_line c (take (n + 1) bs) (subst (Begins WholeLine c) (ap (λ w. w ++ b ∷ []) h.same ∙ sym (one_more bs n b t p)) k)
+      begins_line c (take (n + 1) bs) (subst (Begins LimitedLine c) (ap (λ w. w ++ b ∷ []) h.same ∙ sym (one_more bs n b t p)) k)
 
   pub many_at : (n : ℕ) (rest : List ℕ) → Halted bs TooManyFields n rest → Faults faults.TooManyFields bs
   many_at n rest h =
@@ -152,16 +156,22 @@ module _ (bs : List ℕ) where
       let k = subst (Halted bs TooDeep n) d.2 h in
       (n, stops_at TooDeep n d.0 d.1 k, next_begins no_limits TooDeep n d.0 d.1 rest d.2 h d.3, λ b. keeps_levels b.1 b.3 (next_exceeds TooDeep n d.0 d.1 k b.0 b.1 b.2 b.4))
 
+  pub long_at : (n : ℕ) (rest : List ℕ) → Halted bs TooLong n rest → Faults faults.TooLong bs
+  long_at n rest h =
+      let d = h.stuck.decides in
+      let k = subst (Halted bs TooLong n) d.2 h in
+      (n, stops_at TooLong n d.0 d.1 k, next_begins both TooLong n d.0 d.1 rest d.2 h d.3, subst EndsTooLong (ap (λ w. w ++ d.0 ∷ []) h.same ∙ sym (one_more bs n d.0 d.1 k.place)) d.4)
+
   halted_faults : (s : Stop) (n : ℕ) (rest : List ℕ) → Halted bs s n rest → Faults (fault_at n s) bs
   halted_faults BadByte n rest h = bad_at n rest h
   halted_faults TooDeep n rest h = deep_at n rest h
   halted_faults TooManyFields n rest h = many_at n rest h
-  halted_faults TooLong n rest h = absurd h.stuck.decides
+  halted_faults TooLong n rest h = long_at n rest h
   halted_faults NoMemory n rest h = tt
 
   pub stopped_faults : (s : Stop) (rest : List ℕ) → line (front bs) ≡ stop s rest → Faults (fault_at (length (front bs) - length rest) s) bs
   stopped_faults s rest e =
-      let h = halts bs s rest e (subst (LocalAs line (front bs)) e (line_local (front bs))) (subst (RightAs (WholeLine both) (Begins WholeLine) (front bs)) e (line_right (front bs))) in
+      let h = halts bs s rest e (subst (LocalAs line (front bs)) e (line_local (front bs))) (subst (RightTo GoodLine (Begins LimitedLine) EndsTooLong (front bs)) e (line_right (front bs))) in
       subst (λ n. Faults (fault_at n s) bs) h.1 (halted_faults s h.0 rest h.2)
 
 -- Nothing is left behind an operation.
@@ -189,39 +199,79 @@ ending_end : (bs : List ℕ) → AtEnd (ending bs)
 unfolding ending
 ending_end bs = then_end (blanks true bs) (λ _ rest. finish rest) (λ _ rest. finish_end rest)
 
+ended_end : (o : Operation) (bs : List ℕ) → AtEnd (ended o bs)
+unfolding ended
+ended_end o bs = map_end (ending bs) (λ _. o) (ending_end bs)
+
+tuple_end : (k : TupleTree → Operation) (bs : List ℕ) → AtEnd (argument tuple bs >>= λ t rest. ended (k t) rest)
+tuple_end k bs = then_end (argument tuple bs) (λ t rest. ended (k t) rest) (λ t rest. ended_end (k t) rest)
+
+template_end : (k : TemplateTree → Operation) (bs : List ℕ) → AtEnd (argument template bs >>= λ p rest. ended (k p) rest)
+template_end k bs = then_end (argument template bs) (λ p rest. ended (k p) rest) (λ p rest. ended_end (k p) rest)
+
 out_end : (bs : List ℕ) → AtEnd (out_line bs)
 unfolding out_line
-out_end bs =
-    then_end (word (codes "out") bs) (λ _ behind. argument tuple behind >>= λ t rest. ending rest >>= λ _ last. got (out t) last)
-    (λ _ behind. then_end (argument tuple behind) (λ t rest. ending rest >>= λ _ last. got (out t) last) (λ t rest. map_end (ending rest) (λ _. out t) (ending_end rest)))
+out_end bs = then_end (word (codes "out") bs) (λ _ behind. argument tuple behind >>= λ t rest. ended (out t) rest) (λ _ behind. tuple_end out behind)
+
+inp_end : (bs : List ℕ) → AtEnd (inp_line bs)
+unfolding inp_line
+inp_end bs = then_end (word (codes "inp") bs) (λ _ behind. argument template behind >>= λ p rest. ended (inp p) rest) (λ _ behind. template_end inp behind)
 
 rdp_end : (bs : List ℕ) → AtEnd (rdp_line bs)
 unfolding rdp_line
-rdp_end bs =
-    then_end (word (codes "rdp") bs) (λ _ behind. argument template behind >>= λ p rest. ending rest >>= λ _ last. got (rdp p) last)
-    (λ _ behind. then_end (argument template behind) (λ p rest. ending rest >>= λ _ last. got (rdp p) last) (λ p rest. map_end (ending rest) (λ _. rdp p) (ending_end rest)))
+rdp_end bs = then_end (word (codes "p") bs) (λ _ behind. argument template behind >>= λ p rest. ended (rdp p) rest) (λ _ behind. template_end rdp behind)
+
+cas_end : (bs : List ℕ) → AtEnd (cas_line bs)
+unfolding cas_line
+cas_end bs =
+    then_end (word (codes "cas") bs) (λ _ behind. argument template behind >>= λ p middle. argument tuple middle >>= λ t rest. ended (cas p t) rest)
+    (λ _ behind. then_end (argument template behind) (λ p middle. argument tuple middle >>= λ t rest. ended (cas p t) rest) (λ p middle. tuple_end (cas p) middle))
+
+all_end : (bs : List ℕ) → AtEnd (all_line bs)
+unfolding all_line
+all_end bs =
+    then_end (word (codes "All") bs) (λ _ behind. argument (positive 64) behind >>= λ n middle. argument template middle >>= λ p rest. ended (rd_all n p) rest)
+    (λ _ behind. then_end (argument (positive 64) behind) (λ n middle. argument template middle >>= λ p rest. ended (rd_all n p) rest) (λ n middle. template_end (rd_all n) middle))
+
+look_end : {V : Type 0} → (c : ℕ) (f g : Reading V) → ((bs : List ℕ) → AtEnd (f bs)) → ((bs : List ℕ) → AtEnd (g bs)) → (bs : List ℕ) → AtEnd (look c f g bs)
+look_end c f g h k [] = tt
+look_end c f g h k (b ∷ bs) = if_end (b == c) (f (b ∷ bs)) (g (b ∷ bs)) (h (b ∷ bs)) (k (b ∷ bs))
+
+rd_end : (bs : List ℕ) → AtEnd (rd_line bs)
+unfolding rd_line
+rd_end bs = then_end (word (codes "rd") bs) (λ _ rest. look 112 rdp_line all_line rest) (λ _ rest. look_end 112 rdp_line all_line rdp_end all_end rest)
 
 operation_end : (bs : List ℕ) → AtEnd (operation bs)
 unfolding operation
-operation_end [] = tt
-operation_end (b ∷ bs) = if_end (b == 111) (out_line (b ∷ bs)) (cond (b == 114) (rdp_line (b ∷ bs)) (stop BadByte (b ∷ bs))) (out_end (b ∷ bs)) (if_end (b == 114) (rdp_line (b ∷ bs)) (stop BadByte (b ∷ bs)) (rdp_end (b ∷ bs)) tt)
+operation_end bs =
+    look_end 111 out_line (look 114 rd_line (look 105 inp_line (look 99 cas_line nothing))) out_end
+    (look_end 114 rd_line (look 105 inp_line (look 99 cas_line nothing)) rd_end (look_end 105 inp_line (look 99 cas_line nothing) inp_end (look_end 99 cas_line nothing cas_end (λ bs. tt)))) bs
 
 line_end : (bs : List ℕ) → AtEnd (line bs)
 unfolding line
 line_end bs = then_end (blanks true bs) (λ _ rest. operation rest) (λ _ rest. operation_end rest)
 
 -- What is read as an operation is its line.
-read_whole : (bs : List ℕ) (o : Operation) (rest : List ℕ) → line bs ≡ got o rest → WholeLine both o bs
+read_whole : (bs : List ℕ) (o : Operation) (rest : List ℕ) → line bs ≡ got o rest → GoodLine o bs
 read_whole bs o rest e =
-    let f = subst (RightAs (WholeLine both) (Begins WholeLine) bs) e (line_right bs) in
+    let f = subst (RightTo GoodLine (Begins LimitedLine) EndsTooLong bs) e (line_right bs) in
     let n = subst AtEnd e (line_end bs) in
-    subst (WholeLine both o) (sym (f.whole ∙ ap (λ t. f.passed ++ t) n ∙ append-nil f.passed)) f.is
+    subst (GoodLine o) (sym (f.whole ∙ ap (λ t. f.passed ++ t) n ∙ append-nil f.passed)) f.is
 
 pub read_is_line : (bs : List ℕ) (o : Operation) (rest : List ℕ) → length bs ≤ 65536 → line (front bs) ≡ got o rest → IsLine o bs
 read_is_line bs o rest p e =
     let w = read_whole bs o rest (ap line (sym (take_all 65536 bs p)) ∙ e) in
-    let l = whole_lined both o bs w in
-    record { text = l.text; within = any_within o w.1 w.4; size = p; covered = l.covered }
+    record { text = w.0; within = w.2; size = p; covered = w.1 }
+
+keeps_tree : {L : Type 0} → (IsLeaf : L → Type 0) (length_of : L → ℕ) (t : Items L) → IsWithin IsLeaf length_of t → (levels_of t ≤ 8) × KeepsCount t
+keeps_tree IsLeaf length_of t w = (w.levels, (w.fields, are_counted IsLeaf t w.each))
+
+keeps_both : (o : Operation) → IsOperation o → KeepsBoth o
+keeps_both (out t) w = keeps_tree IsDatum datum_length t w
+keeps_both (rdp p) w = keeps_tree IsSlot slot_length p w
+keeps_both (inp p) w = keeps_tree IsSlot slot_length p w
+keeps_both (cas p t) w = let k = keeps_tree IsSlot slot_length p w.0 in let l = keeps_tree IsDatum datum_length t w.1 in ((k.0, l.0), (k.1, l.1))
+keeps_both (rd_all n p) w = keeps_tree IsSlot slot_length p w.2
 
 -- A longer line is bad at its byte 65,536 at the latest.
 pub too_big : (bs : List ℕ) (o : Operation) (rest : List ℕ) → 65536 < length bs → line (front bs) ≡ got o rest → IsBadAt bs 65536
@@ -231,7 +281,7 @@ too_big bs o rest p e =
     let l : length (front bs) ≡ 65536 = omega (arith, length-take 65536 bs) in
     let place : At bs 65536 rest = record { whole = sym (append-nil (front bs)) ∙ ap (λ t. front bs ++ t) (sym n); total = omega (arith, ap length n); within = omega arith; limit = omega arith } in
     record {
-      passes = passes bs 65536 (got o rest) e place (o, [], subst (WholeLine both o) (sym (append-nil (front bs))) w);
+      passes = passes bs 65536 (got o rest) e place (o, [], (subst (LineText o) (sym (append-nil (front bs))) w.0, w.1, keeps_both o w.2));
       longest = λ a b c. omega arith;
       unfinished = λ a b c d. omega arith;
     }

@@ -1,39 +1,43 @@
--- Reading the values of tuples and the fields of templates.
-use Rattle.std.proofs.Common.{◌≡◌, ℕ, ◌+◌, ◌-◌, ◌<◌, ◌≤◌, ◌==◌, Bool, true, false, cond, ◌||◌, List, [], ◌∷◌, ◌++◌, codes, pos, negsuc, refl, ap, sym, subst, ◌∙◌, arith, ◌⊎◌, inl, inr, FitsSigned, w64}
+-- Reading the values and fields that are no lists.
+use Rattle.std.proofs.Common.{◌≡◌, ℕ, ◌+◌, ◌-◌, ◌<◌, ◌≤◌, ◌==◌, Bool, true, false, cond, ◌||◌, List, [], ◌∷◌, ◌++◌, codes, pos, negsuc, refl, ap, sym, subst, ◌∙◌, append_assoc, arith, ◌⊎◌, inl, inr, FitsSigned, w64}
 use Rattle.std.proofs.lemmas.Bool.{eqb-true, ne_eqb, eq-eqb, or_cases, or_left, or_right}
 use Rattle.std.proofs.lemmas.Int.{ints}
 use Rattle.std.proofs.lemmas.Fmt.{decimal_digit}
 use Rattle.std.specs.Fmt.{decimal}
-use Rattle.tuple_tree.specs.Items.{Item, leaf, inner}
-use Rattle.tuple_tree.specs.Values.{Datum, number, text, bytes, truth, Slot, actual, any, formal}
+use Rattle.tuple_tree.specs.Values.{Datum, number, text, bytes, truth, Slot, actual, any, formal, IsDatum, IsSlot, AreBytes}
+use Rattle.tuple_tree.specs.declared.atoms.Kind.{Kind}
 use Rattle.tuple_tree.specs.declared.atoms.Kind.TheVariants as kinds
-use Rattle.tuple_text.specs.Texts.{ItemText, datum_text, slot_text}
-use Rattle.tuple_text.specs.Reading.{Read, got, ◌>>=◌, word, signed, value, field, begins_value, begins_field}
-use Rattle.tuple_text.proofs.Right.{Limits, levels, no_limits, RightAs, Found, right_on, then_right, nothing_passed}
+use Rattle.std.proofs.lemmas.Str.{IsUtf8-nil}
+use Rattle.std.specs.Str.{IsUtf8}
+use Rattle.std.specs.List.{flat_map}
+use Rattle.tuple_text.specs.Texts.{datum_text, slot_text, formal_text, escaped, hex_pair}
+use Rattle.tuple_text.specs.Literals.{text_literal, bytes_literal, is_hex}
+use Rattle.tuple_text.proofs.LiteralTexts.{IsTextLiteral, BeginsTextLiteral, text_right, text_again}
+use Rattle.tuple_text.proofs.LiteralBytes.{IsByteString, BeginsByteString, bytes_right, bytes_again, NoHex}
+use Rattle.tuple_text.specs.Covered.{IsCoveredDatum, IsCoveredSlot}
+use Rattle.tuple_text.specs.Reading.{Read, got, Reading, ◌>>=◌, look, nothing, named, word, signed, numeral, quoted, byte_string, truth_or_number, datum, kind_b, kind_t, kind, formal_slot, actual_slot, slot, begins_datum, begins_slot}
+use Rattle.tuple_text.proofs.Right.{Limits, both, RightAs, Never, Found, then_right, look_right, nothing_right}
 use Rattle.tuple_text.proofs.Numbers.{IsSigned, BeginsSigned, signed_right, signed_again, signed_head, NoDigit, is_digit, digit_range, digit_is, ends_there}
-use Rattle.tuple_text.proofs.Blanks.{IsWord, BeginsWord, word_right, word_again}
-use Rattle.tuple_text.proofs.Lists.{IsOne, BeginsOne}
-use Rattle.tuple_text.proofs.Again.{AgainAs, again_got, EndsItem}
+use Rattle.tuple_text.proofs.Blanks.{IsWord, BeginsWord, word_right}
 
-abbrev pub ValueIs : Limits → Item Datum → Type 0
-ValueIs c (leaf (number n)) = FitsSigned w64 n
-ValueIs c (leaf (text s)) = ⊥
-ValueIs c (leaf (bytes s)) = ⊥
-ValueIs c (leaf (truth b)) = ⊥
-ValueIs c (inner xs) = ⊥
+-- what stands behind an item of a list
+abbrev pub EndsItem : List ℕ → Type 0
+EndsItem [] = ⊥
+EndsItem (b ∷ bs) = (b ≡ 32) ⊎ (b ≡ 41)
 
-abbrev pub FieldIs : Limits → Item Slot → Type 0
-FieldIs c (leaf (actual (number n))) = FitsSigned w64 n
-FieldIs c (leaf (actual (text s))) = ⊥
-FieldIs c (leaf (actual (bytes s))) = ⊥
-FieldIs c (leaf (actual (truth b))) = ⊥
-FieldIs c (leaf any) = Unit {0}
-FieldIs c (leaf (formal kinds.Number)) = Unit {0}
-FieldIs c (leaf (formal kinds.Text)) = ⊥
-FieldIs c (leaf (formal kinds.Bytes)) = ⊥
-FieldIs c (leaf (formal kinds.Truth)) = ⊥
-FieldIs c (leaf (formal kinds.Tuple)) = ⊥
-FieldIs c (inner xs) = ⊥
+-- the values and fields that are read
+abbrev pub IsRead : Datum → Type 0
+IsRead x = IsDatum x × IsCoveredDatum x
+
+abbrev pub IsReadSlot : Slot → Type 0
+IsReadSlot x = IsSlot x × IsCoveredSlot x
+
+module _ {L : Type 0} (leaf_text : L → List ℕ) (IsLeaf : L → Type 0) where
+  abbrev pub IsText : L → List ℕ → Type 0
+  IsText x w = (w ≡ leaf_text x) × IsLeaf x
+
+  abbrev pub BeginsText : Limits → List ℕ → Type 0
+  BeginsText c w = (x : L) × (u : List ℕ) × IsText x (w ++ u)
 
 abbrev Gives : {V : Type 0} → V → V → List ℕ → Type 0
 Gives x v w = (v ≡ x) × (w ≡ [])
@@ -50,11 +54,48 @@ mapped_right F1 B1 F B g bs x k f h =
     (λ v front i c t e. absurd e)
     h (λ v rest. given (g v) rest)
 
-pub value_right : (bs : List ℕ) → RightAs (IsOne datum_text ValueIs) (BeginsOne datum_text ValueIs) bs (value bs)
-unfolding value
-value_right bs =
-    mapped_right IsSigned BeginsSigned (IsOne datum_text ValueIs) (BeginsOne datum_text ValueIs) (λ n. leaf (number n)) bs (signed bs)
-    (λ c w h. (leaf (number h.0), h.1, h.2.0, h.2.1)) (λ n w h. h) (signed_right bs)
+pub named_right : {V : Type 0} → (F : V → List ℕ → Type 0) (B : Limits → List ℕ → Type 0) (cs : List ℕ) (v : V) → F v cs → ((c : Limits) (w u : List ℕ) → w ++ u ≡ cs → B c w) → (bs : List ℕ) → RightAs F B bs (named cs v bs)
+named_right F B cs v f b bs =
+    mapped_right (IsWord cs) (BeginsWord cs) F B (λ _. v) bs (word cs bs) (λ c w h. b c w h.0 h.1) (λ _ w e. subst (F v) (sym e) f) (word_right cs bs)
+
+-- A byte that passes the test is none that doesn't.
+pub apart : (P : ℕ → Bool) (k b : ℕ) → P b ≡ true → P k ≡ false → (b == k) ≡ false
+apart P k b h n = ne_eqb b k (λ e. let f : true ≡ false = sym h ∙ ap P e ∙ n in let g : ⊥ = cc in g)
+
+pub look_other : {V : Type 0} → (c b : ℕ) (u : List ℕ) (f g : Reading V) → (b == c) ≡ false → look c f g (b ∷ u) ≡ g (b ∷ u)
+look_other c b u f g e = ap (λ s. cond s (f (b ∷ u)) (g (b ∷ u))) e
+
+abbrev IsDatumText : Datum → List ℕ → Type 0
+IsDatumText = IsText datum_text IsRead
+
+abbrev BeginsDatum : Limits → List ℕ → Type 0
+BeginsDatum = BeginsText datum_text IsRead
+
+numeral_right : (bs : List ℕ) → RightAs IsDatumText BeginsDatum bs (numeral bs)
+unfolding numeral
+numeral_right bs = mapped_right IsSigned BeginsSigned IsDatumText BeginsDatum number bs (signed bs) (λ c w h. (number h.0, h.1, (h.2.0, (h.2.1, tt)))) (λ n w h. (h.0, (h.1, tt))) (signed_right bs)
+
+truth_right : (b : Bool) (bs : List ℕ) → RightAs IsDatumText BeginsDatum bs (named (datum_text (truth b)) (truth b) bs)
+truth_right b bs = named_right IsDatumText BeginsDatum (datum_text (truth b)) (truth b) (refl, (tt, tt)) (λ c w u e. (truth b, u, (e, (tt, tt)))) bs
+
+pub some_datum : BeginsDatum both []
+some_datum = (truth true, codes "true", (refl, (tt, tt)))
+
+quoted_right : (bs : List ℕ) → RightAs IsDatumText BeginsDatum bs (quoted bs)
+unfolding quoted
+quoted_right bs = mapped_right IsTextLiteral BeginsTextLiteral IsDatumText BeginsDatum text bs (text_literal bs) (λ c w h. (text h.0, h.1, (h.2.0, (h.2.1, tt)))) (λ s w h. (h.0, (h.1, tt))) (text_right bs)
+
+byte_string_right : (bs : List ℕ) → RightAs IsDatumText BeginsDatum bs (byte_string bs)
+unfolding byte_string
+byte_string_right bs = mapped_right IsByteString BeginsByteString IsDatumText BeginsDatum bytes bs (bytes_literal bs) (λ c w h. (bytes h.0, h.1, (h.2.0, (h.2.1, tt)))) (λ s w h. (h.0, (h.1, tt))) (bytes_right bs)
+
+pub datum_right : (bs : List ℕ) → RightAs (IsText datum_text IsRead) (BeginsText datum_text IsRead) bs (datum bs)
+unfolding datum
+datum_right bs =
+    look_right IsDatumText BeginsDatum Never 34 quoted (look 120 byte_string truth_or_number) some_datum quoted_right
+    (look_right IsDatumText BeginsDatum Never 120 byte_string truth_or_number some_datum byte_string_right
+    (look_right IsDatumText BeginsDatum Never 116 (named (codes "true") (truth true)) (look 102 (named (codes "false") (truth false)) numeral) some_datum (truth_right true)
+    (look_right IsDatumText BeginsDatum Never 102 (named (codes "false") (truth false)) numeral some_datum (truth_right false) numeral_right))) bs
 
 minus : FitsSigned w64 (negsuc 0)
 minus = omega (arith, ints)
@@ -62,138 +103,212 @@ minus = omega (arith, ints)
 small : (n : ℕ) → n < 10 → FitsSigned w64 (pos n)
 small n h = omega (arith, ints)
 
-signed_starts : (c : Limits) (b : ℕ) → begins_value b ≡ true → BeginsSigned c (b ∷ [])
+signed_starts : (c : Limits) (b : ℕ) → (b == 45 || is_digit b) ≡ true → BeginsSigned c (b ∷ [])
 signed_starts c b e = elim (or_cases (b == 45) (is_digit b) e) [
   | inl p ↦ (negsuc 0, decimal 1, (ap (λ d. d ∷ decimal 1) (eqb-true b 45 p), minus))
   | inr p ↦ let r = digit_range b p in
       (pos (b - 48), [], (sym (decimal_digit (b - 48) (omega (arith, r.0, r.1)) ∙ ap (λ d. d ∷ []) (let g : 48 + (b - 48) ≡ b = omega (arith, r.0) in g)), small (b - 48) (omega (arith, r.0, r.1))))
 ]
 
-pub value_starts : (b : ℕ) → begins_value b ≡ true → BeginsOne datum_text ValueIs levels (b ∷ [])
-value_starts b e = let h = signed_starts levels b e in (leaf (number h.0), h.1, h.2.0, h.2.1)
+abbrev plain_begins : ℕ → Bool
+plain_begins b = b == 116 || (b == 102 || (b == 45 || is_digit b))
+
+pub datum_starts : (c : Limits) (b : ℕ) → begins_datum b ≡ true → BeginsText datum_text IsRead c (b ∷ [])
+datum_starts c b e = elim (or_cases (b == 34) (b == 120 || plain_begins b) e) [
+  | inl p ↦ (text [], 34 ∷ [], (ap (λ d. d ∷ 34 ∷ []) (eqb-true b 34 p), (IsUtf8-nil, tt)))
+  | inr q ↦ elim (or_cases (b == 120) (plain_begins b) q) [
+    | inl p ↦ (bytes [], [], (ap (λ d. d ∷ []) (eqb-true b 120 p), ((λ i. omega arith), tt)))
+    | inr r ↦ elim (or_cases (b == 116) (b == 102 || (b == 45 || is_digit b)) r) [
+      | inl p ↦ (truth true, codes "rue", (ap (λ d. d ∷ codes "rue") (eqb-true b 116 p), (tt, tt)))
+      | inr q ↦ elim (or_cases (b == 102) (b == 45 || is_digit b) q) [
+        | inl p ↦ (truth false, codes "alse", (ap (λ d. d ∷ codes "alse") (eqb-true b 102 p), (tt, tt)))
+        | inr p ↦ let h = signed_starts c b p in (number h.0, h.1, (h.2.0, (h.2.1, tt)))
+      ]
+    ]
+  ]
+]
+
+number_begins : (b : ℕ) → (b ≡ 45) ⊎ ((48 ≤ b) × (b ≤ 57)) → (b == 45 || is_digit b) ≡ true
+number_begins b (inl e) = or_left (b == 45) (is_digit b) (eq-eqb b 45 e)
+number_begins b (inr r) = or_right (b == 45) (is_digit b) (digit_is b r.0 r.1)
+
+datum_begins : (b : ℕ) → (b == 45 || is_digit b) ≡ true → begins_datum b ≡ true
+datum_begins b e =
+    or_right (b == 34) (b == 120 || plain_begins b) (or_right (b == 120) (plain_begins b) (or_right (b == 116) (b == 102 || (b == 45 || is_digit b)) (or_right (b == 102) (b == 45 || is_digit b) e)))
+
+-- the first byte of a text
+pub datum_head : (x : Datum) → IsRead x → (b : ℕ) × (t : List ℕ) × (datum_text x ≡ b ∷ t) × (begins_datum b ≡ true)
+datum_head (number n) h = let k = signed_head n h.0 in (k.0, k.1, k.2, datum_begins k.0 (number_begins k.0 k.3))
+datum_head (text s) h = (34, flat_map escaped s ++ 34 ∷ [], refl, refl)
+datum_head (bytes s) h = (120, flat_map hex_pair s, refl, refl)
+datum_head (truth true) h = (116, codes "rue", refl, refl)
+datum_head (truth false) h = (102, codes "alse", refl, refl)
 
 ends_no_digit : (u : List ℕ) → EndsItem u → NoDigit u
 ends_no_digit [] h = tt
 ends_no_digit (b ∷ u) (inl e) = ap is_digit e
 ends_no_digit (b ∷ u) (inr e) = ap is_digit e
 
-pub value_again : (x : Item Datum) (w u : List ℕ) → ValueIs no_limits x → ItemText datum_text x w → EndsItem u → AgainAs (λ s. ⊥) x u (value (w ++ u))
-unfolding value
-value_again (leaf (number n)) w u h t k =
-    again_got (λ s. ⊥) (leaf (number n)) u (value (w ++ u)) (ap (λ s. signed (s ++ u) >>= λ n rest. got (leaf (number n)) rest) t ∙ ap (λ y. y >>= λ n rest. got (leaf (number n)) rest) (signed_again n u h (ends_no_digit u k)))
-value_again (leaf (text s)) w u h t k = absurd h
-value_again (leaf (bytes s)) w u h t k = absurd h
-value_again (leaf (truth b)) w u h t k = absurd h
-value_again (inner xs) w u h t k = absurd h
+ends_no_hex : (u : List ℕ) → EndsItem u → NoHex u
+ends_no_hex [] h = tt
+ends_no_hex (b ∷ u) (inl e) = ap is_hex e
+ends_no_hex (b ∷ u) (inr e) = ap is_hex e
 
-begins_is : (b : ℕ) → (b ≡ 45) ⊎ ((48 ≤ b) × (b ≤ 57)) → begins_value b ≡ true
-begins_is b (inl e) = or_left (b == 45) (is_digit b) (eq-eqb b 45 e)
-begins_is b (inr r) = or_right (b == 45) (is_digit b) (digit_is b r.0 r.1)
+at_number : (b : ℕ) (u : List ℕ) → (b == 45 || is_digit b) ≡ true → datum (b ∷ u) ≡ numeral (b ∷ u)
+unfolding datum
+at_number b u e =
+    look_other 34 b u quoted (look 120 byte_string truth_or_number) (apart (λ b. b == 45 || is_digit b) 34 b e refl)
+    ∙ look_other 120 b u byte_string truth_or_number (apart (λ b. b == 45 || is_digit b) 120 b e refl)
+    ∙ look_other 116 b u (named (codes "true") (truth true)) (look 102 (named (codes "false") (truth false)) numeral) (apart (λ b. b == 45 || is_digit b) 116 b e refl)
+    ∙ look_other 102 b u (named (codes "false") (truth false)) numeral (apart (λ b. b == 45 || is_digit b) 102 b e refl)
 
-pub value_head : (x : Item Datum) (w : List ℕ) → ValueIs no_limits x → ItemText datum_text x w → (b : ℕ) × (t : List ℕ) × (w ≡ b ∷ t) × (begins_value b ≡ true)
-value_head (leaf (number n)) w h t = let k = signed_head n h in (k.0, k.1, t ∙ k.2, begins_is k.0 k.3)
-value_head (leaf (text s)) w h t = absurd h
-value_head (leaf (bytes s)) w h t = absurd h
-value_head (leaf (truth b)) w h t = absurd h
-value_head (inner xs) w h t = absurd h
+quoted_again : (s u : List ℕ) → IsUtf8 s → datum (datum_text (text s) ++ u) ≡ got (text s) u
+unfolding datum quoted
+quoted_again s u h = ap (λ y. y >>= λ s rest. got (text s) rest) (text_again s u h)
 
-pub value_apart : (b : ℕ) → begins_value b ≡ true → ((b == 32) ≡ false) × ((b == 41) ≡ false)
-value_apart b e = elim (or_cases (b == 45) (is_digit b) e) [
-  | inl p ↦ let q = eqb-true b 45 p in (ap (λ c. c == 32) q, ap (λ c. c == 41) q)
-  | inr p ↦ let r = digit_range b p in (ne_eqb b 32 (λ e. omega (arith, r.0, e)), ne_eqb b 41 (λ e. omega (arith, r.0, e)))
-]
+byte_string_again : (s u : List ℕ) → AreBytes s → NoHex u → datum (datum_text (bytes s) ++ u) ≡ got (bytes s) u
+unfolding datum byte_string
+byte_string_again s u h k = ap (λ y. y >>= λ s rest. got (bytes s) rest) (bytes_again s u h k)
 
-formal_right : (bs : List ℕ) → RightAs (λ x w. IsOne slot_text FieldIs x (63 ∷ w)) (λ c w. BeginsOne slot_text FieldIs c (63 ∷ w)) bs (word (codes "int") bs >>= λ _ rest. got (leaf (formal kinds.Number)) rest)
+true_again : (u : List ℕ) → datum (codes "true" ++ u) ≡ got (truth true) u
+unfolding datum
+true_again u = refl
+
+false_again : (u : List ℕ) → datum (codes "false" ++ u) ≡ got (truth false) u
+unfolding datum
+false_again u = refl
+
+numeral_reads : (t u : List ℕ) → numeral (t ++ u) ≡ (signed (t ++ u) >>= λ n rest. got (number n) rest)
+unfolding numeral
+numeral_reads t u = refl
+
+pub datum_again : (x : Datum) (u : List ℕ) → IsRead x → EndsItem u → datum (datum_text x ++ u) ≡ got x u
+datum_again (number n) u h k =
+    let d = signed_head n h.0 in
+    let e = ap (λ s. s ++ u) d.2 in
+    ap datum e ∙ at_number d.0 (d.1 ++ u) (number_begins d.0 d.3) ∙ ap numeral (sym e) ∙ numeral_reads (datum_text (number n)) u
+    ∙ ap (λ y. y >>= λ n rest. got (number n) rest) (signed_again n u h.0 (ends_no_digit u k))
+datum_again (text s) u h k = quoted_again s u h.0
+datum_again (bytes s) u h k = byte_string_again s u h.0 (ends_no_hex u k)
+datum_again (truth true) u h k = true_again u
+datum_again (truth false) u h k = false_again u
+
+-- The names of the kinds, behind what is passed of them already.
+abbrev KindIs : List ℕ → Kind → List ℕ → Type 0
+KindIs pre k w = pre ++ w ≡ formal_text k
+
+abbrev BeginsKind : List ℕ → Limits → List ℕ → Type 0
+BeginsKind pre c w = (k : Kind) × (u : List ℕ) × (pre ++ (w ++ u) ≡ formal_text k)
+
+kind_named : (pre cs : List ℕ) (k : Kind) → pre ++ cs ≡ formal_text k → (bs : List ℕ) → RightAs (KindIs pre) (BeginsKind pre) bs (named cs k bs)
+kind_named pre cs k e bs = named_right (KindIs pre) (BeginsKind pre) cs k e (λ c w u h. (k, u, ap (λ t. pre ++ t) h ∙ e)) bs
+
+kind_behind : (pre cs : List ℕ) (f : Reading Kind) (k : Kind) (v : List ℕ) → (pre ++ cs) ++ v ≡ formal_text k → ((bs : List ℕ) → RightAs (KindIs (pre ++ cs)) (BeginsKind (pre ++ cs)) bs (f bs))
+    → (bs : List ℕ) → RightAs (KindIs pre) (BeginsKind pre) bs (word cs bs >>= λ _ rest. f rest)
+kind_behind pre cs f k v some h bs =
+    then_right (IsWord cs) (BeginsWord cs) (λ _. KindIs (pre ++ cs)) (λ _. BeginsKind (pre ++ cs)) (KindIs pre) (BeginsKind pre) bs (word cs bs) (λ _ rest. f rest)
+    (λ c w m. (k, m.0 ++ v, ap (λ t. pre ++ t) (sym (append_assoc w m.0 v) ∙ ap (λ t. t ++ v) m.1) ∙ sym (append_assoc pre cs v) ∙ some))
+    (λ _ front e x w m. ap (λ t. pre ++ (t ++ w)) e ∙ sym (append_assoc pre cs w) ∙ m)
+    (λ _ front e c w m. (m.0, m.1, ap (λ t. pre ++ t) (append_assoc front w m.1 ∙ ap (λ t. t ++ (w ++ m.1)) e) ∙ sym (append_assoc pre cs (w ++ m.1)) ∙ m.2))
+    (word_right cs bs) (λ _ rest. h rest)
+
+kind_b_right : (bs : List ℕ) → RightAs (KindIs (codes "?")) (BeginsKind (codes "?")) bs (kind_b bs)
+unfolding kind_b
+kind_b_right bs =
+    kind_behind (codes "?") (codes "b") (look 121 (named (codes "ytes") kinds.Bytes) (named (codes "ool") kinds.Truth)) kinds.Bytes (codes "ytes") refl
+    (look_right (KindIs (codes "?b")) (BeginsKind (codes "?b")) Never 121 (named (codes "ytes") kinds.Bytes) (named (codes "ool") kinds.Truth) (kinds.Bytes, codes "ytes", refl)
+    (kind_named (codes "?b") (codes "ytes") kinds.Bytes refl) (kind_named (codes "?b") (codes "ool") kinds.Truth refl)) bs
+
+kind_t_right : (bs : List ℕ) → RightAs (KindIs (codes "?")) (BeginsKind (codes "?")) bs (kind_t bs)
+unfolding kind_t
+kind_t_right bs =
+    kind_behind (codes "?") (codes "t") (look 101 (named (codes "ext") kinds.Text) (named (codes "uple") kinds.Tuple)) kinds.Text (codes "ext") refl
+    (look_right (KindIs (codes "?t")) (BeginsKind (codes "?t")) Never 101 (named (codes "ext") kinds.Text) (named (codes "uple") kinds.Tuple) (kinds.Text, codes "ext", refl)
+    (kind_named (codes "?t") (codes "ext") kinds.Text refl) (kind_named (codes "?t") (codes "uple") kinds.Tuple refl)) bs
+
+some_kind : BeginsKind (codes "?") both []
+some_kind = (kinds.Number, codes "int", refl)
+
+kind_right : (bs : List ℕ) → RightAs (KindIs (codes "?")) (BeginsKind (codes "?")) bs (kind bs)
+unfolding kind
+kind_right bs =
+    look_right (KindIs (codes "?")) (BeginsKind (codes "?")) Never 105 (named (codes "int") kinds.Number) (look 98 kind_b (look 116 kind_t nothing)) some_kind (kind_named (codes "?") (codes "int") kinds.Number refl)
+    (look_right (KindIs (codes "?")) (BeginsKind (codes "?")) Never 98 kind_b (look 116 kind_t nothing) some_kind kind_b_right
+    (look_right (KindIs (codes "?")) (BeginsKind (codes "?")) Never 116 kind_t nothing some_kind kind_t_right (nothing_right (KindIs (codes "?")) (BeginsKind (codes "?")) Never some_kind))) bs
+
+abbrev IsSlotText : Slot → List ℕ → Type 0
+IsSlotText = IsText slot_text IsReadSlot
+
+abbrev BeginsSlot : Limits → List ℕ → Type 0
+BeginsSlot = BeginsText slot_text IsReadSlot
+
+formal_right : (bs : List ℕ) → RightAs IsSlotText BeginsSlot bs (formal_slot bs)
+unfolding formal_slot
 formal_right bs =
-    mapped_right (IsWord (codes "int")) (BeginsWord (codes "int")) (λ x w. IsOne slot_text FieldIs x (63 ∷ w)) (λ c w. BeginsOne slot_text FieldIs c (63 ∷ w)) (λ _. leaf (formal kinds.Number)) bs (word (codes "int") bs)
-    (λ c w h. (leaf (formal kinds.Number), h.0, ap (λ t. 63 ∷ t) h.1, tt)) (λ v w h. (ap (λ t. 63 ∷ t) h, tt)) (word_right (codes "int") bs)
+    then_right (IsWord (codes "?")) (BeginsWord (codes "?")) (λ _ x w. IsSlotText x (63 ∷ w)) (λ _ c w. BeginsSlot c (63 ∷ w)) IsSlotText BeginsSlot bs (word (codes "?") bs) (λ _ rest. kind rest >>= λ k after. got (formal k) after)
+    (λ c w h. (formal kinds.Number, h.0 ++ codes "int", (sym (append_assoc w h.0 (codes "int")) ∙ ap (λ t. t ++ codes "int") h.1, (tt, tt))))
+    (λ _ front e x w h. subst (λ t. IsSlotText x (t ++ w)) (sym e) h)
+    (λ _ front e c w h. subst (λ t. BeginsSlot c (t ++ w)) (sym e) h)
+    (word_right (codes "?") bs)
+    (λ _ rest. mapped_right (KindIs (codes "?")) (BeginsKind (codes "?")) (λ x w. IsSlotText x (63 ∷ w)) (λ c w. BeginsSlot c (63 ∷ w)) formal rest (kind rest) (λ c w h. (formal h.0, h.1, (h.2, (tt, tt)))) (λ k w h. (h, (tt, tt))) (kind_right rest))
 
-actual_right : (bs : List ℕ) → RightAs (IsOne slot_text FieldIs) (BeginsOne slot_text FieldIs) bs (signed bs >>= λ n rest. got (leaf (actual (number n))) rest)
-actual_right bs =
-    mapped_right IsSigned BeginsSigned (IsOne slot_text FieldIs) (BeginsOne slot_text FieldIs) (λ n. leaf (actual (number n))) bs (signed bs)
-    (λ c w h. (leaf (actual (number h.0)), h.1, h.2.0, h.2.1)) (λ n w h. h) (signed_right bs)
+actual_right : (bs : List ℕ) → RightAs IsSlotText BeginsSlot bs (actual_slot bs)
+unfolding actual_slot
+actual_right bs = mapped_right IsDatumText BeginsDatum IsSlotText BeginsSlot actual bs (datum bs) (λ c w h. (actual h.0, h.1, h.2)) (λ x w h. h) (datum_right bs)
 
-field_case : (b : ℕ) (bs : List ℕ) (s t : Bool) → (b == 42) ≡ s → (b == 63) ≡ t
-    → RightAs (IsOne slot_text FieldIs) (BeginsOne slot_text FieldIs) (b ∷ bs)
-    (cond s (got (leaf any) bs) (cond t (word (codes "int") bs >>= λ _ rest. got (leaf (formal kinds.Number)) rest) (signed (b ∷ bs) >>= λ n rest. got (leaf (actual (number n))) rest)))
-field_case b bs true t e f = subst (λ c. Found (IsOne slot_text FieldIs) (leaf any) (c ∷ bs) bs) (sym (eqb-true b 42 e)) (record { passed = 42 ∷ []; whole = refl; is = (refl, tt) })
-field_case b bs false true e f =
-    subst (λ c. RightAs (IsOne slot_text FieldIs) (BeginsOne slot_text FieldIs) (c ∷ bs) (word (codes "int") bs >>= λ _ rest. got (leaf (formal kinds.Number)) rest)) (sym (eqb-true b 63 f))
-    (right_on (λ x w. IsOne slot_text FieldIs x (63 ∷ w)) (λ c w. BeginsOne slot_text FieldIs c (63 ∷ w)) (IsOne slot_text FieldIs) (BeginsOne slot_text FieldIs) (63 ∷ []) bs
-    (word (codes "int") bs >>= λ _ rest. got (leaf (formal kinds.Number)) rest) (λ x w h. h) (λ c w h. h) (formal_right bs))
-field_case b bs false false e f = actual_right (b ∷ bs)
+pub some_slot : BeginsSlot both []
+some_slot = (any, codes "*", (refl, (tt, tt)))
 
-pub field_right : (bs : List ℕ) → RightAs (IsOne slot_text FieldIs) (BeginsOne slot_text FieldIs) bs (field bs)
-unfolding field
-field_right [] = nothing_passed (BeginsOne slot_text FieldIs) [] (leaf any, 42 ∷ [], refl, tt)
-field_right (b ∷ bs) = field_case b bs (b == 42) (b == 63) refl refl
+pub slot_right : (bs : List ℕ) → RightAs (IsText slot_text IsReadSlot) (BeginsText slot_text IsReadSlot) bs (slot bs)
+unfolding slot
+slot_right bs =
+    look_right IsSlotText BeginsSlot Never 42 (named (codes "*") any) (look 63 formal_slot actual_slot) some_slot
+    (named_right IsSlotText BeginsSlot (codes "*") any (refl, (tt, tt)) (λ c w u e. (any, u, (e, (tt, tt)))))
+    (look_right IsSlotText BeginsSlot Never 63 formal_slot actual_slot some_slot formal_right actual_right) bs
 
-pub field_starts : (b : ℕ) → begins_field b ≡ true → BeginsOne slot_text FieldIs levels (b ∷ [])
-field_starts b e = elim (or_cases (b == 42) (b == 63 || begins_value b) e) [
-  | inl p ↦ (leaf any, [], ap (λ c. c ∷ []) (eqb-true b 42 p), tt)
-  | inr q ↦ elim (or_cases (b == 63) (begins_value b) q) [
-    | inl p ↦ (leaf (formal kinds.Number), codes "int", ap (λ c. c ∷ codes "int") (eqb-true b 63 p), tt)
-    | inr p ↦ let h = signed_starts levels b p in (leaf (actual (number h.0)), h.1, h.2.0, h.2.1)
+pub slot_starts : (c : Limits) (b : ℕ) → begins_slot b ≡ true → BeginsText slot_text IsReadSlot c (b ∷ [])
+slot_starts c b e = elim (or_cases (b == 42) (b == 63 || begins_datum b) e) [
+  | inl p ↦ (any, [], (ap (λ d. d ∷ []) (eqb-true b 42 p), (tt, tt)))
+  | inr q ↦ elim (or_cases (b == 63) (begins_datum b) q) [
+    | inl p ↦ (formal kinds.Number, codes "int", (ap (λ d. d ∷ codes "int") (eqb-true b 63 p), (tt, tt)))
+    | inr p ↦ let h = datum_starts c b p in (actual h.0, h.1, h.2)
   ]
 ]
 
-any_again : (u : List ℕ) → field (42 ∷ u) ≡ got (leaf any) u
-unfolding field
+slot_begins : (b : ℕ) → begins_datum b ≡ true → begins_slot b ≡ true
+slot_begins b e = or_right (b == 42) (b == 63 || begins_datum b) (or_right (b == 63) (begins_datum b) e)
+
+pub slot_head : (x : Slot) → IsReadSlot x → (b : ℕ) × (t : List ℕ) × (slot_text x ≡ b ∷ t) × (begins_slot b ≡ true)
+slot_head (actual x) h = let k = datum_head x h in (k.0, k.1, k.2, slot_begins k.0 k.3)
+slot_head any h = (42, [], refl, refl)
+slot_head (formal kinds.Number) h = (63, codes "int", refl, refl)
+slot_head (formal kinds.Text) h = (63, codes "text", refl, refl)
+slot_head (formal kinds.Bytes) h = (63, codes "bytes", refl, refl)
+slot_head (formal kinds.Truth) h = (63, codes "bool", refl, refl)
+slot_head (formal kinds.Tuple) h = (63, codes "tuple", refl, refl)
+
+any_again : (u : List ℕ) → slot (codes "*" ++ u) ≡ got any u
+unfolding slot
 any_again u = refl
 
-formal_again : (u : List ℕ) → field (codes "?int" ++ u) ≡ got (leaf (formal kinds.Number)) u
-unfolding field
-formal_again u = ap (λ y. y >>= λ _ rest. got (leaf (formal kinds.Number)) rest) (word_again (codes "int") u)
+formal_again : (k : Kind) (u : List ℕ) → slot (formal_text k ++ u) ≡ got (formal k) u
+unfolding slot formal_slot kind kind_b kind_t
+formal_again kinds.Number u = refl
+formal_again kinds.Text u = refl
+formal_again kinds.Bytes u = refl
+formal_again kinds.Truth u = refl
+formal_again kinds.Tuple u = refl
 
-other_again : (b : ℕ) (u : List ℕ) → begins_value b ≡ true → field (b ∷ u) ≡ (signed (b ∷ u) >>= λ n rest. got (leaf (actual (number n))) rest)
-unfolding field
-other_again b u e =
-    let apart : ((b == 42) ≡ false) × ((b == 63) ≡ false) = elim (or_cases (b == 45) (is_digit b) e) [
-      | inl p ↦ let q = eqb-true b 45 p in (ap (λ c. c == 42) q, ap (λ c. c == 63) q)
-      | inr p ↦ let r = digit_range b p in (ne_eqb b 42 (λ e. omega (arith, r.0, e)), ne_eqb b 63 (λ e. omega (arith, r.1, e)))
-    ] in
-    ap (λ s. cond s (got (leaf any) u) (cond (b == 63) (word (codes "int") u >>= λ _ rest. got (leaf (formal kinds.Number)) rest) (signed (b ∷ u) >>= λ n rest. got (leaf (actual (number n))) rest))) apart.0
-    ∙ ap (λ s. cond s (word (codes "int") u >>= λ _ rest. got (leaf (formal kinds.Number)) rest) (signed (b ∷ u) >>= λ n rest. got (leaf (actual (number n))) rest)) apart.1
+at_datum : (b : ℕ) (u : List ℕ) → begins_datum b ≡ true → slot (b ∷ u) ≡ (datum (b ∷ u) >>= λ x rest. got (actual x) rest)
+unfolding slot actual_slot
+at_datum b u e =
+    look_other 42 b u (named (codes "*") any) (look 63 formal_slot actual_slot) (apart begins_datum 42 b e refl)
+    ∙ look_other 63 b u formal_slot actual_slot (apart begins_datum 63 b e refl)
 
-pub field_again : (x : Item Slot) (w u : List ℕ) → FieldIs no_limits x → ItemText slot_text x w → EndsItem u → AgainAs (λ s. ⊥) x u (field (w ++ u))
-field_again (leaf (actual (number n))) w u h t k =
-    let d = signed_head n h in
-    let e = ap (λ s. s ++ u) (t ∙ d.2) in
-    again_got (λ s. ⊥) (leaf (actual (number n))) u (field (w ++ u))
-    (ap field e ∙ other_again d.0 (d.1 ++ u) (begins_is d.0 d.3) ∙ ap (λ s. signed (s ++ u) >>= λ n rest. got (leaf (actual (number n))) rest) (sym d.2)
-    ∙ ap (λ y. y >>= λ n rest. got (leaf (actual (number n))) rest) (signed_again n u h (ends_no_digit u k)))
-field_again (leaf (actual (text s))) w u h t k = absurd h
-field_again (leaf (actual (bytes s))) w u h t k = absurd h
-field_again (leaf (actual (truth b))) w u h t k = absurd h
-field_again (leaf any) w u h t k = again_got (λ s. ⊥) (leaf any) u (field (w ++ u)) (ap (λ s. field (s ++ u)) t ∙ any_again u)
-field_again (leaf (formal kinds.Number)) w u h t k = again_got (λ s. ⊥) (leaf (formal kinds.Number)) u (field (w ++ u)) (ap (λ s. field (s ++ u)) t ∙ formal_again u)
-field_again (leaf (formal kinds.Text)) w u h t k = absurd h
-field_again (leaf (formal kinds.Bytes)) w u h t k = absurd h
-field_again (leaf (formal kinds.Truth)) w u h t k = absurd h
-field_again (leaf (formal kinds.Tuple)) w u h t k = absurd h
-field_again (inner xs) w u h t k = absurd h
-
-value_begins_field : (b : ℕ) → begins_value b ≡ true → begins_field b ≡ true
-value_begins_field b e = or_right (b == 42) (b == 63 || begins_value b) (or_right (b == 63) (begins_value b) e)
-
-pub field_head : (x : Item Slot) (w : List ℕ) → FieldIs no_limits x → ItemText slot_text x w → (b : ℕ) × (t : List ℕ) × (w ≡ b ∷ t) × (begins_field b ≡ true)
-field_head (leaf (actual (number n))) w h t = let k = signed_head n h in (k.0, k.1, t ∙ k.2, value_begins_field k.0 (begins_is k.0 k.3))
-field_head (leaf (actual (text s))) w h t = absurd h
-field_head (leaf (actual (bytes s))) w h t = absurd h
-field_head (leaf (actual (truth b))) w h t = absurd h
-field_head (leaf any) w h t = (42, [], t, refl)
-field_head (leaf (formal kinds.Number)) w h t = (63, codes "int", t, refl)
-field_head (leaf (formal kinds.Text)) w h t = absurd h
-field_head (leaf (formal kinds.Bytes)) w h t = absurd h
-field_head (leaf (formal kinds.Truth)) w h t = absurd h
-field_head (leaf (formal kinds.Tuple)) w h t = absurd h
-field_head (inner xs) w h t = absurd h
-
-pub field_apart : (b : ℕ) → begins_field b ≡ true → ((b == 32) ≡ false) × ((b == 41) ≡ false)
-field_apart b e = elim (or_cases (b == 42) (b == 63 || begins_value b) e) [
-  | inl p ↦ let q = eqb-true b 42 p in (ap (λ c. c == 32) q, ap (λ c. c == 41) q)
-  | inr q ↦ elim (or_cases (b == 63) (begins_value b) q) [
-    | inl p ↦ let q = eqb-true b 63 p in (ap (λ c. c == 32) q, ap (λ c. c == 41) q)
-    | inr p ↦ value_apart b p
-  ]
-]
+pub slot_again : (x : Slot) (u : List ℕ) → IsReadSlot x → EndsItem u → slot (slot_text x ++ u) ≡ got x u
+slot_again (actual x) u h k =
+    let d = datum_head x h in
+    let e = ap (λ s. s ++ u) d.2 in
+    ap slot e ∙ at_datum d.0 (d.1 ++ u) d.3 ∙ ap (λ s. datum s >>= λ x rest. got (actual x) rest) (sym e) ∙ ap (λ y. y >>= λ x rest. got (actual x) rest) (datum_again x u h k)
+slot_again any u h k = any_again u
+slot_again (formal k) u h m = formal_again k u

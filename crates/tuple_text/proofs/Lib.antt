@@ -5,6 +5,9 @@ pub mod Right
 pub mod Numbers
 pub mod Blanks
 pub mod Endings
+pub mod Plain
+pub mod Levels
+pub mod Nested
 pub mod Lists
 pub mod Again
 pub mod Leaves
@@ -12,4 +15,7 @@ pub mod Arguments
 pub mod LineRight
 pub mod LineAgain
 pub mod Judging
+pub mod LiteralCharacters
+pub mod LiteralTexts
+pub mod LiteralBytes
 pub mod Writing

@@ -1,154 +1,32 @@
 -- Reading the line of an operation again.
-use Rattle.std.proofs.Common.{◌≡◌, ℕ, ◌+◌, ◌<◌, ◌≤◌, true, List, [], ◌∷◌, ◌++◌, length, take, codes, refl, ap, sym, subst, ◌∙◌, append_assoc, append-nil, arith, ◌⊎◌, inl, inr}
+use Rattle.std.proofs.Common.{◌≡◌, ℕ, zero, suc, ◌+◌, ◌<◌, ◌≤◌, nat_le, Bool, true, false, cond, List, [], ◌∷◌, ◌++◌, length, take, Some, None, refl, ap, sym, subst, ◌∙◌, append_assoc, append-nil, arith, ◌⊎◌, inl, inr, length-append}
 use Rattle.std.specs.Prelude.{slice_index}
-use Rattle.tuple_tree.specs.Items.{leaf, inner, Items, none, item, how_many, length_in, whole_length}
-use Rattle.tuple_tree.specs.Values.{number, text, bytes, truth, actual, any, formal, datum_length, slot_length, IsDatum, IsSlot, TupleTree, TemplateTree}
-use Rattle.tuple_tree.specs.declared.atoms.Kind.TheVariants as kinds
+use Rattle.std.proofs.lemmas.Bool.{leb-true, leb-false, ne_eqb}
+use Rattle.tuple_tree.specs.Items.{Items, levels_of, whole_length}
+use Rattle.tuple_tree.specs.Limits.{IsWithin}
+use Rattle.tuple_tree.specs.Values.{datum_length, slot_length, IsDatum, IsSlot, TupleTree, TemplateTree}
 use Rattle.tuple_codec.specs.Operations.{Operation, out, rdp, inp, cas, rd_all, IsOperation}
-use Rattle.tuple_text.specs.Texts.{AreBlanks, IsGap, datum_text, slot_text}
+use Rattle.tuple_text.specs.Texts.{AreBlanks, IsGap, WholeText, datum_text, slot_text}
 use Rattle.tuple_text.specs.Covered.{AreCovered, IsCoveredDatum, IsCoveredSlot, IsCovered}
-use Rattle.tuple_text.specs.Lines.{EachLeaf, LineText, TupleArgument, TemplateArgument, arguments, name}
-use Rattle.tuple_text.specs.Faults.{KeepsLevels, KeepsCounts, EndsTooLong, ArgumentsClosed, argument_lengths}
-use Rattle.tuple_text.specs.Reading.{Read, got, stop, Reading, ◌>>=◌, value, field, begins_value, begins_field, tuple, template, argument, ending, out_line, rdp_line, operation, line}
+use Rattle.tuple_text.specs.Lines.{EachLeaf, LineText, TupleArgument, TemplateArgument, CountArgument, ArgumentsText, arguments, name}
+use Rattle.tuple_text.specs.Faults.{KeepsCount, KeepsLevels, KeepsCounts, EndsTooLong, ArgumentsClosed, argument_lengths}
+use Rattle.tuple_text.specs.Reading.{Read, got, stop, Reading, ◌>>=◌, positive, kept, no_room, datum, slot, begins_datum, begins_slot, close, tuple, template, argument, ended, out_line, inp_line, cas_line, rdp_line, all_line, rd_line, operation, line}
 use Rattle.tuple_text.specs.declared.reader.Stop.{Stop}
 use Rattle.tuple_text.specs.declared.reader.Stop.TheVariants.{BadByte, TooDeep, TooManyFields, TooLong, NoMemory}
-use Rattle.tuple_text.proofs.Right.{Limits, both, no_limits, RightAs}
-use Rattle.tuple_text.proofs.Blanks.{NoBlank, freed, blanks_again, word_again, gap_again, ending_again}
-use Rattle.tuple_text.proofs.Endings.{Each, Some}
-use Rattle.tuple_text.proofs.Leaves.{ValueIs, FieldIs, value_again, value_head, value_apart, field_again, field_head, field_apart}
-use Rattle.tuple_text.proofs.Again.{AgainAs, again_got, then_again, list_again, Exceed}
-use Rattle.tuple_text.proofs.Arguments.{Begins}
-use Rattle.tuple_text.proofs.LineRight.{IsValues, IsFields, tuple_right, template_right, values_plain, fields_plain}
+use Rattle.tuple_text.proofs.Blanks.{NoBlank, blanks_again, gap_again, ending_again}
+use Rattle.tuple_text.proofs.Numbers.{NoDigit, is_digit, positive_again, head_of}
+use Rattle.tuple_text.proofs.Levels.{Exceed, each_both, are_counted}
+use Rattle.tuple_text.proofs.Leaves.{EndsItem, IsRead, IsReadSlot, datum_head, datum_again, slot_head, slot_again}
+use Rattle.tuple_text.proofs.Plain.{plain_item, plain_whole, whole_seen}
+use Rattle.tuple_text.proofs.Again.{AgainAs, again_got, then_again, then_into, step_again, list_into, list_again, item_head, item_again}
 
-abbrev pub ValuesExceed : TupleTree → Stop → Type 0
-ValuesExceed t s = Exceed datum_text (ValueIs no_limits) (λ s x. ⊥) begins_value value value_head value_apart value_again 32 t s
-
-abbrev pub FieldsExceed : TemplateTree → Stop → Type 0
-FieldsExceed p s = Exceed slot_text (FieldIs no_limits) (λ s x. ⊥) begins_field field field_head field_apart field_again 32 p s
-
-abbrev pub Exceeds : Operation → Stop → Type 0
-Exceeds (out t) s = ValuesExceed t s
-Exceeds (rdp p) s = FieldsExceed p s
-Exceeds (inp p) s = ⊥
-Exceeds (cas p t) s = ⊥
-Exceeds (rd_all n p) s = ⊥
-
-none_is : {L : Type 0} → (t : Items L) → Some (λ x. ⊥) t → ⊥
-none_is none h = h
-none_is (item x t) (inl h) = h
-none_is (item x t) (inr h) = none_is t h
-
-pub never_bad : (o : Operation) → Exceeds o BadByte → ⊥
-never_bad (out t) h = none_is t h
-never_bad (rdp p) h = none_is p h
-never_bad (inp p) h = h
-never_bad (cas p t) h = h
-never_bad (rd_all n p) h = h
-
-too_many : {L : Type 0} → (t : Items L) → how_many t ≤ 32 → (32 < how_many t) ⊎ Some (λ x. ⊥) t → ⊥
-too_many t k (inl h) = omega arith
-too_many t k (inr h) = none_is t h
-
-pub keeps_counts : (o : Operation) → KeepsCounts o → Exceeds o TooManyFields → ⊥
-keeps_counts (out t) k h = too_many t k.0 h
-keeps_counts (rdp p) k h = too_many p k.0 h
-keeps_counts (inp p) k h = h
-keeps_counts (cas p t) k h = h
-keeps_counts (rd_all n p) k h = h
-
-pub keeps_levels : (o : Operation) → KeepsLevels o → Exceeds o TooDeep → ⊥
-keeps_levels (out t) k h = none_is t h
-keeps_levels (rdp p) k h = none_is p h
-keeps_levels (inp p) k h = h
-keeps_levels (cas p t) k h = h
-keeps_levels (rd_all n p) k h = h
-
-no_limit : {L : Type 0} → (t : Items L) (s : Stop) (E : Stop → Type 0) → how_many t ≤ 32 → (E TooManyFields → (32 < how_many t) ⊎ Some (λ x. ⊥) t) → (E BadByte → Some (λ x. ⊥) t) → (E TooDeep → Some (λ x. ⊥) t) → (E TooLong → Some (λ x. ⊥) t) → (E NoMemory → Some (λ x. ⊥) t) → E s → ⊥
-no_limit t BadByte E k a b c d e h = none_is t (b h)
-no_limit t TooDeep E k a b c d e h = none_is t (c h)
-no_limit t TooManyFields E k a b c d e h = too_many t k (a h)
-no_limit t TooLong E k a b c d e h = none_is t (d h)
-no_limit t NoMemory E k a b c d e h = none_is t (e h)
-
-pub within_exceeds : (o : Operation) (s : Stop) → IsOperation o → Exceeds o s → ⊥
-within_exceeds (out t) s w h = no_limit t s (ValuesExceed t) w.fields (λ h. h) (λ h. h) (λ h. h) (λ h. h) (λ h. h) h
-within_exceeds (rdp p) s w h = no_limit p s (FieldsExceed p) w.fields (λ h. h) (λ h. h) (λ h. h) (λ h. h) (λ h. h) h
-within_exceeds (inp p) s w h = h
-within_exceeds (cas p t) s w h = h
-within_exceeds (rd_all n p) s w h = h
-
-each_value : (t : TupleTree) → EachLeaf IsDatum t → AreCovered IsCoveredDatum t → Each (ValueIs no_limits) t
-each_value none h k = tt
-each_value (item (leaf (number n)) t) h k = (h.0, each_value t h.1 k.1)
-each_value (item (leaf (text s)) t) h k = absurd k.0
-each_value (item (leaf (bytes s)) t) h k = absurd k.0
-each_value (item (leaf (truth b)) t) h k = absurd k.0
-each_value (item (inner xs) t) h k = absurd k
-
-each_field : (t : TemplateTree) → EachLeaf IsSlot t → AreCovered IsCoveredSlot t → Each (FieldIs no_limits) t
-each_field none h k = tt
-each_field (item (leaf (actual (number n))) t) h k = (h.0, each_field t h.1 k.1)
-each_field (item (leaf (actual (text s))) t) h k = absurd k.0
-each_field (item (leaf (actual (bytes s))) t) h k = absurd k.0
-each_field (item (leaf (actual (truth b))) t) h k = absurd k.0
-each_field (item (leaf any) t) h k = (tt, each_field t h.1 k.1)
-each_field (item (leaf (formal kinds.Number)) t) h k = (tt, each_field t h.1 k.1)
-each_field (item (leaf (formal kinds.Text)) t) h k = absurd k.0
-each_field (item (leaf (formal kinds.Bytes)) t) h k = absurd k.0
-each_field (item (leaf (formal kinds.Truth)) t) h k = absurd k.0
-each_field (item (leaf (formal kinds.Tuple)) t) h k = absurd k.0
-each_field (item (inner xs) t) h k = absurd k
-
--- An argument behind its gap, whatever follows it.
-gap_first : {V : Type 0} → (one : Reading V) (space front u : List ℕ) → IsGap space → NoBlank (front ++ u) → argument one (space ++ (front ++ u)) ≡ one (front ++ u)
-unfolding argument
-gap_first one space front u g h = ap (λ y. y >>= λ _ rest. one rest) (gap_again space (front ++ u) g h)
-
-no_blank : (front body u : List ℕ) → front ≡ 40 ∷ body → NoBlank (front ++ u)
-no_blank front body u e = subst NoBlank (sym (ap (λ t. t ++ u) e)) refl
-
-tuple_again : (t : TupleTree) (space front u : List ℕ) → IsGap space → TupleArgument t front → AreCovered IsCoveredDatum t → AgainAs (ValuesExceed t) t u (argument tuple (space ++ (front ++ u)))
-tuple_again t space front u g h k =
-    subst (AgainAs (ValuesExceed t) t u) (sym (gap_first tuple space front u g (no_blank front (h.0.0 ++ 41 ∷ []) u h.0.1)))
-    (list_again datum_text (ValueIs no_limits) (λ s x. ⊥) begins_value value value_head value_apart value_again t front u (each_value t h.1 k) h.0)
-
-template_again : (p : TemplateTree) (space front u : List ℕ) → IsGap space → TemplateArgument p front → AreCovered IsCoveredSlot p → AgainAs (FieldsExceed p) p u (argument template (space ++ (front ++ u)))
-template_again p space front u g h k =
-    subst (AgainAs (FieldsExceed p) p u) (sym (gap_first template space front u g (no_blank front (h.0.0 ++ 41 ∷ []) u h.0.1)))
-    (list_again slot_text (FieldIs no_limits) (λ s x. ⊥) begins_field field field_head field_apart field_again p front u (each_field p h.1 k) h.0)
-
-freed_true : (w : List ℕ) → freed true w ≡ true
-freed_true [] = refl
-freed_true (b ∷ w) = refl
-
-out_front : (lead behind : List ℕ) → AreBlanks lead → line (lead ++ (codes "out" ++ behind)) ≡ (argument tuple behind >>= λ t rest. ending rest >>= λ _ last. got (out t) last)
-unfolding line operation out_line
-out_front lead behind h =
-    ap (λ y. y >>= λ _ rest. operation rest) (blanks_again true lead (codes "out" ++ behind) h refl)
-    ∙ ap (λ y. y >>= λ _ behind. argument tuple behind >>= λ t rest. ending rest >>= λ _ last. got (out t) last) (word_again (codes "out") behind)
-
-rdp_front : (lead behind : List ℕ) → AreBlanks lead → line (lead ++ (codes "rdp" ++ behind)) ≡ (argument template behind >>= λ p rest. ending rest >>= λ _ last. got (rdp p) last)
-unfolding line operation rdp_line
-rdp_front lead behind h =
-    ap (λ y. y >>= λ _ rest. operation rest) (blanks_again true lead (codes "rdp" ++ behind) h refl)
-    ∙ ap (λ y. y >>= λ _ behind. argument template behind >>= λ p rest. ending rest >>= λ _ last. got (rdp p) last) (word_again (codes "rdp") behind)
-
-pub line_again : (o : Operation) (bs : List ℕ) → LineText o bs → IsCovered o → AgainAs (Exceeds o) o [] (line bs)
-line_again (out t) bs h k =
-    let a = h.4 in
-    subst (AgainAs (Exceeds (out t)) (out t) []) (sym (ap line (h.2 ∙ ap (λ s. h.0 ++ (codes "out" ++ s)) a.3) ∙ out_front h.0 (a.0 ++ (a.1 ++ a.2)) h.3))
-    (then_again (ValuesExceed t) (Exceeds (out t)) t a.2 (out t) [] (argument tuple (a.0 ++ (a.1 ++ a.2))) (λ t rest. ending rest >>= λ _ last. got (out t) last) (λ s e. e) (omega arith)
-    (tuple_again t a.0 a.1 a.2 a.4 a.5 k)
-    (again_got (Exceeds (out t)) (out t) [] (ending a.2 >>= λ _ last. got (out t) last) (ap (λ y. y >>= λ _ last. got (out t) last) (ending_again a.2 a.6))))
-line_again (rdp p) bs h k =
-    let a = h.4 in
-    subst (AgainAs (Exceeds (rdp p)) (rdp p) []) (sym (ap line (h.2 ∙ ap (λ s. h.0 ++ (codes "rdp" ++ s)) a.3) ∙ rdp_front h.0 (a.0 ++ (a.1 ++ a.2)) h.3))
-    (then_again (FieldsExceed p) (Exceeds (rdp p)) p a.2 (rdp p) [] (argument template (a.0 ++ (a.1 ++ a.2))) (λ p rest. ending rest >>= λ _ last. got (rdp p) last) (λ s e. e) (omega arith)
-    (template_again p a.0 a.1 a.2 a.4 a.5 k)
-    (again_got (Exceeds (rdp p)) (rdp p) [] (ending a.2 >>= λ _ last. got (rdp p) last) (ap (λ y. y >>= λ _ last. got (rdp p) last) (ending_again a.2 a.6))))
-line_again (inp p) bs h k = absurd k
-line_again (cas p t) bs h k = absurd k
-line_again (rd_all n p) bs h k = absurd k
+-- the limits that a tree passes
+abbrev pub TreeExceeds : {L : Type 0} → (L → ℕ) → Items L → Stop → Type 0
+TreeExceeds length_of t BadByte = ⊥
+TreeExceeds length_of t TooDeep = 8 < levels_of t
+TreeExceeds length_of t TooManyFields = KeepsCount t → ⊥
+TreeExceeds length_of t TooLong = 1024 < whole_length length_of t
+TreeExceeds length_of t NoMemory = ⊥
 
 -- a reading that stops with more than u left
 abbrev pub StopsBefore : {V : Type 0} → List ℕ → Read V → Type 0
@@ -159,66 +37,261 @@ stops_then : {V W : Type 0} → (u : List ℕ) (x : Read V) (f : V → Reading W
 stops_then u (got v rest) f h = absurd h
 stops_then u (stop s rest) f h = h
 
--- A list that is read has at most 32 items, so a list of more bytes isn't.
-long_values : (t : TupleTree) (bs u : List ℕ) (x : Read TupleTree) (B : Limits → List ℕ → Type 0) → 1024 < whole_length datum_length t → RightAs (IsValues both) B bs x → AgainAs (ValuesExceed t) t u x → StopsBefore u x
-long_values t bs u (got v rest) B l r a =
-    let f = r.is in
-    let p = values_plain both v f.each in
-    let n : how_many v ≤ 32 = f.count in
-    let k : length_in datum_length t ≤ 288 = subst (λ x. length_in datum_length x ≤ 288) a.0 (omega (arith, p.short)) in
-    omega arith
-long_values t bs u (stop s rest) B l r a = a.1
+module _ {L : Type 0} (leaf_text : L → List ℕ) (IsLeaf : L → Type 0) (begins : ℕ → Bool) (leaf_at : Reading L)
+    (leaf_head : (x : L) → IsLeaf x → (b : ℕ) × (t : List ℕ) × (leaf_text x ≡ b ∷ t) × (begins b ≡ true))
+    (leaf_again : (x : L) (u : List ℕ) → IsLeaf x → EndsItem u → leaf_at (leaf_text x ++ u) ≡ got x u)
+    (no_blank : begins 32 ≡ false) (no_open : begins 40 ≡ false) (no_close : begins 41 ≡ false) (length_of : L → ℕ) where
+  exceeds : (t : Items L) (s : Stop) → Exceed 7 32 t s → TreeExceeds length_of t s
+  exceeds t BadByte h = h
+  exceeds t TooDeep h = omega (arith, h)
+  exceeds t TooManyFields h = λ k. h k.0 k.1
+  exceeds t TooLong h = absurd h
+  exceeds t NoMemory h = h
 
-long_fields : (t : TemplateTree) (bs u : List ℕ) (x : Read TemplateTree) (B : Limits → List ℕ → Type 0) → 1024 < whole_length slot_length t → RightAs (IsFields both) B bs x → AgainAs (FieldsExceed t) t u x → StopsBefore u x
-long_fields t bs u (got v rest) B l r a =
-    let f = r.is in
-    let p = fields_plain both v f.each in
-    let n : how_many v ≤ 32 = f.count in
-    let k : length_in slot_length t ≤ 288 = subst (λ x. length_in slot_length x ≤ 288) a.0 (omega (arith, p.short)) in
-    omega arith
-long_fields t bs u (stop s rest) B l r a = a.1
+  close_again : (t : Items L) (u : List ℕ) (r : Bool) → nat_le (whole_length length_of t) 1024 ≡ r → AgainAs (TreeExceeds length_of t) t u (close length_of begins leaf_at (cond r (Some t) None) (41 ∷ u))
+  unfolding close
+  close_again t u true e = (refl, refl)
+  close_again t u false e = (leb-false _ _ e, omega arith)
 
--- Where an argument of too many bytes is closed the reading has stopped before.
-long_tuple : (t : TupleTree) (space front u : List ℕ) → IsGap space → TupleArgument t front → AreCovered IsCoveredDatum t → 1024 < whole_length datum_length t → StopsBefore u (argument tuple (space ++ (front ++ u)))
-long_tuple t space front u g h k l =
-    let e = gap_first tuple space front u g (no_blank front (h.0.0 ++ 41 ∷ []) u h.0.1) in
-    subst (StopsBefore u) (sym e)
-    (long_values t (front ++ u) u (tuple (front ++ u)) (Begins IsValues) l (tuple_right (front ++ u)) (subst (AgainAs (ValuesExceed t) t u) e (tuple_again t space front u g h k)))
+  close_stops : (t : Items L) (u : List ℕ) (r : Bool) → nat_le (whole_length length_of t) 1024 ≡ r → 1024 < whole_length length_of t → StopsBefore u (close length_of begins leaf_at (cond r (Some t) None) (41 ∷ u))
+  unfolding close
+  close_stops t u true e h = absurd (let g : whole_length length_of t ≤ 1024 = leb-true _ _ e in omega (arith, g, h))
+  close_stops t u false e h = omega arith
 
-long_template : (p : TemplateTree) (space front u : List ℕ) → IsGap space → TemplateArgument p front → AreCovered IsCoveredSlot p → 1024 < whole_length slot_length p → StopsBefore u (argument template (space ++ (front ++ u)))
-long_template p space front u g h k l =
-    let e = gap_first template space front u g (no_blank front (h.0.0 ++ 41 ∷ []) u h.0.1) in
-    subst (StopsBefore u) (sym e)
-    (long_fields p (front ++ u) u (template (front ++ u)) (Begins IsFields) l (template_right (front ++ u)) (subst (AgainAs (FieldsExceed p) p u) e (template_again p space front u g h k)))
+  pub whole_again : (t : Items L) (w u : List ℕ) → EachLeaf IsLeaf t → WholeText leaf_text t w → AgainAs (TreeExceeds length_of t) t u (plain_whole length_of begins leaf_at (w ++ u))
+  whole_again t w u p h =
+      list_again leaf_text IsLeaf 7 (no_room begins 7) (plain_item begins leaf_at 7) (item_head leaf_text IsLeaf begins leaf_at leaf_head leaf_again no_blank no_open no_close 7) (item_again leaf_text IsLeaf begins leaf_at leaf_head leaf_again no_blank no_open no_close 7)
+      (TreeExceeds length_of t) t t w u (λ t at. close length_of begins leaf_at (kept length_of t) at) (exceeds t) p h (close_again t u (nat_le (whole_length length_of t) 1024) refl)
 
-closing : (lead cs rest space front last u bs : List ℕ) → bs ≡ lead ++ (cs ++ rest) → rest ≡ space ++ (front ++ last) → last ≡ [] → bs ++ u ≡ lead ++ (cs ++ (space ++ (front ++ u)))
-closing lead cs rest space front last u bs e f g =
-    ap (λ s. s ++ u) (e ∙ ap (λ s. lead ++ (cs ++ s)) (f ∙ ap (λ s. space ++ (front ++ s)) g ∙ ap (λ s. space ++ s) (append-nil front)))
-    ∙ append_assoc lead (cs ++ (space ++ front)) u ∙ ap (λ s. lead ++ s) (append_assoc cs (space ++ front) u ∙ ap (λ s. cs ++ s) (append_assoc space front u))
+  -- Where a list of too many bytes is closed the reading has stopped before.
+  pub whole_stops : (t : Items L) (w u : List ℕ) → EachLeaf IsLeaf t → WholeText leaf_text t w → 1024 < whole_length length_of t → StopsBefore u (plain_whole length_of begins leaf_at (w ++ u))
+  whole_stops t w u p h l =
+      list_into leaf_text IsLeaf 7 (no_room begins 7) (plain_item begins leaf_at 7) (item_head leaf_text IsLeaf begins leaf_at leaf_head leaf_again no_blank no_open no_close 7) (item_again leaf_text IsLeaf begins leaf_at leaf_head leaf_again no_blank no_open no_close 7)
+      (StopsBefore u) t w u (λ t at. close length_of begins leaf_at (kept length_of t) at) (λ s rest e m. omega (arith, m)) p h (close_stops t u (nat_le (whole_length length_of t) 1024) refl l)
 
-stops_out : (t : TupleTree) (k : ℕ) (lead rest bs u : List ℕ) → bs ≡ lead ++ (codes "out" ++ rest) → AreBlanks lead → AreCovered IsCoveredDatum t → k ≡ 0 → ArgumentsClosed (take (k + 1) (TupleArgument t ∷ [])) rest
-    → 1024 < slice_index (whole_length datum_length t ∷ []) k → StopsBefore u (line (bs ++ u))
-stops_out t k lead rest bs u e b c z h l =
-    let a = subst (λ k. ArgumentsClosed (take (k + 1) (TupleArgument t ∷ [])) rest) z h in
-    let m : 1024 < whole_length datum_length t = subst (λ k. 1024 < slice_index (whole_length datum_length t ∷ []) k) z l in
-    subst (StopsBefore u) (sym (ap line (closing lead (codes "out") rest a.0 a.1 a.2 u bs e a.3 a.6) ∙ out_front lead (a.0 ++ (a.1 ++ u)) b))
-    (stops_then u (argument tuple (a.0 ++ (a.1 ++ u))) (λ t rest. ending rest >>= λ _ last. got (out t) last) (long_tuple t a.0 a.1 u a.4 a.5 c m))
+-- An argument behind its gap, whatever follows it.
+gap_first : {V : Type 0} → (one : Reading V) (space front u : List ℕ) → IsGap space → NoBlank (front ++ u) → argument one (space ++ (front ++ u)) ≡ one (front ++ u)
+unfolding argument
+gap_first one space front u g h = ap (λ y. y >>= λ _ rest. one rest) (gap_again space (front ++ u) g h)
 
-stops_rdp : (p : TemplateTree) (k : ℕ) (lead rest bs u : List ℕ) → bs ≡ lead ++ (codes "rdp" ++ rest) → AreBlanks lead → AreCovered IsCoveredSlot p → k ≡ 0 → ArgumentsClosed (take (k + 1) (TemplateArgument p ∷ [])) rest
-    → 1024 < slice_index (whole_length slot_length p ∷ []) k → StopsBefore u (line (bs ++ u))
-stops_rdp p k lead rest bs u e b c z h l =
-    let a = subst (λ k. ArgumentsClosed (take (k + 1) (TemplateArgument p ∷ [])) rest) z h in
-    let m : 1024 < whole_length slot_length p = subst (λ k. 1024 < slice_index (whole_length slot_length p ∷ []) k) z l in
-    subst (StopsBefore u) (sym (ap line (closing lead (codes "rdp") rest a.0 a.1 a.2 u bs e a.3 a.6) ∙ rdp_front lead (a.0 ++ (a.1 ++ u)) b))
-    (stops_then u (argument template (a.0 ++ (a.1 ++ u))) (λ p rest. ending rest >>= λ _ last. got (rdp p) last) (long_template p a.0 a.1 u a.4 a.5 c m))
+no_blank : (front body u : List ℕ) → front ≡ 40 ∷ body → NoBlank (front ++ u)
+no_blank front body u e = subst NoBlank (sym (ap (λ t. t ++ u) e)) refl
 
-stops_for : (o : Operation) (k : ℕ) (lead rest bs u : List ℕ) → bs ≡ lead ++ (name o ++ rest) → AreBlanks lead → IsCovered o → k < length (arguments o) → ArgumentsClosed (take (k + 1) (arguments o)) rest
-    → 1024 < slice_index (argument_lengths o) k → StopsBefore u (line (bs ++ u))
-stops_for (out t) k lead rest bs u e b c n h l = stops_out t k lead rest bs u e b c (omega (arith, n)) h l
-stops_for (rdp p) k lead rest bs u e b c n h l = stops_rdp p k lead rest bs u e b c (omega (arith, n)) h l
-stops_for (inp p) k lead rest bs u e b c n h l = absurd c
-stops_for (cas p t) k lead rest bs u e b c n h l = absurd c
-stops_for (rd_all m p) k lead rest bs u e b c n h l = absurd c
+tuple_first : (t : TupleTree) (space front u : List ℕ) → IsGap space → TupleArgument t front → argument tuple (space ++ (front ++ u)) ≡ plain_whole datum_length begins_datum datum (front ++ u)
+tuple_first t space front u g h = gap_first tuple space front u g (no_blank front (h.0.0 ++ 41 ∷ []) u h.0.1) ∙ whole_seen datum_length begins_datum datum (front ++ u)
+
+template_first : (p : TemplateTree) (space front u : List ℕ) → IsGap space → TemplateArgument p front → argument template (space ++ (front ++ u)) ≡ plain_whole slot_length begins_slot slot (front ++ u)
+template_first p space front u g h = gap_first template space front u g (no_blank front (h.0.0 ++ 41 ∷ []) u h.0.1) ∙ whole_seen slot_length begins_slot slot (front ++ u)
+
+tuple_again : (t : TupleTree) (space front u : List ℕ) → IsGap space → TupleArgument t front → AreCovered IsCoveredDatum t → AgainAs (TreeExceeds datum_length t) t u (argument tuple (space ++ (front ++ u)))
+tuple_again t space front u g h k =
+    subst (AgainAs (TreeExceeds datum_length t) t u) (sym (tuple_first t space front u g h))
+    (whole_again datum_text IsRead begins_datum datum datum_head datum_again refl refl refl datum_length t front u (each_both IsDatum IsCoveredDatum t h.1 k) h.0)
+
+template_again : (p : TemplateTree) (space front u : List ℕ) → IsGap space → TemplateArgument p front → AreCovered IsCoveredSlot p → AgainAs (TreeExceeds slot_length p) p u (argument template (space ++ (front ++ u)))
+template_again p space front u g h k =
+    subst (AgainAs (TreeExceeds slot_length p) p u) (sym (template_first p space front u g h))
+    (whole_again slot_text IsReadSlot begins_slot slot slot_head slot_again refl refl refl slot_length p front u (each_both IsSlot IsCoveredSlot p h.1 k) h.0)
+
+tuple_stops : (t : TupleTree) (space front u : List ℕ) → IsGap space → TupleArgument t front → AreCovered IsCoveredDatum t → 1024 < whole_length datum_length t → StopsBefore u (argument tuple (space ++ (front ++ u)))
+tuple_stops t space front u g h k l =
+    subst (StopsBefore u) (sym (tuple_first t space front u g h))
+    (whole_stops datum_text IsRead begins_datum datum datum_head datum_again refl refl refl datum_length t front u (each_both IsDatum IsCoveredDatum t h.1 k) h.0 l)
+
+template_stops : (p : TemplateTree) (space front u : List ℕ) → IsGap space → TemplateArgument p front → AreCovered IsCoveredSlot p → 1024 < whole_length slot_length p → StopsBefore u (argument template (space ++ (front ++ u)))
+template_stops p space front u g h k l =
+    subst (StopsBefore u) (sym (template_first p space front u g h))
+    (whole_stops slot_text IsReadSlot begins_slot slot slot_head slot_again refl refl refl slot_length p front u (each_both IsSlot IsCoveredSlot p h.1 k) h.0 l)
+
+gap_no_digit : (space front : List ℕ) → IsGap space → NoDigit (space ++ front)
+gap_no_digit [] front h = absurd (let p : 0 < 0 = h.0 in omega arith)
+gap_no_digit (b ∷ space) front h = ap is_digit h.1.0
+
+count_again : (n : ℕ) (space front u : List ℕ) → IsGap space → CountArgument n front → NoDigit u → argument (positive 64) (space ++ (front ++ u)) ≡ got n u
+count_again n space front u g h d =
+    let k = head_of n (omega (arith, h.1, h.2)) h.1 in
+    let e : front ≡ k.0 ∷ k.1 = h.0 ∙ k.2 in
+    gap_first (positive 64) space front u g (subst NoBlank (sym (ap (λ t. t ++ u) e)) (ne_eqb k.0 32 (λ q. let r = k.3 in omega (arith, r, q))))
+    ∙ ap (λ t. positive 64 (t ++ u)) h.0 ∙ positive_again 64 n u h.1 h.2 (omega arith) d
+
+-- the limits that an operation's arguments pass
+abbrev pub Exceeds : Operation → Stop → Type 0
+Exceeds (out t) s = TreeExceeds datum_length t s
+Exceeds (rdp p) s = TreeExceeds slot_length p s
+Exceeds (inp p) s = TreeExceeds slot_length p s
+Exceeds (cas p t) s = TreeExceeds slot_length p s ⊎ TreeExceeds datum_length t s
+Exceeds (rd_all n p) s = TreeExceeds slot_length p s
+
+either : {A B : Type 0} → (A → ⊥) → (B → ⊥) → A ⊎ B → ⊥
+either f g (inl a) = f a
+either f g (inr b) = g b
+
+pub never_bad : (o : Operation) → Exceeds o BadByte → ⊥
+never_bad (out t) h = h
+never_bad (rdp p) h = h
+never_bad (inp p) h = h
+never_bad (cas p t) h = either (λ e. e) (λ e. e) h
+never_bad (rd_all n p) h = h
+
+pub keeps_counts : (o : Operation) → KeepsCounts o → Exceeds o TooManyFields → ⊥
+keeps_counts (out t) k h = h k
+keeps_counts (rdp p) k h = h k
+keeps_counts (inp p) k h = h k
+keeps_counts (cas p t) k h = either (λ e. e k.0) (λ e. e k.1) h
+keeps_counts (rd_all n p) k h = h k
+
+deep_no : {L : Type 0} → (t : Items L) → levels_of t ≤ 8 → 8 < levels_of t → ⊥
+deep_no t k h = omega (arith, k, h)
+
+pub keeps_levels : (o : Operation) → KeepsLevels o → Exceeds o TooDeep → ⊥
+keeps_levels (out t) k h = deep_no t k h
+keeps_levels (rdp p) k h = deep_no p k h
+keeps_levels (inp p) k h = deep_no p k h
+keeps_levels (cas p t) k h = either (deep_no p k.0) (deep_no t k.1) h
+keeps_levels (rd_all n p) k h = deep_no p k h
+
+within_tree : {L : Type 0} → (IsLeaf : L → Type 0) (length_of : L → ℕ) (t : Items L) (s : Stop) → IsWithin IsLeaf length_of t → TreeExceeds length_of t s → ⊥
+within_tree IsLeaf length_of t BadByte w h = h
+within_tree IsLeaf length_of t TooDeep w h = deep_no t w.levels h
+within_tree IsLeaf length_of t TooManyFields w h = h (w.fields, are_counted IsLeaf t w.each)
+within_tree IsLeaf length_of t TooLong w h = let l = w.length in omega (arith, l, h)
+within_tree IsLeaf length_of t NoMemory w h = h
+
+pub within_exceeds : (o : Operation) (s : Stop) → IsOperation o → Exceeds o s → ⊥
+within_exceeds (out t) s w h = within_tree IsDatum datum_length t s w h
+within_exceeds (rdp p) s w h = within_tree IsSlot slot_length p s w h
+within_exceeds (inp p) s w h = within_tree IsSlot slot_length p s w h
+within_exceeds (cas p t) s w h = either (within_tree IsSlot slot_length p s w.0) (within_tree IsDatum datum_length t s w.1) h
+within_exceeds (rd_all n p) s w h = within_tree IsSlot slot_length p s w.2 h
+
+-- what is read behind a name
+abbrev out_rest : Reading Operation
+out_rest bs = argument tuple bs >>= λ t rest. ended (out t) rest
+
+abbrev takes_rest : (TemplateTree → Operation) → Reading Operation
+takes_rest k bs = argument template bs >>= λ p rest. ended (k p) rest
+
+abbrev cas_rest : Reading Operation
+cas_rest bs = argument template bs >>= λ p middle. argument tuple middle >>= λ t rest. ended (cas p t) rest
+
+abbrev all_rest : Reading Operation
+all_rest bs = argument (positive 64) bs >>= λ n middle. argument template middle >>= λ p rest. ended (rd_all n p) rest
+
+abbrev rest_of : Operation → Reading Operation
+rest_of (out t) = out_rest
+rest_of (rdp p) = takes_rest rdp
+rest_of (inp p) = takes_rest inp
+rest_of (cas p t) = cas_rest
+rest_of (rd_all n p) = all_rest
+
+named_front : (o : Operation) (behind : List ℕ) → operation (name o ++ behind) ≡ rest_of o behind
+unfolding operation out_line rd_line rdp_line all_line inp_line cas_line
+named_front (out t) behind = refl
+named_front (rdp p) behind = refl
+named_front (inp p) behind = refl
+named_front (cas p t) behind = refl
+named_front (rd_all n p) behind = refl
+
+no_blank_name : (o : Operation) (behind : List ℕ) → NoBlank (name o ++ behind)
+no_blank_name (out t) behind = refl
+no_blank_name (rdp p) behind = refl
+no_blank_name (inp p) behind = refl
+no_blank_name (cas p t) behind = refl
+no_blank_name (rd_all n p) behind = refl
+
+line_front : (o : Operation) (lead behind : List ℕ) → AreBlanks lead → line (lead ++ (name o ++ behind)) ≡ rest_of o behind
+unfolding line
+line_front o lead behind h = ap (λ y. y >>= λ _ rest. operation rest) (blanks_again true lead (name o ++ behind) h (no_blank_name o behind)) ∙ named_front o behind
+
+ended_again : (o : Operation) (w : List ℕ) → AreBlanks w → ended o w ≡ got o []
+unfolding ended
+ended_again o w h = ap (λ y. y >>= λ _ rest. got o rest) (ending_again w h)
+
+out_again : (t : TupleTree) (E : Stop → Type 0) (k : TupleTree → Operation) (w : List ℕ) → ((s : Stop) → TreeExceeds datum_length t s → E s) → ArgumentsText (TupleArgument t ∷ []) w → AreCovered IsCoveredDatum t
+    → AgainAs E (k t) [] (argument tuple w >>= λ t rest. ended (k t) rest)
+out_again t E k w f a c =
+    subst (λ s. AgainAs E (k t) [] (argument tuple s >>= λ t rest. ended (k t) rest)) (sym a.3)
+    (then_again (TreeExceeds datum_length t) E t a.2 (k t) [] (argument tuple (a.0 ++ (a.1 ++ a.2))) (λ t rest. ended (k t) rest) f (omega arith)
+    (tuple_again t a.0 a.1 a.2 a.4 a.5 c) (again_got E (k t) [] (ended (k t) a.2) (ended_again (k t) a.2 a.6)))
+
+takes_again : (p : TemplateTree) (k : TemplateTree → Operation) (w : List ℕ) → ArgumentsText (TemplateArgument p ∷ []) w → AreCovered IsCoveredSlot p → AgainAs (TreeExceeds slot_length p) (k p) [] (takes_rest k w)
+takes_again p k w a c =
+    subst (λ s. AgainAs (TreeExceeds slot_length p) (k p) [] (takes_rest k s)) (sym a.3)
+    (then_again (TreeExceeds slot_length p) (TreeExceeds slot_length p) p a.2 (k p) [] (argument template (a.0 ++ (a.1 ++ a.2))) (λ p rest. ended (k p) rest) (λ s e. e) (omega arith)
+    (template_again p a.0 a.1 a.2 a.4 a.5 c) (again_got (TreeExceeds slot_length p) (k p) [] (ended (k p) a.2) (ended_again (k p) a.2 a.6)))
+
+cas_again : (p : TemplateTree) (t : TupleTree) (w : List ℕ) → ArgumentsText (TemplateArgument p ∷ TupleArgument t ∷ []) w → IsCovered (cas p t) → AgainAs (Exceeds (cas p t)) (cas p t) [] (cas_rest w)
+cas_again p t w a c =
+    subst (λ s. AgainAs (Exceeds (cas p t)) (cas p t) [] (cas_rest s)) (sym a.3)
+    (then_again (TreeExceeds slot_length p) (Exceeds (cas p t)) p a.2 (cas p t) [] (argument template (a.0 ++ (a.1 ++ a.2))) (λ p middle. argument tuple middle >>= λ t rest. ended (cas p t) rest) (λ s e. inl e) (omega arith)
+    (template_again p a.0 a.1 a.2 a.4 a.5 c.0) (out_again t (Exceeds (cas p t)) (cas p) a.2 (λ s e. inr e) a.6 c.1))
+
+all_again : (n : ℕ) (p : TemplateTree) (w : List ℕ) → ArgumentsText (CountArgument n ∷ TemplateArgument p ∷ []) w → AreCovered IsCoveredSlot p → AgainAs (TreeExceeds slot_length p) (rd_all n p) [] (all_rest w)
+all_again n p w a c =
+    let b = a.6 in
+    let d : NoDigit a.2 = subst NoDigit (sym b.3) (gap_no_digit b.0 (b.1 ++ b.2) b.4) in
+    subst (λ s. AgainAs (TreeExceeds slot_length p) (rd_all n p) [] (all_rest s)) (sym a.3)
+    (step_again (TreeExceeds slot_length p) n a.2 (rd_all n p) [] (argument (positive 64) (a.0 ++ (a.1 ++ a.2))) (λ n middle. argument template middle >>= λ p rest. ended (rd_all n p) rest)
+    (count_again n a.0 a.1 a.2 a.4 a.5 d) (takes_again p (rd_all n) a.2 b c))
+
+rest_again : (o : Operation) (w : List ℕ) → ArgumentsText (arguments o) w → IsCovered o → AgainAs (Exceeds o) o [] (rest_of o w)
+rest_again (out t) w a c = out_again t (TreeExceeds datum_length t) out w (λ s e. e) a c
+rest_again (rdp p) w a c = takes_again p rdp w a c
+rest_again (inp p) w a c = takes_again p inp w a c
+rest_again (cas p t) w a c = cas_again p t w a c
+rest_again (rd_all n p) w a c = all_again n p w a c
+
+pub line_again : (o : Operation) (bs : List ℕ) → LineText o bs → IsCovered o → AgainAs (Exceeds o) o [] (line bs)
+line_again o bs h k = subst (AgainAs (Exceeds o) o []) (sym (ap line h.2 ∙ line_front o h.0 h.1 h.3)) (rest_again o h.1 h.4 k)
+
+-- Behind the last closed argument stands u.
+closed_one : (space front last rest u : List ℕ) → rest ≡ space ++ (front ++ last) → last ≡ [] → rest ++ u ≡ space ++ (front ++ u)
+closed_one space front last rest u e f =
+    ap (λ s. s ++ u) (e ∙ ap (λ s. space ++ (front ++ s)) f ∙ ap (λ s. space ++ s) (append-nil front)) ∙ append_assoc space front u
+
+closed_first : (space front middle rest u : List ℕ) → rest ≡ space ++ (front ++ middle) → rest ++ u ≡ space ++ (front ++ (middle ++ u))
+closed_first space front middle rest u e = ap (λ s. s ++ u) e ∙ append_assoc space (front ++ middle) u ∙ ap (λ s. space ++ s) (append_assoc front middle u)
+
+tuple_closes : (t : TupleTree) (k : TupleTree → Operation) (w u : List ℕ) → ArgumentsClosed (TupleArgument t ∷ []) w → AreCovered IsCoveredDatum t → 1024 < whole_length datum_length t → StopsBefore u (argument tuple (w ++ u) >>= λ t rest. ended (k t) rest)
+tuple_closes t k w u a c l =
+    subst (λ s. StopsBefore u (argument tuple s >>= λ t rest. ended (k t) rest)) (sym (closed_one a.0 a.1 a.2 w u a.3 a.6))
+    (stops_then u (argument tuple (a.0 ++ (a.1 ++ u))) (λ t rest. ended (k t) rest) (tuple_stops t a.0 a.1 u a.4 a.5 c l))
+
+template_closes : {W : Type 0} → (p : TemplateTree) (f : TemplateTree → Reading W) (w u : List ℕ) → ArgumentsClosed (TemplateArgument p ∷ []) w → AreCovered IsCoveredSlot p → 1024 < whole_length slot_length p → StopsBefore u (argument template (w ++ u) >>= f)
+template_closes p f w u a c l =
+    subst (λ s. StopsBefore u (argument template s >>= f)) (sym (closed_one a.0 a.1 a.2 w u a.3 a.6))
+    (stops_then u (argument template (a.0 ++ (a.1 ++ u))) f (template_stops p a.0 a.1 u a.4 a.5 c l))
+
+cas_closes : (p : TemplateTree) (t : TupleTree) (w u : List ℕ) → ArgumentsClosed (TemplateArgument p ∷ TupleArgument t ∷ []) w → IsCovered (cas p t) → 1024 < whole_length datum_length t → StopsBefore u (cas_rest (w ++ u))
+cas_closes p t w u a c l =
+    subst (λ s. StopsBefore u (cas_rest s)) (sym (closed_first a.0 a.1 a.2 w u a.3))
+    (then_into (StopsBefore u) (TreeExceeds slot_length p) p (a.2 ++ u) (argument template (a.0 ++ (a.1 ++ (a.2 ++ u)))) (λ p middle. argument tuple middle >>= λ t rest. ended (cas p t) rest)
+    (λ s rest e m. omega (arith, m, length-append a.2 u)) (template_again p a.0 a.1 (a.2 ++ u) a.4 a.5 c.0) (tuple_closes t (cas p) a.2 u a.6 c.1 l))
+
+closed_no_digit : (p : TemplateTree) (w u : List ℕ) → ArgumentsClosed (TemplateArgument p ∷ []) w → NoDigit (w ++ u)
+closed_no_digit p w u a = subst NoDigit (sym (closed_one a.0 a.1 a.2 w u a.3 a.6)) (gap_no_digit a.0 (a.1 ++ u) a.4)
+
+all_closes : (n : ℕ) (p : TemplateTree) (w u : List ℕ) → ArgumentsClosed (CountArgument n ∷ TemplateArgument p ∷ []) w → AreCovered IsCoveredSlot p → 1024 < whole_length slot_length p → StopsBefore u (all_rest (w ++ u))
+all_closes n p w u a c l =
+    subst (λ s. StopsBefore u (all_rest s)) (sym (closed_first a.0 a.1 a.2 w u a.3))
+    (subst (λ y. StopsBefore u (y >>= λ n middle. argument template middle >>= λ p rest. ended (rd_all n p) rest)) (sym (count_again n a.0 a.1 (a.2 ++ u) a.4 a.5 (closed_no_digit p a.2 u a.6)))
+    (template_closes p (λ p rest. ended (rd_all n p) rest) a.2 u a.6 c l))
+
+rest_stops : (o : Operation) (k : ℕ) (w u : List ℕ) → IsCovered o → k < length (arguments o) → ArgumentsClosed (take (k + 1) (arguments o)) w → 1024 < slice_index (argument_lengths o) k → StopsBefore u (rest_of o (w ++ u))
+rest_stops (out t) zero w u c n h l = tuple_closes t out w u h c l
+rest_stops (out t) (suc k) w u c n h l = absurd (omega (arith, n))
+rest_stops (rdp p) zero w u c n h l = template_closes p (λ p rest. ended (rdp p) rest) w u h c l
+rest_stops (rdp p) (suc k) w u c n h l = absurd (omega (arith, n))
+rest_stops (inp p) zero w u c n h l = template_closes p (λ p rest. ended (inp p) rest) w u h c l
+rest_stops (inp p) (suc k) w u c n h l = absurd (omega (arith, n))
+rest_stops (cas p t) zero w u c n h l = template_closes p (λ p middle. argument tuple middle >>= λ t rest. ended (cas p t) rest) w u h c.0 l
+rest_stops (cas p t) (suc zero) w u c n h l = cas_closes p t w u h c l
+rest_stops (cas p t) (suc (suc k)) w u c n h l = absurd (omega (arith, n))
+rest_stops (rd_all m p) zero w u c n h l = absurd (omega (arith, l))
+rest_stops (rd_all m p) (suc zero) w u c n h l = all_closes m p w u h c l
+rest_stops (rd_all m p) (suc (suc k)) w u c n h l = absurd (omega (arith, n))
 
 pub too_long_stops : (bs u : List ℕ) → EndsTooLong bs → StopsBefore u (line (bs ++ u))
-too_long_stops bs u h = stops_for h.o h.k h.lead h.rest bs u h.whole h.blanks h.covered h.last h.closed h.long
+too_long_stops bs u h =
+    let e : bs ++ u ≡ h.lead ++ (name h.o ++ (h.rest ++ u)) = ap (λ s. s ++ u) h.whole ∙ append_assoc h.lead (name h.o ++ h.rest) u ∙ ap (λ s. h.lead ++ s) (append_assoc (name h.o) h.rest u) in
+    subst (StopsBefore u) (sym (ap line e ∙ line_front h.o h.lead (h.rest ++ u) h.blanks)) (rest_stops h.o h.k h.rest u h.covered h.last h.closed h.long)

@@ -1,251 +1,442 @@
 -- Reading whole lines keeps to the grammar.
-use Rattle.std.proofs.Common.{◌≡◌, ℕ, ◌*◌, ◌≤◌, ◌==◌, Bool, true, false, cond, List, [], ◌∷◌, ◌++◌, codes, refl, ap, sym, subst, ◌∙◌, append_assoc, arith, ◌⊎◌, inl, inr}
-use Rattle.tuple_tree.specs.Items.{Item, leaf, inner, Items, none, item, how_many, levels_in, length_in}
-use Rattle.tuple_tree.specs.Limits.{AreItems}
-use Rattle.tuple_tree.specs.Values.{Datum, number, text, bytes, truth, Slot, actual, any, formal, datum_length, slot_length, IsDatum, IsSlot, IsTuple, IsTemplate, TupleTree, TemplateTree}
-use Rattle.tuple_tree.specs.declared.atoms.Kind.TheVariants as kinds
-use Rattle.tuple_codec.specs.Operations.{Operation, out, rdp, IsOperation}
-use Rattle.tuple_text.specs.Texts.{AreBlanks, datum_text, slot_text}
+use Rattle.std.proofs.Common.{◌≡◌, ℕ, true, ◌+◌, ◌<◌, ◌≤◌, List, [], ◌∷◌, ◌++◌, length, take, codes, refl, ap, sym, subst, ◌∙◌, append_assoc, append-nil, arith, inl, inr}
+use Rattle.std.specs.Prelude.{slice_index}
+use Rattle.std.specs.Fmt.{decimal}
+use Rattle.tuple_tree.specs.Items.{Items, none, levels_of}
+use Rattle.tuple_tree.specs.Limits.{IsWithin}
+use Rattle.tuple_tree.specs.Values.{datum_length, slot_length, IsDatum, IsSlot, TupleTree, TemplateTree}
+use Rattle.tuple_codec.specs.Operations.{Operation, out, rdp, inp, cas, rd_all, IsOperation}
+use Rattle.tuple_text.specs.Texts.{AreBlanks, WholeText, datum_text, slot_text}
 use Rattle.tuple_text.specs.Covered.{AreCovered, IsCoveredDatum, IsCoveredSlot, IsCovered}
-use Rattle.tuple_text.specs.Lines.{EachLeaf, LineText}
-use Rattle.tuple_text.specs.Faults.{KeepsLevels, KeepsBoth}
-use Rattle.tuple_text.specs.Reading.{got, stop, ◌>>=◌, blanks, value, field, begins_value, begins_field, tuple, template, argument, ending, out_line, rdp_line, operation, line}
-use Rattle.tuple_text.specs.declared.reader.Stop.TheVariants.{BadByte}
-use Rattle.tuple_text.proofs.Right.{Limits, both, levels, no_limits, RightAs, right_on, then_right, nothing_passed}
+use Rattle.tuple_text.specs.Lines.{EachLeaf, LineText, name, arguments, ArgumentsText}
+use Rattle.tuple_text.specs.Faults.{KeepsCount, KeepsLevels, KeepsBoth, EndsTooLong, ArgumentsClosed, argument_lengths}
+use Rattle.tuple_text.specs.Reading.{◌>>=◌, nothing, look, blanks, positive, datum, slot, begins_datum, begins_slot, tuple, template, argument, ended, out_line, inp_line, cas_line, rdp_line, all_line, rd_line, operation, line}
+use Rattle.tuple_text.proofs.Right.{Limits, both, levels, no_limits, RightTo, Never, then_to, look_right, nothing_right}
 use Rattle.tuple_text.proofs.Blanks.{ArePassed, BeginsBlanks, blanks_right}
-use Rattle.tuple_text.proofs.Endings.{Each}
-use Rattle.tuple_text.proofs.Leaves.{ValueIs, FieldIs, value_right, value_starts, field_right, field_starts}
-use Rattle.tuple_text.proofs.Arguments.{IsList, some_list, list_right, Begins, IsThen, argument_then, IsDone, done_right, IsNamed, named_right}
+use Rattle.tuple_text.proofs.Numbers.{IsPositive, positive_right}
+use Rattle.tuple_text.proofs.Levels.{OneIs, Fits, Overflows, each_weaker, each_leaf, each_levels, each_counted, each_map, are_items, are_covered}
+use Rattle.tuple_text.proofs.Leaves.{IsRead, IsReadSlot, datum_right, datum_starts, some_datum, slot_right, slot_starts, some_slot}
+use Rattle.tuple_text.proofs.Plain.{whole_seen}
+use Rattle.tuple_text.proofs.Lists.{IsList, IsKept, IsLong, some_list}
+use Rattle.tuple_text.proofs.Nested.{whole_right}
+use Rattle.tuple_text.proofs.Arguments.{Begins, Then, LongThen, some_then, argument_then, IsDone, done_right, named_to}
 
-abbrev pub IsValues : Limits → TupleTree → List ℕ → Type 0
-IsValues = IsList datum_text ValueIs
+abbrev pub KeepsTree : {L : Type 0} → Limits → Items L → Type 0
+KeepsTree both t = (levels_of t ≤ 8) × KeepsCount t
+KeepsTree levels t = levels_of t ≤ 8
+KeepsTree no_limits t = Unit {0}
 
-abbrev pub IsFields : Limits → TemplateTree → List ℕ → Type 0
-IsFields = IsList slot_text FieldIs
+-- What a list that is read says of its tree.
+module _ {L : Type 0} (leaf_text : L → List ℕ) (IsLeaf Covers : L → Type 0) (length_of : L → ℕ) where
+  abbrev pub Readable : L → Type 0
+  Readable x = IsLeaf x × Covers x
 
-pub some_values : (c : Limits) → (t : TupleTree) × (w : List ℕ) × IsValues c t w
-some_values c = (none, 40 ∷ 41 ∷ [], some_list datum_text ValueIs c)
+  abbrev pub TreeIs : Limits → Items L → List ℕ → Type 0
+  TreeIs c t w = IsList leaf_text (OneIs Readable 7) c t w
 
-pub some_fields : (c : Limits) → (p : TemplateTree) × (w : List ℕ) × IsFields c p w
-some_fields c = (none, 40 ∷ 41 ∷ [], some_list slot_text FieldIs c)
+  abbrev pub KeptTree : Items L → List ℕ → Type 0
+  KeptTree t w = IsKept leaf_text (OneIs Readable 7) (Fits length_of) t w
 
-value_weaker : (c : Limits) (x : Item Datum) → ValueIs both x → ValueIs c x
-value_weaker c (leaf (number n)) h = h
-value_weaker c (leaf (text s)) h = h
-value_weaker c (leaf (bytes s)) h = h
-value_weaker c (leaf (truth b)) h = h
-value_weaker c (inner xs) h = h
+  abbrev pub LongTree : List ℕ → Type 0
+  LongTree w = IsLong leaf_text (OneIs Readable 7) (Overflows length_of) w
 
-field_weaker : (c : Limits) (x : Item Slot) → FieldIs both x → FieldIs c x
-field_weaker c (leaf (actual (number n))) h = h
-field_weaker c (leaf (actual (text s))) h = h
-field_weaker c (leaf (actual (bytes s))) h = h
-field_weaker c (leaf (actual (truth b))) h = h
-field_weaker c (leaf any) h = h
-field_weaker c (leaf (formal kinds.Number)) h = h
-field_weaker c (leaf (formal kinds.Text)) h = h
-field_weaker c (leaf (formal kinds.Bytes)) h = h
-field_weaker c (leaf (formal kinds.Truth)) h = h
-field_weaker c (leaf (formal kinds.Tuple)) h = h
-field_weaker c (inner xs) h = h
+  abbrev pub Argument : Items L → List ℕ → Type 0
+  Argument t w = WholeText leaf_text t w × EachLeaf IsLeaf t
 
-each_weaker : {L : Type 0} → (OneIs : Limits → Item L → Type 0) → ((c : Limits) (x : Item L) → OneIs both x → OneIs c x) → (c : Limits) (t : Items L) → Each (OneIs both) t → Each (OneIs c) t
-each_weaker OneIs k c none h = tt
-each_weaker OneIs k c (item x xs) h = (k c x h.0, each_weaker OneIs k c xs h.1)
+  pub tree_weaker : (c : Limits) (t : Items L) (w : List ℕ) → KeptTree t w → TreeIs c t w
+  tree_weaker both t w h = h.0
+  tree_weaker levels t w h = record { text = h.0.text; each = each_weaker Readable 7 levels t h.0.each; count = tt }
+  tree_weaker no_limits t w h = record { text = h.0.text; each = each_weaker Readable 7 no_limits t h.0.each; count = tt }
 
-list_weaker : {L : Type 0} → (leaf_text : L → List ℕ) (OneIs : Limits → Item L → Type 0) → ((c : Limits) (x : Item L) → OneIs both x → OneIs c x) → (c : Limits) (t : Items L) (w : List ℕ) → IsList leaf_text OneIs both t w → IsList leaf_text OneIs c t w
-list_weaker leaf_text OneIs k both t w h = h
-list_weaker leaf_text OneIs k levels t w h = record { text = h.text; each = each_weaker OneIs k levels t h.each; count = tt }
-list_weaker leaf_text OneIs k no_limits t w h = record { text = h.text; each = each_weaker OneIs k no_limits t h.each; count = tt }
+  pub some_tree : (c : Limits) → (t : Items L) × (w : List ℕ) × TreeIs c t w
+  some_tree c = (none, 40 ∷ 41 ∷ [], some_list leaf_text (OneIs Readable 7) c)
 
-pub tuple_right : (bs : List ℕ) → RightAs (IsValues both) (Begins IsValues) bs (tuple bs)
-tuple_right bs = list_right datum_text ValueIs begins_value value value_right value_weaker value_starts bs
+  pub tree_argument : (c : Limits) (t : Items L) (w : List ℕ) → TreeIs c t w → Argument t w
+  tree_argument c t w h = (h.text, each_map Readable IsLeaf (λ x k. k.0) t (each_leaf Readable 7 c t h.each))
 
-pub template_right : (bs : List ℕ) → RightAs (IsFields both) (Begins IsFields) bs (template bs)
-template_right bs = list_right slot_text FieldIs begins_field field field_right field_weaker field_starts bs
+  pub tree_covered : (c : Limits) (t : Items L) (w : List ℕ) → TreeIs c t w → AreCovered Covers t
+  tree_covered c t w h = are_covered Covers t (each_map Readable Covers (λ x k. k.1) t (each_leaf Readable 7 c t h.each))
 
-abbrev OutRest : Limits → Operation → List ℕ → Type 0
-OutRest = IsThen IsValues some_values (λ t. IsDone (out t))
+  pub tree_keeps : (c : Limits) (t : Items L) (w : List ℕ) → TreeIs c t w → KeepsTree c t
+  tree_keeps both t w h = (omega (arith, each_levels Readable 7 t (each_weaker Readable 7 levels t h.each)), (h.count, each_counted Readable 7 t h.each))
+  tree_keeps levels t w h = omega (arith, each_levels Readable 7 t h.each)
+  tree_keeps no_limits t w h = tt
 
-abbrev RdpRest : Limits → Operation → List ℕ → Type 0
-RdpRest = IsThen IsFields some_fields (λ p. IsDone (rdp p))
+  pub tree_within : (t : Items L) (w : List ℕ) → KeptTree t w → IsWithin IsLeaf length_of t
+  tree_within t w h = record {
+    fields = h.0.count;
+    levels = (tree_keeps both t w h.0).0;
+    length = h.1;
+    each = are_items IsLeaf t (tree_argument both t w h.0).1 (each_counted Readable 7 t h.0.each);
+  }
 
-abbrev pub OutLine : Limits → Operation → List ℕ → Type 0
-OutLine = IsNamed (codes "out") OutRest
+abbrev pub TupleIs : Limits → TupleTree → List ℕ → Type 0
+TupleIs = TreeIs datum_text IsDatum IsCoveredDatum datum_length
 
-abbrev pub RdpLine : Limits → Operation → List ℕ → Type 0
-RdpLine = IsNamed (codes "rdp") RdpRest
+abbrev pub KeptTuple : TupleTree → List ℕ → Type 0
+KeptTuple = KeptTree datum_text IsDatum IsCoveredDatum datum_length
 
-some_out : (c : Limits) → (o : Operation) × (w : List ℕ) × OutRest c o w
-some_out c = (out none, codes " ()", (none, codes " ()", [], refl, (32 ∷ [], codes "()", refl, (omega arith, (refl, tt)), some_list datum_text ValueIs c), (refl, tt)))
+abbrev pub LongTuple : List ℕ → Type 0
+LongTuple = LongTree datum_text IsDatum IsCoveredDatum datum_length
 
-some_rdp : (c : Limits) → (o : Operation) × (w : List ℕ) × RdpRest c o w
-some_rdp c = (rdp none, codes " ()", (none, codes " ()", [], refl, (32 ∷ [], codes "()", refl, (omega arith, (refl, tt)), some_list slot_text FieldIs c), (refl, tt)))
+abbrev pub TemplateIs : Limits → TemplateTree → List ℕ → Type 0
+TemplateIs = TreeIs slot_text IsSlot IsCoveredSlot slot_length
 
-out_right : (bs : List ℕ) → RightAs (OutLine both) (Begins OutLine) bs (out_line bs)
-unfolding out_line
-out_right bs =
-    named_right (codes "out") OutRest (λ behind. argument tuple behind >>= λ t rest. ending rest >>= λ _ last. got (out t) last) bs some_out
-    (λ behind. argument_then IsValues some_values (λ t. IsDone (out t)) tuple (λ t rest. ending rest >>= λ _ last. got (out t) last) behind
-    (λ t c. (out t, [], (refl, tt)))
-    (λ c t w h. (h.0, h.1, h.2, h.3, list_weaker datum_text ValueIs value_weaker c t h.1 h.4))
-    tuple_right (λ t rest. done_right (out t) rest))
+abbrev pub KeptTemplate : TemplateTree → List ℕ → Type 0
+KeptTemplate = KeptTree slot_text IsSlot IsCoveredSlot slot_length
 
-rdp_right : (bs : List ℕ) → RightAs (RdpLine both) (Begins RdpLine) bs (rdp_line bs)
-unfolding rdp_line
-rdp_right bs =
-    named_right (codes "rdp") RdpRest (λ behind. argument template behind >>= λ p rest. ending rest >>= λ _ last. got (rdp p) last) bs some_rdp
-    (λ behind. argument_then IsFields some_fields (λ p. IsDone (rdp p)) template (λ p rest. ending rest >>= λ _ last. got (rdp p) last) behind
-    (λ p c. (rdp p, [], (refl, tt)))
-    (λ c p w h. (h.0, h.1, h.2, h.3, list_weaker slot_text FieldIs field_weaker c p h.1 h.4))
-    template_right (λ p rest. done_right (rdp p) rest))
+abbrev pub LongTemplate : List ℕ → Type 0
+LongTemplate = LongTree slot_text IsSlot IsCoveredSlot slot_length
 
-abbrev pub AnyLine : Limits → Operation → List ℕ → Type 0
-AnyLine c o w = OutLine c o w ⊎ RdpLine c o w
+tuple_right : (bs : List ℕ) → RightTo KeptTuple (Begins TupleIs) LongTuple bs (tuple bs)
+tuple_right bs = subst (RightTo KeptTuple (Begins TupleIs) LongTuple bs) (sym (whole_seen datum_length begins_datum datum bs)) (whole_right datum_text IsRead begins_datum datum datum_right datum_starts some_datum datum_length bs)
 
-some_line : Begins AnyLine both []
-some_line = let s = some_out both in (s.0, codes "out" ++ s.1, inl (s.1, refl, s.2))
+template_right : (bs : List ℕ) → RightTo KeptTemplate (Begins TemplateIs) LongTemplate bs (template bs)
+template_right bs = subst (RightTo KeptTemplate (Begins TemplateIs) LongTemplate bs) (sym (whole_seen slot_length begins_slot slot bs)) (whole_right slot_text IsReadSlot begins_slot slot slot_right slot_starts some_slot slot_length bs)
 
-operation_case : (b : ℕ) (bs : List ℕ) (s t : Bool) → RightAs (AnyLine both) (Begins AnyLine) (b ∷ bs) (cond s (out_line (b ∷ bs)) (cond t (rdp_line (b ∷ bs)) (stop BadByte (b ∷ bs))))
-operation_case b bs true t = right_on (OutLine both) (Begins OutLine) (AnyLine both) (Begins AnyLine) [] (b ∷ bs) (out_line (b ∷ bs)) (λ o w h. inl h) (λ c w h. (h.0, h.1, inl h.2)) (out_right (b ∷ bs))
-operation_case b bs false true = right_on (RdpLine both) (Begins RdpLine) (AnyLine both) (Begins AnyLine) [] (b ∷ bs) (rdp_line (b ∷ bs)) (λ o w h. inr h) (λ c w h. (h.0, h.1, inr h.2)) (rdp_right (b ∷ bs))
-operation_case b bs false false = nothing_passed (Begins AnyLine) (b ∷ bs) some_line
-
-operation_right : (bs : List ℕ) → RightAs (AnyLine both) (Begins AnyLine) bs (operation bs)
-unfolding operation
-operation_right [] = nothing_passed (Begins AnyLine) [] some_line
-operation_right (b ∷ bs) = operation_case b bs (b == 111) (b == 114)
-
--- the line of an operation, within the limits
-abbrev pub WholeLine : Limits → Operation → List ℕ → Type 0
-WholeLine c o w = (lead rest : List ℕ) × (w ≡ lead ++ rest) × AreBlanks lead × AnyLine c o rest
-
-some_of : (c : Limits) → (o : Operation) × (w : List ℕ) × AnyLine c o w
-some_of c = let s = some_out c in (s.0, codes "out" ++ s.1, inl (s.1, refl, s.2))
-
-pub line_right : (bs : List ℕ) → RightAs (WholeLine both) (Begins WholeLine) bs (line bs)
-unfolding line
-line_right bs =
-    then_right (ArePassed true) BeginsBlanks (λ _. AnyLine both) (λ _. Begins AnyLine) (WholeLine both) (Begins WholeLine) bs (blanks true bs) (λ _ rest. operation rest)
-    (λ c w h. let s = some_of c in (s.0, s.1, (w, s.1, refl, h, s.2)))
-    (λ _ front h o w k. (front, w, refl, h.0, k))
-    (λ _ front h c w k. (k.0, k.1, (front, w ++ k.1, append_assoc front w k.1, h.0, k.2)))
-    (blanks_right true bs) (λ _ rest. operation_right rest)
-
--- What each item says of the whole list.
-pub record Plain {L : Type 0} (IsLeaf : L → Type 0) (Covers : L → Type 0) (length_of : L → ℕ) (t : Items L) : Type 0 where
-  pub leaves : EachLeaf IsLeaf t
-  pub covered : AreCovered Covers t
-  pub items : AreItems IsLeaf t
-  pub counts : AreItems (λ _. Unit {0}) t
-  pub flat : levels_in t ≡ 0
-  pub short : length_in length_of t ≤ 9 * how_many t
-
-plain_none : {L : Type 0} → (IsLeaf : L → Type 0) (Covers : L → Type 0) (length_of : L → ℕ) → Plain IsLeaf Covers length_of none
-plain_none IsLeaf Covers length_of = record { leaves = tt; covered = tt; items = tt; counts = tt; flat = refl; short = omega arith }
-
-plain_more : {L : Type 0} → (IsLeaf : L → Type 0) (Covers : L → Type 0) (length_of : L → ℕ) (x : L) (t : Items L) → IsLeaf x → Covers x → length_of x ≤ 9 → Plain IsLeaf Covers length_of t → Plain IsLeaf Covers length_of (item (leaf x) t)
-plain_more IsLeaf Covers length_of x t p q r h = record {
-  leaves = (p, h.leaves);
-  covered = (q, h.covered);
-  items = (p, h.items);
-  counts = (tt, h.counts);
-  flat = omega (arith, h.flat);
-  short = omega (arith, h.short);
-}
-
-pub values_plain : (c : Limits) (t : TupleTree) → Each (ValueIs c) t → Plain IsDatum IsCoveredDatum datum_length t
-values_plain c none h = plain_none IsDatum IsCoveredDatum datum_length
-values_plain c (item (leaf (number n)) t) h = plain_more IsDatum IsCoveredDatum datum_length (number n) t h.0 tt (omega arith) (values_plain c t h.1)
-values_plain c (item (leaf (text s)) t) h = absurd h.0
-values_plain c (item (leaf (bytes s)) t) h = absurd h.0
-values_plain c (item (leaf (truth b)) t) h = absurd h.0
-values_plain c (item (inner xs) t) h = absurd h.0
-
-pub fields_plain : (c : Limits) (t : TemplateTree) → Each (FieldIs c) t → Plain IsSlot IsCoveredSlot slot_length t
-fields_plain c none h = plain_none IsSlot IsCoveredSlot slot_length
-fields_plain c (item (leaf (actual (number n))) t) h = plain_more IsSlot IsCoveredSlot slot_length (actual (number n)) t h.0 tt (omega arith) (fields_plain c t h.1)
-fields_plain c (item (leaf (actual (text s))) t) h = absurd h.0
-fields_plain c (item (leaf (actual (bytes s))) t) h = absurd h.0
-fields_plain c (item (leaf (actual (truth b))) t) h = absurd h.0
-fields_plain c (item (leaf any) t) h = plain_more IsSlot IsCoveredSlot slot_length any t tt tt (omega arith) (fields_plain c t h.1)
-fields_plain c (item (leaf (formal kinds.Number)) t) h = plain_more IsSlot IsCoveredSlot slot_length (formal kinds.Number) t tt tt (omega arith) (fields_plain c t h.1)
-fields_plain c (item (leaf (formal kinds.Text)) t) h = absurd h.0
-fields_plain c (item (leaf (formal kinds.Bytes)) t) h = absurd h.0
-fields_plain c (item (leaf (formal kinds.Truth)) t) h = absurd h.0
-fields_plain c (item (leaf (formal kinds.Tuple)) t) h = absurd h.0
-fields_plain c (item (inner xs) t) h = absurd h.0
-
--- what the limits c say of an operation
 abbrev pub Keeps : Limits → Operation → Type 0
 Keeps both o = KeepsBoth o
 Keeps levels o = KeepsLevels o
 Keeps no_limits o = Unit {0}
 
--- The line's text, that it is covered, and the limits.
-pub record Lined (c : Limits) (o : Operation) (w : List ℕ) : Type 0 where
-  pub text : LineText o w
-  pub covered : IsCovered o
-  pub keeps : Keeps c o
+-- the operation's name and arguments
+abbrev Named : Operation → List ℕ → Type 0
+Named o w = (rest : List ℕ) × (w ≡ name o ++ rest) × ArgumentsText (arguments o) rest
 
-keeps_out : (c : Limits) (t : TupleTree) (w : List ℕ) → IsValues c t w → Keeps c (out t)
-keeps_out both t w h = let p = values_plain both t h.each in (omega (arith, p.flat), (h.count, p.counts))
-keeps_out levels t w h = let p = values_plain levels t h.each in omega (arith, p.flat)
-keeps_out no_limits t w h = tt
+abbrev Good : Operation → List ℕ → Type 0
+Good o w = Named o w × IsCovered o × IsOperation o
 
-keeps_rdp : (c : Limits) (p : TemplateTree) (w : List ℕ) → IsFields c p w → Keeps c (rdp p)
-keeps_rdp both t w h = let p = fields_plain both t h.each in (omega (arith, p.flat), (h.count, p.counts))
-keeps_rdp levels t w h = let p = fields_plain levels t h.each in omega (arith, p.flat)
-keeps_rdp no_limits t w h = tt
+abbrev Limited : Limits → Operation → List ℕ → Type 0
+Limited c o w = Named o w × IsCovered o × Keeps c o
 
-argued : (space l front r rest : List ℕ) → rest ≡ front ++ r → front ≡ space ++ l → rest ≡ space ++ (l ++ r)
-argued space l front r rest e f = e ∙ ap (λ t. t ++ r) f ∙ append_assoc space l r
+abbrev TooLongBehind : List ℕ → Type 0
+TooLongBehind w =
+    (o : Operation) × (k : ℕ) × (rest : List ℕ) × (w ≡ name o ++ rest) × IsCovered o × ArgumentsClosed (take (k + 1) (arguments o)) rest × (k < length (arguments o)) × (1024 < slice_index (argument_lengths o) k)
 
-out_lined : (c : Limits) (o : Operation) (lead w : List ℕ) → AreBlanks lead → OutLine c o w → Lined c o (lead ++ w)
-out_lined c o lead w b h =
-    let a = h.2 in
-    let t = a.0 in
-    let k = a.4 in
-    let p = values_plain c t k.4.each in
-    let l : Lined c (out t) (lead ++ w) = record {
-      text = (lead, h.0, ap (λ s. lead ++ s) h.1, b, (k.0, k.1, a.2, argued k.0 k.1 a.1 a.2 h.0 a.3 k.2, k.3, (k.4.text, p.leaves), a.5.1));
-      covered = p.covered;
-      keeps = keeps_out c t k.1 k.4;
-    } in
-    subst (λ x. Lined c x (lead ++ w)) (sym a.5.0) l
+argued : (space l front r w : List ℕ) → w ≡ front ++ r → front ≡ space ++ l → w ≡ space ++ (l ++ r)
+argued space l front r w e f = e ∙ ap (λ t. t ++ r) f ∙ append_assoc space l r
 
-rdp_lined : (c : Limits) (o : Operation) (lead w : List ℕ) → AreBlanks lead → RdpLine c o w → Lined c o (lead ++ w)
-rdp_lined c o lead w b h =
-    let a = h.2 in
-    let t = a.0 in
-    let k = a.4 in
-    let p = fields_plain c t k.4.each in
-    let l : Lined c (rdp t) (lead ++ w) = record {
-      text = (lead, h.0, ap (λ s. lead ++ s) h.1, b, (k.0, k.1, a.2, argued k.0 k.1 a.1 a.2 h.0 a.3 k.2, k.3, (k.4.text, p.leaves), a.5.1));
-      covered = p.covered;
-      keeps = keeps_rdp c t k.1 k.4;
-    } in
-    subst (λ x. Lined c x (lead ++ w)) (sym a.5.0) l
+last_argued : (space l w : List ℕ) → w ≡ space ++ l → w ≡ space ++ (l ++ [])
+last_argued space l w e = e ∙ ap (λ t. space ++ t) (sym (append-nil l))
 
-pub lined : (c : Limits) (o : Operation) (lead w : List ℕ) → AreBlanks lead → AnyLine c o w → Lined c o (lead ++ w)
-lined c o lead w b (inl h) = out_lined c o lead w b h
-lined c o lead w b (inr h) = rdp_lined c o lead w b h
+-- The text of one argument, and of two, from what reading says of them.
+one_text : {V : Type 0} → (P : V → List ℕ → Type 0) (A : V → List ℕ → Type 0) (k : V → Operation) → ((v : V) (w : List ℕ) → P v w → A v w) → (o : Operation) (w : List ℕ) → (h : Then P (λ v. IsDone (k v)) o w) → ArgumentsText (A h.0 ∷ []) w
+one_text P A k f o w h = let a = h.4 in (a.0, a.1, h.2, argued a.0 a.1 h.1 h.2 w h.3 a.2, a.3, f h.0 a.1 a.4, h.5.1)
 
-pub whole_lined : (c : Limits) (o : Operation) (w : List ℕ) → WholeLine c o w → Lined c o w
-whole_lined c o w h = subst (Lined c o) (sym h.2) (lined c o h.0 h.1 h.3 h.4)
+two_text : {V W : Type 0} → (P : V → List ℕ → Type 0) (A : V → List ℕ → Type 0) (Q : W → List ℕ → Type 0) (B : W → List ℕ → Type 0) (k : V → W → Operation) → ((v : V) (w : List ℕ) → P v w → A v w) → ((v : W) (w : List ℕ) → Q v w → B v w)
+    → (o : Operation) (w : List ℕ) → (h : Then P (λ v. Then Q (λ x. IsDone (k v x))) o w) → ArgumentsText (A h.0 ∷ B h.5.0 ∷ []) w
+two_text P A Q B k f g o w h = let a = h.4 in (a.0, a.1, h.2, argued a.0 a.1 h.1 h.2 w h.3 a.2, a.3, f h.0 a.1 a.4, one_text Q B (k h.0) g o h.2 h.5)
 
-tuple_within : (t : TupleTree) → how_many t ≤ 32 → Plain IsDatum IsCoveredDatum datum_length t → IsTuple t
-tuple_within t h p = record { fields = h; levels = omega (arith, p.flat); length = omega (arith, p.short); each = p.items }
+tuple_text : (c : Limits) (t : TupleTree) (w : List ℕ) → TupleIs c t w → Argument datum_text IsDatum IsCoveredDatum datum_length t w
+tuple_text = tree_argument datum_text IsDatum IsCoveredDatum datum_length
 
-template_within : (t : TemplateTree) → how_many t ≤ 32 → Plain IsSlot IsCoveredSlot slot_length t → IsTemplate t
-template_within t h p = record { fields = h; levels = omega (arith, p.flat); length = omega (arith, p.short); each = p.items }
+template_text : (c : Limits) (p : TemplateTree) (w : List ℕ) → TemplateIs c p w → Argument slot_text IsSlot IsCoveredSlot slot_length p w
+template_text = tree_argument slot_text IsSlot IsCoveredSlot slot_length
 
-out_within : (o : Operation) (w : List ℕ) → OutLine both o w → IsOperation o
-out_within o w h = let k = h.2.4.4 in subst IsOperation (sym h.2.5.0) (tuple_within h.2.0 k.count (values_plain both h.2.0 k.each))
+tuple_covered : (c : Limits) (t : TupleTree) (w : List ℕ) → TupleIs c t w → AreCovered IsCoveredDatum t
+tuple_covered = tree_covered datum_text IsDatum IsCoveredDatum datum_length
 
-rdp_within : (o : Operation) (w : List ℕ) → RdpLine both o w → IsOperation o
-rdp_within o w h = let k = h.2.4.4 in subst IsOperation (sym h.2.5.0) (template_within h.2.0 k.count (fields_plain both h.2.0 k.each))
+template_covered : (c : Limits) (p : TemplateTree) (w : List ℕ) → TemplateIs c p w → AreCovered IsCoveredSlot p
+template_covered = tree_covered slot_text IsSlot IsCoveredSlot slot_length
 
-pub any_within : (o : Operation) (w : List ℕ) → AnyLine both o w → IsOperation o
-any_within o w (inl h) = out_within o w h
-any_within o w (inr h) = rdp_within o w h
+tuple_keeps : (c : Limits) (t : TupleTree) (w : List ℕ) → TupleIs c t w → KeepsTree c t
+tuple_keeps = tree_keeps datum_text IsDatum IsCoveredDatum datum_length
+
+template_keeps : (c : Limits) (p : TemplateTree) (w : List ℕ) → TemplateIs c p w → KeepsTree c p
+template_keeps = tree_keeps slot_text IsSlot IsCoveredSlot slot_length
+
+-- out
+abbrev OutIs : (TupleTree → List ℕ → Type 0) → Operation → List ℕ → Type 0
+OutIs P = Then P (λ t. IsDone (out t))
+
+keeps_out : (c : Limits) (t : TupleTree) → KeepsTree c t → Keeps c (out t)
+keeps_out both t h = h
+keeps_out levels t h = h
+keeps_out no_limits t h = tt
+
+out_limited : (c : Limits) (o : Operation) (w : List ℕ) → OutIs (TupleIs c) o w → Limited c o (codes "out" ++ w)
+out_limited c o w h =
+    let l : Limited c (out h.0) (codes "out" ++ w) = ((w, refl, one_text (TupleIs c) (Argument datum_text IsDatum IsCoveredDatum datum_length) out (tuple_text c) o w h), tuple_covered c h.0 h.4.1 h.4.4, keeps_out c h.0 (tuple_keeps c h.0 h.4.1 h.4.4)) in
+    subst (λ x. Limited c x (codes "out" ++ w)) (sym h.5.0) l
+
+out_good : (o : Operation) (w : List ℕ) → OutIs KeptTuple o w → Good o (codes "out" ++ w)
+out_good o w h =
+    let l : Good (out h.0) (codes "out" ++ w) = (
+      (w, refl, one_text KeptTuple (Argument datum_text IsDatum IsCoveredDatum datum_length) out (λ t w k. tuple_text both t w k.0) o w h),
+      tuple_covered both h.0 h.4.1 h.4.4.0,
+      tree_within datum_text IsDatum IsCoveredDatum datum_length h.0 h.4.1 h.4.4,
+    ) in
+    subst (λ x. Good x (codes "out" ++ w)) (sym h.5.0) l
+
+out_long : (w : List ℕ) → LongThen KeptTuple LongTuple (λ t. Never) w → TooLongBehind (codes "out" ++ w)
+out_long w (inl h) =
+    let l = h.4 in
+    (out l.0, 0, w, refl, tuple_covered both l.0 h.1 l.1, (h.0, h.1, [], last_argued h.0 h.1 w h.2, h.3, tuple_text both l.0 h.1 l.1, refl), omega arith, l.2)
+out_long w (inr h) = absurd h.5
+
+some_out : (c : Limits) → (o : Operation) × (w : List ℕ) × OutIs (TupleIs c) o w
+some_out c =
+    some_then KeptTuple TupleIs LongTuple (some_tree datum_text IsDatum IsCoveredDatum datum_length) (tree_weaker datum_text IsDatum IsCoveredDatum datum_length) (λ t. IsDone (out t)) (λ t c. IsDone (out t)) (λ t. Never) c (λ t. (out t, [], (refl, tt)))
+
+tuple_last : (k : TupleTree → Operation) (bs : List ℕ) → RightTo (Then KeptTuple (λ t. IsDone (k t))) (Begins (λ c. Then (TupleIs c) (λ t. IsDone (k t)))) (LongThen KeptTuple LongTuple (λ t. Never)) bs (argument tuple bs >>= λ t rest. ended (k t) rest)
+tuple_last k bs =
+    argument_then KeptTuple TupleIs LongTuple (some_tree datum_text IsDatum IsCoveredDatum datum_length) (tree_weaker datum_text IsDatum IsCoveredDatum datum_length) (λ t. IsDone (k t)) (λ t c. IsDone (k t)) (λ t. Never)
+    tuple (λ t rest. ended (k t) rest) bs (λ t c. (k t, [], (refl, tt))) tuple_right (λ t rest. done_right (k t) rest)
+
+template_last : (k : TemplateTree → Operation) (bs : List ℕ) → RightTo (Then KeptTemplate (λ p. IsDone (k p))) (Begins (λ c. Then (TemplateIs c) (λ p. IsDone (k p)))) (LongThen KeptTemplate LongTemplate (λ p. Never)) bs (argument template bs >>= λ p rest. ended (k p) rest)
+template_last k bs =
+    argument_then KeptTemplate TemplateIs LongTemplate (some_tree slot_text IsSlot IsCoveredSlot slot_length) (tree_weaker slot_text IsSlot IsCoveredSlot slot_length) (λ p. IsDone (k p)) (λ p c. IsDone (k p)) (λ p. Never)
+    template (λ p rest. ended (k p) rest) bs (λ p c. (k p, [], (refl, tt))) template_right (λ p rest. done_right (k p) rest)
+
+out_right : (bs : List ℕ) → RightTo Good (Begins Limited) TooLongBehind bs (out_line bs)
+unfolding out_line
+out_right bs =
+    named_to Good Limited TooLongBehind [] (codes "out") (OutIs KeptTuple) (λ c. OutIs (TupleIs c)) (LongThen KeptTuple LongTuple (λ t. Never)) out_good out_limited out_long some_out
+    (λ behind. argument tuple behind >>= λ t rest. ended (out t) rest) (tuple_last out) bs
+
+-- inp, and rdp behind its first letters
+abbrev TakesIs : (TemplateTree → Operation) → (TemplateTree → List ℕ → Type 0) → Operation → List ℕ → Type 0
+TakesIs k P = Then P (λ p. IsDone (k p))
+
+some_takes : (k : TemplateTree → Operation) (c : Limits) → (o : Operation) × (w : List ℕ) × TakesIs k (TemplateIs c) o w
+some_takes k c =
+    some_then KeptTemplate TemplateIs LongTemplate (some_tree slot_text IsSlot IsCoveredSlot slot_length) (tree_weaker slot_text IsSlot IsCoveredSlot slot_length) (λ p. IsDone (k p)) (λ p c. IsDone (k p)) (λ p. Never) c (λ p. (k p, [], (refl, tt)))
+
+takes_text : (c : Limits) (k : TemplateTree → Operation) (o : Operation) (w : List ℕ) → (h : TakesIs k (TemplateIs c) o w) → ArgumentsText (Argument slot_text IsSlot IsCoveredSlot slot_length h.0 ∷ []) w
+takes_text c k o w h = one_text (TemplateIs c) (Argument slot_text IsSlot IsCoveredSlot slot_length) k (template_text c) o w h
+
+kept_text : (k : TemplateTree → Operation) (o : Operation) (w : List ℕ) → (h : TakesIs k KeptTemplate o w) → ArgumentsText (Argument slot_text IsSlot IsCoveredSlot slot_length h.0 ∷ []) w
+kept_text k o w h = one_text KeptTemplate (Argument slot_text IsSlot IsCoveredSlot slot_length) k (λ p w k. template_text both p w k.0) o w h
+
+keeps_inp : (c : Limits) (p : TemplateTree) → KeepsTree c p → Keeps c (inp p)
+keeps_inp both p h = h
+keeps_inp levels p h = h
+keeps_inp no_limits p h = tt
+
+inp_limited : (c : Limits) (o : Operation) (w : List ℕ) → TakesIs inp (TemplateIs c) o w → Limited c o (codes "inp" ++ w)
+inp_limited c o w h =
+    let l : Limited c (inp h.0) (codes "inp" ++ w) = ((w, refl, takes_text c inp o w h), template_covered c h.0 h.4.1 h.4.4, keeps_inp c h.0 (template_keeps c h.0 h.4.1 h.4.4)) in
+    subst (λ x. Limited c x (codes "inp" ++ w)) (sym h.5.0) l
+
+inp_good : (o : Operation) (w : List ℕ) → TakesIs inp KeptTemplate o w → Good o (codes "inp" ++ w)
+inp_good o w h =
+    let l : Good (inp h.0) (codes "inp" ++ w) = ((w, refl, kept_text inp o w h), template_covered both h.0 h.4.1 h.4.4.0, tree_within slot_text IsSlot IsCoveredSlot slot_length h.0 h.4.1 h.4.4) in
+    subst (λ x. Good x (codes "inp" ++ w)) (sym h.5.0) l
+
+inp_long : (w : List ℕ) → LongThen KeptTemplate LongTemplate (λ p. Never) w → TooLongBehind (codes "inp" ++ w)
+inp_long w (inl h) =
+    let l = h.4 in
+    (inp l.0, 0, w, refl, template_covered both l.0 h.1 l.1, (h.0, h.1, [], last_argued h.0 h.1 w h.2, h.3, template_text both l.0 h.1 l.1, refl), omega arith, l.2)
+inp_long w (inr h) = absurd h.5
+
+inp_right : (bs : List ℕ) → RightTo Good (Begins Limited) TooLongBehind bs (inp_line bs)
+unfolding inp_line
+inp_right bs =
+    named_to Good Limited TooLongBehind [] (codes "inp") (TakesIs inp KeptTemplate) (λ c. TakesIs inp (TemplateIs c)) (LongThen KeptTemplate LongTemplate (λ p. Never)) inp_good inp_limited inp_long (some_takes inp)
+    (λ behind. argument template behind >>= λ p rest. ended (inp p) rest) (template_last inp) bs
+
+keeps_rdp : (c : Limits) (p : TemplateTree) → KeepsTree c p → Keeps c (rdp p)
+keeps_rdp both p h = h
+keeps_rdp levels p h = h
+keeps_rdp no_limits p h = tt
+
+rdp_limited : (c : Limits) (o : Operation) (w : List ℕ) → TakesIs rdp (TemplateIs c) o w → Limited c o (codes "rd" ++ (codes "p" ++ w))
+rdp_limited c o w h =
+    let l : Limited c (rdp h.0) (codes "rd" ++ (codes "p" ++ w)) = ((w, refl, takes_text c rdp o w h), template_covered c h.0 h.4.1 h.4.4, keeps_rdp c h.0 (template_keeps c h.0 h.4.1 h.4.4)) in
+    subst (λ x. Limited c x (codes "rd" ++ (codes "p" ++ w))) (sym h.5.0) l
+
+rdp_good : (o : Operation) (w : List ℕ) → TakesIs rdp KeptTemplate o w → Good o (codes "rd" ++ (codes "p" ++ w))
+rdp_good o w h =
+    let l : Good (rdp h.0) (codes "rd" ++ (codes "p" ++ w)) = ((w, refl, kept_text rdp o w h), template_covered both h.0 h.4.1 h.4.4.0, tree_within slot_text IsSlot IsCoveredSlot slot_length h.0 h.4.1 h.4.4) in
+    subst (λ x. Good x (codes "rd" ++ (codes "p" ++ w))) (sym h.5.0) l
+
+rdp_long : (w : List ℕ) → LongThen KeptTemplate LongTemplate (λ p. Never) w → TooLongBehind (codes "rd" ++ (codes "p" ++ w))
+rdp_long w (inl h) =
+    let l = h.4 in
+    (rdp l.0, 0, w, refl, template_covered both l.0 h.1 l.1, (h.0, h.1, [], last_argued h.0 h.1 w h.2, h.3, template_text both l.0 h.1 l.1, refl), omega arith, l.2)
+rdp_long w (inr h) = absurd h.5
+
+rdp_right : (bs : List ℕ) → RightTo (λ o w. Good o (codes "rd" ++ w)) (λ c w. Begins Limited c (codes "rd" ++ w)) (λ w. TooLongBehind (codes "rd" ++ w)) bs (rdp_line bs)
+unfolding rdp_line
+rdp_right bs =
+    named_to Good Limited TooLongBehind (codes "rd") (codes "p") (TakesIs rdp KeptTemplate) (λ c. TakesIs rdp (TemplateIs c)) (LongThen KeptTemplate LongTemplate (λ p. Never)) rdp_good rdp_limited rdp_long (some_takes rdp)
+    (λ behind. argument template behind >>= λ p rest. ended (rdp p) rest) (template_last rdp) bs
+
+-- rdAll behind its first letters: a count and a template
+abbrev AllIs : (TemplateTree → List ℕ → Type 0) → Operation → List ℕ → Type 0
+AllIs P = Then (IsPositive 64) (λ n. Then P (λ p. IsDone (rd_all n p)))
+
+abbrev LongAll : List ℕ → Type 0
+LongAll = LongThen (IsPositive 64) Never (λ n. LongThen KeptTemplate LongTemplate (λ p. Never))
+
+some_count : (c : Limits) → (n : ℕ) × (w : List ℕ) × IsPositive 64 n w
+some_count c = (1, decimal 1, (refl, omega arith, omega arith))
+
+some_all : (c : Limits) → (o : Operation) × (w : List ℕ) × AllIs (TemplateIs c) o w
+some_all c =
+    some_then (IsPositive 64) (λ c. IsPositive 64) Never some_count (λ c n w h. h) (λ n. Then KeptTemplate (λ p. IsDone (rd_all n p))) (λ n c. Then (TemplateIs c) (λ p. IsDone (rd_all n p))) (λ n. LongThen KeptTemplate LongTemplate (λ p. Never)) c
+    (λ n. some_takes (rd_all n) c)
+
+keeps_all : (c : Limits) (n : ℕ) (p : TemplateTree) → KeepsTree c p → Keeps c (rd_all n p)
+keeps_all both n p h = h
+keeps_all levels n p h = h
+keeps_all no_limits n p h = tt
+
+all_limited : (c : Limits) (o : Operation) (w : List ℕ) → AllIs (TemplateIs c) o w → Limited c o (codes "rd" ++ (codes "All" ++ w))
+all_limited c o w h =
+    let m = h.5 in
+    let l : Limited c (rd_all h.0 m.0) (codes "rd" ++ (codes "All" ++ w)) =
+    ((w, refl, two_text (IsPositive 64) (IsPositive 64) (TemplateIs c) (Argument slot_text IsSlot IsCoveredSlot slot_length) rd_all (λ n w k. k) (template_text c) o w h), template_covered c m.0 m.4.1 m.4.4, keeps_all c h.0 m.0 (template_keeps c m.0 m.4.1 m.4.4)) in
+    subst (λ x. Limited c x (codes "rd" ++ (codes "All" ++ w))) (sym m.5.0) l
+
+all_good : (o : Operation) (w : List ℕ) → AllIs KeptTemplate o w → Good o (codes "rd" ++ (codes "All" ++ w))
+all_good o w h =
+    let m = h.5 in
+    let n = h.4.4 in
+    let l : Good (rd_all h.0 m.0) (codes "rd" ++ (codes "All" ++ w)) = (
+      (w, refl, two_text (IsPositive 64) (IsPositive 64) KeptTemplate (Argument slot_text IsSlot IsCoveredSlot slot_length) rd_all (λ n w k. k) (λ p w k. template_text both p w k.0) o w h),
+      template_covered both m.0 m.4.1 m.4.4.0,
+      (n.1, n.2, tree_within slot_text IsSlot IsCoveredSlot slot_length m.0 m.4.1 m.4.4),
+    ) in
+    subst (λ x. Good x (codes "rd" ++ (codes "All" ++ w))) (sym m.5.0) l
+
+all_long : (w : List ℕ) → LongAll w → TooLongBehind (codes "rd" ++ (codes "All" ++ w))
+all_long w (inl h) = absurd h.4
+all_long w (inr h) = elim h.5 [
+  | inl m ↦
+      let a = h.4 in
+      let l = m.4 in (
+        rd_all h.0 l.0,
+        1,
+        w,
+        refl,
+        template_covered both l.0 m.1 l.1,
+        (a.0, a.1, h.2, argued a.0 a.1 h.1 h.2 w h.3 a.2, a.3, a.4, (m.0, m.1, [], last_argued m.0 m.1 h.2 m.2, m.3, template_text both l.0 m.1 l.1, refl)),
+        omega arith,
+        l.2,
+      )
+  | inr m ↦ absurd m.5
+]
+
+all_right : (bs : List ℕ) → RightTo (λ o w. Good o (codes "rd" ++ w)) (λ c w. Begins Limited c (codes "rd" ++ w)) (λ w. TooLongBehind (codes "rd" ++ w)) bs (all_line bs)
+unfolding all_line
+all_right bs =
+    named_to Good Limited TooLongBehind (codes "rd") (codes "All") (AllIs KeptTemplate) (λ c. AllIs (TemplateIs c)) LongAll all_good all_limited all_long some_all
+    (λ behind. argument (positive 64) behind >>= λ n middle. argument template middle >>= λ p rest. ended (rd_all n p) rest)
+    (λ behind. argument_then (IsPositive 64) (λ c. IsPositive 64) Never some_count (λ c n w h. h) (λ n. Then KeptTemplate (λ p. IsDone (rd_all n p))) (λ n c. Then (TemplateIs c) (λ p. IsDone (rd_all n p))) (λ n. LongThen KeptTemplate LongTemplate (λ p. Never))
+    (positive 64) (λ n middle. argument template middle >>= λ p rest. ended (rd_all n p) rest) behind (λ n c. some_takes (rd_all n) c) (λ rest. positive_right 64 rest (omega arith) (omega arith)) (λ n rest. template_last (rd_all n) rest)) bs
+
+-- cas: a template and a tuple
+abbrev CasIs : (TemplateTree → List ℕ → Type 0) → (TupleTree → List ℕ → Type 0) → Operation → List ℕ → Type 0
+CasIs P Q = Then P (λ p. Then Q (λ t. IsDone (cas p t)))
+
+abbrev LongCas : List ℕ → Type 0
+LongCas = LongThen KeptTemplate LongTemplate (λ p. LongThen KeptTuple LongTuple (λ t. Never))
+
+some_last : (k : TupleTree → Operation) (c : Limits) → (o : Operation) × (w : List ℕ) × Then (TupleIs c) (λ t. IsDone (k t)) o w
+some_last k c =
+    some_then KeptTuple TupleIs LongTuple (some_tree datum_text IsDatum IsCoveredDatum datum_length) (tree_weaker datum_text IsDatum IsCoveredDatum datum_length) (λ t. IsDone (k t)) (λ t c. IsDone (k t)) (λ t. Never) c (λ t. (k t, [], (refl, tt)))
+
+some_cas : (c : Limits) → (o : Operation) × (w : List ℕ) × CasIs (TemplateIs c) (TupleIs c) o w
+some_cas c =
+    some_then KeptTemplate TemplateIs LongTemplate (some_tree slot_text IsSlot IsCoveredSlot slot_length) (tree_weaker slot_text IsSlot IsCoveredSlot slot_length) (λ p. Then KeptTuple (λ t. IsDone (cas p t))) (λ p c. Then (TupleIs c) (λ t. IsDone (cas p t))) (λ p. LongThen KeptTuple LongTuple (λ t. Never)) c
+    (λ p. some_last (cas p) c)
+
+keeps_cas : (c : Limits) (p : TemplateTree) (t : TupleTree) → KeepsTree c p → KeepsTree c t → Keeps c (cas p t)
+keeps_cas both p t h k = ((h.0, k.0), (h.1, k.1))
+keeps_cas levels p t h k = (h, k)
+keeps_cas no_limits p t h k = tt
+
+cas_limited : (c : Limits) (o : Operation) (w : List ℕ) → CasIs (TemplateIs c) (TupleIs c) o w → Limited c o (codes "cas" ++ w)
+cas_limited c o w h =
+    let m = h.5 in
+    let l : Limited c (cas h.0 m.0) (codes "cas" ++ w) = (
+      (w, refl, two_text (TemplateIs c) (Argument slot_text IsSlot IsCoveredSlot slot_length) (TupleIs c) (Argument datum_text IsDatum IsCoveredDatum datum_length) cas (template_text c) (tuple_text c) o w h),
+      (template_covered c h.0 h.4.1 h.4.4, tuple_covered c m.0 m.4.1 m.4.4),
+      keeps_cas c h.0 m.0 (template_keeps c h.0 h.4.1 h.4.4) (tuple_keeps c m.0 m.4.1 m.4.4),
+    ) in
+    subst (λ x. Limited c x (codes "cas" ++ w)) (sym m.5.0) l
+
+cas_good : (o : Operation) (w : List ℕ) → CasIs KeptTemplate KeptTuple o w → Good o (codes "cas" ++ w)
+cas_good o w h =
+    let m = h.5 in
+    let l : Good (cas h.0 m.0) (codes "cas" ++ w) = (
+      (w, refl, two_text KeptTemplate (Argument slot_text IsSlot IsCoveredSlot slot_length) KeptTuple (Argument datum_text IsDatum IsCoveredDatum datum_length) cas (λ p w k. template_text both p w k.0) (λ t w k. tuple_text both t w k.0) o w h),
+      (template_covered both h.0 h.4.1 h.4.4.0, tuple_covered both m.0 m.4.1 m.4.4.0),
+      (tree_within slot_text IsSlot IsCoveredSlot slot_length h.0 h.4.1 h.4.4, tree_within datum_text IsDatum IsCoveredDatum datum_length m.0 m.4.1 m.4.4),
+    ) in
+    subst (λ x. Good x (codes "cas" ++ w)) (sym m.5.0) l
+
+cas_long : (w : List ℕ) → LongCas w → TooLongBehind (codes "cas" ++ w)
+cas_long w (inl h) =
+    let l = h.4 in
+    (cas l.0 none, 0, w, refl, (template_covered both l.0 h.1 l.1, tt), (h.0, h.1, [], last_argued h.0 h.1 w h.2, h.3, template_text both l.0 h.1 l.1, refl), omega arith, l.2)
+cas_long w (inr h) = elim h.5 [
+  | inl m ↦
+      let a = h.4 in
+      let l = m.4 in (
+        cas h.0 l.0,
+        1,
+        w,
+        refl,
+        (template_covered both h.0 a.1 a.4.0, tuple_covered both l.0 m.1 l.1),
+        (a.0, a.1, h.2, argued a.0 a.1 h.1 h.2 w h.3 a.2, a.3, template_text both h.0 a.1 a.4.0, (m.0, m.1, [], last_argued m.0 m.1 h.2 m.2, m.3, tuple_text both l.0 m.1 l.1, refl)),
+        omega arith,
+        l.2,
+      )
+  | inr m ↦ absurd m.5
+]
+
+cas_right : (bs : List ℕ) → RightTo Good (Begins Limited) TooLongBehind bs (cas_line bs)
+unfolding cas_line
+cas_right bs =
+    named_to Good Limited TooLongBehind [] (codes "cas") (CasIs KeptTemplate KeptTuple) (λ c. CasIs (TemplateIs c) (TupleIs c)) LongCas cas_good cas_limited cas_long some_cas
+    (λ behind. argument template behind >>= λ p middle. argument tuple middle >>= λ t rest. ended (cas p t) rest)
+    (λ behind. argument_then KeptTemplate TemplateIs LongTemplate (some_tree slot_text IsSlot IsCoveredSlot slot_length) (tree_weaker slot_text IsSlot IsCoveredSlot slot_length) (λ p. Then KeptTuple (λ t. IsDone (cas p t))) (λ p c. Then (TupleIs c) (λ t. IsDone (cas p t)))
+    (λ p. LongThen KeptTuple LongTuple (λ t. Never)) template (λ p middle. argument tuple middle >>= λ t rest. ended (cas p t) rest) behind (λ p c. some_last (cas p) c) template_right (λ p rest. tuple_last (cas p) rest)) bs
+
+-- the operations
+some_rd : (c : Limits) → (o : Operation) × (w : List ℕ) × Limited c o (codes "rd" ++ w)
+some_rd c = let s = some_takes rdp c in (s.0, codes "p" ++ s.1, rdp_limited c s.0 s.1 s.2)
+
+rd_right : (bs : List ℕ) → RightTo Good (Begins Limited) TooLongBehind bs (rd_line bs)
+unfolding rd_line
+rd_right bs =
+    named_to Good Limited TooLongBehind [] (codes "rd") (λ o w. Good o (codes "rd" ++ w)) (λ c o w. Limited c o (codes "rd" ++ w)) (λ w. TooLongBehind (codes "rd" ++ w)) (λ o w h. h) (λ c o w h. h) (λ w d. d) some_rd
+    (λ rest. look 112 rdp_line all_line rest)
+    (look_right (λ o w. Good o (codes "rd" ++ w)) (λ c w. Begins Limited c (codes "rd" ++ w)) (λ w. TooLongBehind (codes "rd" ++ w)) 112 rdp_line all_line (some_rd both) rdp_right all_right) bs
+
+some_line : (c : Limits) → (o : Operation) × (w : List ℕ) × Limited c o w
+some_line c = let s = some_out c in (s.0, codes "out" ++ s.1, out_limited c s.0 s.1 s.2)
+
+operation_right : (bs : List ℕ) → RightTo Good (Begins Limited) TooLongBehind bs (operation bs)
+unfolding operation
+operation_right bs =
+    look_right Good (Begins Limited) TooLongBehind 111 out_line (look 114 rd_line (look 105 inp_line (look 99 cas_line nothing))) (some_line both) out_right
+    (look_right Good (Begins Limited) TooLongBehind 114 rd_line (look 105 inp_line (look 99 cas_line nothing)) (some_line both) rd_right
+    (look_right Good (Begins Limited) TooLongBehind 105 inp_line (look 99 cas_line nothing) (some_line both) inp_right
+    (look_right Good (Begins Limited) TooLongBehind 99 cas_line nothing (some_line both) cas_right (nothing_right Good (Begins Limited) TooLongBehind (some_line both))))) bs
+
+-- the line of an operation, and one that keeps the limits c
+abbrev pub GoodLine : Operation → List ℕ → Type 0
+GoodLine o w = LineText o w × IsCovered o × IsOperation o
+
+abbrev pub LimitedLine : Limits → Operation → List ℕ → Type 0
+LimitedLine c o w = LineText o w × IsCovered o × Keeps c o
+
+lined : (o : Operation) (lead w : List ℕ) → AreBlanks lead → Named o w → LineText o (lead ++ w)
+lined o lead w b h = (lead, h.0, ap (λ s. lead ++ s) h.1, b, h.2)
+
+long_line : (lead w : List ℕ) → AreBlanks lead → TooLongBehind w → EndsTooLong (lead ++ w)
+long_line lead w b h = record { o = h.0; k = h.1; lead = lead; rest = h.2; whole = ap (λ s. lead ++ s) h.3; blanks = b; covered = h.4; closed = h.5; last = h.6; long = h.7 }
+
+pub line_right : (bs : List ℕ) → RightTo GoodLine (Begins LimitedLine) EndsTooLong bs (line bs)
+unfolding line
+line_right bs =
+    then_to (ArePassed true) BeginsBlanks Never (λ _. Good) (λ _. Begins Limited) (λ _. TooLongBehind) GoodLine (Begins LimitedLine) EndsTooLong bs (blanks true bs) (λ _ rest. operation rest)
+    (λ c w h. let s = some_line c in (s.0, s.1, (lined s.0 w s.1 h s.2.0, s.2.1, s.2.2)))
+    (λ w d. absurd d)
+    (λ _ front h o w k. (lined o front w h.0 k.0, k.1, k.2))
+    (λ _ front h c w k. (k.0, k.1, (subst (LineText k.0) (sym (append_assoc front w k.1)) (lined k.0 front (w ++ k.1) h.0 k.2.0), k.2.1, k.2.2)))
+    (λ _ front h w d. long_line front w h.0 d)
+    (blanks_right true bs) (λ _ rest. operation_right rest)

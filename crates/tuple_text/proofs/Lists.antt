@@ -1,52 +1,56 @@
 -- Reading lists keeps to the grammar, whatever their items are.
-use Rattle.std.proofs.Common.{◌≡◌, ℕ, zero, suc, ◌≤◌, ◌==◌, Bool, true, false, cond, List, [], ◌∷◌, ◌++◌, refl, ap, sym, subst, ◌∙◌, append_assoc, append-nil, arith, if◌then◌else◌}
-use Rattle.std.proofs.lemmas.Bool.{eqb-true}
+use Rattle.std.proofs.Common.{◌≡◌, ℕ, zero, suc, ◌≤◌, ◌==◌, Bool, true, false, cond, List, [], ◌∷◌, ◌++◌, codes, refl, ap, sym, subst, ◌∙◌, append_assoc, append-nil, arith, if◌then◌else◌}
 use Rattle.tuple_tree.specs.Items.{Item, Items, none, item, with_last, how_many}
-use Rattle.tuple_text.specs.Texts.{AreBlanks, ItemText}
-use Rattle.tuple_text.specs.Reading.{got, stop, Reading, ◌>>=◌, blanks, turn, follows, full, items}
-use Rattle.tuple_text.specs.declared.reader.Stop.TheVariants.{BadByte, TooManyFields}
-use Rattle.tuple_text.proofs.Right.{Limits, both, levels, no_limits, RightAs, Found, then_right, nothing_passed}
-use Rattle.tuple_text.proofs.Blanks.{Frees, ArePassed, BeginsBlanks, blanks_right}
-use Rattle.tuple_text.proofs.Endings.{join, join_none, join_last, Each, Ends}
+use Rattle.tuple_text.specs.Texts.{AreBlanks, ItemText, WholeText}
+use Rattle.tuple_text.specs.Reading.{got, stop, Reading, ◌>>=◌, word, blanks, turn, follows, full, items}
+use Rattle.tuple_text.specs.declared.reader.Stop.{Stop}
+use Rattle.tuple_text.specs.declared.reader.Stop.TheVariants.{BadByte, TooDeep, TooManyFields, TooLong, NoMemory}
+use Rattle.tuple_text.proofs.Right.{Limits, both, levels, no_limits, DecidesAt, RightTo, RightAs, Never, then_to, then_right, nothing_passed}
+use Rattle.tuple_text.proofs.Blanks.{Frees, ArePassed, BeginsBlanks, blanks_right, IsWord, BeginsWord, word_right}
+use Rattle.tuple_text.proofs.Endings.{join, join_none, join_last, Each, Ends, ends_to_items}
 
 abbrev pub Follows : Bool → Bool → List ℕ → Type 0
 Follows free true w = (w ≡ []) × (free ≡ true)
-Follows free false w = w ≡ 41 ∷ []
+Follows free false w = w ≡ []
 
 abbrev pub IsEmpty : Limits → List ℕ → Type 0
 IsEmpty c w = w ≡ []
 
-follows_case : (free : Bool) (b : ℕ) (bs : List ℕ) (s t : Bool) → (b == 41) ≡ s → free ≡ t → RightAs (Follows free) IsEmpty (b ∷ bs) (cond s (got false bs) (cond t (got true (b ∷ bs)) (stop BadByte (b ∷ bs))))
-follows_case free b bs true t e f = subst (λ c. Found (Follows free) false (c ∷ bs) bs) (sym (eqb-true b 41 e)) (record { passed = 41 ∷ []; whole = refl; is = refl })
-follows_case free b bs false true e f = record { passed = []; whole = refl; is = (refl, f) }
-follows_case free b bs false false e f = nothing_passed IsEmpty (b ∷ bs) refl
+follows_case : (free : Bool) (b : ℕ) (bs : List ℕ) (s t : Bool) → free ≡ t → RightAs (Follows free) IsEmpty (b ∷ bs) (cond s (got false (b ∷ bs)) (cond t (got true (b ∷ bs)) (stop BadByte (b ∷ bs))))
+follows_case free b bs true t f = record { passed = []; whole = refl; is = refl }
+follows_case free b bs false true f = record { passed = []; whole = refl; is = (refl, f) }
+follows_case free b bs false false f = nothing_passed IsEmpty Never (b ∷ bs) refl
 
 follows_right : (free : Bool) (bs : List ℕ) → RightAs (Follows free) IsEmpty bs (follows free bs)
 unfolding follows
-follows_right free [] = nothing_passed IsEmpty [] refl
-follows_right free (b ∷ bs) = follows_case free b bs (b == 41) free refl refl
+follows_right free [] = nothing_passed IsEmpty Never [] refl
+follows_right free (b ∷ bs) = follows_case free b bs (b == 41) free refl
 
 -- behind the blanks an item may begin, or the list is closed
 abbrev pub IsTurn : Bool → Bool → List ℕ → Type 0
 IsTurn free true w = AreBlanks w × Frees free w
-IsTurn free false w = (lead : List ℕ) × (w ≡ lead ++ 41 ∷ []) × AreBlanks lead
-
-abbrev pub BeginsTurn : Limits → List ℕ → Type 0
-BeginsTurn c w = (u lead : List ℕ) × (w ++ u ≡ lead ++ 41 ∷ []) × AreBlanks lead
+IsTurn free false w = AreBlanks w
 
 turn_is : (free v : Bool) (front : List ℕ) → ArePassed free v front → (on : Bool) (t : List ℕ) → Follows v on t → IsTurn free on (front ++ t)
 turn_is free v front h true t k =
     subst (λ w. IsTurn free true w) (sym (ap (λ s. front ++ s) k.0 ∙ append-nil front)) (h.0, h.1 k.1)
-turn_is free v front h false t k = (front, ap (λ s. front ++ s) k, h.0)
+turn_is free v front h false t k = subst AreBlanks (sym (ap (λ s. front ++ s) k ∙ append-nil front)) h.0
 
-turn_begins : (front : List ℕ) → AreBlanks front → (c : Limits) (t : List ℕ) → IsEmpty c t → BeginsTurn c (front ++ t)
-turn_begins front h c t e = (41 ∷ [], front, ap (λ s. s ++ 41 ∷ []) (ap (λ s. front ++ s) e ∙ append-nil front), h)
+turn_begins : (front : List ℕ) → AreBlanks front → (c : Limits) (t : List ℕ) → IsEmpty c t → BeginsBlanks c (front ++ t)
+turn_begins front h c t e = subst AreBlanks (sym (ap (λ s. front ++ s) e ∙ append-nil front)) h
 
-pub turn_right : (free : Bool) (bs : List ℕ) → RightAs (IsTurn free) BeginsTurn bs (turn free bs)
+pub turn_right : (free : Bool) (bs : List ℕ) → RightAs (IsTurn free) BeginsBlanks bs (turn free bs)
 unfolding turn
 turn_right free bs =
-    then_right (ArePassed free) BeginsBlanks Follows (λ v. IsEmpty) (IsTurn free) BeginsTurn bs (blanks free bs) follows
-    (λ c w h. (41 ∷ [], w, refl, h)) (turn_is free) (λ v front h. turn_begins front h.0) (blanks_right free bs) follows_right
+    then_right (ArePassed free) BeginsBlanks Follows (λ v. IsEmpty) (IsTurn free) BeginsBlanks bs (blanks free bs) follows
+    (λ c w h. h) (turn_is free) (λ v front h. turn_begins front h.0) (blanks_right free bs) follows_right
+
+-- what is done at a closing parenthesis: Q holds of what is given, P where it is refused
+abbrev pub ClosesTo : {L : Type 0} → (Items L → Type 0) → Items L → Items L → List ℕ → Type 0
+ClosesTo Q t v w = (v ≡ t) × (w ≡ 41 ∷ []) × Q v
+
+abbrev pub ClosesLong : {L : Type 0} → (Items L → Type 0) → Items L → List ℕ → Type 0
+ClosesLong P t w = (w ≡ 41 ∷ []) × P t
 
 module _ {L : Type 0} (leaf_text : L → List ℕ) (OneIs : Limits → Item L → Type 0) where
   abbrev pub IsOne : Item L → List ℕ → Type 0
@@ -84,10 +88,10 @@ module _ {L : Type 0} (leaf_text : L → List ℕ) (OneIs : Limits → Item L �
       (x : Item L) × (xs : Items L) × (u front rest : List ℕ) × (w ++ u ≡ front ++ rest) × ItemText leaf_text x front × OneIs c x × Ends leaf_text false xs rest × Each (OneIs c) xs × Counts c room xs
 
   -- where no item has room any more, one may begin
-  abbrev NoRoom : (ℕ → Bool) → Limits → List ℕ → Type 0
-  NoRoom begins both w = w ≡ []
-  NoRoom begins levels w = (b : ℕ) × (begins b ≡ true) × (w ≡ b ∷ [])
-  NoRoom begins no_limits w = ⊥
+  abbrev NoRoom : Limits → List ℕ → Type 0
+  NoRoom both w = w ≡ []
+  NoRoom levels w = BeginsOne levels w
+  NoRoom no_limits w = BeginsOne no_limits w
 
   no_count : (c : Limits) (room : ℕ) → Counts c room none
   no_count both room = omega arith
@@ -99,12 +103,12 @@ module _ {L : Type 0} (leaf_text : L → List ℕ) (OneIs : Limits → Item L �
   one_count levels room x xs h = tt
   one_count no_limits room x xs h = tt
 
-  turn_begins_items : (room : ℕ) (free : Bool) (c : Limits) (w : List ℕ) → BeginsTurn c w → BeginsItems room free c w
-  turn_begins_items room free c w h = (none, h.0, (h.1, h.2, h.3), tt, no_count c room)
+  turn_begins_items : (room : ℕ) (free : Bool) (c : Limits) (w : List ℕ) → AreBlanks w → BeginsItems room free c w
+  turn_begins_items room free c w h = (none, [], subst AreBlanks (sym (append-nil w)) h, tt, no_count c room)
 
-  closed_items : (room : ℕ) (free : Bool) (t v : Items L) (front w : List ℕ) → IsTurn free false front → v ≡ t → w ≡ [] → IsItems room free t v (front ++ w)
+  closed_items : (room : ℕ) (free : Bool) (t v : Items L) (front w : List ℕ) → AreBlanks front → v ≡ t → w ≡ [] → IsItems room free t v (front ++ w)
   closed_items room free t v front w h e f =
-      (none, e ∙ sym (join_none t), (h.0, ap (λ s. front ++ s) f ∙ append-nil front ∙ h.1, h.2), tt, omega arith)
+      (none, e ∙ sym (join_none t), subst AreBlanks (sym (ap (λ s. front ++ s) f ∙ append-nil front)) h, tt, omega arith)
 
   more_items : (room : ℕ) (free : Bool) (t v : Items L) (front w : List ℕ) → IsTurn free true front → IsMore room t v w → IsItems (suc room) free t v (front ++ w)
   more_items room free t v front w h k =
@@ -121,55 +125,126 @@ module _ {L : Type 0} (leaf_text : L → List ℕ) (OneIs : Limits → Item L �
   items_begin room free false front h c w k = absurd k
 
   one_begins_more : (room : ℕ) (c : Limits) (w : List ℕ) → BeginsOne c w → BeginsMore room c w
-  one_begins_more room c w h =
-      (h.0, none, h.1 ++ 41 ∷ [], w ++ h.1, 41 ∷ [], sym (append_assoc w h.1 (41 ∷ [])), h.2, h.3, ([], refl, tt), tt, no_count c room)
+  one_begins_more room c w h = (h.0, none, h.1, w ++ h.1, [], sym (append-nil (w ++ h.1)), h.2, h.3, tt, tt, no_count c room)
 
   more_begins_more : (room : ℕ) (x : Item L) (front : List ℕ) → IsOne x front → ((c : Limits) → OneIs both x → OneIs c x) → (c : Limits) (w : List ℕ) → BeginsItems room false c w → BeginsMore room c (front ++ w)
   more_begins_more room x front h weaker c w k = (x, k.0, k.1, front, w ++ k.1, append_assoc front w k.1, h.0, weaker c h.1, k.2, k.3, k.4)
 
-  module _ (begins : ℕ → Bool) (one : Reading (Item L)) (one_right : (bs : List ℕ) → RightAs IsOne BeginsOne bs (one bs)) (weaker : (c : Limits) (x : Item L) → OneIs both x → OneIs c x)
-      (starts : (b : ℕ) → begins b ≡ true → BeginsOne levels (b ∷ [])) where
-    full_case : (b : ℕ) (bs : List ℕ) (s : Bool) → begins b ≡ s → (t : Items L) → RightAs (λ (v : Items L) w. ⊥) (NoRoom begins) (b ∷ bs) (cond s (stop TooManyFields (b ∷ bs)) (stop BadByte (b ∷ bs)))
-    full_case b bs true e t = record { passed = []; whole = refl; begins = refl; decides = (b, bs, refl, (b, e, refl)) }
-    full_case b bs false e t = nothing_passed (NoRoom begins) (b ∷ bs) refl
+  -- the text of a whole list
+  pub record IsList (c : Limits) (t : Items L) (w : List ℕ) : Type 0 where
+    pub text : WholeText leaf_text t w
+    pub each : Each (OneIs c) t
+    pub count : Counts c 32 t
 
-    full_right : (t : Items L) (bs : List ℕ) → RightAs (λ (v : Items L) w. ⊥) (NoRoom begins) bs (full {V = Items L} begins bs)
+  abbrev pub BeginsList : Limits → List ℕ → Type 0
+  BeginsList c w = (t : Items L) × (u : List ℕ) × IsList c t (w ++ u)
+
+  -- a list of which Q holds, and one of which P holds
+  abbrev pub IsKept : (Items L → Type 0) → Items L → List ℕ → Type 0
+  IsKept Q t w = IsList both t w × Q t
+
+  abbrev pub IsLong : (Items L → Type 0) → List ℕ → Type 0
+  IsLong P w = (t : Items L) × IsList both t w × P t
+
+  pub some_list : (c : Limits) → IsList c none (40 ∷ 41 ∷ [])
+  some_list c = record { text = ([], refl, tt); each = tt; count = no_count c 32 }
+
+  module _ (why : ℕ → Stop) (one : Reading (Item L)) (one_right : (bs : List ℕ) → RightAs IsOne BeginsOne bs (one bs)) (weaker : (c : Limits) (x : Item L) → OneIs both x → OneIs c x)
+      (refuses : (b : ℕ) (bs : List ℕ) → DecidesAt BeginsOne Never (why b) [] (b ∷ bs)) where
+    no_room_decides : (s : Stop) (rest : List ℕ) → DecidesAt BeginsOne Never s [] rest → DecidesAt NoRoom Never s [] rest
+    no_room_decides BadByte rest h = tt
+    no_room_decides TooDeep rest h = h
+    no_room_decides TooManyFields rest h = h
+    no_room_decides TooLong rest h = absurd h.4
+    no_room_decides NoMemory rest h = h
+
+    full_right : (t : Items L) (bs : List ℕ) → RightAs (λ (v : Items L) w. ⊥) NoRoom bs (full {V = Items L} why bs)
     unfolding full
-    full_right t [] = nothing_passed (NoRoom begins) [] refl
-    full_right t (b ∷ bs) = full_case b bs (begins b) refl t
+    full_right t [] = nothing_passed NoRoom Never [] refl
+    full_right t (b ∷ bs) = record { passed = []; whole = refl; begins = refl; decides = no_room_decides (why b) (b ∷ bs) (refuses b bs) }
 
-    no_room_begins : (free on : Bool) (front : List ℕ) → IsTurn free on front → (c : Limits) (w : List ℕ) → BeginsAtTurn (NoRoom begins) on c w → BeginsItems zero free c (front ++ w)
-    no_room_begins free true front h both w k = (none, 41 ∷ [], (front, ap (λ s. s ++ 41 ∷ []) (ap (λ s. front ++ s) k ∙ append-nil front), h.0), tt, omega arith)
-    no_room_begins free true front h levels w k =
-        let s = starts k.0 k.1 in
-        (item s.0 none, s.1 ++ 41 ∷ [], (front, k.0 ∷ s.1, 41 ∷ [], append_assoc front w (s.1 ++ 41 ∷ []) ∙ ap (λ z. front ++ (z ++ (s.1 ++ 41 ∷ []))) k.2, h.0, h.1, s.2, ([], refl, tt)), (s.3, tt), tt)
-    no_room_begins free true front h no_limits w k = absurd k
+    one_more_is : (front w u : List ℕ) → (front ++ w) ++ u ≡ front ++ ((w ++ u) ++ [])
+    one_more_is front w u = append_assoc front w u ∙ ap (λ s. front ++ s) (sym (append-nil (w ++ u)))
+
+    no_room_begins : (free on : Bool) (front : List ℕ) → IsTurn free on front → (c : Limits) (w : List ℕ) → BeginsAtTurn NoRoom on c w → BeginsItems zero free c (front ++ w)
+    no_room_begins free true front h both w k = (none, [], subst AreBlanks (sym (append-nil (front ++ w) ∙ ap (λ s. front ++ s) k ∙ append-nil front)) h.0, tt, omega arith)
+    no_room_begins free true front h levels w k = (item k.0 none, k.1, (front, w ++ k.1, [], one_more_is front w k.1, h.0, h.1, k.2, tt), (k.3, tt), tt)
+    no_room_begins free true front h no_limits w k = (item k.0 none, k.1, (front, w ++ k.1, [], one_more_is front w k.1, h.0, h.1, k.2, tt), (k.3, tt), tt)
     no_room_begins free false front h c w k = absurd k
 
     no_room_items : (free : Bool) (t : Items L) (on : Bool) (front : List ℕ) → IsTurn free on front → (v : Items L) (w : List ℕ) → AtTurn (λ v w. ⊥) t on v w → IsItems zero free t v (front ++ w)
     no_room_items free t true front h v w k = absurd k
     no_room_items free t false front h v w k = closed_items zero free t v front w h k.0 k.1
 
-    zero_right : (t : Items L) (on : Bool) (rest : List ℕ) → RightAs (AtTurn (λ v w. ⊥) t on) (BeginsAtTurn (NoRoom begins) on) rest (if on then full begins rest else got t rest)
+    zero_right : (t : Items L) (on : Bool) (rest : List ℕ) → RightAs (AtTurn (λ v w. ⊥) t on) (BeginsAtTurn NoRoom on) rest (if on then full why rest else got t rest)
     zero_right t true rest = full_right t rest
     zero_right t false rest = record { passed = []; whole = refl; is = (refl, refl) }
 
-    more_right : (room : ℕ) (t : Items L) (on : Bool) (rest : List ℕ) → ((x : Item L) (after : List ℕ) → RightAs (IsItems room false (with_last t x)) (BeginsItems room false) after (items begins one room false (with_last t x) after))
-        → RightAs (AtTurn (IsMore room t) t on) (BeginsAtTurn (BeginsMore room) on) rest (if on then (one rest >>= λ x after. items begins one room false (with_last t x) after) else got t rest)
+    more_right : (room : ℕ) (t : Items L) (on : Bool) (rest : List ℕ) → ((x : Item L) (after : List ℕ) → RightAs (IsItems room false (with_last t x)) (BeginsItems room false) after (items why with_last one room false (with_last t x) after))
+        → RightAs (AtTurn (IsMore room t) t on) (BeginsAtTurn (BeginsMore room) on) rest (if on then (one rest >>= λ x after. items why with_last one room false (with_last t x) after) else got t rest)
     more_right room t true rest h =
-        then_right IsOne BeginsOne (λ x. IsItems room false (with_last t x)) (λ x. BeginsItems room false) (IsMore room t) (BeginsMore room) rest (one rest) (λ x after. items begins one room false (with_last t x) after)
+        then_right IsOne BeginsOne (λ x. IsItems room false (with_last t x)) (λ x. BeginsItems room false) (IsMore room t) (BeginsMore room) rest (one rest) (λ x after. items why with_last one room false (with_last t x) after)
         (one_begins_more room)
         (λ x front k v w m. (x, front, w, refl, k, m))
         (λ x front k. more_begins_more room x front k (λ c. weaker c x))
         (one_right rest) h
     more_right room t false rest h = record { passed = []; whole = refl; is = (refl, refl) }
 
-    pub items_right : (room : ℕ) (free : Bool) (t : Items L) (bs : List ℕ) → RightAs (IsItems room free t) (BeginsItems room free) bs (items begins one room free t bs)
+    pub items_right : (room : ℕ) (free : Bool) (t : Items L) (bs : List ℕ) → RightAs (IsItems room free t) (BeginsItems room free) bs (items why with_last one room free t bs)
     items_right zero free t bs =
-        then_right (IsTurn free) BeginsTurn (AtTurn (λ v w. ⊥) t) (BeginsAtTurn (NoRoom begins)) (IsItems zero free t) (BeginsItems zero free) bs (turn free bs) (λ on rest. if on then full begins rest else got t rest)
+        then_right (IsTurn free) BeginsBlanks (AtTurn (λ v w. ⊥) t) (BeginsAtTurn NoRoom) (IsItems zero free t) (BeginsItems zero free) bs (turn free bs) (λ on rest. if on then full why rest else got t rest)
         (turn_begins_items zero free) (no_room_items free t) (no_room_begins free) (turn_right free bs) (zero_right t)
     items_right (suc room) free t bs =
-        then_right (IsTurn free) BeginsTurn (AtTurn (IsMore room t) t) (BeginsAtTurn (BeginsMore room)) (IsItems (suc room) free t) (BeginsItems (suc room) free) bs (turn free bs)
-        (λ on rest. if on then (one rest >>= λ x after. items begins one room false (with_last t x) after) else got t rest)
+        then_right (IsTurn free) BeginsBlanks (AtTurn (IsMore room t) t) (BeginsAtTurn (BeginsMore room)) (IsItems (suc room) free t) (BeginsItems (suc room) free) bs (turn free bs)
+        (λ on rest. if on then (one rest >>= λ x after. items why with_last one room false (with_last t x) after) else got t rest)
         (turn_begins_items (suc room) free) (items_are room free t) (items_begin room free) (turn_right free bs)
         (λ on rest. more_right room t on rest (λ x after. items_right room false (with_last t x) after))
+
+    -- The whole list, by what is done at its closing parenthesis: Q holds of what is given, P where it is refused.
+    module _ (Q P : Items L → Type 0) where
+      body_is : (t : Items L) (front w : List ℕ) → IsItems 32 true none t front → w ≡ 41 ∷ [] → IsList both t (40 ∷ front ++ w)
+      body_is t front w h e =
+          let r : IsList both h.0 (40 ∷ front ++ w) = record { text = (front, ap (λ s. 40 ∷ front ++ s) e, ends_to_items leaf_text h.0 front h.2); each = h.3; count = h.4 } in
+          subst (λ x. IsList both x (40 ∷ front ++ w)) (sym h.1) r
+
+      items_begin_list : (c : Limits) (w : List ℕ) → BeginsItems 32 true c w → BeginsList c (40 ∷ w)
+      items_begin_list c w h =
+          (h.0, h.1 ++ 41 ∷ [], record { text = (w ++ h.1, ap (λ s. 40 ∷ s) (sym (append_assoc w h.1 (41 ∷ []))), ends_to_items leaf_text h.0 (w ++ h.1) h.2); each = h.3; count = h.4 })
+
+      each_weaker : (c : Limits) (xs : Items L) → Each (OneIs both) xs → Each (OneIs c) xs
+      each_weaker c none h = tt
+      each_weaker c (item x xs) h = (weaker c x h.0, each_weaker c xs h.1)
+
+      list_weaker : (c : Limits) (t : Items L) (w : List ℕ) → IsList both t w → IsList c t w
+      list_weaker both t w h = h
+      list_weaker levels t w h = record { text = h.text; each = each_weaker levels t h.each; count = tt }
+      list_weaker no_limits t w h = record { text = h.text; each = each_weaker no_limits t h.each; count = tt }
+
+      close_begins : (t : Items L) (front : List ℕ) → IsItems 32 true none t front → (c : Limits) (w : List ℕ) → BeginsWord (codes ")") c w → BeginsList c (40 ∷ front ++ w)
+      close_begins t front h c w k =
+          (t, k.0, subst (IsList c t) (ap (λ s. 40 ∷ s) (sym (append_assoc front w k.0))) (list_weaker c t (40 ∷ front ++ (w ++ k.0)) (body_is t front (w ++ k.0) h k.1)))
+
+      body_right : (f : Items L → Reading (Items L)) → ((t : Items L) (bs : List ℕ) → RightTo (ClosesTo Q t) (BeginsWord (codes ")")) (ClosesLong P t) bs (f t bs))
+          → (bs : List ℕ) → RightTo (λ t w. IsKept Q t (40 ∷ w)) (λ c w. BeginsList c (40 ∷ w)) (λ w. IsLong P (40 ∷ w)) bs (items why with_last one 32 true none bs >>= f)
+      body_right f h bs =
+          then_to (IsItems 32 true none) (BeginsItems 32 true) Never (ClosesTo Q) (λ t. BeginsWord (codes ")")) (ClosesLong P) (λ t w. IsKept Q t (40 ∷ w)) (λ c w. BeginsList c (40 ∷ w)) (λ w. IsLong P (40 ∷ w)) bs
+          (items why with_last one 32 true none bs) f
+          items_begin_list (λ t d. absurd d)
+          (λ t front k v w m. subst (λ x. IsKept Q x (40 ∷ front ++ w)) (sym m.0) (body_is t front w k m.1, subst Q m.0 m.2))
+          close_begins
+          (λ t front k w m. (t, body_is t front w k m.0, m.1))
+          (items_right 32 true none bs) h
+
+      begins_paren : (c : Limits) (w : List ℕ) → BeginsWord (codes "(") c w → BeginsList c w
+      begins_paren c w h = (none, h.0 ++ 41 ∷ [], subst (IsList c none) (ap (λ s. s ++ 41 ∷ []) (sym h.1) ∙ append_assoc w h.0 (41 ∷ [])) (some_list c))
+
+      pub list_right : (f : Items L → Reading (Items L)) → ((t : Items L) (bs : List ℕ) → RightTo (ClosesTo Q t) (BeginsWord (codes ")")) (ClosesLong P t) bs (f t bs))
+          → (bs : List ℕ) → RightTo (IsKept Q) BeginsList (IsLong P) bs (word (codes "(") bs >>= λ _ rest. items why with_last one 32 true none rest >>= f)
+      list_right f h bs =
+          then_to (IsWord (codes "(")) (BeginsWord (codes "(")) Never (λ _ t w. IsKept Q t (40 ∷ w)) (λ _ c w. BeginsList c (40 ∷ w)) (λ _ w. IsLong P (40 ∷ w)) (IsKept Q) BeginsList (IsLong P) bs
+          (word (codes "(") bs) (λ _ rest. items why with_last one 32 true none rest >>= f)
+          begins_paren (λ t d. absurd d)
+          (λ _ front e t w k. subst (λ s. IsKept Q t (s ++ w)) (sym e) k)
+          (λ _ front e c w k. subst (λ s. BeginsList c (s ++ w)) (sym e) k)
+          (λ _ front e w k. subst (λ s. IsLong P (s ++ w)) (sym e) k)
+          (word_right (codes "(") bs) (λ _ rest. body_right f h rest)

@@ -1,6 +1,6 @@
 -- What a reading does depends on the bytes that it passes and on the one that it stops before alone.
-use Rattle.std.proofs.Common.{◌≡◌, ℕ, Bool, true, false, cond, List, [], ◌∷◌, ◌++◌, refl, ap, sym, subst, ◌∙◌, append_assoc}
-use Rattle.tuple_text.specs.Reading.{Read, got, stop, Reading, ◌>>=◌}
+use Rattle.std.proofs.Common.{◌≡◌, ℕ, ◌==◌, Bool, true, false, cond, List, [], ◌∷◌, ◌++◌, refl, ap, sym, subst, ◌∙◌, append_assoc}
+use Rattle.tuple_text.specs.Reading.{Read, got, stop, Reading, ◌>>=◌, look}
 use Rattle.tuple_text.specs.declared.reader.Stop.TheVariants.{BadByte}
 use Rattle.tuple_text.specs.declared.reader.Stop.{Stop}
 
@@ -107,3 +107,7 @@ passing f (b ∷ bs) = f bs
 pub local_passing : {V : Type 0} → (f : Reading V) → IsLocal f → IsLocal (passing f)
 local_passing f l [] = local_empty (passing f) refl
 local_passing f l (b ∷ bs) = local_pass (passing f) f b (λ u. refl) bs (l bs)
+
+pub local_choice : {V : Type 0} → (c : ℕ) (f g : Reading V) → IsLocal f → IsLocal g → IsLocal (look c f g)
+local_choice c f g l m [] = local_empty (look c f g) refl
+local_choice c f g l m (b ∷ bs) = local_look (look c f g) (λ u. cond (b == c) (f u) (g u)) b (λ u. refl) (local_if (b == c) f g l m) bs

@@ -1,13 +1,17 @@
 -- Each reading of the grammar is local.
-use Rattle.std.proofs.Common.{◌≡◌, ℕ, zero, suc, ◌-◌, ◌+◌, ◌*◌, ◌/◌, Bool, true, false, cond, ◌&&◌, List, [], ◌∷◌, codes, pos, negsuc, refl, if◌then◌else◌}
+use Rattle.std.proofs.Common.{◌≡◌, ℕ, zero, suc, ◌-◌, ◌+◌, ◌*◌, ◌/◌, Bool, true, false, cond, ◌&&◌, List, [], ◌∷◌, codes, pos, negsuc, Option, None, Some, option_map, refl, if◌then◌else◌}
 use Rattle.std.specs.Prelude.{◌==◌, nat_le}
-use Rattle.tuple_tree.specs.Items.{Item, leaf, Items, none, with_last}
-use Rattle.tuple_tree.specs.Values.{number, actual, any, formal}
+use Rattle.tuple_tree.specs.Items.{Item, leaf, inner, Items, none}
+use Rattle.tuple_tree.specs.Values.{number, text, bytes, truth, actual, any, formal, datum_length, slot_length}
 use Rattle.tuple_tree.specs.declared.atoms.Kind.TheVariants as kinds
-use Rattle.tuple_codec.specs.Operations.{out, rdp}
-use Rattle.tuple_text.specs.Reading.{got, stop, Reading, ◌>>=◌, blanks, word, gap, finish, digits, positive, MOST, signed, value, field, begins_value, begins_field, full, follows, turn, items, list, tuple, template, argument, ending, out_line, rdp_line, operation, line}
-use Rattle.tuple_text.specs.declared.reader.Stop.TheVariants.{BadByte, TooManyFields}
-use Rattle.tuple_text.proofs.Local.{LocalAs, IsLocal, local_got, local_stop, local_then, local_if, local_look, local_empty, local_test, passing, local_passing}
+use Rattle.tuple_codec.specs.Operations.{Operation, out, rdp, inp, cas, rd_all}
+use Rattle.tuple_text.specs.Reading.{got, stop, Reading, ◌>>=◌, nothing, look, blanks, word, named, gap, finish, digits, positive, MOST, signed, numeral, quoted, byte_string, truth_or_number, datum, kind_b, kind_t, kind, formal_slot, actual_slot, slot, begins_datum, begins_slot, full, follows, turn, items, no_room, kept_with, leaf_item, list, item_at, items_at, close, whole, tuple, template, argument, ending, ended, out_line, inp_line, cas_line, rdp_line, all_line, rd_line, operation, line}
+use Rattle.tuple_text.specs.declared.reader.Stop.{Stop}
+use Rattle.tuple_text.specs.Literals.{text_literal, bytes_literal}
+use Rattle.tuple_text.proofs.LiteralTexts.{text_local}
+use Rattle.tuple_text.proofs.LiteralBytes.{bytes_local}
+use Rattle.tuple_text.specs.declared.reader.Stop.TheVariants.{BadByte, TooDeep, TooLong}
+use Rattle.tuple_text.proofs.Local.{LocalAs, IsLocal, local_got, local_stop, local_then, local_if, local_look, local_empty, local_test, passing, local_passing, local_choice}
 
 pub blanks_local : (free : Bool) → IsLocal (blanks free)
 blanks_local free [] = local_empty (blanks free) refl
@@ -17,6 +21,12 @@ pub word_local : (cs : List ℕ) → IsLocal (word cs)
 word_local [] bs = local_got true bs
 word_local (c ∷ cs) [] = local_empty (word (c ∷ cs)) refl
 word_local (c ∷ cs) (b ∷ bs) = local_test (b == c) (word (c ∷ cs)) (word cs) (λ u. stop BadByte u) b (λ u. refl) bs (word_local cs bs) (local_stop BadByte)
+
+pub named_local : {V : Type 0} → (cs : List ℕ) (v : V) → IsLocal (named cs v)
+named_local cs v = local_then (word cs) (λ _ rest. got v rest) (word_local cs) (λ _. local_got v)
+
+nothing_local : {V : Type 0} → IsLocal {V = V} nothing
+nothing_local = local_stop BadByte
 
 pub gap_local : IsLocal gap
 gap_local = local_then (blanks false) (λ free rest. if free then got true rest else stop BadByte rest) (blanks_local false) (λ free. local_if free (λ u. got true u) (λ u. stop BadByte u) (local_got true) (local_stop BadByte))
@@ -49,52 +59,115 @@ signed_local (b ∷ bs) =
     (local_if (b == 48) (passing (λ t. got (pos 0) t)) (λ u. positive MOST u >>= λ n rest. got (pos n) rest) (local_passing (λ t. got (pos 0) t) (local_got (pos 0)))
     (local_then (positive MOST) (λ n rest. got (pos n) rest) (positive_local MOST) (λ n. local_got (pos n))))
 
-pub value_local : IsLocal value
-unfolding value
-value_local = local_then signed (λ n rest. got (leaf (number n)) rest) signed_local (λ n. local_got (leaf (number n)))
+numeral_local : IsLocal numeral
+unfolding numeral
+numeral_local = local_then signed (λ n rest. got (number n) rest) signed_local (λ n. local_got (number n))
 
-pub field_local : IsLocal field
-unfolding field
-field_local [] = local_empty field refl
-field_local (b ∷ bs) =
-    local_test (b == 42) field (λ t. got (leaf any) t)
-    (λ u. cond (b == 63) (passing (λ t. word (codes "int") t >>= λ _ rest. got (leaf (formal kinds.Number)) rest) u) (signed u >>= λ n rest. got (leaf (actual (number n))) rest)) b (λ u. refl) bs
-    (local_got (leaf any) bs)
-    (local_if (b == 63) (passing (λ t. word (codes "int") t >>= λ _ rest. got (leaf (formal kinds.Number)) rest)) (λ u. signed u >>= λ n rest. got (leaf (actual (number n))) rest)
-    (local_passing (λ t. word (codes "int") t >>= λ _ rest. got (leaf (formal kinds.Number)) rest)
-    (local_then (word (codes "int")) (λ _ rest. got (leaf (formal kinds.Number)) rest) (word_local (codes "int")) (λ _. local_got (leaf (formal kinds.Number)))))
-    (local_then signed (λ n rest. got (leaf (actual (number n))) rest) signed_local (λ n. local_got (leaf (actual (number n))))))
+quoted_local : IsLocal quoted
+unfolding quoted
+quoted_local = local_then text_literal (λ s rest. got (text s) rest) text_local (λ s. local_got (text s))
 
-pub full_local : {V : Type 0} → (begins : ℕ → Bool) → IsLocal (full {V = V} begins)
+byte_string_local : IsLocal byte_string
+unfolding byte_string
+byte_string_local = local_then bytes_literal (λ s rest. got (bytes s) rest) bytes_local (λ s. local_got (bytes s))
+
+pub datum_local : IsLocal datum
+unfolding datum
+datum_local =
+    local_choice 34 quoted (look 120 byte_string truth_or_number) quoted_local
+    (local_choice 120 byte_string truth_or_number byte_string_local
+    (local_choice 116 (named (codes "true") (truth true)) (look 102 (named (codes "false") (truth false)) numeral) (named_local (codes "true") (truth true))
+    (local_choice 102 (named (codes "false") (truth false)) numeral (named_local (codes "false") (truth false)) numeral_local)))
+
+kind_b_local : IsLocal kind_b
+unfolding kind_b
+kind_b_local =
+    local_then (word (codes "b")) (λ _ rest. look 121 (named (codes "ytes") kinds.Bytes) (named (codes "ool") kinds.Truth) rest) (word_local (codes "b"))
+    (λ _. local_choice 121 (named (codes "ytes") kinds.Bytes) (named (codes "ool") kinds.Truth) (named_local (codes "ytes") kinds.Bytes) (named_local (codes "ool") kinds.Truth))
+
+kind_t_local : IsLocal kind_t
+unfolding kind_t
+kind_t_local =
+    local_then (word (codes "t")) (λ _ rest. look 101 (named (codes "ext") kinds.Text) (named (codes "uple") kinds.Tuple) rest) (word_local (codes "t"))
+    (λ _. local_choice 101 (named (codes "ext") kinds.Text) (named (codes "uple") kinds.Tuple) (named_local (codes "ext") kinds.Text) (named_local (codes "uple") kinds.Tuple))
+
+kind_local : IsLocal kind
+unfolding kind
+kind_local =
+    local_choice 105 (named (codes "int") kinds.Number) (look 98 kind_b (look 116 kind_t nothing)) (named_local (codes "int") kinds.Number)
+    (local_choice 98 kind_b (look 116 kind_t nothing) kind_b_local (local_choice 116 kind_t nothing kind_t_local nothing_local))
+
+formal_local : IsLocal formal_slot
+unfolding formal_slot
+formal_local =
+    local_then (word (codes "?")) (λ _ rest. kind rest >>= λ k after. got (formal k) after) (word_local (codes "?"))
+    (λ _. local_then kind (λ k after. got (formal k) after) kind_local (λ k. local_got (formal k)))
+
+actual_local : IsLocal actual_slot
+unfolding actual_slot
+actual_local = local_then datum (λ x rest. got (actual x) rest) datum_local (λ x. local_got (actual x))
+
+pub slot_local : IsLocal slot
+unfolding slot
+slot_local = local_choice 42 (named (codes "*") any) (look 63 formal_slot actual_slot) (named_local (codes "*") any) (local_choice 63 formal_slot actual_slot formal_local actual_local)
+
+pub full_local : {V : Type 0} → (why : ℕ → Stop) → IsLocal (full {V = V} why)
 unfolding full
-full_local {V} begins [] = local_empty (full {V = V} begins) refl
-full_local {V} begins (b ∷ bs) =
-    local_look (full {V = V} begins) (λ u. cond (begins b) (stop TooManyFields u) (stop BadByte u)) b (λ u. refl) (local_if (begins b) (λ u. stop TooManyFields u) (λ u. stop BadByte u) (local_stop TooManyFields) (local_stop BadByte)) bs
+full_local {V} why [] = local_empty (full {V = V} why) refl
+full_local {V} why (b ∷ bs) = local_look (full {V = V} why) (λ u. stop (why b) u) b (λ u. refl) (local_stop (why b)) bs
 
 pub follows_local : (free : Bool) → IsLocal (follows free)
 unfolding follows
 follows_local free [] = local_empty (follows free) refl
 follows_local free (b ∷ bs) =
-    local_test (b == 41) (follows free) (λ u. got false u) (λ u. cond free (got true u) (stop BadByte u)) b (λ u. refl) bs (local_got false bs)
-    (local_if free (λ u. got true u) (λ u. stop BadByte u) (local_got true) (local_stop BadByte))
+    local_look (follows free) (λ u. cond (b == 41) (got false u) (cond free (got true u) (stop BadByte u))) b (λ u. refl)
+    (local_if (b == 41) (λ u. got false u) (λ u. cond free (got true u) (stop BadByte u)) (local_got false)
+    (local_if free (λ u. got true u) (λ u. stop BadByte u) (local_got true) (local_stop BadByte))) bs
 
 pub turn_local : (free : Bool) → IsLocal (turn free)
 unfolding turn
 turn_local free = local_then (blanks free) follows (blanks_local free) follows_local
 
-module _ {L : Type 0} (begins : ℕ → Bool) (one : Reading (Item L)) (one_local : IsLocal one) where
-  pub items_local : (room : ℕ) (free : Bool) (t : Items L) → IsLocal (items begins one room free t)
+module _ {T X : Type 0} (why : ℕ → Stop) (add : T → X → T) (one : Reading X) (one_local : IsLocal one) where
+  pub items_local : (room : ℕ) (free : Bool) (t : T) → IsLocal (items why add one room free t)
   items_local zero free t =
-      local_then (turn free) (λ on rest. if on then full begins rest else got t rest) (turn_local free) (λ on. local_if on (full begins) (λ u. got t u) (full_local begins) (local_got t))
+      local_then (turn free) (λ on rest. if on then full why rest else got t rest) (turn_local free) (λ on. local_if on (full why) (λ u. got t u) (full_local why) (local_got t))
   items_local (suc room) free t =
-      local_then (turn free) (λ on rest. if on then (one rest >>= λ x after. items begins one room false (with_last t x) after) else got t rest) (turn_local free)
-      (λ on. local_if on (λ u. one u >>= λ x after. items begins one room false (with_last t x) after) (λ u. got t u)
-      (local_then one (λ x after. items begins one room false (with_last t x) after) one_local (λ x. items_local room false (with_last t x)))
+      local_then (turn free) (λ on rest. if on then (one rest >>= λ x after. items why add one room false (add t x) after) else got t rest) (turn_local free)
+      (λ on. local_if on (λ u. one u >>= λ x after. items why add one room false (add t x) after) (λ u. got t u)
+      (local_then one (λ x after. items why add one room false (add t x) after) one_local (λ x. items_local room false (add t x)))
       (local_got t))
 
-  pub list_local : IsLocal (list begins one)
-  unfolding list
-  list_local = local_then (word (codes "(")) (λ _ rest. items begins one 32 true none rest) (word_local (codes "(")) (λ _. items_local 32 true none)
+module _ {L : Type 0} (length_of : L → ℕ) (begins : ℕ → Bool) (leaf_at : Reading L) (leaf_local : IsLocal leaf_at) where
+  leaf_item_local : IsLocal (leaf_item length_of begins leaf_at)
+  leaf_item_local = local_then leaf_at (λ x rest. got (Some (leaf x)) rest) leaf_local (λ x. local_got (Some (leaf x)))
+
+  list_local : (why : ℕ → Stop) (one : Reading (Option (Item L))) → IsLocal one → IsLocal (list length_of begins leaf_at why one)
+  list_local why one l =
+      local_then (word (codes "(")) (λ _ rest. items why (kept_with length_of) one 32 true (Some none) rest >>= λ t at. word (codes ")") at >>= λ _ after. got t after) (word_local (codes "("))
+      (λ _. local_then (items why (kept_with length_of) one 32 true (Some none)) (λ t at. word (codes ")") at >>= λ _ after. got t after) (items_local why (kept_with length_of) one l 32 true (Some none))
+      (λ t. named_local (codes ")") t))
+
+  item_local : (levels : ℕ) → IsLocal (item_at length_of begins leaf_at levels)
+  unfolding item_at
+  item_local zero = local_choice 40 (λ u. stop TooDeep u) (leaf_item length_of begins leaf_at) (local_stop TooDeep) leaf_item_local
+  item_local (suc levels) =
+      local_choice 40 (λ u. list length_of begins leaf_at (no_room begins levels) (item_at length_of begins leaf_at levels) u >>= λ t rest. got (option_map inner t) rest) (leaf_item length_of begins leaf_at)
+      (local_then (list length_of begins leaf_at (no_room begins levels) (item_at length_of begins leaf_at levels)) (λ t rest. got (option_map inner t) rest) (list_local (no_room begins levels) (item_at length_of begins leaf_at levels) (item_local levels)) (λ t. local_got (option_map inner t)))
+      leaf_item_local
+
+  close_local : (t : Option (Items L)) → IsLocal (close length_of begins leaf_at t)
+  unfolding close
+  close_local t [] = local_empty (close length_of begins leaf_at t) refl
+  close_local None (b ∷ bs) =
+      local_look (close length_of begins leaf_at None) (λ u. cond (b == 41) (stop TooLong u) (stop BadByte u)) b (λ u. refl) (local_if (b == 41) (λ u. stop TooLong u) (λ u. stop BadByte u) (local_stop TooLong) (local_stop BadByte)) bs
+  close_local (Some t) (b ∷ bs) = local_test (b == 41) (close length_of begins leaf_at (Some t)) (λ u. got t u) (λ u. stop BadByte u) b (λ u. refl) bs (local_got t bs) (local_stop BadByte)
+
+  pub whole_local : IsLocal (whole length_of begins leaf_at)
+  unfolding whole items_at
+  whole_local =
+      local_then (word (codes "(")) (λ _ rest. items_at length_of begins leaf_at 7 rest >>= λ t at. close length_of begins leaf_at t at) (word_local (codes "("))
+      (λ _. local_then (items_at length_of begins leaf_at 7) (λ t at. close length_of begins leaf_at t at) (items_local (no_room begins 7) (kept_with length_of) (item_at length_of begins leaf_at 7) (item_local 7) 32 true (Some none)) close_local)
 
 pub argument_local : {V : Type 0} → (one : Reading V) → IsLocal one → IsLocal (argument one)
 unfolding argument
@@ -104,26 +177,58 @@ pub ending_local : IsLocal ending
 unfolding ending
 ending_local = local_then (blanks true) (λ _ rest. finish rest) (blanks_local true) (λ _. finish_local)
 
-pub out_local : IsLocal out_line
+ended_local : (o : Operation) → IsLocal (ended o)
+unfolding ended
+ended_local o = local_then ending (λ _ rest. got o rest) ending_local (λ _. local_got o)
+
+tuple_argument_local : IsLocal (argument tuple)
+tuple_argument_local = argument_local tuple (whole_local datum_length begins_datum datum datum_local)
+
+template_argument_local : IsLocal (argument template)
+template_argument_local = argument_local template (whole_local slot_length begins_slot slot slot_local)
+
+out_local : IsLocal out_line
 unfolding out_line
 out_local =
-    local_then (word (codes "out")) (λ _ behind. argument tuple behind >>= λ t rest. ending rest >>= λ _ last. got (out t) last) (word_local (codes "out"))
-    (λ _. local_then (argument tuple) (λ t rest. ending rest >>= λ _ last. got (out t) last) (argument_local tuple (list_local begins_value value value_local))
-    (λ t. local_then ending (λ _ last. got (out t) last) ending_local (λ _. local_got (out t))))
+    local_then (word (codes "out")) (λ _ behind. argument tuple behind >>= λ t rest. ended (out t) rest) (word_local (codes "out"))
+    (λ _. local_then (argument tuple) (λ t rest. ended (out t) rest) tuple_argument_local (λ t. ended_local (out t)))
 
-pub rdp_local : IsLocal rdp_line
+inp_local : IsLocal inp_line
+unfolding inp_line
+inp_local =
+    local_then (word (codes "inp")) (λ _ behind. argument template behind >>= λ p rest. ended (inp p) rest) (word_local (codes "inp"))
+    (λ _. local_then (argument template) (λ p rest. ended (inp p) rest) template_argument_local (λ p. ended_local (inp p)))
+
+cas_local : IsLocal cas_line
+unfolding cas_line
+cas_local =
+    local_then (word (codes "cas")) (λ _ behind. argument template behind >>= λ p middle. argument tuple middle >>= λ t rest. ended (cas p t) rest) (word_local (codes "cas"))
+    (λ _. local_then (argument template) (λ p middle. argument tuple middle >>= λ t rest. ended (cas p t) rest) template_argument_local
+    (λ p. local_then (argument tuple) (λ t rest. ended (cas p t) rest) tuple_argument_local (λ t. ended_local (cas p t))))
+
+rdp_local : IsLocal rdp_line
 unfolding rdp_line
 rdp_local =
-    local_then (word (codes "rdp")) (λ _ behind. argument template behind >>= λ p rest. ending rest >>= λ _ last. got (rdp p) last) (word_local (codes "rdp"))
-    (λ _. local_then (argument template) (λ p rest. ending rest >>= λ _ last. got (rdp p) last) (argument_local template (list_local begins_field field field_local))
-    (λ p. local_then ending (λ _ last. got (rdp p) last) ending_local (λ _. local_got (rdp p))))
+    local_then (word (codes "p")) (λ _ behind. argument template behind >>= λ p rest. ended (rdp p) rest) (word_local (codes "p"))
+    (λ _. local_then (argument template) (λ p rest. ended (rdp p) rest) template_argument_local (λ p. ended_local (rdp p)))
 
-pub operation_local : IsLocal operation
+all_local : IsLocal all_line
+unfolding all_line
+all_local =
+    local_then (word (codes "All")) (λ _ behind. argument (positive 64) behind >>= λ n middle. argument template middle >>= λ p rest. ended (rd_all n p) rest) (word_local (codes "All"))
+    (λ _. local_then (argument (positive 64)) (λ n middle. argument template middle >>= λ p rest. ended (rd_all n p) rest) (argument_local (positive 64) (positive_local 64))
+    (λ n. local_then (argument template) (λ p rest. ended (rd_all n p) rest) template_argument_local (λ p. ended_local (rd_all n p))))
+
+rd_local : IsLocal rd_line
+unfolding rd_line
+rd_local = local_then (word (codes "rd")) (λ _ rest. look 112 rdp_line all_line rest) (word_local (codes "rd")) (λ _. local_choice 112 rdp_line all_line rdp_local all_local)
+
+operation_local : IsLocal operation
 unfolding operation
-operation_local [] = local_empty operation refl
-operation_local (b ∷ bs) =
-    local_look operation (λ u. cond (b == 111) (out_line u) (cond (b == 114) (rdp_line u) (stop BadByte u))) b (λ u. refl)
-    (local_if (b == 111) out_line (λ u. cond (b == 114) (rdp_line u) (stop BadByte u)) out_local (local_if (b == 114) rdp_line (λ u. stop BadByte u) rdp_local (local_stop BadByte))) bs
+operation_local =
+    local_choice 111 out_line (look 114 rd_line (look 105 inp_line (look 99 cas_line nothing))) out_local
+    (local_choice 114 rd_line (look 105 inp_line (look 99 cas_line nothing)) rd_local
+    (local_choice 105 inp_line (look 99 cas_line nothing) inp_local (local_choice 99 cas_line nothing cas_local nothing_local)))
 
 pub line_local : IsLocal line
 unfolding line

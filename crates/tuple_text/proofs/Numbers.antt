@@ -6,7 +6,7 @@ use Rattle.std.proofs.lemmas.Fmt.{decimal_step, decimal_digit, decimal_by_steps}
 use Rattle.std.specs.Fmt.{decimal, signed_decimal}
 use Rattle.tuple_text.specs.Reading.{Read, got, stop, ◌>>=◌, digits, positive, MOST, signed}
 use Rattle.tuple_text.specs.declared.reader.Stop.TheVariants.{BadByte}
-use Rattle.tuple_text.proofs.Right.{Limits, both, RightAs, Stuck, right_on, then_right, nothing_passed}
+use Rattle.tuple_text.proofs.Right.{Limits, both, RightAs, Never, Stuck, right_on, then_right, nothing_passed}
 
 abbrev pub is_digit : ℕ → Bool
 is_digit b = nat_le 48 b && nat_le b 57
@@ -100,11 +100,11 @@ positive_case limit b bs true e p q =
     let low : 49 ≤ b = leb-true _ _ r.0 in
     let high : b ≤ 57 = leb-true _ _ r.1 in
     first_digit limit b bs (digits limit (b - 48) bs) low high (digits_right limit (b - 48) bs (omega arith) (omega arith) p q)
-positive_case limit b bs false e p q = nothing_passed (BeginsPositive limit) (b ∷ bs) (one_begins limit p)
+positive_case limit b bs false e p q = nothing_passed (BeginsPositive limit) Never (b ∷ bs) (one_begins limit p)
 
 pub positive_right : (limit : ℕ) (bs : List ℕ) → 9 ≤ limit → limit < 2 ^ 64 → RightAs (IsPositive limit) (BeginsPositive limit) bs (positive limit bs)
 unfolding positive
-positive_right limit [] p q = nothing_passed (BeginsPositive limit) [] (one_begins limit p)
+positive_right limit [] p q = nothing_passed (BeginsPositive limit) Never [] (one_begins limit p)
 positive_right limit (b ∷ bs) p q = positive_case limit b bs (nat_le 49 b && nat_le b 57) refl p q
 
 abbrev pub IsSigned : ℤ → List ℕ → Type 0
@@ -156,7 +156,7 @@ signed_case b bs false false e f =
 
 pub signed_right : (bs : List ℕ) → RightAs IsSigned BeginsSigned bs (signed bs)
 unfolding signed
-signed_right [] = nothing_passed BeginsSigned [] (pos 0, decimal 0, (refl, fits_positive 0 (omega arith)))
+signed_right [] = nothing_passed BeginsSigned Never [] (pos 0, decimal 0, (refl, fits_positive 0 (omega arith)))
 signed_right (b ∷ bs) = signed_case b bs (b == 45) (b == 48) refl refl
 
 -- Again: the text of a number, and something that doesn't go on with a digit.
@@ -192,10 +192,10 @@ more_again n ds p h limit u low high =
 pub positive_again : (limit n : ℕ) (u : List ℕ) → 1 ≤ n → n ≤ limit → limit < 2 ^ 64 → NoDigit u → positive limit (decimal n ++ u) ≡ got n u
 positive_again limit n u p q big h = decimal_by_steps ReadsDigits one_again more_again n (omega arith) limit u p q ∙ digits_end limit n u h
 
-abbrev HasHead : ℕ → List ℕ → Type 0
+abbrev pub HasHead : ℕ → List ℕ → Type 0
 HasHead n ds = 1 ≤ n → (b : ℕ) × (t : List ℕ) × (ds ≡ b ∷ t) × (49 ≤ b) × (b ≤ 57)
 
-head_of : (n : ℕ) → n < 2 ^ 64 → HasHead n (decimal n)
+pub head_of : (n : ℕ) → n < 2 ^ 64 → HasHead n (decimal n)
 head_of n p = decimal_by_steps HasHead
     (λ n p low. (48 + n, [], refl, omega arith, omega arith))
     (λ n ds p h low. let k = h (omega arith) in (k.0, k.1 ++ (48 + n % 10) ∷ [], ap (λ t. t ++ (48 + n % 10) ∷ []) k.2, k.3, k.4))

@@ -1,6 +1,7 @@
 -- A reading keeps to the grammar: what it gives is a text, and where it stops it has passed the beginning of one.
-use Rattle.std.proofs.Common.{◌≡◌, ℕ, List, [], ◌∷◌, ◌++◌, refl, ap, sym, subst, ◌∙◌, append_assoc}
-use Rattle.tuple_text.specs.Reading.{Read, got, stop, Reading, ◌>>=◌}
+use Rattle.std.proofs.Common.{◌≡◌, ℕ, ◌==◌, Bool, true, false, cond, List, [], ◌∷◌, ◌++◌, refl, ap, sym, subst, ◌∙◌, append_assoc}
+use Rattle.std.proofs.lemmas.Bool.{eqb-true}
+use Rattle.tuple_text.specs.Reading.{Read, got, stop, Reading, ◌>>=◌, look, nothing}
 use Rattle.tuple_text.specs.declared.reader.Stop.{Stop}
 use Rattle.tuple_text.specs.declared.reader.Stop.TheVariants.{BadByte, TooDeep, TooManyFields, TooLong, NoMemory}
 
@@ -10,60 +11,106 @@ pub data Limits : Type 0 where
   levels : Limits
   no_limits : Limits
 
--- What the byte at which a reading stops does: B c w is that w begins a text within the limits c.
-abbrev pub Decides : (Limits → List ℕ → Type 0) → Stop → List ℕ → List ℕ → Type 0
-Decides B BadByte w rest = Unit {0}
-Decides B TooDeep w rest = (b : ℕ) × (t : List ℕ) × (rest ≡ b ∷ t) × B no_limits (w ++ b ∷ [])
-Decides B TooManyFields w rest = (b : ℕ) × (t : List ℕ) × (rest ≡ b ∷ t) × B levels (w ++ b ∷ [])
-Decides B TooLong w rest = ⊥
-Decides B NoMemory w rest = ⊥
+-- What the byte at which a reading stops does: B c w is that w begins a text within the limits c, and D w that w ends
+-- where one is closed that is too long.
+abbrev pub DecidesAt : (Limits → List ℕ → Type 0) → (List ℕ → Type 0) → Stop → List ℕ → List ℕ → Type 0
+DecidesAt B D BadByte w rest = Unit {0}
+DecidesAt B D TooDeep w rest = (b : ℕ) × (t : List ℕ) × (rest ≡ b ∷ t) × B no_limits (w ++ b ∷ [])
+DecidesAt B D TooManyFields w rest = (b : ℕ) × (t : List ℕ) × (rest ≡ b ∷ t) × B levels (w ++ b ∷ [])
+DecidesAt B D TooLong w rest = (b : ℕ) × (t : List ℕ) × (rest ≡ b ∷ t) × B both (w ++ b ∷ []) × D (w ++ b ∷ [])
+DecidesAt B D NoMemory w rest = ⊥
 
-pub record Stuck (B : Limits → List ℕ → Type 0) (s : Stop) (bs rest : List ℕ) : Type 0 where
+pub record StuckAt (B : Limits → List ℕ → Type 0) (D : List ℕ → Type 0) (s : Stop) (bs rest : List ℕ) : Type 0 where
   pub passed : List ℕ
   pub whole : bs ≡ passed ++ rest
   pub begins : B both passed
-  pub decides : Decides B s passed rest
+  pub decides : DecidesAt B D s passed rest
 
 pub record Found {V : Type 0} (F : V → List ℕ → Type 0) (v : V) (bs rest : List ℕ) : Type 0 where
   pub passed : List ℕ
   pub whole : bs ≡ passed ++ rest
   pub is : F v passed
 
-abbrev pub RightAs : {V : Type 0} → (V → List ℕ → Type 0) → (Limits → List ℕ → Type 0) → List ℕ → Read V → Type 0
-RightAs F B bs (got v rest) = Found F v bs rest
-RightAs F B bs (stop s rest) = Stuck B s bs rest
+abbrev pub RightTo : {V : Type 0} → (V → List ℕ → Type 0) → (Limits → List ℕ → Type 0) → (List ℕ → Type 0) → List ℕ → Read V → Type 0
+RightTo F B D bs (got v rest) = Found F v bs rest
+RightTo F B D bs (stop s rest) = StuckAt B D s bs rest
 
-decides_on : (B C : Limits → List ℕ → Type 0) (front : List ℕ) → ((c : Limits) (w : List ℕ) → B c w → C c (front ++ w)) → (s : Stop) (w rest : List ℕ) → Decides B s w rest → Decides C s (front ++ w) rest
-decides_on B C front k BadByte w rest d = tt
-decides_on B C front k TooDeep w rest d = (d.0, d.1, d.2, subst (C no_limits) (sym (append_assoc front w (d.0 ∷ []))) (k no_limits _ d.3))
-decides_on B C front k TooManyFields w rest d = (d.0, d.1, d.2, subst (C levels) (sym (append_assoc front w (d.0 ∷ []))) (k levels _ d.3))
-decides_on B C front k TooLong w rest d = d
-decides_on B C front k NoMemory w rest d = d
+-- Most readings never stop for a length.
+abbrev pub Never : List ℕ → Type 0
+Never w = ⊥
+
+abbrev pub Stuck : (Limits → List ℕ → Type 0) → Stop → List ℕ → List ℕ → Type 0
+Stuck B s bs rest = StuckAt B Never s bs rest
+
+abbrev pub RightAs : {V : Type 0} → (V → List ℕ → Type 0) → (Limits → List ℕ → Type 0) → List ℕ → Read V → Type 0
+RightAs F B bs x = RightTo F B Never bs x
+
+decides_on : (B C : Limits → List ℕ → Type 0) (D E : List ℕ → Type 0) (front : List ℕ) → ((c : Limits) (w : List ℕ) → B c w → C c (front ++ w)) → ((w : List ℕ) → D w → E (front ++ w))
+    → (s : Stop) (w rest : List ℕ) → DecidesAt B D s w rest → DecidesAt C E s (front ++ w) rest
+decides_on B C D E front k l BadByte w rest d = tt
+decides_on B C D E front k l TooDeep w rest d = (d.0, d.1, d.2, subst (C no_limits) (sym (append_assoc front w (d.0 ∷ []))) (k no_limits _ d.3))
+decides_on B C D E front k l TooManyFields w rest d = (d.0, d.1, d.2, subst (C levels) (sym (append_assoc front w (d.0 ∷ []))) (k levels _ d.3))
+decides_on B C D E front k l TooLong w rest d =
+    (d.0, d.1, d.2, subst (C both) (sym (append_assoc front w (d.0 ∷ []))) (k both _ d.3), subst E (sym (append_assoc front w (d.0 ∷ []))) (l _ d.4))
+decides_on B C D E front k l NoMemory w rest d = d
 
 -- the same behind a front
-pub stuck_on : (B C : Limits → List ℕ → Type 0) (s : Stop) (front bs rest : List ℕ) → ((c : Limits) (w : List ℕ) → B c w → C c (front ++ w)) → Stuck B s bs rest → Stuck C s (front ++ bs) rest
-stuck_on B C s front bs rest k h = record {
+stuck_on : (B C : Limits → List ℕ → Type 0) (D E : List ℕ → Type 0) (s : Stop) (front bs rest : List ℕ) → ((c : Limits) (w : List ℕ) → B c w → C c (front ++ w)) → ((w : List ℕ) → D w → E (front ++ w))
+    → StuckAt B D s bs rest → StuckAt C E s (front ++ bs) rest
+stuck_on B C D E s front bs rest k l h = record {
   passed = front ++ h.passed;
   whole = ap (λ t. front ++ t) h.whole ∙ sym (append_assoc front h.passed rest);
   begins = k both h.passed h.begins;
-  decides = decides_on B C front k s h.passed rest h.decides;
+  decides = decides_on B C D E front k l s h.passed rest h.decides;
 }
+
+pub right_to : {W : Type 0} → (F2 : W → List ℕ → Type 0) (B2 : Limits → List ℕ → Type 0) (D2 : List ℕ → Type 0) (F : W → List ℕ → Type 0) (B : Limits → List ℕ → Type 0) (D : List ℕ → Type 0) (front bs : List ℕ) (y : Read W)
+    → ((w : W) (t : List ℕ) → F2 w t → F w (front ++ t)) → ((c : Limits) (t : List ℕ) → B2 c t → B c (front ++ t)) → ((t : List ℕ) → D2 t → D (front ++ t)) → RightTo F2 B2 D2 bs y → RightTo F B D (front ++ bs) y
+right_to F2 B2 D2 F B D front bs (got v rest) f k l h = record { passed = front ++ h.passed; whole = ap (λ t. front ++ t) h.whole ∙ sym (append_assoc front h.passed rest); is = f v h.passed h.is }
+right_to F2 B2 D2 F B D front bs (stop s rest) f k l h = stuck_on B2 B D2 D s front bs rest k l h
 
 pub right_on : {W : Type 0} → (F2 : W → List ℕ → Type 0) (B2 : Limits → List ℕ → Type 0) (F : W → List ℕ → Type 0) (B : Limits → List ℕ → Type 0) (front bs : List ℕ) (y : Read W)
     → ((w : W) (t : List ℕ) → F2 w t → F w (front ++ t)) → ((c : Limits) (t : List ℕ) → B2 c t → B c (front ++ t)) → RightAs F2 B2 bs y → RightAs F B (front ++ bs) y
-right_on F2 B2 F B front bs (got v rest) f k h = record { passed = front ++ h.passed; whole = ap (λ t. front ++ t) h.whole ∙ sym (append_assoc front h.passed rest); is = f v h.passed h.is }
-right_on F2 B2 F B front bs (stop s rest) f k h = stuck_on B2 B s front bs rest k h
+right_on F2 B2 F B front bs y f k h = right_to F2 B2 Never F B Never front bs y f k (λ t d. d) h
 
 -- First r and then f v, of what r gives.
+pub then_to : {V W : Type 0} → (F1 : V → List ℕ → Type 0) (B1 : Limits → List ℕ → Type 0) (D1 : List ℕ → Type 0) (F2 : V → W → List ℕ → Type 0) (B2 : V → Limits → List ℕ → Type 0) (D2 : V → List ℕ → Type 0) (F : W → List ℕ → Type 0) (B : Limits → List ℕ → Type 0) (D : List ℕ → Type 0)
+    → (bs : List ℕ) (x : Read V) (f : V → Reading W)
+    → ((c : Limits) (t : List ℕ) → B1 c t → B c t)
+    → ((t : List ℕ) → D1 t → D t)
+    → ((v : V) (front : List ℕ) → F1 v front → (w : W) (t : List ℕ) → F2 v w t → F w (front ++ t))
+    → ((v : V) (front : List ℕ) → F1 v front → (c : Limits) (t : List ℕ) → B2 v c t → B c (front ++ t))
+    → ((v : V) (front : List ℕ) → F1 v front → (t : List ℕ) → D2 v t → D (front ++ t))
+    → RightTo F1 B1 D1 bs x → ((v : V) (rest : List ℕ) → RightTo (F2 v) (B2 v) (D2 v) rest (f v rest)) → RightTo F B D bs (x >>= f)
+then_to F1 B1 D1 F2 B2 D2 F B D bs (stop s rest) f k1 d1 k2 k3 d2 h r = stuck_on B1 B D1 D s [] bs rest k1 d1 h
+then_to F1 B1 D1 F2 B2 D2 F B D bs (got v rest) f k1 d1 k2 k3 d2 h r =
+    subst (λ t. RightTo F B D t (f v rest)) (sym h.whole) (right_to (F2 v) (B2 v) (D2 v) F B D h.passed rest (f v rest) (k2 v h.passed h.is) (k3 v h.passed h.is) (d2 v h.passed h.is) (r v rest))
+
 pub then_right : {V W : Type 0} → (F1 : V → List ℕ → Type 0) (B1 : Limits → List ℕ → Type 0) (F2 : V → W → List ℕ → Type 0) (B2 : V → Limits → List ℕ → Type 0) (F : W → List ℕ → Type 0) (B : Limits → List ℕ → Type 0)
     → (bs : List ℕ) (x : Read V) (f : V → Reading W)
     → ((c : Limits) (t : List ℕ) → B1 c t → B c t)
     → ((v : V) (front : List ℕ) → F1 v front → (w : W) (t : List ℕ) → F2 v w t → F w (front ++ t))
     → ((v : V) (front : List ℕ) → F1 v front → (c : Limits) (t : List ℕ) → B2 v c t → B c (front ++ t))
     → RightAs F1 B1 bs x → ((v : V) (rest : List ℕ) → RightAs (F2 v) (B2 v) rest (f v rest)) → RightAs F B bs (x >>= f)
-then_right F1 B1 F2 B2 F B bs (stop s rest) f k1 k2 k3 h r = stuck_on B1 B s [] bs rest k1 h
-then_right F1 B1 F2 B2 F B bs (got v rest) f k1 k2 k3 h r =
-    subst (λ t. RightAs F B t (f v rest)) (sym h.whole) (right_on (F2 v) (B2 v) F B h.passed rest (f v rest) (k2 v h.passed h.is) (k3 v h.passed h.is) (r v rest))
+then_right F1 B1 F2 B2 F B bs x f k1 k2 k3 h r = then_to F1 B1 Never F2 B2 (λ v. Never) F B Never bs x f k1 (λ t d. d) k2 k3 (λ v front i t d. d) h r
 
-pub nothing_passed : (B : Limits → List ℕ → Type 0) (bs : List ℕ) → B both [] → Stuck B BadByte bs bs
-nothing_passed B bs b = record { passed = []; whole = refl; begins = b; decides = tt }
+pub nothing_passed : (B : Limits → List ℕ → Type 0) (D : List ℕ → Type 0) (bs : List ℕ) → B both [] → StuckAt B D BadByte bs bs
+nothing_passed B D bs b = record { passed = []; whole = refl; begins = b; decides = tt }
+
+-- A reading that looks at the first byte.
+look_case : {V : Type 0} → (F : V → List ℕ → Type 0) (B : Limits → List ℕ → Type 0) (D : List ℕ → Type 0) (c : ℕ) (f g : Reading V) (b : ℕ) (bs : List ℕ) (s : Bool) → (b == c) ≡ s
+    → ((bs : List ℕ) → RightTo F B D (c ∷ bs) (f (c ∷ bs))) → ((bs : List ℕ) → RightTo F B D bs (g bs)) → RightTo F B D (b ∷ bs) (cond s (f (b ∷ bs)) (g (b ∷ bs)))
+look_case F B D c f g b bs true e h k = subst (λ x. RightTo F B D (x ∷ bs) (f (x ∷ bs))) (sym (eqb-true b c e)) (h bs)
+look_case F B D c f g b bs false e h k = k (b ∷ bs)
+
+pub look_at : {V : Type 0} → (F : V → List ℕ → Type 0) (B : Limits → List ℕ → Type 0) (D : List ℕ → Type 0) (c : ℕ) (f g : Reading V) → B both [] → ((bs : List ℕ) → RightTo F B D (c ∷ bs) (f (c ∷ bs))) → ((bs : List ℕ) → RightTo F B D bs (g bs))
+    → (bs : List ℕ) → RightTo F B D bs (look c f g bs)
+look_at F B D c f g b h k [] = nothing_passed B D [] b
+look_at F B D c f g b h k (x ∷ bs) = look_case F B D c f g x bs (x == c) refl h k
+
+pub look_right : {V : Type 0} → (F : V → List ℕ → Type 0) (B : Limits → List ℕ → Type 0) (D : List ℕ → Type 0) (c : ℕ) (f g : Reading V) → B both [] → ((bs : List ℕ) → RightTo F B D bs (f bs)) → ((bs : List ℕ) → RightTo F B D bs (g bs))
+    → (bs : List ℕ) → RightTo F B D bs (look c f g bs)
+look_right F B D c f g b h k bs = look_at F B D c f g b (λ u. h (c ∷ u)) k bs
+
+pub nothing_right : {V : Type 0} → (F : V → List ℕ → Type 0) (B : Limits → List ℕ → Type 0) (D : List ℕ → Type 0) → B both [] → (bs : List ℕ) → RightTo F B D bs (nothing bs)
+nothing_right F B D b bs = nothing_passed B D bs b

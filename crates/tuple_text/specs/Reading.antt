@@ -1,27 +1,31 @@
 -- What a reader of the grammar reads at the front of bytes: a value and the bytes left, or why it stops, and the bytes
 -- that it stops at.
-use Rattle.std.specs.Prelude.{◌≡◌, ℕ, zero, suc, ◌+◌, ◌-◌, ◌*◌, ◌/◌, ◌==◌, nat_le, ℤ, pos, negsuc, Bool, true, false, ◌&&◌, ◌||◌, if◌then◌else◌, List, [], ◌∷◌, codes, Result, Ok, Err}
-use Rattle.tuple_tree.specs.Items.{Item, leaf, Items, none, with_last}
-use Rattle.tuple_tree.specs.Values.{Datum, number, Slot, actual, any, formal, TupleTree, TemplateTree}
+use Rattle.std.specs.Prelude.{◌≡◌, ℕ, zero, suc, ◌+◌, ◌-◌, ◌*◌, ◌/◌, ◌==◌, nat_le, ℤ, pos, negsuc, Bool, true, false, ◌&&◌, ◌||◌, if◌then◌else◌, List, [], ◌∷◌, codes, Result, Ok, Err, Option, None, Some, option_map}
+use Rattle.tuple_tree.specs.Items.{Item, leaf, inner, Items, none, with_last, whole_length}
+use Rattle.tuple_tree.specs.Values.{Datum, number, text, bytes, truth, Slot, actual, any, formal, TupleTree, TemplateTree, datum_length, slot_length}
+use Rattle.tuple_tree.specs.declared.atoms.Kind.{Kind}
 use Rattle.tuple_tree.specs.declared.atoms.Kind.TheVariants as kinds
-use Rattle.tuple_codec.specs.Operations.{Operation, out, rdp}
+use Rattle.tuple_codec.specs.Operations.{Operation, out, rdp, inp, cas, rd_all}
 use Rattle.tuple_text.specs.declared.reader.Stop.{Stop}
 use Rattle.tuple_text.specs.declared.reader.Stop.TheVariants.{BadByte, TooDeep, TooManyFields, TooLong, NoMemory}
 use Rattle.tuple_text.specs.declared.faults.LineFault.{LineFault}
 use Rattle.tuple_text.specs.declared.faults.LineFault.TheVariants as faults
-
-pub data Read (V : Type 0) : Type 0 where
-  got : V → List ℕ → Read V
-  stop : Stop → List ℕ → Read V
-
-abbrev pub Reading : Type 0 → Type 0
-Reading V = List ℕ → Read V
+pub use Rattle.tuple_text.specs.Read.{Read, got, stop, Reading}
+use Rattle.tuple_text.specs.Literals.{text_literal, bytes_literal}
 
 -- On with the bytes that are left.
 infixl 10 ◌>>=◌
 abbrev pub ◌>>=◌ : {V W : Type 0} → Read V → (V → Reading W) → Read W
 (got v bs) >>= f = f v bs
 (stop s bs) >>= f = stop s bs
+
+abbrev pub nothing : {V : Type 0} → Reading V
+nothing bs = stop BadByte bs
+
+-- f before the byte c, g before another one
+abbrev pub look : {V : Type 0} → ℕ → Reading V → Reading V → Reading V
+look c f g [] = stop BadByte []
+look c f g (b ∷ bs) = if b == c then f (b ∷ bs) else g (b ∷ bs)
 
 -- Past blanks, and whether an item may begin there: it may where one may already, or behind a blank.
 abbrev pub blanks : Bool → Reading Bool
@@ -33,6 +37,10 @@ abbrev pub word : List ℕ → Reading Bool
 word [] bs = got true bs
 word (c ∷ cs) [] = stop BadByte []
 word (c ∷ cs) (b ∷ bs) = if b == c then word cs bs else stop BadByte (b ∷ bs)
+
+-- past these bytes, which stand for v
+abbrev pub named : {V : Type 0} → List ℕ → V → Reading V
+named cs v bs = word cs bs >>= λ _ rest. got v rest
 
 abbrev pub gap : Reading Bool
 gap bs = blanks false bs >>= λ free rest. if free then got true rest else stop BadByte rest
@@ -63,51 +71,133 @@ signed (b ∷ bs) =
     if b == 45 then (positive (MOST + 1) bs >>= λ n rest. got (negsuc (n - 1)) rest)
     else (if b == 48 then got (pos 0) bs else (positive MOST (b ∷ bs) >>= λ n rest. got (pos n) rest))
 
-unfoldable pub value : Reading (Item Datum)
-value bs = signed bs >>= λ n rest. got (leaf (number n)) rest
+unfoldable pub numeral : Reading Datum
+numeral bs = signed bs >>= λ n rest. got (number n) rest
 
-unfoldable pub field : Reading (Item Slot)
-field [] = stop BadByte []
-field (b ∷ bs) =
-    if b == 42 then got (leaf any) bs
-    else (if b == 63 then (word (codes "int") bs >>= λ _ rest. got (leaf (formal kinds.Number)) rest)
-    else (signed (b ∷ bs) >>= λ n rest. got (leaf (actual (number n))) rest))
+unfoldable pub quoted : Reading Datum
+quoted bs = text_literal bs >>= λ s rest. got (text s) rest
 
--- whether some value begins so
-abbrev pub begins_value : ℕ → Bool
-begins_value b = b == 45 || (nat_le 48 b && nat_le b 57)
+unfoldable pub byte_string : Reading Datum
+byte_string bs = bytes_literal bs >>= λ s rest. got (bytes s) rest
 
-abbrev pub begins_field : ℕ → Bool
-begins_field b = b == 42 || (b == 63 || begins_value b)
+abbrev pub truth_or_number : Reading Datum
+truth_or_number = look 116 (named (codes "true") (truth true)) (look 102 (named (codes "false") (truth false)) numeral)
 
--- Where no further item has room.
-unfoldable pub full : {V : Type 0} → (ℕ → Bool) → Reading V
-full begins [] = stop BadByte []
-full begins (b ∷ bs) = if begins b then stop TooManyFields (b ∷ bs) else stop BadByte (b ∷ bs)
+-- a value that is no tuple
+unfoldable pub datum : Reading Datum
+datum bs = look 34 quoted (look 120 byte_string truth_or_number) bs
 
--- behind the blanks: whether an item follows, or the list is closed
+-- the kinds that begin with b, and with t
+unfoldable pub kind_b : Reading Kind
+kind_b bs = word (codes "b") bs >>= λ _ rest. look 121 (named (codes "ytes") kinds.Bytes) (named (codes "ool") kinds.Truth) rest
+
+unfoldable pub kind_t : Reading Kind
+kind_t bs = word (codes "t") bs >>= λ _ rest. look 101 (named (codes "ext") kinds.Text) (named (codes "uple") kinds.Tuple) rest
+
+unfoldable pub kind : Reading Kind
+kind bs = look 105 (named (codes "int") kinds.Number) (look 98 kind_b (look 116 kind_t nothing)) bs
+
+unfoldable pub formal_slot : Reading Slot
+formal_slot bs = word (codes "?") bs >>= λ _ rest. kind rest >>= λ k after. got (formal k) after
+
+unfoldable pub actual_slot : Reading Slot
+actual_slot bs = datum bs >>= λ x rest. got (actual x) rest
+
+-- a field that is no template
+unfoldable pub slot : Reading Slot
+slot bs = look 42 (named (codes "*") any) (look 63 formal_slot actual_slot) bs
+
+abbrev pub slot_item : Reading (Item Slot)
+slot_item bs = slot bs >>= λ x rest. got (leaf x) rest
+
+-- whether some value that is no tuple begins so
+abbrev pub begins_datum : ℕ → Bool
+begins_datum b = b == 34 || (b == 120 || (b == 116 || (b == 102 || (b == 45 || (nat_le 48 b && nat_le b 57)))))
+
+abbrev pub begins_slot : ℕ → Bool
+begins_slot b = b == 42 || (b == 63 || begins_datum b)
+
+-- Where no further item has room: why the byte is refused.
+unfoldable pub full : {V : Type 0} → (ℕ → Stop) → Reading V
+full why [] = stop BadByte []
+full why (b ∷ bs) = stop (why b) (b ∷ bs)
+
+-- behind the blanks: whether an item follows, or the list is closed; the parenthesis is left
 unfoldable pub follows : Bool → Reading Bool
 follows free [] = stop BadByte []
-follows free (b ∷ bs) = if b == 41 then got false bs else (if free then got true (b ∷ bs) else stop BadByte (b ∷ bs))
+follows free (b ∷ bs) = if b == 41 then got false (b ∷ bs) else (if free then got true (b ∷ bs) else stop BadByte (b ∷ bs))
 
 unfoldable pub turn : Bool → Reading Bool
 turn free bs = blanks free bs >>= follows
 
 -- What follows the items of t up to the closing parenthesis, with room for so many more.
-module _ {L : Type 0} (begins : ℕ → Bool) (one : Reading (Item L)) where
-  abbrev pub items : ℕ → Bool → Items L → Reading (Items L)
-  items zero free t bs = turn free bs >>= λ on rest. if on then full begins rest else got t rest
+module _ {T X : Type 0} (why : ℕ → Stop) (add : T → X → T) (one : Reading X) where
+  abbrev pub items : ℕ → Bool → T → Reading T
+  items zero free t bs = turn free bs >>= λ on rest. if on then full why rest else got t rest
   items (suc room) free t bs =
-      turn free bs >>= λ on rest. if on then (one rest >>= λ x after. items room false (with_last t x) after) else got t rest
+      turn free bs >>= λ on rest. if on then (one rest >>= λ x after. items room false (add t x) after) else got t rest
 
-  unfoldable pub list : Reading (Items L)
-  list bs = word (codes "(") bs >>= λ _ rest. items 32 true none rest
+-- why an item has no room, with so many levels below
+abbrev pub deeper : ℕ → Stop
+deeper zero = TooDeep
+deeper (suc levels) = TooManyFields
+
+abbrev pub no_room : (ℕ → Bool) → ℕ → ℕ → Stop
+no_room begins levels b = if b == 40 then deeper levels else (if begins b then TooManyFields else BadByte)
+
+-- whether a list begins there
+abbrev pub opens : List ℕ → Bool
+opens [] = false
+opens (b ∷ bs) = b == 40
+
+-- A list is kept up to 1,024 bytes of encoding, and beyond them only judged.
+module _ {L : Type 0} (length_of : L → ℕ) where
+  abbrev pub kept : Items L → Option (Items L)
+  kept t = if nat_le (whole_length length_of t) 1024 then Some t else None
+
+  -- a list that may be too long with an item that may be too long behind it
+  abbrev pub kept_with : Option (Items L) → Option (Item L) → Option (Items L)
+  kept_with None x = None
+  kept_with (Some t) None = None
+  kept_with (Some t) (Some x) = kept (with_last t x)
+
+  module _ (begins : ℕ → Bool) (leaf_at : Reading L) where
+    abbrev pub leaf_item : Reading (Option (Item L))
+    leaf_item bs = leaf_at bs >>= λ x rest. got (Some (leaf x)) rest
+
+    -- a list, by how its items are read and why there is no room
+    abbrev pub list : (ℕ → Stop) → Reading (Option (Item L)) → Reading (Option (Items L))
+    list why one bs =
+        word (codes "(") bs >>= λ _ rest. items why kept_with one 32 true (Some none) rest >>= λ t at. word (codes ")") at >>= λ _ after. got t after
+
+    -- an item with so many levels below it
+    unfoldable pub item_at : ℕ → Reading (Option (Item L))
+    item_at zero bs = look 40 (λ u. stop TooDeep u) leaf_item bs
+    item_at (suc levels) bs = look 40 (λ u. list (no_room begins levels) (item_at levels) u >>= λ t rest. got (option_map inner t) rest) leaf_item bs
+
+    unfoldable pub list_at : ℕ → Reading (Option (Items L))
+    list_at levels bs = list (no_room begins levels) (item_at levels) bs
+
+    unfoldable pub items_at : ℕ → Reading (Option (Items L))
+    items_at levels bs = items (no_room begins levels) kept_with (item_at levels) 32 true (Some none) bs
+
+    -- The outermost list is refused at its closing parenthesis.
+    abbrev pub fitting : Option (Items L) → ℕ → Reading (Items L)
+    fitting None b bs = stop TooLong (b ∷ bs)
+    fitting (Some t) b bs = got t bs
+
+    unfoldable pub close : Option (Items L) → Reading (Items L)
+    close t [] = stop BadByte []
+    close t (b ∷ bs) = if b == 41 then fitting t b bs else stop BadByte (b ∷ bs)
+
+    unfoldable pub whole : Reading (Items L)
+    whole bs = word (codes "(") bs >>= λ _ rest. items_at 7 rest >>= λ t at. close t at
 
 abbrev pub tuple : Reading TupleTree
-tuple = list begins_value value
+tuple = whole datum_length begins_datum datum
 
 abbrev pub template : Reading TemplateTree
-template = list begins_field field
+template = whole slot_length begins_slot slot
 
 unfoldable pub argument : {V : Type 0} → Reading V → Reading V
 argument one bs = gap bs >>= λ _ rest. one rest
@@ -115,15 +205,30 @@ argument one bs = gap bs >>= λ _ rest. one rest
 unfoldable pub ending : Reading Bool
 ending bs = blanks true bs >>= λ _ rest. finish rest
 
-unfoldable pub out_line : Reading Operation
-out_line bs = word (codes "out") bs >>= λ _ behind. argument tuple behind >>= λ t rest. ending rest >>= λ _ last. got (out t) last
+unfoldable pub ended : Operation → Reading Operation
+ended o bs = ending bs >>= λ _ rest. got o rest
 
+unfoldable pub out_line : Reading Operation
+out_line bs = word (codes "out") bs >>= λ _ behind. argument tuple behind >>= λ t rest. ended (out t) rest
+
+unfoldable pub inp_line : Reading Operation
+inp_line bs = word (codes "inp") bs >>= λ _ behind. argument template behind >>= λ p rest. ended (inp p) rest
+
+unfoldable pub cas_line : Reading Operation
+cas_line bs = word (codes "cas") bs >>= λ _ behind. argument template behind >>= λ p middle. argument tuple middle >>= λ t rest. ended (cas p t) rest
+
+-- behind "rd"
 unfoldable pub rdp_line : Reading Operation
-rdp_line bs = word (codes "rdp") bs >>= λ _ behind. argument template behind >>= λ p rest. ending rest >>= λ _ last. got (rdp p) last
+rdp_line bs = word (codes "p") bs >>= λ _ behind. argument template behind >>= λ p rest. ended (rdp p) rest
+
+unfoldable pub all_line : Reading Operation
+all_line bs = word (codes "All") bs >>= λ _ behind. argument (positive 64) behind >>= λ n middle. argument template middle >>= λ p rest. ended (rd_all n p) rest
+
+unfoldable pub rd_line : Reading Operation
+rd_line bs = word (codes "rd") bs >>= λ _ rest. look 112 rdp_line all_line rest
 
 unfoldable pub operation : Reading Operation
-operation [] = stop BadByte []
-operation (b ∷ bs) = if b == 111 then out_line (b ∷ bs) else (if b == 114 then rdp_line (b ∷ bs) else stop BadByte (b ∷ bs))
+operation bs = look 111 out_line (look 114 rd_line (look 105 inp_line (look 99 cas_line nothing))) bs
 
 unfoldable pub line : Reading Operation
 line bs = blanks true bs >>= λ _ rest. operation rest

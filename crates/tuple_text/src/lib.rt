@@ -3,6 +3,7 @@
 
 mod faults;
 mod lines;
+mod literals;
 mod reader;
 mod write;
 

@@ -1,21 +1,25 @@
 //! The reader of lines, a method for each part of the grammar.
 
-ghost use Rattle.std.specs.Prelude.{◌≡◌, ◌+◌, ◌-◌, ◌≤◌, ◌<◌, ◌^◌, codes, true, length, pos, IfOk, IfErr, OnOk, IsTrue, ◌↔◌};
-ghost use Rattle.tuple_tree.specs.Items.{how_many, with_last};
-ghost use Rattle.tuple_tree.specs.Values.{TupleTree, TemplateTree};
+ghost use Rattle.std.specs.Prelude.{◌≡◌, ◌+◌, ◌-◌, ◌≤◌, ◌<◌, ◌^◌, codes, true, length, pos, IfOk, IfErr, OnOk, IsTrue, ◌↔◌, Option, option_map};
+ghost use Rattle.tuple_tree.specs.Values.{TupleTree, TemplateTree, datum_length, slot_length};
+ghost use Rattle.tuple_tree.specs.AtomView.{datum_of};
 ghost use Rattle.tuple_tree.specs.TupleView.{value_of};
 ghost use Rattle.tuple_tree.specs.TemplateView.{field_of};
 ghost use Rattle.tuple_codec.specs.OperationView.{operation_of};
 ghost use Rattle.tuple_text.specs.Texts.{AreBlanks};
-ghost use Rattle.tuple_text.specs.Reading.{fault_at, blanks, word, gap, finish, digits, positive, signed, value, field, turn, follows, full, got, stop, begins_value, begins_field, tuple, template, argument, items, ending, operation, line, out_line, rdp_line, Gives};
+ghost use Rattle.tuple_text.specs.Reading.{fault_at, blanks, word, gap, finish, digits, positive, signed, numeral, datum, kind, kind_b, kind_t, slot, slot_item, turn, follows, full, no_room, got, stop, begins_datum, begins_slot, opens, kept_with, item_at, list_at, items_at, tuple, template, argument, ending, operation, line, out_line, inp_line, cas_line, rdp_line, all_line, rd_line, Gives};
+ghost use Rattle.tuple_text.specs.Reading as Reading;
 
 use crate::faults::LineFault;
 use std::alloc::Global;
-use tuple_codec::Op;
-use tuple_tree::{Atom, Field, Kind, MAX_FIELDS, Template, Tuple, Value};
+use tuple_codec::{Max, Op};
+use tuple_tree::{Atom, Field, Kind, MAX_FIELDS, Refusal, Template, Tuple, Value};
 
 // The greatest number.
 const MOST: u64 = 9223372036854775807;
+
+// How many levels may lie below the outermost list.
+const BELOW: usize = 7;
 
 /// Why a reader stops.
 #[derive(Clone, Copy, Debug, PartialEq, Eq)]
@@ -46,7 +50,7 @@ impl Stop {
 /// A reader of a line. Where it stops it stands before the byte that it stops at.
 #[derive(Drop)]
 pub(crate) struct Reader<'a> {
-    rest: &'a [u8],
+    pub(crate) rest: &'a [u8],
 }
 
 impl<'a> Reader<'a> {
@@ -121,7 +125,7 @@ impl<'a> Reader<'a> {
 
     // The digits behind those of `first`.
     fn digits(&mut self, limit: u64, first: u64) -> Result<u64, Stop>
-        requires low { MOST ≤ limit }
+        requires low { 9 ≤ limit }
         requires high { limit ≤ MOST + 1 }
         requires first { first ≤ limit }
         requires positive { 1 ≤ first }
@@ -143,7 +147,7 @@ impl<'a> Reader<'a> {
 
     #[tactic(auto, unfolding(crate::specs::Reading::positive))]
     fn positive(&mut self, limit: u64) -> Result<u64, Stop>
-        requires low { MOST ≤ limit }
+        requires low { 9 ≤ limit }
         requires high { limit ≤ MOST + 1 }
         ensures gives { Gives (λ n. n) result (positive limit self.old.rest.now) self.new.rest.now }
         ensures low { IfOk result (λ n. 1 ≤ n) }
@@ -180,32 +184,113 @@ impl<'a> Reader<'a> {
         }
     }
 
-    #[tactic(auto, unfolding(crate::specs::Reading::value))]
-    fn value(&mut self) -> Result<Value<Global>, Stop>
-        ensures { Gives value_of result (value self.old.rest.now) self.new.rest.now }
+    #[tactic(auto, unfolding(crate::specs::Reading::numeral))]
+    fn numeral(&mut self) -> Result<Atom<Global>, Stop>
+        ensures { Gives datum_of result (numeral self.old.rest.now) self.new.rest.now }
     {
         let number = self.signed()?;
-        Ok(Value::Atom(Atom::Number(number)))
+        Ok(Atom::Number(number))
     }
 
-    #[tactic(auto, unfolding(crate::specs::Reading::field))]
-    fn field(&mut self) -> Result<Field<Global>, Stop>
-        ensures { Gives field_of result (field self.old.rest.now) self.new.rest.now }
+    // A value that is no tuple.
+    #[tactic(auto, unfolding(crate::specs::Reading::datum, crate::specs::Reading::quoted, crate::specs::Reading::byte_string))]
+    fn atom(&mut self, alloc: Global) -> Result<Atom<Global>, Stop>
+        ensures { Gives datum_of result (datum self.old.rest.now) self.new.rest.now }
     {
         match self.rest {
             [] => Err(Stop::BadByte),
-            [b'*', rest @ ..] => {
-                self.rest = rest;
-                Ok(Field::Any)
+            [b'"', ..] => {
+                let text = self.text_literal(alloc)?;
+                Ok(Atom::Text(text))
             }
-            [b'?', rest @ ..] => {
-                self.rest = rest;
-                self.word(b"int")?;
-                Ok(Field::Formal(Kind::Number))
+            [b'x', ..] => {
+                let bytes = self.bytes_literal(alloc)?;
+                Ok(Atom::Bytes(bytes))
+            }
+            [b't', ..] => {
+                self.word(b"true")?;
+                Ok(Atom::Truth(true))
+            }
+            [b'f', ..] => {
+                self.word(b"false")?;
+                Ok(Atom::Truth(false))
+            }
+            [_, ..] => self.numeral(),
+        }
+    }
+
+    #[tactic(auto, unfolding(crate::specs::Reading::kind_b))]
+    fn kind_b(&mut self) -> Result<Kind, Stop>
+        ensures { Gives (λ k. k) result (kind_b self.old.rest.now) self.new.rest.now }
+    {
+        self.word(b"b")?;
+        match self.rest {
+            [] => Err(Stop::BadByte),
+            [b'y', ..] => {
+                self.word(b"ytes")?;
+                Ok(Kind::Bytes)
             }
             [_, ..] => {
-                let number = self.signed()?;
-                Ok(Field::Actual(Atom::Number(number)))
+                self.word(b"ool")?;
+                Ok(Kind::Truth)
+            }
+        }
+    }
+
+    #[tactic(auto, unfolding(crate::specs::Reading::kind_t))]
+    fn kind_t(&mut self) -> Result<Kind, Stop>
+        ensures { Gives (λ k. k) result (kind_t self.old.rest.now) self.new.rest.now }
+    {
+        self.word(b"t")?;
+        match self.rest {
+            [] => Err(Stop::BadByte),
+            [b'e', ..] => {
+                self.word(b"ext")?;
+                Ok(Kind::Text)
+            }
+            [_, ..] => {
+                self.word(b"uple")?;
+                Ok(Kind::Tuple)
+            }
+        }
+    }
+
+    // The name of a kind.
+    #[tactic(auto, unfolding(crate::specs::Reading::kind))]
+    fn kind(&mut self) -> Result<Kind, Stop>
+        ensures { Gives (λ k. k) result (kind self.old.rest.now) self.new.rest.now }
+    {
+        match self.rest {
+            [] => Err(Stop::BadByte),
+            [b'i', ..] => {
+                self.word(b"int")?;
+                Ok(Kind::Number)
+            }
+            [b'b', ..] => self.kind_b(),
+            [b't', ..] => self.kind_t(),
+            [_, ..] => Err(Stop::BadByte),
+        }
+    }
+
+    // A field that is no template.
+    #[tactic(auto, unfolding(crate::specs::Reading::slot, crate::specs::Reading::formal_slot, crate::specs::Reading::actual_slot))]
+    fn plain_field(&mut self, alloc: Global) -> Result<Field<Global>, Stop>
+        ensures { Gives field_of result (slot_item self.old.rest.now) self.new.rest.now }
+    {
+        match self.rest {
+            [] => Err(Stop::BadByte),
+            [b'*', ..] => {
+                self.word(b"*")?;
+                Ok(Field::Any)
+            }
+            [b'?', ..] => {
+                self.word(b"?")?;
+                let kind = self.kind()?;
+                Ok(Field::Formal(kind))
+            }
+            [_, ..] => {
+                let atom = self.atom(alloc)?;
+                Ok(Field::Actual(atom))
             }
         }
     }
@@ -216,16 +301,13 @@ impl<'a> Reader<'a> {
     {
         match self.rest {
             [] => Err(Stop::BadByte),
-            [b')', rest @ ..] => {
-                self.rest = rest;
-                Ok(false)
-            }
+            [b')', ..] => Ok(false),
             _ if free => Ok(true),
             _ => Err(Stop::BadByte),
         }
     }
 
-    // Whether an item follows behind blanks, or the list is closed.
+    // Whether an item follows behind blanks, or the list is closed; the parenthesis is left.
     #[tactic(auto, unfolding(crate::specs::Reading::turn))]
     fn turn(&mut self, free: bool) -> Result<bool, Stop>
         ensures { Gives (λ on. on) result (turn free self.old.rest.now) self.new.rest.now }
@@ -234,80 +316,187 @@ impl<'a> Reader<'a> {
         self.follows(free)
     }
 
+    // Why no value has room here, with so many levels below.
     #[tactic(auto, unfolding(crate::specs::Reading::full))]
-    fn full_tuple(&self) -> Stop
-        ensures { full {V = TupleTree} begins_value self.now.rest.now ≡ stop result self.now.rest.now }
+    fn full_tuple(&self, levels: usize) -> Stop
+        ensures { full {V = Option TupleTree} (no_room begins_datum levels) self.now.rest.now ≡ stop result self.now.rest.now }
     {
         match self.rest {
-            [b'-' | b'0'..=b'9', ..] => Stop::TooManyFields,
+            [b'(', ..] if levels == 0 => Stop::TooDeep,
+            [b'(' | b'"' | b'x' | b't' | b'f' | b'-' | b'0'..=b'9', ..] => Stop::TooManyFields,
             _ => Stop::BadByte,
         }
     }
 
     #[tactic(auto, unfolding(crate::specs::Reading::full))]
-    fn full_template(&self) -> Stop
-        ensures { full {V = TemplateTree} begins_field self.now.rest.now ≡ stop result self.now.rest.now }
+    fn full_template(&self, levels: usize) -> Stop
+        ensures { full {V = Option TemplateTree} (no_room begins_slot levels) self.now.rest.now ≡ stop result self.now.rest.now }
     {
         match self.rest {
-            [b'*' | b'?' | b'-' | b'0'..=b'9', ..] => Stop::TooManyFields,
+            [b'(', ..] if levels == 0 => Stop::TooDeep,
+            [b'(' | b'*' | b'?' | b'"' | b'x' | b't' | b'f' | b'-' | b'0'..=b'9', ..] => Stop::TooManyFields,
             _ => Stop::BadByte,
         }
     }
 
-    // The items up to the closing parenthesis.
-    fn values(&mut self, tuple: &mut Tuple<Global>) -> Result<(), Stop>
-        ensures { Gives (λ _. tuple.new) result (items begins_value value (32 - how_many tuple.old) true tuple.old self.old.rest.now) self.new.rest.now }
+    // Whether a list begins here.
+    fn opens(&self) -> bool
+        ensures { result ≡ opens self.now.rest.now }
     {
+        matches!(self.rest, [b'(', ..])
+    }
+
+    // A value with at most so many levels; `None` where its encoding is too long.
+    #[cycle(value)]
+    fn value(&mut self, alloc: Global, levels: usize) -> Result<Option<Value<Global>>, Stop>
+        ensures { Gives (option_map value_of) result (item_at datum_length begins_datum datum levels self.old.rest.now) self.new.rest.now }
+    {
+        if !self.opens() {
+            let atom = self.atom(alloc)?;
+            return Ok(Some(Value::Atom(atom)));
+        }
+        if levels == 0 {
+            return Err(Stop::TooDeep);
+        }
+        match self.list(alloc, levels - 1)? {
+            Some(tuple) => Ok(Some(tuple.into_value())),
+            None => Ok(None),
+        }
+    }
+
+    // A nested tuple with so many levels below it.
+    #[tactic(auto, unfolding(crate::specs::Reading::list_at, crate::specs::Reading::items_at))]
+    #[cycle(value)]
+    fn list(&mut self, alloc: Global, levels: usize) -> Result<Option<Tuple<Global>>, Stop>
+        ensures { Gives (λ t. t) result (list_at datum_length begins_datum datum levels self.old.rest.now) self.new.rest.now }
+    {
+        self.word(b"(")?;
+        let tuple = self.values(alloc, levels)?;
+        self.word(b")")?;
+        Ok(tuple)
+    }
+
+    // The values up to the closing parenthesis, which is left. Those of a tuple that is too long are judged on.
+    #[cycle(value)]
+    fn values(&mut self, alloc: Global, levels: usize) -> Result<Option<Tuple<Global>>, Stop>
+        ensures { Gives (λ t. t) result (items_at datum_length begins_datum datum levels self.old.rest.now) self.new.rest.now }
+    {
+        let mut tuple = Some(Tuple::new_in(alloc));
+        let mut count = 0;
         let mut free = true;
         while self.turn(free)? {
-            if tuple.len() == MAX_FIELDS {
-                return Err(self.full_tuple());
+            if count == MAX_FIELDS {
+                return Err(self.full_tuple(levels));
             }
-            let value = self.value()?;
-            push_value(tuple, value)?;
+            let value = self.value(alloc, levels)?;
+            tuple = with_value(tuple, value)?;
+            count += 1;
             free = false;
         }
-        Ok(())
+        Ok(tuple)
     }
 
-    #[tactic(auto, unfolding(crate::specs::Reading::list))]
+    #[tactic(auto, unfolding(crate::specs::Reading::close))]
+    fn close_tuple(&mut self, tuple: Option<Tuple<Global>>) -> Result<Tuple<Global>, Stop>
+        ensures { Gives (λ t. t) result (Reading.close datum_length begins_datum datum tuple self.old.rest.now) self.new.rest.now }
+    {
+        match self.rest {
+            [b')', rest @ ..] => match tuple {
+                Some(tuple) => {
+                    self.rest = rest;
+                    Ok(tuple)
+                }
+                None => Err(Stop::TooLong),
+            },
+            _ => Err(Stop::BadByte),
+        }
+    }
+
+    #[tactic(auto, unfolding(crate::specs::Reading::whole))]
     fn tuple(&mut self, alloc: Global) -> Result<Tuple<Global>, Stop>
         ensures { Gives (λ t. t) result (tuple self.old.rest.now) self.new.rest.now }
     {
         self.word(b"(")?;
-        let mut tuple = Tuple::new_in(alloc);
-        match self.values(&mut tuple) {
-            Ok(()) => Ok(tuple),
-            Err(stop) => Err(stop),
+        let tuple = self.values(alloc, BELOW)?;
+        self.close_tuple(tuple)
+    }
+
+    // A field with at most so many levels; `None` where its encoding is too long.
+    #[cycle(field)]
+    fn field(&mut self, alloc: Global, levels: usize) -> Result<Option<Field<Global>>, Stop>
+        ensures { Gives (option_map field_of) result (item_at slot_length begins_slot slot levels self.old.rest.now) self.new.rest.now }
+    {
+        if !self.opens() {
+            let field = self.plain_field(alloc)?;
+            return Ok(Some(field));
+        }
+        if levels == 0 {
+            return Err(Stop::TooDeep);
+        }
+        match self.nested(alloc, levels - 1)? {
+            Some(template) => Ok(Some(template.into_field())),
+            None => Ok(None),
         }
     }
 
-    // The items up to the closing parenthesis.
-    fn fields(&mut self, template: &mut Template<Global>) -> Result<(), Stop>
-        ensures { Gives (λ _. template.new) result (items begins_field field (32 - how_many template.old) true template.old self.old.rest.now) self.new.rest.now }
+    // A nested template with so many levels below it.
+    #[tactic(auto, unfolding(crate::specs::Reading::list_at, crate::specs::Reading::items_at))]
+    #[cycle(field)]
+    fn nested(&mut self, alloc: Global, levels: usize) -> Result<Option<Template<Global>>, Stop>
+        ensures { Gives (λ p. p) result (list_at slot_length begins_slot slot levels self.old.rest.now) self.new.rest.now }
     {
+        self.word(b"(")?;
+        let template = self.fields(alloc, levels)?;
+        self.word(b")")?;
+        Ok(template)
+    }
+
+    // The fields up to the closing parenthesis, which is left. Those of a template that is too long are judged on.
+    #[cycle(field)]
+    fn fields(&mut self, alloc: Global, levels: usize) -> Result<Option<Template<Global>>, Stop>
+        ensures { Gives (λ p. p) result (items_at slot_length begins_slot slot levels self.old.rest.now) self.new.rest.now }
+    {
+        let mut template = Some(Template::new_in(alloc));
+        let mut count = 0;
         let mut free = true;
         while self.turn(free)? {
-            if template.len() == MAX_FIELDS {
-                return Err(self.full_template());
+            if count == MAX_FIELDS {
+                return Err(self.full_template(levels));
             }
-            let field = self.field()?;
-            push_field(template, field)?;
+            let field = self.field(alloc, levels)?;
+            template = with_field(template, field)?;
+            count += 1;
             free = false;
         }
-        Ok(())
+        Ok(template)
     }
 
-    #[tactic(auto, unfolding(crate::specs::Reading::list))]
+    #[tactic(auto, unfolding(crate::specs::Reading::close))]
+    fn close_template(
+        &mut self,
+        template: Option<Template<Global>>,
+    ) -> Result<Template<Global>, Stop>
+        ensures { Gives (λ p. p) result (Reading.close slot_length begins_slot slot template self.old.rest.now) self.new.rest.now }
+    {
+        match self.rest {
+            [b')', rest @ ..] => match template {
+                Some(template) => {
+                    self.rest = rest;
+                    Ok(template)
+                }
+                None => Err(Stop::TooLong),
+            },
+            _ => Err(Stop::BadByte),
+        }
+    }
+
+    #[tactic(auto, unfolding(crate::specs::Reading::whole))]
     fn template(&mut self, alloc: Global) -> Result<Template<Global>, Stop>
         ensures { Gives (λ p. p) result (template self.old.rest.now) self.new.rest.now }
     {
         self.word(b"(")?;
-        let mut template = Template::new_in(alloc);
-        match self.fields(&mut template) {
-            Ok(()) => Ok(template),
-            Err(stop) => Err(stop),
-        }
+        let template = self.fields(alloc, BELOW)?;
+        self.close_template(template)
     }
 
     #[tactic(auto, unfolding(crate::specs::Reading::argument))]
@@ -326,7 +515,20 @@ impl<'a> Reader<'a> {
         self.template(alloc)
     }
 
-    #[tactic(auto, unfolding(crate::specs::Reading::ending))]
+    // How many tuples an `rdAll` asks for.
+    #[tactic(auto, unfolding(crate::specs::Reading::argument))]
+    fn count_argument(&mut self) -> Result<Max, Stop>
+        ensures { Gives (λ max. max.count) result (argument (positive 64) self.old.rest.now) self.new.rest.now }
+    {
+        self.gap()?;
+        let count = self.positive(64)?;
+        match Max::new(count as u8) {
+            Some(max) => Ok(max),
+            None => unreachable!(),
+        }
+    }
+
+    #[tactic(auto, unfolding(crate::specs::Reading::ending, crate::specs::Reading::ended))]
     fn ending(&mut self) -> Result<(), Stop>
         ensures { Gives (λ _. true) result (ending self.old.rest.now) self.new.rest.now }
     {
@@ -334,7 +536,7 @@ impl<'a> Reader<'a> {
         self.finish()
     }
 
-    #[tactic(auto, unfolding(crate::specs::Reading::out_line))]
+    #[tactic(auto, unfolding(crate::specs::Reading::out_line, crate::specs::Reading::ended))]
     fn out_line(&mut self, alloc: Global) -> Result<Op<Global>, Stop>
         ensures { Gives operation_of result (out_line self.old.rest.now) self.new.rest.now }
     {
@@ -344,14 +546,60 @@ impl<'a> Reader<'a> {
         Ok(Op::Out(tuple))
     }
 
-    #[tactic(auto, unfolding(crate::specs::Reading::rdp_line))]
+    #[tactic(auto, unfolding(crate::specs::Reading::inp_line, crate::specs::Reading::ended))]
+    fn inp_line(&mut self, alloc: Global) -> Result<Op<Global>, Stop>
+        ensures { Gives operation_of result (inp_line self.old.rest.now) self.new.rest.now }
+    {
+        self.word(b"inp")?;
+        let template = self.template_argument(alloc)?;
+        self.ending()?;
+        Ok(Op::Inp(template))
+    }
+
+    #[tactic(auto, unfolding(crate::specs::Reading::cas_line, crate::specs::Reading::ended))]
+    fn cas_line(&mut self, alloc: Global) -> Result<Op<Global>, Stop>
+        ensures { Gives operation_of result (cas_line self.old.rest.now) self.new.rest.now }
+    {
+        self.word(b"cas")?;
+        let template = self.template_argument(alloc)?;
+        let tuple = self.tuple_argument(alloc)?;
+        self.ending()?;
+        Ok(Op::Cas(template, tuple))
+    }
+
+    // The line of an `rdp` behind its first two letters.
+    #[tactic(auto, unfolding(crate::specs::Reading::rdp_line, crate::specs::Reading::ended))]
     fn rdp_line(&mut self, alloc: Global) -> Result<Op<Global>, Stop>
         ensures { Gives operation_of result (rdp_line self.old.rest.now) self.new.rest.now }
     {
-        self.word(b"rdp")?;
+        self.word(b"p")?;
         let template = self.template_argument(alloc)?;
         self.ending()?;
         Ok(Op::Rdp(template))
+    }
+
+    // The line of an `rdAll` behind its first two letters.
+    #[tactic(auto, unfolding(crate::specs::Reading::all_line, crate::specs::Reading::ended))]
+    fn all_line(&mut self, alloc: Global) -> Result<Op<Global>, Stop>
+        ensures { Gives operation_of result (all_line self.old.rest.now) self.new.rest.now }
+    {
+        self.word(b"All")?;
+        let max = self.count_argument()?;
+        let template = self.template_argument(alloc)?;
+        self.ending()?;
+        Ok(Op::RdAll(max, template))
+    }
+
+    #[tactic(auto, unfolding(crate::specs::Reading::rd_line))]
+    fn rd_line(&mut self, alloc: Global) -> Result<Op<Global>, Stop>
+        ensures { Gives operation_of result (rd_line self.old.rest.now) self.new.rest.now }
+    {
+        self.word(b"rd")?;
+        match self.rest {
+            [] => Err(Stop::BadByte),
+            [b'p', ..] => self.rdp_line(alloc),
+            [_, ..] => self.all_line(alloc),
+        }
     }
 
     #[tactic(auto, unfolding(crate::specs::Reading::operation))]
@@ -360,7 +608,9 @@ impl<'a> Reader<'a> {
     {
         match self.rest {
             [b'o', ..] => self.out_line(alloc),
-            [b'r', ..] => self.rdp_line(alloc),
+            [b'r', ..] => self.rd_line(alloc),
+            [b'i', ..] => self.inp_line(alloc),
+            [b'c', ..] => self.cas_line(alloc),
             _ => Err(Stop::BadByte),
         }
     }
@@ -375,23 +625,43 @@ impl<'a> Reader<'a> {
     }
 }
 
-// A flat list of at most 32 items is within the other limits.
-fn push_value(tuple: &mut Tuple<Global>, value: Value<Global>) -> Result<(), Stop>
-    ensures ok { OnOk result (tuple.new ≡ with_last tuple.old (value_of value)) }
+// The tuple with the value behind it; `None` where one of them, or the whole, is too long. The reader keeps the other
+// limits itself.
+fn with_value(
+    tuple: Option<Tuple<Global>>,
+    value: Option<Value<Global>>,
+) -> Result<Option<Tuple<Global>>, Stop>
+    ensures ok { IfOk result (λ t. t ≡ kept_with datum_length tuple (option_map value_of value)) }
     ensures err { IfErr result (λ s. s ≡ Stop.NoMemory) }
 {
+    let (Some(mut tuple), Some(value)) = (tuple, value) else {
+        return Ok(None);
+    };
     match tuple.push(value) {
-        Ok(()) => Ok(()),
-        Err(_refused) => Err(Stop::NoMemory),
+        Ok(()) => Ok(Some(tuple)),
+        Err(refused) => match refused.refusal {
+            Refusal::TooLong => Ok(None), // judged on, and not kept
+            Refusal::TooManyFields | Refusal::TooDeep | Refusal::NoMemory => Err(Stop::NoMemory),
+        },
     }
 }
 
-fn push_field(template: &mut Template<Global>, field: Field<Global>) -> Result<(), Stop>
-    ensures ok { OnOk result (template.new ≡ with_last template.old (field_of field)) }
+// The template with the field behind it; `None` where one of them, or the whole, is too long.
+fn with_field(
+    template: Option<Template<Global>>,
+    field: Option<Field<Global>>,
+) -> Result<Option<Template<Global>>, Stop>
+    ensures ok { IfOk result (λ p. p ≡ kept_with slot_length template (option_map field_of field)) }
     ensures err { IfErr result (λ s. s ≡ Stop.NoMemory) }
 {
+    let (Some(mut template), Some(field)) = (template, field) else {
+        return Ok(None);
+    };
     match template.push(field) {
-        Ok(()) => Ok(()),
-        Err(_refused) => Err(Stop::NoMemory),
+        Ok(()) => Ok(Some(template)),
+        Err(refused) => match refused.refusal {
+            Refusal::TooLong => Ok(None),
+            Refusal::TooManyFields | Refusal::TooDeep | Refusal::NoMemory => Err(Stop::NoMemory),
+        },
     }
 }

@@ -1,5 +1,5 @@
 use Rattle.std.proofs.lemmas.List.{get_or-replicate}
 use Rattle.space.proofs.births.empty_pages.Goals as goal
 
-pub returns : goal.returns
-returns c = λ page l. get_or-replicate 256 page 0 0 l
+pub returns-clause-none : goal.returns-clause-none
+returns-clause-none c = λ page l. get_or-replicate 256 page 0 0 l

@@ -1,0 +1,89 @@
+-- What stands at the front of a page's text.
+use Rattle.std.proofs.Common.{◌≡◌, ℕ, ◌+◌, ◌^◌, ◌≤◌, ◌<◌, cond, List, [], ◌∷◌, ◌++◌, length, drop, get_or, Option, Some, None, sym, ap, subst, ◌∙◌, arith, inl, inr}
+use Rattle.std.specs.Int.{w64, to_be_bytes}
+use Rattle.std.proofs.lemmas.Bool.{le-ltb, cases_lt, cases_eq}
+use Rattle.std.proofs.lemmas.List.{length-drop, drop-drop, length_push, get_or_append_left, get_or_push, get_or_past}
+use Rattle.byteorder.specs.Endian.{big_number}
+use Rattle.byteorder.specs.Numbers.{big_from-lt}
+use Rattle.tuple_tree.specs.Values.{AreBytes}
+use Rattle.tuple_codec.specs.Operations.{Outcome}
+use Rattle.tuple_codec.specs.Spelling.{SpellsOutcome, outcome_spelling}
+use Rattle.tuple_codec.specs.Reading.{number_of}
+use Rattle.tuple_codec.proofs.Readers.{bytes_drop}
+use Rattle.tuple_codec.proofs.Numbers.{number_8_found}
+use Rattle.reply_cache.specs.declared.cache.Reply.{Reply}
+use Rattle.reply_cache.specs.Replies.{Kept, Replies, last_of, IsReply}
+use Rattle.reply_cache.specs.ReplyView.{reply_of, padded, AreSlots}
+use Rattle.reply_cache.specs.Pages.{reply_text, ArePages}
+use Rattle.reply_cache.specs.Reading.{SpellsReply, AreRead}
+use Rattle.reply_cache.proofs.Slots.{last-padded, AreReplies-padded}
+use Rattle.reply_cache.proofs.Determining.{reply_same, pages_determine}
+
+-- eight bytes are those of the number that they make
+number_front : (bs : List ℕ) → 8 ≤ length bs → AreBytes bs → bs ≡ to_be_bytes w64 (big_number 8 bs) ++ drop 8 bs
+unfolding number_of
+number_front bs l h =
+    let read : number_of 8 bs ≡ Some (big_number 8 bs, drop 8 bs) = ap (λ b. cond b None (Some (big_number 8 bs, drop 8 bs))) (le-ltb (length bs) 8 l) in
+    (number_8_found bs (drop 8 bs) (big_number 8 bs) h read).0.whole
+
+-- A reply that was read by its parts.
+module _ (text front rest : List ℕ) (timestamp number : ℕ) (r : Outcome) (long : 16 ≤ length text) (bytes : AreBytes text) (is_timestamp : timestamp ≡ big_number 8 text) (is_front : front ≡ drop 8 text)
+    (is_number : number ≡ big_number 8 front) (is_rest : rest ≡ drop 16 text) (first : 1 ≤ timestamp) (spelled : SpellsOutcome rest r) where
+  pub reply_found : SpellsReply text (Some (record { timestamp = timestamp; number = number; outcome = r }))
+  reply_found =
+      let front_bytes : AreBytes front = subst AreBytes (sym is_front) (bytes_drop 8 text bytes) in
+      let tail : front ≡ to_be_bytes w64 number ++ outcome_spelling r =
+      number_front front (omega (arith, ap length is_front, length-drop 8 text)) front_bytes ∙ ap (λ n. to_be_bytes w64 n ++ drop 8 front) (sym is_number)
+      ∙ ap (λ bs. to_be_bytes w64 number ++ bs) (ap (drop 8) is_front ∙ drop-drop 8 8 text ∙ sym is_rest ∙ spelled.spelled) in
+      record {
+        valid = record {
+          first = first;
+          timestamp_fits = subst (λ n. n < 2 ^ 64) (sym is_timestamp) (big_from-lt 0 8 text bytes);
+          number_fits = subst (λ n. n < 2 ^ 64) (sym is_number) (big_from-lt 0 8 front front_bytes);
+          answer = spelled.valid;
+        };
+        spelled = number_front text (omega arith) bytes ∙ ap (λ n. to_be_bytes w64 n ++ drop 8 text) (sym is_timestamp) ∙ ap (λ bs. to_be_bytes w64 timestamp ++ bs) (sym is_front ∙ tail);
+      }
+
+pub spelled_one : (text : List ℕ) (o p : Option Kept) → SpellsReply text o → SpellsReply text p → o ≡ p
+spelled_one text o p h k = reply_same o p h.valid k.valid (sym h.spelled ∙ k.spelled)
+
+-- ---- slot by slot
+
+pub AreRead-more : (texts : List (List ℕ)) (slots : List (Option Reply)) (count : ℕ) (text : List ℕ) (slot : Option Reply) → AreRead texts slots count → get_or texts count [] ≡ text → SpellsReply text (reply_of slot)
+    → AreRead texts (slots ++ slot ∷ []) (count + 1)
+AreRead-more texts slots count text slot h is spells = record {
+  long = omega (arith, length_push slots slot, h.long);
+  each = λ client l. elim (cases_eq client count) [
+    | inl same ↦
+        let at : get_or (slots ++ slot ∷ []) client None ≡ slot = ap (λ i. get_or (slots ++ slot ∷ []) i None) same ∙ get_or_push slots slot None count h.long in
+        subst (λ o. SpellsReply (get_or texts client []) (reply_of o)) (sym at) (subst (λ bs. SpellsReply bs (reply_of slot)) (sym (ap (λ i. get_or texts i []) same ∙ is)) spells)
+    | inr other ↦
+        let k : client < count = omega arith in
+        let at : get_or (slots ++ slot ∷ []) client None ≡ get_or slots client None = get_or_append_left slots (slot ∷ []) None client (omega (arith, h.long)) in
+        subst (λ o. SpellsReply (get_or texts client []) (reply_of o)) (sym at) (h.each client k)
+  ];
+}
+
+module _ (texts : List (List ℕ)) (slots : List (Option Reply)) (h : AreRead texts slots 256) where
+  pub AreSlots-read : AreSlots slots
+  AreSlots-read = record {
+    few = omega (arith, h.long);
+    each = λ client. elim (cases_lt client 256) [
+      | inl l ↦ (h.each client l).valid
+      | inr l ↦ subst (λ o. IsReply (reply_of o)) (sym (get_or_past slots client None (omega (arith, h.long)))) tt
+    ];
+  }
+
+  pub ArePages-read : length texts ≡ 256 → ArePages texts (padded slots)
+  ArePages-read all = record {
+    replies = AreReplies-padded slots AreSlots-read;
+    all = all;
+    each = λ client l. (h.each client l).spelled ∙ ap reply_text (sym (last-padded slots client));
+  }
+
+pub ArePages-one : (texts : List (List ℕ)) (rs qs : Replies) → ArePages texts rs → ArePages texts qs → rs ≡ qs
+ArePages-one texts rs qs h k = pages_determine rs qs h.replies k.replies (λ client l. sym (h.each client l) ∙ k.each client l)
+
+pub SpellsReply-of : (texts : List (List ℕ)) (rs : Replies) (client : ℕ) (text : List ℕ) → ArePages texts rs → client < 256 → get_or texts client [] ≡ text → SpellsReply text (last_of rs client)
+SpellsReply-of texts rs client text h l is = record { valid = h.replies.each client; spelled = sym is ∙ h.each client l }

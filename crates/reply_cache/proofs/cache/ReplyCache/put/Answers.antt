@@ -1,0 +1,24 @@
+use Rattle.std.proofs.Common.{ap, ◌∙◌, arith}
+use Rattle.tuple_codec.specs.OperationView.{outcome_of}
+use Rattle.reply_cache.specs.Replies.{with_reply}
+use Rattle.reply_cache.proofs.Slots.{padded-set, AreSlots-set, AreReplies-padded}
+use Rattle.reply_cache.proofs.cache.ReplyCache.put.Goals as goal
+
+pub returns-in_err-reach-clause-valid : goal.returns-in_err-reach-clause-valid
+returns-in_err-reach-clause-valid c = AreReplies-padded c.reach.new.slots.items c.reach.ensures.slots
+
+pub invariant_of-self-2 : goal.invariant_of-self-2
+invariant_of-self-2 c =
+    AreSlots-set c.reach.new.slots.items c.args.client (record { timestamp = c.args.timestamp; number = c.args.number; answer = c.args.answer }) c.reach.ensures.slots
+    (record { first = c.requires; timestamp_fits = omega arith; number_fits = omega arith; answer = c.note_answer.ensures }) ((c.in_ok-reach.ensures {u = tt}).long)
+
+pub returns-clause-ok : goal.returns-clause-ok
+returns-clause-ok c =
+    let few = c.reach.ensures.slots.few in
+    padded-set c.reach.new.slots.items c.args.client (record { timestamp = c.args.timestamp; number = c.args.number; answer = c.args.answer }) ((c.in_ok-reach.ensures {u = tt}).long) few
+    ∙ ap (λ rs. with_reply rs c.args.client (record { timestamp = c.args.timestamp; number = c.args.number; outcome = outcome_of c.args.answer })) (c.reach.ensures.same ∙ c.self.view_is)
+
+pub returns-clause-valid : goal.returns-clause-valid
+returns-clause-valid c =
+    AreReplies-padded _ (AreSlots-set c.reach.new.slots.items c.args.client (record { timestamp = c.args.timestamp; number = c.args.number; answer = c.args.answer }) c.reach.ensures.slots
+    (record { first = c.requires; timestamp_fits = omega arith; number_fits = omega arith; answer = c.note_answer.ensures }) ((c.in_ok-reach.ensures {u = tt}).long))

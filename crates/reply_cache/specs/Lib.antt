@@ -1,0 +1,5 @@
+pub mod Replies
+pub mod RepliesCode
+pub mod ReplyView
+pub mod Pages
+pub mod Reading

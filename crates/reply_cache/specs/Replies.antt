@@ -1,0 +1,42 @@
+-- The last reply to each client. Of each client's requests those run whose timestamp is above that of its last reply
+-- (Castro and Liskov, Practical Byzantine fault tolerance and proactive recovery, TOCS 2002, section 4.1).
+use Rattle.std.specs.Prelude.{◌≡◌, ℕ, ◌^◌, ◌≤◌, ◌<◌, List, length, replicate, slice_index_or, slice_set, Option, Some, None}
+use Rattle.std.specs.Option.{option_map_or}
+use Rattle.tuple_codec.specs.Operations.{Outcome, IsOutcome}
+
+-- the request's timestamp, the number of the batch in which it ran, and its answer
+pub record Kept : Type 0 where
+  pub timestamp : ℕ
+  pub number : ℕ
+  pub outcome : Outcome
+
+-- the last reply to each of the 256 clients, by the client's number
+abbrev pub Replies : Type 0
+Replies = List (Option Kept)
+
+unfoldable pub no_replies : Replies
+no_replies = replicate 256 None
+
+abbrev pub last_of : Replies → ℕ → Option Kept
+last_of rs client = slice_index_or rs client None
+
+-- The timestamp of the last reply, 0 where there is none.
+abbrev pub seen_of : Replies → ℕ → ℕ
+seen_of rs client = option_map_or (λ k. k.timestamp) (last_of rs client) 0
+
+abbrev pub with_reply : Replies → ℕ → Kept → Replies
+with_reply rs client k = slice_set rs client (Some k)
+
+pub record IsKept (k : Kept) : Type 0 where
+  pub first : 1 ≤ k.timestamp
+  pub timestamp_fits : k.timestamp < 2 ^ 64
+  pub number_fits : k.number < 2 ^ 64
+  pub answer : IsOutcome k.outcome
+
+abbrev pub IsReply : Option Kept → Type 0
+IsReply None = Unit {0}
+IsReply (Some k) = IsKept k
+
+pub record AreReplies (rs : Replies) : Type 0 where
+  pub all : length rs ≡ 256
+  pub each : (client : ℕ) → IsReply (last_of rs client)

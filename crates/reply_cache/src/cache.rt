@@ -1,0 +1,187 @@
+//! The replies by client.
+
+ghost use Rattle.std.specs.Prelude.{◌≡◌, ℕ, ◌≤◌, ◌<◌, ◌++◌, ◌∷◌, [], OnOk, OnErr, IfOk, MatchResult, length, map, option_map};
+ghost use Rattle.tuple_tree.specs.Values.{IsTuple};
+ghost use Rattle.tuple_codec.specs.Operations.{AreTuples, IsOutcome};
+ghost use Rattle.tuple_codec.specs.OperationView.{outcome_of};
+ghost use Rattle.reply_cache.specs.Replies.{Replies, no_replies, last_of, seen_of, with_reply, AreReplies};
+ghost use Rattle.reply_cache.specs.ReplyView.{kept_of, padded, AreSlots};
+ghost use Rattle.reply_cache.specs.Pages.{page_text, ArePages};
+
+use crate::pages::{put_reply, read_reply};
+use std::alloc::Global;
+use std::marker::Model;
+use tuple_codec::{Answer, Bad};
+use tuple_tree::{NoMemory, Tuple};
+
+/// How many clients there are at the most.
+pub const CLIENTS: usize = 256;
+
+/// The reply to a client's last request.
+#[derive(Drop)]
+pub struct Reply {
+    /// The request's timestamp, from 1 on.
+    pub timestamp: u64,
+    /// The number of the batch in which the request ran.
+    pub number: u64,
+    pub answer: Answer<Global>,
+}
+
+/// The last reply to each of the clients 0 to 255.
+#[derive(Drop)]
+pub struct ReplyCache {
+    // One slot for each client up to the last one that has a reply.
+    slots: Vec<Option<Reply>>,
+}
+
+impl Model for ReplyCache {
+    ghost use Rattle.reply_cache.specs.Replies.{Replies};
+    ghost use Rattle.reply_cache.specs.RepliesCode.{replies_code};
+    ghost use Rattle.reply_cache.specs.ReplyView.{padded, AreSlots};
+
+    ghost Value = { Replies };
+
+    ghost coded = { replies_code };
+
+    ghost view = { λ a. padded a.slots.items };
+
+    ghost invariant = { λ a. AreSlots a.slots.items };
+}
+
+impl ReplyCache {
+    /// No replies. Takes no memory.
+    pub fn new(alloc: Global) -> ReplyCache
+        ensures { result ≡ no_replies }
+    {
+        ReplyCache {
+            slots: Vec::new(alloc),
+        }
+    }
+
+    /// The reply to the client's last request. Takes no memory.
+    pub fn last(&self, client: u8) -> Option<&Reply>
+        ensures { option_map (λ reply. kept_of reply.now) result ≡ last_of self.now client }
+    {
+        if (client as usize) < self.slots.len() {
+            self.slots[client as usize].as_ref()
+        } else {
+            None
+        }
+    }
+
+    /// The timestamp of the client's last request, 0 where there is none. Takes no memory.
+    pub fn seen(&self, client: u8) -> u64
+        ensures { result ≡ seen_of self.now client }
+    {
+        match self.last(client) {
+            Some(reply) => reply.timestamp,
+            None => 0,
+        }
+    }
+
+    /// Keeps the reply to the client's last request in place of the one before. `timestamp` is from 1 on. An `Err`
+    /// changes nothing.
+    pub fn put(
+        &mut self,
+        client: u8,
+        timestamp: u64,
+        number: u64,
+        answer: Answer<Global>,
+    ) -> Result<(), NoMemory>
+        requires { 1 ≤ timestamp }
+        ensures ok { OnOk result (self.new ≡ with_reply self.old client (record { timestamp = timestamp; number = number; outcome = outcome_of answer })) }
+        ensures err { OnErr result (self.new ≡ self.old) }
+        ensures valid { AreReplies self.new }
+    {
+        note_answer(&answer);
+        reach(&mut self.slots, client as usize)?;
+        self.slots[client as usize] = Some(Reply {
+            timestamp,
+            number,
+            answer,
+        });
+        Ok(())
+    }
+
+    /// The text of the client's page: empty without a reply, else the timestamp and the number in 8 bytes each, high
+    /// byte first, and the spelling of the answer.
+    pub fn page_text(&self, client: u8) -> Result<Vec<u8>, NoMemory>
+        ensures { IfOk result (λ text. text.items ≡ page_text self.now client) }
+    {
+        let mut text = Vec::new(*self.slots.allocator());
+        if let Some(reply) = self.last(client) {
+            put_reply(reply, &mut text)?;
+        }
+        Ok(text)
+    }
+
+    /// The replies by the texts of their pages, one for each of the clients 0 to 255.
+    ///
+    /// # Errors
+    ///
+    /// Malformed where these are the pages of no replies: a timestamp is 0, an answer isn't spelled, or there are not 256
+    /// texts. Else NoMemory where memory runs out.
+    pub fn from_pages(alloc: Global, pages: &[&[u8]]) -> Result<ReplyCache, Bad>
+        // What is read has these pages.
+        ensures found { IfOk result (λ c. ArePages (map (λ page. page.now) pages.now) c) }
+
+        // The replies with these pages are read, unless memory runs out.
+        ensures only { (rs : Replies) → ArePages (map (λ page. page.now) pages.now) rs → MatchResult result (λ c. c ≡ rs) (λ bad. bad ≡ Bad.NoMemory) }
+    {
+        if pages.len() != CLIENTS {
+            return Err(Bad::Malformed);
+        }
+        let mut slots = Vec::new(alloc);
+        for text in pages {
+            let slot = read_reply(alloc, text)?;
+            add_slot(&mut slots, slot)?;
+        }
+        Ok(ReplyCache { slots })
+    }
+}
+
+fn add_slot(slots: &mut Vec<Option<Reply>>, slot: Option<Reply>) -> Result<(), NoMemory>
+    ensures { OnOk result (slots.new.items ≡ slots.old.items ++ slot ∷ []) }
+{
+    Ok(slots.push(slot)?)
+}
+
+// Adds empty slots up to that of the client. An `Err` keeps what the slots stand for.
+fn reach(slots: &mut Vec<Option<Reply>>, client: usize) -> Result<(), NoMemory>
+    requires client { client < 256 }
+    requires slots { AreSlots slots.old.items }
+    ensures same { padded slots.new.items ≡ padded slots.old.items }
+    ensures slots { AreSlots slots.new.items }
+    ensures long { OnOk result (client < length slots.new.items) }
+{
+    for _slot in slots.len()..client + 1 {
+        slots.push(None)?;
+    }
+    Ok(())
+}
+
+// Each answer that the program holds is within the limits.
+fn note_answer(answer: &Answer<Global>)
+    ensures { IsOutcome (outcome_of answer.now) }
+{
+    match answer {
+        Answer::Found(tuple) => note_tuple(tuple),
+        Answer::All(tuples) => note_tuples(tuples.as_slice()),
+        Answer::Done | Answer::Absent | Answer::Swapped(_) | Answer::Full | Answer::Refused => {}
+    }
+}
+
+fn note_tuples(tuples: &[Tuple<Global>])
+    ensures { AreTuples tuples.now }
+{
+    for tuple in tuples {
+        note_tuple(tuple);
+    }
+}
+
+// Each tuple that the program holds is within the limits.
+fn note_tuple(tuple: &Tuple<Global>)
+    ensures { IsTuple tuple.now }
+{
+    let _depth = tuple.depth();
+}

@@ -1,0 +1,87 @@
+//! The texts of pages, and back.
+
+ghost use Rattle.std.specs.Prelude.{◌≡◌, ℕ, ◌≤◌, ◌++◌, length, drop, Option, IfOk, OnOk, MatchResult};
+ghost use Rattle.std.specs.Int.{w64, to_be_bytes};
+ghost use Rattle.tuple_codec.specs.Operations.{Outcome};
+ghost use Rattle.tuple_codec.specs.OperationView.{outcome_of};
+ghost use Rattle.tuple_codec.specs.Spelling.{SpellsOutcome};
+ghost use Rattle.reply_cache.specs.Replies.{Kept};
+ghost use Rattle.reply_cache.specs.ReplyView.{kept_of, reply_of};
+ghost use Rattle.reply_cache.specs.Pages.{kept_text};
+ghost use Rattle.reply_cache.specs.Reading.{SpellsReply};
+
+use crate::cache::Reply;
+use byteorder::{BigEndian, ByteOrder};
+use std::alloc::Global;
+use tuple_codec::{Answer, Bad, decode_result, encode_result};
+use tuple_tree::NoMemory;
+
+// How many bytes stand before the answer.
+const NUMBERS_LEN: usize = 16;
+
+/// Appends the text of a reply.
+pub fn put_reply(reply: &Reply, out: &mut Vec<u8>) -> Result<(), NoMemory>
+    ensures { OnOk result (out.new.items ≡ out.old.items ++ kept_text (kept_of reply.now)) }
+{
+    out.extend_from_slice(&number_bytes(reply.timestamp))?;
+    out.extend_from_slice(&number_bytes(reply.number))?;
+    encode_result(&reply.answer, out)
+}
+
+fn number_bytes(number: u64) -> [u8; 8]
+    ensures { result ≡ to_be_bytes w64 number }
+{
+    let mut bytes = [0; 8];
+    BigEndian::write_u64(&mut bytes, number);
+    bytes
+}
+
+// The bytes behind the first n.
+fn behind(bytes: &[u8], n: usize) -> &[u8]
+    requires { n ≤ length bytes.now }
+    ensures { result.now ≡ drop n bytes.now }
+{
+    &bytes[n..]
+}
+
+// The answer that bytes spell as a whole.
+fn read_answer(alloc: Global, bytes: &[u8]) -> Result<Answer<Global>, Bad>
+    ensures found { IfOk result (λ a. SpellsOutcome bytes.now (outcome_of a)) }
+    ensures only { (r : Outcome) → SpellsOutcome bytes.now r → MatchResult result (λ a. outcome_of a ≡ r) (λ bad. bad ≡ Bad.NoMemory) }
+{
+    match decode_result(alloc, bytes) {
+        Ok((answer, len)) => {
+            if len < bytes.len() {
+                return Err(Bad::Malformed);
+            }
+            Ok(answer)
+        }
+        Err(bad) => Err(bad),
+    }
+}
+
+/// The reply that a page's text spells.
+pub fn read_reply(alloc: Global, text: &[u8]) -> Result<Option<Reply>, Bad>
+    ensures found { IfOk result (λ r. SpellsReply text.now (reply_of r)) }
+    ensures only { (o : Option Kept) → SpellsReply text.now o → MatchResult result (λ r. reply_of r ≡ o) (λ bad. bad ≡ Bad.NoMemory) }
+{
+    if text.is_empty() {
+        return Ok(None);
+    }
+    if text.len() < NUMBERS_LEN {
+        return Err(Bad::Malformed);
+    }
+    let timestamp = BigEndian::read_u64(text);
+    let number = BigEndian::read_u64(behind(text, 8));
+    if timestamp == 0 {
+        return Err(Bad::Malformed);
+    }
+    match read_answer(alloc, behind(text, NUMBERS_LEN)) {
+        Ok(answer) => Ok(Some(Reply {
+            timestamp,
+            number,
+            answer,
+        })),
+        Err(bad) => Err(bad),
+    }
+}

@@ -1,0 +1,23 @@
+use Rattle.std.proofs.Common.{arith}
+use Rattle.space.proofs.Fronts.{header_found, header_numbers}
+use Rattle.space.proofs.reading.read_header.Goals as goal
+use Rattle.space.proofs.reading.read_header.Goals.{else-number-lt-NUMBERS_END-via-then-number-lt-NUMBERS_END+else-next-number, else-number-lt-NUMBERS_END-via-else-number-lt-NUMBERS_END}
+
+pub returns-then-next-number-clause-found : goal.returns-then-next-number-clause-found
+returns-then-next-number-clause-found c = record {
+  spelled = header_found c.args.header.now c.behind.result.now c.behind-2.result.now c.read_u64-number.result c.read_u64-next.result (omega arith) (λ i. omega (arith, c.type_inv.header i)) (omega arith)
+      c.behind.ensures c.behind-2.ensures c.read_u64-number.ensures c.read_u64-next.ensures;
+  births = omega arith;
+  few = omega arith;
+}
+
+pub returns-else-number-lt-NUMBERS_END-clause-only : goal.returns-else-number-lt-NUMBERS_END-clause-only
+returns-else-number-lt-NUMBERS_END-clause-only c number next is =
+    let same = header_numbers c.args.header.now c.behind.result.now c.behind-2.result.now c.read_u64-number.result c.read_u64-next.result number next
+    c.behind.ensures c.behind-2.ensures c.read_u64-number.ensures c.read_u64-next.ensures is in
+    let few = is.few in
+    let births = is.births in
+    absurd (elim c.else-number-lt-NUMBERS_END.branch [
+      | else-number-lt-NUMBERS_END-via-then-number-lt-NUMBERS_END+else-next-number w ↦ omega arith
+      | else-number-lt-NUMBERS_END-via-else-number-lt-NUMBERS_END w ↦ omega arith
+    ])

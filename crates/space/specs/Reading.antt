@@ -1,0 +1,75 @@
+-- What the private functions that read pages speak of.
+use Rattle.std.specs.Prelude.{◌≡◌, ◌≢◌, ℕ, ◌*◌, ◌%◌, ◌^◌, ◌≤◌, ◌<◌, List, [], ◌∷◌, ◌++◌, length, take, drop, slice_index, slice_index_or, All, AllPairs}
+use Rattle.std.specs.Int.{w64, to_be_bytes}
+use Rattle.tuple_tree.specs.Values.{IsTuple}
+use Rattle.space.specs.Births.{Entry, SpaceState, IsState}
+use Rattle.space.specs.Pages.{entries_text, on_page, page_text}
+
+-- what can be written as an entry of a page
+pub record IsEntry (e : Entry) : Type 0 where
+  pub fits : e.0 < 2 ^ 64
+  pub tuple : IsTuple e.1
+
+-- an entry of this page whose birth is from least on and below next
+pub record IsEntryOf (page least next : ℕ) (e : Entry) : Type 0 where
+  pub here : e.0 % 256 ≡ page
+  pub not_below : least ≤ e.0
+  pub below : e.0 < next
+  pub tuple : IsTuple e.1
+
+-- the tuples of one page of a state
+pub record IsPage (page next : ℕ) (es : List Entry) : Type 0 where
+  pub rising : AllPairs (λ e f. e.0 < f.0) es
+  pub below_next : All (λ e. e.0 < next) es
+  pub here : All (λ e. e.0 % 256 ≡ page) es
+  pub few : length es ≤ 64
+  pub tuples : All (λ e. IsTuple e.1) es
+
+-- where a birth belongs among births that rise
+pub record IsPlace (es : List Entry) (birth place : ℕ) : Type 0 where
+  pub bound : place ≤ length es
+  pub before : All (λ e. e.0 < birth) (take place es)
+  pub behind : All (λ e. birth ≤ e.0) (drop place es)
+
+-- one entry more, the last on its page, and none moved on any page
+pub record IsAdded (old new : List Entry) (e : Entry) : Type 0 where
+  pub rising : AllPairs (λ e f. e.0 < f.0) new
+  pub pages : (page : ℕ) → on_page page new ≡ on_page page old ++ on_page page (e ∷ [])
+
+-- the tuples of a page were added, by its text, to those of other pages
+pub record IsPageRead (page next : ℕ) (text : List ℕ) (old new : List Entry) : Type 0 where
+  pub rising : AllPairs (λ e f. e.0 < f.0) new
+  pub valid : IsPage page next (on_page page new)
+  pub spelled : text ≡ entries_text (on_page page new)
+  pub others : (p : ℕ) → p ≢ page → on_page p new ≡ on_page p old
+
+-- the same of the front of the text: least is the least birth that may follow
+pub record IsFrontRead (page next : ℕ) (text : List ℕ) (old new : List Entry) (rest : List ℕ) (count least : ℕ) : Type 0 where
+  pub rising : AllPairs (λ e f. e.0 < f.0) new
+  pub valid : IsPage page next (on_page page new)
+  pub spelled : text ≡ entries_text (on_page page new) ++ rest
+  pub others : (p : ℕ) → p ≢ page → on_page p new ≡ on_page p old
+  pub counted : count ≡ length (on_page page new)
+  pub above : All (λ e. e.0 < least) (on_page page new)
+  pub tight : (n : ℕ) → All (λ e. e.0 < n) (on_page page new) → least ≤ n
+
+-- a header of these numbers
+pub record IsHeader (header : List ℕ) (number next : ℕ) : Type 0 where
+  pub spelled : header ≡ 1 ∷ to_be_bytes w64 number ++ to_be_bytes w64 next
+  pub births : next ≤ 4096 * number
+  pub few : number < 2 ^ 48
+
+-- The first n of the pages were read: their tuples in the order of births, and how many lie on each page.
+pub record ArePagesRead (n next : ℕ) (texts : List (List ℕ)) (es : List Entry) (counts : List ℕ) : Type 0 where
+  pub rising : AllPairs (λ e f. e.0 < f.0) es
+  pub valid : (page : ℕ) → page < n → IsPage page next (on_page page es)
+  pub spelled : (page : ℕ) → page < n → slice_index_or texts page [] ≡ entries_text (on_page page es)
+  pub unread : (page : ℕ) → n ≤ page → on_page page es ≡ []
+  pub counted : (page : ℕ) → page < 256 → slice_index counts page ≡ length (on_page page es)
+  pub long : length counts ≡ 256
+
+-- the texts of pages are those of a state with this next birth number
+pub record ArePagesOf (next : ℕ) (texts : List (List ℕ)) (s : SpaceState) : Type 0 where
+  pub state : IsState s
+  pub same_next : s.next ≡ next
+  pub each : (page : ℕ) → page < 256 → slice_index_or texts page [] ≡ page_text s page

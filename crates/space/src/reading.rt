@@ -1,0 +1,134 @@
+//! From the texts of pages back to births and tuples.
+
+ghost use Rattle.std.specs.Prelude.{◌≡◌, ◌≢◌, ℕ, ◌+◌, ◌*◌, ◌^◌, ◌≤◌, ◌<◌, ◌%◌, ◌++◌, ◌∷◌, [], List, length, drop, All, AllPairs, IfOk, OnOk, IfErr, IfSome, IsSome, MatchResult};
+ghost use Rattle.std.specs.Int.{w64, to_be_bytes};
+ghost use Rattle.space.specs.Births.{Entry};
+ghost use Rattle.space.specs.Pages.{entry_text, entries_text, on_page};
+ghost use Rattle.space.specs.Reading.{IsEntry, IsEntryOf, IsPage, IsPlace, IsAdded, IsPageRead, IsHeader};
+
+use crate::births::{MAX_ON_PAGE, PAGES};
+use crate::pages::{HEADER_LEN, VERSION};
+use byteorder::{BigEndian, ByteOrder};
+use std::alloc::Global;
+use tuple_codec::{Bad, decode_tuple};
+use tuple_tree::{NoMemory, Tuple};
+
+// The numbers of batches end here.
+const NUMBERS_END: u64 = 1 << 48;
+
+// At most 16 requests, each of which takes at most 256 births.
+const BIRTHS_A_BATCH: u64 = 4096;
+
+// The bytes behind the first n.
+fn behind(bytes: &[u8], n: usize) -> &[u8]
+    requires { n ≤ length bytes.now }
+    ensures { result.now ≡ drop n bytes.now }
+{
+    &bytes[n..]
+}
+
+// The birth and the tuple at the front, and the bytes behind them.
+fn read_entry(alloc: Global, bytes: &[u8]) -> Result<((u64, Tuple<Global>), &[u8]), Bad>
+    ensures found { IfOk result (λ x. IsEntry x.0 × (bytes.now ≡ entry_text x.0 ++ x.1.now)) }
+    ensures only { (e : Entry) (rest : List ℕ) → IsEntry e → bytes.now ≡ entry_text e ++ rest → MatchResult result (λ x. (x.0 ≡ e) × (x.1.now ≡ rest)) (λ bad. bad ≡ Bad.NoMemory) }
+{
+    if bytes.len() < 8 {
+        return Err(Bad::Malformed);
+    }
+    let birth = BigEndian::read_u64(bytes);
+    let text = behind(bytes, 8);
+    match decode_tuple(alloc, text) {
+        Ok((tuple, len)) => Ok(((birth, tuple), behind(text, len))),
+        Err(bad) => Err(bad),
+    }
+}
+
+// The same where the birth is one of the page, from `least` on and below `next`.
+fn read_entry_of(
+    alloc: Global,
+    bytes: &[u8],
+    page: usize,
+    least: u64,
+    next: u64,
+) -> Result<((u64, Tuple<Global>), &[u8]), Bad>
+    ensures found { IfOk result (λ x. IsEntryOf page least next x.0 × (bytes.now ≡ entry_text x.0 ++ x.1.now)) }
+    ensures only { (e : Entry) (rest : List ℕ) → IsEntryOf page least next e → bytes.now ≡ entry_text e ++ rest → MatchResult result (λ x. (x.0 ≡ e) × (x.1.now ≡ rest)) (λ bad. bad ≡ Bad.NoMemory) }
+{
+    let (entry, rest) = read_entry(alloc, bytes)?;
+    if entry.0 % PAGES as u64 != page as u64 || entry.0 < least || entry.0 >= next {
+        return Err(Bad::Malformed);
+    }
+    Ok((entry, rest))
+}
+
+// Where a birth belongs.
+fn place_of(entries: &[(u64, Tuple<Global>)], birth: u64) -> usize
+    requires { AllPairs (λ e f. e.0 < f.0) entries.now }
+    ensures { IsPlace entries.now birth result }
+{
+    entries.partition_point(|entry| entry.0 < birth)
+}
+
+// Puts an entry where its birth belongs.
+fn add_entry(
+    entries: &mut Vec<(u64, Tuple<Global>)>,
+    entry: (u64, Tuple<Global>),
+) -> Result<(), NoMemory>
+    requires rising { AllPairs (λ e f. e.0 < f.0) entries.old.items }
+    requires latest { All (λ e. e.0 % 256 ≡ entry.0 % 256 → e.0 < entry.0) entries.old.items }
+    ensures { OnOk result (IsAdded entries.old.items entries.new.items entry) }
+{
+    let place = place_of(entries.as_slice(), entry.0);
+    Ok(entries.insert(place, entry)?)
+}
+
+/// Adds the tuples of a page, by its text, to those of other pages, and says how many they are: at most 64.
+///
+/// # Errors
+///
+/// Malformed where the text is that of no page of a state with this next birth number, and else NoMemory where memory
+/// runs out. What was added by then stays.
+pub fn read_page(
+    entries: &mut Vec<(u64, Tuple<Global>)>,
+    text: &[u8],
+    page: usize,
+    next: u64,
+) -> Result<u8, Bad>
+    requires rising { AllPairs (λ e f. e.0 < f.0) entries.old.items }
+    requires empty { on_page page entries.old.items ≡ [] }
+    ensures found { OnOk result (IsPageRead page next text.now entries.old.items entries.new.items) }
+    ensures count { IfOk result (λ n. n ≡ length (on_page page entries.new.items)) }
+    ensures only { (es : List Entry) → IsPage page next es → text.now ≡ entries_text es → IfErr result (λ bad. bad ≡ Bad.NoMemory) }
+{
+    let mut rest = text;
+    let mut count = 0;
+    let mut least = 0;
+    while !rest.is_empty() {
+        if count >= MAX_ON_PAGE {
+            return Err(Bad::Malformed);
+        }
+        let (entry, after) = read_entry_of(*entries.allocator(), rest, page, least, next)?;
+        least = entry.0 + 1;
+        add_entry(entries, entry)?;
+        count += 1;
+        rest = after;
+    }
+    Ok(count)
+}
+
+/// The numbers of a header, first that of the executed batches, then the next birth number; none where it is no state's.
+pub fn read_header(header: &[u8]) -> Option<(u64, u64)>
+    ensures found { IfSome result (λ x. IsHeader header.now x.0 x.1) }
+    ensures only { (number next : ℕ) → IsHeader header.now number next → IsSome result }
+{
+    if header.len() != HEADER_LEN || header[0] != VERSION {
+        return None;
+    }
+    let number = BigEndian::read_u64(behind(header, 1));
+    let next = BigEndian::read_u64(behind(header, 9));
+    if number < NUMBERS_END && next <= number * BIRTHS_A_BATCH {
+        Some((number, next))
+    } else {
+        None
+    }
+}

@@ -1,0 +1,148 @@
+-- Reading byte string literals.
+use Rattle.std.proofs.Common.{◌≡◌, ℕ, zero, suc, ◌+◌, ◌*◌, ◌/◌, ◌%◌, ◌<◌, ◌==◌, Bool, true, false, cond, List, [], ◌∷◌, ◌++◌, Option, None, Some, refl, ap, sym, subst, ◌∙◌, append_assoc, append-nil, arith}
+use Rattle.std.proofs.lemmas.Bool.{eqb-true}
+use Rattle.std.specs.List.{flat_map}
+use Rattle.tuple_tree.specs.Values.{bytes, AreBytes}
+use Rattle.tuple_text.specs.Texts.{hex_digit, hex_pair, datum_text}
+use Rattle.tuple_text.specs.Read.{got, stop}
+use Rattle.tuple_text.specs.Literals.{is_hex, hex_value, pairs, bytes_literal}
+use Rattle.tuple_text.specs.declared.reader.Stop.TheVariants.{BadByte}
+use Rattle.tuple_text.proofs.Right.{Limits, both, RightAs, right_on}
+use Rattle.tuple_text.proofs.Local.{LocalAs, IsLocal, local_got, local_stop, local_empty, local_test}
+use Rattle.tuple_text.proofs.LiteralTexts.{stuck_first}
+use Rattle.tuple_text.proofs.LiteralCharacters.{hex_is, digit_hex, pair_of}
+
+no_bytes : AreBytes []
+no_bytes i = omega arith
+
+byte_more : (b : ℕ) (s : List ℕ) → b < 256 → AreBytes s → AreBytes (b ∷ s)
+byte_more b s p h zero = p
+byte_more b s p h (suc i) = h i
+
+first_byte : (b : ℕ) (s : List ℕ) → AreBytes (b ∷ s) → b < 256
+first_byte b s h = h 0
+
+other_bytes : (b : ℕ) (s : List ℕ) → AreBytes (b ∷ s) → AreBytes s
+other_bytes b s h i = h (suc i)
+
+-- The rest of a byte string: its bytes, and how they are spelled.
+abbrev Left : Option ℕ → List ℕ → List ℕ → Type 0
+Left None r w = AreBytes r × (w ≡ flat_map hex_pair r)
+Left (Some high) r w = (low : ℕ) × (t : List ℕ) × (low < 16) × AreBytes t × (r ≡ (high * 16 + low) ∷ t) × (w ≡ hex_digit low ∷ flat_map hex_pair t)
+
+abbrev IsFrom : List ℕ → Option ℕ → List ℕ → List ℕ → Type 0
+IsFrom s high v w = (r : List ℕ) × (v ≡ s ++ r) × Left high r w
+
+abbrev BeginsFrom : Option ℕ → Limits → List ℕ → Type 0
+BeginsFrom high c w = (r u : List ℕ) × Left high r (w ++ u)
+
+begins_some : (high : Option ℕ) (c : Limits) → BeginsFrom high c []
+begins_some None c = ([], [], (no_bytes, refl))
+begins_some (Some high) c = ((high * 16 + 0) ∷ [], 48 ∷ [], (0, [], omega arith, no_bytes, refl, refl))
+
+first_left : (b : ℕ) (r w : List ℕ) → is_hex b ≡ true → Left (Some (hex_value b)) r w → Left None r (b ∷ w)
+first_left b r w e h =
+    let d = hex_is b e in
+    let p = d.0 in
+    let q = h.2 in
+    let v = hex_value b * 16 + h.0 in (
+      subst AreBytes (sym h.4) (byte_more v h.1 (omega arith) h.3),
+      ap (λ y. b ∷ y) h.5 ∙ ap (λ y. y ∷ hex_digit h.0 ∷ flat_map hex_pair h.1) (sym d.1) ∙ ap (λ y. y ++ flat_map hex_pair h.1) (sym (pair_of (hex_value b) h.0 h.2)) ∙ ap (flat_map hex_pair) (sym h.4),
+    )
+
+second_left : (high b : ℕ) (r w : List ℕ) → is_hex b ≡ true → Left None r w → Left (Some high) ((high * 16 + hex_value b) ∷ r) (b ∷ w)
+second_left high b r w e h = let d = hex_is b e in (hex_value b, r, d.0, h.0, refl, ap (λ y. b ∷ y) h.1 ∙ ap (λ y. y ∷ flat_map hex_pair r) (sym d.1))
+
+first_case : (s : List ℕ) (b : ℕ) (bs : List ℕ) (t : Bool) → is_hex b ≡ t → RightAs (IsFrom s (Some (hex_value b))) (BeginsFrom (Some (hex_value b))) bs (pairs s (Some (hex_value b)) bs)
+    → RightAs (IsFrom s None) (BeginsFrom None) (b ∷ bs) (cond t (pairs s (Some (hex_value b)) bs) (got s (b ∷ bs)))
+first_case s b bs true e h =
+    right_on (IsFrom s (Some (hex_value b))) (BeginsFrom (Some (hex_value b))) (IsFrom s None) (BeginsFrom None) (b ∷ []) bs (pairs s (Some (hex_value b)) bs)
+    (λ v w k. (k.0, k.1, first_left b k.0 w e k.2)) (λ c w k. (k.0, k.1, first_left b k.0 (w ++ k.1) e k.2)) h
+first_case s b bs false e h = record { passed = []; whole = refl; is = ([], sym (append-nil s), (no_bytes, refl)) }
+
+second_case : (s : List ℕ) (high b : ℕ) (bs : List ℕ) (t : Bool) → is_hex b ≡ t → ((r : List ℕ) → RightAs (IsFrom r None) (BeginsFrom None) bs (pairs r None bs))
+    → RightAs (IsFrom s (Some high)) (BeginsFrom (Some high)) (b ∷ bs) (cond t (pairs (s ++ (high * 16 + hex_value b) ∷ []) None bs) (stop BadByte (b ∷ bs)))
+second_case s high b bs true e h =
+    let x = high * 16 + hex_value b in
+    right_on (IsFrom (s ++ x ∷ []) None) (BeginsFrom None) (IsFrom s (Some high)) (BeginsFrom (Some high)) (b ∷ []) bs (pairs (s ++ x ∷ []) None bs)
+    (λ v w k. (x ∷ k.0, k.1 ∙ append_assoc s (x ∷ []) k.0, second_left high b k.0 w e k.2)) (λ c w k. (x ∷ k.0, k.1, second_left high b k.0 (w ++ k.1) e k.2)) (h (s ++ x ∷ []))
+second_case s high b bs false e h = stuck_first (BeginsFrom (Some high)) (b ∷ bs) (begins_some (Some high) both)
+
+pairs_right : (bs s : List ℕ) (high : Option ℕ) → RightAs (IsFrom s high) (BeginsFrom high) bs (pairs s high bs)
+pairs_right [] s None = record { passed = []; whole = refl; is = ([], sym (append-nil s), (no_bytes, refl)) }
+pairs_right (b ∷ bs) s None = first_case s b bs (is_hex b) refl (pairs_right bs s (Some (hex_value b)))
+pairs_right [] s (Some high) = stuck_first (BeginsFrom (Some high)) [] (begins_some (Some high) both)
+pairs_right (b ∷ bs) s (Some high) = second_case s high b bs (is_hex b) refl (λ r. pairs_right bs r None)
+
+-- A byte string literal.
+abbrev pub IsByteString : List ℕ → List ℕ → Type 0
+IsByteString s w = (w ≡ datum_text (bytes s)) × AreBytes s
+
+abbrev pub BeginsByteString : Limits → List ℕ → Type 0
+BeginsByteString c w = (s : List ℕ) × (u : List ℕ) × IsByteString s (w ++ u)
+
+whole_bytes : (s w : List ℕ) → Left None s w → IsByteString s (120 ∷ w)
+whole_bytes s w h = (ap (λ y. 120 ∷ y) h.1, h.0)
+
+letter_case : (b : ℕ) (bs : List ℕ) (t : Bool) → (b == 120) ≡ t → RightAs IsByteString BeginsByteString (b ∷ bs) (cond t (pairs [] None bs) (stop BadByte (b ∷ bs)))
+letter_case b bs true e =
+    subst (λ c. RightAs IsByteString BeginsByteString (c ∷ bs) (pairs [] None bs)) (sym (eqb-true b 120 e))
+    (right_on (IsFrom [] None) (BeginsFrom None) IsByteString BeginsByteString (120 ∷ []) bs (pairs [] None bs)
+    (λ v w k. subst (λ y. IsByteString y (120 ∷ w)) (sym k.1) (whole_bytes k.0 w k.2)) (λ c w k. (k.0, k.1, whole_bytes k.0 (w ++ k.1) k.2)) (pairs_right bs [] None))
+letter_case b bs false e = stuck_first BeginsByteString (b ∷ bs) ([], 120 ∷ [], (refl, no_bytes))
+
+pub bytes_right : (bs : List ℕ) → RightAs IsByteString BeginsByteString bs (bytes_literal bs)
+unfolding bytes_literal
+bytes_right [] = stuck_first BeginsByteString [] ([], 120 ∷ [], (refl, no_bytes))
+bytes_right (b ∷ bs) = letter_case b bs (b == 120) refl
+
+-- what a first byte begins
+pub bytes_starts : (c : Limits) → BeginsByteString c (120 ∷ [])
+bytes_starts c = ([], [], (refl, no_bytes))
+
+pub bytes_head : (s : List ℕ) → (t : List ℕ) × (datum_text (bytes s) ≡ 120 ∷ t)
+bytes_head s = (flat_map hex_pair s, refl)
+
+-- Again: the text of a byte string, and something that doesn't go on with a hexadecimal digit.
+abbrev pub NoHex : List ℕ → Type 0
+NoHex [] = Unit {0}
+NoHex (b ∷ bs) = is_hex b ≡ false
+
+pairs_end : (s u : List ℕ) → NoHex u → pairs s None u ≡ got s u
+pairs_end s [] h = refl
+pairs_end s (b ∷ u) h = ap (λ t. cond t (pairs s (Some (hex_value b)) u) (got s (b ∷ u))) h
+
+first_again : (s : List ℕ) (d : ℕ) (u : List ℕ) → d < 16 → pairs s None (hex_digit d ∷ u) ≡ pairs s (Some d) u
+first_again s d u p =
+    let h = digit_hex d p in
+    ap (λ t. cond t (pairs s (Some (hex_value (hex_digit d))) u) (got s (hex_digit d ∷ u))) h.0 ∙ ap (λ n. pairs s (Some n) u) h.1
+
+second_again : (s : List ℕ) (high d : ℕ) (u : List ℕ) → d < 16 → pairs s (Some high) (hex_digit d ∷ u) ≡ pairs (s ++ (high * 16 + d) ∷ []) None u
+second_again s high d u p =
+    let h = digit_hex d p in
+    ap (λ t. cond t (pairs (s ++ (high * 16 + hex_value (hex_digit d)) ∷ []) None u) (stop BadByte (hex_digit d ∷ u))) h.0 ∙ ap (λ n. pairs (s ++ (high * 16 + n) ∷ []) None u) h.1
+
+pairs_again : (r s u : List ℕ) → AreBytes r → NoHex u → pairs s None (flat_map hex_pair r ++ u) ≡ got (s ++ r) u
+pairs_again [] s u h k = pairs_end s u k ∙ ap (λ y. got y u) (sym (append-nil s))
+pairs_again (b ∷ r) s u h k =
+    let p = first_byte b r h in
+    let v : b / 16 * 16 + b % 16 ≡ b = omega arith in
+    first_again s (b / 16) (hex_digit (b % 16) ∷ flat_map hex_pair r ++ u) (omega arith) ∙ second_again s (b / 16) (b % 16) (flat_map hex_pair r ++ u) (omega arith)
+    ∙ ap (λ n. pairs (s ++ n ∷ []) None (flat_map hex_pair r ++ u)) v ∙ pairs_again r (s ++ b ∷ []) u (other_bytes b r h) k ∙ ap (λ y. got y u) (append_assoc s (b ∷ []) r)
+
+pub bytes_again : (s u : List ℕ) → AreBytes s → NoHex u → bytes_literal (datum_text (bytes s) ++ u) ≡ got s u
+unfolding bytes_literal
+bytes_again s u h k = pairs_again s [] u h k
+
+-- What it reads depends on the bytes that it passes and on the one that it stops before alone.
+pairs_local : (bs s : List ℕ) (high : Option ℕ) → LocalAs (pairs s high) bs (pairs s high bs)
+pairs_local [] s None = local_empty (pairs s None) refl
+pairs_local (b ∷ bs) s None = local_test (is_hex b) (pairs s None) (pairs s (Some (hex_value b))) (λ u. got s u) b (λ u. refl) bs (pairs_local bs s (Some (hex_value b))) (local_got s)
+pairs_local [] s (Some high) = local_empty (pairs s (Some high)) refl
+pairs_local (b ∷ bs) s (Some high) =
+    local_test (is_hex b) (pairs s (Some high)) (pairs (s ++ (high * 16 + hex_value b) ∷ []) None) (λ u. stop BadByte u) b (λ u. refl) bs (pairs_local bs (s ++ (high * 16 + hex_value b) ∷ []) None) (local_stop BadByte)
+
+pub bytes_local : IsLocal bytes_literal
+unfolding bytes_literal
+bytes_local [] = local_empty bytes_literal refl
+bytes_local (b ∷ bs) = local_test (b == 120) bytes_literal (pairs [] None) (λ u. stop BadByte u) b (λ u. refl) bs (pairs_local bs [] None) (local_stop BadByte)

@@ -1,0 +1,8 @@
+use Rattle.std.proofs.Common.{refl}
+use Rattle.tuple_text.proofs.reader.Reader.cas_line.Goals as goal
+
+pub same-template : goal.same-template
+same-template c = refl
+
+pub same-tuple : goal.same-tuple
+same-tuple c = refl

@@ -1,0 +1,274 @@
+//! The reader of text literals and byte string literals.
+
+ghost use Rattle.std.specs.Prelude.{◌≡◌, ◌+◌, ◌++◌, ◌∷◌, ◌<◌, [], None, Some, true, IfOk, IfErr, IfSome, IfNone, OnOk, MatchOption, string_bytes};
+ghost use Rattle.std.specs.Str.{IsUtf8};
+ghost use Rattle.tuple_text.specs.Reading.{Gives};
+ghost use Rattle.tuple_text.specs.Literals.{is_hex, hex_value, led, step, text_from, text_literal, hex_front, pairs, bytes_literal};
+
+use crate::reader::{Reader, Stop};
+use std::alloc::Global;
+use std::string::String;
+
+/// What may stand next in a text literal. Of a character of several bytes it is what RFC 3629, section 4, allows behind
+/// those that are passed.
+#[derive(Clone, Copy)]
+pub(crate) enum Expected {
+    /// A character, an escape, or the closing quote.
+    Character,
+    /// What a backslash escapes.
+    Escape,
+    /// The first hexadecimal digit of an escape by number.
+    FirstDigit,
+    DigitBehindZero,
+    DigitBehindOne,
+    OneByte,
+    TwoBytes,
+    ThreeBytes,
+    BytesBehindE0,
+    BytesBehindEd,
+    BytesBehindF0,
+    BytesBehindF4,
+}
+
+/// What a byte does.
+pub(crate) enum Step {
+    /// No text goes on with it.
+    Refused,
+    /// It closes the text.
+    Ends,
+    /// It is passed, and this is expected behind it.
+    Passes(Expected),
+    /// The same, and this byte is added to the text.
+    Adds(u8, Expected),
+}
+
+impl Expected {
+    fn step(self, byte: u8) -> Step
+        ensures { result ≡ step self byte }
+    {
+        match (self, byte) {
+            (Expected::Character, b'"') => Step::Ends,
+            (Expected::Character, b'\\') => Step::Passes(Expected::Escape),
+            (Expected::Character, 0x20..=0x7F) => Step::Adds(byte, Expected::Character),
+            (Expected::Character, _) => led(byte),
+            (Expected::Escape, b'"') => Step::Adds(b'"', Expected::Character),
+            (Expected::Escape, b'\\') => Step::Adds(b'\\', Expected::Character),
+            (Expected::Escape, b'n') => Step::Adds(b'\n', Expected::Character),
+            (Expected::Escape, b'x') => Step::Passes(Expected::FirstDigit),
+            (Expected::FirstDigit, b'0') => Step::Passes(Expected::DigitBehindZero),
+            (Expected::FirstDigit, b'1') => Step::Passes(Expected::DigitBehindOne),
+            // A line feed has a spelling of its own.
+            (Expected::DigitBehindZero, b'a') => Step::Refused,
+            (Expected::DigitBehindZero, b'0'..=b'9' | b'b'..=b'f') => {
+                Step::Adds(hex_value(byte), Expected::Character)
+            }
+            (Expected::DigitBehindOne, b'0'..=b'9' | b'a'..=b'f') => {
+                Step::Adds(16 + hex_value(byte), Expected::Character)
+            }
+            (Expected::OneByte, 0x80..=0xBF) => Step::Adds(byte, Expected::Character),
+            (Expected::TwoBytes, 0x80..=0xBF) => Step::Adds(byte, Expected::OneByte),
+            (Expected::ThreeBytes, 0x80..=0xBF) => Step::Adds(byte, Expected::TwoBytes),
+            (Expected::BytesBehindE0, 0xA0..=0xBF) => Step::Adds(byte, Expected::OneByte),
+            (Expected::BytesBehindEd, 0x80..=0x9F) => Step::Adds(byte, Expected::OneByte),
+            (Expected::BytesBehindF0, 0x90..=0xBF) => Step::Adds(byte, Expected::TwoBytes),
+            (Expected::BytesBehindF4, 0x80..=0x8F) => Step::Adds(byte, Expected::TwoBytes),
+            _ => Step::Refused,
+        }
+    }
+}
+
+// The first byte of a character of several.
+fn led(byte: u8) -> Step
+    ensures { result ≡ led byte }
+{
+    match byte {
+        0xC2..=0xDF => Step::Adds(byte, Expected::OneByte),
+        0xE0 => Step::Adds(byte, Expected::BytesBehindE0),
+        0xED => Step::Adds(byte, Expected::BytesBehindEd),
+        0xE1..=0xEF => Step::Adds(byte, Expected::TwoBytes),
+        0xF0 => Step::Adds(byte, Expected::BytesBehindF0),
+        0xF1..=0xF3 => Step::Adds(byte, Expected::ThreeBytes),
+        0xF4 => Step::Adds(byte, Expected::BytesBehindF4),
+        _ => Step::Refused,
+    }
+}
+
+// The value of a lower case hexadecimal digit.
+fn hex_value(digit: u8) -> u8
+    requires { is_hex digit ≡ true }
+    ensures value { result ≡ hex_value digit }
+    ensures bound { result < 16 }
+{
+    if digit <= b'9' {
+        digit - b'0'
+    } else {
+        digit - b'a' + 10
+    }
+}
+
+fn push_byte(bytes: &mut Vec<u8>, byte: u8) -> Result<(), Stop>
+    ensures ok { OnOk result (bytes.new.items ≡ bytes.old.items ++ byte ∷ []) }
+    ensures err { IfErr result (λ s. s ≡ Stop.NoMemory) }
+{
+    match bytes.push(byte) {
+        Ok(()) => Ok(()),
+        Err(_full) => Err(Stop::NoMemory),
+    }
+}
+
+impl<'a> Reader<'a> {
+    // The rest of a text behind its first quote.
+    fn text_bytes(&mut self, alloc: Global) -> Result<Vec<u8>, Stop>
+        ensures gives { Gives (λ v. v.items) result (text_from Expected.Character [] self.old.rest.now) self.new.rest.now }
+        ensures utf8 { IfOk result (λ v. IsUtf8 v.items) }
+    {
+        let mut bytes = Vec::new(alloc);
+        let mut expected = Expected::Character;
+        while let [byte, rest @ ..] = self.rest {
+            match expected.step(*byte) {
+                Step::Refused => return Err(Stop::BadByte),
+                Step::Ends => {
+                    self.rest = rest;
+                    return Ok(bytes);
+                }
+                Step::Passes(next) => expected = next,
+                Step::Adds(value, next) => {
+                    push_byte(&mut bytes, value)?;
+                    expected = next;
+                }
+            }
+            self.rest = rest;
+        }
+        Err(Stop::BadByte)
+    }
+
+    /// Reads a text literal.
+    #[tactic(auto, unfolding(crate::specs::Literals::text_literal))]
+    pub(crate) fn text_literal(&mut self, alloc: Global) -> Result<String<Global>, Stop>
+        ensures { Gives (λ s. string_bytes s) result (text_literal self.old.rest.now) self.new.rest.now }
+    {
+        match self.rest {
+            [b'"', rest @ ..] => {
+                self.rest = rest;
+                let bytes = self.text_bytes(alloc)?;
+                match String::from_utf8(bytes) {
+                    Ok(text) => Ok(text),
+                    Err(_invalid) => Err(Stop::BadByte),
+                }
+            }
+            _ => Err(Stop::BadByte),
+        }
+    }
+
+    // Passes a hexadecimal digit, and gives its value.
+    fn hex_digit(&mut self) -> Option<u8>
+        ensures value { MatchOption result (hex_front self.old.rest.now ≡ None) (λ h. hex_front self.old.rest.now ≡ Some (h, self.new.rest.now)) }
+        ensures left { IfNone result (self.new.rest.now ≡ self.old.rest.now) }
+        ensures bound { IfSome result (λ h. h < 16) }
+    {
+        match self.rest {
+            [digit @ (b'0'..=b'9' | b'a'..=b'f'), rest @ ..] => {
+                self.rest = rest;
+                Some(hex_value(*digit))
+            }
+            _ => None,
+        }
+    }
+
+    // The rest of a byte string behind its first letter.
+    fn pairs(&mut self, alloc: Global) -> Result<Vec<u8>, Stop>
+        ensures { Gives (λ v. v.items) result (pairs [] None self.old.rest.now) self.new.rest.now }
+    {
+        let mut bytes = Vec::new(alloc);
+        while let Some(high) = self.hex_digit() {
+            let Some(low) = self.hex_digit() else {
+                return Err(Stop::BadByte);
+            };
+            push_byte(&mut bytes, high * 16 + low)?;
+        }
+        Ok(bytes)
+    }
+
+    /// Reads a byte string literal.
+    #[tactic(auto, unfolding(crate::specs::Literals::bytes_literal))]
+    pub(crate) fn bytes_literal(&mut self, alloc: Global) -> Result<Vec<u8>, Stop>
+        ensures { Gives (λ v. v.items) result (bytes_literal self.old.rest.now) self.new.rest.now }
+    {
+        match self.rest {
+            [b'x', rest @ ..] => {
+                self.rest = rest;
+                self.pairs(alloc)
+            }
+            _ => Err(Stop::BadByte),
+        }
+    }
+}
+
+#[cfg(test)]
+mod tests {
+    use crate::reader::{Reader, Stop};
+    use std::test::Fail;
+
+    #[test]
+    fn reads_a_text(rt: HostRuntime) -> Result<(), Fail> {
+        let line = b"\"\\\"\\\\\\n\\x01\\x1f\x7f \xC3\xA9\xE2\x82\xAC\xF0\x9D\x84\x9E\")";
+        let mut reader = Reader::new(line);
+        let Ok(text) = reader.text_literal(rt.alloc()) else {
+            return Err(Fail::new("it is a text"));
+        };
+        assert_eq!(rt; text.as_str(), "\"\\\n\u{1}\u{1f}\u{7f} é€𝄞");
+        assert_eq!(rt; reader.left(), 1);
+        Ok(())
+    }
+
+    #[test]
+    fn stops_where_no_text_goes_on(rt: HostRuntime) {
+        let lines: [(&[u8], usize); 18] = [
+            (b"\"abc", 0),
+            (b"\"\t\"", 2),
+            (b"\"\\t\"", 2),
+            (b"\"\\xA0\"", 3),
+            (b"\"\\x20\"", 3),
+            (b"\"\\x0a\"", 2),
+            (b"\"\\x1F\"", 2),
+            (b"\"\x80\"", 2),
+            (b"\"\xC1\xBF\"", 3),
+            (b"\"\xC3\"", 1),
+            (b"\"\xE0\x9F\xBF\"", 3),
+            (b"\"\xED\xA0\x80\"", 3),
+            (b"\"\xE2\x82\"", 1),
+            (b"\"\xF0\x8F\xBF\xBF\"", 4),
+            (b"\"\xF4\x90\x80\x80\"", 4),
+            (b"\"\xF0\x9D\x84", 0),
+            (b"\"\xF5\x80\x80\x80\"", 5),
+            (b"x00", 3),
+        ];
+        for (line, left) in lines {
+            let mut reader = Reader::new(line);
+            assert!(rt;
+                matches!(reader.text_literal(rt.alloc()), Err(Stop::BadByte)),
+                "{left}"
+            );
+            assert_eq!(rt; reader.left(), left);
+        }
+    }
+
+    #[test]
+    fn reads_byte_strings(rt: HostRuntime) -> Result<(), Fail> {
+        let mut reader = Reader::new(b"x00fFx");
+        assert!(rt; matches!(reader.bytes_literal(rt.alloc()), Err(Stop::BadByte)));
+        assert_eq!(rt; reader.left(), 2);
+        let mut reader = Reader::new(b"x09af)");
+        let Ok(bytes) = reader.bytes_literal(rt.alloc()) else {
+            return Err(Fail::new("it is a byte string"));
+        };
+        assert_eq!(rt; bytes.as_slice(), [0x09, 0xAF].as_slice());
+        assert_eq!(rt; reader.left(), 1);
+        let mut reader = Reader::new(b"x");
+        let Ok(bytes) = reader.bytes_literal(rt.alloc()) else {
+            return Err(Fail::new("it is an empty byte string"));
+        };
+        assert!(rt; bytes.is_empty());
+        Ok(())
+    }
+}
