@@ -1,13 +1,13 @@
 -- What an acceptance says: of a read the space at its number, of an ordered call a request that ran.
-use Rattle.std.proofs.Common.{◌≡◌, ℕ, zero, suc, ◌+◌, ◌-◌, ◌*◌, ◌≤◌, ◌<◌, ◌⊎◌, inl, inr, Bool, true, false, cond, List, [], ◌∷◌, ◌++◌, length, refl, sym, ap, ◌∙◌, subst, arith, ◌&&◌, ◌||◌, Option, Some, None, eqb-true, eq-eqb, bytes_eq}
-use Rattle.std.specs.Prelude.{◌==◌, nat_lt, nat_le}
+use Rattle.std.proofs.Common.{◌≡◌, ℕ, zero, suc, ◌+◌, ◌*◌, ◌≤◌, ◌<◌, inl, inr, Bool, true, false, cond, List, [], ◌∷◌, ◌++◌, length, refl, sym, ap, ◌∙◌, subst, arith, ◌&&◌, ◌||◌, Option, Some, None, eqb-true, eq-eqb, bytes_eq}
+use Rattle.std.specs.Prelude.{◌==◌}
 use Rattle.std.proofs.lemmas.Bool.{and_parts, leb-true, ltb-true}
 use Rattle.std.proofs.lemmas.Slice.Eq.{bytes_eq-Decides}
 use Rattle.protocol.specs.RightReplica
 use Rattle.protocol.proofs.Running
 use Rattle.quorum.specs.Quorum.{count_below}
-use Rattle.protocol.specs.Configuration.{Configuration, IsConfiguration, replicas, is_replica, is_client, is_correct, is_correct_replica, is_correct_client}
-use Rattle.protocol.specs.Wire.{Body, Message, said}
+use Rattle.protocol.specs.Configuration.{Configuration, is_replica, is_correct_replica, is_correct_client}
+use Rattle.protocol.specs.Wire.{Body, Message}
 use Rattle.protocol.specs.Wire.Message.{Reply}
 use Rattle.protocol.specs.Trace.{Entry, party_of, history_of, Once, Always, Has, Hears}
 use Rattle.protocol.specs.Trace.Entry.{Invoke, Got, Tick, Executed, Installed, Sent, Accepted}
@@ -18,7 +18,6 @@ use Rattle.protocol.specs.RightReplica.{Leaves, MaySay, MayReply}
 use Rattle.protocol.specs.RightClient.{RightClient, OpenCall, open_call, last_call, Vote, latest, is_alike, count_alike, newest_vote, MayAccept, vote_of}
 use Rattle.protocol.specs.Texts.{ExecutesBatch}
 use Rattle.protocol.specs.Linear.{batch_of, first_position, is_level, Invokes, Accepts}
-use Rattle.protocol.specs.Certificates.{first_given}
 use Rattle.quorum.specs.Votes.{give_if, or_else}
 use Rattle.protocol.proofs.Temporal.{once_weaker, once_always, once_in_trace, once_in_history}
 use Rattle.protocol.proofs.Options.{some_injective, given_stays, give_if_some, and_then_some}
@@ -26,12 +25,12 @@ use Rattle.protocol.proofs.Linking.{Speaks, heard_was_said}
 use Rattle.protocol.proofs.Lists.{has_some}
 use Rattle.protocol.proofs.Voting.{RightAt, once_right, correct_replica}
 use Rattle.protocol.proofs.States.{GoodHere, GoodAll, states_agree, correct_of, once_append}
-use Rattle.protocol.proofs.Reading.{Runs, own_entries, asking, replying, correct_client, latest_heard, last_of, last_of-history, read_level_after, read_level_before, invoke_past}
-use Rattle.protocol.proofs.Ordering.{ordering, latest_ordered, ordered_level}
+use Rattle.protocol.proofs.Reading.{own_entries, asking, correct_client, latest_heard, last_of, last_of-history, read_level_after, read_level_before}
+use Rattle.protocol.proofs.Ordering.{latest_ordered, ordered_level}
 use Rattle.protocol.proofs.Running.{Run, run_earlier, state_by, is_by, executed_greatest}
 use Rattle.protocol.proofs.Ran.{place_before}
 use Rattle.protocol.proofs.Keeping.{RanBy, IsRun, Keeps, rans_ran, kept_ran-opening, ran_by-more}
-use Rattle.protocol.proofs.Invoking.{At, once_split, run_part, asked_op}
+use Rattle.protocol.proofs.Invoking.{once_split, asked_op}
 use Rattle.protocol.specs.Linear.{last_executed}
 use Rattle.protocol.specs.RightReplica.{RepliesTo, MayReplyRead}
 use Rattle.protocol.proofs.Bodies.{FitsMessage, heard_fits}
@@ -40,12 +39,31 @@ use Rattle.protocol.proofs.Temporal.{once_stays}
 use Rattle.tuple_codec.specs.Operations.{Outcome, IsOutcome, Operation}
 use Rattle.tuple_codec.specs.Spelling.{outcome_spelling}
 use Rattle.protocol.specs.Keys.{heard}
+use Rattle.protocol.specs.Linear.{invoke_past}
+
+-- ---- a run with right clients
+
+pub record FullRun (c : Configuration) (xs : List Entry) : Type 0 where
+  pub run : Run c xs
+  pub right : (p : ℕ) → is_correct_client c p ≡ true → RightClient c p (history_of p xs)
+
+pub full_earlier : (c : Configuration) (e : Entry) (xs : List Entry) → FullRun c (e ∷ xs) → FullRun c xs
+full_earlier c e xs f = record { run = run_earlier c e xs f.run; right = λ p h. go p (party_of e == p) (f.right p h) }
+  where
+    go : (p : ℕ) (b : Bool) → RightClient c p (cond b (e ∷ history_of p xs) (history_of p xs)) → RightClient c p (history_of p xs)
+    go p true h = h.1
+    go p false h = h
+
+pub full_part : (c : Configuration) (later xs : List Entry) → FullRun c (later ++ xs) → FullRun c xs
+full_part c [] xs f = f
+full_part c (e ∷ later) xs f = full_part c later xs (full_earlier c e (later ++ xs) f)
 
 -- ---- an acceptance
 
 pub record Accepting (c : Configuration) (past : List Entry) (p t : ℕ) (a : Outcome) : Type 0 where
   pub client : is_correct_client c p ≡ true
   pub run : Run c past
+  pub right : RightClient c p (history_of p past)
   pub call : OpenCall
   pub vote : Vote
   pub opened : open_call (history_of p past) ≡ Some call
@@ -54,11 +72,11 @@ pub record Accepting (c : Configuration) (past : List Entry) (p t : ℕ) (a : Ou
   pub newest : newest_vote c p (history_of p past) t ≡ Some vote
   pub complete : 2 * c.faults + 1 ≤ count_below (λ s. is_alike vote (latest c p (history_of p past) t vote.read_only s)) (3 * c.faults + 1)
 
-pub accepting : (c : Configuration) (past : List Entry) (cl t : ℕ) (a : Outcome) → Run c (Accepted cl t a ∷ past) → Accepting c past (256 + cl) t a
-accepting c past cl t a run = go (is_correct_replica c (256 + cl)) refl run.parties.0
+pub accepting : (c : Configuration) (past : List Entry) (cl t : ℕ) (a : Outcome) → FullRun c (Accepted cl t a ∷ past) → Accepting c past (256 + cl) t a
+accepting c past cl t a full = go (is_correct_replica c (256 + cl)) refl full.run.parties.0
   where
     most : c.faults ≤ 3
-    most = run.setting.most
+    most = full.run.setting.most
 
     no_replica : is_correct_replica c (256 + cl) ≡ true → ⊥
     no_replica h = let b : 256 + cl < 3 * c.faults + 1 = ltb-true (256 + cl) (3 * c.faults + 1) (and_parts (is_replica c (256 + cl)) _ h).0 in let m = most in omega arith
@@ -66,7 +84,8 @@ accepting c past cl t a run = go (is_correct_replica c (256 + cl)) refl run.part
     build : is_correct_client c (256 + cl) ≡ true → MayAccept c (256 + cl) (history_of (256 + cl) past) t a → Accepting c past (256 + cl) t a
     build client m = record {
       client = client;
-      run = run_earlier c (Accepted cl t a) past run;
+      run = run_earlier c (Accepted cl t a) past full.run;
+      right = (full_earlier c (Accepted cl t a) past full).right (256 + cl) client;
       call = m.0;
       vote = m.1;
       opened = m.2;
@@ -84,7 +103,7 @@ accepting c past cl t a run = go (is_correct_replica c (256 + cl)) refl run.part
 
     go : (b : Bool) → is_correct_replica c (256 + cl) ≡ b → (b || is_correct_client c (256 + cl)) ≡ true → Accepting c past (256 + cl) t a
     go true is h = absurd (no_replica is)
-    go false is h = head (256 + cl == 256 + cl) (eq-eqb (256 + cl) (256 + cl) refl) h (run.runs.clients (256 + cl) h)
+    go false is h = head (256 + cl == 256 + cl) (eq-eqb (256 + cl) (256 + cl) refl) h (full.right (256 + cl) h)
 
 -- ---- acceptances of one timestamp are one
 
@@ -132,7 +151,7 @@ accepts_lt c p t a call (Sent x y ∷ past) r o (inr h) = accepts_lt c p t a cal
 accepts_lt c p t a call (Executed x y z ∷ past) r o (inr h) = accepts_lt c p t a call past r.1 o h
 accepts_lt c p t a call (Installed x y z ∷ past) r o (inr h) = accepts_lt c p t a call past r.1 o h
 
-accepts_own : (p t : ℕ) (a : Outcome) (past : List Entry) (e : Entry) → Accepts p t a past e → (party_of e ≡ p) × Accepts p t a (history_of p past) e
+pub accepts_own : (p t : ℕ) (a : Outcome) (past : List Entry) (e : Entry) → Accepts p t a past e → (party_of e ≡ p) × Accepts p t a (history_of p past) e
 accepts_own p t a past (Accepted x y z) h = (h.0, h)
 accepts_own p t a past (Invoke x y z) h = absurd h
 accepts_own p t a past (Got x y) h = absurd h
@@ -144,7 +163,7 @@ accepts_own p t a past (Installed x y z) h = absurd h
 pub accepted_once : (c : Configuration) (past : List Entry) (p t : ℕ) (a b : Outcome) → Accepting c past p t a → Once (Accepts p t b) past → ⊥
 accepted_once c past p t a b x h =
     let there : Once (Accepts p t b) (history_of p past) = once_in_history (Accepts p t b) p past (once_weaker (Accepts p t b) (λ past e. (party_of e ≡ p) × Accepts p t b (history_of p past) e) (accepts_own p t b) past h) in
-    let l = accepts_lt c p t b x.call (history_of p past) (x.run.runs.clients p x.client) x.opened there in
+    let l = accepts_lt c p t b x.call (history_of p past) x.right x.opened there in
     let e = x.time in omega arith
 
 -- ---- its level
@@ -333,7 +352,7 @@ ordered_replied c trace s p t number answer run correct client r = go r.may
 
 -- ---- answers that are heard are within the limits
 
-heard_answer : (c : Configuration) (p s t : ℕ) (kind : Bool) (number : ℕ) (answer : Outcome) (xs : List Entry) → Once (Hears c p (record { sender = s; message = Reply p t kind number answer })) xs → IsOutcome answer
+pub heard_answer : (c : Configuration) (p s t : ℕ) (kind : Bool) (number : ℕ) (answer : Outcome) (xs : List Entry) → Once (Hears c p (record { sender = s; message = Reply p t kind number answer })) xs → IsOutcome answer
 heard_answer c p s t kind number answer xs h = once_stays (λ past. IsOutcome answer) (λ e past k. k) xs (once_weaker (Hears c p (record { sender = s; message = Reply p t kind number answer })) (λ past e. IsOutcome answer) step xs h)
   where
     step : (past : List Entry) (e : Entry) → Hears c p (record { sender = s; message = Reply p t kind number answer }) past e → IsOutcome answer
@@ -351,7 +370,7 @@ vote_answer me t s vote sender (Reply client timestamp read_only number answer) 
     subst IsOutcome (ap (λ (v : Vote). v.answer) g.1) f
 vote_answer me t s vote sender _ h f = absurd cc
 
-newest_answer : (c : Configuration) (me t : ℕ) (vote : Vote) (xs : List Entry) → newest_vote c me xs t ≡ Some vote → IsOutcome vote.answer
+pub newest_answer : (c : Configuration) (me t : ℕ) (vote : Vote) (xs : List Entry) → newest_vote c me xs t ≡ Some vote → IsOutcome vote.answer
 newest_answer c me t vote [] h = absurd cc
 newest_answer c me t vote (Got p bytes ∷ past) h =
     let r = and_then_some (λ (body : Body). vote_of me t body.sender body) (heard c me bytes) vote h in

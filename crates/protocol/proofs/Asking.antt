@@ -11,9 +11,9 @@ use Rattle.protocol.specs.Wire.Message.{Request, PrePrepare}
 use Rattle.protocol.specs.Keys.{heard}
 use Rattle.protocol.specs.Trace.{Entry, party_of, history_of, Once, Always, Unforged, frames_in, carried_by, Each, Has}
 use Rattle.protocol.specs.Trace.Entry.{Invoke, Got, Tick, Executed, Installed, Sent, Accepted}
-use Rattle.protocol.specs.Certificates.{proposal, begun_proposal, entry_proposal, logged, taken, batch_begun, are_genuine, is_active_in, is_in_marks, low}
+use Rattle.protocol.specs.Certificates.{proposal, begun_proposal, entry_proposal, logged, taken, batch_begun, are_genuine, is_in_marks, low}
 use Rattle.protocol.specs.Selection.{changes_of, count_in, passes_by, vouches, may_select, may_stand, may_stand_at, may_be_null, is_null, is_weak_quorum, is_quorum, agrees}
-use Rattle.protocol.specs.RightReplica.{HasSeen, MaySay}
+use Rattle.protocol.specs.RightReplica.{HasSeen}
 use Rattle.protocol.specs.Texts.{NoCollision}
 use Rattle.protocol.specs.State.{Call, call_in, call_of}
 use Rattle.protocol.specs.Laws.{AreReplicasRight, Takes}

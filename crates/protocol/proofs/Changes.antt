@@ -62,10 +62,10 @@ change_is_new c s vc (e ∷ past) right (inl h) = go (says_change c s vc past e 
 
 -- ---- a commit in a lower view comes before
 
-target_grows : (e : Entry) (past : List Entry) → target past ≤ target (e ∷ past)
+pub target_grows : (e : Entry) (past : List Entry) → target past ≤ target (e ∷ past)
 target_grows e past = omega arith
 
-change_target : (s : ℕ) (vc : ViewChange) (past : List Entry) (e : Entry) → Speaks (changing s vc) past e → vc.view ≤ target (e ∷ past)
+pub change_target : (s : ℕ) (vc : ViewChange) (past : List Entry) (e : Entry) → Speaks (changing s vc) past e → vc.view ≤ target (e ∷ past)
 change_target s vc past (Sent p bytes) h =
     let is : option_map_or change_from (said bytes) 0 ≡ vc.view = ap (λ o. option_map_or change_from o 0) h in omega arith
 change_target s vc past (Invoke x y z) h = absurd h

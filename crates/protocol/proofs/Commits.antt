@@ -45,7 +45,7 @@ pub digest_stays : (d : List ℕ) (o o' : Option (List ℕ)) → ((x : List ℕ)
 digest_stays d None o' f h = absurd cc
 digest_stays d (Some x) o' f h = rw (f x refl) h
 
-prepare_stays : (c : Configuration) (me v i s : ℕ) (d : List ℕ) (e : Entry) (past : List Entry) → prepare_of c me past v i s ≡ Some d → prepare_of c me (e ∷ past) v i s ≡ Some d
+pub prepare_stays : (c : Configuration) (me v i s : ℕ) (d : List ℕ) (e : Entry) (past : List Entry) → prepare_of c me past v i s ≡ Some d → prepare_of c me (e ∷ past) v i s ≡ Some d
 unfolding prepare_of
 prepare_stays c me v i s d e past h = given_stays (λ earlier e. vote_in c me earlier e (prepare_from c s v i) v i) d e past h
 

@@ -21,7 +21,7 @@ use Rattle.protocol.proofs.Offers.{offer_from, proposal_offer}
 use Rattle.protocol.proofs.Commits.{prepared_stays, digest_stays}
 use Rattle.protocol.proofs.Staying.{committed_agree}
 
-commit_stays : (c : Configuration) (me v i s : ℕ) (d : List ℕ) (e : Entry) (past : List Entry) → commit_of c me past v i s ≡ Some d → commit_of c me (e ∷ past) v i s ≡ Some d
+pub commit_stays : (c : Configuration) (me v i s : ℕ) (d : List ℕ) (e : Entry) (past : List Entry) → commit_of c me past v i s ≡ Some d → commit_of c me (e ∷ past) v i s ≡ Some d
 unfolding commit_of
 commit_stays c me v i s d e past h = given_stays (λ earlier e. vote_in c me earlier e (commit_from s v i) v i) d e past h
 

@@ -1,17 +1,17 @@
 -- Where a request that runs was invoked, or asked.
-use Rattle.std.proofs.Common.{◌≡◌, ℕ, zero, suc, ◌+◌, ◌-◌, ◌≤◌, ◌<◌, ◌⊎◌, inl, inr, Bool, true, false, not, cond, List, [], ◌∷◌, ◌++◌, length, refl, sym, ap, ◌∙◌, subst, arith, ◌&&◌, Option, Some, None, is_some}
-use Rattle.std.specs.Prelude.{◌==◌, nat_lt, nat_le, option_and_then}
-use Rattle.std.proofs.lemmas.Bool.{and_parts, leb-true, not_from_true}
-use Rattle.protocol.specs.Configuration.{Configuration, IsConfiguration, is_client, is_correct, is_correct_replica, is_correct_client}
-use Rattle.protocol.specs.Wire.{Body, Frame, Message, requests_of, said, frame_of}
+use Rattle.std.proofs.Common.{◌≡◌, ℕ, suc, ◌+◌, ◌-◌, ◌≤◌, ◌<◌, inl, inr, Bool, true, false, not, cond, List, [], ◌∷◌, ◌++◌, length, refl, sym, ap, ◌∙◌, subst, arith, ◌&&◌, Option, Some, None, is_some}
+use Rattle.std.specs.Prelude.{nat_lt, nat_le}
+use Rattle.std.proofs.lemmas.Bool.{and_parts, leb-true}
+use Rattle.protocol.specs.Configuration.{Configuration, is_client, is_correct, is_correct_client}
+use Rattle.protocol.specs.Wire.{Body, Message, requests_of, said}
 use Rattle.protocol.specs.Wire.Message.{Request}
 use Rattle.protocol.specs.Keys.{heard}
-use Rattle.protocol.specs.Trace.{Entry, party_of, history_of, Once, Always, frames_in, Each, SendsText, IsFromSender, IsUnforgedAt, Has}
+use Rattle.protocol.specs.Trace.{Entry, party_of, history_of, Once, Always, frames_in, SendsText, IsFromSender, IsUnforgedAt, Has}
 use Rattle.protocol.specs.Trace.Entry.{Invoke, Got, Tick, Executed, Installed, Sent, Accepted}
 use Rattle.protocol.specs.State.{Call, call_in, call_of}
-use Rattle.protocol.specs.RightClient.{RightClient, MayAsk, MayRequest, OpenCall, open_call, last_call}
+use Rattle.protocol.specs.RightClient.{AnyClient, MayAsk, MayRequest, OpenCall, open_call, last_call}
 use Rattle.protocol.specs.Texts.{ExecutesBatch}
-use Rattle.protocol.specs.Linear.{Item, Point, ordered_point, first_position, batch_of, is_level, Invokes, Asks}
+use Rattle.protocol.specs.Linear.{Point, batch_of, is_level, Invokes, Asks}
 use Rattle.quorum.specs.Votes.{give_if}
 use Rattle.protocol.proofs.Temporal.{once_weaker, once_always, once_once, once_in_history, once_in_trace}
 use Rattle.protocol.proofs.Options.{and_then_some, some_injective, given_once, give_if_some}
@@ -23,7 +23,7 @@ use Rattle.protocol.proofs.Executing.{executor, executed_committed}
 use Rattle.protocol.proofs.Asking.{AsksFrame, all_asked}
 use Rattle.protocol.proofs.Reading.{Runs, own_entries, asking, correct_client}
 use Rattle.protocol.proofs.Running.{Run, run_earlier, batch_is, level_executed}
-use Rattle.protocol.proofs.Ran.{Source, FromFrame}
+use Rattle.protocol.proofs.Ran.{Source}
 use Rattle.tuple_codec.specs.Operations.{Operation}
 
 -- ---- an entry, and what lies around it
@@ -63,10 +63,10 @@ opened_op p t op (Sent x y ∷ past) own h = inr (opened_op p t op past own.1 h)
 opened_op p t op (Executed x y z ∷ past) own h = inr (opened_op p t op past own.1 h)
 opened_op p t op (Installed x y z ∷ past) own h = inr (opened_op p t op past own.1 h)
 
-pub opened_invoked : (c : Configuration) (p : ℕ) (call : OpenCall) (xs : List Entry) → RightClient c p xs → open_call xs ≡ Some call → Once (Invokes p call.timestamp call.op) xs
+pub opened_invoked : (c : Configuration) (p : ℕ) (call : OpenCall) (xs : List Entry) → AnyClient p xs → open_call xs ≡ Some call → Once (Invokes p call.timestamp call.op) xs
 opened_invoked c p call xs r h = opened_op p call.timestamp call.op xs (own_entries c p xs r) h
 
-pub asked_op : (c : Configuration) (p t : ℕ) (read_only : Bool) (text : Operation) (xs : List Entry) → RightClient c p xs → Once (Speaks (asking p t read_only text)) xs → Once (Invokes p t text) xs
+pub asked_op : (c : Configuration) (p t : ℕ) (read_only : Bool) (text : Operation) (xs : List Entry) → AnyClient p xs → Once (Speaks (asking p t read_only text)) xs → Once (Invokes p t text) xs
 asked_op c p t read_only text [] r h = absurd h
 asked_op c p t read_only text (e ∷ past) r (inr h) = inr (asked_op c p t read_only text past r.1 h)
 asked_op c p t read_only text (Sent x bytes ∷ past) r (inl h) =
@@ -94,7 +94,7 @@ pub invoked_in_trace : (p t : ℕ) (op : Operation) (xs : List Entry) → Once (
 invoked_in_trace p t op xs h = once_weaker (λ past e. (party_of e ≡ p) × Invokes p t op (history_of p past) e) (Invokes p t op) (λ past e u. invokes_any p t op (history_of p past) past e u.1) xs (once_in_trace (Invokes p t op) p xs h)
 
 -- no earlier invocation has a later timestamp, and one timestamp has one operation
-invokes_le : (c : Configuration) (p t : ℕ) (op : Operation) (xs : List Entry) → RightClient c p xs → Once (Invokes p t op) xs → t ≤ last_call xs
+invokes_le : (c : Configuration) (p t : ℕ) (op : Operation) (xs : List Entry) → AnyClient p xs → Once (Invokes p t op) xs → t ≤ last_call xs
 invokes_le c p t op [] r h = absurd h
 invokes_le c p t op (Invoke x y z ∷ past) r (inl h) = let e = h.1 in omega arith
 invokes_le c p t op (Invoke x y z ∷ past) r (inr h) = let a = invokes_le c p t op past r.1 h in let n = r.0.1.0 in omega arith
@@ -111,7 +111,7 @@ invokes_le c p t op (Executed x y z ∷ past) r (inr h) = invokes_le c p t op pa
 invokes_le c p t op (Installed x y z ∷ past) r (inr h) = invokes_le c p t op past r.1 h
 invokes_le c p t op (Accepted x y z ∷ past) r (inr h) = invokes_le c p t op past r.1 h
 
-pub one_invocation : (c : Configuration) (p t : ℕ) (a b : Operation) (xs : List Entry) → RightClient c p xs → Once (Invokes p t a) xs → Once (Invokes p t b) xs → a ≡ b
+pub one_invocation : (c : Configuration) (p t : ℕ) (a b : Operation) (xs : List Entry) → AnyClient p xs → Once (Invokes p t a) xs → Once (Invokes p t b) xs → a ≡ b
 one_invocation c p t a b [] r h k = absurd h
 one_invocation c p t a b (e ∷ past) r (inr h) (inr k) = one_invocation c p t a b past r.1 h k
 one_invocation c p t a b (Invoke x y z ∷ past) r (inl h) (inl k) = sym h.2 ∙ k.2
@@ -165,7 +165,7 @@ asks_said c xs frame body runs is from h =
     step past (Installed a b d) t = absurd t.1
     step past (Accepted a b d) t = absurd t.1
 
-call_body : (c : Configuration) (frame : List ℕ) (call : Call) → call_of c frame ≡ Some call → said frame ≡ Some (asking (256 + call.client) call.timestamp false call.op)
+pub call_body : (c : Configuration) (frame : List ℕ) (call : Call) → call_of c frame ≡ Some call → said frame ≡ Some (asking (256 + call.client) call.timestamp false call.op)
 call_body c frame call h =
     let r = and_then_some (call_in c) (said frame) call h in
     r.1 ∙ ap Some (go r.0.sender r.0.message r.2)
@@ -188,7 +188,7 @@ call_body c frame call h =
         test true y e h = absurd cc
     go sender _ h = absurd cc
 
-asks_request : (c : Configuration) (frame : List ℕ) (sender t : ℕ) (op : Operation) → said frame ≡ Some (asking sender t false op) → (past : List Entry) (e : Entry) → AsksFrame c frame past e → Asks c sender t op past e
+pub asks_request : (c : Configuration) (frame : List ℕ) (sender t : ℕ) (op : Operation) → said frame ≡ Some (asking sender t false op) → (past : List Entry) (e : Entry) → AsksFrame c frame past e → Asks c sender t op past e
 unfolding AsksFrame
 asks_request c frame sender t op is past (Got p bytes) h = (h.0, there (frames_in bytes) h.2)
   where
@@ -213,7 +213,7 @@ asks_request c frame sender t op is past (Accepted x y z) h = absurd h
 -- ---- the requests that ran
 
 -- what is executed was asked before
-executed_asked : (c : Configuration) (xs : List Entry) (k : ℕ) (b : List ℕ) → Run c xs → Once (ExecutesBatch c k b) xs → (frame : List ℕ) (call : Call) → Has (λ x. x ≡ frame) (requests_of b) → call_of c frame ≡ Some call
+pub executed_asked : (c : Configuration) (xs : List Entry) (k : ℕ) (b : List ℕ) → Run c xs → Once (ExecutesBatch c k b) xs → (frame : List ℕ) (call : Call) → Has (λ x. x ≡ frame) (requests_of b) → call_of c frame ≡ Some call
     → Once (AsksFrame c frame) xs
 executed_asked c xs k b run h frame call has is =
     let p = executor c k b xs h in

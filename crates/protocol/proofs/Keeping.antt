@@ -1,14 +1,14 @@
 -- A kept reply is of a request that ran in the batch of its number, and no request runs twice.
-use Rattle.std.proofs.Common.{◌≡◌, ◌≢◌, ℕ, zero, suc, ◌+◌, ◌-◌, ◌≤◌, ◌<◌, ◌⊎◌, inl, inr, Bool, true, false, not, cond, List, [], ◌∷◌, ◌++◌, length, map, fold, filter, replicate, refl, sym, ap, ◌∙◌, subst, arith, ◌&&◌, Option, Some, None, eqb-true}
+use Rattle.std.proofs.Common.{◌≡◌, ℕ, zero, suc, ◌+◌, ◌-◌, ◌≤◌, ◌<◌, ◌⊎◌, inl, inr, Bool, true, false, not, cond, List, [], ◌∷◌, ◌++◌, length, map, fold, filter, replicate, refl, sym, ap, ◌∙◌, subst, arith, ◌&&◌, Option, Some, None, eqb-true}
 use Rattle.std.specs.Prelude.{◌==◌, nat_lt, nat_le, option_and_then, slice_set, slice_get, ⊤}
 use Rattle.std.specs.Option.{option_map_or}
 use Rattle.std.proofs.lemmas.Bool.{and_parts, leb-true, ltb-true, eqb-false}
 use Rattle.protocol.specs.RightReplica
 use Rattle.protocol.proofs.Sorting
 use Rattle.protocol.specs.Configuration.{Configuration, IsConfiguration, is_client, is_correct_replica}
-use Rattle.protocol.specs.Wire.{Body, Message, requests_of, said}
+use Rattle.protocol.specs.Wire.{Message, requests_of, said}
 use Rattle.protocol.specs.Wire.Message.{Request}
-use Rattle.protocol.specs.Trace.{Entry, party_of, history_of, Once, Always, Has}
+use Rattle.protocol.specs.Trace.{Entry, party_of, Once, Has}
 use Rattle.protocol.specs.Trace.Entry.{Invoke, Got, Tick, Executed, Installed, Sent, Accepted}
 use Rattle.protocol.specs.State.{State, Call, Ran, opening, runs, run_call, call_in, call_of, run_frame, execute, ran_by, ran_in, kept_by, kept_of, last_time}
 use Rattle.protocol.specs.Pages.{Kept}
@@ -17,7 +17,7 @@ use Rattle.protocol.specs.Texts.{ExecutesBatch}
 use Rattle.protocol.specs.Linear.{Item, Point, NoneTwice, ordered_point, ordered_points, first_position, batch_of, comes_before, insert_point, sorted}
 use Rattle.protocol.proofs.Options.{and_then_some, some_injective}
 use Rattle.protocol.proofs.Legality.{none_points, none_later, executed_number}
-use Rattle.protocol.proofs.States.{GoodAll, states_agree}
+use Rattle.protocol.proofs.States.{GoodAll}
 use Rattle.protocol.proofs.Running.{Run, state_by, batch_is, is_by}
 use Rattle.protocol.proofs.Sorting.{AllOf, all_weaker, all_filter, all_append, insert_all, sorted_all}
 use Rattle.protocol.specs.State.{ran_call}
@@ -273,7 +273,7 @@ differ_same (z ∷ xs) a x y (inr h) (inr k) e f = differ_same xs a.1 x y h k e 
 
 -- ---- timestamps grow
 
-set_here : {A : Type 0} (xs : List A) (i : ℕ) (y : A) → i < length xs → slice_get (slice_set xs i y) i ≡ Some y
+pub set_here : {A : Type 0} (xs : List A) (i : ℕ) (y : A) → i < length xs → slice_get (slice_set xs i y) i ≡ Some y
 set_here [] i y l = absurd (omega arith)
 set_here (x ∷ xs) zero y l = refl
 set_here (x ∷ xs) (suc i) y l = let m : i < length xs = omega arith in set_here xs i y m
@@ -342,14 +342,14 @@ frames_full c k st (frame ∷ frames) full = frames_full c k (run_frame c k st f
     go None = full
     go (Some call) = test call (runs st call)
 
-executed_full : (c : Configuration) (st : State) (b : List ℕ) → Full st → Full (execute c st b)
+pub executed_full : (c : Configuration) (st : State) (b : List ℕ) → Full st → Full (execute c st b)
 unfolding execute
 executed_full c st b full = frames_full c (suc st.number) st (requests_of b) full
 
 abbrev DifferWith : ℕ → ℕ → List Point → State → List Ran → Type 0
 DifferWith p k rest s rans = AllOf (Later s) (map (ordered_point p k) rans ++ rest) × AllDiffer (map (ordered_point p k) rans ++ rest)
 
-frames_differ : (c : Configuration) → IsConfiguration c → (p k : ℕ) (st : State) (frames : List (List ℕ)) (rest : List Point) → Full st → AllOf (Later (fold (run_frame c k) st frames)) rest → AllDiffer rest
+pub frames_differ : (c : Configuration) → IsConfiguration c → (p k : ℕ) (st : State) (frames : List (List ℕ)) (rest : List Point) → Full st → AllOf (Later (fold (run_frame c k) st frames)) rest → AllDiffer rest
     → AllOf (Later st) (map (ordered_point p k) (ran_in c k st frames) ++ rest) × AllDiffer (map (ordered_point p k) (ran_in c k st frames) ++ rest)
 frames_differ c setting p k st [] rest full later differ = (later, differ)
 frames_differ c setting p k st (frame ∷ frames) rest full later differ = go (call_of c frame) refl (λ f. frames_differ c setting p k (run_frame c k st frame) frames rest f later differ)
@@ -380,7 +380,7 @@ frames_differ c setting p k st (frame ∷ frames) rest full later differ = go (c
     go None is below = below full
     go (Some call) is below = test call is (runs st call) refl below
 
-executed_times : (c : Configuration) (st : State) (b : List ℕ) (cl : ℕ) → last_time (execute c st b) cl ≡ last_time (fold (run_frame c (suc st.number)) st (requests_of b)) cl
+pub executed_times : (c : Configuration) (st : State) (b : List ℕ) (cl : ℕ) → last_time (execute c st b) cl ≡ last_time (fold (run_frame c (suc st.number)) st (requests_of b)) cl
 unfolding execute
 executed_times c st b cl = refl
 

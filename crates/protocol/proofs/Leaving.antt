@@ -170,7 +170,7 @@ execute_leaves c st batch below is =
       replies = r.replies;
     }
 
-none_kept : (n client : ℕ) (kept : Kept) → option_and_then (λ (x : Option Kept). x) (slice_get (replicate n None) client) ≡ Some kept → ⊥
+pub none_kept : (n client : ℕ) (kept : Kept) → option_and_then (λ (x : Option Kept). x) (slice_get (replicate n None) client) ≡ Some kept → ⊥
 none_kept zero i kept h = absurd cc
 none_kept (suc n) zero kept h = absurd cc
 none_kept (suc n) (suc i) kept h = none_kept n i kept h

@@ -1,18 +1,14 @@
 -- The requests that run in the batches are legal, one after another.
-use Rattle.std.proofs.Common.{◌≡◌, ℕ, zero, suc, ◌-◌, ◌≤◌, Bool, true, false, not, cond, List, [], ◌∷◌, ◌++◌, length, map, fold, find, is_some, refl, sym, ap, ◌∙◌, subst, arith, ◌&&◌, Option, Some, None}
-use Rattle.std.specs.Prelude.{option_and_then, nat_lt, slice_set}
+use Rattle.std.proofs.Common.{◌≡◌, ℕ, zero, suc, ◌≤◌, Bool, true, false, cond, List, [], ◌∷◌, ◌++◌, length, map, fold, refl, sym, ap, ◌∙◌, subst, arith, Option, Some, None}
 use Rattle.std.specs.Option.{option_map_or}
-use Rattle.protocol.specs.Configuration.{Configuration, is_client}
-use Rattle.protocol.specs.Wire.{Message, requests_of, said}
-use Rattle.protocol.specs.Wire.Message.{Request}
+use Rattle.protocol.specs.Configuration.{Configuration}
+use Rattle.protocol.specs.Wire.{requests_of}
 use Rattle.protocol.specs.Trace.{Entry}
-use Rattle.space.specs.Applying.{tuples_after}
-use Rattle.protocol.specs.State.{State, Call, Ran, tuples, runs, run_call, call_in, call_of, run_frame, execute, ran_by, ran_in, kept_by}
+use Rattle.protocol.specs.State.{State, Call, Ran, tuples, runs, run_call, call_of, run_frame, execute, ran_by, ran_in, kept_by}
 use Rattle.protocol.specs.Linear.{Item, LegalFrom, Point, ordered_point, ordered_points, first_position, batch_of, is_level}
 use Rattle.protocol.specs.Certificates.{first_given}
 use Rattle.quorum.specs.Votes.{give_if, or_else}
 use Rattle.protocol.proofs.Levels.{level_below}
-use Rattle.protocol.proofs.Options.{and_then_some, some_injective}
 use Rattle.space.proofs.Keeping.{tuples_of-state_after}
 use Rattle.tuple_tree.specs.Values.{TupleTree}
 use Rattle.protocol.specs.State.{ran_call}
@@ -60,11 +56,11 @@ none_points c trace st k zero h = refl
 none_points c trace st k (suc more) h =
     rw h (none_points c trace (execute c st (batch_of trace k)) (suc k) more (none_later c k trace h))
 
-map_items : (xs ys : List Point) → map (λ (x : Point). x.item) (xs ++ ys) ≡ map (λ (x : Point). x.item) xs ++ map (λ (x : Point). x.item) ys
+pub map_items : (xs ys : List Point) → map (λ (x : Point). x.item) (xs ++ ys) ≡ map (λ (x : Point). x.item) xs ++ map (λ (x : Point). x.item) ys
 map_items [] ys = refl
 map_items (x ∷ xs) ys = ap (λ t. x.item ∷ t) (map_items xs ys)
 
-ran_items : (position k : ℕ) (rans : List Ran) → map (λ (x : Point). x.item) (map (ordered_point position k) rans) ≡ map (item_of position k) rans
+pub ran_items : (position k : ℕ) (rans : List Ran) → map (λ (x : Point). x.item) (map (ordered_point position k) rans) ≡ map (item_of position k) rans
 ran_items position k [] = refl
 ran_items position k (x ∷ xs) = ap (λ t. item_of position k x ∷ t) (ran_items position k xs)
 

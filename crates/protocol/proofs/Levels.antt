@@ -8,7 +8,7 @@ use Rattle.quorum.specs.Quorum.{count_below}
 use Rattle.protocol.specs.Configuration.{Configuration, IsConfiguration, replicas, is_replica, is_faulty_replica, is_correct_replica}
 use Rattle.protocol.specs.Trace.{Entry, party_of, history_of}
 use Rattle.protocol.specs.Trace.Entry.{Invoke, Got, Tick, Executed, Installed, Sent, Accepted}
-use Rattle.protocol.specs.State.{State, execute}
+use Rattle.protocol.specs.State.{execute}
 use Rattle.protocol.specs.RightReplica.{Leaves, May, Moves}
 use Rattle.protocol.specs.Linear.{reached_at, reached, count_correct, has_reached, is_level}
 

@@ -33,3 +33,6 @@ pub mod Accepting
 pub mod Readings
 pub mod Reacting
 pub mod Whole
+pub mod Weakly
+pub mod Refusing
+pub mod FirstBatch

@@ -1,23 +1,22 @@
 -- A number that an ordered call is accepted with was reached by all but f correct replicas.
-use Rattle.std.proofs.Common.{◌≡◌, ◌≢◌, ℕ, zero, suc, ◌+◌, ◌-◌, ◌*◌, ◌≤◌, ◌<◌, ◌⊎◌, inl, inr, Bool, true, false, not, cond, max, List, [], ◌∷◌, ◌++◌, length, map, fold, replicate, refl, sym, ap, ap₂, ◌∙◌, subst, arith, ◌&&◌, Option, Some, None, eqb-true, bytes_eq}
-use Rattle.std.specs.Prelude.{option_and_then, nat_lt, nat_le, slice_set, slice_get, ◌==◌}
+use Rattle.std.proofs.Common.{◌≡◌, ℕ, zero, suc, ◌+◌, ◌*◌, ◌≤◌, ◌⊎◌, inl, inr, Bool, true, false, cond, List, [], ◌∷◌, ◌++◌, fold, replicate, refl, sym, ap, ◌∙◌, subst, arith, ◌&&◌, Option, Some, None, eqb-true, bytes_eq}
+use Rattle.std.specs.Prelude.{option_and_then, slice_set, slice_get, ◌==◌}
 use Rattle.std.specs.Option.{option_map_or}
 use Rattle.std.proofs.lemmas.Bool.{and_parts}
 use Rattle.protocol.specs.RightReplica
 use Rattle.quorum.specs.Quorum.{count_below}
 use Rattle.protocol.specs.Configuration.{Configuration, IsConfiguration, is_correct_replica, is_correct_client}
-use Rattle.protocol.specs.Wire.{Body, Message, requests_of, said}
-use Rattle.protocol.specs.Wire.Message.{Request, PrePrepare, Prepare, Commit, Checkpoint, Change, Begin, Reply, Fetch, Meta, Page}
+use Rattle.protocol.specs.Wire.{Body, Message, requests_of}
+use Rattle.protocol.specs.Wire.Message.{Reply}
 use Rattle.protocol.specs.Keys.{heard}
 use Rattle.protocol.specs.Trace.{Entry, party_of, history_of, Once, Always, Has, Hears}
 use Rattle.protocol.specs.Trace.Entry.{Invoke, Got, Tick, Executed, Installed, Sent, Accepted}
-use Rattle.protocol.specs.State.{State, IsState, Call, Ran, opening, runs, run_call, call_of, run_frame, execute, ran_by, ran_in, kept_by, kept_of}
+use Rattle.protocol.specs.State.{State, Call, Ran, opening, runs, run_call, call_of, run_frame, execute, ran_by, ran_in, kept_by, kept_of}
 use Rattle.protocol.specs.Pages.{Kept}
 use Rattle.protocol.specs.RightReplica.{Leaves, May, Moves, MaySay, MayReply, snapshots_after}
-use Rattle.protocol.specs.RightClient.{RightClient, Vote, vote_of, later_vote, latest, is_alike}
+use Rattle.protocol.specs.RightClient.{Vote, vote_of, later_vote, latest, is_alike}
 use Rattle.protocol.specs.Linear.{reached, is_level}
-use Rattle.quorum.specs.Votes.{give_if}
-use Rattle.protocol.proofs.Temporal.{once_weaker, once_always, once_in_trace, once_stays}
+use Rattle.protocol.proofs.Temporal.{once_weaker, once_always, once_stays}
 use Rattle.protocol.proofs.Options.{and_then_some, give_if_some, some_injective}
 use Rattle.protocol.proofs.Linking.{Speaks, heard_was_said}
 use Rattle.protocol.proofs.Voting.{RightAt, once_right, correct_replica}
@@ -27,7 +26,7 @@ use Rattle.protocol.proofs.Reading.{Runs, correct_client, own_entries}
 use Rattle.protocol.specs.State.{after_batches, ran_call}
 use Rattle.protocol.specs.RightReplica.{executed_point, waiting_after, RepliesTo}
 use Rattle.protocol.specs.Texts.{NoCollision}
-use Rattle.protocol.proofs.Leaving.{get_set, outcome_is}
+use Rattle.protocol.proofs.Leaving.{get_set}
 use Rattle.protocol.proofs.States.{IsStateOf, GoodHere, states_agree}
 use Rattle.tuple_codec.specs.Spelling.{outcome_spelling}
 use Rattle.tuple_codec.specs.Operations.{Outcome}

@@ -1,22 +1,20 @@
 -- The requests that ran, by number: where they come from, where they stand, and what they leave.
-use Rattle.std.proofs.Common.{◌≡◌, ℕ, zero, suc, ◌+◌, ◌-◌, ◌≤◌, ◌<◌, ◌⊎◌, inl, inr, Bool, true, false, cond, List, [], ◌∷◌, ◌++◌, length, map, fold, refl, sym, ap, ◌∙◌, subst, arith, Option, Some, None}
-use Rattle.std.specs.Prelude.{◌==◌, nat_lt, nat_le, option_and_then, slice_set, slice_get}
+use Rattle.std.proofs.Common.{◌≡◌, ℕ, zero, suc, ◌+◌, ◌≤◌, ◌<◌, inl, inr, Bool, true, false, cond, List, [], ◌∷◌, ◌++◌, length, map, fold, refl, sym, ap, ◌∙◌, subst, arith, Option, Some, None}
+use Rattle.std.specs.Prelude.{nat_le}
 use Rattle.std.specs.Option.{option_map_or}
-use Rattle.std.proofs.lemmas.Bool.{leb-true, le-leb}
+use Rattle.std.proofs.lemmas.Bool.{le-leb}
 use Rattle.protocol.specs.Configuration.{Configuration}
-use Rattle.protocol.specs.Wire.{requests_of, said}
+use Rattle.protocol.specs.Wire.{requests_of}
 use Rattle.protocol.specs.Trace.{Entry, Has}
 use Rattle.space.specs.Applying.{tuples_after}
-use Rattle.protocol.specs.State.{State, Call, Ran, tuples, runs, run_call, call_in, call_of, run_frame, execute, ran_by, ran_in, kept_by, kept_of}
-use Rattle.protocol.specs.Pages.{Kept}
-use Rattle.protocol.specs.Linear.{Item, Point, ordered_point, ordered_points, first_position, batch_of, is_level}
-use Rattle.protocol.specs.Certificates.{first_given}
+use Rattle.protocol.specs.State.{State, Call, Ran, tuples, runs, run_call, call_of, run_frame, execute, ran_by, ran_in, kept_by}
+use Rattle.protocol.specs.Linear.{Point, ordered_point, ordered_points, first_position, batch_of, is_level}
 use Rattle.quorum.specs.Votes.{give_if, or_else}
-use Rattle.protocol.proofs.Options.{and_then_some, some_injective, give_if_some}
+use Rattle.protocol.proofs.Options.{some_injective}
 use Rattle.protocol.proofs.Levels.{level_below}
-use Rattle.protocol.proofs.Legality.{executed_tuples, executed_number, none_points, none_later}
+use Rattle.protocol.proofs.Legality.{executed_tuples, executed_number}
 use Rattle.protocol.proofs.Running.{state_by}
-use Rattle.protocol.proofs.Sorting.{AllOf, all_weaker, all_append, Ascends, IsOrdered, Stands, after_item, tuples_at, early}
+use Rattle.protocol.proofs.Sorting.{AllOf, all_weaker, all_append, Ascends, IsOrdered, after_item, tuples_at, early}
 use Rattle.space.proofs.Keeping.{tuples_of-state_after}
 use Rattle.tuple_tree.specs.Values.{TupleTree}
 use Rattle.protocol.specs.State.{ran_call}
@@ -62,7 +60,7 @@ pub record FromFrame (c : Configuration) (frames : List (List ℕ)) (ran : Ran) 
   pub is_call : call_of c frame ≡ Some ran.call
   pub time : ran.kept.timestamp ≡ ran.call.timestamp
 
-ran_frames : (c : Configuration) (k : ℕ) (st : State) (frames : List (List ℕ)) → AllOf (FromFrame c frames) (ran_in c k st frames)
+pub ran_frames : (c : Configuration) (k : ℕ) (st : State) (frames : List (List ℕ)) → AllOf (FromFrame c frames) (ran_in c k st frames)
 ran_frames c k st [] = tt
 ran_frames c k st (frame ∷ frames) = go (call_of c frame) refl (all_weaker (FromFrame c frames) (FromFrame c (frame ∷ frames)) more (ran_in c k (run_frame c k st frame) frames) (ran_frames c k (run_frame c k st frame) frames))
   where

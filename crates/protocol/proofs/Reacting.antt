@@ -1,17 +1,15 @@
 -- What a client gives in its events, it may do; and so for a replica.
-use Rattle.std.proofs.Common.{◌≡◌, ℕ, suc, ◌+◌, ◌*◌, ◌≤◌, ◌⊎◌, inl, inr, Bool, true, false, not, cond, List, [], ◌∷◌, ◌++◌, refl, sym, ap, ◌∙◌, subst, ◌&&◌, Option, Some, None, reverse}
-use Rattle.std.specs.Prelude.{⊤}
+use Rattle.std.proofs.Common.{◌≡◌, ℕ, inl, inr, Bool, true, false, not, cond, List, [], ◌∷◌, ◌++◌, refl, sym, ap, ◌∙◌, subst, ◌&&◌, Option, Some, None, reverse}
 use Rattle.std.specs.Option.{option_map_or}
-use Rattle.tuple_codec.specs.Operations.{Operation, Outcome}
+use Rattle.tuple_codec.specs.Operations.{Outcome}
 use Rattle.space.specs.Applying.{is_read_only}
 use Rattle.protocol.specs.Configuration.{Configuration}
-use Rattle.protocol.specs.Wire.{Body, said}
 use Rattle.protocol.specs.Wire.Message.{Request}
-use Rattle.protocol.specs.Trace.{Entry, party_of, Always}
+use Rattle.protocol.specs.Trace.{Entry, party_of}
 use Rattle.protocol.specs.Trace.Entry.{Invoke, Got, Tick, Executed, Installed, Sent, Accepted}
-use Rattle.protocol.specs.RightClient.{OpenCall, open_call, Vote, newest_vote, is_complete, went_ordered, is_answered, Reaction, fallback, on_reply, on_got, reaction, is_weakly_complete, weakly_on_got, weak_reaction, is_output, either, IsRequest, IsReaction, MayInput, Reacts, IsClientBy, IsClient, IsWeakClient, MayAccept, MayWeaklyAccept, MayRequest, MayAsk, MayClient, RightBy, RightClient, WeakClient}
+use Rattle.protocol.specs.RightClient.{OpenCall, open_call, Vote, newest_vote, is_complete, went_ordered, is_answered, Reaction, fallback, on_reply, on_got, reaction, is_weakly_complete, weakly_on_got, weak_reaction, is_output, either, IsReaction, MayInput, Reacts, IsClientBy, IsClient, IsWeakClient, MayAccept, MayWeaklyAccept, MayClient, RightBy, RightClient, WeakClient}
 use Rattle.protocol.specs.RightClient.Reaction.{nothing, asks, accepts}
-use Rattle.protocol.specs.RightReplica.{start, Point, Leaves, RightReplica, May, waiting_after}
+use Rattle.protocol.specs.RightReplica.{start, Point, Leaves, RightReplica, waiting_after}
 use Rattle.protocol.specs.Owed.{Owes, Proceeds, IsInput, IsReplica}
 
 -- ---- clients, by what they react
@@ -182,6 +180,78 @@ client_accepts c me (Accepted x y z ∷ past) t a h = absurd cc
 
 pub is_client_right : (c : Configuration) (me : ℕ) (xs : List Entry) → IsClient c me xs → RightClient c me xs
 is_client_right c me xs h = client_right c me (reaction c me) (MayAccept c me) (client_asks c me) (client_accepts c me) xs h
+
+-- ---- the weak client
+
+weak_asks : (c : Configuration) (me : ℕ) (now : List Entry) (read_only : Bool) (call : OpenCall) → weak_reaction c me now ≡ asks read_only call → (open_call now ≡ Some call) × (read_only ≡ true → is_read_only call.op ≡ true)
+weak_asks c me [] read_only call h = absurd cc
+weak_asks c me (Invoke client t op ∷ past) read_only call h = (ap Some (called h), λ e. not_true read_only (sym (kind h)) e (is_read_only call.op ≡ true))
+  where
+    called : asks false (let x : OpenCall = record { timestamp = t; op = op } in x) ≡ asks read_only call → ◌≡◌ {A = OpenCall} (record { timestamp = t; op = op }) call
+    called e = cc
+
+    kind : asks false (let x : OpenCall = record { timestamp = t; op = op } in x) ≡ asks read_only call → false ≡ read_only
+    kind e = cc
+weak_asks c me (Got p bytes ∷ past) read_only call h = absurd (go (open_call past) h)
+  where
+    go : (o : Option OpenCall) → option_map_or (weakly_on_got c me (Got p bytes ∷ past)) o nothing ≡ asks read_only call → ⊥
+    go None h = cc
+    go (Some x) h = votes (newest_vote c me (Got p bytes ∷ past) x.timestamp) h
+      where
+        votes : (o : Option Vote) → option_map_or (λ vote. cond (is_weakly_complete c me (Got p bytes ∷ past) x.timestamp vote) (accepts x.timestamp vote.answer) nothing) o nothing ≡ asks read_only call → ⊥
+        votes None h = cc
+        votes (Some vote) h = test (is_weakly_complete c me (Got p bytes ∷ past) x.timestamp vote) h
+          where
+            test : (b : Bool) → cond b (accepts x.timestamp vote.answer) nothing ≡ asks read_only call → ⊥
+            test true h = cc
+            test false h = cc
+weak_asks c me (Tick p ∷ past) read_only call h = go (open_call past) h
+  where
+    go : (o : Option OpenCall) → option_map_or (asks false) o nothing ≡ asks read_only call → (o ≡ Some call) × (read_only ≡ true → is_read_only call.op ≡ true)
+    go None h = absurd cc
+    go (Some x) h = (ap Some (called h), λ e. not_true read_only (sym (kind h)) e (is_read_only call.op ≡ true))
+      where
+        called : asks false x ≡ asks read_only call → x ≡ call
+        called e = cc
+
+        kind : asks false x ≡ asks read_only call → false ≡ read_only
+        kind e = cc
+weak_asks c me (Executed x y z ∷ past) read_only call h = absurd cc
+weak_asks c me (Installed x y z ∷ past) read_only call h = absurd cc
+weak_asks c me (Sent x y ∷ past) read_only call h = absurd cc
+weak_asks c me (Accepted x y z ∷ past) read_only call h = absurd cc
+
+weak_accepts : (c : Configuration) (me : ℕ) (now : List Entry) (t : ℕ) (a : Outcome) → weak_reaction c me now ≡ accepts t a → MayWeaklyAccept c me now t a
+weak_accepts c me [] t a h = absurd cc
+weak_accepts c me (Got p bytes ∷ past) t a h = go (open_call past) refl h
+  where
+    go : (o : Option OpenCall) → open_call past ≡ o → option_map_or (weakly_on_got c me (Got p bytes ∷ past)) o nothing ≡ accepts t a → MayWeaklyAccept c me (Got p bytes ∷ past) t a
+    go None is h = absurd cc
+    go (Some call) is h = votes (newest_vote c me (Got p bytes ∷ past) call.timestamp) refl h
+      where
+        votes : (o : Option Vote) → newest_vote c me (Got p bytes ∷ past) call.timestamp ≡ o
+            → option_map_or (λ vote. cond (is_weakly_complete c me (Got p bytes ∷ past) call.timestamp vote) (accepts call.timestamp vote.answer) nothing) o nothing ≡ accepts t a → MayWeaklyAccept c me (Got p bytes ∷ past) t a
+        votes None e h = absurd cc
+        votes (Some vote) e h = test (is_weakly_complete c me (Got p bytes ∷ past) call.timestamp vote) refl h
+          where
+            test : (b : Bool) → is_weakly_complete c me (Got p bytes ∷ past) call.timestamp vote ≡ b → cond b (accepts call.timestamp vote.answer) nothing ≡ accepts t a → MayWeaklyAccept c me (Got p bytes ∷ past) t a
+            test true f h =
+                let s = accepted call.timestamp t vote.answer a h in
+                (call, vote, is, s.0, s.1, subst (λ (i : ℕ). newest_vote c me (Got p bytes ∷ past) i ≡ Some vote) s.0 e, f)
+            test false f h = absurd cc
+weak_accepts c me (Invoke x y z ∷ past) t a h = absurd cc
+weak_accepts c me (Tick x ∷ past) t a h = absurd (go (open_call past) h)
+  where
+    go : (o : Option OpenCall) → option_map_or (asks false) o nothing ≡ accepts t a → ⊥
+    go None h = cc
+    go (Some x) h = cc
+weak_accepts c me (Executed x y z ∷ past) t a h = absurd cc
+weak_accepts c me (Installed x y z ∷ past) t a h = absurd cc
+weak_accepts c me (Sent x y ∷ past) t a h = absurd cc
+weak_accepts c me (Accepted x y z ∷ past) t a h = absurd cc
+
+pub is_weak_right : (c : Configuration) (me : ℕ) (xs : List Entry) → IsWeakClient c me xs → WeakClient c me xs
+is_weak_right c me xs h = client_right c me (weak_reaction c me) (MayWeaklyAccept c me) (weak_asks c me) (weak_accepts c me) xs h
 
 -- ---- a replica
 

@@ -10,7 +10,7 @@ use Rattle.protocol.specs.Keys.{heard}
 use Rattle.protocol.specs.Trace.{Entry, party_of, history_of, Once, Always, Unforged, Hears}
 use Rattle.protocol.specs.Trace.Entry.{Invoke, Got, Tick, Executed, Installed, Sent, Accepted}
 use Rattle.protocol.specs.RightReplica.{MaySay, MayReply}
-use Rattle.protocol.specs.RightClient.{RightClient, MayAsk, MayRequest, OpenCall, open_call, last_call, Vote, vote_of, later_vote, latest, is_alike}
+use Rattle.protocol.specs.RightClient.{AnyClient, MayAsk, MayRequest, OpenCall, open_call, last_call, Vote, vote_of, later_vote, latest, is_alike}
 use Rattle.protocol.specs.Linear.{reached, is_level}
 use Rattle.protocol.specs.Laws.{AreReplicasRight}
 use Rattle.protocol.proofs.Temporal.{once_weaker, once_in_trace}
@@ -21,13 +21,14 @@ use Rattle.protocol.proofs.States.{right_append}
 use Rattle.protocol.proofs.Levels.{reached_grows, reached_history, number_reached, level_after, level_before}
 use Rattle.tuple_codec.specs.Operations.{Operation, Outcome}
 use Rattle.tuple_codec.specs.Spelling.{outcome_spelling}
+use Rattle.protocol.specs.Linear.{invoke_past}
 
 -- ---- a run, and each of its beginnings
 
 pub record Runs (c : Configuration) (xs : List Entry) : Type 0 where
   pub unforged : Unforged c xs
   pub replicas : AreReplicasRight c xs
-  pub clients : (p : ℕ) → is_correct_client c p ≡ true → RightClient c p (history_of p xs)
+  pub clients : (p : ℕ) → is_correct_client c p ≡ true → AnyClient p (history_of p xs)
 
 pub runs_earlier : (c : Configuration) (e : Entry) (xs : List Entry) → Runs c (e ∷ xs) → Runs c xs
 runs_earlier c e xs r = record {
@@ -36,7 +37,7 @@ runs_earlier c e xs r = record {
   clients = λ p h. go p (party_of e == p) (r.clients p h);
 }
   where
-    go : (p : ℕ) (b : Bool) → RightClient c p (cond b (e ∷ history_of p xs) (history_of p xs)) → RightClient c p (history_of p xs)
+    go : (p : ℕ) (b : Bool) → AnyClient p (cond b (e ∷ history_of p xs) (history_of p xs)) → AnyClient p (history_of p xs)
     go p true h = h.1
     go p false h = h
 
@@ -71,7 +72,7 @@ opened p t op (Sent x y ∷ past) own h = inr (opened p t op past own.1 h)
 opened p t op (Executed x y z ∷ past) own h = inr (opened p t op past own.1 h)
 opened p t op (Installed x y z ∷ past) own h = inr (opened p t op past own.1 h)
 
-pub own_entries : (c : Configuration) (p : ℕ) (xs : List Entry) → RightClient c p xs → Always (λ past e. party_of e ≡ p) xs
+pub own_entries : (c : Configuration) (p : ℕ) (xs : List Entry) → AnyClient p xs → Always (λ past e. party_of e ≡ p) xs
 own_entries c p [] r = tt
 own_entries c p (e ∷ xs) r = (r.0.0, own_entries c p xs r.1)
 
@@ -79,7 +80,7 @@ abbrev pub asking : ℕ → ℕ → Bool → Operation → Body
 asking p t read_only text = record { sender = p; message = Request t read_only text }
 
 -- what a right client asks it invoked
-pub asked_invoked : (c : Configuration) (p t : ℕ) (read_only : Bool) (text : Operation) (xs : List Entry) → RightClient c p xs → Once (Speaks (asking p t read_only text)) xs → Once (InvokesAt p t) xs
+pub asked_invoked : (c : Configuration) (p t : ℕ) (read_only : Bool) (text : Operation) (xs : List Entry) → AnyClient p xs → Once (Speaks (asking p t read_only text)) xs → Once (InvokesAt p t) xs
 asked_invoked c p t read_only text [] r h = absurd h
 asked_invoked c p t read_only text (e ∷ past) r (inr h) = inr (asked_invoked c p t read_only text past r.1 h)
 asked_invoked c p t read_only text (Sent x bytes ∷ past) r (inl h) =
@@ -192,12 +193,7 @@ latest_heard c me t s vote (Accepted x y z ∷ past) own h = inr (latest_heard c
 
 -- ---- the latest invocation
 
--- the past of the client's latest invocation, and its timestamp
-abbrev pub invoke_past : ℕ → List Entry → List Entry
-invoke_past p [] = []
-invoke_past p (Invoke client t op ∷ past) = cond (256 + client == p) past (invoke_past p past)
-invoke_past p (_ ∷ past) = invoke_past p past
-
+-- the timestamp of the client's latest invocation
 abbrev pub last_of : ℕ → List Entry → ℕ
 last_of p [] = 0
 last_of p (Invoke client t op ∷ past) = cond (256 + client == p) t (last_of p past)
@@ -242,10 +238,10 @@ last_of-history p (Accepted x y z ∷ xs) = other (256 + x == p) (last_of-histor
     other false h = h
 
 -- an invocation of a right client has the next timestamp
-next_time : (c : Configuration) (p client t : ℕ) (op : Operation) (past : List Entry) → RightClient c p (history_of p (Invoke client t op ∷ past)) → (256 + client == p) ≡ true → t ≡ suc (last_of p past)
+next_time : (c : Configuration) (p client t : ℕ) (op : Operation) (past : List Entry) → AnyClient p (history_of p (Invoke client t op ∷ past)) → (256 + client == p) ≡ true → t ≡ suc (last_of p past)
 next_time c p client t op past r is = go (256 + client == p) is r
   where
-    go : (b : Bool) → b ≡ true → RightClient c p (cond b (Invoke client t op ∷ history_of p past) (history_of p past)) → t ≡ suc (last_of p past)
+    go : (b : Bool) → b ≡ true → AnyClient p (cond b (Invoke client t op ∷ history_of p past) (history_of p past)) → t ≡ suc (last_of p past)
     go true e r = r.0.1.0 ∙ ap suc (last_of-history p past)
     go false e r = absurd cc
 

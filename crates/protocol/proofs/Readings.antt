@@ -1,33 +1,32 @@
 -- The points of accepted reads.
-use Rattle.std.proofs.Common.{◌≡◌, ℕ, zero, suc, ◌+◌, ◌-◌, ◌≤◌, ◌<◌, ◌⊎◌, inl, inr, Bool, true, false, cond, max, List, [], ◌∷◌, ◌++◌, length, refl, sym, ap, ◌∙◌, subst, arith, Option, Some, None, eqb-true, eq-eqb, append_assoc}
-use Rattle.std.specs.Prelude.{◌==◌, option_and_then, ⊤}
+use Rattle.std.proofs.Common.{◌≡◌, ℕ, zero, suc, ◌+◌, ◌≤◌, ◌<◌, ◌⊎◌, inl, inr, Bool, true, false, cond, max, List, [], ◌∷◌, ◌++◌, length, refl, sym, ap, ◌∙◌, subst, arith, Option, Some, None, eq-eqb, append_assoc}
+use Rattle.std.specs.Prelude.{◌==◌, option_and_then}
 use Rattle.std.specs.Option.{option_map_or}
 use Rattle.std.proofs.lemmas.Bool.{cases_order}
 use Rattle.protocol.proofs.Accepting
 use Rattle.protocol.specs.Configuration.{Configuration, is_correct_client}
-use Rattle.protocol.specs.Trace.{Entry, party_of, history_of, Once, Always, Has}
+use Rattle.protocol.specs.Trace.{Entry, history_of, Once, Has}
 use Rattle.protocol.specs.Trace.Entry.{Invoke, Got, Tick, Executed, Installed, Sent, Accepted}
 use Rattle.space.specs.Applying.{is_read_only, outcome}
-use Rattle.protocol.specs.State.{State, opening, tuples}
-use Rattle.protocol.specs.RightClient.{RightClient, OpenCall, open_call, Vote, newest_vote}
+use Rattle.protocol.specs.State.{opening, tuples}
+use Rattle.protocol.specs.RightClient.{OpenCall, open_call, Vote, newest_vote}
 use Rattle.protocol.specs.Texts.{ExecutesBatch}
-use Rattle.protocol.specs.Linear.{Item, Point, first_position, is_level, ordered_points, invoked_at, read_point, read_points, Invokes, Accepts}
-use Rattle.protocol.specs.Certificates.{first_given}
+use Rattle.protocol.specs.Linear.{Point, first_position, is_level, ordered_points, invoked_at, read_point, read_points, Invokes, Accepts}
 use Rattle.quorum.specs.Votes.{give_if, or_else}
-use Rattle.protocol.proofs.Temporal.{once_weaker, once_in_history}
+use Rattle.protocol.proofs.Temporal.{once_weaker}
 use Rattle.protocol.proofs.Options.{some_injective, and_then_some, give_if_some}
 use Rattle.protocol.proofs.States.{once_append}
 use Rattle.protocol.proofs.Levels.{level_stays}
-use Rattle.protocol.proofs.Reading.{invoke_past}
-use Rattle.protocol.proofs.Running.{Run, run_earlier, state_by, level_executed, executed_greatest}
+use Rattle.protocol.proofs.Running.{Run, state_by, level_executed, executed_greatest}
 use Rattle.protocol.proofs.Sorting.{AllOf, all_weaker, Stands, IsReadAt, tuples_at}
 use Rattle.protocol.proofs.Ran.{place_lower, tuples_by}
 use Rattle.protocol.proofs.Keeping.{IsRanPoint, ran_point, has_right, Differ, AllDiffer}
-use Rattle.protocol.proofs.Invoking.{At, once_split, run_part, once_within, opened_invoked, invoked_in_trace, one_invocation}
-use Rattle.protocol.proofs.Accepting.{Accepting, accepting, accepted_once, accepted_level, accepted_place, read_before, embedded, replied, read_replied, ordered_replied, voted, Voted, Answers, IsSpaceAnswer}
+use Rattle.protocol.proofs.Invoking.{once_within, opened_invoked, invoked_in_trace, one_invocation}
+use Rattle.protocol.proofs.Accepting.{Accepting, accepting, accepted_once, accepted_level, accepted_place, read_before, embedded, replied, read_replied, ordered_replied, voted, Voted, Answers, IsSpaceAnswer, FullRun, full_earlier}
 use Rattle.protocol.specs.Linear.{last_executed}
 use Rattle.tuple_tree.specs.Values.{TupleTree}
 use Rattle.tuple_codec.specs.Operations.{Outcome, Operation}
+use Rattle.protocol.specs.Linear.{invoke_past}
 
 abbrev pub read_of : Configuration → List Entry → ℕ → OpenCall → Outcome → List Entry → Vote → Point
 read_of c trace p call a past vote = record {
@@ -118,7 +117,7 @@ kind_accepts c b p t (Sent x y ∷ past) (inl h) = absurd h
 kind_accepts c b p t (Executed x y z ∷ past) (inl h) = absurd h
 kind_accepts c b p t (Installed x y z ∷ past) (inl h) = absurd h
 
-not_again : (c : Configuration) (b d : Bool) (p t : ℕ) (past : List Entry) (e : Entry) → Run c (e ∷ past) → KindAt c b p t past e → Once (KindAt c d p t) past → ⊥
+not_again : (c : Configuration) (b d : Bool) (p t : ℕ) (past : List Entry) (e : Entry) → FullRun c (e ∷ past) → KindAt c b p t past e → Once (KindAt c d p t) past → ⊥
 not_again c b d p t past (Accepted x y z) run h k =
     let r = kind_accepts c d p t past k in
     accepted_once c past (256 + x) y z r.0 (accepting c past x y z run)
@@ -141,14 +140,14 @@ both_kinds c p t past (Sent x y) h k = h
 both_kinds c p t past (Executed x y z) h k = h
 both_kinds c p t past (Installed x y z) h k = h
 
-pub one_kind : (c : Configuration) (p t : ℕ) (xs : List Entry) → Run c xs → Once (KindAt c true p t) xs → Once (KindAt c false p t) xs → ⊥
+pub one_kind : (c : Configuration) (p t : ℕ) (xs : List Entry) → FullRun c xs → Once (KindAt c true p t) xs → Once (KindAt c false p t) xs → ⊥
 one_kind c p t [] run h k = h
 one_kind c p t (e ∷ past) run (inl h) (inl k) = both_kinds c p t past e h k
 one_kind c p t (e ∷ past) run (inl h) (inr k) = not_again c true false p t past e run h k
 one_kind c p t (e ∷ past) run (inr h) (inl k) = not_again c false true p t past e run k h
-one_kind c p t (e ∷ past) run (inr h) (inr k) = one_kind c p t past (run_earlier c e past run) h k
+one_kind c p t (e ∷ past) run (inr h) (inr k) = one_kind c p t past (full_earlier c e past run) h k
 
-kind_made : (c : Configuration) (trace : List Entry) (y : Point) (past : List Entry) (e : Entry) → Run c (e ∷ past) → MadeAt c trace y past e → KindAt c true y.item.client y.item.timestamp past e
+kind_made : (c : Configuration) (trace : List Entry) (y : Point) (past : List Entry) (e : Entry) → FullRun c (e ∷ past) → MadeAt c trace y past e → KindAt c true y.item.client y.item.timestamp past e
 kind_made c trace y past (Accepted cl t a) run m =
     let x = accepting c past cl t a run in
     let call : x.call ≡ m.0 = some_injective x.call m.0 (sym x.opened ∙ m.2) in
@@ -161,33 +160,33 @@ kind_made c trace y past (Sent x z) run m = absurd m
 kind_made c trace y past (Executed x z w) run m = absurd m
 kind_made c trace y past (Installed x z w) run m = absurd m
 
-pub made_kind : (c : Configuration) (trace : List Entry) (y : Point) (xs : List Entry) → Run c xs → Once (MadeAt c trace y) xs → Once (KindAt c true y.item.client y.item.timestamp) xs
+pub made_kind : (c : Configuration) (trace : List Entry) (y : Point) (xs : List Entry) → FullRun c xs → Once (MadeAt c trace y) xs → Once (KindAt c true y.item.client y.item.timestamp) xs
 made_kind c trace y [] run h = h
 made_kind c trace y (e ∷ past) run (inl h) = inl (kind_made c trace y past e run h)
-made_kind c trace y (e ∷ past) run (inr h) = inr (made_kind c trace y past (run_earlier c e past run) h)
+made_kind c trace y (e ∷ past) run (inr h) = inr (made_kind c trace y past (full_earlier c e past run) h)
 
 -- no read is there twice
-pub reads_differ : (c : Configuration) (trace xs : List Entry) → Run c xs → AllDiffer (read_points c trace xs)
+pub reads_differ : (c : Configuration) (trace xs : List Entry) → FullRun c xs → AllDiffer (read_points c trace xs)
 reads_differ c trace [] run = tt
-reads_differ c trace (Accepted cl t a ∷ past) run = go (made_option c trace (256 + cl) t a past) refl (reads_differ c trace past (run_earlier c (Accepted cl t a) past run))
+reads_differ c trace (Accepted cl t a ∷ past) run = go (made_option c trace (256 + cl) t a past) refl (reads_differ c trace past (full_earlier c (Accepted cl t a) past run))
   where
     go : (o : Option Point) → made_option c trace (256 + cl) t a past ≡ o → AllDiffer (read_points c trace past) → AllDiffer (option_map_or (λ point. point ∷ []) o [] ++ read_points c trace past)
     go None is rest = rest
     go (Some y) is rest = (
       all_weaker (λ z. Once (MadeAt c trace z) past) (Differ y) (λ z h same time.
           let k = kind_made c trace y past (Accepted cl t a) run (made_here c trace y past cl t a is) in
-          let early = made_kind c trace z past (run_earlier c (Accepted cl t a) past run) h in
+          let early = made_kind c trace z past (full_earlier c (Accepted cl t a) past run) h in
           let moved : Once (KindAt c true y.item.client y.item.timestamp) past = subst (λ (i : ℕ). Once (KindAt c true i y.item.timestamp) past) (sym same) (subst (λ (i : ℕ). Once (KindAt c true z.item.client i) past) (sym time) early) in
           not_again c true true y.item.client y.item.timestamp past (Accepted cl t a) run k moved)
           (read_points c trace past) (reads_made c trace past),
       rest,
     )
-reads_differ c trace (Invoke x y z ∷ past) run = reads_differ c trace past (run_earlier c (Invoke x y z) past run)
-reads_differ c trace (Got x y ∷ past) run = reads_differ c trace past (run_earlier c (Got x y) past run)
-reads_differ c trace (Tick x ∷ past) run = reads_differ c trace past (run_earlier c (Tick x) past run)
-reads_differ c trace (Sent x y ∷ past) run = reads_differ c trace past (run_earlier c (Sent x y) past run)
-reads_differ c trace (Executed x y z ∷ past) run = reads_differ c trace past (run_earlier c (Executed x y z) past run)
-reads_differ c trace (Installed x y z ∷ past) run = reads_differ c trace past (run_earlier c (Installed x y z) past run)
+reads_differ c trace (Invoke x y z ∷ past) run = reads_differ c trace past (full_earlier c (Invoke x y z) past run)
+reads_differ c trace (Got x y ∷ past) run = reads_differ c trace past (full_earlier c (Got x y) past run)
+reads_differ c trace (Tick x ∷ past) run = reads_differ c trace past (full_earlier c (Tick x) past run)
+reads_differ c trace (Sent x y ∷ past) run = reads_differ c trace past (full_earlier c (Sent x y) past run)
+reads_differ c trace (Executed x y z ∷ past) run = reads_differ c trace past (full_earlier c (Executed x y z) past run)
+reads_differ c trace (Installed x y z ∷ past) run = reads_differ c trace past (full_earlier c (Installed x y z) past run)
 
 -- ---- where a read stands
 

@@ -1,25 +1,24 @@
 -- A run, each of its beginnings, and the batches that it executes.
-use Rattle.std.proofs.Common.{◌≡◌, ℕ, zero, suc, ◌+◌, ◌*◌, ◌≤◌, ◌<◌, ◌⊎◌, inl, inr, Bool, true, false, cond, max, List, [], ◌∷◌, ◌++◌, length, refl, sym, ap, ◌∙◌, subst, arith, ◌&&◌, ◌||◌, Option, Some, None, eqb-true, eq-eqb}
-use Rattle.std.specs.Prelude.{◌==◌, nat_le, nat_lt}
+use Rattle.std.proofs.Common.{◌≡◌, ℕ, zero, suc, ◌+◌, ◌*◌, ◌≤◌, ◌<◌, inl, inr, Bool, true, false, cond, List, [], ◌∷◌, ◌++◌, length, refl, sym, ap, ◌∙◌, subst, arith, ◌||◌, Option, Some, None, eqb-true, eq-eqb}
+use Rattle.std.specs.Prelude.{◌==◌, nat_le}
 use Rattle.std.specs.Option.{option_map_or}
-use Rattle.std.proofs.lemmas.Bool.{and_parts, leb-true, le-leb, eqb-false}
+use Rattle.std.proofs.lemmas.Bool.{and_parts, leb-true, eqb-false}
 use Rattle.quorum.proofs.Counting.{some_more}
 use Rattle.protocol.specs.RightReplica
 use Rattle.quorum.specs.Quorum.{count_below}
 use Rattle.protocol.specs.Configuration.{Configuration, IsConfiguration, is_correct, is_correct_replica, is_correct_client}
 use Rattle.protocol.specs.Trace.{Entry, party_of, history_of, Once, Always}
 use Rattle.protocol.specs.Trace.Entry.{Invoke, Got, Tick, Executed, Installed, Sent, Accepted}
-use Rattle.protocol.specs.Certificates.{first_given, greatest}
+use Rattle.protocol.specs.Certificates.{first_given}
 use Rattle.quorum.specs.Votes.{give_if, or_else}
 use Rattle.protocol.specs.RightReplica.{Leaves}
-use Rattle.protocol.specs.RightClient.{RightClient}
+use Rattle.protocol.specs.RightClient.{AnyClient}
 use Rattle.protocol.specs.State.{State, opening, execute, after_batches}
 use Rattle.protocol.specs.Texts.{IsText, Holds, NoCollision, AreExecuted, ExecutesBatch}
 use Rattle.protocol.specs.Texts.IsText.{null, batch, part, held, page_of, under}
-use Rattle.protocol.specs.Linear.{last_executed, reached, count_correct, has_reached, is_level, first_position, batch_at, batch_of}
-use Rattle.protocol.specs.Laws.{PagesDetermine, BatchesLeaveStates}
+use Rattle.protocol.specs.Linear.{last_executed, reached, count_correct, has_reached, is_level, batch_at, batch_of}
 use Rattle.protocol.proofs.Temporal.{once_weaker}
-use Rattle.protocol.proofs.Options.{given_once, give_if_some, some_injective}
+use Rattle.protocol.proofs.Options.{given_once, give_if_some}
 use Rattle.protocol.proofs.Executing.{executed_agree}
 use Rattle.protocol.proofs.States.{IsStateOf, number_after, states_agree}
 use Rattle.protocol.proofs.Levels.{many_correct, reached_history, number_reached}
@@ -83,12 +82,12 @@ always_run c Q (e ∷ past) f r = (f past e r, always_run c Q past f (run_earlie
 
 -- ---- the batch of a number is the executed one
 
-given_executed : (c : Configuration) (k : ℕ) (b : List ℕ) (past : List Entry) (e : Entry) → Run c (e ∷ past) → batch_at k e ≡ Some b → ExecutesBatch c k b past e
+pub given_executed : (c : Configuration) (k : ℕ) (b : List ℕ) (past : List Entry) (e : Entry) → Run c (e ∷ past) → batch_at k e ≡ Some b → ExecutesBatch c k b past e
 given_executed c k b past (Executed r number text) run h =
     let g = give_if_some (number == k) text b h in
     (pick (is_correct_replica c r) refl run.parties.0, eqb-true number k g.0, g.1)
   where
-    own : (x : Bool) → (r == r) ≡ x → x ≡ true → RightClient c r (cond x (Executed r number text ∷ history_of r past) (history_of r past)) → ⊥
+    own : (x : Bool) → (r == r) ≡ x → x ≡ true → AnyClient r (cond x (Executed r number text ∷ history_of r past) (history_of r past)) → ⊥
     own true is e right = right.0.1
     own false is e right = absurd cc
 

@@ -1,8 +1,7 @@
 -- The points in order: the ordered requests as they ran, each read behind the requests of its number.
-use Rattle.std.proofs.Common.{◌≡◌, ℕ, ◌≤◌, ◌<◌, ◌⊎◌, inl, inr, Bool, true, false, not, cond, List, [], ◌∷◌, ◌++◌, map, filter, refl, sym, ap, ◌∙◌, subst, arith, ◌&&◌, ◌||◌, Option, Some, None, eqb-true}
+use Rattle.std.proofs.Common.{◌≡◌, ℕ, ◌≤◌, ◌<◌, ◌⊎◌, inl, inr, Bool, true, false, not, cond, List, [], ◌∷◌, ◌++◌, map, filter, refl, sym, ap, ◌∙◌, subst, arith, ◌&&◌, ◌||◌, Option, Some, eqb-true}
 use Rattle.std.specs.Prelude.{◌==◌, nat_lt, nat_le, ⊤}
-use Rattle.std.specs.Option.{option_map_or}
-use Rattle.std.proofs.lemmas.Bool.{ltb-true, ltb-false, leb-true, leb-false, eqb-false, le-leb, lt-ltb, cases_order}
+use Rattle.std.proofs.lemmas.Bool.{ltb-true, ltb-false, leb-true, leb-false, eqb-false, le-leb, cases_order}
 use Rattle.space.specs.Applying.{is_read_only, outcome, tuples_after}
 use Rattle.tuple_codec.specs.Operations.{Operation, out, rdp, inp, cas, rd_all}
 use Rattle.tuple_tree.specs.Values.{TupleTree}

@@ -1,32 +1,31 @@
 -- The points of a run are those of one sequential tuple space.
-use Rattle.std.proofs.Common.{◌≡◌, ◌≢◌, ℕ, suc, ◌+◌, ◌≤◌, ◌<◌, ◌⊎◌, inl, inr, Bool, true, false, not, cond, List, [], ◌∷◌, ◌++◌, length, map, filter, refl, sym, ap, ◌∙◌, subst, arith, ◌&&◌, ◌||◌, Option, Some, None, eqb-true, eq-eqb}
-use Rattle.std.specs.Prelude.{◌==◌}
-use Rattle.std.specs.Option.{option_map_or}
+use Rattle.std.proofs.Common.{◌≡◌, ℕ, ◌+◌, ◌≤◌, ◌<◌, ◌⊎◌, inl, inr, Bool, true, false, not, cond, List, [], ◌∷◌, ◌++◌, length, map, filter, refl, sym, ap, ◌∙◌, subst, arith, ◌&&◌, ◌||◌, eqb-true, eq-eqb}
+use Rattle.std.specs.Prelude.{◌==◌, ⊤}
 use Rattle.std.proofs.lemmas.Bool.{and_parts}
 use Rattle.protocol.proofs.Options
 use Rattle.protocol.proofs.States
-use Rattle.protocol.specs.Configuration.{Configuration, IsConfiguration, is_correct, is_correct_client}
+use Rattle.protocol.specs.Configuration.{Configuration, IsConfiguration, is_correct_client}
 use Rattle.protocol.specs.Trace.{Entry, party_of, history_of, Once, Always, Unforged, Has}
 use Rattle.protocol.specs.Trace.Entry.{Invoke, Got, Tick, Executed, Installed, Sent, Accepted}
-use Rattle.space.specs.Applying.{tuples_after, outcome}
-use Rattle.protocol.specs.State.{Ran, opening, tuples}
-use Rattle.protocol.specs.RightClient.{OpenCall, Vote}
+use Rattle.space.specs.Applying.{tuples_after}
+use Rattle.protocol.specs.State.{opening}
+use Rattle.protocol.specs.RightClient.{OpenCall, Vote, RightClient, AnyClient, MayClient, MayAccept}
 use Rattle.protocol.specs.Texts.{NoCollision}
-use Rattle.protocol.specs.Linear.{Item, Point, Legal, NoneTwice, Covers, Placed, IsLinear, Invokes, Accepts, Asks, first_position, ordered_point, ordered_points, read_points, is_double, sorted, insert_point, comes_before, points}
-use Rattle.protocol.specs.Laws.{LinearOfRight}
+use Rattle.protocol.specs.Linear.{Item, Point, Legal, IsLinear, Invokes, Accepts, Asks, first_position, read_points, is_double, sorted, insert_point, comes_before, points, is_level}
+use Rattle.protocol.specs.Laws.{LinearOfRight, IsRightTrace}
 use Rattle.protocol.proofs.Temporal.{once_weaker, once_in_history}
 use Rattle.protocol.proofs.Lists.{has_some}
 use Rattle.protocol.proofs.Legality.{legal_ordered}
 use Rattle.protocol.proofs.Running.{Run}
-use Rattle.protocol.proofs.Sorting.{AllOf, all_weaker, all_both, all_append, all_filter, all_has, sorted_all, Changes, IsOrdered, Stands, IsRight, IsReadAt, after_item, read_same, sorted_legal, sorted_never_fall}
+use Rattle.protocol.proofs.Sorting.{AllOf, all_weaker, all_both, all_append, all_filter, all_has, sorted_all, Changes, IsOrdered, Stands, IsRight, read_same, sorted_legal, sorted_never_fall}
 use Rattle.protocol.proofs.Ran.{Source, ordered_sources, source_ordered, points_ascend, points_from, has_map_all}
 use Rattle.protocol.proofs.Keeping.{IsRanPoint, has_left, has_right, Differ, AllDiffer, differ_filter, differ_append, differ_sorted, differ_same, none_twice, points_differ}
-use Rattle.protocol.proofs.Invoking.{At, once_split, run_part, one_invocation, ran_asked, ran_invoked}
-use Rattle.protocol.proofs.Accepting.{Accepting, accepting, Answers, accepted_place}
+use Rattle.protocol.proofs.Invoking.{once_split, one_invocation, ran_asked, ran_invoked}
+use Rattle.protocol.proofs.Accepting.{FullRun, full_part, Accepting, accepting, Answers, accepted_place, accepted_level, read_before, full_earlier}
 use Rattle.protocol.proofs.Readings.{read_of, MadeAt, KindAt, reads_made, made_read, made_kind, one_kind, reads_differ, all_ordered, ReadFacts, read_facts, read_bound, ordered_has}
 use Rattle.protocol.specs.Linear.{last_executed}
 use Rattle.tuple_codec.specs.Operations.{Operation, Outcome}
-use Rattle.protocol.specs.Run.{PointsAreLinear}
+use Rattle.protocol.specs.Run.{PointsAreLinear, AcceptedAtLevels, AtItsLevel}
 use Rattle.protocol.proofs.Reacting.{is_replica_right, is_client_right}
 
 -- ---- lists
@@ -47,12 +46,12 @@ has_sorted P [] h = h
 has_sorted P (x ∷ xs) (inl h) = has_insert P x (sorted xs) (inl h)
 has_sorted P (x ∷ xs) (inr h) = has_insert P x (sorted xs) (inr (has_sorted P xs h))
 
-has_items : (P : Item → Type 0) (xs : List Point) → Has (λ x. P x.item) xs → Has P (map (λ (x : Point). x.item) xs)
+pub has_items : (P : Item → Type 0) (xs : List Point) → Has (λ x. P x.item) xs → Has P (map (λ (x : Point). x.item) xs)
 has_items P [] h = h
 has_items P (x ∷ xs) (inl h) = inl h
 has_items P (x ∷ xs) (inr h) = inr (has_items P xs h)
 
-has_at : (P : Point → Type 0) (xs : List Point) (x : Point) → Has (λ y. y ≡ x) xs → P x → Has P xs
+pub has_at : (P : Point → Type 0) (xs : List Point) (x : Point) → Has (λ y. y ≡ x) xs → P x → Has P xs
 has_at P [] x h p = h
 has_at P (y ∷ ys) x (inl h) p = inl (subst P (sym h) p)
 has_at P (y ∷ ys) x (inr h) p = inr (has_at P ys x h p)
@@ -124,7 +123,10 @@ pub record ItemFacts (c : Configuration) (trace : List Entry) (item : Item) : Ty
   pub invoked : is_correct_client c item.client ≡ true → Once (λ past e. Invokes item.client item.timestamp item.op past e × (length past ≤ item.position)) trace
   pub asked : is_correct_client c item.client ≡ false → Once (λ past e. Asks c item.client item.timestamp item.op past e × (length past ≤ item.position)) trace
 
-module _ (c : Configuration) (trace : List Entry) (run : Run c trace) where
+module _ (c : Configuration) (trace : List Entry) (full : FullRun c trace) where
+  abbrev run : Run c trace
+  run = full.run
+
   abbrev reads : List Point
   reads = read_points c trace trace
 
@@ -149,7 +151,7 @@ module _ (c : Configuration) (trace : List Entry) (run : Run c trace) where
     where
       go : (later past : List Entry) (e : Entry) → trace ≡ later ++ e ∷ past → MadeAt c trace y past e → ReadFacts c trace y
       go later past (Accepted cl t a) is m =
-          let x = accepting c past cl t a (run_part c later (Accepted cl t a ∷ past) (subst (Run c) is run)) in
+          let x = accepting c past cl t a (full_part c later (Accepted cl t a ∷ past) (subst (FullRun c) is full)) in
           let call = Options.some_injective x.call m.0 (sym x.opened ∙ m.2) in
           let vote = Options.some_injective x.vote m.1 (sym x.newest ∙ m.3) in
           let kind : x.vote.read_only ≡ true = ap (λ (v : Vote). v.read_only) vote ∙ m.4 in
@@ -200,7 +202,7 @@ module _ (c : Configuration) (trace : List Entry) (run : Run c trace) where
       (all_weaker (ReadFacts c trace) (IsRight [] (all_ordered c trace)) (λ y f. f.right) reads facts)
 
   differ : AllDiffer all_points
-  differ = differ_append kept reads (differ_filter keep (all_ordered c trace) (points_differ c run.setting trace opening 1 (last_executed trace) refl refl).1) (reads_differ c trace trace run)
+  differ = differ_append kept reads (differ_filter keep (all_ordered c trace) (points_differ c run.setting trace opening 1 (last_executed trace) refl refl).1) (reads_differ c trace trace full)
       (all_weaker (λ x. keep x ≡ true) (λ x. AllOf (Differ x) reads) (λ x k. not_double reads x (single (is_double reads x) k)) kept (kept_all keep (all_ordered c trace)))
     where
       single : (b : Bool) → not b ≡ true → b ≡ false
@@ -228,7 +230,7 @@ module _ (c : Configuration) (trace : List Entry) (run : Run c trace) where
   shown later past cl t a is = go x.vote.read_only refl
     where
       x : Accepting c past (256 + cl) t a
-      x = accepting c past cl t a (run_part c later (Accepted cl t a ∷ past) (subst (Run c) is run))
+      x = accepting c past cl t a (full_part c later (Accepted cl t a ∷ past) (subst (FullRun c) is full))
 
       whole : (Q : List Entry → Entry → Type 0) → Q past (Accepted cl t a) → Once Q trace
       whole Q h = subst (λ (ys : List Entry). Once Q ys) (sym is) (States.once_append Q later (Accepted cl t a ∷ past) (inl h))
@@ -266,9 +268,9 @@ module _ (c : Configuration) (trace : List Entry) (run : Run c trace) where
           single z client time true e =
               let d = double_has reads z e in
               let made = all_has (λ y. Once (MadeAt c trace y) trace) reads d.0 (reads_made c trace trace) d.1 in
-              let read = made_kind c trace d.0 trace run made in
+              let read = made_kind c trace d.0 trace full made in
               let moved : Once (KindAt c true (256 + cl) t) trace = subst (λ (i : ℕ). Once (KindAt c true (256 + cl) i) trace) (d.3 ∙ time) (subst (λ (i : ℕ). Once (KindAt c true i d.0.item.timestamp) trace) (d.2 ∙ client) read) in
-              absurd (one_kind c (256 + cl) t trace run moved (whole (KindAt c false (256 + cl) t) (refl, refl, (x.vote, x.newest, kind))))
+              absurd (one_kind c (256 + cl) t trace full moved (whole (KindAt c false (256 + cl) t) (refl, refl, (x.vote, x.newest, kind))))
 
   accepted_there : (p t : ℕ) (a : Outcome) → is_correct_client c p ≡ true → Once (Accepts p t a) trace
       → Has (λ item. (item.client ≡ p) × (item.timestamp ≡ t) × (item.answer ≡ a) × Once (Invokes p t item.op) trace) (map (λ (x : Point). x.item) (sorted all_points))
@@ -340,14 +342,32 @@ module _ (c : Configuration) (trace : List Entry) (run : Run c trace) where
   unfolding points
   points_linear = linear
 
+any_client : (c : Configuration) (p : ℕ) (xs : List Entry) → RightClient c p xs → AnyClient p xs
+any_client c p [] r = tt
+any_client c p (e ∷ xs) r = ((r.0.0, go e r.0.1), any_client c p xs r.1)
+  where
+    go : (e : Entry) → MayClient (MayAccept c p) p xs e → MayClient (λ past timestamp answer. ⊤) p xs e
+    go (Invoke x y z) h = h
+    go (Got x y) h = h
+    go (Tick x) h = h
+    go (Executed x y z) h = h
+    go (Installed x y z) h = h
+    go (Sent x y) h = h
+    go (Accepted x y z) h = tt
+
+pub full_run : (c : Configuration) → IsConfiguration c → (trace : List Entry) → IsRightTrace c trace → Unforged c trace → NoCollision c trace → FullRun c trace
+full_run c setting trace right unforged apart = record {
+  run = record {
+    setting = setting;
+    runs = record { unforged = unforged; replicas = right.replicas; clients = λ p h. any_client c p (history_of p trace) (right.clients p h) };
+    apart = apart;
+    parties = right.parties;
+  };
+  right = right.clients;
+}
+
 pub linear_of_right : LinearOfRight
-linear_of_right c setting trace right unforged apart =
-    points_linear c trace (record {
-      setting = setting;
-      runs = record { unforged = unforged; replicas = right.replicas; clients = right.clients };
-      apart = apart;
-      parties = right.parties;
-    })
+linear_of_right c setting trace right unforged apart = points_linear c trace (full_run c setting trace right unforged apart)
 
 pub points_are_linear : PointsAreLinear
 points_are_linear c setting trace run unforged apart =
@@ -358,3 +378,31 @@ points_are_linear c setting trace run unforged apart =
       parties = run.parties;
     })
     unforged apart
+
+pub accepted_at_levels : AcceptedAtLevels
+accepted_at_levels c setting trace run unforged apart =
+    each trace (full_run c setting trace
+    (record {
+      replicas = λ p correct. is_replica_right c p (history_of p trace) (run.replicas p correct);
+      clients = λ p correct. is_client_right c p (history_of p trace) (run.clients p correct);
+      parties = run.parties;
+    })
+    unforged apart)
+  where
+    at : (past : List Entry) (e : Entry) → FullRun c (e ∷ past) → AtItsLevel c past e
+    at past (Accepted k t a) full = λ vote newest.
+        let x = accepting c past k t a full in
+        let same : x.vote ≡ vote = Options.some_injective x.vote vote (sym x.newest ∙ newest) in (
+          ap (λ (v : Vote). is_level c past v.number) (sym same) ∙ accepted_level c past (256 + k) t a x,
+          λ kind n above. read_before c past (256 + k) t a x (ap (λ (v : Vote). v.read_only) same ∙ kind) n (subst (λ (v : Vote). v.number < n) (sym same) above),
+        )
+    at past (Invoke x y z) full = tt
+    at past (Got x y) full = tt
+    at past (Tick x) full = tt
+    at past (Executed x y z) full = tt
+    at past (Installed x y z) full = tt
+    at past (Sent x y) full = tt
+
+    each : (xs : List Entry) → FullRun c xs → Always (AtItsLevel c) xs
+    each [] full = tt
+    each (e ∷ past) full = (at past e full, each past (full_earlier c e past full))

@@ -7,8 +7,8 @@ use Rattle.protocol.specs.Trace.{Entry, party_of, history_of, Once, Always, Unfo
 use Rattle.protocol.specs.Trace.Entry.{Installed}
 use Rattle.protocol.specs.Certificates.{Prepared, Committed, taken, batch_begun}
 use Rattle.protocol.specs.RightReplica.{RightReplica, Point, Leaves, HadQuorum, StartsAt}
-use Rattle.protocol.specs.RightClient.{RightClient}
-use Rattle.protocol.specs.Linear.{points, IsLinear}
+use Rattle.protocol.specs.RightClient.{RightClient, WeakClient}
+use Rattle.protocol.specs.Linear.{points, IsLinear, Item, Legal, Covers}
 use Rattle.protocol.specs.State.{State, IsState, opening, after_batches, page_text, root_of}
 use Rattle.protocol.specs.Texts.{NoCollision, ExecutesBatch, AreExecuted}
 
@@ -100,12 +100,27 @@ StartsAgree = GivesRoots (λ c k root history. Once (StartsAt c k root) history)
 -- ---- points
 
 -- what the laws use of a run: what its correct replicas and clients do, they may do, and no others have entries
-pub record IsRight (c : Configuration) (trace : List Entry) : Type 0 where
+pub record IsRightTrace (c : Configuration) (trace : List Entry) : Type 0 where
   pub replicas : AreReplicasRight c trace
   pub clients : (p : ℕ) → is_correct_client c p ≡ true → RightClient c p (history_of p trace)
   pub parties : Always (λ past e. is_correct c (party_of e) ≡ true) trace
 
 abbrev pub LinearOfRight : Type 0
 LinearOfRight =
-    (c : Configuration) → IsConfiguration c → (trace : List Entry) → IsRight c trace → Unforged c trace → NoCollision c trace
+    (c : Configuration) → IsConfiguration c → (trace : List Entry) → IsRightTrace c trace → Unforged c trace → NoCollision c trace
     → IsLinear c (points c trace) trace
+
+-- Some list of items is legal and covers the trace, under the client that accepts at f + 1 replies of one answer too: one
+-- correct replica stands behind an answer.
+pub record IsOneSpace (c : Configuration) (trace : List Entry) : Type 0 where
+  pub items : List Item
+  pub legal : Legal items
+  pub covers : Covers c items trace
+
+abbrev pub AreClientsWeak : Configuration → List Entry → Type 0
+AreClientsWeak c trace = (p : ℕ) → is_correct_client c p ≡ true → WeakClient c p (history_of p trace)
+
+abbrev pub WeakIsOneSpace : Type 0
+WeakIsOneSpace =
+    (c : Configuration) → IsConfiguration c → (trace : List Entry) → AreReplicasRight c trace → AreClientsWeak c trace
+    → Always (λ past e. is_correct c (party_of e) ≡ true) trace → Unforged c trace → NoCollision c trace → IsOneSpace c trace

@@ -13,3 +13,5 @@ pub mod RightClient
 pub mod Linear
 pub mod Owed
 pub mod Run
+pub mod Refused
+pub mod Examples

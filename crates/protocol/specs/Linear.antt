@@ -151,6 +151,12 @@ ordered_points c trace st k (suc more) =
     option_map_or (λ position. map (ordered_point position k) (ran_in c k st (requests_of (batch_of trace k)))) (first_position c trace k) []
     ++ ordered_points c trace (execute c st (batch_of trace k)) (suc k) more
 
+-- the past of the client's latest invocation, and its position
+abbrev pub invoke_past : ℕ → List Entry → List Entry
+invoke_past p [] = []
+invoke_past p (Invoke client t op ∷ past) = if 256 + client == p then past else invoke_past p past
+invoke_past p (_ ∷ past) = invoke_past p past
+
 abbrev pub invoked_at : ℕ → List Entry → ℕ
 invoked_at p [] = 0
 invoked_at p (Invoke client t op ∷ past) = if 256 + client == p then length past else invoked_at p past

@@ -1,7 +1,7 @@
 -- What a correct replica owes in an event: everything that the event's input brings about, and nothing where the input is
 -- dropped (Castro and Liskov, TOCS 2002, sections 4.2 to 4.5). No law of agreement uses it. It speaks of the same states
 -- as what the replica may do.
-use Rattle.std.specs.Prelude.{◌≡◌, ◌≢◌, ℕ, suc, ◌+◌, ◌%◌, ◌^◌, ◌≤◌, ◌<◌, ◌⊎◌, Bool, true, false, ◌&&◌, not, List, [], ◌∷◌, ◌++◌, reverse, nat_lt, ◌==◌, if◌then◌else◌, Option, Some, None, is_some, option_and_then, ⊤}
+use Rattle.std.specs.Prelude.{◌≡◌, ◌≢◌, ℕ, suc, ◌+◌, ◌%◌, ◌≤◌, ◌<◌, ◌⊎◌, Bool, true, false, ◌&&◌, List, [], ◌∷◌, ◌++◌, reverse, nat_lt, ◌==◌, if◌then◌else◌, Some, None, is_some, ⊤}
 use Rattle.std.specs.List.{list_any}
 use Rattle.std.specs.Option.{option_map_or}
 use Rattle.sha2.specs.Sha256.{sha256}

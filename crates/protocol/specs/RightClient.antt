@@ -223,3 +223,7 @@ RightClient c me history = RightBy (MayAccept c me) me history
 
 abbrev pub WeakClient : Configuration → ℕ → List Entry → Type 0
 WeakClient c me history = RightBy (MayWeaklyAccept c me) me history
+
+-- what both clients keep, whatever they accept
+abbrev pub AnyClient : ℕ → List Entry → Type 0
+AnyClient me history = RightBy (λ past timestamp answer. ⊤) me history

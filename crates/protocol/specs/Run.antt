@@ -1,11 +1,13 @@
 -- Runs: what the correct replicas and clients do together, whatever the faulty ones send and however frames come.
-use Rattle.std.specs.Prelude.{◌≡◌, ℕ, true, false, List, [], ◌∷◌}
+use Rattle.std.specs.Prelude.{◌≡◌, ℕ, ◌+◌, ◌<◌, true, false, List, [], ◌∷◌, Some, ⊤}
 use Rattle.protocol.specs.Configuration.{Configuration, IsConfiguration, is_correct, is_correct_replica, is_correct_client}
 use Rattle.protocol.specs.Trace.{Entry, party_of, history_of, Always, Unforged}
-use Rattle.protocol.specs.RightClient.{is_output, IsClient, IsWeakClient}
+use Rattle.protocol.specs.Trace.Entry.{Accepted}
+use Rattle.protocol.specs.RightClient.{is_output, IsClient, IsWeakClient, Vote, newest_vote}
 use Rattle.protocol.specs.Owed.{IsReplica}
 use Rattle.protocol.specs.Texts.{NoCollision}
-use Rattle.protocol.specs.Linear.{points, IsLinear}
+use Rattle.protocol.specs.Linear.{points, IsLinear, is_level, invoke_past}
+use Rattle.protocol.specs.Laws.{IsOneSpace}
 
 -- an output follows its input, or an output of the same event
 abbrev pub Follows : List Entry → Entry → Type 0
@@ -35,3 +37,26 @@ abbrev pub PointsAreLinear : Type 0
 PointsAreLinear =
     (c : Configuration) → IsConfiguration c → (trace : List Entry) → IsRun c trace → Unforged c trace → NoCollision c trace
     → IsLinear c (points c trace) trace
+
+-- Over every run of the first client too, the accepted answers are those of one space: some list of items is legal and
+-- covers the trace. Positions are not promised.
+abbrev pub WeakAnswersAreOneSpace : Type 0
+WeakAnswersAreOneSpace =
+    (c : Configuration) → IsConfiguration c → (trace : List Entry) → IsWeakRun c trace → Unforged c trace → NoCollision c trace
+    → IsOneSpace c trace
+
+-- ---- the levels of what is accepted
+
+-- At an acceptance all but f of the correct replicas had reached the replies' number. Of a read they had not reached a
+-- greater one when it was invoked.
+abbrev pub AtItsLevel : Configuration → List Entry → Entry → Type 0
+AtItsLevel c past (Accepted k timestamp answer) =
+    (vote : Vote) → newest_vote c (256 + k) (history_of (256 + k) past) timestamp ≡ Some vote
+    → (is_level c past vote.number ≡ true)
+    × (vote.read_only ≡ true → (n : ℕ) → vote.number < n → is_level c (invoke_past (256 + k) past) n ≡ true → ⊥)
+AtItsLevel c past _ = ⊤
+
+abbrev pub AcceptedAtLevels : Type 0
+AcceptedAtLevels =
+    (c : Configuration) → IsConfiguration c → (trace : List Entry) → IsRun c trace → Unforged c trace → NoCollision c trace
+    → Always (AtItsLevel c) trace

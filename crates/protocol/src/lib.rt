@@ -1,8 +1,11 @@
 //! The laws of the protocol, over every trace of correct replicas and clients.
 #![tactic(auto)]
 
+pub mod accepted;
+pub mod refused;
+
 ghost use Rattle.protocol.specs.Laws.{PreparedAgree, CommittedStays, CommittedAgree, ExecutedAgree, PagesDetermine, BatchesLeaveStates, StatesAgree, StableAgree, InstalledAgree, StartsAgree};
-ghost use Rattle.protocol.specs.Run.{PointsAreLinear};
+ghost use Rattle.protocol.specs.Run.{PointsAreLinear, AcceptedAtLevels, WeakAnswersAreOneSpace};
 
 /// Two correct replicas hold batches of one digest prepared in one view for one number (Castro and Liskov, TOCS 2002,
 /// section 4.5).
@@ -54,4 +57,16 @@ pub fn roots_agree()
 /// once, at a position between its invocation and its acceptance (Herlihy and Wing, TOPLAS 1990, section 2).
 pub fn points_are_linear()
     ensures linear { PointsAreLinear }
+{}
+
+/// At an acceptance all but `f` of the correct replicas have reached the replies' number; a read finds them at most
+/// there at its invocation.
+pub fn accepted_at_levels()
+    ensures levels { AcceptedAtLevels }
+{}
+
+/// With the first client, which accepts at `f + 1` replies of one answer, the accepted answers are still those of one
+/// space, in which each operation acts at most once. Where they stand in time is not promised.
+pub fn weak_answers_are_one_space()
+    ensures weak { WeakAnswersAreOneSpace }
 {}

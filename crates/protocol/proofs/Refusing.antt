@@ -1,0 +1,213 @@
+-- The definitions refuse what wrong bodies would do.
+use Rattle.std.proofs.Common.{◌≡◌, ℕ, suc, ◌+◌, ◌-◌, ◌*◌, ◌≤◌, ◌<◌, ◌⊎◌, inl, inr, Bool, true, false, cond, List, [], ◌∷◌, length, slice_get, refl, sym, ap, ◌∙◌, subst, arith, ◌&&◌, Option, Some, eqb-true, eq-eqb}
+use Rattle.std.specs.Prelude.{◌==◌, nat_le, nat_lt, option_and_then}
+use Rattle.std.specs.Option.{option_map_or}
+use Rattle.std.proofs.lemmas.Bool.{and_parts, or_cases, leb-true, ltb-true}
+use Rattle.sha2.specs.Sha256.{sha256}
+use Rattle.quorum.specs.Quorum.{count_below}
+use Rattle.protocol.specs.Configuration.{Configuration}
+use Rattle.protocol.specs.Wire.{Body, ViewChange, NewView, said}
+use Rattle.protocol.specs.Wire.Message.{PrePrepare, Prepare, Commit, Checkpoint, Change, Reply}
+use Rattle.protocol.specs.Trace.{Entry, Once, Always, Has}
+use Rattle.protocol.specs.Trace.Entry.{Invoke, Got, Tick, Executed, Installed, Sent, Accepted}
+use Rattle.protocol.specs.Selection.{is_quorum, is_weak_quorum, count_in, vouches, agrees, may_stand_at, may_be_null, is_null, is_within, changes_of, how_many, Selects}
+use Rattle.protocol.specs.Certificates.{target, view, is_active_in, is_later, new_view_in, logged, low}
+use Rattle.protocol.specs.Pages.{Kept}
+use Rattle.protocol.specs.State.{State, Ran, opening, kept_of, last_time, runs, run_call, ran_call, kept_by, page_text}
+use Rattle.protocol.specs.RightReplica.{Point, Leaves, RightReplica, May, Moves, MaySay, MaySend, MayCheckpoint, MayPrepare, MayCommit, MayPrePrepare, MayReply, RepliesTo, GetsPage}
+use Rattle.protocol.specs.RightClient.{is_complete}
+use Rattle.protocol.specs.Refused.{Says, NoExecution, RepliesAfterExecution, NoCommitAfterChange, NoPrepareAfterChange, NoEarlyCheckpoint, OnePrePrepare, NoPrepareByPrimary, ExecutesNext, KeepsPrepared, InstallsWhatItHas, TakesWellSelected, TakesNoLower, RunsOnce, AcceptsAtQuorum}
+use Rattle.protocol.proofs.Temporal.{once_weaker, once_stays_from}
+use Rattle.protocol.proofs.Options.{and_then_some, give_if_some, some_injective}
+use Rattle.protocol.proofs.Voting.{right_always, logged_stays}
+use Rattle.protocol.proofs.Marks.{selects, selected_in, takes}
+use Rattle.protocol.proofs.Lists.{every_has, stands_at, some_below}
+use Rattle.protocol.proofs.Changes.{change_target, target_grows}
+use Rattle.protocol.proofs.Offers.{offer_in, offers_kept, marks_above}
+use Rattle.protocol.proofs.Linking.{Speaks}
+use Rattle.protocol.proofs.Leaving.{none_kept}
+use Rattle.protocol.proofs.Keeping.{set_here}
+use Rattle.quorum.specs.Votes.{give_if}
+
+-- what the newest frame says, a right replica may say
+says_may : (c : Configuration) (me : ℕ) (bytes : List ℕ) (body : Body) (past : List Entry) (right : RightReplica c me (Sent me bytes ∷ past)) → said bytes ≡ Some body
+    → MaySay c me past right.1.0 (Sent me bytes) bytes body.message
+says_may c me bytes body past right h =
+    let m : MaySend c me past right.1.0 (Sent me bytes) bytes = right.1.2.may in
+    subst (λ (x : Body). MaySay c me past right.1.0 (Sent me bytes) bytes x.message) (some_injective m.body body (sym m.says ∙ h)) m.say
+
+-- ---- before anything is executed
+
+record Untouched (point : Point) : Type 0 where
+  state : point.state ≡ opening
+  ran : point.ran ≡ []
+
+untouched : (c : Configuration) (me : ℕ) (xs : List Entry) (point : Point) → Leaves c me xs point → Always NoExecution xs → Untouched point
+untouched c me [] point h a = record { state = ap (λ (p : Point). p.state) h; ran = ap (λ (p : Point). p.ran) h }
+untouched c me (e ∷ past) point h a = go e h.2.may h.2.moves a.0 (untouched c me past h.0 h.1 a.1)
+  where
+    go : (e : Entry) → May c me past h.0 e → Moves c me past h.0 e point → NoExecution past e → Untouched h.0 → Untouched point
+    go (Got p bytes) may move n was = record { state = ap (λ (q : Point). q.state) move ∙ was.state; ran = ap (λ (q : Point). q.ran) move }
+    go (Tick p) may move n was = record { state = ap (λ (q : Point). q.state) move ∙ was.state; ran = ap (λ (q : Point). q.ran) move }
+    go (Sent p bytes) may move n was = record { state = ap (λ (q : Point). q.state) move ∙ was.state; ran = ap (λ (q : Point). q.ran) move ∙ was.ran }
+    go (Invoke x y z) may move n was = absurd may
+    go (Accepted x y z) may move n was = absurd may
+    go (Executed x y z) may move n was = absurd n
+    go (Installed x y z) may move n was = absurd n
+
+pub replies_after_execution : RepliesAfterExecution
+replies_after_execution c me client timestamp number answer bytes past says none right =
+    go (says_may c me bytes (record { sender = me; message = Reply client timestamp false number answer }) past right says)
+  where
+    u : Untouched right.1.0
+    u = untouched c me past right.1.0 right.1.1 none
+
+    go : MayReply c me past right.1.0 client timestamp false number answer → ⊥
+    go (inl h) = subst (λ (rans : List Ran). Has (λ (ran : Ran). RepliesTo client timestamp number answer ran.call.client ran.kept) rans) u.ran h
+    go (inr h) = none_kept 256 h.0 h.1 (subst (λ (st : State). kept_of st h.0 ≡ Some h.1) u.state h.2)
+
+-- ---- after a view change
+
+above_target : (me : ℕ) (vc : ViewChange) (past : List Entry) → Once (Says (record { sender = me; message = Change vc })) past → vc.view ≤ target past
+above_target me vc past h =
+    once_stays_from (λ x. vc.view ≤ target x) (λ e x k. let grows = target_grows e x in omega arith) past
+    (once_weaker (Says (record { sender = me; message = Change vc })) (λ x e. vc.view ≤ target (e ∷ x)) (λ x e t. change_target me vc x e (speaks x e t)) past h)
+  where
+    speaks : (x : List Entry) (e : Entry) → Says (record { sender = me; message = Change vc }) x e → Speaks (record { sender = me; message = Change vc }) x e
+    speaks x (Sent p bytes) t = t
+    speaks x (Invoke a b d) t = absurd t
+    speaks x (Got a b) t = absurd t
+    speaks x (Tick a) t = absurd t
+    speaks x (Executed a b d) t = absurd t
+    speaks x (Installed a b d) t = absurd t
+    speaks x (Accepted a b d) t = absurd t
+
+inactive : (c : Configuration) (me v : ℕ) (vc : ViewChange) (past : List Entry) → Once (Says (record { sender = me; message = Change vc })) past → v < vc.view → is_active_in c past v ≡ true → ⊥
+inactive c me v vc past h above active =
+    let a = above_target me vc past h in
+    let b : target past ≤ v = leb-true (target past) v (and_parts (view c past == v) (nat_le (target past) v) active).1 in
+    omega arith
+
+pub no_commit_after_change : NoCommitAfterChange
+no_commit_after_change c me v i digest bytes vc past says changed above right =
+    let m : MayCommit c me past v i digest = says_may c me bytes (record { sender = me; message = Commit v i digest }) past right says in
+    inactive c me v vc past changed above m.active
+
+pub no_prepare_after_change : NoPrepareAfterChange
+no_prepare_after_change c me v i digest bytes vc past says changed above right =
+    let m : MayPrepare c me past v i digest = says_may c me bytes (record { sender = me; message = Prepare v i digest }) past right says in
+    inactive c me v vc past changed above m.active
+
+-- ---- checkpoints, pre-prepares, prepares, executions
+
+pub no_early_checkpoint : NoEarlyCheckpoint
+no_early_checkpoint c me k root bytes past says never right =
+    let m : MayCheckpoint c past right.1.0 k root = says_may c me bytes (record { sender = me; message = Checkpoint k root }) past right says in
+    never m.executed
+
+pub one_pre_prepare : OnePrePrepare
+one_pre_prepare c me v i a b bytes past says earlier right =
+    let m : MayPrePrepare c me past (Sent me bytes) v i b = says_may c me bytes (record { sender = me; message = PrePrepare v i b }) past right says in
+    let kept = offers_kept c me v i a past (right_always c me past right.1.0 right.1.1)
+    (once_weaker (Says (record { sender = me; message = PrePrepare v i a })) (λ x e. offer_in v i e ≡ Some a) offers past earlier) in
+    go m kept.place
+  where
+    offers : (x : List Entry) (e : Entry) → Says (record { sender = me; message = PrePrepare v i a }) x e → offer_in v i e ≡ Some a
+    offers x (Sent p sent) t = rw t (rw (eq-eqb v v refl, eq-eqb i i refl) refl)
+    offers x (Invoke y z w) t = absurd t
+    offers x (Got y z) t = absurd t
+    offers x (Tick y) t = absurd t
+    offers x (Executed y z w) t = absurd t
+    offers x (Installed y z w) t = absurd t
+    offers x (Accepted y z w) t = absurd t
+
+    go : MayPrePrepare c me past (Sent me bytes) v i b → (logged c me past v i ≡ Some a) ⊎ (i ≤ low c me past) → a ≡ b
+    go m (inl l) = some_injective a b (sym (logged_stays c me v i a (Sent me bytes) past l) ∙ m.one)
+    go m (inr l) = let above = marks_above c (low c me past) i m.in_marks in absurd (omega arith)
+
+pub no_prepare_by_primary : NoPrepareByPrimary
+no_prepare_by_primary c me v i digest bytes past says is right =
+    let m : MayPrepare c me past v i digest = says_may c me bytes (record { sender = me; message = Prepare v i digest }) past right says in
+    m.is_backup is
+
+pub executes_next : ExecutesNext
+executes_next c me k j batch root past right =
+    let a = right.1.2.may.next in
+    let b = right.1.1.2.moves.number in
+    omega arith
+
+pub keeps_prepared : KeepsPrepared
+keeps_prepared c me v i batch vc past point change prepared marks = change.prepared.all v i batch marks prepared
+
+pub installs_what_it_has : InstallsWhatItHas
+installs_what_it_has c me k i root past old new installed within differs = go (installed.pages i within)
+  where
+    go : (page_text new.state i ≡ page_text old.state i) ⊎ Once (GetsPage c me i (page_text new.state i)) past → Once (GetsPage c me i (page_text new.state i)) past
+    go (inl same) = absurd (differs same)
+    go (inr got) = got
+
+-- ---- new views
+
+pub takes_well_selected : TakesWellSelected
+takes_well_selected c past e new h = record {
+  enough = leb-true (2 * c.faults + 1) (count_in c (λ vc. true) (changes_of c new)) s.enough;
+  of_its_view = λ who vc has.
+      let t = every_has (λ (x : ℕ × ViewChange). (x.1.view == new.view) && is_within c x.1) (changes_of c new) (who, vc) s.each has in
+      eqb-true vc.view new.view (and_parts (vc.view == new.view) (is_within c vc) t).0;
+  filled = eqb-true (length new.batches) (how_many c new) s.long;
+  vouched = vouched;
+}
+  where
+    s : Selects c new
+    s = selects c new (selected_in c e new (takes c 0 past e new h).brought)
+
+    vouched : (i : ℕ) (batch : List ℕ) → slice_get new.batches (i - new.start - 1) ≡ Some batch → new.start < i
+        → ((w : ℕ) × (w < new.view) × (c.faults + 1 ≤ count_in c (vouches i w (sha256 batch)) (changes_of c new)))
+        ⊎ ((is_null batch ≡ true) × (may_be_null c (changes_of c new) i ≡ true))
+    vouched i batch get above =
+        let place : i ≡ suc new.start + (i - new.start - 1) = omega arith in
+        by (or_cases (nat_lt 0 (count_below (may_stand_at c (changes_of c new) i (sha256 batch)) new.view)) (is_null batch && may_be_null c (changes_of c new) i)
+        (stands_at c new.view (changes_of c new) (suc new.start) new.batches (i - new.start - 1) batch s.stand get i place))
+      where
+        by : (nat_lt 0 (count_below (may_stand_at c (changes_of c new) i (sha256 batch)) new.view) ≡ true) ⊎ ((is_null batch && may_be_null c (changes_of c new) i) ≡ true)
+            → ((w : ℕ) × (w < new.view) × (c.faults + 1 ≤ count_in c (vouches i w (sha256 batch)) (changes_of c new)))
+            ⊎ ((is_null batch ≡ true) × (may_be_null c (changes_of c new) i ≡ true))
+        by (inl k) =
+            let x = some_below (may_stand_at c (changes_of c new) i (sha256 batch)) new.view k in
+            let rules = and_parts (is_quorum c (count_in c (λ vc. nat_lt vc.low i && agrees i x.0 (sha256 batch) vc) (changes_of c new))) (is_weak_quorum c (count_in c (vouches i x.0 (sha256 batch)) (changes_of c new))) x.2 in
+            inl (x.0, x.1, leb-true (c.faults + 1) (count_in c (vouches i x.0 (sha256 batch)) (changes_of c new)) rules.1)
+        by (inr k) = let p = and_parts (is_null batch) (may_be_null c (changes_of c new) i) k in inr (p.0, p.1)
+
+pub takes_no_lower : TakesNoLower
+takes_no_lower c past e new h =
+    let r = and_then_some (λ (x : NewView). give_if (is_later (view c past) (target past) x) x) (new_view_in c e) new h in
+    let g = give_if_some (is_later (view c past) (target past) r.0) r.0 new r.2 in
+    let t : is_later (view c past) (target past) new ≡ true = subst (λ (x : NewView). is_later (view c past) (target past) x ≡ true) g.1 g.0 in
+    let p = and_parts (nat_lt (view c past) new.view) (nat_le (target past) new.view) t in
+    (leb-true (target past) new.view p.1, ltb-true (view c past) new.view p.0)
+
+-- ---- requests
+
+pub runs_once : RunsOnce
+runs_once st m n call small new = go (runs st call) new
+  where
+    here : kept_of (ran_call st m call) call.client ≡ Some (kept_by st m call)
+    here = ap (option_and_then (λ (x : Option Kept). x)) (set_here st.replies call.client (Some (kept_by st m call)) small)
+
+    last : last_time (ran_call st m call) call.client ≡ call.timestamp
+    last = ap (λ (o : Option Kept). option_map_or (λ (kept : Kept). kept.timestamp) o 0) here
+
+    not_newer : (b : Bool) → runs (ran_call st m call) call ≡ b → cond b (ran_call (ran_call st m call) n call) (ran_call st m call) ≡ ran_call st m call
+    not_newer false e = refl
+    not_newer true e = let l = ltb-true (last_time (ran_call st m call) call.client) call.timestamp e in let k = last in absurd (omega arith)
+
+    go : (b : Bool) → b ≡ true → run_call (cond b (ran_call st m call) st) n call ≡ cond b (ran_call st m call) st
+    go true e = not_newer (runs (ran_call st m call) call) refl
+    go false e = absurd cc
+
+-- ---- clients
+
+pub accepts_at_quorum : AcceptsAtQuorum
+accepts_at_quorum c me k timestamp answer past right =
+    let m = right.0.1 in
+    (m.1, m.5, m.4, subst (λ (t : ℕ). is_complete c me past t m.1 ≡ true) m.3 m.6)

@@ -1,0 +1,41 @@
+-- Small histories that the definitions accept, with frames left symbolic: what they spell and that they are authentic is
+-- given.
+use Rattle.std.specs.Prelude.{◌≡◌, ℕ, true, List, [], ◌∷◌, Some}
+use Rattle.sha2.specs.Sha256.{sha256}
+use Rattle.protocol.specs.Configuration.{Configuration}
+use Rattle.protocol.specs.Wire.{Frame, frame_of, said}
+use Rattle.protocol.specs.Wire.Message.{PrePrepare, Prepare, Commit}
+use Rattle.protocol.specs.Keys.{heard, IsSealed}
+use Rattle.protocol.specs.Trace.{Entry}
+use Rattle.protocol.specs.Trace.Entry.{Got, Executed, Sent}
+use Rattle.protocol.specs.Certificates.{are_genuine, Committed}
+use Rattle.protocol.specs.RightReplica.{RightReplica}
+
+-- four replicas, none of them faulty
+abbrev pub four : ℕ → List ℕ → Configuration
+four clients seed = record { faults = 1; clients = clients; seed = seed; period = 16; faulty_replicas = []; faulty_clients = [] }
+
+-- What replica 1 gets and sends for the first batch in view 0: the primary's pre-prepare, prepares of 1 and 2, and commits
+-- of 1, 0 and 2.
+pub record IsFirstBatch (c : Configuration) (batch pre_prepare own_prepare other_prepare own_commit first_commit second_commit : List ℕ) : Type 0 where
+  pub proposed : heard c 1 pre_prepare ≡ Some (record { sender = 0; message = PrePrepare 0 1 batch })
+  pub genuine : are_genuine c 1 batch ≡ true
+  pub prepares : said own_prepare ≡ Some (record { sender = 1; message = Prepare 0 1 (sha256 batch) })
+  pub other_prepares : heard c 1 other_prepare ≡ Some (record { sender = 2; message = Prepare 0 1 (sha256 batch) })
+  pub commits : said own_commit ≡ Some (record { sender = 1; message = Commit 0 1 (sha256 batch) })
+  pub first_commits : heard c 1 first_commit ≡ Some (record { sender = 0; message = Commit 0 1 (sha256 batch) })
+  pub second_commits : heard c 1 second_commit ≡ Some (record { sender = 2; message = Commit 0 1 (sha256 batch) })
+  pub prepare_sealed : (frame : Frame) → frame_of own_prepare ≡ Some frame → IsSealed c 1 frame
+  pub commit_sealed : (frame : Frame) → frame_of own_commit ≡ Some frame → IsSealed c 1 frame
+
+-- its history, the newest first, up to the quorum of commits
+abbrev pub first_batch : List ℕ → List ℕ → List ℕ → List ℕ → List ℕ → List ℕ → List Entry
+first_batch pre_prepare own_prepare other_prepare own_commit first_commit second_commit =
+    Got 1 second_commit ∷ Got 1 first_commit ∷ Sent 1 own_commit ∷ Got 1 other_prepare ∷ Sent 1 own_prepare ∷ Got 1 pre_prepare ∷ []
+
+-- Then the batch is committed, and a right replica executes it.
+abbrev pub FirstBatchExecutes : Type 0
+FirstBatchExecutes =
+    (clients : ℕ) (seed batch a b d e f g : List ℕ) → IsFirstBatch (four clients seed) batch a b d e f g
+    → Committed (four clients seed) 1 (first_batch a b d e f g) 0 1 batch
+    × RightReplica (four clients seed) 1 (Executed 1 1 batch ∷ first_batch a b d e f g)

@@ -1,0 +1,123 @@
+-- Small histories that the definitions refuse: what wrong replicas, primaries and clients would make.
+use Rattle.std.specs.Prelude.{◌≡◌, ◌≢◌, ℕ, suc, ◌+◌, ◌-◌, ◌*◌, ◌≤◌, ◌<◌, ◌⊎◌, true, false, List, ◌∷◌, length, slice_get, Some, ⊤}
+use Rattle.sha2.specs.Sha256.{sha256}
+use Rattle.tuple_codec.specs.Operations.{Outcome}
+use Rattle.protocol.specs.Configuration.{Configuration, primary}
+use Rattle.protocol.specs.Wire.{Body, ViewChange, NewView, Claim, said}
+use Rattle.protocol.specs.Wire.Message.{PrePrepare, Prepare, Commit, Checkpoint, Change, Reply}
+use Rattle.protocol.specs.Trace.{Entry, Once, Always, Has}
+use Rattle.protocol.specs.Trace.Entry.{Executed, Installed, Sent, Accepted}
+use Rattle.protocol.specs.Selection.{count_in, vouches, may_be_null, is_null, changes_of, how_many}
+use Rattle.protocol.specs.Certificates.{target, low, is_in_marks, taken, view, Prepared}
+use Rattle.protocol.specs.State.{State, Call, runs, run_call, page_text}
+use Rattle.protocol.specs.RightReplica.{Point, RightReplica, Executes, GetsPage, IsNewChange, IsInstalled}
+use Rattle.protocol.specs.RightClient.{RightClient, Vote, newest_vote, is_complete}
+
+-- the party sent a frame of this body
+abbrev pub Says : Body → List Entry → Entry → Type 0
+Says body past (Sent p bytes) = said bytes ≡ Some body
+Says body past _ = ⊥
+
+abbrev pub NoExecution : List Entry → Entry → Type 0
+NoExecution past (Executed r k batch) = ⊥
+NoExecution past (Installed r k root) = ⊥
+NoExecution past _ = ⊤
+
+-- ---- a replica
+
+-- An answer from a batch that is at most prepared: before anything is executed no ordered reply is sent.
+abbrev pub RepliesAfterExecution : Type 0
+RepliesAfterExecution =
+    (c : Configuration) (me client timestamp number : ℕ) (answer : Outcome) (bytes : List ℕ) (past : List Entry)
+    → said bytes ≡ Some (record { sender = me; message = Reply client timestamp false number answer })
+    → Always NoExecution past → RightReplica c me (Sent me bytes ∷ past) → ⊥
+
+-- A commit of a view after a view change above it, and a prepare.
+abbrev pub NoCommitAfterChange : Type 0
+NoCommitAfterChange =
+    (c : Configuration) (me v i : ℕ) (digest bytes : List ℕ) (vc : ViewChange) (past : List Entry)
+    → said bytes ≡ Some (record { sender = me; message = Commit v i digest })
+    → Once (Says (record { sender = me; message = Change vc })) past → v < vc.view → RightReplica c me (Sent me bytes ∷ past) → ⊥
+
+abbrev pub NoPrepareAfterChange : Type 0
+NoPrepareAfterChange =
+    (c : Configuration) (me v i : ℕ) (digest bytes : List ℕ) (vc : ViewChange) (past : List Entry)
+    → said bytes ≡ Some (record { sender = me; message = Prepare v i digest })
+    → Once (Says (record { sender = me; message = Change vc })) past → v < vc.view → RightReplica c me (Sent me bytes ∷ past) → ⊥
+
+-- A checkpoint of a number that was never executed.
+abbrev pub NoEarlyCheckpoint : Type 0
+NoEarlyCheckpoint =
+    (c : Configuration) (me k : ℕ) (root bytes : List ℕ) (past : List Entry)
+    → said bytes ≡ Some (record { sender = me; message = Checkpoint k root })
+    → (Once (Executes k) past → ⊥) → RightReplica c me (Sent me bytes ∷ past) → ⊥
+
+-- Two pre-prepares of one number of a view.
+abbrev pub OnePrePrepare : Type 0
+OnePrePrepare =
+    (c : Configuration) (me v i : ℕ) (a b bytes : List ℕ) (past : List Entry)
+    → said bytes ≡ Some (record { sender = me; message = PrePrepare v i b })
+    → Once (Says (record { sender = me; message = PrePrepare v i a })) past → RightReplica c me (Sent me bytes ∷ past) → a ≡ b
+
+-- A prepare by the primary.
+abbrev pub NoPrepareByPrimary : Type 0
+NoPrepareByPrimary =
+    (c : Configuration) (me v i : ℕ) (digest bytes : List ℕ) (past : List Entry)
+    → said bytes ≡ Some (record { sender = me; message = Prepare v i digest })
+    → primary c v ≡ me → RightReplica c me (Sent me bytes ∷ past) → ⊥
+
+-- An execution that skips a number, or goes back.
+abbrev pub ExecutesNext : Type 0
+ExecutesNext =
+    (c : Configuration) (me k j : ℕ) (batch root : List ℕ) (past : List Entry)
+    → RightReplica c me (Executed me k batch ∷ Installed me j root ∷ past) → k ≡ suc j
+
+-- A view change that leaves out a prepared batch within the marks.
+abbrev pub KeepsPrepared : Type 0
+KeepsPrepared =
+    (c : Configuration) (me v i : ℕ) (batch : List ℕ) (vc : ViewChange) (past : List Entry) (point : Point)
+    → IsNewChange c me past point vc → Prepared c me past v i batch → is_in_marks c (low c me past) i ≡ true
+    → Has (λ (claim : Claim). claim.number ≡ i) vc.prepared
+
+-- An installation of a page that was neither held nor got.
+abbrev pub InstallsWhatItHas : Type 0
+InstallsWhatItHas =
+    (c : Configuration) (me k i : ℕ) (root : List ℕ) (past : List Entry) (old new : Point)
+    → IsInstalled c me past old k root new → i < 1024 → page_text new.state i ≢ page_text old.state i
+    → Once (GetsPage c me i (page_text new.state i)) past
+
+-- ---- a new view
+
+-- Over too few view changes, over some for another view, filled too short, or with a batch for which f + 1 don't vouch:
+-- such a new view is not taken.
+pub record IsWellSelected (c : Configuration) (new : NewView) : Type 0 where
+  pub enough : 2 * c.faults + 1 ≤ count_in c (λ vc. true) (changes_of c new)
+  pub of_its_view : (s : ℕ) (vc : ViewChange) → Has (λ x. x ≡ (s, vc)) (changes_of c new) → vc.view ≡ new.view
+  pub filled : length new.batches ≡ how_many c new
+  pub vouched : (i : ℕ) (batch : List ℕ) → slice_get new.batches (i - new.start - 1) ≡ Some batch → new.start < i
+      → ((w : ℕ) × (w < new.view) × (c.faults + 1 ≤ count_in c (vouches i w (sha256 batch)) (changes_of c new)))
+      ⊎ ((is_null batch ≡ true) × (may_be_null c (changes_of c new) i ≡ true))
+
+abbrev pub TakesWellSelected : Type 0
+TakesWellSelected = (c : Configuration) (past : List Entry) (e : Entry) (new : NewView) → taken c past e ≡ Some new → IsWellSelected c new
+
+-- A new view below a view change that was sent.
+abbrev pub TakesNoLower : Type 0
+TakesNoLower = (c : Configuration) (past : List Entry) (e : Entry) (new : NewView) → taken c past e ≡ Some new → (target past ≤ new.view) × (view c past < new.view)
+
+-- ---- requests
+
+-- A request that runs twice: once it ran, it changes nothing.
+abbrev pub RunsOnce : Type 0
+RunsOnce =
+    (st : State) (m n : ℕ) (call : Call) → call.client < length st.replies → runs st call ≡ true
+    → run_call (run_call st m call) n call ≡ run_call st m call
+
+-- ---- a client
+
+-- An acceptance at f + 1 replies alike, or with replies of different numbers.
+abbrev pub AcceptsAtQuorum : Type 0
+AcceptsAtQuorum =
+    (c : Configuration) (me k timestamp : ℕ) (answer : Outcome) (past : List Entry)
+    → RightClient c me (Accepted k timestamp answer ∷ past)
+    → (vote : Vote) × (newest_vote c me past timestamp ≡ Some vote) × (vote.answer ≡ answer) × (is_complete c me past timestamp vote ≡ true)

@@ -1,0 +1,9 @@
+//! Laws that show that the definitions are not empty.
+
+ghost use Rattle.protocol.specs.Examples.{FirstBatchExecutes};
+
+/// Of four replicas a backup that gets the primary's pre-prepare of the first batch, one more prepare and two more commits
+/// holds it committed, and executing it then is right.
+pub fn a_first_batch_executes()
+    ensures executes { FirstBatchExecutes }
+{}

@@ -1,0 +1,40 @@
+//! Laws that show what the definitions refuse: each is a small history, or a part of one, that a wrong body would make.
+
+ghost use Rattle.protocol.specs.Refused.{RepliesAfterExecution, NoCommitAfterChange, NoPrepareAfterChange, NoEarlyCheckpoint, OnePrePrepare, NoPrepareByPrimary, ExecutesNext, KeepsPrepared, InstallsWhatItHas, TakesWellSelected, TakesNoLower, RunsOnce, AcceptsAtQuorum};
+
+/// A right replica sends no ordered reply before anything is executed, no commit or prepare of a view after a view change
+/// above it, no checkpoint of a number that it never executed, no second pre-prepare of a number of a view, and no
+/// prepare as the primary.
+pub fn right_replicas_do_not_say()
+    ensures replies { RepliesAfterExecution }
+    ensures commits { NoCommitAfterChange }
+    ensures prepares { NoPrepareAfterChange }
+    ensures checkpoints { NoEarlyCheckpoint }
+    ensures pre_prepares { OnePrePrepare }
+    ensures primaries { NoPrepareByPrimary }
+{}
+
+/// A right replica skips no number, leaves no prepared batch out of a view change, and installs no page that it neither
+/// held nor got.
+pub fn right_replicas_do_not_skip()
+    ensures executes { ExecutesNext }
+    ensures changes { KeepsPrepared }
+    ensures installs { InstallsWhatItHas }
+{}
+
+/// A new view is not taken over too few view changes, over some for another view, with too few batches, with a batch
+/// that no `f + 1` replicas vouch for, or below a view change that was sent.
+pub fn new_views_meet_rules()
+    ensures selected { TakesWellSelected }
+    ensures lower { TakesNoLower }
+{}
+
+/// A request that ran does nothing when it comes again.
+pub fn requests_run_once()
+    ensures once { RunsOnce }
+{}
+
+/// A right client accepts at a reply that makes a quorum alike in answer and number.
+pub fn right_clients_wait()
+    ensures quorum { AcceptsAtQuorum }
+{}
