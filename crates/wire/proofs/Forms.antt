@@ -199,3 +199,48 @@ all_some (Some x) v e = ap (λ y. Some y) (ended x.0 x.1 v e)
     ended : {A : Type 0} (x : A) (bs : List ℕ) (v : A) → all_of (Some (x, bs)) ≡ Some v → ◌≡◌ {A = A × List ℕ} (x, bs) (v, [])
     ended {A = A} x [] v e = let h : x ≡ v = cc in let f : A → A × List ℕ = λ y. (y, []) in ap f h
     ended x (b ∷ bs) v e = absurd (let g : ⊥ = cc in g)
+
+-- ---- a value's grammar with its reader
+
+pub record Format (V : Type 0) : Type 1 where
+  pub IsValue : V → Type 0
+  pub spelling : V → List ℕ
+  pub at : Reader V
+  pub reads : Reads IsValue spelling at
+
+abbrev pub both_of : {A B : Type 0} → Format A → Format B → Format (A × B)
+both_of f g = record {
+    IsValue = λ p. f.IsValue p.0 × g.IsValue p.1;
+    spelling = λ p. f.spelling p.0 ++ g.spelling p.1;
+    at = both f.at g.at;
+    reads = both_reads f.IsValue g.IsValue f.spelling g.spelling f.at g.at f.reads g.reads;
+  }
+
+abbrev pub passing_of : {A : Type 0} → (A → Bool) → Format A → Format A
+passing_of test f = record {
+    IsValue = λ x. f.IsValue x × (test x ≡ true);
+    spelling = f.spelling;
+    at = passing test f.at;
+    reads = passing_reads f.IsValue f.spelling test f.at f.reads;
+  }
+
+abbrev pub ascending_of : {A : Type 0} → (A → A → Bool) → Format ℕ → Format A → Format (List A)
+ascending_of before c f = record {
+    IsValue = λ xs. c.IsValue (length xs) × (Each f.IsValue xs × (ascends before xs ≡ true));
+    spelling = λ xs. c.spelling (length xs) ++ each_spelling f.spelling xs;
+    at = counted_at c.at f.at (follows before);
+    reads = counted_reads f.IsValue f.spelling f.at (follows before) (ascends before) (ascends_grows before) c.IsValue c.spelling c.at refl c.reads f.reads;
+  }
+
+abbrev pub several_of : {A : Type 0} → Format ℕ → Format A → Format (List A)
+several_of c f = record {
+    IsValue = λ xs. c.IsValue (length xs) × (Each f.IsValue xs × (true ≡ true));
+    spelling = λ xs. c.spelling (length xs) ++ each_spelling f.spelling xs;
+    at = counted_at c.at f.at anyhow;
+    reads = counted_reads f.IsValue f.spelling f.at anyhow (λ xs. true) anyhow_grows c.IsValue c.spelling c.at refl c.reads f.reads;
+  }
+
+-- as a value that is made of these parts
+pub made_of : {A B : Type 0} (f : Format A) (IsB : B → Type 0) (b_spelling : B → List ℕ) (make : A → B) (g : B → A)
+    → ((x : A) → f.IsValue x → IsB (make x) × (f.spelling x ≡ b_spelling (make x))) → ((v : B) → IsB v → f.IsValue (g v) × (make (g v) ≡ v)) → Reads IsB b_spelling (read_as make f.at)
+made_of f IsB b_spelling make g law back = as_reads f.IsValue IsB f.spelling b_spelling make f.at g law back f.reads

@@ -1,5 +1,5 @@
 -- Laws of the parts of messages.
-use Rattle.std.proofs.Common.{◌≡◌, inl, inr, ℕ, ◌+◌, ◌^◌, ◌<◌, ◌≤◌, Bool, true, false, ◌&&◌, cond, List, [], ◌∷◌, ◌++◌, length, take, drop, Option, Some, None, IsTrue, ap, sym, subst, refl, ◌∙◌, arith, append_assoc, length-append}
+use Rattle.std.proofs.Common.{◌≡◌, inl, inr, ℕ, nat_le, ◌+◌, ◌^◌, ◌<◌, ◌≤◌, Bool, true, false, ◌&&◌, cond, List, [], ◌∷◌, ◌++◌, length, take, drop, Option, Some, None, IsTrue, ap, sym, subst, refl, ◌∙◌, arith, append_assoc, length-append}
 use Rattle.std.proofs.lemmas.List.{take-append-drop, length-take, take_at, drop_at}
 use Rattle.std.proofs.lemmas.Nat.{be_bytes_4}
 use Rattle.std.proofs.lemmas.Bool.{eqb-true, ltb-false, le-ltb, leb-true, le-leb, and_parts, and_from}
@@ -20,7 +20,7 @@ use Rattle.wire.specs.Lists.{Each, each_spelling, ascends}
 use Rattle.wire.specs.Messages.{MarkData, ClaimData, ViewChangeData, MacData}
 use Rattle.wire.specs.Spelling.{mode_byte, level_byte, piece, mark_spelling, claim_spelling, view_change_spelling, mac_spelling, IsDigest, IsMark, IsClaim, IsMac, IsViewChange, mark_before, claim_before, named_before, mac_before}
 use Rattle.wire.specs.Reading.{both, passing, counted_at, follows, digest_at, mode_of, mode_at, level_of, level_at, piece_at, mark_at, claim_at, marks_at, claims_at, view_change_at, mac_at, macs_at}
-use Rattle.wire.proofs.Forms.{both_reads, passing_reads, as_reads, counted_reads, ascends_grows, IsBoth, both_spelling, IsPassing, IsCounted, counted_spelling}
+use Rattle.wire.proofs.Forms.{Format, both_of, passing_of, ascending_of, several_of, made_of}
 
 -- ---- numbers and bytes
 
@@ -159,10 +159,103 @@ level_again levels.Page rest = refl
 pub level_reads : Reads (λ l. Unit {0}) (λ l. level_byte l ∷ []) level_at
 level_reads = record { found = level_found; again = λ l rest h. level_again l rest }
 
--- ---- marks and claims
+-- ---- as formats
+
+abbrev pub word : Format ℕ
+word = record { IsValue = IsBelow 2; spelling = to_be_bytes w16; at = number_of 2; reads = number_2_reads }
+
+abbrev pub long : Format ℕ
+long = record { IsValue = IsBelow 8; spelling = to_be_bytes w64; at = number_of 8; reads = number_8_reads }
+
+abbrev pub byte : Format ℕ
+byte = record { IsValue = λ b. b < 256; spelling = λ b. b ∷ []; at = byte_at; reads = byte_reads }
+
+abbrev pub digest : Format (List ℕ)
+digest = record { IsValue = IsDigest; spelling = λ s. s; at = digest_at; reads = digest_reads }
+
+abbrev pub bytes : Format (List ℕ)
+bytes = record { IsValue = IsPiece; spelling = piece; at = piece_at; reads = piece_reads }
+
+abbrev pub mode : Format Mode
+mode = record { IsValue = λ m. Unit {0}; spelling = λ m. mode_byte m ∷ []; at = mode_at; reads = mode_reads }
+
+abbrev pub level : Format Level
+level = record { IsValue = λ l. Unit {0}; spelling = λ l. level_byte l ∷ []; at = level_at; reads = level_reads }
+
+-- ---- marks, claims and MACs
 
 pub mark_reads : Reads IsMark mark_spelling mark_at
 unfolding mark_at
-mark_reads = as_reads (IsBoth (IsBelow 8) IsDigest (to_be_bytes w64) (λ s. s) (number_of 8) digest_at) IsMark (both_spelling (IsBelow 8) IsDigest (to_be_bytes w64) (λ s. s) (number_of 8) digest_at) mark_spelling
-    (λ p. record { number = p.0; digest = p.1 }) (both (number_of 8) digest_at) (λ m. (m.number, m.digest)) (λ p h. (h, refl)) (λ m h. (h, refl))
-    (both_reads (IsBelow 8) IsDigest (to_be_bytes w64) (λ s. s) (number_of 8) digest_at number_8_reads digest_reads)
+mark_reads = made_of (both_of long digest) IsMark mark_spelling (λ p. record { number = p.0; digest = p.1 }) (λ m. (m.number, m.digest)) (λ p h. (h, refl)) (λ m h. (h, refl))
+
+pub claim_reads : Reads IsClaim claim_spelling claim_at
+unfolding claim_at
+claim_reads = made_of (both_of long (both_of digest long)) IsClaim claim_spelling (λ p. record { number = p.0; digest = p.1.0; view = p.1.1 }) (λ m. (m.number, (m.digest, m.view))) (λ p h. (h, refl)) (λ m h. (h, refl))
+
+pub mac_reads : Reads IsMac mac_spelling mac_at
+unfolding mac_at
+mac_reads = made_of (both_of word digest) IsMac mac_spelling (λ p. record { receiver = p.0; mac = p.1 }) (λ m. (m.receiver, m.mac)) (λ p h. (h, refl)) (λ m h. (h, refl))
+
+abbrev pub mark : Format MarkData
+mark = record { IsValue = IsMark; spelling = mark_spelling; at = mark_at; reads = mark_reads }
+
+abbrev pub claim : Format ClaimData
+claim = record { IsValue = IsClaim; spelling = claim_spelling; at = claim_at; reads = claim_reads }
+
+abbrev pub mac : Format MacData
+mac = record { IsValue = IsMac; spelling = mac_spelling; at = mac_at; reads = mac_reads }
+
+-- a count byte within bounds
+abbrev pub count_from : ℕ → ℕ → Format ℕ
+count_from least most = passing_of (λ n. nat_le least n && nat_le n most) byte
+
+abbrev pub count_to : ℕ → Format ℕ
+count_to most = passing_of (λ n. nat_le n most) byte
+
+-- ---- a view change
+
+pub marks_reads : Reads (ascending_of mark_before (count_to 3) mark).IsValue (ascending_of mark_before (count_to 3) mark).spelling marks_at
+unfolding marks_at
+marks_reads = (ascending_of mark_before (count_to 3) mark).reads
+
+pub claims_reads : (before : ClaimData → ClaimData → Bool) → Reads (ascending_of before word claim).IsValue (ascending_of before word claim).spelling (claims_at before)
+unfolding claims_at
+claims_reads before = (ascending_of before word claim).reads
+
+pub macs_reads : Reads (ascending_of mac_before (count_from 1 10) mac).IsValue (ascending_of mac_before (count_from 1 10) mac).spelling macs_at
+unfolding macs_at
+macs_reads = (ascending_of mac_before (count_from 1 10) mac).reads
+
+abbrev pub marks : Format (List MarkData)
+marks = record { IsValue = (ascending_of mark_before (count_to 3) mark).IsValue; spelling = (ascending_of mark_before (count_to 3) mark).spelling; at = marks_at; reads = marks_reads }
+
+abbrev pub claims : (ClaimData → ClaimData → Bool) → Format (List ClaimData)
+claims before = record { IsValue = (ascending_of before word claim).IsValue; spelling = (ascending_of before word claim).spelling; at = claims_at before; reads = claims_reads before }
+
+abbrev pub change_parts : Format (ℕ × (ℕ × (List MarkData × (List ClaimData × List ClaimData))))
+change_parts = both_of long (both_of long (both_of marks (both_of (claims claim_before) (claims named_before))))
+
+pub view_change_reads : Reads IsViewChange view_change_spelling view_change_at
+unfolding view_change_at
+view_change_reads = made_of change_parts IsViewChange view_change_spelling
+    (λ p. record { view = p.0; low = p.1.0; checkpoints = p.1.1.0; prepared = p.1.1.1.0; pre_prepared = p.1.1.1.1 })
+    (λ c. (c.view, (c.low, (c.checkpoints, (c.prepared, c.pre_prepared)))))
+    (λ p h. (
+      record {
+        view = h.0; low = h.1.0;
+        few = leb-true _ _ h.1.1.0.0.1; checkpoints = h.1.1.0.1.0; checkpoints_ascend = h.1.1.0.1.1;
+        prepared_count = h.1.1.1.0.0; prepared = h.1.1.1.0.1.0; prepared_ascend = h.1.1.1.0.1.1;
+        pre_prepared_count = h.1.1.1.1.0; pre_prepared = h.1.1.1.1.1.0; pre_prepared_ascend = h.1.1.1.1.1.1;
+      },
+      refl,
+    ))
+    (λ c h. (
+      (h.view, (h.low, (
+        ((omega (arith, h.few), le-leb _ _ h.few), (h.checkpoints, h.checkpoints_ascend)),
+        ((h.prepared_count, (h.prepared, h.prepared_ascend)), (h.pre_prepared_count, (h.pre_prepared, h.pre_prepared_ascend))),
+      ))),
+      refl,
+    ))
+
+abbrev pub change : Format ViewChangeData
+change = record { IsValue = IsViewChange; spelling = view_change_spelling; at = view_change_at; reads = view_change_reads }

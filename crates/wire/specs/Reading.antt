@@ -7,7 +7,7 @@ use Rattle.wire.specs.declared.terms.Mode.TheVariants as modes
 use Rattle.wire.specs.declared.terms.Level.{Level}
 use Rattle.wire.specs.declared.terms.Level.TheVariants as levels
 use Rattle.wire.specs.Messages.{MarkData, ClaimData, ViewChangeData, NewViewData, MessageData, request, pre_prepare, prepare, commit, checkpoint, view_change, new_view, reply, fetch, meta, page, BodyData, MacData, ProofData, macs, signature, FrameData}
-use Rattle.wire.specs.Spelling.{batch_spelling, last_index, has_children, mark_before, claim_before, named_before, mac_before, sender_before, is_signed, is_ordered_request, frame_limit}
+use Rattle.wire.specs.Spelling.{pieces_spelling, last_index, has_children, mark_before, claim_before, named_before, mac_before, sender_before, is_signed, is_ordered_request, frame_limit}
 
 -- ---- forms
 
@@ -168,7 +168,7 @@ requests_at least bs =
 
 -- the text of a batch of so many requests or more
 unfoldable pub batch_at : ℕ → Reader (List ℕ)
-batch_at least bs = read_as batch_spelling (requests_at least) bs
+batch_at least bs = read_as pieces_spelling (requests_at least) bs
 
 unfoldable pub batches_at : Reader (List (List ℕ))
 batches_at bs = counted_at (passing (λ n. nat_le n 32) byte_at) (batch_at 0) anyhow bs
