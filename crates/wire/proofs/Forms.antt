@@ -42,7 +42,7 @@ module _ {A : Type 0} (IsA : A → Type 0) (spelling : A → List ℕ) (test : A
   abbrev pub IsPassing : A → Type 0
   IsPassing x = IsA x × (test x ≡ true)
 
-  passing_found : Found IsA spelling at → Found IsPassing spelling (passing test at)
+  pub passing_found : Found IsA spelling at → Found IsPassing spelling (passing test at)
   passing_found reads bs rest v h e =
       let k = bind_some (at bs) (λ x. if_it (test x.0) x) (v, rest) e in
       let a = reads bs k.0.1 k.0.0 h k.1 in

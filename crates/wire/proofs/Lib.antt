@@ -1,3 +1,4 @@
 pub mod Forms
 pub mod Parts
 pub mod Framing
+pub mod Plain
