@@ -2,3 +2,4 @@ pub mod Forms
 pub mod Parts
 pub mod Framing
 pub mod Plain
+pub mod Carriers
