@@ -127,7 +127,7 @@ module _ {A : Type 0} (IsA : A → Type 0) (spelling : A → List ℕ) (at : Rea
       }
 
   -- a front of what fits does
-  front_fits : (ys xs : List A) → Fits (xs ++ ys) ≡ true → Fits xs ≡ true
+  pub front_fits : (ys xs : List A) → Fits (xs ++ ys) ≡ true → Fits xs ≡ true
   front_fits [] xs f = ap Fits (sym (append-nil xs)) ∙ f
   front_fits (y ∷ ys) xs f =
       let g : Fits (xs ++ y ∷ []) ≡ true = front_fits ys (xs ++ y ∷ []) (ap Fits (append_assoc xs (y ∷ []) ys) ∙ f) in

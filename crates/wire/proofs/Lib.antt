@@ -3,3 +3,4 @@ pub mod Parts
 pub mod Framing
 pub mod Plain
 pub mod Carriers
+pub mod Limits

@@ -210,3 +210,40 @@ body_of bs = body_by message_by bs
 -- the frame that the bytes spell, whole
 unfoldable pub frame_of : List ℕ → Option FrameData
 frame_of bs = frame_by message_by bs
+
+-- ---- view changes that are too long
+
+-- the length at the front is over the limit of a view change
+unfoldable pub is_over : List ℕ → Bool
+is_over bs = over (number_of 4 bs)
+  where
+    over : Option (ℕ × List ℕ) → Bool
+    over None = false
+    over (Some n) = nat_lt 262144 n.0
+
+abbrev pub of_some : {A : Type 0} → (A → Bool) → Option A → Bool
+of_some test None = false
+of_some test (Some x) = test x
+
+-- one of n more view changes has a length over the limit, and all before it is read
+abbrev pub over_in : ℕ → List (List ℕ) → List ℕ → Bool
+over_in zero xs bs = false
+over_in (suc n) xs bs =
+    if is_over bs then true
+    else of_some (λ x. follows sender_before xs x.0 && over_in n (xs ++ x.0 ∷ []) x.1) (passing is_change piece_at bs)
+
+unfoldable pub changes_over : List ℕ → Bool
+changes_over bs = of_some (λ n. over_in n.0 [] n.1) (passing (λ n. nat_le 1 n && nat_le n 10) byte_at bs)
+
+unfoldable pub new_view_over : List ℕ → Bool
+new_view_over bs = of_some (λ v. changes_over v.1) (number_of 8 bs)
+
+unfoldable pub message_over : ℕ → List ℕ → Bool
+message_over type bs = type == 0x47 && new_view_over bs
+
+unfoldable pub body_over : List ℕ → Bool
+body_over bs = of_some (λ t. of_some (λ s. message_over t.0 s.1) (number_of 2 t.1)) (byte_at bs)
+
+-- the bytes carry a view change that is too long
+unfoldable pub frame_over : List ℕ → Bool
+frame_over bs = of_some (λ text. body_over text.0) (piece_at bs)
