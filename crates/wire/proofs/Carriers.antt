@@ -76,10 +76,10 @@ carried_change = record { IsValue = IsCarried is_view_change; spelling = piece; 
 
 -- ---- batches
 
-abbrev requests_parts : ℕ → Format (List (List ℕ))
+abbrev pub requests_parts : ℕ → Format (List (List ℕ))
 requests_parts least = several_of (count_from least 16) carried_request
 
-requests_reads : (least : ℕ) → Reads (requests_parts least).IsValue (requests_parts least).spelling (requests_at least)
+pub requests_reads : (least : ℕ) → Reads (requests_parts least).IsValue (requests_parts least).spelling (requests_at least)
 unfolding requests_at
 requests_reads least = (requests_parts least).reads
 

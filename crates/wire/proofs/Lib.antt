@@ -5,3 +5,5 @@ pub mod Plain
 pub mod Carriers
 pub mod Limits
 pub mod Steps
+pub mod Carrying
+pub mod Decoding

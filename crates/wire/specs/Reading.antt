@@ -138,12 +138,12 @@ place_at bs = passing (λ p. nat_le p.1.1 (last_index p.1.0)) (both (number_of 8
 unfoldable pub fetch_at : Reader MessageData
 fetch_at bs = read_as (λ p. fetch p.0 p.1.0 p.1.1) place_at bs
 
-unfoldable pub digests_at : Reader (List (List ℕ))
-digests_at bs = more_at digest_at anyhow 32 [] bs
+unfoldable pub digests_at : ℕ → Reader (List (List ℕ))
+digests_at n bs = more_at digest_at anyhow n [] bs
 
 unfoldable pub meta_at : Reader MessageData
 meta_at bs =
-    read_as (λ p. meta p.0.0 p.0.1.0 p.0.1.1 p.1) (both (passing (λ p. has_children p.1.0) place_at) digests_at) bs
+    read_as (λ p. meta p.0.0 p.0.1.0 p.0.1.1 p.1) (both (passing (λ p. has_children p.1.0) place_at) (digests_at 32)) bs
 
 unfoldable pub page_at : Reader MessageData
 page_at bs = both (number_of 8) (passing (λ n. nat_le n 1023) (number_of 2)) bs >>= λ p. Some (page p.0.0 p.0.1 p.1, [])

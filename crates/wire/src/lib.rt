@@ -1,8 +1,11 @@
 //! The messages that replicas and clients send each other, and the bytes of their frames.
 #![tactic(auto)]
 
+mod carried;
 mod changes;
+mod decode;
 mod fault;
+mod fields;
 mod frames;
 mod messages;
 mod proving;

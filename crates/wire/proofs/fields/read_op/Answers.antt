@@ -1,0 +1,18 @@
+use Rattle.std.proofs.Common.{arith, sym, subst}
+use Rattle.tuple_codec.specs.Operations.{IsOperation}
+use Rattle.tuple_codec.specs.OperationView.{operation_of}
+use Rattle.tuple_codec.specs.Spelling.{operation_spelling}
+use Rattle.tuple_codec.specs.Reading.{operation_at}
+use Rattle.tuple_codec.proofs.OperationLaws.{operation_reads}
+use Rattle.wire.specs.Gives.{Fails}
+use Rattle.wire.specs.declared.fault.WireFault.{WireFault}
+use Rattle.wire.proofs.Decoding.{decoded_there, decoded_fails}
+use Rattle.wire.proofs.fields.read_op.Goals as goal
+
+pub returns-in-Ok : goal.returns-in-Ok
+returns-in-Ok c = decoded_there IsOperation operation_spelling operation_at operation_reads c.args.bytes.now (operation_of c.in-Ok.op) c.in-Ok.len c.in-Ok.ensures.found.1
+
+pub returns-in-Err : goal.returns-in-Err
+returns-in-Err c =
+    let P : WireFault → Type 0 = λ e. Fails e (operation_at c.args.bytes.now) in
+    subst P (sym c.into.ensures) (decoded_fails IsOperation operation_spelling operation_at operation_reads c.in-Err.bad c.args.bytes.now (λ i. omega (arith, c.type_inv.bytes i)) c.in-Err.ensures.only)
