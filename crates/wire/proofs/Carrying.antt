@@ -151,16 +151,16 @@ op_test bs b h law = cases b (all_of (operation_at bs)) refl refl
   where
     cases : (c : Bool) (o : Option Operation) → b ≡ c → all_of (operation_at bs) ≡ o → b ≡ is_some (all_of (operation_at bs))
     cases true None p q = absurd (
-      let s = law.0 p in
-      let e : all_of (operation_at bs) ≡ Some s.0 = ap all_of (all_read IsOperation operation_spelling operation_at operation_reads bs s.0 s.1) in
-      let g : ⊥ = cc in g
-    )
+        let s = law.0 p in
+        let e : all_of (operation_at bs) ≡ Some s.0 = ap all_of (all_read IsOperation operation_spelling operation_at operation_reads bs s.0 s.1) in
+        let g : ⊥ = cc in g
+        )
     cases true (Some o) p q = p ∙ ap is_some (sym q)
     cases false None p q = p ∙ ap is_some (sym q)
     cases false (Some o) p q = absurd (
-      let e : b ≡ true = law.1 (o, all_spelled IsOperation operation_spelling operation_at operation_reads bs o h (all_some (operation_at bs) o q)) in
-      let g : ⊥ = cc in g
-    )
+        let e : b ≡ true = law.1 (o, all_spelled IsOperation operation_spelling operation_at operation_reads bs o h (all_some (operation_at bs) o q)) in
+        let g : ⊥ = cc in g
+        )
 
 pub fields_no_time : (fs : List ℕ) → number_of 8 fs ≡ None → false ≡ is_some (all_of (passing is_ordered_request request_at fs))
 unfolding request_at

@@ -6,4 +6,6 @@ pub mod Carriers
 pub mod Limits
 pub mod Steps
 pub mod Carrying
-pub mod Decoding
+pub mod AtFront
+pub mod Short
+pub mod Whole

@@ -191,8 +191,7 @@ page_found bs rest m h e =
     let f = page_parts.reads.found bs k.0.1 k.0.0 h k.1 in
     let p = parts k.2 in
     let none : AreBytes [] = λ i. omega arith in
-    moved (IsOfType 0x4b IsPlain) fields_spelling bs
-    (
+    moved (IsOfType 0x4b IsPlain) fields_spelling bs (
       record { whole = f.0.whole ∙ append_assoc (long.spelling k.0.0.0) (word.spelling k.0.0.1) k.0.1 ∙ sym (append-nil (long.spelling k.0.0.0 ++ (word.spelling k.0.0.1 ++ k.0.1))); bytes = none },
       (refl, (f.1.0, leb-true _ _ f.1.1.1, f.0.bytes)),
     ) p.0 p.1

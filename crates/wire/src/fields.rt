@@ -3,8 +3,9 @@
 ghost use Rattle.std.specs.Prelude.{◌≡◌, ◌+◌, ◌-◌, ◌<◌, ◌≤◌, length, drop, [], false};
 ghost use Rattle.tuple_codec.specs.OperationView.{operation_of, outcome_of};
 ghost use Rattle.tuple_codec.specs.Gives.{Yields};
-ghost use Rattle.tuple_codec.specs.Reading.{operation_at, outcome_at};
+ghost use Rattle.tuple_codec.specs.Reading.{read_as, operation_at, outcome_at};
 ghost use Rattle.wire.specs.Gives.{Gives, GivesOver};
+ghost use Rattle.wire.specs.Messages.{prepare, commit};
 ghost use Rattle.wire.specs.Views.{message_data};
 ghost use Rattle.wire.specs.Spelling as Spelling;
 ghost use Rattle.wire.specs.Reading.{client_at, vote_at, place_at, digests_at, more_at, anyhow, digest_at, request_at, pre_prepare_at, checkpoint_at, new_view_at, new_view_over, reply_at, fetch_at, meta_at, page_at};
@@ -12,7 +13,8 @@ ghost use Rattle.wire.specs.Reading.{client_at, vote_at, place_at, digests_at, m
 use crate::carried::{read_batch, read_batches, read_changes};
 use crate::fault::WireFault;
 use crate::messages::{
-    Batch, Checkpoint, Fetch, Message, Meta, NewView, Page, PrePrepare, Reply, Request,
+    Batch, Checkpoint, Commit, Fetch, Message, Meta, NewView, Page, PrePrepare, Prepare, Reply,
+    Request,
 };
 use crate::reading::{read_digest, read_level, read_mode, read_u16, read_u64};
 use crate::terms::{ClientId, Digest, Level, Number, Timestamp, View};
@@ -93,13 +95,37 @@ pub fn read_pre_prepare(alloc: Global, bytes: &[u8]) -> Result<(Message, &[u8]),
 
 /// A view, a number and a digest.
 #[tactic(auto, unfolding(crate::specs::Reading::vote_at))]
-pub fn read_vote(bytes: &[u8]) -> Option<(View, Number, Digest, &[u8])>
+fn read_vote(bytes: &[u8]) -> Option<(View, Number, Digest, &[u8])>
     ensures { Yields (λ x. ((x.0.0, (x.1.0, x.2)), x.3.now)) result (vote_at bytes.now) }
 {
     let (view, rest) = read_u64(bytes)?;
     let (number, rest) = read_u64(rest)?;
     let (digest, rest) = read_digest(rest)?;
     Some((View(view), Number(number), digest, rest))
+}
+
+pub fn read_prepare(bytes: &[u8]) -> Option<(Message, &[u8])>
+    ensures { Yields (λ x. (message_data x.0, x.1.now)) result (read_as (λ p. prepare p.0 p.1.0 p.1.1) vote_at bytes.now) }
+{
+    let (view, number, digest, rest) = read_vote(bytes)?;
+    let prepare = Prepare {
+        view,
+        number,
+        digest,
+    };
+    Some((Message::Prepare(prepare), rest))
+}
+
+pub fn read_commit(bytes: &[u8]) -> Option<(Message, &[u8])>
+    ensures { Yields (λ x. (message_data x.0, x.1.now)) result (read_as (λ p. commit p.0 p.1.0 p.1.1) vote_at bytes.now) }
+{
+    let (view, number, digest, rest) = read_vote(bytes)?;
+    let commit = Commit {
+        view,
+        number,
+        digest,
+    };
+    Some((Message::Commit(commit), rest))
 }
 
 #[tactic(auto, unfolding(crate::specs::Reading::checkpoint_at))]
@@ -211,11 +237,7 @@ pub fn read_fetch(bytes: &[u8]) -> Option<(Message, &[u8])>
 }
 
 #[tactic(auto, unfolding(crate::specs::Reading::digests_at))]
-fn read_digests(
-    alloc: Global,
-    bytes: &[u8],
-    count: u8,
-) -> Result<(Vec<Digest>, &[u8]), WireFault>
+fn read_digests(alloc: Global, bytes: &[u8], count: u8) -> Result<(Vec<Digest>, &[u8]), WireFault>
     ensures { Gives (λ x. (x.0.items, x.1.now)) result (digests_at count bytes.now) }
 {
     let mut digests = Vec::with_capacity(alloc, count as usize)?;

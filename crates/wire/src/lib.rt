@@ -3,7 +3,8 @@
 
 mod carried;
 mod changes;
-mod decode;
+mod decoding;
+mod encoding;
 mod fault;
 mod fields;
 mod frames;
@@ -12,6 +13,7 @@ mod proving;
 mod reading;
 mod terms;
 
+pub use decoding::decode;
 pub use fault::WireFault;
 pub use frames::{
     Frame, MAX_FRAME, MAX_RECEIVERS, MAX_VIEW_CHANGE, Proof, ReceiverMac, SIGNATURE_LEN,

@@ -1,6 +1,6 @@
 //! From bytes to frames.
 
-ghost use Rattle.std.specs.Prelude.{◌≡◌, ◌+◌, ◌≤◌, ◌⊎◌, ◌↔◌, length, false, IsTrue, IfOk, IfErr, OnOk, OnErr, MatchResult};
+ghost use Rattle.std.specs.Prelude.{◌≡◌, ◌≢◌, ◌+◌, ◌≤◌, ◌⊎◌, ◌↔◌, length, false, IsTrue, IfOk, IfErr, OnOk, OnErr, MatchResult};
 ghost use Rattle.tuple_codec.specs.Gives.{Yields};
 ghost use Rattle.wire.specs.Gives.{Gives, GivesOver};
 ghost use Rattle.wire.specs.Messages.{FrameData};
@@ -8,19 +8,59 @@ ghost use Rattle.wire.specs.Views.{message_data, body_data, proof_data, frame_da
 ghost use Rattle.wire.specs.Spelling.{SpellsFrame};
 ghost use Rattle.wire.specs.Faults.{IsTooLarge, limit_at};
 ghost use Rattle.wire.specs.Spelling as Spelling;
-ghost use Rattle.wire.specs.Reading.{message_at, message_by, message_over, proof_of, body_of, body_over};
+ghost use Rattle.wire.specs.Reading.{message_at, message_by, message_over, proof_of, body_of, body_over, frame_of, too_large};
 
 use crate::changes::read_view_change;
 use crate::fault::WireFault;
 use crate::fields::{
-    read_checkpoint, read_fetch, read_meta, read_new_view, read_page, read_pre_prepare, read_reply,
-    read_request, read_vote,
+    read_checkpoint, read_commit, read_fetch, read_meta, read_new_view, read_page,
+    read_pre_prepare, read_prepare, read_reply, read_request,
 };
 use crate::frames::{Frame, MAX_FRAME, MAX_VIEW_CHANGE, Proof};
-use crate::messages::{Body, Commit, Message, Prepare};
+use crate::messages::{Body, Message};
 use crate::proving::{read_mac_proof, read_signature_proof};
 use crate::reading::{party, read_byte, read_piece, read_u16};
 use std::alloc::Global;
+
+/// The frame that the bytes, whole, spell. What they carry of other frames is read too, and kept as it is.
+///
+/// # Errors
+///
+/// TooLarge where the bytes are more than 4,194,304, more than 262,144 of a view change, or where they are a new view as
+/// far as the length of a view change that is more. Malformed where else they spell no frame. NoMemory where memory runs
+/// out.
+pub fn decode(alloc: Global, bytes: &[u8]) -> Result<Frame, WireFault>
+    // What is read is spelled so.
+    ensures found { IfOk result (λ frame. SpellsFrame bytes.now (frame_data frame)) }
+
+    // What is spelled so is read, unless memory runs out.
+    ensures only { (f : FrameData) → SpellsFrame bytes.now f → MatchResult result (λ frame. frame_data frame ≡ f) (λ e. e ≡ WireFault.NoMemory) }
+
+    ensures large { IfErr result (λ e. e ≡ WireFault.TooLarge → IsTooLarge bytes.now) }
+    ensures only_large { IsTooLarge bytes.now → IfErr result (λ e. e ≢ WireFault.Malformed) }
+{
+    read_frame(alloc, bytes)
+}
+
+fn read_frame(alloc: Global, bytes: &[u8]) -> Result<Frame, WireFault>
+    ensures { GivesOver frame_data result (frame_of bytes.now) (too_large bytes.now) }
+{
+    if bytes.len() > limit(bytes) {
+        return Err(WireFault::TooLarge);
+    }
+    let Some((text, rest)) = read_piece(bytes) else {
+        return Err(WireFault::Malformed);
+    };
+    let body = match read_body(alloc, text) {
+        Ok(body) => body,
+        Err(fault) => return Err(fault),
+    };
+    let proof = match read_proof(alloc, body.message.is_signed(), rest) {
+        Ok(proof) => proof,
+        Err(fault) => return Err(fault),
+    };
+    Ok(Frame { body, proof })
+}
 
 #[tactic(auto, unfolding(crate::specs::Reading::message_at, crate::specs::Reading::message_over))]
 fn read_message(alloc: Global, kind: u8, fields: &[u8]) -> Result<(Message, &[u8]), WireFault>
@@ -29,28 +69,8 @@ fn read_message(alloc: Global, kind: u8, fields: &[u8]) -> Result<(Message, &[u8
     match kind {
         0x41 => read_request(alloc, fields),
         0x42 => read_pre_prepare(alloc, fields),
-        0x43 => match read_vote(fields) {
-            Some((view, number, digest, rest)) => {
-                let prepare = Prepare {
-                    view,
-                    number,
-                    digest,
-                };
-                Ok((Message::Prepare(prepare), rest))
-            }
-            None => Err(WireFault::Malformed),
-        },
-        0x44 => match read_vote(fields) {
-            Some((view, number, digest, rest)) => {
-                let commit = Commit {
-                    view,
-                    number,
-                    digest,
-                };
-                Ok((Message::Commit(commit), rest))
-            }
-            None => Err(WireFault::Malformed),
-        },
+        0x43 => read_prepare(fields).ok_or(WireFault::Malformed),
+        0x44 => read_commit(fields).ok_or(WireFault::Malformed),
         0x45 => read_checkpoint(fields).ok_or(WireFault::Malformed),
         0x46 => match read_view_change(alloc, fields) {
             Ok((change, rest)) => Ok((Message::ViewChange(change), rest)),

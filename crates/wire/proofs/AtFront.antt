@@ -22,7 +22,7 @@ module _ {V : Type 0} (IsValue : V → Type 0) (spelling : V → List ℕ) (at :
       cases : (o : Option (V × List ℕ)) → at bs ≡ o → at bs ≡ None
       cases None e = e
       cases (Some x) e = absurd (
-        let p : length bs - length x.1 ≤ length bs = omega arith in
-        let q : bad.Malformed ≡ bad.NoMemory = f x.0 (length bs - length x.1) p (spelled IsValue spelling at reads bs x.1 x.0 h e) in
-        let g : ⊥ = cc in g
-      )
+          let p : length bs - length x.1 ≤ length bs = omega arith in
+          let q : bad.Malformed ≡ bad.NoMemory = f x.0 (length bs - length x.1) p (spelled IsValue spelling at reads bs x.1 x.0 h e) in
+          let g : ⊥ = cc in g
+          )
