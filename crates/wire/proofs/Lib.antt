@@ -1,0 +1,11 @@
+pub mod Forms
+pub mod Parts
+pub mod Framing
+pub mod Plain
+pub mod Carriers
+pub mod Limits
+pub mod Steps
+pub mod Carrying
+pub mod AtFront
+pub mod Short
+pub mod Whole
