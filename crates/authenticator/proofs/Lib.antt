@@ -1,3 +1,4 @@
 pub mod Blocks
 pub mod Differences
+pub mod Keeping
 pub mod Lengths

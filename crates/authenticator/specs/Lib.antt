@@ -1,1 +1,4 @@
+pub mod Kept
+pub mod Keys
 pub mod Mac
+pub mod Membership

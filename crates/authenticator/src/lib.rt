@@ -2,5 +2,7 @@
 #![tactic(auto)]
 
 mod mac;
+mod ring;
 
 pub use mac::{Key, hmac, same};
+pub use ring::Ring;

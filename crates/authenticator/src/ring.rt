@@ -1,0 +1,76 @@
+//! The keys of all parties, derived from one seed.
+
+ghost use Rattle.std.specs.Prelude.{◌≡◌, ◌∷◌, ◌++◌, ◌<◌};
+ghost use Rattle.std.specs.Int.{w16, to_be_bytes};
+ghost use Rattle.authenticator.specs.Mac.{block_key};
+ghost use Rattle.authenticator.specs.Keys.{key_between, mac_between};
+
+use crate::mac::Key;
+use std::alloc::Global;
+use std::collections::HashMap;
+use std::marker::Model;
+
+/// The keys between the parties of one configuration, each derived when it is first needed and then kept.
+#[derive(Drop)]
+pub struct Ring {
+    seed: [u8; 32],
+    faults: u8,
+    clients: u16,
+    source: Key,
+    kept: HashMap<(u16, u16), Key>,
+}
+
+impl Model for Ring {
+    ghost use Rattle.std.specs.Prelude.{◌≡◌};
+    ghost use Rattle.authenticator.specs.Mac.{block_key};
+    ghost use Rattle.authenticator.specs.Kept.{KeysFit};
+    ghost use Rattle.authenticator.specs.Membership.{Membership};
+
+    ghost Value = { Membership };
+
+    ghost view = { λ r. record { seed = r.seed; faults = r.faults; clients = r.clients } };
+
+    ghost invariant = { λ r. (block_key r.seed ≡ r.source) × KeysFit r.seed r.kept };
+}
+
+impl Ring {
+    /// The keys of a seed for `3 * f + 1` replicas and so many clients. It takes no memory yet.
+    pub fn new(alloc: Global, seed: &[u8; 32], f: u8, clients: u16) -> Ring
+        ensures { result ≡ record { seed = seed.now; faults = f; clients = clients } }
+    {
+        Ring {
+            seed: *seed,
+            faults: f,
+            clients,
+            source: Key::new(seed),
+            kept: HashMap::new(alloc),
+        }
+    }
+
+    /// The authentication code of a text from one party to another.
+    pub(crate) fn mac(&mut self, from: u16, to: u16, text: &[u8]) -> [u8; 32]
+        ensures code { result ≡ mac_between self.old.seed from to text.now }
+        ensures same { self.new ≡ self.old }
+    {
+        if let Some(key) = self.kept.get(&(from, to)) {
+            return key.mac(text);
+        }
+        let key = Key::new(&self.source.mac(&key_text(from, to)));
+        let code = key.mac(text);
+        // A key for which there is no room is derived again.
+        let _ = self.kept.insert((from, to), key);
+        code
+    }
+}
+
+// What the key from one party to another is derived by.
+fn key_text(from: u16, to: u16) -> [u8; 5]
+    ensures { result ≡ 0x4d ∷ to_be_bytes w16 from ++ to_be_bytes w16 to }
+{
+    let [from_high, from_low] = from.to_be_bytes();
+    let [to_high, to_low] = to.to_be_bytes();
+    [b'M', from_high, from_low, to_high, to_low]
+}
+
+#[cfg(test)]
+mod tests;
