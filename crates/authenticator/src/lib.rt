@@ -5,4 +5,4 @@ mod mac;
 mod ring;
 
 pub use mac::{Key, hmac, same};
-pub use ring::Ring;
+pub use ring::{Ring, signing_seed};

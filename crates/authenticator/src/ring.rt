@@ -3,9 +3,9 @@
 ghost use Rattle.std.specs.Prelude.{◌≡◌, ◌∷◌, ◌++◌, ◌<◌};
 ghost use Rattle.std.specs.Int.{w16, to_be_bytes};
 ghost use Rattle.authenticator.specs.Mac.{block_key};
-ghost use Rattle.authenticator.specs.Keys.{key_between, mac_between};
+ghost use Rattle.authenticator.specs.Keys.{key_between, mac_between, signing_seed};
 
-use crate::mac::Key;
+use crate::mac::{Key, hmac};
 use std::alloc::Global;
 use std::collections::HashMap;
 use std::marker::Model;
@@ -61,6 +61,14 @@ impl Ring {
         let _ = self.kept.insert((from, to), key);
         code
     }
+}
+
+/// The seed of a replica's signatures, derived from that of the configuration.
+pub fn signing_seed(seed: &[u8; 32], replica: u8) -> [u8; 32]
+    ensures { result ≡ signing_seed seed.now replica }
+{
+    let [high, low] = u16::from(replica).to_be_bytes();
+    hmac(seed, &[b'S', high, low])
 }
 
 // What the key from one party to another is derived by.

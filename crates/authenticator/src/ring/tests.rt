@@ -1,4 +1,4 @@
-use super::Ring;
+use super::{Ring, signing_seed};
 use hex::FromHex;
 
 fn is_code(code: [u8; 32], expected: &str) -> bool {
@@ -44,4 +44,15 @@ fn each_direction_has_its_key(rt: HostRuntime) {
             );
         }
     }
+}
+
+// Python's hmac: hmac(seed, 53 || be16 2) for the same seed.
+#[test]
+fn a_replica_has_a_seed_of_signatures(rt: HostRuntime) {
+    let mut seed = [0; 32];
+    for i in 0..32 {
+        seed[i] = i as u8;
+    }
+    let expected = "b1d311e8c0d6c6f194e1d70c6d592c078636435b2a225a82262305bed1fb2986";
+    assert!(rt; is_code(signing_seed(&seed, 2), expected));
 }

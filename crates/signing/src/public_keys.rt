@@ -1,0 +1,65 @@
+//! The public keys of a configuration's replicas.
+
+ghost use Rattle.std.specs.Prelude.{◌≡◌, ◌↔◌, IsTrue};
+ghost use Rattle.authenticator.specs.Keys.{signing_seed};
+ghost use Rattle.signing.specs.Signatures.{public_key, Verifies};
+
+use crate::signature::verify_bytes;
+use crate::tree::KeyTree;
+use authenticator::signing_seed;
+use std::alloc::Global;
+use std::collections::HashMap;
+use std::marker::Model;
+
+/// The public keys of the replicas of one configuration. Each is derived from the configuration's seed when something
+/// is first verified by it, which takes as long as a tree of keys, and is then kept.
+#[derive(Drop)]
+pub struct PublicKeys {
+    seed: [u8; 32],
+    kept: HashMap<u8, [u8; 32]>,
+}
+
+impl Model for PublicKeys {
+    ghost use Rattle.std.specs.Prelude.{ℕ, List};
+    ghost use Rattle.signing.specs.Replicas.{KeysFit};
+
+    ghost Value = { List ℕ };
+
+    ghost view = { λ k. k.seed };
+
+    ghost invariant = { λ k. KeysFit k.seed k.kept };
+}
+
+impl PublicKeys {
+    /// The public keys of a configuration's seed. It takes no memory and derives nothing yet.
+    pub fn new(alloc: Global, seed: &[u8; 32]) -> PublicKeys
+        ensures { result ≡ seed.now }
+    {
+        PublicKeys {
+            seed: *seed,
+            kept: HashMap::new(alloc),
+        }
+    }
+
+    /// The public key of a replica.
+    pub fn public(&mut self, replica: u8) -> [u8; 32]
+        ensures key { result ≡ public_key (signing_seed self.old replica) }
+        ensures same { self.new ≡ self.old }
+    {
+        if let Some(key) = self.kept.get(&replica) {
+            return *key;
+        }
+        let key = KeyTree::new(&signing_seed(&self.seed, replica)).public();
+        // A key for which there is no room is derived again.
+        let _ = self.kept.insert(replica, key);
+        key
+    }
+
+    /// Whether the bytes are a signature of the text by a replica.
+    pub fn verify(&mut self, replica: u8, text: &[u8], signature: &[u8]) -> bool
+        ensures verified { IsTrue result ↔ Verifies (public_key (signing_seed self.old replica)) text.now signature.now }
+        ensures same { self.new ≡ self.old }
+    {
+        verify_bytes(&self.public(replica), text, signature)
+    }
+}
