@@ -1,0 +1,5 @@
+pub mod Lists
+pub mod Messages
+pub mod Views
+pub mod Spelling
+pub mod Faults
