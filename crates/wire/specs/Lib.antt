@@ -3,3 +3,4 @@ pub mod Messages
 pub mod Views
 pub mod Spelling
 pub mod Faults
+pub mod Reading

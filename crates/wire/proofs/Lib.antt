@@ -1,0 +1,6 @@
+pub mod Forms
+pub mod Parts
+pub mod Framing
+pub mod Plain
+pub mod Carriers
+pub mod Limits
