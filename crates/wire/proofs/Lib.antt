@@ -4,3 +4,4 @@ pub mod Framing
 pub mod Plain
 pub mod Carriers
 pub mod Limits
+pub mod Steps

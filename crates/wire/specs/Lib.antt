@@ -4,3 +4,5 @@ pub mod Views
 pub mod Spelling
 pub mod Faults
 pub mod Reading
+pub mod Gives
+pub mod Orders

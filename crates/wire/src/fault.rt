@@ -1,6 +1,6 @@
 //! Why bytes are no frame.
 
-use std::alloc::AllocError;
+use std::alloc::{AllocError, AllocFailed};
 use thiserror::Error;
 use tuple_codec::Bad;
 use tuple_tree::NoMemory;
@@ -25,6 +25,17 @@ impl From<AllocError> for WireFault {
     ghost from_gives = { λ _ e. e ≡ NoMemory };
 
     fn from(_failed: AllocError) -> WireFault {
+        WireFault::NoMemory
+    }
+}
+
+impl<T: Drop> From<AllocFailed<T>> for WireFault {
+    ghost use Rattle.wire.specs.declared.fault.WireFault.TheVariants.{NoMemory};
+    ghost use Rattle.std.specs.Prelude.{◌≡◌};
+
+    ghost from_gives = { λ _ e. e ≡ NoMemory };
+
+    fn from(_failed: AllocFailed<T>) -> WireFault {
         WireFault::NoMemory
     }
 }

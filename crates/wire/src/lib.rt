@@ -1,9 +1,12 @@
 //! The messages that replicas and clients send each other, and the bytes of their frames.
 #![tactic(auto)]
 
+mod changes;
 mod fault;
 mod frames;
 mod messages;
+mod proving;
+mod reading;
 mod terms;
 
 pub use fault::WireFault;
