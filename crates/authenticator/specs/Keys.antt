@@ -12,6 +12,6 @@ key_between seed from to = hmac_of seed (0x4d ∷ to_be_bytes w16 from ++ to_be_
 abbrev pub mac_between : List ℕ → ℕ → ℕ → List ℕ → List ℕ
 mac_between seed from to text = hmac_of (key_between seed from to) text
 
--- the seed of a replica's signatures
+-- the seed of a party's signatures
 unfoldable pub signing_seed : List ℕ → ℕ → List ℕ
-signing_seed seed replica = hmac_of seed (0x53 ∷ to_be_bytes w16 replica)
+signing_seed seed signer = hmac_of seed (0x53 ∷ to_be_bytes w16 signer)

@@ -4,11 +4,14 @@ ghost use Rattle.std.specs.Prelude.{◌≡◌, ◌∷◌, ◌++◌, ◌<◌};
 ghost use Rattle.std.specs.Int.{w16, to_be_bytes};
 ghost use Rattle.authenticator.specs.Mac.{block_key};
 ghost use Rattle.authenticator.specs.Keys.{key_between, mac_between, signing_seed};
+ghost use Rattle.authenticator.specs.Membership.{has_sender};
+ghost use Rattle.wire.specs.Views.{body_data, party_number};
 
 use crate::mac::{Key, hmac};
 use std::alloc::Global;
 use std::collections::HashMap;
 use std::marker::Model;
+use wire::{Body, Message, Party};
 
 /// The keys between the parties of one configuration, each derived when it is first needed and then kept.
 #[derive(Drop)]
@@ -47,6 +50,18 @@ impl Ring {
         }
     }
 
+    /// Whether the sender that a body names takes part and may send such a message: clients send requests, replicas all
+    /// else.
+    pub fn has_sender(&self, body: &Body) -> bool
+        ensures { result ≡ has_sender self.now (body_data body.now) }
+    {
+        let sender = body.sender.number();
+        match &body.message {
+            Message::Request(_) => sender >= 256 && sender - 256 < self.clients,
+            _ => sender <= 3 * u16::from(self.faults),
+        }
+    }
+
     /// The authentication code of a text from one party to another.
     pub(crate) fn mac(&mut self, from: u16, to: u16, text: &[u8]) -> [u8; 32]
         ensures code { result ≡ mac_between self.old.seed from to text.now }
@@ -63,11 +78,11 @@ impl Ring {
     }
 }
 
-/// The seed of a replica's signatures, derived from that of the configuration.
-pub fn signing_seed(seed: &[u8; 32], replica: u8) -> [u8; 32]
-    ensures { result ≡ signing_seed seed.now replica }
+/// The seed of a party's signatures, derived from that of the configuration. Only replicas sign.
+pub fn signing_seed(seed: &[u8; 32], signer: Party) -> [u8; 32]
+    ensures { result ≡ signing_seed seed.now (party_number signer) }
 {
-    let [high, low] = u16::from(replica).to_be_bytes();
+    let [high, low] = signer.number().to_be_bytes();
     hmac(seed, &[b'S', high, low])
 }
 

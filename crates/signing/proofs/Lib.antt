@@ -1,3 +1,4 @@
+pub mod Heard
 pub mod Keeping
 pub mod Joining
 pub mod Nodes

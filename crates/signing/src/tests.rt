@@ -5,6 +5,7 @@ use authenticator::signing_seed;
 use hex::FromHex;
 use sha2::{Digest, Sha256};
 use std::test::Fail;
+use wire::Party;
 
 // The values below come from a program of its own: Python's `hmac.new(seed, .., hashlib.sha256)` for each secret,
 // `hashlib.sha256` for each hash, and lists for the levels of the tree.
@@ -79,12 +80,12 @@ fn public_keys_of_replicas(rt: HostRuntime) -> Result<(), Fail> {
         seed[i] = i as u8;
     }
     let mut keys = PublicKeys::new(rt.alloc(), &seed);
-    assert!(rt; <[u8; 32]>::from_hex(PUBLIC_OF_2).ok() == Some(keys.public(2)));
-    let mut signer = Signer::from_seed(&signing_seed(&seed, 2));
+    assert!(rt; <[u8; 32]>::from_hex(PUBLIC_OF_2).ok() == Some(keys.public(Party::Replica(2))));
+    let mut signer = Signer::from_seed(&signing_seed(&seed, Party::Replica(2)));
     let signature = signer.sign(rt.alloc(), b"text")?;
-    assert!(rt; keys.verify(2, b"text", signature.as_slice()));
-    assert!(rt; !keys.verify(1, b"text", signature.as_slice()));
-    assert!(rt; !keys.verify(2, b"texu", signature.as_slice()));
+    assert!(rt; keys.verify(Party::Replica(2), b"text", signature.as_slice()));
+    assert!(rt; !keys.verify(Party::Replica(1), b"text", signature.as_slice()));
+    assert!(rt; !keys.verify(Party::Replica(2), b"texu", signature.as_slice()));
     Ok(())
 }
 

@@ -1,5 +1,6 @@
 use super::{Ring, signing_seed};
 use hex::FromHex;
+use wire::Party;
 
 fn is_code(code: [u8; 32], expected: &str) -> bool {
     <[u8; 32]>::from_hex(expected).ok() == Some(code)
@@ -54,5 +55,5 @@ fn a_replica_has_a_seed_of_signatures(rt: HostRuntime) {
         seed[i] = i as u8;
     }
     let expected = "b1d311e8c0d6c6f194e1d70c6d592c078636435b2a225a82262305bed1fb2986";
-    assert!(rt; is_code(signing_seed(&seed, 2), expected));
+    assert!(rt; is_code(signing_seed(&seed, Party::Replica(2)), expected));
 }

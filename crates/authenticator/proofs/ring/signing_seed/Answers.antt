@@ -5,4 +5,4 @@ pub returns : goal.returns
 unfolding signing_seed
 returns c =
     let coded = c.hmac.ensures in
-    rw (c.to_be_bytes.ensures, c.from.ensures) at coded
+    rw (c.to_be_bytes.ensures, c.number.ensures) at coded
