@@ -5,3 +5,7 @@ pub mod Plain
 pub mod Carriers
 pub mod Limits
 pub mod Steps
+pub mod Carrying
+pub mod AtFront
+pub mod Short
+pub mod Whole

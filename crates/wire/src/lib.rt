@@ -1,14 +1,19 @@
 //! The messages that replicas and clients send each other, and the bytes of their frames.
 #![tactic(auto)]
 
+mod carried;
 mod changes;
+mod decoding;
+mod encoding;
 mod fault;
+mod fields;
 mod frames;
 mod messages;
 mod proving;
 mod reading;
 mod terms;
 
+pub use decoding::decode;
 pub use fault::WireFault;
 pub use frames::{
     Frame, MAX_FRAME, MAX_RECEIVERS, MAX_VIEW_CHANGE, Proof, ReceiverMac, SIGNATURE_LEN,
