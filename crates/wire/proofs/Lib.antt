@@ -1,0 +1,7 @@
+pub mod Forms
+pub mod Parts
+pub mod Framing
+pub mod Plain
+pub mod Carriers
+pub mod Limits
+pub mod Steps

@@ -1,0 +1,20 @@
+//! The messages that replicas and clients send each other, and the bytes of their frames.
+#![tactic(auto)]
+
+mod changes;
+mod fault;
+mod frames;
+mod messages;
+mod proving;
+mod reading;
+mod terms;
+
+pub use fault::WireFault;
+pub use frames::{
+    Frame, MAX_FRAME, MAX_RECEIVERS, MAX_VIEW_CHANGE, Proof, ReceiverMac, SIGNATURE_LEN,
+};
+pub use messages::{
+    Batch, Body, Checkpoint, Claim, Commit, Fetch, Mark, Message, Meta, NewView, Page, PrePrepare,
+    Prepare, Reply, Request, ViewChange,
+};
+pub use terms::{ClientId, Digest, Level, Mode, Number, Party, Timestamp, View};
