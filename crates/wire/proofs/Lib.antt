@@ -5,3 +5,4 @@ pub mod Plain
 pub mod Carriers
 pub mod Limits
 pub mod Steps
+pub mod Appending

@@ -2,13 +2,17 @@
 #![tactic(auto)]
 
 mod changes;
+mod encoding;
 mod fault;
 mod frames;
 mod messages;
 mod proving;
+mod put;
+mod put_lists;
 mod reading;
 mod terms;
 
+pub use encoding::encode;
 pub use fault::WireFault;
 pub use frames::{
     Frame, MAX_FRAME, MAX_RECEIVERS, MAX_VIEW_CHANGE, Proof, ReceiverMac, SIGNATURE_LEN,
