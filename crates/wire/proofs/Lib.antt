@@ -6,3 +6,4 @@ pub mod Carriers
 pub mod Limits
 pub mod Steps
 pub mod Appending
+pub mod Lengths

@@ -7,11 +7,10 @@ ghost use Rattle.wire.specs.declared.messages.Message.TheVariants as messages;
 ghost use Rattle.wire.specs.Spelling.{message_type, fields_spelling, body_spelling};
 ghost use Rattle.wire.specs.Counts.{CountsFit};
 
-use crate::messages::{
-    Body, Checkpoint, Fetch, Message, Meta, Page, PrePrepare, Reply, Request,
-};
+use crate::messages::{Body, Checkpoint, Fetch, Message, Meta, Page, PrePrepare, Reply, Request};
 use crate::put::{put_digests, put_level, put_mode, put_u16, put_u64};
 use crate::put_lists::{put_new_view, put_view_change};
+use crate::sizes::body_len;
 use crate::terms::{Digest, Number, View};
 use std::alloc::Global;
 use tuple_codec::{encode_op, encode_result};
@@ -23,7 +22,7 @@ pub fn encode(alloc: Global, body: &Body) -> Result<Vec<u8>, NoMemory>
     requires { CountsFit (message_data body.now.message) }
     ensures { IfOk result (λ bytes. bytes.items ≡ body_spelling (body_data body.now)) }
 {
-    let mut out = Vec::with_capacity(alloc, 100)?;
+    let mut out = Vec::with_capacity(alloc, body_len(body))?;
     put_body(body, &mut out)?;
     Ok(out)
 }
@@ -91,12 +90,7 @@ fn put_pre_prepare(pre_prepare: &PrePrepare, out: &mut Vec<u8>) -> Result<(), No
     Ok(out.extend_from_slice(&pre_prepare.batch.text)?)
 }
 
-fn put_vote(
-    view: View,
-    number: Number,
-    digest: &Digest,
-    out: &mut Vec<u8>,
-) -> Result<(), NoMemory>
+fn put_vote(view: View, number: Number, digest: &Digest, out: &mut Vec<u8>) -> Result<(), NoMemory>
     ensures { OnOk result (out.new.items ≡ out.old.items ++ (to_be_bytes w64 view.0 ++ (to_be_bytes w64 number.0 ++ digest.now))) }
 {
     put_u64(view.0, out)?;

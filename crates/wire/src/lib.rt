@@ -10,6 +10,8 @@ mod proving;
 mod put;
 mod put_lists;
 mod reading;
+mod sealing;
+mod sizes;
 mod terms;
 
 pub use encoding::encode;
@@ -21,4 +23,5 @@ pub use messages::{
     Batch, Body, Checkpoint, Claim, Commit, Fetch, Mark, Message, Meta, NewView, Page, PrePrepare,
     Prepare, Reply, Request, ViewChange,
 };
+pub use sealing::{begin_frame, body_bytes, put_proof};
 pub use terms::{ClientId, Digest, Level, Mode, Number, Party, Timestamp, View};
