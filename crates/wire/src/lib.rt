@@ -1,8 +1,8 @@
 //! The messages that replicas and clients send each other, and the bytes of their frames.
 #![tactic(auto)]
 
+mod bodies;
 mod changes;
-mod encoding;
 mod fault;
 mod frames;
 mod messages;
@@ -14,7 +14,7 @@ mod sealing;
 mod sizes;
 mod terms;
 
-pub use encoding::encode;
+pub use bodies::encode;
 pub use fault::WireFault;
 pub use frames::{
     Frame, MAX_FRAME, MAX_RECEIVERS, MAX_VIEW_CHANGE, Proof, ReceiverMac, SIGNATURE_LEN,

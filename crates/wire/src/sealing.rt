@@ -8,7 +8,7 @@ ghost use Rattle.wire.specs.Views.{body_data, message_data, proof_data, mac_data
 ghost use Rattle.wire.specs.Spelling.{piece, body_spelling, proof_spelling, frame_limit};
 ghost use Rattle.wire.specs.Counts.{CountsFit};
 
-use crate::encoding::put_body;
+use crate::bodies::put_body;
 use crate::fault::WireFault;
 use crate::frames::{MAX_FRAME, MAX_VIEW_CHANGE, Proof, ReceiverMac};
 use crate::messages::{Body, Message};
