@@ -62,11 +62,11 @@ change_has bs c = carried_again change_by is_view_change change_by_again bs c
 module _ (sort : MessageData → Bool) (test : List ℕ → Bool) (is : (bs : List ℕ) → AreBytes bs → test bs ≡ true → IsCarried sort bs) (has : (bs : List ℕ) → IsCarried sort bs → test bs ≡ true) where
   pub carried_reads : Reads (IsCarried sort) piece (passing test piece_at)
   carried_reads = record {
-      found = λ bs rest s h e. let f = passing_found IsPiece piece test piece_at piece_reads.found bs rest s h e in (f.0, is s f.1.0.1 f.1.1);
-      again = λ s rest c.
+    found = λ bs rest s h e. let f = passing_found IsPiece piece test piece_at piece_reads.found bs rest s h e in (f.0, is s f.1.0.1 f.1.1);
+    again = λ s rest c.
         ap (λ o. o >>= λ x. if_it (test x.0) x) (piece_there s rest (omega (arith, carried_length sort s c)))
         ∙ ap (λ b. if_it b (s, rest)) (has s c);
-    }
+  }
 
 abbrev pub carried_request : Format (List ℕ)
 carried_request = record { IsValue = IsCarried is_ordered_request; spelling = piece; at = passing is_request piece_at; reads = carried_reads is_ordered_request is_request request_is request_has }
@@ -76,10 +76,10 @@ carried_change = record { IsValue = IsCarried is_view_change; spelling = piece; 
 
 -- ---- batches
 
-abbrev requests_parts : ℕ → Format (List (List ℕ))
+abbrev pub requests_parts : ℕ → Format (List (List ℕ))
 requests_parts least = several_of (count_from least 16) carried_request
 
-requests_reads : (least : ℕ) → Reads (requests_parts least).IsValue (requests_parts least).spelling (requests_at least)
+pub requests_reads : (least : ℕ) → Reads (requests_parts least).IsValue (requests_parts least).spelling (requests_at least)
 unfolding requests_at
 requests_reads least = (requests_parts least).reads
 
@@ -136,10 +136,20 @@ new_view_found : Found (IsOfType 0x47 IsMessage) fields_spelling new_view_at
 unfolding new_view_at
 new_view_found = made_found new_view_parts make_new_view (IsOfType 0x47 IsMessage)
     (λ p h. let c = and_parts (leb 1 (length p.1.0)) (leb (length p.1.0) 10) h.1.0.0.1 in (
-      (refl, record {
-        view = h.0; some = leb-true _ _ c.0; few = leb-true _ _ c.1; changes = h.1.0.1.0; ascend = h.1.0.1.1;
-        start = h.1.1.0; root = h.1.1.1.0; count = leb-true _ _ h.1.1.1.1.0.1; batches = h.1.1.1.1.1.0;
-      }),
+      (
+        refl,
+        record {
+          view = h.0;
+          some = leb-true _ _ c.0;
+          few = leb-true _ _ c.1;
+          changes = h.1.0.1.0;
+          ascend = h.1.0.1.1;
+          start = h.1.1.0;
+          root = h.1.1.1.0;
+          count = leb-true _ _ h.1.1.1.1.0.1;
+          batches = h.1.1.1.1.1.0;
+        },
+      ),
       refl,
     ))
 

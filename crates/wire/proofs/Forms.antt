@@ -74,12 +74,12 @@ module _ {A B : Type 0} (IsA : A → Type 0) (IsB : B → Type 0) (a_spelling : 
   -- where each value is made of parts
   pub as_reads : (g : B → A) → ((x : A) → IsA x → IsB (f x) × (a_spelling x ≡ b_spelling (f x))) → ((v : B) → IsB v → IsA (g v) × (f (g v) ≡ v)) → Reads IsA a_spelling at → Reads IsB b_spelling (read_as f at)
   as_reads g law back reads = record {
-      found = as_found law reads.found;
-      again = λ v rest h.
+    found = as_found law reads.found;
+    again = λ v rest h.
         let b = back v h in
         let s : a_spelling (g v) ≡ b_spelling v = (law (g v) b.0).1 ∙ ap b_spelling b.1 in
         ap (λ xs. read_as f at (xs ++ rest)) (sym s) ∙ as_again (g v) rest reads.again b.0 ∙ ap (λ w. Some (w, rest)) b.1;
-    }
+  }
 
 -- ---- several
 
@@ -155,7 +155,7 @@ module _ {A : Type 0} (IsA : A → Type 0) (spelling : A → List ℕ) (at : Rea
 
     pub counted_reads : Fits [] ≡ true → Reads IsCount count_spelling count → Reads IsA spelling at → Reads IsCounted counted_spelling (counted_at count at fits)
     counted_reads empty counts reads = record {
-        found = λ bs rest xs h e.
+      found = λ bs rest xs h e.
           let k = bind_some (count bs) (λ n. more_at at fits n.0 [] n.1) (xs, rest) e in
           let a = counts.found bs k.0.1 k.0.0 h k.1 in
           let r = more_found reads.found k.0.0 [] xs k.0.1 rest a.0.bytes tt empty k.2 in
@@ -166,11 +166,11 @@ module _ {A : Type 0} (IsA : A → Type 0) (spelling : A → List ℕ) (at : Rea
             },
             (subst IsCount n a.1, (r.each, r.fit)),
           );
-        again = λ xs rest h.
+      again = λ xs rest h.
           ap (counted_at count at fits) (append_assoc (count_spelling (length xs)) (each_spelling spelling xs) rest)
           ∙ ap (λ o. o >>= λ n. more_at at fits n.0 [] n.1) (counts.again (length xs) (each_spelling spelling xs ++ rest) h.0)
           ∙ more_again reads.again xs [] rest h.1.0 h.1.1;
-      }
+    }
 
 -- ---- what fits
 
@@ -210,35 +210,35 @@ pub record Format (V : Type 0) : Type 1 where
 
 abbrev pub both_of : {A B : Type 0} → Format A → Format B → Format (A × B)
 both_of f g = record {
-    IsValue = λ p. f.IsValue p.0 × g.IsValue p.1;
-    spelling = λ p. f.spelling p.0 ++ g.spelling p.1;
-    at = both f.at g.at;
-    reads = both_reads f.IsValue g.IsValue f.spelling g.spelling f.at g.at f.reads g.reads;
-  }
+  IsValue = λ p. f.IsValue p.0 × g.IsValue p.1;
+  spelling = λ p. f.spelling p.0 ++ g.spelling p.1;
+  at = both f.at g.at;
+  reads = both_reads f.IsValue g.IsValue f.spelling g.spelling f.at g.at f.reads g.reads;
+}
 
 abbrev pub passing_of : {A : Type 0} → (A → Bool) → Format A → Format A
 passing_of test f = record {
-    IsValue = λ x. f.IsValue x × (test x ≡ true);
-    spelling = f.spelling;
-    at = passing test f.at;
-    reads = passing_reads f.IsValue f.spelling test f.at f.reads;
-  }
+  IsValue = λ x. f.IsValue x × (test x ≡ true);
+  spelling = f.spelling;
+  at = passing test f.at;
+  reads = passing_reads f.IsValue f.spelling test f.at f.reads;
+}
 
 abbrev pub ascending_of : {A : Type 0} → (A → A → Bool) → Format ℕ → Format A → Format (List A)
 ascending_of before c f = record {
-    IsValue = λ xs. c.IsValue (length xs) × (Each f.IsValue xs × (ascends before xs ≡ true));
-    spelling = λ xs. c.spelling (length xs) ++ each_spelling f.spelling xs;
-    at = counted_at c.at f.at (follows before);
-    reads = counted_reads f.IsValue f.spelling f.at (follows before) (ascends before) (ascends_grows before) c.IsValue c.spelling c.at refl c.reads f.reads;
-  }
+  IsValue = λ xs. c.IsValue (length xs) × (Each f.IsValue xs × (ascends before xs ≡ true));
+  spelling = λ xs. c.spelling (length xs) ++ each_spelling f.spelling xs;
+  at = counted_at c.at f.at (follows before);
+  reads = counted_reads f.IsValue f.spelling f.at (follows before) (ascends before) (ascends_grows before) c.IsValue c.spelling c.at refl c.reads f.reads;
+}
 
 abbrev pub several_of : {A : Type 0} → Format ℕ → Format A → Format (List A)
 several_of c f = record {
-    IsValue = λ xs. c.IsValue (length xs) × (Each f.IsValue xs × (true ≡ true));
-    spelling = λ xs. c.spelling (length xs) ++ each_spelling f.spelling xs;
-    at = counted_at c.at f.at anyhow;
-    reads = counted_reads f.IsValue f.spelling f.at anyhow (λ xs. true) anyhow_grows c.IsValue c.spelling c.at refl c.reads f.reads;
-  }
+  IsValue = λ xs. c.IsValue (length xs) × (Each f.IsValue xs × (true ≡ true));
+  spelling = λ xs. c.spelling (length xs) ++ each_spelling f.spelling xs;
+  at = counted_at c.at f.at anyhow;
+  reads = counted_reads f.IsValue f.spelling f.at anyhow (λ xs. true) anyhow_grows c.IsValue c.spelling c.at refl c.reads f.reads;
+}
 
 -- as a value that is made of these parts
 pub made_of : {A B : Type 0} (f : Format A) (IsB : B → Type 0) (b_spelling : B → List ℕ) (make : A → B) (g : B → A)

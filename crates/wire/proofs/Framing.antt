@@ -41,14 +41,14 @@ proof_found false (b ∷ bs) p h e =
     let counts = and_parts (leb 1 (length k.0.0)) (leb (length k.0.0) 10) f.1.0.1 in
     let whole : bs ≡ length k.0.0 ∷ each_of k.0.0 = f.0.whole ∙ ap (λ r. (length k.0.0 ∷ each_of k.0.0) ++ r) q.1 ∙ append-nil (length k.0.0 ∷ each_of k.0.0) in
     let all : ((b ∷ bs) ≡ proof_spelling (macs k.0.0)) × IsProof (macs k.0.0) × (proof_is_signed (macs k.0.0) ≡ false) =
-      (ap (λ n. n ∷ bs) (eqb-true b 0 g.0) ∙ ap (λ xs. 0 ∷ xs) whole, (leb-true _ _ counts.0, leb-true _ _ counts.1, f.1.1.0, f.1.1.1), refl) in
+    (ap (λ n. n ∷ bs) (eqb-true b 0 g.0) ∙ ap (λ xs. 0 ∷ xs) whole, (leb-true _ _ counts.0, leb-true _ _ counts.1, f.1.1.0, f.1.1.1), refl) in
     subst (λ p. ((b ∷ bs) ≡ proof_spelling p) × IsProof p × (proof_is_signed p ≡ false)) q.0 all
 proof_found true (b ∷ bs) p h e =
     let g = guard_holds (eqb b 1 && eqb (length bs) 16577) (Some (signature bs)) p e in
     let t = and_parts (eqb b 1) (eqb (length bs) 16577) g.0 in
     let q : signature bs ≡ p = cc in
     let all : ((b ∷ bs) ≡ proof_spelling (signature bs)) × IsProof (signature bs) × (proof_is_signed (signature bs) ≡ true) =
-      (ap (λ n. n ∷ bs) (eqb-true b 1 t.0), (eqb-true _ _ t.1, λ i. h (suc i)), refl) in
+    (ap (λ n. n ∷ bs) (eqb-true b 1 t.0), (eqb-true _ _ t.1, λ i. h (suc i)), refl) in
     subst (λ p. ((b ∷ bs) ≡ proof_spelling p) × IsProof p × (proof_is_signed p ≡ true)) q all
 
 signature_again : (s : List ℕ) → length s ≡ 16577 → proof_of true (1 ∷ s) ≡ Some (signature s)

@@ -7,3 +7,7 @@ pub mod Limits
 pub mod Steps
 pub mod Appending
 pub mod Lengths
+pub mod Carrying
+pub mod AtFront
+pub mod Short
+pub mod Whole

@@ -80,12 +80,15 @@ over_found (suc n) xs bs h a e =
           let t = and_parts (follows sender_before xs k.0.0) (over_in n (xs ++ k.0.0 ∷ []) k.0.1) k.2 in
           let r = over_found n (xs ++ k.0.0 ∷ []) k.0.1 f.0.bytes (ascends_grows sender_before xs k.0.0 ∙ and_from _ _ a t.0) t.1 in
           record {
-            changes = k.0.0 ∷ r.changes; size = r.size; after = r.after;
+            changes = k.0.0 ∷ r.changes;
+            size = r.size;
+            after = r.after;
             whole = f.0.whole ∙ ap (λ ys. piece k.0.0 ++ ys) r.whole ∙ sym (append_assoc (piece k.0.0) (each_spelling piece r.changes) (to_be_bytes w32 r.size ++ r.after));
             one_more = omega (arith, r.one_more);
             each = (f.1, r.each);
             ascend = ap (ascends sender_before) (sym (append_assoc xs (k.0.0 ∷ []) r.changes)) ∙ r.ascend;
-            over = r.over; fits = r.fits;
+            over = r.over;
+            fits = r.fits;
           }
     ]
 
@@ -120,12 +123,25 @@ frame_over_found bs h short e =
     let o = over_found n.0.0 [] n.0.1 fn.0.bytes refl n.2 in
     let counts = and_parts (leb 1 n.0.0) (leb n.0.0 10) fn.1.1 in
     let whole : p.0.0 ≡ 0x47 ∷ (to_be_bytes w16 s.0.0 ++ (to_be_bytes w64 v.0.0 ++ (n.0.0 ∷ (each_spelling piece o.changes ++ (to_be_bytes w32 o.size ++ o.after))))) =
-      ft.0.whole ∙ ap (λ b. b ∷ t.0.1) (eqb-true t.0.0 0x47 m.0) ∙ ap (λ xs. 0x47 ∷ xs) (fs.0.whole ∙ ap (λ xs. to_be_bytes w16 s.0.0 ++ xs) (fv.0.whole ∙ ap (λ xs. to_be_bytes w64 v.0.0 ++ xs) (fn.0.whole ∙ ap (λ xs. n.0.0 ∷ xs) o.whole))) in
+    ft.0.whole ∙ ap (λ b. b ∷ t.0.1) (eqb-true t.0.0 0x47 m.0) ∙ ap (λ xs. 0x47 ∷ xs) (fs.0.whole ∙ ap (λ xs. to_be_bytes w16 s.0.0 ++ xs) (fv.0.whole ∙ ap (λ xs. to_be_bytes w64 v.0.0 ++ xs) (fn.0.whole ∙ ap (λ xs. n.0.0 ∷ xs) o.whole))) in
     record {
-      sender = s.0.0; view = v.0.0; count = n.0.0; changes = o.changes; size = o.size; after = o.after; behind = p.0.1;
+      sender = s.0.0;
+      view = v.0.0;
+      count = n.0.0;
+      changes = o.changes;
+      size = o.size;
+      after = o.after;
+      behind = p.0.1;
       whole = fp.0.whole ∙ ap (λ xs. piece xs ++ p.0.1) whole;
-      short = short; sender_fits = fs.1; view_fits = fv.1; one_more = o.one_more; few = leb-true _ _ counts.1;
-      each = o.each; ascend = o.ascend; over = o.over; size_fits = o.fits;
+      short = short;
+      sender_fits = fs.1;
+      view_fits = fv.1;
+      one_more = o.one_more;
+      few = leb-true _ _ counts.1;
+      each = o.each;
+      ascend = o.ascend;
+      over = o.over;
+      size_fits = o.fits;
     }
 
 abbrev text_of : {bs : List ℕ} → CarriesTooLarge bs → List ℕ

@@ -74,9 +74,9 @@ bytes_again n s rest e =
 pub digest_reads : Reads IsDigest (λ s. s) digest_at
 unfolding digest_at
 digest_reads = record {
-    found = λ bs rest s h e. let f = bytes_found 32 bs rest s h e in (f.0, record { whole = f.1.0; bytes = f.1.1 });
-    again = λ s rest h. bytes_again 32 s rest h.whole;
-  }
+  found = λ bs rest s h e. let f = bytes_found 32 bs rest s h e in (f.0, record { whole = f.1.0; bytes = f.1.1 });
+  again = λ s rest h. bytes_again 32 s rest h.whole;
+}
 
 -- ---- bytes behind their length
 
@@ -88,8 +88,7 @@ unfolding piece_at
 piece_found bs rest s h e =
     let k = bind_some (number_of 4 bs) (λ n. bytes_at n.0 n.1) (s, rest) e in
     let a = number_4_reads.found bs k.0.1 k.0.0 h k.1 in
-    let b = bytes_found k.0.0 k.0.1 rest s a.0.bytes k.2 in
-    (
+    let b = bytes_found k.0.0 k.0.1 rest s a.0.bytes k.2 in (
       record {
         whole = a.0.whole ∙ ap (λ xs. to_be_bytes w32 k.0.0 ++ xs) b.0.whole ∙ sym (append_assoc (to_be_bytes w32 k.0.0) s rest) ∙ ap (λ n. (to_be_bytes w32 n ++ s) ++ rest) (sym b.1.0);
         bytes = b.0.bytes;
@@ -242,18 +241,31 @@ view_change_reads = made_of change_parts IsViewChange view_change_spelling
     (λ c. (c.view, (c.low, (c.checkpoints, (c.prepared, c.pre_prepared)))))
     (λ p h. (
       record {
-        view = h.0; low = h.1.0;
-        few = leb-true _ _ h.1.1.0.0.1; checkpoints = h.1.1.0.1.0; checkpoints_ascend = h.1.1.0.1.1;
-        prepared_count = h.1.1.1.0.0; prepared = h.1.1.1.0.1.0; prepared_ascend = h.1.1.1.0.1.1;
-        pre_prepared_count = h.1.1.1.1.0; pre_prepared = h.1.1.1.1.1.0; pre_prepared_ascend = h.1.1.1.1.1.1;
+        view = h.0;
+        low = h.1.0;
+        few = leb-true _ _ h.1.1.0.0.1;
+        checkpoints = h.1.1.0.1.0;
+        checkpoints_ascend = h.1.1.0.1.1;
+        prepared_count = h.1.1.1.0.0;
+        prepared = h.1.1.1.0.1.0;
+        prepared_ascend = h.1.1.1.0.1.1;
+        pre_prepared_count = h.1.1.1.1.0;
+        pre_prepared = h.1.1.1.1.1.0;
+        pre_prepared_ascend = h.1.1.1.1.1.1;
       },
       refl,
     ))
     (λ c h. (
-      (h.view, (h.low, (
-        ((omega (arith, h.few), le-leb _ _ h.few), (h.checkpoints, h.checkpoints_ascend)),
-        ((h.prepared_count, (h.prepared, h.prepared_ascend)), (h.pre_prepared_count, (h.pre_prepared, h.pre_prepared_ascend))),
-      ))),
+      (
+        h.view,
+        (
+          h.low,
+          (
+            ((omega (arith, h.few), le-leb _ _ h.few), (h.checkpoints, h.checkpoints_ascend)),
+            ((h.prepared_count, (h.prepared, h.prepared_ascend)), (h.pre_prepared_count, (h.pre_prepared, h.pre_prepared_ascend))),
+          ),
+        ),
+      ),
       refl,
     ))
 

@@ -77,22 +77,23 @@ abbrev digests_spelling : List (List ℕ) → List ℕ
 digests_spelling ds = each_spelling (λ d. d) ds
 
 -- so many digests
-these_found : (n : ℕ) (bs rest : List ℕ) (ds : List (List ℕ)) → AreBytes bs → more_at digest_at anyhow n [] bs ≡ Some (ds, rest) → Takes bs (digests_spelling ds) rest × ((length ds ≡ n) × Each IsDigest ds)
-these_found n bs rest ds h e =
+digests_found : (n : ℕ) (bs rest : List ℕ) (ds : List (List ℕ)) → AreBytes bs → digests_at n bs ≡ Some (ds, rest) → Takes bs (digests_spelling ds) rest × ((length ds ≡ n) × Each IsDigest ds)
+unfolding digests_at
+digests_found n bs rest ds h e =
     let r = more_found IsDigest (λ d. d) digest_at anyhow (λ ds. true) anyhow_grows digest_reads.found n [] ds bs rest h tt refl e in
     (record { whole = r.whole; bytes = r.bytes }, (omega (arith, r.number), r.each))
 
-these_again : (n : ℕ) (ds : List (List ℕ)) (rest : List ℕ) → length ds ≡ n → Each IsDigest ds → more_at digest_at anyhow n [] (digests_spelling ds ++ rest) ≡ Some (ds, rest)
-these_again n ds rest l h =
+digests_again : (n : ℕ) (ds : List (List ℕ)) (rest : List ℕ) → length ds ≡ n → Each IsDigest ds → digests_at n (digests_spelling ds ++ rest) ≡ Some (ds, rest)
+unfolding digests_at
+digests_again n ds rest l h =
     ap (λ n. more_at digest_at anyhow n [] (digests_spelling ds ++ rest)) (sym l)
     ∙ more_again IsDigest (λ d. d) digest_at anyhow (λ ds. true) anyhow_grows digest_reads.again ds [] rest h refl
 
-digests_reads : Reads AreDigests digests_spelling digests_at
-unfolding digests_at
-digests_reads = record { found = λ bs rest ds h e. these_found 32 bs rest ds h e; again = λ ds rest h. these_again 32 ds rest h.0 h.1 }
+digests_reads : Reads AreDigests digests_spelling (digests_at 32)
+digests_reads = record { found = λ bs rest ds h e. digests_found 32 bs rest ds h e; again = λ ds rest h. digests_again 32 ds rest h.0 h.1 }
 
 abbrev digests : Format (List (List ℕ))
-digests = record { IsValue = AreDigests; spelling = digests_spelling; at = digests_at; reads = digests_reads }
+digests = record { IsValue = AreDigests; spelling = digests_spelling; at = digests_at 32; reads = digests_reads }
 
 abbrev meta_parts : Format ((ℕ × (Level × ℕ)) × List (List ℕ))
 meta_parts = both_of (passing_of (λ p. has_children p.1.0) place) digests
@@ -190,8 +191,7 @@ page_found bs rest m h e =
     let f = page_parts.reads.found bs k.0.1 k.0.0 h k.1 in
     let p = parts k.2 in
     let none : AreBytes [] = λ i. omega arith in
-    moved (IsOfType 0x4b IsPlain) fields_spelling bs
-    (
+    moved (IsOfType 0x4b IsPlain) fields_spelling bs (
       record { whole = f.0.whole ∙ append_assoc (long.spelling k.0.0.0) (word.spelling k.0.0.1) k.0.1 ∙ sym (append-nil (long.spelling k.0.0.0 ++ (word.spelling k.0.0.1 ++ k.0.1))); bytes = none },
       (refl, (f.1.0, leb-true _ _ f.1.1.1, f.0.bytes)),
     ) p.0 p.1

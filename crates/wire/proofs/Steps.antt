@@ -4,9 +4,12 @@ use Rattle.std.proofs.lemmas.List.{take_all}
 use Rattle.std.proofs.lemmas.Bool.{le-ltb, le-leb}
 use lib.Dec.{ltb, leb, eqb}
 use Rattle.tuple_codec.specs.Reading.{◌>>=◌, Reader, byte_at, bytes_at, number_of}
+use Rattle.wire.specs.declared.fault.WireFault.{WireFault}
+use Rattle.wire.specs.declared.fault.WireFault.TheVariants as faults
+use Rattle.wire.specs.Gives.{Fails}
 use Rattle.wire.specs.Messages.{ClaimData}
 use Rattle.wire.specs.Spelling.{mark_before}
-use Rattle.wire.specs.Reading.{follows, more_at, digest_at, mark_at, marks_at, claim_at, claims_at}
+use Rattle.wire.specs.Reading.{follows, anyhow, more_at, digest_at, digests_at, mark_at, marks_at, claim_at, claims_at}
 
 pub rest_whole : (bs : List ℕ) (n : ℕ) → take (length bs - n) (drop n bs) ≡ drop n bs
 rest_whole bs n = take_all (length bs - n) (drop n bs) (omega (arith, length-drop n bs))
@@ -35,7 +38,7 @@ positive (suc n) e = omega arith
 pub follows_at_last : {X A : Type 0} (before : A → A → Bool) (view : X → A) (xs : List X) (x : X) (y : A) → false ≡ eqb (length xs) 0 → x ≡ get_or xs (length xs - 1) x → before (view x) y ≡ follows before (map view xs) y
 follows_at_last before view xs x y n e = sym (follows_last before view xs (length xs - 1) x y (positive (length xs) n) e)
 
-map_last : {X A : Type 0} (view : X → A) (xs : List X) (x : X) → map view (xs ++ x ∷ []) ≡ map view xs ++ view x ∷ []
+pub map_last : {X A : Type 0} (view : X → A) (xs : List X) (x : X) → map view (xs ++ x ∷ []) ≡ map view xs ++ view x ∷ []
 map_last view [] x = refl
 map_last view (y ∷ ys) x = ap (λ zs. view y ∷ zs) (map_last view ys x)
 
@@ -75,3 +78,18 @@ marks_from bs front n e p = let l : leb n 3 ≡ true = le-leb n 3 p in rw (e, l)
 pub claims_from : (before : ClaimData → ClaimData → Bool) (bs front : List ℕ) (n : ℕ) → number_of 2 bs ≡ Some (n, front) → claims_at before bs ≡ more_at claim_at (follows before) n [] front
 unfolding claims_at
 claims_from before bs front n e = rw e refl
+
+pub digest_goes_on : (n i : ℕ) (xs ys : List (List ℕ)) (x bs after : List ℕ) → i < n → digest_at bs ≡ Some (x, after) → ys ≡ xs ++ x ∷ []
+    → more_at digest_at anyhow (n - (i + 1)) ys after ≡ more_at digest_at anyhow (n - i) xs bs
+digest_goes_on n i xs ys x bs after p e q =
+    let s : n - i ≡ suc (n - (i + 1)) = omega arith in
+    sym (rw s (rw e (ap (λ zs. more_at digest_at anyhow (n - (i + 1)) zs after) (sym q))))
+
+pub digests_fail : (fault : WireFault) (n i : ℕ) (xs : List (List ℕ)) (bs rest : List ℕ) → i < n → more_at digest_at anyhow (n - i) xs rest ≡ more_at digest_at anyhow n [] bs → Fails fault (digest_at rest) → Fails fault (digests_at n bs)
+unfolding digests_at
+digests_fail faults.NoMemory n i xs bs rest p e f = tt
+digests_fail faults.Malformed n i xs bs rest p e f =
+    let s : n - i ≡ suc (n - (i + 1)) = omega arith in
+    let none : digest_at rest ≡ None = f in
+    sym e ∙ ap (λ k. more_at digest_at anyhow k xs rest) s ∙ rw none refl
+digests_fail faults.TooLarge n i xs bs rest p e f = f

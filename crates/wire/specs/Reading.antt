@@ -1,11 +1,12 @@
 -- What stands at the front of bytes, and the bytes behind it; None where nothing does. The contracts of private functions
 -- speak of these. The public ones speak of Spelling alone.
-use Rattle.std.specs.Prelude.{ℕ, zero, suc, ◌+◌, Bool, true, false, ◌&&◌, ◌==◌, nat_lt, nat_le, is_some, if◌then◌else◌, List, [], ◌∷◌, ◌++◌, length, drop, Option, Some, None}
+use Rattle.std.specs.Prelude.{ℕ, zero, suc, ◌+◌, Bool, true, false, ◌&&◌, ◌||◌, ◌==◌, nat_lt, nat_le, is_some, if◌then◌else◌, List, [], ◌∷◌, ◌++◌, length, drop, Option, Some, None}
 use Rattle.tuple_codec.specs.Reading.{◌>>=◌, Reader, read_as, byte_at, bytes_at, number_of, operation_at, outcome_at}
 use Rattle.wire.specs.declared.terms.Mode.{Mode}
 use Rattle.wire.specs.declared.terms.Mode.TheVariants as modes
 use Rattle.wire.specs.declared.terms.Level.{Level}
 use Rattle.wire.specs.declared.terms.Level.TheVariants as levels
+use Rattle.wire.specs.Faults.{limit_at}
 use Rattle.wire.specs.Messages.{MarkData, ClaimData, ViewChangeData, NewViewData, MessageData, request, pre_prepare, prepare, commit, checkpoint, view_change, new_view, reply, fetch, meta, page, BodyData, MacData, ProofData, macs, signature, FrameData}
 use Rattle.wire.specs.Spelling.{pieces_spelling, last_index, has_children, mark_before, claim_before, named_before, mac_before, sender_before, is_signed, is_ordered_request, frame_limit}
 
@@ -138,12 +139,12 @@ place_at bs = passing (λ p. nat_le p.1.1 (last_index p.1.0)) (both (number_of 8
 unfoldable pub fetch_at : Reader MessageData
 fetch_at bs = read_as (λ p. fetch p.0 p.1.0 p.1.1) place_at bs
 
-unfoldable pub digests_at : Reader (List (List ℕ))
-digests_at bs = more_at digest_at anyhow 32 [] bs
+unfoldable pub digests_at : ℕ → Reader (List (List ℕ))
+digests_at n bs = more_at digest_at anyhow n [] bs
 
 unfoldable pub meta_at : Reader MessageData
 meta_at bs =
-    read_as (λ p. meta p.0.0 p.0.1.0 p.0.1.1 p.1) (both (passing (λ p. has_children p.1.0) place_at) digests_at) bs
+    read_as (λ p. meta p.0.0 p.0.1.0 p.0.1.1 p.1) (both (passing (λ p. has_children p.1.0) place_at) (digests_at 32)) bs
 
 unfoldable pub page_at : Reader MessageData
 page_at bs = both (number_of 8) (passing (λ n. nat_le n 1023) (number_of 2)) bs >>= λ p. Some (page p.0.0 p.0.1 p.1, [])
@@ -247,3 +248,7 @@ body_over bs = of_some (λ t. of_some (λ s. message_over t.0 s.1) (number_of 2 
 -- the bytes carry a view change that is too long
 unfoldable pub frame_over : List ℕ → Bool
 frame_over bs = of_some (λ text. body_over text.0) (piece_at bs)
+
+-- the bytes, or a view change that they carry, are too long
+unfoldable pub too_large : List ℕ → Bool
+too_large bs = nat_lt (limit_at bs) (length bs) || frame_over bs

@@ -150,8 +150,7 @@ fn comes_before(a: &Claim, b: &Claim, order: ClaimOrder) -> bool
     match order {
         ClaimOrder::Number => a.number.0 < b.number.0,
         ClaimOrder::NumberAndDigest => {
-            a.number.0 < b.number.0
-                || (a.number.0 == b.number.0 && is_before(&a.digest, &b.digest))
+            a.number.0 < b.number.0 || (a.number.0 == b.number.0 && is_before(&a.digest, &b.digest))
         }
     }
 }

@@ -2,8 +2,11 @@
 #![tactic(auto)]
 
 mod bodies;
+mod carried;
 mod changes;
+mod decoding;
 mod fault;
+mod fields;
 mod frames;
 mod messages;
 mod proving;
@@ -15,6 +18,7 @@ mod sizes;
 mod terms;
 
 pub use bodies::encode;
+pub use decoding::decode;
 pub use fault::WireFault;
 pub use frames::{
     Frame, MAX_FRAME, MAX_RECEIVERS, MAX_VIEW_CHANGE, Proof, ReceiverMac, SIGNATURE_LEN,
