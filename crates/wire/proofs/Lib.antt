@@ -11,3 +11,4 @@ pub mod Carrying
 pub mod AtFront
 pub mod Short
 pub mod Whole
+pub mod Counting

@@ -27,5 +27,5 @@ pub use messages::{
     Batch, Body, Checkpoint, Claim, Commit, Fetch, Mark, Message, Meta, NewView, Page, PrePrepare,
     Prepare, Reply, Request, ViewChange,
 };
-pub use sealing::{begin_frame, body_bytes, put_proof};
+pub use sealing::{begin_frame, body_bytes, encode_frame, put_proof};
 pub use terms::{ClientId, Digest, Level, Mode, Number, Party, Timestamp, View};

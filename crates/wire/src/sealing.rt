@@ -4,16 +4,16 @@
 ghost use Rattle.std.specs.Prelude.{◌≡◌, ◌≢◌, ◌+◌, ◌<◌, ◌≤◌, ◌^◌, ℕ, List, ◌++◌, OnOk, OnErr, IfOk, IfErr, take, vec_len, length, map};
 ghost use Rattle.wire.specs.declared.fault.WireFault.TheVariants as faults;
 ghost use Rattle.wire.specs.Messages.{macs};
-ghost use Rattle.wire.specs.Views.{body_data, message_data, proof_data, mac_data};
-ghost use Rattle.wire.specs.Spelling.{piece, body_spelling, proof_spelling, frame_limit};
+ghost use Rattle.wire.specs.Views.{body_data, message_data, proof_data, mac_data, frame_data};
+ghost use Rattle.wire.specs.Spelling.{piece, body_spelling, proof_spelling, frame_spelling, frame_limit};
 ghost use Rattle.wire.specs.Counts.{CountsFit};
 
 use crate::bodies::put_body;
 use crate::fault::WireFault;
-use crate::frames::{MAX_FRAME, MAX_VIEW_CHANGE, Proof, ReceiverMac};
+use crate::frames::{Frame, MAX_FRAME, MAX_VIEW_CHANGE, Proof, ReceiverMac};
 use crate::messages::{Body, Message};
 use crate::reading::read_piece;
-use crate::sizes::body_len;
+use crate::sizes::{body_len, proof_len};
 use std::alloc::Global;
 use tuple_tree::NoMemory;
 
@@ -39,6 +39,21 @@ pub fn begin_frame(alloc: Global, body: &Body, proof_len: usize) -> Result<Vec<u
     frame.extend_from_slice(&len.to_be_bytes())?;
     put_body(body, &mut frame)?;
     Ok(frame)
+}
+
+/// The bytes of the frame. `TooLarge` where they are more than a frame may have.
+pub fn encode_frame(alloc: Global, frame: &Frame) -> Result<Vec<u8>, WireFault>
+    requires body { CountsFit (message_data frame.now.body.message) }
+    requires proof { length (proof_spelling (proof_data frame.now.proof)) ≤ 16578 }
+    ensures ok { IfOk result (λ bytes. bytes.items ≡ frame_spelling (frame_data frame.now)) }
+    ensures short { OnOk result (length (frame_spelling (frame_data frame.now)) ≤ frame_limit (message_data frame.now.body.message)) }
+    ensures large { IfErr result (λ e. e ≡ faults.TooLarge → frame_limit (message_data frame.now.body.message) < length (frame_spelling (frame_data frame.now))) }
+    ensures memory { IfErr result (λ e. frame_limit (message_data frame.now.body.message) < length (frame_spelling (frame_data frame.now)) → e ≡ faults.TooLarge) }
+    ensures spelled { IfErr result (λ e. e ≢ faults.Malformed) }
+{
+    let mut bytes = begin_frame(alloc, &frame.body, proof_len(&frame.proof))?;
+    put_proof(&mut bytes, &frame.proof)?;
+    Ok(bytes)
 }
 
 fn limit_of(message: &Message) -> usize

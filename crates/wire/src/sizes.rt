@@ -5,9 +5,11 @@ ghost use Rattle.std.specs.Prelude.{◌≡◌, ◌-◌, ◌^◌, ◌≤◌, leng
 ghost use Rattle.tuple_codec.specs.OperationView.{operation_of, outcome_of};
 ghost use Rattle.tuple_codec.specs.Spelling.{tuple_spelling, template_spelling, operation_spelling, outcome_spelling, tuples_spelling};
 ghost use Rattle.wire.specs.Lists.{each_spelling};
-ghost use Rattle.wire.specs.Views.{mark_data, claim_data, batch_text, view_change_data, new_view_data, message_data, body_data};
-ghost use Rattle.wire.specs.Spelling.{marks_spelling, claims_spelling, pieces_spelling, batches_spelling, view_change_spelling, new_view_spelling, fields_spelling, body_spelling};
+ghost use Rattle.wire.specs.Views.{mac_data, proof_data, mark_data, claim_data, batch_text, view_change_data, new_view_data, message_data, body_data};
+ghost use Rattle.wire.specs.Spelling.{marks_spelling, claims_spelling, pieces_spelling, batches_spelling, view_change_spelling, new_view_spelling, fields_spelling, body_spelling, proof_spelling};
+ghost use Rattle.wire.specs.Messages.{macs};
 
+use crate::frames::{Proof, ReceiverMac};
 use crate::messages::{Batch, Body, Claim, Mark, Message, NewView, ViewChange};
 use crate::terms::Digest;
 use std::alloc::Global;
@@ -19,6 +21,26 @@ pub fn body_len(body: &Body) -> usize
     ensures { result ≡ min (length (body_spelling (body_data body.now))) (2 ^ 64 - 1) }
 {
     fields_len(&body.message).saturating_add(3)
+}
+
+/// The length of the proof, in bytes.
+pub fn proof_len(proof: &Proof) -> usize
+    ensures { result ≡ min (length (proof_spelling (proof_data proof.now))) (2 ^ 64 - 1) }
+{
+    match proof {
+        Proof::Macs(macs) => macs_len(macs.as_slice()),
+        Proof::Signature(signature) => signature.len().saturating_add(1),
+    }
+}
+
+fn macs_len(receivers: &[ReceiverMac]) -> usize
+    ensures { result ≡ min (length (proof_spelling (macs (map mac_data receivers.now)))) (2 ^ 64 - 1) }
+{
+    let mut len: usize = 2;
+    for mac in receivers {
+        len = len.saturating_add(mac.mac.as_slice().len()).saturating_add(2);
+    }
+    len
 }
 
 fn fields_len(message: &Message) -> usize
