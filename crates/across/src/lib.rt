@@ -6,6 +6,8 @@ mod arena;
 #[cfg(test)]
 mod refusals;
 #[cfg(test)]
+mod rows;
+#[cfg(test)]
 mod spaces;
 #[cfg(test)]
 mod turns;

@@ -13,17 +13,22 @@ use clap::error::ErrorKind;
 use complaints::Complaint;
 use local::local;
 use show::show;
+use std::io::Read;
 use std::process::ExitCode;
 use std::rt::{Env, Files};
 use std::{fs, io};
 use words::{Request, read_words};
+
+// A pipe can't always be opened by this path, as where the program runs as another user than its maker's. So it is
+// taken for the standard input that the program has already.
+const STANDARD_INPUT: &str = "/dev/stdin";
 
 fn main(rt: HostRuntime) -> ExitCode {
     ExitCode::from(act_on_words(&rt))
 }
 
 // Does what the words ask for, and gives the status.
-fn act_on_words<R: Files + Env + Print + Eprint + AllocGlobal>(rt: &R) -> u8 {
+fn act_on_words<R: Files + Env + Input + Print + Eprint + AllocGlobal>(rt: &R) -> u8 {
     let args = match std::env::args(rt) {
         Ok(args) => args,
         Err(error) => return refuse_words(rt, &error),
@@ -39,7 +44,10 @@ fn act_on_words<R: Files + Env + Print + Eprint + AllocGlobal>(rt: &R) -> u8 {
     }
 }
 
-fn run_script<R: Files + Print + Eprint + AllocGlobal>(rt: &R, path: &str) -> u8 {
+fn run_script<R: Files + Input + Print + Eprint + AllocGlobal>(rt: &R, path: &str) -> u8 {
+    if path == STANDARD_INPUT {
+        return run_lines(rt, rt.reader(), path);
+    }
     let file = match fs::open(rt, path) {
         Ok(file) => file,
         Err(error) => {
@@ -50,7 +58,11 @@ fn run_script<R: Files + Print + Eprint + AllocGlobal>(rt: &R, path: &str) -> u8
             };
         }
     };
-    match local(rt.alloc(), file, &mut io::writer(rt)) {
+    run_lines(rt, file, path)
+}
+
+fn run_lines<R: Print + Eprint + AllocGlobal, I: Read + Drop>(rt: &R, input: I, path: &str) -> u8 {
+    match local(rt.alloc(), input, &mut io::writer(rt)) {
         Ok(()) => 0,
         Err(fault) => complain(rt, Complaint::of_local(&fault, path)),
     }

@@ -140,6 +140,27 @@ fn keeps_results_where_reading_fails(rt: HostRuntime) {
     assert!(rt; written.as_slice() == b"done\n".as_slice());
 }
 
+// To be run with each allocation refused in turn: the run ends as ever, or it ends for want of memory, and then the
+// results of some lines in front are written and nothing else. What is written takes no memory here.
+#[test]
+fn keeps_results_where_memory_runs_out(rt: HostRuntime) {
+    let script = b"out (1)\nrdp (?int)\nrdp (2)\n".as_slice();
+    let results = b"done\nfound (1)\nabsent\n".as_slice();
+    let mut room = [0; 64];
+    let mut rest = room.as_mut_slice();
+    let ending = local_ending(local(rt.alloc(), script, &mut rest));
+    let left = rest.len();
+    let written = &room[..room.len().saturating_sub(left)];
+    match ending {
+        Ending::Complete => assert!(rt; written == results),
+        Ending::NoMemory => {
+            assert!(rt; results.starts_with(written));
+            assert!(rt; matches!(written, [] | [.., b'\n']));
+        }
+        _ => assert!(rt; false),
+    }
+}
+
 #[test]
 fn tells_that_writing_fails(rt: HostRuntime) {
     let script = b"out (1)\n".as_slice();

@@ -1,0 +1,85 @@
+//! Worked rows: which templates match which tuples, the one in an arena and the other in ordinary memory, and which
+//! bytes spell a tuple.
+
+use bumpalo::Bump;
+use std::alloc::Global;
+use std::test::Fail;
+use template_match::matches;
+use tuple_codec::{Bad, decode_template, decode_tuple};
+
+// A template, a tuple, and whether they match.
+type Row<'a> = (&'a [u8], &'a [u8], bool);
+
+// Whether the two match as the row says.
+fn agrees(alloc: Global, (template_bytes, tuple_bytes, expected): Row<'_>) -> Result<bool, Bad> {
+    let bump = Bump::new(alloc);
+    let (template, _) = decode_template(&bump, template_bytes)?;
+    let (tuple, _) = decode_tuple(alloc, tuple_bytes)?;
+    Ok(matches(&template, &tuple) == expected)
+}
+
+#[test]
+fn templates_match_tuples(rt: HostRuntime) -> Result<(), Fail> {
+    let nested_one = b"\x01\x05\x01\x01\x00\x00\x00\x00\x00\x00\x00\x01".as_slice();
+    let one = b"\x01\x01\x00\x00\x00\x00\x00\x00\x00\x01".as_slice();
+    let rows: [Row<'_>; 14] = [
+        // ((*)), (?tuple), ((* *)), ((2)) and (*) against ((1))
+        (b"\x01\x05\x01\x10", nested_one, true),
+        (b"\x01\x15", nested_one, true),
+        (b"\x01\x05\x02\x10\x10", nested_one, false),
+        (
+            b"\x01\x05\x01\x01\x00\x00\x00\x00\x00\x00\x00\x02",
+            nested_one,
+            false,
+        ),
+        (b"\x01\x10", nested_one, true),
+        // (?int) against (true) and (1)
+        (b"\x01\x11", b"\x01\x04\x01", false),
+        (b"\x01\x11", one, true),
+        // (1) against ("1") and (1)
+        (one, b"\x01\x02\x00\x011", false),
+        (one, one, true),
+        // (?text), (?bytes) and (?bool)
+        (b"\x01\x12", b"\x01\x02\x00\x011", true),
+        (b"\x01\x13", b"\x01\x03\x00\x011", true),
+        (b"\x01\x14", b"\x01\x04\x00", true),
+        // lists of different length
+        (b"\x00", b"\x00", true),
+        (b"\x01\x10", b"\x00", false),
+    ];
+    for row in rows {
+        assert!(rt; agrees(rt.alloc(), row)?);
+    }
+    Ok(())
+}
+
+#[test]
+fn bytes_behind_a_tuple_are_left(rt: HostRuntime) -> Result<(), Fail> {
+    // (1 "a"), and two bytes more
+    let bytes = b"\x02\x01\x00\x00\x00\x00\x00\x00\x00\x01\x02\x00\x01a\x00\xff".as_slice();
+    let (tuple, len) = decode_tuple(rt.alloc(), bytes)?;
+    assert_eq!(rt; (len, tuple.len(), tuple.encoded_len()), (14, 2, 14));
+    Ok(())
+}
+
+#[test]
+fn no_other_bytes_are_a_tuple(rt: HostRuntime) {
+    // (("x") true), and what comes near
+    let nested = b"\x02\x05\x01\x02\x00\x01x\x04\x01".as_slice();
+    for len in 0..nested.len() {
+        let cut = decode_tuple(rt.alloc(), &nested[..len]);
+        assert!(rt; matches!(cut, Err(Bad::Malformed)));
+    }
+    let rows: [&[u8]; 5] = [
+        // a truth value of 02, a text that isn't UTF-8, an unknown tag, a template's field, 33 values
+        b"\x02\x05\x01\x02\x00\x01x\x04\x02",
+        b"\x01\x02\x00\x01\xff",
+        b"\x01\x06",
+        b"\x01\x10",
+        b"\x21",
+    ];
+    for row in rows {
+        let refused = decode_tuple(rt.alloc(), row);
+        assert!(rt; matches!(refused, Err(Bad::Malformed)));
+    }
+}
