@@ -1,9 +1,10 @@
 -- A frame with a MAC for each receiver.
-use Rattle.std.proofs.Common.{◌≡◌, refl, ◌<◌, ◌≤◌, ℕ, ◌+◌, ◌*◌, List, [], ◌∷◌, ◌++◌, map, length, length-append, nat_lt, arith, ap, subst, sym, ◌∙◌}
+use Rattle.std.proofs.Common.{◌≡◌, refl, false, ◌<◌, ◌≤◌, ℕ, ◌+◌, ◌*◌, List, [], ◌∷◌, ◌++◌, map, length, length-append, nat_lt, arith, ap, subst, sym, ◌∙◌}
 use Rattle.std.proofs.lemmas.List.{length-map}
 use Rattle.wire.specs.Lists.{Each, each_spelling, leads, ascends}
-use Rattle.wire.specs.Messages.{BodyData, MacData, macs}
-use Rattle.wire.specs.Spelling.{SpellsFrame, IsMac, mac_spelling, mac_before, body_spelling, proof_spelling, piece, frame_limit, frame_spelling}
+use Rattle.wire.specs.Counts.{CountsFit}
+use Rattle.wire.specs.Messages.{BodyData, MacData, macs, MessageData, request, pre_prepare, prepare, commit, checkpoint, view_change, new_view, reply, fetch, meta, page}
+use Rattle.wire.specs.Spelling.{SpellsFrame, IsMac, mac_spelling, mac_before, body_spelling, proof_spelling, piece, frame_limit, frame_spelling, is_signed}
 use Rattle.authenticator.specs.Keys.{key_between}
 use Rattle.authenticator.specs.Sealing.{IsSealable, IsTooLong, entry_for, sealed_for}
 use Rattle.authenticator.proofs.Lengths.{length-hmac_of}
@@ -53,3 +54,17 @@ sealed-spells seed body ps frame entries can made formed short is =
 pub sealed-too_long : (seed : List ℕ) (body : BodyData) (ps : List ℕ)
     → frame_limit body.message < length (piece (body_spelling body)) + (2 + 34 * length ps) → IsTooLong (sealed_for seed body ps)
 sealed-too_long seed body ps long = let whole = length-sealed seed body ps in record { over = omega (arith, whole, long) }
+
+-- what goes with MACs has no lists that are counted
+pub counts_fit : (m : MessageData) → is_signed m ≡ false → CountsFit m
+counts_fit (view_change c) unsigned = absurd cc
+counts_fit (new_view n) unsigned = absurd cc
+counts_fit (request timestamp mode operation) unsigned = tt
+counts_fit (pre_prepare view number batch) unsigned = tt
+counts_fit (prepare view number digest) unsigned = tt
+counts_fit (commit view number digest) unsigned = tt
+counts_fit (checkpoint number root) unsigned = tt
+counts_fit (reply client timestamp kind number outcome) unsigned = tt
+counts_fit (fetch number level index) unsigned = tt
+counts_fit (meta number level index digests) unsigned = tt
+counts_fit (page number index text) unsigned = tt

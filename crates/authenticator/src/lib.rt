@@ -9,4 +9,4 @@ mod sealed;
 pub use laws::sealed_frames_open;
 pub use mac::{Key, hmac, same};
 pub use ring::{Ring, signing_seed};
-pub use sealed::{OpenFault, SealFault};
+pub use sealed::{OpenFault, Opened, SealFault};
