@@ -1,5 +1,8 @@
+pub mod Heard
 pub mod Joined
 pub mod Lamport
+pub mod Laws
 pub mod Merkle
+pub mod Replicas
 pub mod Signatures
 pub mod Signing

@@ -1,5 +1,5 @@
 -- Signatures by 64 one-time keys under one public key, on lists of bytes.
-use Rattle.std.specs.Prelude.{◌≡◌, ℕ, ◌+◌, ◌-◌, ◌*◌, ◌/◌, ◌^◌, ◌<◌, List, ◌∷◌, ◌++◌, length, take, drop, slice_index, ◌==◌, if◌then◌else◌}
+use Rattle.std.specs.Prelude.{◌≡◌, ℕ, ◌+◌, ◌-◌, ◌*◌, ◌/◌, ◌^◌, ◌<◌, List, ◌∷◌, ◌++◌, length, take, drop, slice_index, Bool, ◌&&◌, nat_lt, bytes_eq, ◌==◌, if◌then◌else◌}
 use Rattle.sha2.specs.Sha256.{sha256}
 use Rattle.signing.specs.Joined.{joined}
 use Rattle.signing.specs.Lamport.{secret, public_hash, leaf_digest, bit_of}
@@ -63,3 +63,8 @@ shown_root signature text =
 pub record Verifies (public text signature : List ℕ) : Type 0 where
   pub formed : IsSignature signature
   pub root : shown_root signature text ≡ public
+
+-- the same by a test
+abbrev pub verifies : List ℕ → List ℕ → List ℕ → Bool
+verifies public text signature =
+    (length signature == 16577) && nat_lt (slice_index signature 0) 64 && bytes_eq (shown_root signature text) public

@@ -5,11 +5,15 @@
 //! The hash is SHA-256 (FIPS 180-4); the derivation of the secrets, the sizes and the layout are this project's own.
 #![tactic(auto)]
 
+mod laws;
+mod public_keys;
 mod secrets;
 mod signature;
 mod signer;
 mod tree;
 
+pub use laws::{hearing, verifying_is_decided};
+pub use public_keys::PublicKeys;
 pub use signature::{SIGNATURE_LEN, Signature, verify, verify_bytes};
 pub use signer::{SignFault, Signer};
 pub use tree::{KeyTree, LEAVES};

@@ -1,7 +1,11 @@
-use crate::{KeyTree, LEAVES, SIGNATURE_LEN, SignFault, Signature, Signer, verify, verify_bytes};
+use crate::{
+    KeyTree, LEAVES, PublicKeys, SIGNATURE_LEN, SignFault, Signature, Signer, verify, verify_bytes,
+};
+use authenticator::signing_seed;
 use hex::FromHex;
 use sha2::{Digest, Sha256};
 use std::test::Fail;
+use wire::Party;
 
 // The values below come from a program of its own: Python's `hmac.new(seed, .., hashlib.sha256)` for each secret,
 // `hashlib.sha256` for each hash, and lists for the levels of the tree.
@@ -63,6 +67,25 @@ fn keys_are_spent(rt: HostRuntime) -> Result<(), Fail> {
     }
     assert!(rt; signer.sign(rt.alloc(), b"text").err() == Some(SignFault::KeysSpent));
     assert_eq!(rt; signer.used(), LEAVES);
+    Ok(())
+}
+
+// The public key of replica 2 under the seed 00 01 .. 1f, by the same program.
+const PUBLIC_OF_2: &str = "dcff933adeb0d86920aaf05cc53c0b3533f358a52eececea5f9df5aa8b305905";
+
+#[test]
+fn public_keys_of_replicas(rt: HostRuntime) -> Result<(), Fail> {
+    let mut seed = [0; 32];
+    for i in 0..32 {
+        seed[i] = i as u8;
+    }
+    let mut keys = PublicKeys::new(rt.alloc(), &seed);
+    assert!(rt; <[u8; 32]>::from_hex(PUBLIC_OF_2).ok() == Some(keys.public(Party::Replica(2))));
+    let mut signer = Signer::from_seed(&signing_seed(&seed, Party::Replica(2)));
+    let signature = signer.sign(rt.alloc(), b"text")?;
+    assert!(rt; keys.verify(Party::Replica(2), b"text", signature.as_slice()));
+    assert!(rt; !keys.verify(Party::Replica(1), b"text", signature.as_slice()));
+    assert!(rt; !keys.verify(Party::Replica(2), b"texu", signature.as_slice()));
     Ok(())
 }
 

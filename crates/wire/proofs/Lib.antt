@@ -5,7 +5,10 @@ pub mod Plain
 pub mod Carriers
 pub mod Limits
 pub mod Steps
+pub mod Appending
+pub mod Lengths
 pub mod Carrying
 pub mod AtFront
 pub mod Short
 pub mod Whole
+pub mod Counting

@@ -47,6 +47,14 @@ fn vectors(rt: HostRuntime) {
     }
 }
 
+// RFC 4231, test case 5, which gives the first 16 bytes alone.
+#[test]
+fn truncated_vector(rt: HostRuntime) {
+    let code = hmac(&[0x0c; 20], b"Test With Truncation");
+    let expected = <[u8; 16]>::from_hex("a3b6167473100ee06e0c796c2955552b").ok();
+    assert!(rt; expected == <[u8; 16]>::try_from(&code[..16]).ok());
+}
+
 #[test]
 fn keys_about_the_length_of_a_block(rt: HostRuntime) {
     let long = [7; 65];

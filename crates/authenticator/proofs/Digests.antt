@@ -1,0 +1,39 @@
+-- The entries that are sealed.
+use Rattle.std.proofs.Common.{ℕ, List, [], ◌∷◌, ◌++◌, arith, zero, suc}
+use Rattle.std.specs.Int.{w32, to_be_bytes}
+use Rattle.std.specs.Prelude.{slice_index}
+use Rattle.sha2.specs.Sha256.{sha256, digest_bytes}
+use Rattle.sha2.proofs.Facts256.{length-sha256}
+use Rattle.tuple_tree.specs.Values.{AreBytes}
+use Rattle.tuple_codec.proofs.Readers.{bytes_append}
+use Rattle.wire.specs.Lists.{Each}
+use Rattle.wire.specs.Spelling.{IsDigest}
+use Rattle.authenticator.specs.Mac.{hmac_of}
+
+-- ---- a MAC is a digest
+
+bytes_at_end : (x : ℕ) → AreBytes (to_be_bytes w32 x)
+bytes_at_end x zero = omega arith
+bytes_at_end x (suc zero) = omega arith
+bytes_at_end x (suc (suc zero)) = omega arith
+bytes_at_end x (suc (suc (suc zero))) = omega arith
+bytes_at_end x (suc (suc (suc (suc i)))) = omega arith
+
+digest_bytes-bytes : (h : List ℕ) (n : ℕ) → AreBytes (digest_bytes h n)
+unfolding digest_bytes
+digest_bytes-bytes h zero = λ i. omega arith
+digest_bytes-bytes h (suc n) = bytes_append _ _ (digest_bytes-bytes h n) (bytes_at_end (slice_index h n))
+
+sha256-digest : (m : List ℕ) → IsDigest (sha256 m)
+unfolding sha256
+sha256-digest m = record { whole = length-sha256 m; bytes = digest_bytes-bytes _ 8 }
+
+pub hmac_of-digest : (key text : List ℕ) → IsDigest (hmac_of key text)
+unfolding hmac_of
+hmac_of-digest key text = sha256-digest _
+
+-- ---- one more entry
+
+pub each_push : {A : Type 0} (P : A → Type 0) (xs : List A) (x : A) → Each P xs → P x → Each P (xs ++ x ∷ [])
+each_push P [] x none p = (p, tt)
+each_push P (y ∷ ys) x (q, more) p = (q, each_push P ys x more p)

@@ -1,0 +1,51 @@
+-- Looking through the entries of a proof.
+use Rattle.std.proofs.Common.{◌≡◌, arith, true, zero, Contains, refl, [], ◌∷◌, ◌++◌, take, ◌<◌, ℕ, suc, ◌+◌, Bool, ◌||◌, List, map, length, drop, get_or, ap, add-one}
+use Rattle.std.proofs.Math.Seq.{drop-cons}
+use Rattle.std.proofs.Math.Bool.{or-true}
+use Rattle.std.proofs.lemmas.Bool.{and_from, eq-eqb}
+use Rattle.std.proofs.lemmas.Slice.Eq.{bytes_eq-Decides}
+use Rattle.std.proofs.lemmas.List.{map-append, take_more}
+use Rattle.wire.specs.declared.terms.Party.{Party}
+use Rattle.authenticator.specs.Keys.{mac_between}
+use Rattle.authenticator.specs.Sealing.{entry_for}
+use Rattle.wire.specs.declared.frames.ReceiverMac.{ReceiverMac}
+use Rattle.wire.specs.Views.{mac_data, party_number}
+use Rattle.authenticator.specs.Authentic.{has_mac, is_mac_for}
+
+-- at an entry, and behind it
+pub has_mac-step : (party : ℕ) (mac : List ℕ) (entries : List ReceiverMac) (i : ℕ) (entry : ReceiverMac) (found : Bool) → i < length entries
+    → entry ≡ get_or entries i entry → found ≡ is_mac_for party mac (mac_data entry)
+    → has_mac party mac (map mac_data (drop i entries)) ≡ (found || has_mac party mac (map mac_data (drop (i + 1) entries)))
+has_mac-step party mac entries i entry found within here is =
+    let e : is_mac_for party mac (mac_data (get_or entries i entry)) ≡ found = rw (← here, is) in
+    rw (add-one, drop-cons entries i entry) (ap (λ b. b || has_mac party mac (map mac_data (drop (suc i) entries))) e)
+
+-- one more entry is made
+pub entries-push : (seed : List ℕ) (sender : ℕ) (text : List ℕ) (old : List ReceiverMac) (receivers : List Party) (i : ℕ) (receiver : Party) (mac : List ℕ)
+    → i < length receivers → receiver ≡ get_or receivers i receiver → mac ≡ mac_between seed sender (party_number receiver) text
+    → map mac_data old ≡ map (entry_for seed sender text) (map party_number (take i receivers))
+    → map mac_data (old ++ record { receiver = receiver; mac = mac } ∷ []) ≡ map (entry_for seed sender text) (map party_number (take (i + 1) receivers))
+entries-push seed sender text old receivers i receiver mac within here is made =
+    rw (
+      map-append mac_data old (record { receiver = receiver; mac = mac } ∷ []),
+      take_more receivers i receiver within,
+      ← here,
+      map-append party_number (take i receivers) (receiver ∷ []),
+      map-append (entry_for seed sender text) (map party_number (take i receivers)) (party_number receiver ∷ []),
+      is,
+      made,
+    ) refl
+
+here-is : (party : ℕ) (mac : List ℕ) → is_mac_for party mac (record { receiver = party; mac = mac }) ≡ true
+here-is party mac = and_from _ _ (eq-eqb party party refl) ((bytes_eq-Decides mac mac).1 refl)
+
+-- the entries for parties have that of each of them
+pub entries-have : (seed : List ℕ) (sender : ℕ) (text : List ℕ) (parties : List ℕ) (party : ℕ) → Contains parties party
+    → has_mac party (mac_between seed sender party text) (map (entry_for seed sender text) parties) ≡ true
+entries-have seed sender text [] party (k, within, is) = absurd (omega arith)
+entries-have seed sender text (p ∷ ps) party (zero, within, is) =
+    let first : is_mac_for party (mac_between seed sender party text) (entry_for seed sender text p) ≡ true =
+    rw is (here-is party (mac_between seed sender party text)) in
+    rw first refl
+entries-have seed sender text (p ∷ ps) party (suc k, within, is) =
+    rw (entries-have seed sender text ps party (k, omega arith, is)) (or-true _)

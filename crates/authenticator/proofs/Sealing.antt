@@ -1,0 +1,70 @@
+-- A frame with a MAC for each receiver.
+use Rattle.std.proofs.Common.{◌≡◌, refl, false, ◌<◌, ◌≤◌, ℕ, ◌+◌, ◌*◌, List, [], ◌∷◌, ◌++◌, map, length, length-append, nat_lt, arith, ap, subst, sym, ◌∙◌}
+use Rattle.std.proofs.lemmas.List.{length-map}
+use Rattle.wire.specs.Lists.{Each, each_spelling, leads, ascends}
+use Rattle.wire.specs.Counts.{CountsFit}
+use Rattle.wire.specs.Messages.{BodyData, MacData, macs, MessageData, request, pre_prepare, prepare, commit, checkpoint, view_change, new_view, reply, fetch, meta, page}
+use Rattle.wire.specs.Spelling.{SpellsFrame, IsMac, mac_spelling, mac_before, body_spelling, proof_spelling, piece, frame_limit, frame_spelling, is_signed}
+use Rattle.authenticator.specs.Keys.{key_between}
+use Rattle.authenticator.specs.Sealing.{IsSealable, IsTooLong, entry_for, sealed_for}
+use Rattle.authenticator.proofs.Lengths.{length-hmac_of}
+
+leads-entries : (seed : List ℕ) (sender : ℕ) (text : List ℕ) (p : ℕ) (ps : List ℕ)
+    → leads mac_before (entry_for seed sender text p) (map (entry_for seed sender text) ps) ≡ leads nat_lt p ps
+leads-entries seed sender text p [] = refl
+leads-entries seed sender text p (q ∷ ps) = refl
+
+-- the entries ascend as the parties do
+ascends-entries : (seed : List ℕ) (sender : ℕ) (text : List ℕ) (ps : List ℕ) → ascends mac_before (map (entry_for seed sender text) ps) ≡ ascends nat_lt ps
+ascends-entries seed sender text [] = refl
+ascends-entries seed sender text (p ∷ ps) = rw (leads-entries seed sender text p ps, ascends-entries seed sender text ps) refl
+
+-- 34 bytes an entry
+length-entries : (seed : List ℕ) (sender : ℕ) (text : List ℕ) (ps : List ℕ) → length (each_spelling mac_spelling (map (entry_for seed sender text) ps)) ≡ 34 * length ps
+length-entries seed sender text [] = refl
+length-entries seed sender text (p ∷ ps) =
+    let first = length-hmac_of (key_between seed sender p) text in
+    let others = length-entries seed sender text ps in
+    simp length-append (omega (arith, first, others))
+
+length-sealed : (seed : List ℕ) (body : BodyData) (ps : List ℕ) → length (frame_spelling (sealed_for seed body ps)) ≡ length (piece (body_spelling body)) + (2 + 34 * length ps)
+length-sealed seed body ps =
+    let entries = length-entries seed body.sender (body_spelling body) ps in
+    length-append (piece (body_spelling body)) (proof_spelling (sealed_for seed body ps).proof) ∙ ap (λ n. length (piece (body_spelling body)) + n) (omega (arith, entries))
+
+-- what the bytes of a body and of its entries spell
+pub sealed-spells : (seed : List ℕ) (body : BodyData) (ps : List ℕ) (frame : List ℕ) (entries : List MacData)
+    → IsSealable body ps → entries ≡ map (entry_for seed body.sender (body_spelling body)) ps → Each IsMac entries
+    → length (piece (body_spelling body)) + (2 + 34 * length ps) ≤ frame_limit body.message
+    → frame ≡ piece (body_spelling body) ++ proof_spelling (macs entries) → SpellsFrame frame (sealed_for seed body ps)
+sealed-spells seed body ps frame entries can made formed short is =
+    let count = length-map ps (entry_for seed body.sender (body_spelling body)) in
+    let whole = length-sealed seed body ps in
+    record {
+      valid = record {
+        sender = can.said.sender;
+        message = can.said.message;
+        proof = (omega (arith, count, can.some), omega (arith, count, can.few), subst (Each IsMac) made formed, ascends-entries seed body.sender (body_spelling body) ps ∙ can.ascend);
+        proved = sym can.unsigned;
+        short = omega (arith, whole, short);
+      };
+      spelled = is ∙ ap (λ es. piece (body_spelling body) ++ proof_spelling (macs es)) made;
+    }
+
+pub sealed-too_long : (seed : List ℕ) (body : BodyData) (ps : List ℕ)
+    → frame_limit body.message < length (piece (body_spelling body)) + (2 + 34 * length ps) → IsTooLong (sealed_for seed body ps)
+sealed-too_long seed body ps long = let whole = length-sealed seed body ps in record { over = omega (arith, whole, long) }
+
+-- what goes with MACs has no lists that are counted
+pub counts_fit : (m : MessageData) → is_signed m ≡ false → CountsFit m
+counts_fit (view_change c) unsigned = absurd cc
+counts_fit (new_view n) unsigned = absurd cc
+counts_fit (request timestamp mode operation) unsigned = tt
+counts_fit (pre_prepare view number batch) unsigned = tt
+counts_fit (prepare view number digest) unsigned = tt
+counts_fit (commit view number digest) unsigned = tt
+counts_fit (checkpoint number root) unsigned = tt
+counts_fit (reply client timestamp kind number outcome) unsigned = tt
+counts_fit (fetch number level index) unsigned = tt
+counts_fit (meta number level index digests) unsigned = tt
+counts_fit (page number index text) unsigned = tt

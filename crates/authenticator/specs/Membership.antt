@@ -1,0 +1,26 @@
+-- Who takes part, and the seed of their keys. A party goes by its number: replica r has the number r, client c the
+-- number 256 + c.
+use Rattle.std.specs.Prelude.{ℕ, ◌+◌, ◌*◌, Bool, ◌&&◌, nat_lt, nat_le, List}
+use Rattle.wire.specs.Messages.{MessageData, request, BodyData}
+
+-- a seed, how many replicas may be faulty, and how many clients there are
+pub record Membership : Type 0 where
+  pub seed : List ℕ
+  pub faults : ℕ
+  pub clients : ℕ
+
+-- of f faulty ones there are 3 f + 1 in all
+abbrev pub is_replica : Membership → ℕ → Bool
+is_replica m party = nat_lt party (3 * m.faults + 1)
+
+abbrev pub is_client : Membership → ℕ → Bool
+is_client m party = nat_le 256 party && nat_lt party (256 + m.clients)
+
+-- clients send requests, replicas all else
+abbrev pub sends : Membership → ℕ → MessageData → Bool
+sends m party (request timestamp mode operation) = is_client m party
+sends m party _ = is_replica m party
+
+-- a body names a sender that takes part and may send such a message
+abbrev pub has_sender : Membership → BodyData → Bool
+has_sender m body = sends m body.sender body.message

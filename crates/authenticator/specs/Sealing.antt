@@ -1,0 +1,26 @@
+-- What a party seals for others.
+use Rattle.std.specs.Prelude.{◌≡◌, ℕ, ◌<◌, ◌≤◌, false, IsTrue, List, length, map, nat_lt}
+use Rattle.wire.specs.Lists.{ascends}
+use Rattle.wire.specs.Messages.{BodyData, MacData, macs, FrameData}
+use Rattle.wire.specs.Spelling.{IsBody, is_signed, body_spelling, frame_spelling, frame_limit}
+use Rattle.authenticator.specs.Keys.{mac_between}
+
+-- the entry of a proof for a party
+abbrev pub entry_for : List ℕ → ℕ → List ℕ → ℕ → MacData
+entry_for seed sender text party = record { receiver = party; mac = mac_between seed sender party text }
+
+-- a body with its MACs for these parties
+abbrev pub sealed_for : List ℕ → BodyData → List ℕ → FrameData
+sealed_for seed body parties =
+    record { body = body; proof = macs (map (entry_for seed body.sender (body_spelling body)) parties) }
+
+-- The body may be said and goes with MACs; 1 to 10 parties are to get it, ascending.
+pub record IsSealable (body : BodyData) (parties : List ℕ) : Type 0 where
+  pub said : IsBody body
+  pub unsigned : is_signed body.message ≡ false
+  pub some : 1 ≤ length parties
+  pub few : length parties ≤ 10
+  pub ascend : IsTrue (ascends nat_lt parties)
+
+pub record IsTooLong (frame : FrameData) : Type 0 where
+  pub over : frame_limit frame.body.message < length (frame_spelling frame)

@@ -1,0 +1,99 @@
+//! The keys of all parties, derived from one seed.
+
+ghost use Rattle.std.specs.Prelude.{◌≡◌, ◌∷◌, ◌++◌, ◌<◌};
+ghost use Rattle.std.specs.Int.{w16, to_be_bytes};
+ghost use Rattle.authenticator.specs.Mac.{block_key};
+ghost use Rattle.authenticator.specs.Keys.{key_between, mac_between, signing_seed};
+ghost use Rattle.authenticator.specs.Membership.{has_sender};
+ghost use Rattle.wire.specs.Views.{body_data, party_number};
+
+use crate::mac::{Key, hmac};
+use std::alloc::Global;
+use std::collections::HashMap;
+use std::marker::Model;
+use wire::{Body, Message, Party};
+
+/// The keys between the parties of one configuration, each derived when it is first needed and then kept.
+#[derive(Drop)]
+pub struct Ring {
+    seed: [u8; 32],
+    faults: u8,
+    clients: u16,
+    source: Key,
+    kept: HashMap<(u16, u16), Key>,
+}
+
+impl Model for Ring {
+    ghost use Rattle.std.specs.Prelude.{◌≡◌};
+    ghost use Rattle.authenticator.specs.Mac.{block_key};
+    ghost use Rattle.authenticator.specs.Kept.{KeysFit};
+    ghost use Rattle.authenticator.specs.Membership.{Membership};
+
+    ghost Value = { Membership };
+
+    ghost view = { λ r. record { seed = r.seed; faults = r.faults; clients = r.clients } };
+
+    ghost invariant = { λ r. (block_key r.seed ≡ r.source) × KeysFit r.seed r.kept };
+}
+
+impl Ring {
+    /// The keys of a seed for `3 * f + 1` replicas and so many clients. It takes no memory yet.
+    pub fn new(alloc: Global, seed: &[u8; 32], f: u8, clients: u16) -> Ring
+        ensures { result ≡ record { seed = seed.now; faults = f; clients = clients } }
+    {
+        Ring {
+            seed: *seed,
+            faults: f,
+            clients,
+            source: Key::new(seed),
+            kept: HashMap::new(alloc),
+        }
+    }
+
+    /// Whether the sender that a body names takes part and may send such a message: clients send requests, replicas all
+    /// else.
+    pub fn has_sender(&self, body: &Body) -> bool
+        ensures { result ≡ has_sender self.now (body_data body.now) }
+    {
+        let sender = body.sender.number();
+        match &body.message {
+            Message::Request(_) => sender >= 256 && sender - 256 < self.clients,
+            _ => sender <= 3 * u16::from(self.faults),
+        }
+    }
+
+    /// The authentication code of a text from one party to another.
+    pub(crate) fn mac(&mut self, from: u16, to: u16, text: &[u8]) -> [u8; 32]
+        ensures code { result ≡ mac_between self.old.seed from to text.now }
+        ensures same { self.new ≡ self.old }
+    {
+        if let Some(key) = self.kept.get(&(from, to)) {
+            return key.mac(text);
+        }
+        let key = Key::new(&self.source.mac(&key_text(from, to)));
+        let code = key.mac(text);
+        // A key for which there is no room is derived again.
+        let _ = self.kept.insert((from, to), key);
+        code
+    }
+}
+
+/// The seed of a party's signatures, derived from that of the configuration. Only replicas sign.
+pub fn signing_seed(seed: &[u8; 32], signer: Party) -> [u8; 32]
+    ensures { result ≡ signing_seed seed.now (party_number signer) }
+{
+    let [high, low] = signer.number().to_be_bytes();
+    hmac(seed, &[b'S', high, low])
+}
+
+// What the key from one party to another is derived by.
+fn key_text(from: u16, to: u16) -> [u8; 5]
+    ensures { result ≡ 0x4d ∷ to_be_bytes w16 from ++ to_be_bytes w16 to }
+{
+    let [from_high, from_low] = from.to_be_bytes();
+    let [to_high, to_low] = to.to_be_bytes();
+    [b'M', from_high, from_low, to_high, to_low]
+}
+
+#[cfg(test)]
+mod tests;

@@ -1,0 +1,186 @@
+//! Frames that parties seal for each other and open.
+
+ghost use Rattle.std.specs.Prelude.{◌≡◌, ◌↔◌, ◌+◌, ℕ, List, ◌++◌, IfOk, IfErr, IsTrue, MatchResult, map};
+ghost use Rattle.std.specs.Prelude.{◌≤◌, length};
+ghost use Rattle.wire.specs.Messages.{FrameData};
+ghost use Rattle.wire.specs.Spelling.{SpellsFrame, IsMac};
+ghost use Rattle.wire.specs.Lists.{Each};
+ghost use Rattle.authenticator.specs.Sealing.{IsSealable, IsTooLong, entry_for, sealed_for};
+ghost use Rattle.wire.specs.Views.{body_data, frame_data, party_number, mac_data};
+ghost use Rattle.authenticator.specs.Authentic.{has_mac, is_mac_for};
+ghost use Rattle.authenticator.specs.Opening.{Opens, Refuses, may_open};
+
+use crate::mac::same;
+use crate::ring::Ring;
+use arrayvec::ArrayVec;
+use std::alloc::Global;
+use thiserror::Error;
+use tuple_tree::NoMemory;
+use wire::{
+    Body, Frame, MAX_RECEIVERS, Party, Proof, ReceiverMac, WireFault, begin_frame, body_bytes,
+    decode, put_proof,
+};
+
+/// Why a frame was refused.
+#[derive(Clone, Copy, Debug, PartialEq, Eq, Error)]
+pub enum OpenFault {
+    /// The frame, or a view change that it carries, is longer than it may be.
+    #[error("the frame is too long")]
+    TooLarge,
+    /// The bytes, whole, are no frame.
+    #[error("the bytes are no frame")]
+    Malformed,
+    /// The sender is no party, or not of the sort that sends such messages.
+    #[error("the sender is unknown")]
+    UnknownSender,
+    /// The proof has no entry for the receiver, or a wrong one.
+    #[error("the MAC is wrong")]
+    BadMac,
+    #[error("out of memory")]
+    NoMemory,
+}
+
+/// Why nothing was sealed.
+#[derive(Clone, Copy, Debug, PartialEq, Eq, Error)]
+pub enum SealFault {
+    /// The frame would be longer than it may be.
+    #[error("the frame is too long")]
+    TooLarge,
+    #[error("out of memory")]
+    NoMemory,
+}
+
+impl From<NoMemory> for SealFault {
+    ghost use Rattle.std.specs.Prelude.{◌≡◌};
+    ghost use Rattle.authenticator.specs.declared.sealed.SealFault.TheVariants.{NoMemory as no_memory};
+
+    ghost from_gives = { λ _ e. e ≡ no_memory };
+
+    fn from(_failed: NoMemory) -> SealFault {
+        SealFault::NoMemory
+    }
+}
+
+impl From<WireFault> for OpenFault {
+    ghost use Rattle.std.specs.Prelude.{◌≡◌};
+    ghost use Rattle.authenticator.specs.Faults.{open_fault};
+
+    ghost from_gives = { λ fault e. e ≡ open_fault fault };
+
+    fn from(fault: WireFault) -> OpenFault {
+        match fault {
+            WireFault::TooLarge => OpenFault::TooLarge,
+            WireFault::Malformed => OpenFault::Malformed,
+            WireFault::NoMemory => OpenFault::NoMemory,
+        }
+    }
+}
+
+/// A frame that its receiver may take: its body says who sent what.
+#[derive(Drop)]
+pub struct Opened {
+    pub frame: Frame,
+}
+
+impl Ring {
+    /// The bytes of a frame of this body, with a MAC for each of 1 to 10 receivers, which ascend by their numbers.
+    pub fn seal(
+        &mut self,
+        alloc: Global,
+        body: &Body,
+        receivers: &[Party],
+    ) -> Result<Vec<u8>, SealFault>
+        requires { IsSealable (body_data body.now) (map party_number receivers.now) }
+        ensures sealed { IfOk result (λ frame. SpellsFrame frame.items (sealed_for self.old.seed (body_data body.now) (map party_number receivers.now))) }
+        ensures large { result ≡ Err SealFault.TooLarge → IsTooLong (sealed_for self.old.seed (body_data body.now) (map party_number receivers.now)) }
+        ensures same { self.new ≡ self.old }
+    {
+        let mut frame = match begin_frame(alloc, body, 2 + 34 * receivers.len()) {
+            Ok(frame) => frame,
+            Err(WireFault::TooLarge) => return Err(SealFault::TooLarge),
+            Err(_) => return Err(SealFault::NoMemory),
+        };
+        let entries = self.entries(body.sender.number(), body_bytes(&frame), receivers);
+        put_proof(&mut frame, &Proof::Macs(entries))?;
+        Ok(frame)
+    }
+
+    // The MAC of a text for each receiver.
+    fn entries(
+        &mut self,
+        sender: u16,
+        text: &[u8],
+        receivers: &[Party],
+    ) -> ArrayVec<ReceiverMac, MAX_RECEIVERS>
+        requires { length receivers.now ≤ 10 }
+        ensures made { map mac_data result.items ≡ map (entry_for self.old.seed sender text.now) (map party_number receivers.now) }
+        ensures formed { Each IsMac (map mac_data result.items) }
+        ensures same { self.new ≡ self.old }
+    {
+        let mut entries = ArrayVec::new();
+        for receiver in receivers {
+            let mac = self.mac(sender, receiver.number(), text);
+            entries.push(ReceiverMac {
+                receiver: *receiver,
+                mac,
+            });
+        }
+        entries
+    }
+
+    /// The frame that the bytes spell, where its sender takes part and may send such a message, and its proof has the
+    /// right entry for `me` or is a signature, which is not tested here. The first refusal that applies is given, in
+    /// the order of [`OpenFault`].
+    pub fn open(&mut self, alloc: Global, bytes: &[u8], me: Party) -> Result<Opened, OpenFault>
+        ensures opened { IfOk result (λ o. Opens self.old (party_number me) bytes.now (frame_data o.frame)) }
+        ensures all { (f : FrameData) → Opens self.old (party_number me) bytes.now f → MatchResult result (λ o. frame_data o.frame ≡ f) (λ e. e ≡ OpenFault.NoMemory) }
+        ensures refused { IfErr result (Refuses self.old (party_number me) bytes.now) }
+        ensures same { self.new ≡ self.old }
+    {
+        let frame = decode(alloc, bytes)?;
+        if !self.has_sender(&frame.body) {
+            return Err(OpenFault::UnknownSender);
+        }
+        if !self.may_open(&frame, bytes, me.number()) {
+            return Err(OpenFault::BadMac);
+        }
+        Ok(Opened { frame })
+    }
+
+    // Whether the proof of the frame, which the bytes spell, has the right entry for the party or is a signature.
+    fn may_open(&mut self, frame: &Frame, bytes: &[u8], party: u16) -> bool
+        requires { SpellsFrame bytes.now (frame_data frame.now) }
+        ensures value { result ≡ may_open self.old.seed party (frame_data frame.now) }
+        ensures same { self.new ≡ self.old }
+    {
+        match &frame.proof {
+            Proof::Macs(entries) => {
+                let sender = frame.body.sender.number();
+                let mac = self.mac(sender, party, body_bytes(bytes));
+                has_mac(entries, party, &mac)
+            },
+            Proof::Signature(_) => true,
+        }
+    }
+}
+
+// Whether an entry for the party is this MAC.
+fn has_mac(entries: &[ReceiverMac], party: u16, mac: &[u8; 32]) -> bool
+    ensures { result ≡ has_mac party mac.now (map mac_data entries.now) }
+{
+    for entry in entries {
+        if is_mac_for(entry, party, mac) {
+            return true;
+        }
+    }
+    false
+}
+
+fn is_mac_for(entry: &ReceiverMac, party: u16, mac: &[u8; 32]) -> bool
+    ensures { result ≡ is_mac_for party mac.now (mac_data entry.now) }
+{
+    entry.receiver.number() == party && same(&entry.mac, mac)
+}
+
+#[cfg(test)]
+mod tests;

@@ -1,0 +1,33 @@
+-- What a party hears: the bodies of frames that their senders made, as it can tell (Castro and Liskov, TOCS 2002). View changes and new views count only with a signature that verifies, since others carry them on.
+use Rattle.std.specs.Prelude.{ℕ, Bool, false, ◌&&◌, if◌then◌else◌, List, Option, Some, None, option_and_then}
+use Rattle.wire.specs.Messages.{BodyData, ProofData, macs, signature, FrameData}
+use Rattle.wire.specs.Spelling.{body_spelling, is_signed}
+use Rattle.wire.specs.Reading.{frame_of}
+use Rattle.authenticator.specs.Membership.{Membership, has_sender}
+use Rattle.authenticator.specs.Authentic.{is_authentic}
+use Rattle.authenticator.specs.Keys.{signing_seed}
+use Rattle.signing.specs.Signatures.{public_key, verifies}
+
+-- the proof is a signature of the text under the public key
+abbrev pub signs : List ℕ → List ℕ → ProofData → Bool
+signs public text (macs entries) = false
+signs public text (signature s) = verifies public text s
+
+-- the frame has a signature of its body by its sender
+abbrev pub has_signature : List ℕ → FrameData → Bool
+has_signature seed frame = signs (public_key (signing_seed seed frame.body.sender)) (body_spelling frame.body) frame.proof
+
+-- the frame comes from a party that sends such messages, as the receiver can tell
+abbrev pub is_heard : Membership → ℕ → FrameData → Bool
+is_heard m party frame =
+    has_sender m frame.body && (if is_signed frame.body.message then has_signature m.seed frame else is_authentic m.seed party frame)
+
+-- the body that a party hears from the bytes
+unfoldable pub heard : Membership → ℕ → List ℕ → Option BodyData
+heard m party bytes = option_and_then (λ frame. if is_heard m party frame then Some frame.body else None) (frame_of bytes)
+
+-- the body of a view change or new view, whoever gets the bytes
+unfoldable pub signed_body : Membership → List ℕ → Option BodyData
+signed_body m bytes =
+    option_and_then (λ frame. if is_signed frame.body.message && (has_sender m frame.body && has_signature m.seed frame) then Some frame.body else None)
+    (frame_of bytes)

@@ -1,6 +1,0 @@
-use Rattle.std.proofs.Common.{◌≡◌, ◌++◌, drop}
-use Rattle.wire.specs.Lists.{each_spelling}
-use Rattle.wire.proofs.encoding.put_digests.Given as goal
-
-abbrev pub invariant-loop-digest : goal.invariant-loop-digest
-invariant-loop-digest l = l.out.items ++ each_spelling (λ d. d) (drop l.digest-index l.digests) ≡ l.fn.out.items ++ each_spelling (λ d. d) l.digests

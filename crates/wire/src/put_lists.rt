@@ -1,0 +1,93 @@
+//! View changes and new views, appended to bytes.
+
+ghost use Rattle.std.specs.Prelude.{◌≡◌, ◌++◌, ◌<◌, ◌^◌, OnOk, length, map};
+ghost use Rattle.wire.specs.Lists.{Each};
+ghost use Rattle.wire.specs.Views.{mark_data, claim_data, batch_text, view_change_data, new_view_data};
+ghost use Rattle.wire.specs.Spelling.{mark_spelling, claim_spelling, marks_spelling, claims_spelling, pieces_spelling, batches_spelling, view_change_spelling, new_view_spelling};
+ghost use Rattle.wire.specs.Counts.{ViewChangeFits, NewViewFits};
+
+use crate::messages::{Batch, Claim, Mark, NewView, ViewChange};
+use crate::put::{put_piece, put_u16, put_u64};
+use tuple_tree::NoMemory;
+
+pub fn put_view_change(change: &ViewChange, out: &mut Vec<u8>) -> Result<(), NoMemory>
+    requires { ViewChangeFits (view_change_data change.now) }
+    ensures { OnOk result (out.new.items ≡ out.old.items ++ view_change_spelling (view_change_data change.now)) }
+{
+    put_u64(change.view.0, out)?;
+    put_u64(change.low.0, out)?;
+    put_marks(&change.checkpoints, out)?;
+    put_claims(&change.prepared, out)?;
+    put_claims(&change.pre_prepared, out)
+}
+
+fn put_mark(mark: &Mark, out: &mut Vec<u8>) -> Result<(), NoMemory>
+    ensures { OnOk result (out.new.items ≡ out.old.items ++ mark_spelling (mark_data mark.now)) }
+{
+    put_u64(mark.number.0, out)?;
+    Ok(out.extend_from_slice(&mark.digest)?)
+}
+
+fn put_claim(claim: &Claim, out: &mut Vec<u8>) -> Result<(), NoMemory>
+    ensures { OnOk result (out.new.items ≡ out.old.items ++ claim_spelling (claim_data claim.now)) }
+{
+    put_u64(claim.number.0, out)?;
+    out.extend_from_slice(&claim.digest)?;
+    put_u64(claim.view.0, out)
+}
+
+fn put_marks(marks: &[Mark], out: &mut Vec<u8>) -> Result<(), NoMemory>
+    requires { length (map mark_data marks.now) < 2 ^ 8 }
+    ensures { OnOk result (out.new.items ≡ out.old.items ++ marks_spelling (map mark_data marks.now)) }
+{
+    out.push(marks.len() as u8)?;
+    for mark in marks {
+        put_mark(mark, out)?;
+    }
+    Ok(())
+}
+
+fn put_claims(claims: &[Claim], out: &mut Vec<u8>) -> Result<(), NoMemory>
+    requires { length (map claim_data claims.now) < 2 ^ 16 }
+    ensures { OnOk result (out.new.items ≡ out.old.items ++ claims_spelling (map claim_data claims.now)) }
+{
+    put_u16(claims.len() as u16, out)?;
+    for claim in claims {
+        put_claim(claim, out)?;
+    }
+    Ok(())
+}
+
+pub fn put_new_view(new_view: &NewView, out: &mut Vec<u8>) -> Result<(), NoMemory>
+    requires { NewViewFits (new_view_data new_view.now) }
+    ensures { OnOk result (out.new.items ≡ out.old.items ++ new_view_spelling (new_view_data new_view.now)) }
+{
+    put_u64(new_view.view.0, out)?;
+    put_changes(&new_view.changes, out)?;
+    put_u64(new_view.start.0, out)?;
+    out.extend_from_slice(&new_view.root)?;
+    put_batches(&new_view.batches, out)
+}
+
+fn put_changes(changes: &[Vec<u8>], out: &mut Vec<u8>) -> Result<(), NoMemory>
+    requires few { length (map (λ c. c.items) changes.now) < 2 ^ 8 }
+    requires short { Each (λ frame. length frame < 2 ^ 32) (map (λ c. c.items) changes.now) }
+    ensures { OnOk result (out.new.items ≡ out.old.items ++ pieces_spelling (map (λ c. c.items) changes.now)) }
+{
+    out.push(changes.len() as u8)?;
+    for change in changes {
+        put_piece(change, out)?;
+    }
+    Ok(())
+}
+
+fn put_batches(batches: &[Batch], out: &mut Vec<u8>) -> Result<(), NoMemory>
+    requires { length (map batch_text batches.now) < 2 ^ 8 }
+    ensures { OnOk result (out.new.items ≡ out.old.items ++ batches_spelling (map batch_text batches.now)) }
+{
+    out.push(batches.len() as u8)?;
+    for batch in batches {
+        out.extend_from_slice(&batch.text)?;
+    }
+    Ok(())
+}
