@@ -9,3 +9,4 @@ pub mod Carrying
 pub mod AtFront
 pub mod Short
 pub mod Whole
+pub mod Joined

@@ -11,7 +11,9 @@ mod frames;
 mod messages;
 mod proving;
 mod reading;
+mod sizes;
 mod terms;
+mod writing;
 
 pub use decoding::decode;
 pub use fault::WireFault;
@@ -23,3 +25,4 @@ pub use messages::{
     Prepare, Reply, Request, ViewChange,
 };
 pub use terms::{ClientId, Digest, Level, Mode, Number, Party, Timestamp, View};
+pub use writing::{begin_frame, body_bytes, encode, put_proof};
