@@ -10,3 +10,4 @@ pub mod AtFront
 pub mod Short
 pub mod Whole
 pub mod Joined
+pub mod Telling

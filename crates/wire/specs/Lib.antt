@@ -6,3 +6,4 @@ pub mod Faults
 pub mod Reading
 pub mod Gives
 pub mod Orders
+pub mod Words

@@ -8,6 +8,7 @@ mod encoding;
 mod fault;
 mod fields;
 mod frames;
+mod laws;
 mod messages;
 mod proving;
 mod reading;
@@ -20,6 +21,7 @@ pub use fault::WireFault;
 pub use frames::{
     Frame, MAX_FRAME, MAX_RECEIVERS, MAX_VIEW_CHANGE, Proof, ReceiverMac, SIGNATURE_LEN,
 };
+pub use laws::{carries_frames, one_spelling, reads_what_is_spelled};
 pub use messages::{
     Batch, Body, Checkpoint, Claim, Commit, Fetch, Mark, Message, Meta, NewView, Page, PrePrepare,
     Prepare, Reply, Request, ViewChange,
