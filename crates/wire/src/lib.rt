@@ -28,3 +28,6 @@ pub use messages::{
 };
 pub use terms::{ClientId, Digest, Level, Mode, Number, Party, Timestamp, View};
 pub use writing::{begin_frame, body_bytes, encode, put_proof};
+
+#[cfg(test)]
+mod tests;
