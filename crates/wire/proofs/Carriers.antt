@@ -173,7 +173,7 @@ pre_prepare_again view number text h = made_again pre_prepare_parts (λ p. pre_p
 
 -- ---- all messages
 
-to_message : (m : MessageData) → IsPlain m → IsMessage m
+pub to_message : (m : MessageData) → IsPlain m → IsMessage m
 to_message (request timestamp mode operation) h = h
 to_message (pre_prepare view number text) h = absurd h
 to_message (prepare view number d) h = h

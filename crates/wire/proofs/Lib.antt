@@ -12,3 +12,5 @@ pub mod AtFront
 pub mod Short
 pub mod Whole
 pub mod Counting
+pub mod Joined
+pub mod Telling

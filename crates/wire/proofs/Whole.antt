@@ -1,20 +1,21 @@
 -- Steps of reading a whole frame.
-use Rattle.std.proofs.Common.{◌≡◌, ◌≢◌, ◌⊎◌, inl, inr, ℕ, ◌<◌, ◌≤◌, Bool, true, false, cond, ◌||◌, List, [], ◌∷◌, ◌++◌, length, slice_index, Option, Some, None, Result, Ok, Err, IfOk, IfErr, MatchResult, ap, sym, subst, refl, ◌∙◌, arith}
+use Rattle.std.proofs.Common.{◌≡◌, ◌≢◌, ◌⊎◌, inl, inr, ℕ, ◌^◌, ◌<◌, ◌≤◌, Bool, true, false, cond, ◌||◌, List, [], ◌∷◌, ◌++◌, length, slice_index, Option, Some, None, Result, Ok, Err, IfOk, IfErr, MatchResult, ap, sym, subst, refl, ◌∙◌, arith}
 use Rattle.std.proofs.lemmas.Bool.{le-leb, le-ltb, lt-ltb, ltb-true, ltb-false, leb-true}
 use lib.Dec.{ltb, leb, eqb}
 use Rattle.tuple_tree.specs.Values.{AreBytes}
 use Rattle.tuple_codec.specs.Reading.{◌>>=◌}
-use Rattle.tuple_codec.proofs.Readers.{bind_some, guard_holds}
+use Rattle.tuple_codec.proofs.Readers.{bind_some, guard_holds, parts}
 use Rattle.wire.specs.declared.fault.WireFault.{WireFault}
 use Rattle.wire.specs.declared.fault.WireFault.TheVariants as faults
 use Rattle.wire.specs.declared.frames.Frame.{Frame}
 use Rattle.wire.specs.Messages.{MessageData, request, pre_prepare, prepare, commit, checkpoint, view_change, new_view, reply, fetch, meta, page, BodyData, ProofData, FrameData}
 use Rattle.wire.specs.Views.{frame_data}
 use Rattle.wire.specs.Gives.{Fails, FailsOver, GivesOver}
-use Rattle.wire.specs.Spelling.{message_type, body_spelling, piece, is_signed, frame_limit, SpellsFrame}
+use Rattle.wire.specs.Spelling.{message_type, body_spelling, proof_spelling, piece, IsMessage, is_signed, frame_limit, SpellsFrame}
 use Rattle.wire.specs.Faults.{IsTooLarge, CarriesTooLarge, limit_at}
-use Rattle.wire.specs.Reading.{if_it, piece_at, proof_of, body_of, body_over, frame_of, frame_over, of_some, too_large}
-use Rattle.wire.proofs.Parts.{piece_reads}
+use Rattle.wire.specs.Reading.{if_it, piece_at, proof_of, message_by, body_of, body_over, frame_of, frame_over, of_some, too_large}
+use Rattle.wire.proofs.Parts.{piece_reads, piece_there}
+use Rattle.wire.proofs.Framing.{text_bound}
 use Rattle.wire.proofs.Carriers.{body_of_found, frame_of_found, frame_of_again}
 use Rattle.wire.proofs.Short.{body_short}
 use Rattle.wire.proofs.Limits.{frame_over_found, frame_over_again}
@@ -151,3 +152,14 @@ module _ (bs : List ℕ) where
   only_large_in (Err faults.NoMemory) g t = λ q. absurd (let k : ⊥ = cc in k)
   only_large_in (Err faults.Malformed) g t = λ q. absurd (let e : false ≡ true = sym g.1 ∙ too_large_has bs t in let k : ⊥ = cc in k)
   only_large_in (Err faults.TooLarge) g t = λ q. absurd (let k : ⊥ = cc in k)
+
+-- ---- the body's bytes
+
+pub piece_text : (bs text rest t r : List ℕ) → length t < 2 ^ 32 → bs ≡ piece t ++ r → piece_at bs ≡ Some (text, rest) → text ≡ t
+piece_text bs text rest t r l e f = (parts (sym f ∙ ap piece_at e ∙ piece_there t r l)).0
+
+pub piece_missing : (bs t r : List ℕ) → length t < 2 ^ 32 → bs ≡ piece t ++ r → piece_at bs ≡ None → ⊥
+piece_missing bs t r l e f = let q : ◌≡◌ {A = Option (List ℕ × List ℕ)} None (Some (t, r)) = sym f ∙ (ap piece_at e ∙ piece_there t r l) in let g : ⊥ = cc in g
+
+pub frame_parts : (bs : List ℕ) (f : FrameData) → SpellsFrame bs f → (length (body_spelling f.body) < 2 ^ 32) × (bs ≡ piece (body_spelling f.body) ++ proof_spelling f.proof)
+frame_parts bs f s = (text_bound message_by IsMessage f s.valid, s.spelled)

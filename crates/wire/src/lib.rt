@@ -8,6 +8,7 @@ mod decoding;
 mod fault;
 mod fields;
 mod frames;
+mod laws;
 mod messages;
 mod proving;
 mod put;
@@ -23,9 +24,13 @@ pub use fault::WireFault;
 pub use frames::{
     Frame, MAX_FRAME, MAX_RECEIVERS, MAX_VIEW_CHANGE, Proof, ReceiverMac, SIGNATURE_LEN,
 };
+pub use laws::{carries_frames, one_spelling, reads_what_is_spelled};
 pub use messages::{
     Batch, Body, Checkpoint, Claim, Commit, Fetch, Mark, Message, Meta, NewView, Page, PrePrepare,
     Prepare, Reply, Request, ViewChange,
 };
 pub use sealing::{begin_frame, body_bytes, encode_frame, put_proof};
 pub use terms::{ClientId, Digest, Level, Mode, Number, Party, Timestamp, View};
+
+#[cfg(test)]
+mod tests;
