@@ -2,8 +2,10 @@
 
 ghost use Rattle.std.specs.Prelude.{◌≡◌, ◌↔◌, IsTrue};
 ghost use Rattle.authenticator.specs.Keys.{signing_seed};
+ghost use Rattle.signing.specs.Heard.{has_signature};
 ghost use Rattle.signing.specs.Signatures.{public_key, Verifies};
-ghost use Rattle.wire.specs.Views.{party_number};
+ghost use Rattle.wire.specs.Spelling.{SpellsFrame};
+ghost use Rattle.wire.specs.Views.{frame_data, party_number};
 
 use crate::signature::verify_bytes;
 use crate::tree::KeyTree;
@@ -11,7 +13,7 @@ use authenticator::signing_seed;
 use std::alloc::Global;
 use std::collections::HashMap;
 use std::marker::Model;
-use wire::Party;
+use wire::{Frame, Party, Proof, body_bytes};
 
 /// The public keys of the replicas of one configuration. Each is derived from the configuration's seed when something
 /// is first verified by it, which takes as long as a tree of keys, and is then kept.
@@ -64,5 +66,19 @@ impl PublicKeys {
         ensures same { self.new ≡ self.old }
     {
         verify_bytes(&self.public(signer), text, signature)
+    }
+
+    /// Whether the frame, which the bytes spell, has a signature of its body by its sender.
+    pub fn has_signature(&mut self, frame: &Frame, bytes: &[u8]) -> bool
+        requires { SpellsFrame bytes.now (frame_data frame.now) }
+        ensures signed { result ≡ has_signature self.old (frame_data frame.now) }
+        ensures same { self.new ≡ self.old }
+    {
+        match &frame.proof {
+            Proof::Macs(_) => false,
+            Proof::Signature(signature) => {
+                self.verify(frame.body.sender, body_bytes(bytes), signature)
+            },
+        }
     }
 }
