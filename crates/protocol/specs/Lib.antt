@@ -1,7 +1,6 @@
 pub mod Configuration
 pub mod Wire
 pub mod Keys
-pub mod Pages
 pub mod Trace
 pub mod Selection
 pub mod Certificates
