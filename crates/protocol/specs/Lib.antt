@@ -14,3 +14,4 @@ pub mod Owed
 pub mod Run
 pub mod Refused
 pub mod Examples
+pub mod Schedule
