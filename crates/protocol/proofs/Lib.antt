@@ -36,3 +36,4 @@ pub mod Whole
 pub mod Weakly
 pub mod Refusing
 pub mod FirstBatch
+pub mod FirstCall

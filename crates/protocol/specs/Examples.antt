@@ -1,15 +1,19 @@
 -- Small histories that the definitions accept, with frames left symbolic: what they spell and that they are authentic is
 -- given.
-use Rattle.std.specs.Prelude.{◌≡◌, ℕ, true, List, [], ◌∷◌, Some}
+use Rattle.std.specs.Prelude.{◌≡◌, ℕ, ◌+◌, true, List, [], ◌∷◌, Some}
 use Rattle.sha2.specs.Sha256.{sha256}
-use Rattle.protocol.specs.Configuration.{Configuration}
+use Rattle.tuple_codec.specs.Operations.{Operation, IsOperation}
+use Rattle.space.specs.Applying.{is_read_only}
+use Rattle.protocol.specs.Configuration.{Configuration, IsConfiguration, is_correct_client}
 use Rattle.protocol.specs.Wire.{Frame, frame_of, said}
 use Rattle.protocol.specs.Wire.Message.{PrePrepare, Prepare, Commit}
 use Rattle.protocol.specs.Keys.{heard, IsSealed}
 use Rattle.protocol.specs.Trace.{Entry}
-use Rattle.protocol.specs.Trace.Entry.{Got, Executed, Sent}
+use Rattle.protocol.specs.Trace.Entry.{Invoke, Got, Executed, Sent}
 use Rattle.protocol.specs.Certificates.{are_genuine, Committed}
 use Rattle.protocol.specs.RightReplica.{RightReplica}
+use Rattle.protocol.specs.RightClient.{IsRequest}
+use Rattle.protocol.specs.Run.{IsRun}
 
 -- four replicas, none of them faulty
 abbrev pub four : ℕ → List ℕ → Configuration
@@ -39,3 +43,11 @@ FirstBatchExecutes =
     (clients : ℕ) (seed batch a b d e f g : List ℕ) → IsFirstBatch (four clients seed) batch a b d e f g
     → Committed (four clients seed) 1 (first_batch a b d e f g) 0 1 batch
     × RightReplica (four clients seed) 1 (Executed 1 1 batch ∷ first_batch a b d e f g)
+
+-- A trace in which a correct client has invoked an operation and asked all replicas for it, and nothing has come yet, is a
+-- run.
+abbrev pub FirstCallIsRun : Type 0
+FirstCallIsRun =
+    (c : Configuration) → IsConfiguration c → (k : ℕ) (op : Operation) (request : List ℕ) → is_correct_client c (256 + k) ≡ true → IsOperation op
+    → IsRequest c (256 + k) (is_read_only op) (record { timestamp = 1; op = op }) request
+    → IsRun c (Sent (256 + k) request ∷ Invoke k 1 op ∷ [])
