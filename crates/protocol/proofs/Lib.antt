@@ -37,3 +37,4 @@ pub mod Weakly
 pub mod Refusing
 pub mod FirstBatch
 pub mod FirstCall
+pub mod Selecting
