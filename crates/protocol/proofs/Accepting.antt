@@ -13,7 +13,7 @@ use Rattle.protocol.specs.Trace.{Entry, party_of, history_of, Once, Always, Has,
 use Rattle.protocol.specs.Trace.Entry.{Invoke, Got, Tick, Executed, Installed, Sent, Accepted}
 use Rattle.space.specs.Applying.{is_read_only, outcome}
 use Rattle.protocol.specs.State.{State, Ran, opening, tuples, kept_of, execute}
-use Rattle.protocol.specs.Pages.{Kept}
+use Rattle.reply_cache.specs.Replies.{Kept}
 use Rattle.protocol.specs.RightReplica.{Leaves, MaySay, MayReply}
 use Rattle.protocol.specs.RightClient.{RightClient, OpenCall, open_call, last_call, Vote, latest, is_alike, count_alike, newest_vote, MayAccept, vote_of}
 use Rattle.protocol.specs.Texts.{ExecutesBatch}
@@ -281,7 +281,7 @@ read_replied c trace s p t number answer run correct client r =
 
 -- an ordered reply is of a request that ran
 abbrev pub Answers : ℕ → ℕ → ℕ → Outcome → ℕ → Ran → Type 0
-Answers p t number answer j x = (256 + x.call.client ≡ p) × (x.call.timestamp ≡ t) × (x.kept.answer ≡ answer) × (number ≡ j)
+Answers p t number answer j x = (256 + x.call.client ≡ p) × (x.call.timestamp ≡ t) × (x.kept.outcome ≡ answer) × (number ≡ j)
 
 has_weaker : {A : Type 0} (P Q : A → Type 0) → ((x : A) → P x → Q x) → (xs : List A) → Has P xs → Has Q xs
 has_weaker P Q f [] h = h
@@ -333,7 +333,7 @@ ordered_replied c trace s p t number answer run correct client r = go r.may
         let a = x.2.client_is in
         let is_client' : 256 + y.call.client ≡ p = omega arith in
         let time : y.call.timestamp ≡ t = sym u.2 ∙ ap (λ (z : Ran). z.kept.timestamp) e ∙ x.2.time in
-        let text : y.kept.answer ≡ answer = ap (λ (z : Ran). z.kept.answer) e ∙ x.2.answer_is in
+        let text : y.kept.outcome ≡ answer = ap (λ (z : Ran). z.kept.outcome) e ∙ x.2.answer_is in
         let number' : number ≡ j = sym x.2.number_is ∙ sym (ap (λ (z : Ran). z.kept.number) e) ∙ u.1 in
         (is_client', time, text, number'))
         (rans_ran c trace run s correct r.past emb r.good r.point r.leaves x.0 x.1)
@@ -345,7 +345,7 @@ ordered_replied c trace s p t number answer run correct client r = go r.may
         let a = h.3.client_is in
         let is_client' : 256 + y.call.client ≡ p = omega arith in
         let time : y.call.timestamp ≡ t = sym u.3 ∙ ap (λ (z : Kept). z.timestamp) e ∙ h.3.time in
-        let text : y.kept.answer ≡ answer = ap (λ (z : Kept). z.answer) e ∙ h.3.answer_is in
+        let text : y.kept.outcome ≡ answer = ap (λ (z : Kept). z.outcome) e ∙ h.3.answer_is in
         let number' : number ≡ j = sym h.3.number_is ∙ u.2 in
         (is_client', time, text, number'))
         (kept_ran-opening c trace r.point.state.number h.0 h.1 there)

@@ -11,7 +11,7 @@ use Rattle.protocol.specs.Wire.Message.{Request}
 use Rattle.protocol.specs.Trace.{Entry, party_of, Once, Has}
 use Rattle.protocol.specs.Trace.Entry.{Invoke, Got, Tick, Executed, Installed, Sent, Accepted}
 use Rattle.protocol.specs.State.{State, Call, Ran, opening, runs, run_call, call_in, call_of, run_frame, execute, ran_by, ran_in, kept_by, kept_of, last_time}
-use Rattle.protocol.specs.Pages.{Kept}
+use Rattle.reply_cache.specs.Replies.{Kept}
 use Rattle.protocol.specs.RightReplica.{Leaves, May, Moves}
 use Rattle.protocol.specs.Texts.{ExecutesBatch}
 use Rattle.protocol.specs.Linear.{Item, Point, NoneTwice, ordered_point, ordered_points, first_position, batch_of, comes_before, insert_point, sorted}

@@ -14,7 +14,7 @@ use Rattle.space.proofs.Batches.{next_after}
 use Rattle.protocol.specs.Configuration.{Configuration, is_client}
 use Rattle.protocol.specs.Wire.{Message, requests_of, said}
 use Rattle.protocol.specs.Wire.Message.{Request}
-use Rattle.protocol.specs.Pages.{Kept, IsKept}
+use Rattle.reply_cache.specs.Replies.{Kept, IsKept}
 use Rattle.protocol.specs.State.{State, IsState, Call, opening, tuples, last_time, call_in, call_of, runs, kept_by, ran_call, run_call, run_frame, execute, after_batches}
 use Rattle.protocol.specs.Laws.{BatchesLeaveStates}
 use Rattle.protocol.proofs.Options.{and_then_some, some_injective}
@@ -127,7 +127,7 @@ call_leaves number small st most call fits r = go (runs st call) refl
     kept : runs st call ≡ true → IsKept (kept_by st number call)
     kept e =
         let l = ltb-true (last_time st call.client) call.timestamp e in
-        record { time_some = omega arith; time_fits = fits.0; number_fits = small; answer = outcome_is (tuples st) call.op (tuples_are st.space.entries r.space.tuples) fits.1 }
+        record { first = omega arith; timestamp_fits = fits.0; number_fits = small; answer = outcome_is (tuples st) call.op (tuples_are st.space.entries r.space.tuples) fits.1 }
 
     go : (b : Bool) → runs st call ≡ b → Running (cond b (ran_call st number call) st) (most + 256)
     go true e =

@@ -36,3 +36,5 @@ pub mod Whole
 pub mod Weakly
 pub mod Refusing
 pub mod FirstBatch
+pub mod FirstCall
+pub mod Selecting

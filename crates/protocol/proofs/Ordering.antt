@@ -12,7 +12,7 @@ use Rattle.protocol.specs.Keys.{heard}
 use Rattle.protocol.specs.Trace.{Entry, party_of, history_of, Once, Always, Has, Hears}
 use Rattle.protocol.specs.Trace.Entry.{Invoke, Got, Tick, Executed, Installed, Sent, Accepted}
 use Rattle.protocol.specs.State.{State, Call, Ran, opening, runs, run_call, call_of, run_frame, execute, ran_by, ran_in, kept_by, kept_of}
-use Rattle.protocol.specs.Pages.{Kept}
+use Rattle.reply_cache.specs.Replies.{Kept}
 use Rattle.protocol.specs.RightReplica.{Leaves, May, Moves, MaySay, MayReply, snapshots_after}
 use Rattle.protocol.specs.RightClient.{Vote, vote_of, later_vote, latest, is_alike}
 use Rattle.protocol.specs.Linear.{reached, is_level}

@@ -1,7 +1,6 @@
 -- States are equal where their pages are.
 use Rattle.std.proofs.Common.{◌≡◌, ℕ, suc, ◌+◌, ◌-◌, ◌<◌, Bool, true, false, cond, List, [], ◌∷◌, ◌++◌, length, refl, sym, ap, ap₂, ◌∙◌, arith, Option, Some, None}
 use Rattle.std.specs.Prelude.{◌==◌, nat_lt, option_and_then, slice_get}
-use Rattle.std.specs.Int.{w64, to_be_bytes}
 use Rattle.std.proofs.lemmas.Bool.{lt-ltb, ltb-true}
 use Rattle.tuple_codec.specs.Operations.{Outcome, IsOutcome}
 use Rattle.tuple_codec.specs.Spelling.{outcome_spelling}
@@ -12,7 +11,9 @@ use Rattle.space.specs.Births.{SpaceState}
 use Rattle.space.specs.Pages.{header_text, page_text as tuple_page}
 use Rattle.space.proofs.Determining.{number_split}
 use Rattle.space.proofs.Determining
-use Rattle.protocol.specs.Pages.{Kept, IsKept, reply_page}
+use Rattle.reply_cache.specs.Replies.{Kept, IsKept, IsReply}
+use Rattle.reply_cache.proofs.Determining.{reply_same}
+use Rattle.reply_cache.specs.Pages.{reply_text}
 use Rattle.protocol.specs.State.{State, kept_of, page_text}
 use Rattle.protocol.specs.Laws.{PagesDetermine}
 
@@ -24,30 +25,12 @@ same_outcome a b f g e =
     (one IsOutcome outcome_spelling outcome_at outcome_reads (outcome_spelling a) (outcome_spelling b) [] [] a b
     (record { valid = f; spelled = refl }) (record { valid = g; spelled = refl }) (ap (λ xs. xs ++ []) e)).1
 
-kept_same : (a b : Kept) → IsKept a → IsKept b → reply_page (Some a) ≡ reply_page (Some b) → a ≡ b
-unfolding reply_page
-kept_same a b f g e =
-    let s = number_split a.timestamp b.timestamp (to_be_bytes w64 a.number ++ outcome_spelling a.answer) (to_be_bytes w64 b.number ++ outcome_spelling b.answer) f.time_fits g.time_fits e in
-    let t = number_split a.number b.number (outcome_spelling a.answer) (outcome_spelling b.answer) f.number_fits g.number_fits s.1 in
-    let u = same_outcome a.answer b.answer f.answer g.answer t.1 in
-    build a.timestamp b.timestamp a.number b.number a.answer b.answer s.0 t.0 u
+option_same : (a b : Option Kept) → ((k : Kept) → a ≡ Some k → IsKept k) → ((k : Kept) → b ≡ Some k → IsKept k) → reply_text a ≡ reply_text b → a ≡ b
+option_same a b f g e = reply_same a b (valid a f) (valid b g) e
   where
-    build : (t t' n n' : ℕ) (x x' : Outcome) → t ≡ t' → n ≡ n' → x ≡ x' → ◌≡◌ {A = Kept} (record { timestamp = t; number = n; answer = x }) (record { timestamp = t'; number = n'; answer = x' })
-    build t t' n n' x x' p q r = rw (p, q, r) refl
-
-kept_some : (k : Kept) → reply_page (Some k) ≡ [] → ⊥
-unfolding reply_page
-kept_some k e = cc
-
-none_page : reply_page None ≡ []
-unfolding reply_page
-none_page = refl
-
-option_same : (a b : Option Kept) → ((k : Kept) → a ≡ Some k → IsKept k) → ((k : Kept) → b ≡ Some k → IsKept k) → reply_page a ≡ reply_page b → a ≡ b
-option_same None None f g e = refl
-option_same None (Some y) f g e = absurd (kept_some y (sym e ∙ none_page))
-option_same (Some x) None f g e = absurd (kept_some x (e ∙ none_page))
-option_same (Some x) (Some y) f g e = ap Some (kept_same x y (f x refl) (g y refl) e)
+    valid : (o : Option Kept) → ((k : Kept) → o ≡ Some k → IsKept k) → IsReply o
+    valid None f = tt
+    valid (Some k) f = f k refl
 
 abbrev kept_at : List (Option Kept) → ℕ → Option Kept
 kept_at xs i = option_and_then (λ x. x) (slice_get xs i)
@@ -64,15 +47,15 @@ replies_same (x ∷ xs) (y ∷ ys) l f =
 
 -- ---- the pages of each sort
 
-reply_page_at : (st : State) (i : ℕ) → i < 256 → page_text st (256 + i) ≡ reply_page (kept_of st i)
+reply_page_at : (st : State) (i : ℕ) → i < 256 → page_text st (256 + i) ≡ reply_text (kept_of st i)
 unfolding page_text
 reply_page_at st i l = go (nat_lt (256 + i) 256) refl (nat_lt (256 + i) 512) refl
   where
     go : (a : Bool) → nat_lt (256 + i) 256 ≡ a → (b : Bool) → nat_lt (256 + i) 512 ≡ b
-        → cond a (tuple_page st.space (256 + i)) (cond b (reply_page (kept_of st (256 + i - 256)))
-        (cond (256 + i == 512) (header_text st.space st.number) [])) ≡ reply_page (kept_of st i)
+        → cond a (tuple_page st.space (256 + i)) (cond b (reply_text (kept_of st (256 + i - 256)))
+        (cond (256 + i == 512) (header_text st.space st.number) [])) ≡ reply_text (kept_of st i)
     go true a b eb = let m : 256 + i < 256 = ltb-true (256 + i) 256 a in absurd (omega arith)
-    go false a true eb = let e : 256 + i - 256 ≡ i = omega arith in ap (λ (j : ℕ). reply_page (kept_of st j)) e
+    go false a true eb = let e : 256 + i - 256 ≡ i = omega arith in ap (λ (j : ℕ). reply_text (kept_of st j)) e
     go false a false eb = let m : 256 + i < 512 = omega arith in absurd (let bad : true ≡ false = sym (lt-ltb (256 + i) 512 m) ∙ eb in cc)
 
 tuple_page_at : (st : State) (i : ℕ) → i < 256 → page_text st i ≡ tuple_page st.space i

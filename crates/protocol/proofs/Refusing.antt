@@ -12,7 +12,7 @@ use Rattle.protocol.specs.Trace.{Entry, Once, Always, Has}
 use Rattle.protocol.specs.Trace.Entry.{Invoke, Got, Tick, Executed, Installed, Sent, Accepted}
 use Rattle.protocol.specs.Selection.{is_quorum, is_weak_quorum, count_in, vouches, agrees, may_stand_at, may_be_null, is_null, is_within, changes_of, how_many, Selects}
 use Rattle.protocol.specs.Certificates.{target, view, is_active_in, is_later, new_view_in, logged, low}
-use Rattle.protocol.specs.Pages.{Kept}
+use Rattle.reply_cache.specs.Replies.{Kept}
 use Rattle.protocol.specs.State.{State, Ran, opening, kept_of, last_time, runs, run_call, ran_call, kept_by, page_text}
 use Rattle.protocol.specs.RightReplica.{Point, Leaves, RightReplica, May, Moves, MaySay, MaySend, MayCheckpoint, MayPrepare, MayCommit, MayPrePrepare, MayReply, RepliesTo, GetsPage}
 use Rattle.protocol.specs.RightClient.{is_complete}

@@ -40,8 +40,9 @@ use Rattle.protocol.proofs.Options.{given_once}
 use Rattle.protocol.proofs.Asking.{AsksFrame}
 use Rattle.protocol.proofs.Paging.{same_outcome}
 use Rattle.std.specs.Option.{option_map_or}
-use Rattle.protocol.specs.Run.{WeakAnswersAreOneSpace}
+use Rattle.protocol.specs.Run.{WeakAnswersAreOneSpace, NoneRunsTwice}
 use Rattle.protocol.proofs.Reacting.{is_replica_right, is_weak_right}
+use Rattle.protocol.specs.Run
 
 -- ---- all that ran, at one position
 
@@ -280,3 +281,16 @@ pub weak_answers_are_one_space : WeakAnswersAreOneSpace
 weak_answers_are_one_space c setting trace run unforged apart =
     weak_is_one_space c setting trace (λ p correct. is_replica_right c p (history_of p trace) (run.replicas p correct))
     (λ p correct. is_weak_right c p (history_of p trace) (run.clients p correct)) run.parties unforged apart
+
+-- ---- over all batches
+
+batches_differ : (c : Configuration) → IsConfiguration c → (st : State) (batches : List (List ℕ)) → Full st → AllOf (Later st) (Run.ran_points c st batches) × AllDiffer (Run.ran_points c st batches)
+batches_differ c setting st [] full = (tt, tt)
+batches_differ c setting st (batch ∷ batches) full =
+    let below = batches_differ c setting (execute c st batch) batches (executed_full c st batch full) in
+    frames_differ c setting 0 (suc st.number) st (requests_of batch) (Run.ran_points c (execute c st batch) batches) full
+    (all_weaker (Later (execute c st batch)) (Later (fold (run_frame c (suc st.number)) st (requests_of batch)))
+    (λ x h cl is_cl. let a = h cl is_cl in let b = executed_times c st batch cl in omega arith) (Run.ran_points c (execute c st batch) batches) below.0) below.1
+
+pub none_runs_twice : NoneRunsTwice
+none_runs_twice c setting batches = none_twice (Run.ran_points c opening batches) (batches_differ c setting opening batches refl).1

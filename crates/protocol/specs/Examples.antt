@@ -1,15 +1,20 @@
 -- Small histories that the definitions accept, with frames left symbolic: what they spell and that they are authentic is
 -- given.
-use Rattle.std.specs.Prelude.{◌≡◌, ℕ, true, List, [], ◌∷◌, Some}
+use Rattle.std.specs.Prelude.{◌≡◌, ◌≢◌, ℕ, ◌+◌, true, false, List, [], ◌∷◌, Some}
 use Rattle.sha2.specs.Sha256.{sha256}
-use Rattle.protocol.specs.Configuration.{Configuration}
-use Rattle.protocol.specs.Wire.{Frame, frame_of, said}
+use Rattle.tuple_codec.specs.Operations.{Operation, IsOperation}
+use Rattle.space.specs.Applying.{is_read_only}
+use Rattle.protocol.specs.Configuration.{Configuration, IsConfiguration, is_correct_client}
+use Rattle.protocol.specs.Wire.{Frame, ViewChange, frame_of, said}
 use Rattle.protocol.specs.Wire.Message.{PrePrepare, Prepare, Commit}
 use Rattle.protocol.specs.Keys.{heard, IsSealed}
 use Rattle.protocol.specs.Trace.{Entry}
-use Rattle.protocol.specs.Trace.Entry.{Got, Executed, Sent}
+use Rattle.protocol.specs.Trace.Entry.{Invoke, Got, Executed, Sent}
+use Rattle.protocol.specs.Selection.{signed_change, may_select}
 use Rattle.protocol.specs.Certificates.{are_genuine, Committed}
 use Rattle.protocol.specs.RightReplica.{RightReplica}
+use Rattle.protocol.specs.RightClient.{IsRequest}
+use Rattle.protocol.specs.Run.{IsRun}
 
 -- four replicas, none of them faulty
 abbrev pub four : ℕ → List ℕ → Configuration
@@ -39,3 +44,77 @@ FirstBatchExecutes =
     (clients : ℕ) (seed batch a b d e f g : List ℕ) → IsFirstBatch (four clients seed) batch a b d e f g
     → Committed (four clients seed) 1 (first_batch a b d e f g) 0 1 batch
     × RightReplica (four clients seed) 1 (Executed 1 1 batch ∷ first_batch a b d e f g)
+
+-- A trace in which a correct client has invoked an operation and asked all replicas for it, and nothing has come yet, is a
+-- run.
+abbrev pub FirstCallIsRun : Type 0
+FirstCallIsRun =
+    (c : Configuration) → IsConfiguration c → (k : ℕ) (op : Operation) (request : List ℕ) → is_correct_client c (256 + k) ≡ true → IsOperation op
+    → IsRequest c (256 + k) (is_read_only op) (record { timestamp = 1; op = op }) request
+    → IsRun c (Sent (256 + k) request ∷ Invoke k 1 op ∷ [])
+
+-- ---- over a view change
+
+-- what each of three replicas says that holds the first batch prepared in view 0, changing to view 1
+abbrev pub holding : List ℕ → List ℕ → ViewChange
+holding batch root = record {
+  view = 1;
+  low = 0;
+  checkpoints = record { number = 0; digest = root } ∷ [];
+  prepared = record { number = 1; digest = sha256 batch; view = 0 } ∷ [];
+  proposed = record { number = 1; digest = sha256 batch; view = 0 } ∷ [];
+}
+
+-- The new view over their view changes that starts at 0 and has the batch for number 1 meets the rules.
+abbrev pub PreparedIsSelected : Type 0
+PreparedIsSelected =
+    (clients : ℕ) (seed batch root a b d : List ℕ)
+    → signed_change (four clients seed) a ≡ Some (1, holding batch root)
+    → signed_change (four clients seed) b ≡ Some (2, holding batch root)
+    → signed_change (four clients seed) d ≡ Some (3, holding batch root)
+    → may_select (four clients seed) (record { view = 1; changes = a ∷ b ∷ d ∷ []; start = 0; root = root; batches = batch ∷ [] }) ≡ true
+
+-- Without a batch for that number it does not.
+abbrev pub EmptyIsNotSelected : Type 0
+EmptyIsNotSelected =
+    (clients : ℕ) (seed batch root a b d : List ℕ)
+    → signed_change (four clients seed) a ≡ Some (1, holding batch root)
+    → signed_change (four clients seed) b ≡ Some (2, holding batch root)
+    → signed_change (four clients seed) d ≡ Some (3, holding batch root)
+    → may_select (four clients seed) (record { view = 1; changes = a ∷ b ∷ d ∷ []; start = 0; root = root; batches = [] }) ≡ false
+
+-- Nor with the null batch there, where its digest is another.
+abbrev pub NullIsNotSelected : Type 0
+NullIsNotSelected =
+    (clients : ℕ) (seed batch root a b d : List ℕ) → sha256 batch ≢ sha256 (0 ∷ [])
+    → signed_change (four clients seed) a ≡ Some (1, holding batch root)
+    → signed_change (four clients seed) b ≡ Some (2, holding batch root)
+    → signed_change (four clients seed) d ≡ Some (3, holding batch root)
+    → may_select (four clients seed) (record { view = 1; changes = a ∷ b ∷ d ∷ []; start = 0; root = root; batches = (0 ∷ []) ∷ [] }) ≡ false
+
+-- Replica 3 lies: it claims another batch prepared. Over its view change and those of two that tell the truth neither batch
+-- is selected; with a third that tells the truth the prepared one is.
+abbrev pub LieIsNotSelected : Type 0
+LieIsNotSelected =
+    (clients : ℕ) (seed batch lie root a b d : List ℕ) → sha256 batch ≢ sha256 lie
+    → signed_change (four clients seed) a ≡ Some (1, holding batch root)
+    → signed_change (four clients seed) b ≡ Some (2, holding batch root)
+    → signed_change (four clients seed) d ≡ Some (3, holding lie root)
+    → may_select (four clients seed) (record { view = 1; changes = a ∷ b ∷ d ∷ []; start = 0; root = root; batches = lie ∷ [] }) ≡ false
+
+abbrev pub TruthWaits : Type 0
+TruthWaits =
+    (clients : ℕ) (seed batch lie root a b d : List ℕ) → sha256 batch ≢ sha256 lie
+    → signed_change (four clients seed) a ≡ Some (1, holding batch root)
+    → signed_change (four clients seed) b ≡ Some (2, holding batch root)
+    → signed_change (four clients seed) d ≡ Some (3, holding lie root)
+    → may_select (four clients seed) (record { view = 1; changes = a ∷ b ∷ d ∷ []; start = 0; root = root; batches = batch ∷ [] }) ≡ false
+
+abbrev pub TruthIsSelected : Type 0
+TruthIsSelected =
+    (clients : ℕ) (seed batch lie root a b d e : List ℕ) → sha256 batch ≢ sha256 lie
+    → signed_change (four clients seed) e ≡ Some (0, holding batch root)
+    → signed_change (four clients seed) a ≡ Some (1, holding batch root)
+    → signed_change (four clients seed) b ≡ Some (2, holding batch root)
+    → signed_change (four clients seed) d ≡ Some (3, holding lie root)
+    → may_select (four clients seed) (record { view = 1; changes = e ∷ a ∷ b ∷ d ∷ []; start = 0; root = root; batches = batch ∷ [] }) ≡ true

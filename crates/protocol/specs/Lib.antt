@@ -1,7 +1,6 @@
 pub mod Configuration
 pub mod Wire
 pub mod Keys
-pub mod Pages
 pub mod Trace
 pub mod Selection
 pub mod Certificates
@@ -15,3 +14,4 @@ pub mod Owed
 pub mod Run
 pub mod Refused
 pub mod Examples
+pub mod Schedule

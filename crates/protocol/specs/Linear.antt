@@ -139,7 +139,7 @@ pub record Point : Type 0 where
 
 abbrev pub ordered_point : ℕ → ℕ → Ran → Point
 ordered_point position number ran = record {
-  item = record { client = 256 + ran.call.client; timestamp = ran.call.timestamp; op = ran.call.op; answer = ran.kept.answer; position = position };
+  item = record { client = 256 + ran.call.client; timestamp = ran.call.timestamp; op = ran.call.op; answer = ran.kept.outcome; position = position };
   number = number;
   read_only = false;
 }

@@ -15,7 +15,7 @@ use Rattle.protocol.specs.Trace.{Entry, party_of, Once, Has, Each, frames_in, He
 use Rattle.protocol.specs.Trace.Entry.{Invoke, Got, Tick, Executed, Installed, Sent, Accepted}
 use Rattle.protocol.specs.Selection.{is_quorum}
 use Rattle.protocol.specs.Certificates.{view, target, is_active_in, taken, count_marks, low, is_in_marks, are_genuine, logged, Prepared, Committed}
-use Rattle.protocol.specs.Pages.{Kept}
+use Rattle.reply_cache.specs.Replies.{Kept}
 use Rattle.protocol.specs.State.{State, IsState, Call, call_in, Ran, opening, execute, root_of, pages_of, page_text, kept_of, last_time, tuples, ran_in}
 
 -- ---- words on pasts
@@ -193,7 +193,7 @@ pub record RepliesTo (client timestamp number : ℕ) (answer : Outcome) (call_cl
   pub client_is : client ≡ 256 + call_client
   pub time : kept.timestamp ≡ timestamp
   pub number_is : kept.number ≡ number
-  pub answer_is : kept.answer ≡ answer
+  pub answer_is : kept.outcome ≡ answer
 
 abbrev pub MayReplyOrdered : Point → ℕ → ℕ → ℕ → Outcome → Type 0
 MayReplyOrdered point client timestamp number answer =

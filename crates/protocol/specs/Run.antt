@@ -1,12 +1,14 @@
 -- Runs: what the correct replicas and clients do together, whatever the faulty ones send and however frames come.
-use Rattle.std.specs.Prelude.{◌≡◌, ℕ, ◌+◌, ◌<◌, true, false, List, [], ◌∷◌, Some, ⊤}
+use Rattle.std.specs.Prelude.{◌≡◌, ℕ, ◌+◌, ◌<◌, true, false, List, [], ◌∷◌, Some, ⊤, map, suc, ◌++◌}
 use Rattle.protocol.specs.Configuration.{Configuration, IsConfiguration, is_correct, is_correct_replica, is_correct_client}
 use Rattle.protocol.specs.Trace.{Entry, party_of, history_of, Always, Unforged}
 use Rattle.protocol.specs.Trace.Entry.{Accepted}
 use Rattle.protocol.specs.RightClient.{is_output, IsClient, IsWeakClient, Vote, newest_vote}
 use Rattle.protocol.specs.Owed.{IsReplica}
 use Rattle.protocol.specs.Texts.{NoCollision}
-use Rattle.protocol.specs.Linear.{points, IsLinear, is_level, invoke_past}
+use Rattle.protocol.specs.Wire.{requests_of}
+use Rattle.protocol.specs.State.{State, opening, execute, ran_in}
+use Rattle.protocol.specs.Linear.{points, IsLinear, is_level, invoke_past, Point, ordered_point, NoneTwice}
 use Rattle.protocol.specs.Laws.{IsOneSpace}
 
 -- an output follows its input, or an output of the same event
@@ -60,3 +62,15 @@ abbrev pub AcceptedAtLevels : Type 0
 AcceptedAtLevels =
     (c : Configuration) → IsConfiguration c → (trace : List Entry) → IsRun c trace → Unforged c trace → NoCollision c trace
     → Always (AtItsLevel c) trace
+
+-- ---- over all batches
+
+-- the requests that run in these batches, one after another
+abbrev pub ran_points : Configuration → State → List (List ℕ) → List Point
+ran_points c st [] = []
+ran_points c st (batch ∷ batches) =
+    map (ordered_point 0 (suc st.number)) (ran_in c (suc st.number) st (requests_of batch)) ++ ran_points c (execute c st batch) batches
+
+-- No client and timestamp runs twice, whatever the batches hold.
+abbrev pub NoneRunsTwice : Type 0
+NoneRunsTwice = (c : Configuration) → IsConfiguration c → (batches : List (List ℕ)) → NoneTwice (map (λ x. x.item) (ran_points c opening batches))

@@ -11,7 +11,8 @@ use Rattle.partition_tree.specs.Digests.{root_of as root_of_pages}
 use Rattle.protocol.specs.Configuration.{Configuration, is_client}
 use Rattle.protocol.specs.Wire.{Body, requests_of, said}
 use Rattle.protocol.specs.Wire.Message.{Request}
-use Rattle.protocol.specs.Pages.{Kept, IsKept, reply_page}
+use Rattle.reply_cache.specs.Replies.{Kept, IsKept}
+use Rattle.reply_cache.specs.Pages.{reply_text}
 
 -- The space, the number of the last batch, and for each client, by its number, its last request that ran.
 pub record State : Type 0 where
@@ -56,7 +57,7 @@ runs st call = nat_lt (last_time st call.client) call.timestamp
 
 -- what a request that runs keeps for its client
 abbrev pub kept_by : State → ℕ → Call → Kept
-kept_by st number call = record { timestamp = call.timestamp; number = number; answer = outcome (tuples st) call.op }
+kept_by st number call = record { timestamp = call.timestamp; number = number; outcome = outcome (tuples st) call.op }
 
 abbrev pub ran_call : State → ℕ → Call → State
 ran_call st number call =
@@ -104,7 +105,7 @@ pub record IsState (st : State) : Type 0 where
 unfoldable pub page_text : State → ℕ → List ℕ
 page_text st page =
     if nat_lt page 256 then tuple_page st.space page else
-    if nat_lt page 512 then reply_page (kept_of st (page - 256)) else
+    if nat_lt page 512 then reply_text (kept_of st (page - 256)) else
     if page == 512 then header_text st.space st.number else
     []
 

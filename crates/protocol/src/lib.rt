@@ -5,7 +5,7 @@ pub mod accepted;
 pub mod refused;
 
 ghost use Rattle.protocol.specs.Laws.{PreparedAgree, CommittedStays, CommittedAgree, ExecutedAgree, PagesDetermine, BatchesLeaveStates, StatesAgree, StableAgree, InstalledAgree, StartsAgree};
-ghost use Rattle.protocol.specs.Run.{PointsAreLinear, AcceptedAtLevels, WeakAnswersAreOneSpace};
+ghost use Rattle.protocol.specs.Run.{PointsAreLinear, NoneRunsTwice, AcceptedAtLevels, WeakAnswersAreOneSpace};
 
 /// Two correct replicas hold batches of one digest prepared in one view for one number (Castro and Liskov, TOCS 2002,
 /// section 4.5).
@@ -69,4 +69,9 @@ pub fn accepted_at_levels()
 /// space, in which each operation acts at most once. Where they stand in time is not promised.
 pub fn weak_answers_are_one_space()
     ensures weak { WeakAnswersAreOneSpace }
+{}
+
+/// No client and timestamp runs twice over all batches.
+pub fn none_runs_twice()
+    ensures once { NoneRunsTwice }
 {}
