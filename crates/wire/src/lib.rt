@@ -34,3 +34,5 @@ pub use terms::{ClientId, Digest, Level, Mode, Number, Party, Timestamp, View};
 
 #[cfg(test)]
 mod tests;
+#[cfg(test)]
+mod tests_of_encoding;

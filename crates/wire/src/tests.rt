@@ -52,12 +52,9 @@ fn signed(alloc: Global, body: &[u8]) -> Result<Vec<u8>, AllocError> {
 
 fn comes_back(alloc: Global, bytes: &[u8]) -> Result<bool, Fail> {
     let frame = decode(alloc, bytes)?;
-    let body = body_bytes(bytes);
-    let proof_len = bytes.len().saturating_sub(body.len()).saturating_sub(4);
     let text = encode(alloc, &frame.body)?;
-    let begun = begin_frame(alloc, &frame.body, proof_len)?;
-    let whole = put_proof(begun, &frame.proof)?;
-    Ok(whole.as_slice() == bytes && text.as_slice() == body)
+    let whole = encode_frame(alloc, &frame)?;
+    Ok(whole.as_slice() == bytes && text.as_slice() == body_bytes(bytes))
 }
 
 fn is_malformed(alloc: Global, bytes: &[u8]) -> bool {
