@@ -1,4 +1,4 @@
-use Rattle.std.proofs.Common.{◌≡◌, ◌++◌, ◌∷◌, [], drop, length, map}
+use Rattle.std.proofs.Common.{◌≡◌, ◌++◌, ◌∷◌, drop, length, map}
 use Rattle.wire.specs.Lists.{each_spelling}
 use Rattle.wire.proofs.encoding.put_batches.Given as goal
 

@@ -1,8 +1,7 @@
 use Rattle.std.proofs.Common.{◌≡◌, ◌++◌, ◌∷◌, [], drop, length, map}
-use Rattle.std.specs.Int.{w16, to_be_bytes}
 use Rattle.wire.specs.Lists.{each_spelling}
-use Rattle.wire.specs.Views.{mark_data, claim_data}
-use Rattle.wire.specs.Spelling.{mark_spelling, claim_spelling}
+use Rattle.wire.specs.Views.{mark_data}
+use Rattle.wire.specs.Spelling.{mark_spelling}
 use Rattle.wire.proofs.encoding.put_marks.Given as goal
 
 abbrev pub invariant-loop-mark : goal.invariant-loop-mark

@@ -1,4 +1,4 @@
-use Rattle.std.proofs.Common.{◌≤◌, ◌∙◌, List, ℕ, Vec, Global, ap, length, arith}
+use Rattle.std.proofs.Common.{List, ℕ, Vec, Global, ap, length, arith}
 use Rattle.wire.specs.Spelling.{IsCarried, is_view_change}
 use Rattle.wire.proofs.Joined.{each_at}
 use Rattle.wire.proofs.Short.{change_length}
