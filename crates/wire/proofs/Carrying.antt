@@ -1,12 +1,12 @@
 -- Steps of reading what frames carry.
-use Rattle.std.proofs.Common.{◌≡◌, ◌↔◌, ◌⊎◌, inl, inr, ℕ, zero, suc, nat_le, ◌+◌, ◌-◌, ◌*◌, ◌^◌, ◌<◌, ◌≤◌, Bool, true, false, ◌&&◌, cond, List, [], ◌∷◌, ◌++◌, length, take, drop, map, slice_index, get_or, Option, Some, None, is_some, IsTrue, ap, sym, subst, refl, ◌∙◌, arith, append-nil, length-append}
+use Rattle.std.proofs.Common.{◌≡◌, ◌↔◌, ◌⊎◌, inl, inr, ℕ, zero, suc, nat_le, ◌+◌, ◌-◌, ◌*◌, ◌<◌, ◌≤◌, Bool, true, false, ◌&&◌, List, [], ◌∷◌, ◌++◌, length, take, slice_index, Option, Some, None, is_some, ap, sym, subst, refl, ◌∙◌, arith, length-append}
 use Rattle.std.proofs.lemmas.List.{take_at}
-use Rattle.std.proofs.lemmas.Bool.{le-leb, lt-leb, lt-ltb, le-ltb, eqb-true, and_from}
-use lib.Dec.{ltb, leb, eqb}
+use Rattle.std.proofs.lemmas.Bool.{le-leb, lt-leb, and_from}
+use lib.Dec.{leb, eqb}
 use Rattle.tuple_tree.specs.Values.{AreBytes}
 use Rattle.tuple_codec.specs.Operations.{Operation, IsOperation}
 use Rattle.tuple_codec.specs.Spelling.{SpellsOperation, operation_spelling}
-use Rattle.tuple_codec.specs.Reading.{◌>>=◌, Reader, rest_of, byte_at, bytes_at, number_of, operation_at}
+use Rattle.tuple_codec.specs.Reading.{◌>>=◌, Reader, rest_of, byte_at, number_of, operation_at}
 use Rattle.tuple_codec.proofs.Readers.{bind_some, guard_holds}
 use Rattle.tuple_codec.proofs.Skipping.{rest_some, rest_none}
 use Rattle.tuple_codec.proofs.Grammar.{all_spelled, all_read}
@@ -16,11 +16,11 @@ use Rattle.wire.specs.declared.fault.WireFault.TheVariants as faults
 use Rattle.wire.specs.Gives.{FailsTest, FailsOver}
 use Rattle.wire.specs.declared.terms.Mode.{Mode}
 use Rattle.wire.specs.declared.terms.Mode.TheVariants as modes
-use Rattle.wire.specs.Messages.{MessageData, request, pre_prepare, prepare, commit, checkpoint, view_change, new_view, reply, fetch, meta, page, ViewChangeData, BodyData, ProofData, FrameData}
+use Rattle.wire.specs.Messages.{MessageData, request, pre_prepare, prepare, commit, checkpoint, view_change, new_view, reply, fetch, meta, page, BodyData, ProofData, FrameData}
 use Rattle.wire.specs.Spelling.{pieces_spelling, is_ordered_request, is_signed, frame_limit, sender_in, sender_before}
-use Rattle.wire.specs.Reading.{passing, if_it, more_at, anyhow, follows, all_of, proof_of, body_by, frame_by, request_at, view_change_at, mode_at, piece_at, request_by, change_by, is_request, is_change, requests_at, batch_at, is_over, of_some, over_in, changes_at, changes_over}
+use Rattle.wire.specs.Reading.{passing, if_it, more_at, anyhow, follows, all_of, proof_of, body_by, frame_by, request_at, view_change_at, mode_at, piece_at, request_by, change_by, is_request, is_change, requests_at, batch_at, is_over, over_in, changes_at, changes_over}
 use Rattle.wire.proofs.Forms.{all_some}
-use Rattle.wire.proofs.Parts.{number_8_reads, mode_reads, byte_reads}
+use Rattle.wire.proofs.Parts.{number_8_reads, mode_reads}
 use Rattle.wire.proofs.Carriers.{requests_reads}
 
 is_none : {A : Type 0} (o : Option A) → is_some o ≡ false → o ≡ None

@@ -1,16 +1,14 @@
 -- What the words on bytes say.
-use Rattle.std.proofs.Common.{◌≡◌, ◌↔◌, ℕ, suc, ◌+◌, ◌^◌, ◌<◌, ◌≤◌, Bool, true, false, List, [], ◌∷◌, ◌++◌, length, take, Option, Some, None, ap, sym, subst, refl, ◌∙◌, arith, append_assoc, append-nil, length-append}
+use Rattle.std.proofs.Common.{◌≡◌, ℕ, ◌≤◌, Bool, List, [], ◌∷◌, ◌++◌, length, take, Some, ap, sym, subst, refl, ◌∙◌, arith, append_assoc}
 use Rattle.std.proofs.lemmas.List.{take_at}
 use Rattle.std.proofs.lemmas.Bool.{le-leb, and_from}
-use Rattle.tuple_tree.specs.Values.{AreBytes}
 use Rattle.tuple_codec.specs.Reading.{◌>>=◌}
 use Rattle.tuple_codec.proofs.Readers.{parts}
-use Rattle.tuple_codec.proofs.Grammar.{one}
 use Rattle.wire.specs.Lists.{Each, each_spelling}
-use Rattle.wire.specs.Messages.{MessageData, request, pre_prepare, prepare, commit, checkpoint, view_change, new_view, reply, fetch, meta, page, BodyData, MacData, ProofData, macs, signature, FrameData}
-use Rattle.wire.specs.Spelling.{body_spelling, proof_spelling, frame_spelling, piece, pieces_spelling, mac_spelling, mac_before, IsPlain, IsMessage, IsFrameOf, IsProof, IsCarried, IsBatch, is_ordered_request, is_view_change, is_signed, proof_is_signed, SpellsBody, SpellsFrame}
-use Rattle.wire.specs.Reading.{all_of, requests_at, body_of, frame_of, piece_at, macs_at, message_by}
-use Rattle.wire.specs.Words.{said, requests_of, requests_of_all, carried, ReadsFrames, ReadsBodies, ReadsSaid, ReadsRequests, CarriesFrames, HasOneFrame, HasOneBody}
+use Rattle.wire.specs.Messages.{MessageData, request, pre_prepare, prepare, commit, checkpoint, view_change, new_view, reply, fetch, meta, page, MacData, ProofData, macs, signature, FrameData}
+use Rattle.wire.specs.Spelling.{body_spelling, proof_spelling, frame_spelling, piece, pieces_spelling, mac_spelling, mac_before, IsMessage, IsProof, IsCarried, IsBatch, is_ordered_request, is_view_change, is_signed, proof_is_signed, SpellsBody, SpellsFrame}
+use Rattle.wire.specs.Reading.{all_of, requests_at, piece_at, macs_at, message_by}
+use Rattle.wire.specs.Words.{said, requests_of, requests_of_all, ReadsFrames, ReadsBodies, ReadsSaid, ReadsRequests, CarriesFrames, HasOneFrame, HasOneBody}
 use Rattle.wire.proofs.Forms.{ascending_of}
 use Rattle.wire.proofs.Parts.{piece_there, macs_reads, count_from, mac}
 use Rattle.wire.proofs.Framing.{text_bound, all_again}

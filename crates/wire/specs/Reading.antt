@@ -1,13 +1,13 @@
 -- What stands at the front of bytes, and the bytes behind it; None where nothing does. The contracts of private functions
 -- speak of these. The public ones speak of Spelling alone.
-use Rattle.std.specs.Prelude.{ℕ, zero, suc, ◌+◌, Bool, true, false, ◌&&◌, ◌||◌, ◌==◌, nat_lt, nat_le, is_some, if◌then◌else◌, List, [], ◌∷◌, ◌++◌, length, drop, Option, Some, None}
+use Rattle.std.specs.Prelude.{ℕ, zero, suc, Bool, true, false, ◌&&◌, ◌||◌, ◌==◌, nat_lt, nat_le, is_some, if◌then◌else◌, List, [], ◌∷◌, ◌++◌, length, Option, Some, None}
 use Rattle.tuple_codec.specs.Reading.{◌>>=◌, Reader, read_as, byte_at, bytes_at, number_of, operation_at, outcome_at}
 use Rattle.wire.specs.declared.terms.Mode.{Mode}
 use Rattle.wire.specs.declared.terms.Mode.TheVariants as modes
 use Rattle.wire.specs.declared.terms.Level.{Level}
 use Rattle.wire.specs.declared.terms.Level.TheVariants as levels
 use Rattle.wire.specs.Faults.{limit_at}
-use Rattle.wire.specs.Messages.{MarkData, ClaimData, ViewChangeData, NewViewData, MessageData, request, pre_prepare, prepare, commit, checkpoint, view_change, new_view, reply, fetch, meta, page, BodyData, MacData, ProofData, macs, signature, FrameData}
+use Rattle.wire.specs.Messages.{MarkData, ClaimData, ViewChangeData, MessageData, request, pre_prepare, prepare, commit, checkpoint, view_change, new_view, reply, fetch, meta, page, BodyData, MacData, ProofData, macs, signature, FrameData}
 use Rattle.wire.specs.Spelling.{pieces_spelling, last_index, has_children, mark_before, claim_before, named_before, mac_before, sender_before, is_signed, is_ordered_request, frame_limit}
 
 -- ---- forms

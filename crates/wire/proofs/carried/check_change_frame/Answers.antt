@@ -1,4 +1,4 @@
-use Rattle.std.proofs.Common.{◌∙◌, sym, arith}
+use Rattle.std.proofs.Common.{◌∙◌, arith}
 use Rattle.std.proofs.lemmas.Bool.{le-leb, lt-leb}
 use Rattle.wire.proofs.Carrying.{change_no_piece, change_failed, change_no_proof, change_by_size}
 use Rattle.wire.proofs.carried.check_change_frame.Goals as goal

@@ -1,7 +1,6 @@
 use Rattle.std.proofs.Common.{◌∙◌, ap, sym, arith, map}
 use Rattle.wire.specs.Orders.{order_of}
 use Rattle.wire.specs.Views.{claim_data}
-use Rattle.wire.specs.Spelling.{mark_before}
 use Rattle.wire.specs.Reading.{follows, claim_at}
 use Rattle.wire.proofs.Steps.{goes_on, none_comes, out_of_order, claims_from}
 use Rattle.wire.proofs.changes.read_claims.Goals as goal

@@ -1,9 +1,8 @@
 use Rattle.std.proofs.Common.{◌∙◌, ap, sym, arith, map}
-use Rattle.wire.specs.Orders.{order_of}
 use Rattle.wire.specs.Views.{mark_data}
 use Rattle.wire.specs.Spelling.{mark_before}
 use Rattle.wire.specs.Reading.{follows, mark_at}
-use Rattle.wire.proofs.Steps.{goes_on, none_comes, out_of_order, marks_from}
+use Rattle.wire.proofs.Steps.{goes_on, out_of_order, marks_from}
 use Rattle.wire.proofs.changes.read_marks.Goals as goal
 
 pub returns-then-not-is_next_mark : goal.returns-then-not-is_next_mark
