@@ -1,8 +1,10 @@
 -- The counts and lengths in a body that may be said have room for what they say.
-use Rattle.std.proofs.Common.{◌≡◌, ℕ, ◌≤◌, ◌<◌, ◌^◌, List, [], ◌∷◌, length, ap, arith}
+use Rattle.std.proofs.Common.{◌≡◌, ℕ, ◌+◌, ◌*◌, ◌≤◌, ◌<◌, ◌^◌, List, [], ◌∷◌, ◌++◌, length, ap, refl, arith, length-append}
+use Rattle.std.specs.Int.{w16, to_be_bytes}
 use Rattle.wire.specs.Lists.{Each}
-use Rattle.wire.specs.Messages.{ViewChangeData, NewViewData, MessageData, request, pre_prepare, prepare, commit, checkpoint, view_change, new_view, reply, fetch, meta, page, BodyData}
-use Rattle.wire.specs.Spelling.{is_view_change, IsCarried, IsViewChange, IsNewView, IsMessage, IsBody}
+use Rattle.wire.specs.Messages.{ViewChangeData, NewViewData, MessageData, request, pre_prepare, prepare, commit, checkpoint, view_change, new_view, reply, fetch, meta, page, BodyData, MacData, ProofData, macs, signature}
+use Rattle.wire.specs.Lists.{each_spelling}
+use Rattle.wire.specs.Spelling.{is_view_change, IsCarried, IsViewChange, IsNewView, IsMessage, IsBody, IsMac, IsProof, mac_spelling, proof_spelling}
 use Rattle.wire.specs.Counts.{ViewChangeFits, NewViewFits, CountsFit}
 use Rattle.wire.proofs.Framing.{limit_bound}
 
@@ -35,3 +37,12 @@ counts_fit (page number index text) h = tt
 -- each body that may be said can be encoded
 pub body_fits : (b : BodyData) → IsBody b → CountsFit b.message
 body_fits b h = counts_fit b.message h.message
+
+macs_length : (ms : List MacData) → Each IsMac ms → length (each_spelling mac_spelling ms) ≡ 34 * length ms
+macs_length [] e = refl
+macs_length (m ∷ ms) e = omega (arith, length-append (mac_spelling m) (each_spelling mac_spelling ms), length-append (to_be_bytes w16 m.receiver) m.mac, e.0.1.whole, macs_length ms e.1)
+
+-- each proof leaves room for itself
+pub proof_fits : (p : ProofData) → IsProof p → length (proof_spelling p) ≤ 16578
+proof_fits (macs ms) h = omega (arith, macs_length ms h.2, h.1)
+proof_fits (signature s) h = omega (arith, h.0)
