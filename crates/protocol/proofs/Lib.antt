@@ -2,6 +2,7 @@ pub mod Temporal
 pub mod Options
 pub mod Modes
 pub mod Linking
+pub mod Spelled
 pub mod Voting
 pub mod Marks
 pub mod Offers
