@@ -7,8 +7,9 @@ use Rattle.protocol.specs.RightReplica
 use Rattle.protocol.proofs.Running
 use Rattle.quorum.specs.Quorum.{count_below}
 use Rattle.protocol.specs.Configuration.{Configuration, is_replica, is_correct_replica, is_correct_client}
-use Rattle.protocol.specs.Wire.{Body, Message}
-use Rattle.protocol.specs.Wire.Message.{Reply}
+use Rattle.wire.specs.declared.terms.Mode.TheVariants as modes
+use Rattle.wire.specs.Messages.{BodyData as Body, MessageData as Message, reply as Reply}
+use Rattle.protocol.specs.Frames.{heard, mode_of, reads_only}
 use Rattle.protocol.specs.Trace.{Entry, party_of, history_of, Once, Always, Has, Hears}
 use Rattle.protocol.specs.Trace.Entry.{Invoke, Got, Tick, Executed, Installed, Sent, Accepted}
 use Rattle.space.specs.Applying.{is_read_only, outcome}
@@ -38,7 +39,6 @@ use Rattle.protocol.proofs.Paging.{same_outcome}
 use Rattle.protocol.proofs.Temporal.{once_stays}
 use Rattle.tuple_codec.specs.Operations.{Outcome, IsOutcome, Operation}
 use Rattle.tuple_codec.specs.Spelling.{outcome_spelling}
-use Rattle.protocol.specs.Keys.{heard}
 use Rattle.protocol.specs.Linear.{invoke_past}
 
 -- ---- a run with right clients
@@ -222,10 +222,10 @@ once_history_later Q s (e ∷ later) xs h = once_history_more Q s e (later ++ xs
 pub embedded : (Q : List Entry → Entry → Type 0) (s : ℕ) (trace later past : List Entry) (e : Entry) → trace ≡ later ++ e ∷ past → Once Q (history_of s past) → Once Q (history_of s trace)
 embedded Q s trace later past e is h = subst (λ (ys : List Entry). Once Q (history_of s ys)) (sym is) (once_history_later Q s later (e ∷ past) (once_history_more Q s e past h))
 
-reply_may : (c : Configuration) (s p t : ℕ) (kind : Bool) (number : ℕ) (answer : Outcome) (past : List Entry) (e : Entry) → RightAt c s past e → Speaks (record { sender = s; message = Reply p t kind number answer }) past e
-    → (point : RightReplica.Point) × Leaves c s past point × MayReply c s past point p t kind number answer
+reply_may : (c : Configuration) (s p t : ℕ) (kind : Bool) (number : ℕ) (answer : Outcome) (past : List Entry) (e : Entry) → RightAt c s past e → Speaks (record { sender = s; message = Reply p t (mode_of kind) number answer }) past e
+    → (point : RightReplica.Point) × Leaves c s past point × MayReply c s past point p t (mode_of kind) number answer
 reply_may c s p t kind number answer past (Sent q bytes) r h =
-    let is = some_injective r.may.body (record { sender = s; message = Reply p t kind number answer }) (sym r.may.says ∙ h) in
+    let is = some_injective r.may.body (record { sender = s; message = Reply p t (mode_of kind) number answer }) (sym r.may.says ∙ h) in
     (r.point, r.leaves, subst (λ (x : Body). MaySay c s past r.point (Sent q bytes) bytes x.message) is r.may.say)
 reply_may c s p t kind number answer past (Invoke x y z) r h = absurd h
 reply_may c s p t kind number answer past (Got x y) r h = absurd h
@@ -243,16 +243,16 @@ pub record Replied (c : Configuration) (trace : List Entry) (s p t : ℕ) (kind 
   pub good : GoodAll c trace s past
   pub point : RightReplica.Point
   pub leaves : Leaves c s past point
-  pub may : MayReply c s past point p t kind number answer
+  pub may : MayReply c s past point p t (mode_of kind) number answer
 
 pub replied : (c : Configuration) (trace : List Entry) (s p t : ℕ) (kind : Bool) (number : ℕ) (answer : Outcome) → Run c trace → is_correct_replica c s ≡ true
-    → Once (Speaks (record { sender = s; message = Reply p t kind number answer })) (history_of s trace) → Replied c trace s p t kind number answer
+    → Once (Speaks (record { sender = s; message = Reply p t (mode_of kind) number answer })) (history_of s trace) → Replied c trace s p t kind number answer
 replied c trace s p t kind number answer run correct h =
     let goods = states_agree c run.setting trace run.runs.replicas run.runs.unforged run.apart s correct in
-    let at = once_split (λ past e. GoodHere c trace s past × (RightAt c s past e × Speaks (record { sender = s; message = Reply p t kind number answer }) past e × Always (RightAt c s) past) × Always (λ past e. GoodHere c trace s past) past)
+    let at = once_split (λ past e. GoodHere c trace s past × (RightAt c s past e × Speaks (record { sender = s; message = Reply p t (mode_of kind) number answer }) past e × Always (RightAt c s) past) × Always (λ past e. GoodHere c trace s past) past)
     (history_of s trace)
-    (once_always (λ past e. GoodHere c trace s past) (λ past e. RightAt c s past e × Speaks (record { sender = s; message = Reply p t kind number answer }) past e × Always (RightAt c s) past) (history_of s trace) goods.1
-    (once_right c s (Speaks (record { sender = s; message = Reply p t kind number answer })) (history_of s trace) (run.runs.replicas s correct) h)) in
+    (once_always (λ past e. GoodHere c trace s past) (λ past e. RightAt c s past e × Speaks (record { sender = s; message = Reply p t (mode_of kind) number answer }) past e × Always (RightAt c s) past) (history_of s trace) goods.1
+    (once_right c s (Speaks (record { sender = s; message = Reply p t (mode_of kind) number answer })) (history_of s trace) (run.runs.replicas s correct) h)) in
     let m = reply_may c s p t kind number answer at.past at.entry at.holds.1.0 at.holds.1.1 in
     record { past = at.past; entry = at.entry; later = at.later; is = at.is; good = (at.holds.0, at.holds.2); point = m.0; leaves = m.1; may = m.2 }
 
@@ -324,7 +324,7 @@ ordered_replied c trace s p t number answer run correct client r = go r.may
     more : (Q : ℕ → Ran → Type 0) → ((j : ℕ) (x : Ran) → Q j x → Answers p t number answer j x) → RanBy c trace opening 1 r.point.state.number Q → RanBy c trace opening 1 (last_executed trace) (Answers p t number answer)
     more Q f h = ran_by-more c trace opening 1 r.point.state.number (last_executed trace) (Answers p t number answer) most (ran_by-weaker c trace opening 1 r.point.state.number Q (Answers p t number answer) f h)
 
-    go : MayReply c s r.past r.point p t false number answer → RanBy c trace opening 1 (last_executed trace) (Answers p t number answer)
+    go : MayReply c s r.past r.point p t modes.Ordered number answer → RanBy c trace opening 1 (last_executed trace) (Answers p t number answer)
     go (inl h) =
         let x = has_some (λ (ran : Ran). RepliesTo p t number answer ran.call.client ran.kept) r.point.ran h in
         more (IsRun x.0) (λ j y u.
@@ -352,11 +352,11 @@ ordered_replied c trace s p t number answer run correct client r = go r.may
 
 -- ---- answers that are heard are within the limits
 
-pub heard_answer : (c : Configuration) (p s t : ℕ) (kind : Bool) (number : ℕ) (answer : Outcome) (xs : List Entry) → Once (Hears c p (record { sender = s; message = Reply p t kind number answer })) xs → IsOutcome answer
-heard_answer c p s t kind number answer xs h = once_stays (λ past. IsOutcome answer) (λ e past k. k) xs (once_weaker (Hears c p (record { sender = s; message = Reply p t kind number answer })) (λ past e. IsOutcome answer) step xs h)
+pub heard_answer : (c : Configuration) (p s t : ℕ) (kind : Bool) (number : ℕ) (answer : Outcome) (xs : List Entry) → Once (Hears c p (record { sender = s; message = Reply p t (mode_of kind) number answer })) xs → IsOutcome answer
+heard_answer c p s t kind number answer xs h = once_stays (λ past. IsOutcome answer) (λ e past k. k) xs (once_weaker (Hears c p (record { sender = s; message = Reply p t (mode_of kind) number answer })) (λ past e. IsOutcome answer) step xs h)
   where
-    step : (past : List Entry) (e : Entry) → Hears c p (record { sender = s; message = Reply p t kind number answer }) past e → IsOutcome answer
-    step past (Got q bytes) h = heard_fits c p bytes (record { sender = s; message = Reply p t kind number answer }) h
+    step : (past : List Entry) (e : Entry) → Hears c p (record { sender = s; message = Reply p t (mode_of kind) number answer }) past e → IsOutcome answer
+    step past (Got q bytes) h = heard_fits c p bytes (record { sender = s; message = Reply p t (mode_of kind) number answer }) h
     step past (Invoke x y z) h = absurd h
     step past (Tick x) h = absurd h
     step past (Executed x y z) h = absurd h
@@ -365,8 +365,8 @@ heard_answer c p s t kind number answer xs h = once_stays (λ past. IsOutcome an
     step past (Accepted x y z) h = absurd h
 
 vote_answer : (me t s : ℕ) (vote : Vote) (sender : ℕ) (message : Message) → vote_of me t s (record { sender = sender; message = message }) ≡ Some vote → FitsMessage message → IsOutcome vote.answer
-vote_answer me t s vote sender (Reply client timestamp read_only number answer) h f =
-    let g = give_if_some ((sender == s) && (client == me) && (timestamp == t)) (record { read_only = read_only; number = number; answer = answer }) vote h in
+vote_answer me t s vote sender (Reply client timestamp mode number answer) h f =
+    let g = give_if_some ((sender == s) && (client == me) && (timestamp == t)) (record { read_only = reads_only mode; number = number; answer = answer }) vote h in
     subst IsOutcome (ap (λ (v : Vote). v.answer) g.1) f
 vote_answer me t s vote sender _ h f = absurd cc
 
@@ -387,7 +387,7 @@ newest_answer c me t vote (Accepted x y z ∷ past) h = absurd cc
 pub record Voted (c : Configuration) (past : List Entry) (p t : ℕ) (kind : Bool) (vote : Vote) : Type 0 where
   pub replica : ℕ
   pub is_correct : is_correct_replica c replica ≡ true
-  pub says : Once (Speaks (record { sender = replica; message = Reply p t kind vote.number vote.answer })) (history_of replica past)
+  pub says : Once (Speaks (record { sender = replica; message = Reply p t (mode_of kind) vote.number vote.answer })) (history_of replica past)
 
 pub voted : (c : Configuration) (past : List Entry) (p t : ℕ) (a : Outcome) (x : Accepting c past p t a) → Voted c past p t x.vote.read_only x.vote
 voted c past p t a x =
@@ -399,12 +399,12 @@ voted c past p t a x =
     own : Always (λ past e. party_of e ≡ p) (history_of p past)
     own = own_entries c p (history_of p past) (x.run.runs.clients p x.client)
 
-    hears : (s : ℕ) (kind : Bool) (v : Vote) → latest c p (history_of p past) t kind s ≡ Some v → Once (Hears c p (record { sender = s; message = Reply p t kind v.number v.answer })) (history_of p past)
+    hears : (s : ℕ) (kind : Bool) (v : Vote) → latest c p (history_of p past) t kind s ≡ Some v → Once (Hears c p (record { sender = s; message = Reply p t (mode_of kind) v.number v.answer })) (history_of p past)
     hears s true v is = latest_heard c p t s v (history_of p past) own is
     hears s false v is = latest_ordered c p t s v (history_of p past) own is
 
     go : (s : ℕ) → is_correct_replica c s ≡ true → (kind : Bool) (o : Option Vote) → latest c p (history_of p past) t kind s ≡ o → is_alike x.vote o ≡ true
-        → Once (Speaks (record { sender = s; message = Reply p t kind x.vote.number x.vote.answer })) (history_of s past)
+        → Once (Speaks (record { sender = s; message = Reply p t (mode_of kind) x.vote.number x.vote.answer })) (history_of s past)
     go s correct kind None is k = absurd cc
     go s correct kind (Some v) is k =
         let q = and_parts (v.number == x.vote.number) (bytes_eq (outcome_spelling v.answer) (outcome_spelling x.vote.answer)) k in
@@ -412,6 +412,6 @@ voted c past p t a x =
         let m : v.answer ≡ x.vote.answer =
         same_outcome v.answer x.vote.answer (heard_answer c p s t kind v.number v.answer (history_of p past) (hears s kind v is)) (newest_answer c p t x.vote (history_of p past) x.newest)
         ((bytes_eq-Decides (outcome_spelling v.answer) (outcome_spelling x.vote.answer)).0 q.1) in
-        let said' = heard_was_said c past p (record { sender = s; message = Reply p t kind v.number v.answer }) x.run.runs.unforged (correct_client c p x.client) (correct_replica c s correct) (hears s kind v is) in
-        subst (λ (i : ℕ). Once (Speaks (record { sender = s; message = Reply p t kind i x.vote.answer })) (history_of s past)) n
-        (subst (λ (b : Outcome). Once (Speaks (record { sender = s; message = Reply p t kind v.number b })) (history_of s past)) m said')
+        let said' = heard_was_said c past p (record { sender = s; message = Reply p t (mode_of kind) v.number v.answer }) x.run.runs.unforged (correct_client c p x.client) (correct_replica c s correct) (hears s kind v is) in
+        subst (λ (i : ℕ). Once (Speaks (record { sender = s; message = Reply p t (mode_of kind) i x.vote.answer })) (history_of s past)) n
+        (subst (λ (b : Outcome). Once (Speaks (record { sender = s; message = Reply p t (mode_of kind) v.number b })) (history_of s past)) m said')

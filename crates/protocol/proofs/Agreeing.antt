@@ -7,7 +7,7 @@ use Rattle.sha2.specs.Sha256.{sha256}
 use Rattle.quorum.proofs.Counting.{quorums_meet, count_with, count_members, count_mono}
 use Rattle.quorum.specs.Quorum.{count_below}
 use Rattle.protocol.specs.Configuration.{Configuration, primary, is_correct_replica, is_faulty_replica, is_replica}
-use Rattle.protocol.specs.Wire.{Body}
+use Rattle.wire.specs.Messages.{BodyData as Body}
 use Rattle.protocol.specs.Trace.{Entry, history_of, Once, Always, Unforged}
 use Rattle.protocol.specs.Trace.Entry.{Invoke, Got, Tick, Executed, Installed, Sent, Accepted}
 use Rattle.quorum.specs.Votes.{has_digest}

@@ -7,9 +7,8 @@ use Rattle.sha2.specs.Sha256.{sha256}
 use Rattle.quorum.specs.Quorum.{count_below}
 use Rattle.quorum.specs.Votes.{has_digest, or_else, give_if}
 use Rattle.protocol.specs.Configuration.{Configuration}
-use Rattle.protocol.specs.Wire.{Body, Message, NewView, said, carried}
-use Rattle.protocol.specs.Wire.Message.{PrePrepare, Prepare, Commit}
-use Rattle.protocol.specs.Keys.{heard, signed_body}
+use Rattle.wire.specs.Messages.{BodyData as Body, MessageData as Message, NewViewData as NewView, pre_prepare as PrePrepare, prepare as Prepare, commit as Commit}
+use Rattle.protocol.specs.Frames.{said, heard, signed_body}
 use Rattle.protocol.specs.Trace.{Entry}
 use Rattle.protocol.specs.Trace.Entry.{Got, Executed, Sent}
 use Rattle.protocol.specs.Certificates.{view, view_after, target, low, new_view_in, new_view_from, change_sent, checkpoint_in, installed_at, taken, is_active_in, counts_at, logged, proposal, prepare_of, prepare_from, commit_of, commit_from, vote_in, first_given, Prepared, Committed, checkpoint_from, change_from, is_in_marks, is_later, batch_begun, begun_proposal, entry_proposal}
@@ -18,7 +17,7 @@ use Rattle.protocol.specs.Examples.{four, IsFirstBatch, FirstBatchExecutes}
 use Rattle.protocol.proofs.Voting.{logged_stays}
 use Rattle.protocol.proofs.Commits.{prepare_stays, prepared_stays}
 use Rattle.protocol.proofs.Executing.{commit_stays}
-use Rattle.protocol.proofs.Signatures.{signed_heard}
+use Rattle.protocol.proofs.Linking.{signed_heard}
 use Rattle.protocol.proofs.Options.{some_injective}
 
 same_digest : (d : List ℕ) → has_digest d (Some d) ≡ true
@@ -288,7 +287,6 @@ module _ (clients : ℕ) (seed batch a b d e f g : List ℕ) (x : IsFirstBatch (
   got point bytes = record point { ran = []; waiting = waiting_after c 1 point bytes }
 
   may_prepare : (point : Point) → MaySend c 1 h1 point (Sent 1 b) b
-  unfolding carried
   may_prepare point = record {
     body = record { sender = 1; message = Prepare 0 1 (sha256 batch) };
     says = x.prepares;
@@ -299,7 +297,6 @@ module _ (clients : ℕ) (seed batch a b d e f g : List ℕ) (x : IsFirstBatch (
   }
 
   may_commit : (point : Point) → MaySend c 1 h3 point (Sent 1 e) e
-  unfolding carried
   may_commit point = record {
     body = record { sender = 1; message = Commit 0 1 (sha256 batch) };
     says = x.commits;

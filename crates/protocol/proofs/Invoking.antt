@@ -3,10 +3,12 @@ use Rattle.std.proofs.Common.{◌≡◌, ℕ, suc, ◌+◌, ◌-◌, ◌≤◌, 
 use Rattle.std.specs.Prelude.{nat_lt, nat_le}
 use Rattle.std.proofs.lemmas.Bool.{and_parts, leb-true}
 use Rattle.protocol.specs.Configuration.{Configuration, is_client, is_correct, is_correct_client}
-use Rattle.protocol.specs.Wire.{Body, Message, requests_of, said}
-use Rattle.protocol.specs.Wire.Message.{Request}
-use Rattle.protocol.specs.Keys.{heard}
-use Rattle.protocol.specs.Trace.{Entry, party_of, history_of, Once, Always, frames_in, SendsText, IsFromSender, IsUnforgedAt, Has}
+use Rattle.wire.specs.declared.terms.Mode.TheVariants as modes
+use Rattle.wire.specs.Messages.{BodyData as Body, MessageData as Message, request as Request}
+use Rattle.wire.specs.Words.{requests_of}
+use Rattle.wire.specs.declared.terms.Mode.{Mode}
+use Rattle.protocol.specs.Frames.{reads_only, mode_of, said, heard}
+use Rattle.protocol.specs.Trace.{Entry, party_of, history_of, Once, Always, frames_in, SendsBody, IsFromSender, IsUnforgedAt, Has}
 use Rattle.protocol.specs.Trace.Entry.{Invoke, Got, Tick, Executed, Installed, Sent, Accepted}
 use Rattle.protocol.specs.State.{Call, call_in, call_of}
 use Rattle.protocol.specs.RightClient.{AnyClient, MayAsk, MayRequest, OpenCall, open_call, last_call}
@@ -15,7 +17,7 @@ use Rattle.protocol.specs.Linear.{Point, batch_of, is_level, Invokes, Asks}
 use Rattle.quorum.specs.Votes.{give_if}
 use Rattle.protocol.proofs.Temporal.{once_weaker, once_always, once_once, once_in_history, once_in_trace}
 use Rattle.protocol.proofs.Options.{and_then_some, some_injective, given_once, give_if_some}
-use Rattle.protocol.proofs.Linking.{Speaks, heard_parts, same_text}
+use Rattle.protocol.proofs.Linking.{Speaks, heard_said, sent_spoken}
 use Rattle.protocol.proofs.Signed.{each_has}
 use Rattle.protocol.proofs.Voting.{correct_replica}
 use Rattle.protocol.proofs.States.{once_append}
@@ -72,7 +74,7 @@ asked_op c p t read_only text (e ∷ past) r (inr h) = inr (asked_op c p t read_
 asked_op c p t read_only text (Sent x bytes ∷ past) r (inl h) =
     let m = r.0.1 in
     let is : m.0 ≡ asking p t read_only text = some_injective m.0 (asking p t read_only text) (sym m.1 ∙ h) in
-    let ask : MayRequest past t read_only text = subst (λ (b : Body). MayAsk past b.message) is m.3 in
+    let ask : MayRequest past t (reads_only (mode_of read_only)) text = subst (λ (b : Body). MayAsk past b.message) is m.3 in
     inr (opened_op p t text past (own_entries c p past r.1) ask.0)
 asked_op c p t read_only text (Invoke x y z ∷ past) r (inl h) = absurd h
 asked_op c p t read_only text (Got x y ∷ past) r (inl h) = absurd h
@@ -146,18 +148,16 @@ asks_said c xs frame body runs is from h =
     known : (p : ℕ) (o : Option Body) → heard c p frame ≡ o → is_some o ≡ true → heard c p frame ≡ Some body
     known p None e s = absurd cc
     known p (Some b) e s =
-        let parts = heard_parts c p frame b e in
-        let said' : said frame ≡ Some b = rw parts.1 parts.2 in
+        let said' : said frame ≡ Some b = heard_said c p frame b e in
         e ∙ sym said' ∙ is
 
     step : (past : List Entry) (e : Entry) → IsUnforgedAt c past e × AsksFrame c frame past e × Always (IsUnforgedAt c) past
         → Once (λ past e. (party_of e ≡ body.sender) × Speaks body (history_of body.sender past) e) past
     step past (Got q bytes) t =
         let hears = known q (heard c q frame) refl t.1.1 in
-        let parts = heard_parts c q frame body hears in
         let each : IsFromSender c q past frame = each_has (IsFromSender c q past) (frames_in bytes) frame (t.0 (correct_replica c q t.1.0)) t.1.2 in
-        once_weaker (SendsText body.sender parts.0.text) (λ past e. (party_of e ≡ body.sender) × Speaks body (history_of body.sender past) e)
-        (same_text body.sender parts.0 body parts.2) past (each body parts.0 parts.1 hears from)
+        once_weaker (SendsBody body) (λ past e. (party_of e ≡ body.sender) × Speaks body (history_of body.sender past) e)
+        (sent_spoken body) past (each body hears from)
     step past (Sent a b) t = absurd t.1
     step past (Invoke a b d) t = absurd t.1
     step past (Tick a) t = absurd t.1
@@ -171,11 +171,11 @@ call_body c frame call h =
     r.1 ∙ ap Some (go r.0.sender r.0.message r.2)
   where
     go : (sender : ℕ) (message : Message) → call_in c (record { sender = sender; message = message }) ≡ Some call → ◌≡◌ {A = Body} (record { sender = sender; message = message }) (asking (256 + call.client) call.timestamp false call.op)
-    go sender (Request t read_only op) h = test read_only (is_client c sender) refl h
+    go sender (Request t mode op) h = test mode (is_client c sender) refl h
       where
-        test : (x y : Bool) → is_client c sender ≡ y → cond (not x && y) (Some (let z : Call = record { client = sender - 256; timestamp = t; op = op } in z)) None ≡ Some call
+        test : (x : Mode) (y : Bool) → is_client c sender ≡ y → cond (not (reads_only x) && y) (Some (let z : Call = record { client = sender - 256; timestamp = t; op = op } in z)) None ≡ Some call
             → ◌≡◌ {A = Body} (record { sender = sender; message = Request t x op }) (asking (256 + call.client) call.timestamp false call.op)
-        test false true e h =
+        test modes.Ordered true e h =
             let is : ◌≡◌ {A = Call} (record { client = sender - 256; timestamp = t; op = op }) call = some_injective {A = Call} (record { client = sender - 256; timestamp = t; op = op }) call h in
             let cl : sender - 256 ≡ call.client = ap (λ (x : Call). x.client) is in
             let u = and_parts (nat_le 256 sender) (nat_lt sender (256 + c.clients)) e in
@@ -184,8 +184,8 @@ call_body c frame call h =
             let et : t ≡ call.timestamp = ap (λ (x : Call). x.timestamp) is in
             let eo : op ≡ call.op = ap (λ (x : Call). x.op) is in
             rw (es, et, eo) refl
-        test false false e h = absurd cc
-        test true y e h = absurd cc
+        test modes.Ordered false e h = absurd cc
+        test modes.ReadOnly y e h = absurd cc
     go sender _ h = absurd cc
 
 pub asks_request : (c : Configuration) (frame : List ℕ) (sender t : ℕ) (op : Operation) → said frame ≡ Some (asking sender t false op) → (past : List Entry) (e : Entry) → AsksFrame c frame past e → Asks c sender t op past e
@@ -195,11 +195,10 @@ asks_request c frame sender t op is past (Got p bytes) h = (h.0, there (frames_i
     known : (o : Option Body) → heard c p frame ≡ o → is_some o ≡ true → heard c p frame ≡ Some (asking sender t false op)
     known None e s = absurd cc
     known (Some b) e s =
-        let parts = heard_parts c p frame b e in
-        let said' : said frame ≡ Some b = rw parts.1 parts.2 in
+        let said' : said frame ≡ Some b = heard_said c p frame b e in
         e ∙ sym said' ∙ is
 
-    there : (xs : List (List ℕ)) → Has (λ x. x ≡ frame) xs → Has (λ x. heard c p x ≡ Some (record { sender = sender; message = Request t false op })) xs
+    there : (xs : List (List ℕ)) → Has (λ x. x ≡ frame) xs → Has (λ x. heard c p x ≡ Some (record { sender = sender; message = Request t modes.Ordered op })) xs
     there [] k = k
     there (x ∷ xs) (inl k) = inl (subst (λ (y : List ℕ). heard c p y ≡ Some (asking sender t false op)) (sym k) (known (heard c p frame) refl h.1))
     there (x ∷ xs) (inr k) = inr (there xs k)

@@ -6,8 +6,9 @@ use Rattle.std.proofs.lemmas.Bool.{and_parts, leb-true, ltb-true, eqb-false}
 use Rattle.protocol.specs.RightReplica
 use Rattle.protocol.proofs.Sorting
 use Rattle.protocol.specs.Configuration.{Configuration, IsConfiguration, is_client, is_correct_replica}
-use Rattle.protocol.specs.Wire.{Message, requests_of, said}
-use Rattle.protocol.specs.Wire.Message.{Request}
+use Rattle.wire.specs.Messages.{MessageData as Message, request as Request}
+use Rattle.wire.specs.Words.{requests_of}
+use Rattle.protocol.specs.Frames.{reads_only, said}
 use Rattle.protocol.specs.Trace.{Entry, party_of, Once, Has}
 use Rattle.protocol.specs.Trace.Entry.{Invoke, Got, Tick, Executed, Installed, Sent, Accepted}
 use Rattle.protocol.specs.State.{State, Call, Ran, opening, runs, run_call, call_in, call_of, run_frame, execute, ran_by, ran_in, kept_by, kept_of, last_time}
@@ -312,13 +313,13 @@ call_small c setting frame call h =
     few = setting.clients
 
     go : (sender : ℕ) (message : Message) → call_in c (record { sender = sender; message = message }) ≡ Some call → call.client < 256
-    go sender (Request t read_only op) h = test (not read_only && is_client c sender) refl h
+    go sender (Request t mode op) h = test (not (reads_only mode) && is_client c sender) refl h
       where
-        test : (b : Bool) → (not read_only && is_client c sender) ≡ b → cond b (Some (let x : Call = record { client = sender - 256; timestamp = t; op = op } in x)) None ≡ Some call → call.client < 256
+        test : (b : Bool) → (not (reads_only mode) && is_client c sender) ≡ b → cond b (Some (let x : Call = record { client = sender - 256; timestamp = t; op = op } in x)) None ≡ Some call → call.client < 256
         test true e h =
             let is : ◌≡◌ {A = Call} (record { client = sender - 256; timestamp = t; op = op }) call = some_injective {A = Call} (record { client = sender - 256; timestamp = t; op = op }) call h in
             let at : sender - 256 ≡ call.client = ap (λ (x : Call). x.client) is in
-            let p = and_parts (not read_only) (is_client c sender) e in
+            let p = and_parts (not (reads_only mode)) (is_client c sender) e in
             let u = and_parts (nat_le 256 sender) (nat_lt sender (256 + c.clients)) p.1 in
             let a : 256 ≤ sender = leb-true 256 sender u.0 in
             let b : sender < 256 + c.clients = ltb-true sender (256 + c.clients) u.1 in

@@ -2,7 +2,7 @@
 use Rattle.std.proofs.Common.{◌≡◌, ℕ, zero, suc, ◌≤◌, Bool, true, false, cond, List, [], ◌∷◌, ◌++◌, length, map, fold, refl, sym, ap, ◌∙◌, subst, arith, Option, Some, None}
 use Rattle.std.specs.Option.{option_map_or}
 use Rattle.protocol.specs.Configuration.{Configuration}
-use Rattle.protocol.specs.Wire.{requests_of}
+use Rattle.wire.specs.Words.{requests_of}
 use Rattle.protocol.specs.Trace.{Entry}
 use Rattle.protocol.specs.State.{State, Call, Ran, tuples, runs, run_call, call_of, run_frame, execute, ran_by, ran_in, kept_by}
 use Rattle.protocol.specs.Linear.{Item, LegalFrom, Point, ordered_point, ordered_points, first_position, batch_of, is_level}

@@ -6,7 +6,7 @@ use Rattle.std.proofs.lemmas.Bool.{and_parts, le-leb, ltb-true}
 use Rattle.quorum.proofs.Counting.{some_more}
 use Rattle.quorum.specs.Quorum.{count_below}
 use Rattle.protocol.specs.Configuration.{Configuration}
-use Rattle.protocol.specs.Wire.{ViewChange, Claim}
+use Rattle.wire.specs.Messages.{ViewChangeData as ViewChange, ClaimData as Claim}
 use Rattle.std.specs.List.{list_all, list_any}
 use Rattle.protocol.specs.Selection.{change_by, passes_by, largest, largest_of, may_stand, may_all_stand}
 use Rattle.protocol.specs.Trace.{Has}

@@ -6,9 +6,10 @@ use Rattle.std.proofs.lemmas.Bool.{and_parts}
 use Rattle.protocol.specs.RightReplica
 use Rattle.quorum.specs.Quorum.{count_below}
 use Rattle.protocol.specs.Configuration.{Configuration, IsConfiguration, is_correct_replica, is_correct_client}
-use Rattle.protocol.specs.Wire.{Body, Message, requests_of}
-use Rattle.protocol.specs.Wire.Message.{Reply}
-use Rattle.protocol.specs.Keys.{heard}
+use Rattle.wire.specs.declared.terms.Mode.TheVariants as modes
+use Rattle.wire.specs.Messages.{BodyData as Body, MessageData as Message, reply as Reply}
+use Rattle.wire.specs.Words.{requests_of}
+use Rattle.protocol.specs.Frames.{reads_only, heard}
 use Rattle.protocol.specs.Trace.{Entry, party_of, history_of, Once, Always, Has, Hears}
 use Rattle.protocol.specs.Trace.Entry.{Invoke, Got, Tick, Executed, Installed, Sent, Accepted}
 use Rattle.protocol.specs.State.{State, Call, Ran, opening, runs, run_call, call_of, run_frame, execute, ran_by, ran_in, kept_by, kept_of}
@@ -16,6 +17,7 @@ use Rattle.reply_cache.specs.Replies.{Kept}
 use Rattle.protocol.specs.RightReplica.{Leaves, May, Moves, MaySay, MayReply, snapshots_after}
 use Rattle.protocol.specs.RightClient.{Vote, vote_of, later_vote, latest, is_alike}
 use Rattle.protocol.specs.Linear.{reached, is_level}
+use Rattle.protocol.proofs.Modes.{mode_is}
 use Rattle.protocol.proofs.Temporal.{once_weaker, once_always, once_stays}
 use Rattle.protocol.proofs.Options.{and_then_some, give_if_some, some_injective}
 use Rattle.protocol.proofs.Linking.{Speaks, heard_was_said}
@@ -132,7 +134,7 @@ ran_at_most c r (e ∷ past) point h x k = go e h.2.may h.2.moves (ran_at_most c
 -- ---- an ordered reply
 
 abbrev pub ordering : ℕ → ℕ → ℕ → ℕ → Outcome → Body
-ordering s p t number answer = record { sender = s; message = Reply p t false number answer }
+ordering s p t number answer = record { sender = s; message = Reply p t modes.Ordered number answer }
 
 says_ordered : (c : Configuration) (trace : List Entry) (s p t number : ℕ) (answer : Outcome) (past : List Entry) (e : Entry) → RightAt c s past e → GoodHere c trace s past
     → Speaks (ordering s p t number answer) past e → number ≤ reached past s
@@ -143,7 +145,7 @@ says_ordered c trace s p t number answer past (Sent q bytes) r good h =
     at : r.point.state.number ≡ reached past s
     at = number_reached c s past r.point r.leaves
 
-    go : MayReply c s past r.point p t false number answer → number ≤ reached past s
+    go : MayReply c s past r.point p t modes.Ordered number answer → number ≤ reached past s
     go (inl h) =
         let x = has_some (λ (ran : Ran). RepliesTo p t number answer ran.call.client ran.kept) r.point.ran h in
         let m = ran_at_most c s past r.point r.leaves x.0 x.1 in let n = x.2.number_is in let a = at in omega arith
@@ -169,14 +171,14 @@ ordered_reached c setting s p t number answer xs runs apart correct h =
 
 vote_body : (me t s : ℕ) (vote : Vote) (sender : ℕ) (message : Message) → vote_of me t s (record { sender = sender; message = message }) ≡ Some vote → vote.read_only ≡ false
     → ◌≡◌ {A = Body} (record { sender = sender; message = message }) (ordering s me t vote.number vote.answer)
-vote_body me t s vote sender (Reply client timestamp read_only number answer) h ro =
-    let g = give_if_some ((sender == s) && (client == me) && (timestamp == t)) (record { read_only = read_only; number = number; answer = answer }) vote h in
+vote_body me t s vote sender (Reply client timestamp mode number answer) h ro =
+    let g = give_if_some ((sender == s) && (client == me) && (timestamp == t)) (record { read_only = reads_only mode; number = number; answer = answer }) vote h in
     let p = and_parts ((sender == s) && (client == me)) (timestamp == t) g.0 in
     let q = and_parts (sender == s) (client == me) p.0 in
     let es : sender ≡ s = eqb-true sender s q.0 in
     let ec : client ≡ me = eqb-true client me q.1 in
     let et : timestamp ≡ t = eqb-true timestamp t p.1 in
-    let er : read_only ≡ false = ap (λ (x : Vote). x.read_only) g.1 ∙ ro in
+    let er : mode ≡ modes.Ordered = mode_is mode false (ap (λ (x : Vote). x.read_only) g.1 ∙ ro) in
     let en : number ≡ vote.number = ap (λ (x : Vote). x.number) g.1 in
     let ea : answer ≡ vote.answer = ap (λ (x : Vote). x.answer) g.1 in
     rw (es, ec, et, er, en, ea) refl

@@ -4,7 +4,7 @@ use Rattle.std.specs.Prelude.{nat_le}
 use Rattle.std.specs.Option.{option_map_or}
 use Rattle.std.proofs.lemmas.Bool.{le-leb}
 use Rattle.protocol.specs.Configuration.{Configuration}
-use Rattle.protocol.specs.Wire.{requests_of}
+use Rattle.wire.specs.Words.{requests_of}
 use Rattle.protocol.specs.Trace.{Entry, Has}
 use Rattle.space.specs.Applying.{tuples_after}
 use Rattle.protocol.specs.State.{State, Call, Ran, tuples, runs, run_call, call_of, run_frame, execute, ran_by, ran_in, kept_by}

@@ -3,8 +3,10 @@ use Rattle.std.proofs.Common.{◌≡◌, ℕ, inl, inr, Bool, true, false, not, 
 use Rattle.std.specs.Option.{option_map_or}
 use Rattle.tuple_codec.specs.Operations.{Outcome}
 use Rattle.space.specs.Applying.{is_read_only}
+use Rattle.protocol.specs.Frames.{mode_of}
+use Rattle.protocol.proofs.Modes.{reads_mode}
 use Rattle.protocol.specs.Configuration.{Configuration}
-use Rattle.protocol.specs.Wire.Message.{Request}
+use Rattle.wire.specs.Messages.{request as Request}
 use Rattle.protocol.specs.Trace.{Entry, party_of}
 use Rattle.protocol.specs.Trace.Entry.{Invoke, Got, Tick, Executed, Installed, Sent, Accepted}
 use Rattle.protocol.specs.RightClient.{OpenCall, open_call, Vote, newest_vote, is_complete, went_ordered, is_answered, Reaction, fallback, on_reply, on_got, reaction, is_weakly_complete, weakly_on_got, weak_reaction, is_output, either, IsReaction, MayInput, Reacts, IsClientBy, IsClient, IsWeakClient, MayAccept, MayWeaklyAccept, MayClient, RightBy, RightClient, WeakClient}
@@ -41,7 +43,7 @@ module _ (c : Configuration) (me : ℕ) (react : List Entry → Reaction) (Accep
       head x y xs e = cc
 
       asked : MayClient Accepting me now (Sent me h.0)
-      asked = (record { sender = me; message = Request call.timestamp read_only call.op }, h.2.says, refl, asks_open now read_only call is)
+      asked = let may = asks_open now read_only call is in (record { sender = me; message = Request call.timestamp (mode_of read_only) call.op }, h.2.says, refl, (may.0, λ e. may.1 (sym (reads_mode read_only) ∙ e)))
   output_may e outputs now (accepts t a) is h = subst (MayClient Accepting me now) (sym (head e (Accepted h.0 t a) outputs h.1)) (accepts_may now t a is)
     where
       head : (x y : Entry) (xs : List Entry) → x ∷ xs ≡ y ∷ [] → x ≡ y

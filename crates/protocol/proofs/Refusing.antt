@@ -6,8 +6,9 @@ use Rattle.std.proofs.lemmas.Bool.{and_parts, or_cases, leb-true, ltb-true}
 use Rattle.sha2.specs.Sha256.{sha256}
 use Rattle.quorum.specs.Quorum.{count_below}
 use Rattle.protocol.specs.Configuration.{Configuration}
-use Rattle.protocol.specs.Wire.{Body, ViewChange, NewView, said}
-use Rattle.protocol.specs.Wire.Message.{PrePrepare, Prepare, Commit, Checkpoint, Change, Reply}
+use Rattle.wire.specs.declared.terms.Mode.TheVariants as modes
+use Rattle.wire.specs.Messages.{BodyData as Body, ViewChangeData as ViewChange, NewViewData as NewView, pre_prepare as PrePrepare, prepare as Prepare, commit as Commit, checkpoint as Checkpoint, view_change as Change, reply as Reply}
+use Rattle.protocol.specs.Frames.{said}
 use Rattle.protocol.specs.Trace.{Entry, Once, Always, Has}
 use Rattle.protocol.specs.Trace.Entry.{Invoke, Got, Tick, Executed, Installed, Sent, Accepted}
 use Rattle.protocol.specs.Selection.{is_quorum, is_weak_quorum, count_in, vouches, agrees, may_stand_at, may_be_null, is_null, is_within, changes_of, how_many, Selects}
@@ -57,12 +58,12 @@ untouched c me (e ∷ past) point h a = go e h.2.may h.2.moves a.0 (untouched c 
 
 pub replies_after_execution : RepliesAfterExecution
 replies_after_execution c me client timestamp number answer bytes past says none right =
-    go (says_may c me bytes (record { sender = me; message = Reply client timestamp false number answer }) past right says)
+    go (says_may c me bytes (record { sender = me; message = Reply client timestamp modes.Ordered number answer }) past right says)
   where
     u : Untouched right.1.0
     u = untouched c me past right.1.0 right.1.1 none
 
-    go : MayReply c me past right.1.0 client timestamp false number answer → ⊥
+    go : MayReply c me past right.1.0 client timestamp modes.Ordered number answer → ⊥
     go (inl h) = subst (λ (rans : List Ran). Has (λ (ran : Ran). RepliesTo client timestamp number answer ran.call.client ran.kept) rans) u.ran h
     go (inr h) = none_kept 256 h.0 h.1 (subst (λ (st : State). kept_of st h.0 ≡ Some h.1) u.state h.2)
 

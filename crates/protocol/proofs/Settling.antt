@@ -3,7 +3,7 @@ use Rattle.std.proofs.Common.{◌≡◌, ℕ, ◌≤◌, ◌<◌, ◌⊎◌, inl
 use Rattle.std.specs.Prelude.{option_and_then}
 use Rattle.sha2.specs.Sha256.{sha256}
 use Rattle.protocol.specs.Configuration.{Configuration, is_correct_replica}
-use Rattle.protocol.specs.Wire.{NewView}
+use Rattle.wire.specs.Messages.{NewViewData as NewView}
 use Rattle.protocol.specs.Trace.{Entry, history_of, Once, Always}
 use Rattle.quorum.specs.Votes.{or_else}
 use Rattle.protocol.specs.Certificates.{begun_proposal, entry_proposal, view, view_after, new_view_in, target, low, is_in_marks, logged, proposal, taken, batch_begun, is_later}

@@ -7,8 +7,7 @@ use mathlib.Core.List.{reverse_aux}
 use Rattle.quorum.proofs.Counting.{some_more, count_members}
 use Rattle.quorum.specs.Quorum.{count_below}
 use Rattle.protocol.specs.Configuration.{Configuration, IsConfiguration, is_replica, is_faulty_replica, is_correct_replica, is_number}
-use Rattle.protocol.specs.Wire.{Body, Message, Mark, NewView, ViewChange}
-use Rattle.protocol.specs.Wire.Message.{Checkpoint, Page}
+use Rattle.wire.specs.Messages.{BodyData as Body, MessageData as Message, MarkData as Mark, NewViewData as NewView, ViewChangeData as ViewChange, checkpoint as Checkpoint, page as Page}
 use Rattle.protocol.specs.Trace.{Entry, party_of, history_of, Once, Always, Unforged, IsUnforgedAt, Has}
 use Rattle.protocol.specs.Trace.Entry.{Invoke, Got, Tick, Executed, Installed, Sent, Accepted}
 use Rattle.protocol.specs.Certificates.{checkpoint_from, checkpoint_in, insert_mark, with_mark, marks_of, has_mark, count_marks, brought}
@@ -21,7 +20,7 @@ use Rattle.protocol.specs.Texts.IsText.{part, held, page_of, under}
 use Rattle.protocol.specs.Laws.{AreReplicasRight, Takes, IsRootOf, Installs}
 use Rattle.protocol.proofs.Temporal.{once_weaker, once_always, once_stays, once_in_trace}
 use Rattle.protocol.proofs.Options.{and_then_some, give_if_some, some_injective}
-use Rattle.protocol.proofs.Linking.{Speaks, heard_parts}
+use Rattle.protocol.proofs.Linking.{Speaks, heard_said}
 use Rattle.protocol.proofs.Voting.{RightAt, right_always, once_right, Brings, brought_was_said}
 use Rattle.protocol.proofs.Signed.{changing, change_was_said}
 use Rattle.protocol.proofs.Lists.{has_some, some_of_has, passes_change}
@@ -360,8 +359,7 @@ module _ (c : Configuration) (setting : IsConfiguration c) (trace ys : List Entr
 -- what is got in a page is a text
 got_part : (c : Configuration) (r i : ℕ) (text : List ℕ) (past other : List Entry) (e : Entry) → GetsPage c r i text past e → HasPart text other e
 got_part c r i text past other (Got p bytes) h =
-    let parts = heard_parts c r bytes (record { sender = h.0; message = Page h.1 i text }) h.2 in
-    (record { sender = h.0; message = Page h.1 i text }, rw parts.1 parts.2, inl refl)
+    (record { sender = h.0; message = Page h.1 i text }, heard_said c r bytes (record { sender = h.0; message = Page h.1 i text }) h.2, inl refl)
 got_part c r i text past other (Invoke x y z) h = absurd h
 got_part c r i text past other (Tick x) h = absurd h
 got_part c r i text past other (Executed x y z) h = absurd h

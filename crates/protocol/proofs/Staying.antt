@@ -7,7 +7,7 @@ use Rattle.sha2.specs.Sha256.{sha256}
 use Rattle.quorum.proofs.Counting.{quorums_meet, some_more, count_members}
 use Rattle.quorum.specs.Quorum.{count_below}
 use Rattle.protocol.specs.Configuration.{Configuration, IsConfiguration, span, is_replica, is_faulty_replica, is_correct_replica, is_number}
-use Rattle.protocol.specs.Wire.{ViewChange, NewView, Claim}
+use Rattle.wire.specs.Messages.{ViewChangeData as ViewChange, NewViewData as NewView, ClaimData as Claim}
 use Rattle.protocol.specs.Trace.{Entry, history_of, Once, Unforged, Has}
 use Rattle.std.specs.List.{list_all, list_any}
 use Rattle.protocol.specs.Selection.{is_quorum, is_weak_quorum, count_in, passes_by, change_by, changes_of, may_select, may_stand_at, may_be_null, may_all_stand, is_null, is_within, is_claim_within, is_mark_within, agrees, vouches, how_many}
@@ -50,19 +50,19 @@ claim_within c vc claim h =
 pub record Member (c : Configuration) (new : NewView) (vc : ViewChange) : Type 0 where
   pub view_is : vc.view ≡ new.view
   pub prepared : (claim : Claim) → Has (λ x. x ≡ claim) vc.prepared → (claim.view < vc.view) × (claim.number ≤ vc.low + span c)
-  pub proposed : (claim : Claim) → Has (λ x. x ≡ claim) vc.proposed → (claim.view < vc.view) × (claim.number ≤ vc.low + span c)
+  pub proposed : (claim : Claim) → Has (λ x. x ≡ claim) vc.pre_prepared → (claim.view < vc.view) × (claim.number ≤ vc.low + span c)
 
 pub member_of : (c : Configuration) (new : NewView) (s : ℕ) (vc : ViewChange) → Selected c new → change_by (changes_of c new) s ≡ Some vc → Member c new vc
 member_of c new s vc sel is =
     let t = every_change (λ vc. (vc.view == new.view) && is_within c vc) (changes_of c new) s vc sel.each is in
     let p = and_parts (vc.view == new.view) (is_within c vc) t in
-    let w = and_parts (is_number vc.view && is_number vc.low && list_all (is_claim_within c vc) vc.prepared && list_all (is_claim_within c vc) vc.proposed) (list_all (is_mark_within c vc) vc.checkpoints) p.1 in
-    let y = and_parts (is_number vc.view && is_number vc.low && list_all (is_claim_within c vc) vc.prepared) (list_all (is_claim_within c vc) vc.proposed) w.0 in
+    let w = and_parts (is_number vc.view && is_number vc.low && list_all (is_claim_within c vc) vc.prepared && list_all (is_claim_within c vc) vc.pre_prepared) (list_all (is_mark_within c vc) vc.checkpoints) p.1 in
+    let y = and_parts (is_number vc.view && is_number vc.low && list_all (is_claim_within c vc) vc.prepared) (list_all (is_claim_within c vc) vc.pre_prepared) w.0 in
     let z = and_parts (is_number vc.view && is_number vc.low) (list_all (is_claim_within c vc) vc.prepared) y.0 in
     record {
       view_is = eqb-true vc.view new.view p.0;
       prepared = λ claim h. claim_within c vc claim (every_has (is_claim_within c vc) vc.prepared claim z.1 h);
-      proposed = λ claim h. claim_within c vc claim (every_has (is_claim_within c vc) vc.proposed claim y.1 h);
+      proposed = λ claim h. claim_within c vc claim (every_has (is_claim_within c vc) vc.pre_prepared claim y.1 h);
     }
 
 -- ---- over one committed batch
@@ -137,7 +137,7 @@ module _ (c : Configuration) (setting : IsConfiguration c) (trace : List Entry) 
       let who : is_correct_replica c s.0 ≡ true = is_correct s.0 s.1 s.2 in
       let t = passes_change (vouches i x (sha256 b)) (changes_of c new) s.0 s.3 in
       let says = change_was_said c trace q s.0 new t.0 right unforged correct' who takes' t.1 in
-      let k = some_of_has (λ (claim : Claim). (claim.number == i) && bytes_eq claim.digest (sha256 b) && nat_le x claim.view) t.0.proposed t.2 in
+      let k = some_of_has (λ (claim : Claim). (claim.number == i) && bytes_eq claim.digest (sha256 b) && nat_le x claim.view) t.0.pre_prepared t.2 in
       let parts = and_parts ((k.0.number == i) && bytes_eq k.0.digest (sha256 b)) (nat_le x k.0.view) k.2 in
       let ends = and_parts (k.0.number == i) (bytes_eq k.0.digest (sha256 b)) parts.0 in
       let m = member_of c new s.0 t.0 sel t.1 in

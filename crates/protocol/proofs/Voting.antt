@@ -4,9 +4,8 @@ use Rattle.std.specs.Prelude.{option_and_then, ◌==◌}
 use Rattle.std.proofs.lemmas.Bool.{and_parts}
 use Rattle.sha2.specs.Sha256.{sha256}
 use Rattle.protocol.specs.Configuration.{Configuration, is_correct, is_correct_replica, primary}
-use Rattle.protocol.specs.Wire.{Body, Message}
-use Rattle.protocol.specs.Wire.Message.{Prepare}
-use Rattle.protocol.specs.Keys.{heard}
+use Rattle.wire.specs.Messages.{BodyData as Body, MessageData as Message, prepare as Prepare}
+use Rattle.protocol.specs.Frames.{heard}
 use Rattle.protocol.specs.Trace.{Entry, party_of, history_of, Once, Always, Unforged, Hears}
 use Rattle.protocol.specs.Trace.Entry.{Invoke, Got, Tick, Executed, Installed, Sent, Accepted}
 use Rattle.protocol.specs.Certificates.{proposal, logged, prepare_from, vote_in, prepare_of, brought, counts_at}

@@ -8,7 +8,9 @@ use Rattle.tuple_codec.specs.Operations.{Outcome}
 use Rattle.tuple_codec.specs.Spelling.{outcome_spelling}
 use Rattle.quorum.specs.Quorum.{count_below}
 use Rattle.protocol.specs.Configuration.{Configuration, IsConfiguration, is_correct, is_correct_replica, is_correct_client}
-use Rattle.protocol.specs.Wire.{requests_of, said}
+use Rattle.wire.specs.Words.{requests_of}
+use Rattle.wire.specs.Reading.{requests_at}
+use Rattle.protocol.specs.Frames.{said}
 use Rattle.protocol.specs.Trace.{Entry, party_of, history_of, Once, Always, Has, Unforged}
 use Rattle.protocol.specs.Trace.Entry.{Invoke, Got, Tick, Executed, Installed, Sent, Accepted}
 use Rattle.protocol.specs.State.{State, Ran, opening, tuples, run_frame, execute, ran_in}
@@ -32,7 +34,6 @@ use Rattle.protocol.proofs.Invoking.{once_split, At, once_within, asked_op, invo
 use Rattle.protocol.proofs.Accepting.{Answers, replied, ordered_replied, accepts_own, heard_answer, newest_answer}
 use Rattle.protocol.proofs.Whole.{has_items, has_at}
 use Rattle.protocol.specs.Trace.{Hears}
-use Rattle.protocol.specs.Wire.{pieces}
 use Rattle.protocol.specs.Certificates.{first_given}
 use Rattle.protocol.specs.Linear.{batch_at}
 use Rattle.protocol.specs.State.{last_time}
@@ -153,7 +154,7 @@ weakly c p (Sent x y ∷ xs) r t a (inl h) = absurd h
 
 -- a batch with requests was executed
 batch_executed : (c : Configuration) (xs : List Entry) (k : ℕ) (frame : List ℕ) → Run c xs → Has (λ x. x ≡ frame) (requests_of (batch_of xs k)) → Once (ExecutesBatch c k (batch_of xs k)) xs
-unfolding requests_of pieces
+unfolding requests_of requests_at
 batch_executed c xs k frame run h = go (first_given (λ past e. batch_at k e) xs) refl h
   where
     go : (o : Option (List ℕ)) → first_given (λ past e. batch_at k e) xs ≡ o → Has (λ x. x ≡ frame) (requests_of (option_map_or (λ batch. batch) o (0 ∷ []))) → Once (ExecutesBatch c k (option_map_or (λ batch. batch) (first_given (λ past e. batch_at k e) xs) (0 ∷ []))) xs

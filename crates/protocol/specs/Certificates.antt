@@ -8,9 +8,9 @@ use Rattle.sha2.specs.Sha256.{sha256}
 use Rattle.quorum.specs.Quorum.{count_below}
 use Rattle.quorum.specs.Votes.{or_else, give_if, has_digest}
 use Rattle.protocol.specs.Configuration.{Configuration, replicas, primary, span, is_number}
-use Rattle.protocol.specs.Wire.{Body, NewView, Mark, said, requests_of}
-use Rattle.protocol.specs.Wire.Message.{PrePrepare, Prepare, Commit, Checkpoint, Change, Begin}
-use Rattle.protocol.specs.Keys.{heard, signed_body}
+use Rattle.wire.specs.Messages.{BodyData as Body, NewViewData as NewView, MarkData as Mark, pre_prepare as PrePrepare, prepare as Prepare, commit as Commit, checkpoint as Checkpoint, view_change as Change, new_view as Begin}
+use Rattle.wire.specs.Words.{requests_of}
+use Rattle.protocol.specs.Frames.{said, heard, signed_body}
 use Rattle.protocol.specs.Trace.{Entry}
 use Rattle.protocol.specs.Trace.Entry.{Got, Installed, Sent}
 use Rattle.protocol.specs.Selection.{is_quorum, may_select}

@@ -5,9 +5,8 @@ use Rattle.sha2.specs.Sha256.{sha256}
 use Rattle.tuple_codec.specs.Operations.{Operation, IsOperation}
 use Rattle.space.specs.Applying.{is_read_only}
 use Rattle.protocol.specs.Configuration.{Configuration, IsConfiguration, is_correct_client}
-use Rattle.protocol.specs.Wire.{Frame, ViewChange, frame_of, said}
-use Rattle.protocol.specs.Wire.Message.{PrePrepare, Prepare, Commit}
-use Rattle.protocol.specs.Keys.{heard, IsSealed}
+use Rattle.wire.specs.Messages.{FrameData as Frame, ViewChangeData as ViewChange, pre_prepare as PrePrepare, prepare as Prepare, commit as Commit}
+use Rattle.protocol.specs.Frames.{frame_of, said, heard, IsSealed}
 use Rattle.protocol.specs.Trace.{Entry}
 use Rattle.protocol.specs.Trace.Entry.{Invoke, Got, Executed, Sent}
 use Rattle.protocol.specs.Selection.{signed_change, may_select}
@@ -30,8 +29,8 @@ pub record IsFirstBatch (c : Configuration) (batch pre_prepare own_prepare other
   pub commits : said own_commit ≡ Some (record { sender = 1; message = Commit 0 1 (sha256 batch) })
   pub first_commits : heard c 1 first_commit ≡ Some (record { sender = 0; message = Commit 0 1 (sha256 batch) })
   pub second_commits : heard c 1 second_commit ≡ Some (record { sender = 2; message = Commit 0 1 (sha256 batch) })
-  pub prepare_sealed : (frame : Frame) → frame_of own_prepare ≡ Some frame → IsSealed c 1 frame
-  pub commit_sealed : (frame : Frame) → frame_of own_commit ≡ Some frame → IsSealed c 1 frame
+  pub prepare_sealed : (frame : Frame) → frame_of own_prepare ≡ Some frame → IsSealed c frame
+  pub commit_sealed : (frame : Frame) → frame_of own_commit ≡ Some frame → IsSealed c frame
 
 -- its history, the newest first, up to the quorum of commits
 abbrev pub first_batch : List ℕ → List ℕ → List ℕ → List ℕ → List ℕ → List ℕ → List Entry
@@ -62,7 +61,7 @@ holding batch root = record {
   low = 0;
   checkpoints = record { number = 0; digest = root } ∷ [];
   prepared = record { number = 1; digest = sha256 batch; view = 0 } ∷ [];
-  proposed = record { number = 1; digest = sha256 batch; view = 0 } ∷ [];
+  pre_prepared = record { number = 1; digest = sha256 batch; view = 0 } ∷ [];
 }
 
 -- The new view over their view changes that starts at 0 and has the batch for number 1 meets the rules.

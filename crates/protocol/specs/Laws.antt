@@ -1,8 +1,12 @@
--- The laws of agreement.
-use Rattle.std.specs.Prelude.{◌≡◌, ℕ, ◌^◌, ◌≤◌, ◌<◌, ◌⊎◌, true, List, length, Some}
+-- The laws: what bytes say, and agreement.
+use Rattle.std.specs.Prelude.{◌≡◌, ◌↔◌, ℕ, ◌^◌, ◌≤◌, ◌<◌, ◌⊎◌, true, List, length, Some}
 use Rattle.sha2.specs.Sha256.{sha256}
 use Rattle.protocol.specs.Configuration.{Configuration, IsConfiguration, is_correct, is_correct_replica, is_correct_client}
-use Rattle.protocol.specs.Wire.{NewView}
+use Rattle.tuple_tree.specs.Values.{AreBytes}
+use Rattle.wire.specs.Messages.{FrameData as Frame, NewViewData as NewView}
+use Rattle.wire.specs.Spelling.{SpellsFrame}
+use Rattle.signing.specs.Heard.{heard as heard_among, signed_body as signed_among}
+use Rattle.protocol.specs.Frames.{members, frame_of, said, heard, signed_body}
 use Rattle.protocol.specs.Trace.{Entry, party_of, history_of, Once, Always, Unforged}
 use Rattle.protocol.specs.Trace.Entry.{Installed}
 use Rattle.protocol.specs.Certificates.{Prepared, Committed, taken, batch_begun}
@@ -11,6 +15,26 @@ use Rattle.protocol.specs.RightClient.{RightClient, WeakClient}
 use Rattle.protocol.specs.Linear.{points, IsLinear, Item, Legal, Covers}
 use Rattle.protocol.specs.State.{State, IsState, opening, after_batches, page_text, root_of}
 use Rattle.protocol.specs.Texts.{NoCollision, ExecutesBatch, AreExecuted}
+
+-- ---- bytes
+
+-- A list of bytes spells what its grammar says.
+abbrev pub FramesAreSpelled : Type 0
+FramesAreSpelled = (bytes : List ℕ) (frame : Frame) → AreBytes bytes → (frame_of bytes ≡ Some frame) ↔ SpellsFrame bytes frame
+
+-- What a spelled frame says is its body.
+abbrev pub BodiesAreSaid : Type 0
+BodiesAreSaid = (bytes : List ℕ) (frame : Frame) → AreBytes bytes → SpellsFrame bytes frame → said bytes ≡ Some frame.body
+
+-- What a party takes from bytes is what it hears from them in its configuration, and a signed body is one.
+pub record IsAsHeard (c : Configuration) (bytes : List ℕ) : Type 0 where
+  pub heard : (me : ℕ) → heard c me bytes ≡ heard_among (members c) me bytes
+  pub signed : signed_body c bytes ≡ signed_among (members c) bytes
+
+abbrev pub BytesAreHeard : Type 0
+BytesAreHeard = (c : Configuration) (bytes : List ℕ) → AreBytes bytes → IsAsHeard c bytes
+
+-- ---- agreement
 
 -- Each correct replica's history is right.
 abbrev pub AreReplicasRight : Configuration → List Entry → Type 0

@@ -7,9 +7,10 @@ use Rattle.space.specs.Applying.{outcome, tuples_after}
 use Rattle.quorum.specs.Quorum.{count_below}
 use Rattle.quorum.specs.Votes.{give_if}
 use Rattle.protocol.specs.Configuration.{Configuration, replicas, is_correct_replica, is_correct_client}
-use Rattle.protocol.specs.Wire.{requests_of}
-use Rattle.protocol.specs.Wire.Message.{Request}
-use Rattle.protocol.specs.Keys.{heard}
+use Rattle.wire.specs.declared.terms.Mode.TheVariants as modes
+use Rattle.wire.specs.Messages.{request as Request}
+use Rattle.wire.specs.Words.{requests_of}
+use Rattle.protocol.specs.Frames.{heard}
 use Rattle.protocol.specs.Trace.{Entry, history_of, frames_in, Once, Always, Has}
 use Rattle.protocol.specs.Trace.Entry.{Invoke, Got, Executed, Installed, Accepted}
 use Rattle.protocol.specs.Certificates.{first_given, greatest}
@@ -49,7 +50,7 @@ Accepts p timestamp answer past _ = ⊥
 abbrev pub Asks : Configuration → ℕ → ℕ → Operation → List Entry → Entry → Type 0
 Asks c client timestamp op past (Got p bytes) =
     (is_correct_replica c p ≡ true)
-    × Has (λ frame. heard c p frame ≡ Some (record { sender = client; message = Request timestamp false op })) (frames_in bytes)
+    × Has (λ frame. heard c p frame ≡ Some (record { sender = client; message = Request timestamp modes.Ordered op })) (frames_in bytes)
 Asks c client timestamp op past _ = ⊥
 
 abbrev pub NoneTwice : List Item → Type 0

@@ -8,9 +8,13 @@ use Rattle.sha2.specs.Sha256.{sha256}
 use Rattle.tuple_codec.specs.Operations.{Operation}
 use Rattle.space.specs.Applying.{outcome, is_read_only}
 use Rattle.protocol.specs.Configuration.{Configuration, primary, is_number}
-use Rattle.protocol.specs.Wire.{Body, Message, NewView, Mark, said, requests_of}
-use Rattle.protocol.specs.Wire.Message.{Request, PrePrepare, Prepare, Commit, Checkpoint, Change, Begin, Reply, Fetch, Meta, Page}
-use Rattle.protocol.specs.Keys.{heard, signed_body}
+use Rattle.wire.specs.declared.terms.Mode.TheVariants as modes
+use Rattle.wire.specs.declared.terms.Level.{Level}
+use Rattle.wire.specs.declared.terms.Level.TheVariants as levels
+use Rattle.wire.specs.Spelling.{has_children}
+use Rattle.wire.specs.Messages.{BodyData as Body, MessageData as Message, NewViewData as NewView, MarkData as Mark, request as Request, pre_prepare as PrePrepare, prepare as Prepare, commit as Commit, checkpoint as Checkpoint, view_change as Change, new_view as Begin, reply as Reply, fetch as Fetch, meta as Meta, page as Page}
+use Rattle.wire.specs.Words.{requests_of}
+use Rattle.protocol.specs.Frames.{said, heard, signed_body}
 use Rattle.protocol.specs.Trace.{Entry, party_of, Once, Has, Each, Hears}
 use Rattle.protocol.specs.Trace.Entry.{Got, Tick, Sent}
 use Rattle.protocol.specs.Selection.{is_quorum, signed_change, is_within}
@@ -90,8 +94,8 @@ IsNoOlder waiting client timestamp op = Each (λ call. call.client ≡ client �
 
 -- a rule takes the message
 abbrev pub Counts : Configuration → ℕ → List Entry → Point → List ℕ → ℕ → Message → Type 0
-Counts c me past point bytes s (Request t true op) = is_read_only op ≡ true
-Counts c me past point bytes s (Request t false op) =
+Counts c me past point bytes s (Request t modes.ReadOnly op) = is_read_only op ≡ true
+Counts c me past point bytes s (Request t modes.Ordered op) =
     (k : ℕ) × (s ≡ 256 + k)
     × (((kept : Kept) × (kept_of point.state k ≡ Some kept) × (kept.timestamp ≡ t)) ⊎ ((last_time point.state k < t) × IsNoOlder point.waiting k t op))
 Counts c me past point bytes s (PrePrepare v i batch) = (entry_proposal c me past (Got me bytes) v i ≡ Some batch) × (logged c me past v i ≡ None)
@@ -127,21 +131,21 @@ pub record Owes (c : Configuration) (me : ℕ) (before : List Entry) (input : En
   -- nothing that is committed and next is left
   pub executes : (v : ℕ) (batch : List ℕ) → Committed c me now v (suc new.state.number) batch → ⊥
   pub replies : (ran : Ran) → Has (λ x. x ≡ ran) new.ran
-      → Gives me (Reply (256 + ran.call.client) ran.kept.timestamp false ran.kept.number ran.kept.outcome) outputs
+      → Gives me (Reply (256 + ran.call.client) ran.kept.timestamp modes.Ordered ran.kept.number ran.kept.outcome) outputs
   pub checkpoints : (k : ℕ) → Has (λ e. Executes k [] e) outputs → k % c.period ≡ 0
       → Has (λ st. (st.number ≡ k) × Gives me (Checkpoint k (root_of st)) outputs) new.snapshots
   -- a request of the last timestamp gets its kept reply again
-  pub again : (k timestamp : ℕ) (op : Operation) (kept : Kept) → Hears c me (record { sender = 256 + k; message = Request timestamp false op }) before input
-      → kept_of old.state k ≡ Some kept → kept.timestamp ≡ timestamp → Gives me (Reply (256 + k) timestamp false kept.number kept.outcome) outputs
-  pub reads : (client timestamp : ℕ) (op : Operation) → Hears c me (record { sender = client; message = Request timestamp true op }) before input
-      → is_read_only op ≡ true → Gives me (Reply client timestamp true old.state.number (outcome (tuples old.state) op)) outputs
-  pub fetched_digests : (s k level index : ℕ) → level < 2 → Hears c me (record { sender = s; message = Fetch k level index }) before input
+  pub again : (k timestamp : ℕ) (op : Operation) (kept : Kept) → Hears c me (record { sender = 256 + k; message = Request timestamp modes.Ordered op }) before input
+      → kept_of old.state k ≡ Some kept → kept.timestamp ≡ timestamp → Gives me (Reply (256 + k) timestamp modes.Ordered kept.number kept.outcome) outputs
+  pub reads : (client timestamp : ℕ) (op : Operation) → Hears c me (record { sender = client; message = Request timestamp modes.ReadOnly op }) before input
+      → is_read_only op ≡ true → Gives me (Reply client timestamp modes.ReadOnly old.state.number (outcome (tuples old.state) op)) outputs
+  pub fetched_digests : (s k index : ℕ) (level : Level) → has_children level ≡ true → Hears c me (record { sender = s; message = Fetch k level index }) before input
       → (st : State) → KeptState c me before old k (λ x. x ≡ st) → Gives me (Meta k level index (digests_at st level index)) outputs
-  pub fetched_page : (s k index : ℕ) → Hears c me (record { sender = s; message = Fetch k 2 index }) before input
+  pub fetched_page : (s k index : ℕ) → Hears c me (record { sender = s; message = Fetch k levels.Page index }) before input
       → (st : State) → KeptState c me before old k (λ x. x ≡ st) → Gives me (Page k index (page_text st index)) outputs
   -- a quorum of checkpoints above the state, and above an open transfer, starts one
   pub fetches : (k : ℕ) (root : List ℕ) → is_quorum c (count_marks c now (record { number = k; digest = root })) ≡ true
-      → new.state.number < k → fetching before < k → Gives me (Fetch k 0 0) outputs
+      → new.state.number < k → fetching before < k → Gives me (Fetch k levels.Root 0) outputs
   pub dropped : (bytes : List ℕ) → input ≡ Got me bytes → IsDropped c me before old bytes → outputs ≡ []
 
 -- ---- histories

@@ -1,10 +1,11 @@
 -- Small histories that the definitions refuse: what wrong replicas, primaries and clients would make.
-use Rattle.std.specs.Prelude.{◌≡◌, ◌≢◌, ℕ, suc, ◌+◌, ◌-◌, ◌*◌, ◌≤◌, ◌<◌, ◌⊎◌, true, false, List, ◌∷◌, length, slice_get, Some, ⊤}
+use Rattle.std.specs.Prelude.{◌≡◌, ◌≢◌, ℕ, suc, ◌+◌, ◌-◌, ◌*◌, ◌≤◌, ◌<◌, ◌⊎◌, true, List, ◌∷◌, length, slice_get, Some, ⊤}
 use Rattle.sha2.specs.Sha256.{sha256}
 use Rattle.tuple_codec.specs.Operations.{Outcome}
 use Rattle.protocol.specs.Configuration.{Configuration, primary}
-use Rattle.protocol.specs.Wire.{Body, ViewChange, NewView, Claim, said}
-use Rattle.protocol.specs.Wire.Message.{PrePrepare, Prepare, Commit, Checkpoint, Change, Reply}
+use Rattle.wire.specs.declared.terms.Mode.TheVariants as modes
+use Rattle.wire.specs.Messages.{BodyData as Body, ViewChangeData as ViewChange, NewViewData as NewView, ClaimData as Claim, pre_prepare as PrePrepare, prepare as Prepare, commit as Commit, checkpoint as Checkpoint, view_change as Change, reply as Reply}
+use Rattle.protocol.specs.Frames.{said}
 use Rattle.protocol.specs.Trace.{Entry, Once, Always, Has}
 use Rattle.protocol.specs.Trace.Entry.{Executed, Installed, Sent, Accepted}
 use Rattle.protocol.specs.Selection.{count_in, vouches, may_be_null, is_null, changes_of, how_many}
@@ -29,7 +30,7 @@ NoExecution past _ = ⊤
 abbrev pub RepliesAfterExecution : Type 0
 RepliesAfterExecution =
     (c : Configuration) (me client timestamp number : ℕ) (answer : Outcome) (bytes : List ℕ) (past : List Entry)
-    → said bytes ≡ Some (record { sender = me; message = Reply client timestamp false number answer })
+    → said bytes ≡ Some (record { sender = me; message = Reply client timestamp modes.Ordered number answer })
     → Always NoExecution past → RightReplica c me (Sent me bytes ∷ past) → ⊥
 
 -- A commit of a view after a view change above it, and a prepare.

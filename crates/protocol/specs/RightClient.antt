@@ -10,9 +10,8 @@ use Rattle.space.specs.Applying.{is_read_only}
 use Rattle.quorum.specs.Quorum.{count_below}
 use Rattle.quorum.specs.Votes.{give_if}
 use Rattle.protocol.specs.Configuration.{Configuration, replicas}
-use Rattle.protocol.specs.Wire.{Body, Frame, Message, frame_of, said}
-use Rattle.protocol.specs.Wire.Message.{Request, Reply}
-use Rattle.protocol.specs.Keys.{heard, IsSealed, receivers_of}
+use Rattle.wire.specs.Messages.{BodyData as Body, FrameData as Frame, MessageData as Message, request as Request, reply as Reply}
+use Rattle.protocol.specs.Frames.{reads_only, mode_of, frame_of, said, heard, IsSealed, receivers_of}
 use Rattle.protocol.specs.Trace.{Entry, party_of, Always}
 use Rattle.protocol.specs.Trace.Entry.{Invoke, Got, Tick, Sent, Accepted}
 use Rattle.protocol.specs.Selection.{is_quorum}
@@ -45,7 +44,7 @@ pub record Vote : Type 0 where
 
 abbrev pub vote_of : ℕ → ℕ → ℕ → Body → Option Vote
 vote_of me timestamp s body = elim body.message [
-  | Reply client t read_only number answer ↦ give_if ((body.sender == s) && (client == me) && (t == timestamp)) (record { read_only = read_only; number = number; answer = answer })
+  | Reply client t mode number answer ↦ give_if ((body.sender == s) && (client == me) && (t == timestamp)) (record { read_only = reads_only mode; number = number; answer = answer })
   | _ ↦ None
 ]
 
@@ -90,7 +89,7 @@ pub data Reaction : Type 0 where
   accepts : (timestamp : ℕ) (answer : Outcome) → Reaction
 
 abbrev pub is_ordered_request : ℕ → Body → Bool
-is_ordered_request timestamp body = elim body.message [ Request t read_only op ↦ (t == timestamp) && not read_only | _ ↦ false ]
+is_ordered_request timestamp body = elim body.message [ Request t mode op ↦ (t == timestamp) && not (reads_only mode) | _ ↦ false ]
 
 -- the open call's request was sent ordered
 abbrev pub went_ordered : List Entry → ℕ → Bool
@@ -151,8 +150,8 @@ is_output e = elim e [ Invoke client t op ↦ false | Got p bytes ↦ false | Ti
 
 -- the bytes are a request of the call, sealed for all replicas
 pub record IsRequest (c : Configuration) (me : ℕ) (read_only : Bool) (call : OpenCall) (bytes : List ℕ) : Type 0 where
-  pub says : said bytes ≡ Some (record { sender = me; message = Request call.timestamp read_only call.op })
-  pub is_sealed : (frame : Frame) → frame_of bytes ≡ Some frame → IsSealed c me frame × (receivers_of frame.proof ≡ range_with_len 0 (replicas c))
+  pub says : said bytes ≡ Some (record { sender = me; message = Request call.timestamp (mode_of read_only) call.op })
+  pub is_sealed : (frame : Frame) → frame_of bytes ≡ Some frame → IsSealed c frame × (receivers_of frame.proof ≡ range_with_len 0 (replicas c))
 
 -- the outputs of an event, the oldest first, are what the client gives
 abbrev pub IsReaction : Configuration → ℕ → Reaction → List Entry → Type 0
@@ -208,7 +207,7 @@ MayRequest past timestamp read_only op =
     (open_call past ≡ Some (record { timestamp = timestamp; op = op })) × (read_only ≡ true → is_read_only op ≡ true)
 
 abbrev pub MayAsk : List Entry → Message → Type 0
-MayAsk past message = elim message [ Request timestamp read_only op ↦ MayRequest past timestamp read_only op | _ ↦ ⊥ ]
+MayAsk past message = elim message [ Request timestamp mode op ↦ MayRequest past timestamp (reads_only mode) op | _ ↦ ⊥ ]
 
 abbrev pub MayClient : (List Entry → ℕ → Outcome → Type 0) → ℕ → List Entry → Entry → Type 0
 MayClient Accepting me past (Sent p bytes) = (body : Body) × (said bytes ≡ Some body) × (body.sender ≡ me) × MayAsk past body.message

@@ -1,6 +1,6 @@
 -- What a correct replica may do: what each entry of its history must be, given its past (Castro and Liskov, TOCS 2002,
 -- sections 4.3 to 4.5 and, of checkpoints and transfer, 5.3). What it owes stands in Owed.
-use Rattle.std.specs.Prelude.{◌≡◌, ◌≢◌, ℕ, suc, ◌+◌, ◌%◌, ◌^◌, ◌≤◌, ◌<◌, ◌⊎◌, Bool, true, false, ◌&&◌, ◌||◌, not, List, [], ◌∷◌, ◌++◌, map, reverse, filter, nat_le, nat_lt, ◌==◌, if◌then◌else◌, Some, option_and_then, AllPairs, ⊤}
+use Rattle.std.specs.Prelude.{◌≡◌, ◌≢◌, ℕ, suc, ◌+◌, ◌%◌, ◌^◌, ◌≤◌, ◌<◌, ◌⊎◌, Bool, true, ◌&&◌, ◌||◌, not, List, [], ◌∷◌, ◌++◌, map, reverse, filter, nat_le, nat_lt, ◌==◌, if◌then◌else◌, Some, option_and_then, AllPairs, ⊤}
 use Rattle.std.specs.List.{list_all}
 use Rattle.std.specs.Option.{option_map_or}
 use Rattle.sha2.specs.Sha256.{sha256}
@@ -8,9 +8,13 @@ use Rattle.tuple_codec.specs.Operations.{Operation, Outcome}
 use Rattle.space.specs.Applying.{outcome, is_read_only}
 use Rattle.partition_tree.specs.Digests.{inner_digests, page_digests}
 use Rattle.protocol.specs.Configuration.{Configuration, primary}
-use Rattle.protocol.specs.Wire.{Body, Frame, Message, ViewChange, NewView, Mark, Claim, frame_of, said, carried, requests_of}
-use Rattle.protocol.specs.Wire.Message.{Request, PrePrepare, Prepare, Commit, Checkpoint, Change, Begin, Reply, Fetch, Meta, Page}
-use Rattle.protocol.specs.Keys.{heard, IsSealed}
+use Rattle.wire.specs.declared.terms.Mode.{Mode}
+use Rattle.wire.specs.declared.terms.Mode.TheVariants as modes
+use Rattle.wire.specs.declared.terms.Level.{Level}
+use Rattle.wire.specs.declared.terms.Level.TheVariants as levels
+use Rattle.wire.specs.Messages.{BodyData as Body, FrameData as Frame, MessageData as Message, ViewChangeData as ViewChange, NewViewData as NewView, MarkData as Mark, ClaimData as Claim, request as Request, pre_prepare as PrePrepare, prepare as Prepare, commit as Commit, checkpoint as Checkpoint, view_change as Change, new_view as Begin, reply as Reply, fetch as Fetch, meta as Meta, page as Page}
+use Rattle.wire.specs.Words.{carried, requests_of}
+use Rattle.protocol.specs.Frames.{frame_of, said, heard, IsSealed}
 use Rattle.protocol.specs.Trace.{Entry, party_of, Once, Has, Each, frames_in, Hears}
 use Rattle.protocol.specs.Trace.Entry.{Invoke, Got, Tick, Executed, Installed, Sent, Accepted}
 use Rattle.protocol.specs.Selection.{is_quorum}
@@ -44,7 +48,7 @@ GetsPage c me i text past (Got p bytes) = (sender number : ℕ) × (heard c me b
 GetsPage c me i text past _ = ⊥
 
 -- a part of a checkpoint was asked for
-abbrev pub GetsFetch : Configuration → ℕ → ℕ → ℕ → ℕ → List Entry → Entry → Type 0
+abbrev pub GetsFetch : Configuration → ℕ → ℕ → Level → ℕ → List Entry → Entry → Type 0
 GetsFetch c me k level index past (Got p bytes) = (sender : ℕ) × (heard c me bytes ≡ Some (record { sender = sender; message = Fetch k level index }))
 GetsFetch c me k level index past _ = ⊥
 
@@ -145,7 +149,7 @@ pub record IsNewChange (c : Configuration) (me : ℕ) (past : List Entry) (point
   pub low : vc.low ≡ low c me past
   pub checkpoints : vc.checkpoints ≡ map mark_of (reverse (kept_states vc.low point.snapshots))
   pub prepared : IsPreparedList c me past vc.prepared
-  pub proposed : IsProposedList c me past vc.proposed
+  pub proposed : IsProposedList c me past vc.pre_prepared
 
 -- ---- what may be sent. Each clause covers sending again too.
 
@@ -204,31 +208,34 @@ MayReplyOrdered point client timestamp number answer =
 pub record MayReplyRead (c : Configuration) (me : ℕ) (past : List Entry) (point : Point) (client timestamp number : ℕ) (answer : Outcome) : Type 0 where
   pub op : Operation
   pub is_read : is_read_only op ≡ true
-  pub heard : Once (Hears c me (record { sender = client; message = Request timestamp true op })) past
+  pub heard : Once (Hears c me (record { sender = client; message = Request timestamp modes.ReadOnly op })) past
   pub answer_is : answer ≡ outcome (tuples point.state) op
   pub number_is : number ≡ point.state.number
 
-abbrev pub MayReply : Configuration → ℕ → List Entry → Point → ℕ → ℕ → Bool → ℕ → Outcome → Type 0
-MayReply c me past point client timestamp false number answer = MayReplyOrdered point client timestamp number answer
-MayReply c me past point client timestamp true number answer = MayReplyRead c me past point client timestamp number answer
+abbrev pub MayReply : Configuration → ℕ → List Entry → Point → ℕ → ℕ → Mode → ℕ → Outcome → Type 0
+MayReply c me past point client timestamp modes.Ordered number answer = MayReplyOrdered point client timestamp number answer
+MayReply c me past point client timestamp modes.ReadOnly number answer = MayReplyRead c me past point client timestamp number answer
 
 -- a part of a kept state answers a fetch that was got
 abbrev pub KeptState : Configuration → ℕ → List Entry → Point → ℕ → (State → Type 0) → Type 0
 KeptState c me past point k P = Has (λ st. (st.number ≡ k) × P st) (kept_states (low c me past) point.snapshots)
 
-abbrev pub digests_at : State → ℕ → ℕ → List (List ℕ)
-digests_at st level index = if level == 0 then inner_digests (pages_of st) else page_digests (pages_of st) index
+-- the digests below a place; below a page there are none
+abbrev pub digests_at : State → Level → ℕ → List (List ℕ)
+digests_at st levels.Root index = inner_digests (pages_of st)
+digests_at st levels.Inner index = page_digests (pages_of st) index
+digests_at st levels.Page index = []
 
-abbrev pub MayMeta : Configuration → ℕ → List Entry → Point → ℕ → ℕ → ℕ → List (List ℕ) → Type 0
+abbrev pub MayMeta : Configuration → ℕ → List Entry → Point → ℕ → Level → ℕ → List (List ℕ) → Type 0
 MayMeta c me past point k level index digests =
     KeptState c me past point k (λ st. digests ≡ digests_at st level index) × Once (GetsFetch c me k level index) past
 
 abbrev pub MayPage : Configuration → ℕ → List Entry → Point → ℕ → ℕ → List ℕ → Type 0
 MayPage c me past point k index text =
-    KeptState c me past point k (λ st. text ≡ page_text st index) × Once (GetsFetch c me k 2 index) past
+    KeptState c me past point k (λ st. text ≡ page_text st index) × Once (GetsFetch c me k levels.Page index) past
 
 abbrev pub MaySay : Configuration → ℕ → List Entry → Point → Entry → List ℕ → Message → Type 0
-MaySay c me past point e bytes (Request timestamp read_only op) = ⊥
+MaySay c me past point e bytes (Request timestamp mode op) = ⊥
 MaySay c me past point e bytes (PrePrepare v i batch) = MayPrePrepare c me past e v i batch
 MaySay c me past point e bytes (Prepare v i digest) = MayPrepare c me past v i digest
 MaySay c me past point e bytes (Commit v i digest) = MayCommit c me past v i digest
@@ -247,7 +254,7 @@ pub record MaySend (c : Configuration) (me : ℕ) (past : List Entry) (point : P
   pub own : body.sender ≡ me
   pub seen : Each (λ frame. Once (HasSeen frame) past) (carried body.message)
   pub say : MaySay c me past point e bytes body.message
-  pub is_sealed : (frame : Frame) → frame_of bytes ≡ Some frame → IsSealed c me frame
+  pub is_sealed : (frame : Frame) → frame_of bytes ≡ Some frame → IsSealed c frame
 
 -- ---- what may be executed and installed
 

@@ -6,7 +6,7 @@ use Rattle.protocol.specs.Trace.Entry.{Accepted}
 use Rattle.protocol.specs.RightClient.{is_output, IsClient, IsWeakClient, Vote, newest_vote}
 use Rattle.protocol.specs.Owed.{IsReplica}
 use Rattle.protocol.specs.Texts.{NoCollision}
-use Rattle.protocol.specs.Wire.{requests_of}
+use Rattle.wire.specs.Words.{requests_of}
 use Rattle.protocol.specs.State.{State, opening, execute, ran_in}
 use Rattle.protocol.specs.Linear.{points, IsLinear, is_level, invoke_past, Point, ordered_point, NoneTwice}
 use Rattle.protocol.specs.Laws.{IsOneSpace}

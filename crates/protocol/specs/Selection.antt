@@ -5,9 +5,8 @@ use Rattle.std.specs.Option.{option_map_or}
 use Rattle.sha2.specs.Sha256.{sha256}
 use Rattle.quorum.specs.Quorum.{count_below}
 use Rattle.protocol.specs.Configuration.{Configuration, replicas, span, is_number}
-use Rattle.protocol.specs.Wire.{Body, NewView, ViewChange, Mark, Claim}
-use Rattle.protocol.specs.Wire.Message.{Change}
-use Rattle.protocol.specs.Keys.{signed_body}
+use Rattle.wire.specs.Messages.{BodyData as Body, NewViewData as NewView, ViewChangeData as ViewChange, MarkData as Mark, ClaimData as Claim, view_change as Change}
+use Rattle.protocol.specs.Frames.{signed_body}
 
 abbrev pub is_quorum : Configuration → ℕ → Bool
 is_quorum c count = nat_le (2 * c.faults + 1) count
@@ -54,7 +53,7 @@ is_mark_within c vc mark = nat_le vc.low mark.number && nat_le mark.number (vc.l
 
 abbrev pub is_within : Configuration → ViewChange → Bool
 is_within c vc = is_number vc.view && is_number vc.low
-    && list_all (is_claim_within c vc) vc.prepared && list_all (is_claim_within c vc) vc.proposed && list_all (is_mark_within c vc) vc.checkpoints
+    && list_all (is_claim_within c vc) vc.prepared && list_all (is_claim_within c vc) vc.pre_prepared && list_all (is_mark_within c vc) vc.checkpoints
 
 -- ---- the rules
 
@@ -70,7 +69,7 @@ agrees number view digest vc = list_all (λ claim. not (claim.number == number) 
 
 -- it pre-prepared this digest for the number in this view or a later one
 abbrev pub vouches : ℕ → ℕ → List ℕ → ViewChange → Bool
-vouches number view digest vc = list_any (λ claim. (claim.number == number) && bytes_eq claim.digest digest && nat_le view claim.view) vc.proposed
+vouches number view digest vc = list_any (λ claim. (claim.number == number) && bytes_eq claim.digest digest && nat_le view claim.view) vc.pre_prepared
 
 -- a digest may stand at the number by this view: a quorum has nothing against it, and f + 1 vouch for it
 abbrev pub may_stand_at : Configuration → List (ℕ × ViewChange) → ℕ → List ℕ → ℕ → Bool

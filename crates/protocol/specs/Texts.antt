@@ -4,8 +4,8 @@ use Rattle.std.specs.List.{concat}
 use Rattle.sha2.specs.Sha256.{sha256}
 use Rattle.partition_tree.specs.Digests.{inner_digests, page_digests}
 use Rattle.protocol.specs.Configuration.{Configuration, is_correct_replica}
-use Rattle.protocol.specs.Wire.{Body, Message, said}
-use Rattle.protocol.specs.Wire.Message.{PrePrepare, Begin, Meta, Page}
+use Rattle.wire.specs.Messages.{BodyData as Body, MessageData as Message, pre_prepare as PrePrepare, new_view as Begin, meta as Meta, page as Page}
+use Rattle.protocol.specs.Frames.{said}
 use Rattle.protocol.specs.Trace.{Entry, history_of, Once, Has}
 use Rattle.protocol.specs.Trace.Entry.{Got, Executed, Sent}
 use Rattle.protocol.specs.State.{opening, after_batches, page_text, all_pages}

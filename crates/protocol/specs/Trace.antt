@@ -4,8 +4,9 @@ use Rattle.std.specs.Prelude.{◌≡◌, ℕ, ◌+◌, ◌⊎◌, true, List, []
 use Rattle.std.specs.Option.{option_map_or}
 use Rattle.tuple_codec.specs.Operations.{Operation, Outcome}
 use Rattle.protocol.specs.Configuration.{Configuration, is_correct}
-use Rattle.protocol.specs.Wire.{Body, Frame, frame_of, said, carried}
-use Rattle.protocol.specs.Keys.{heard}
+use Rattle.wire.specs.Messages.{BodyData as Body}
+use Rattle.wire.specs.Words.{carried}
+use Rattle.protocol.specs.Frames.{said, heard}
 
 -- What happens at the correct parties. A client stands with its number here, and 256 above it as a party.
 pub data Entry : Type 0 where
@@ -59,10 +60,10 @@ carried_by bytes = option_map_or (λ body. carried body.message) (said bytes) []
 abbrev pub frames_in : List ℕ → List (List ℕ)
 frames_in bytes = bytes ∷ carried_by bytes
 
--- the party sent a frame of this body
-abbrev pub SendsText : ℕ → List ℕ → List Entry → Entry → Type 0
-SendsText p text past (Sent party bytes) = (party ≡ p) × ((frame : Frame) × (frame_of bytes ≡ Some frame) × (frame.text ≡ text))
-SendsText p text past _ = ⊥
+-- the sender sent a frame of this body
+abbrev pub SendsBody : Body → List Entry → Entry → Type 0
+SendsBody body past (Sent party bytes) = (party ≡ body.sender) × (said bytes ≡ Some body)
+SendsBody body past _ = ⊥
 
 -- the party got a frame that it takes as genuine, of this body
 abbrev pub Hears : Configuration → ℕ → Body → List Entry → Entry → Type 0
@@ -72,10 +73,9 @@ Hears c me body past _ = ⊥
 -- ---- no message of a correct party is forged
 
 -- where a correct party can take the frame as a correct sender's, by its MAC or by its signature, the sender sent a
--- frame of that body before
+-- frame of that body before (a body has one spelling, of which MACs and signatures are made)
 abbrev pub IsFromSender : Configuration → ℕ → List Entry → List ℕ → Type 0
-IsFromSender c me past bytes = (body : Body) (frame : Frame) → frame_of bytes ≡ Some frame → heard c me bytes ≡ Some body
-    → is_correct c body.sender ≡ true → Once (SendsText body.sender frame.text) past
+IsFromSender c me past bytes = (body : Body) → heard c me bytes ≡ Some body → is_correct c body.sender ≡ true → Once (SendsBody body) past
 
 abbrev pub IsUnforgedAt : Configuration → List Entry → Entry → Type 0
 IsUnforgedAt c past (Got me bytes) = is_correct c me ≡ true → Each (IsFromSender c me past) (frames_in bytes)

@@ -4,8 +4,15 @@
 pub mod accepted;
 pub mod refused;
 
-ghost use Rattle.protocol.specs.Laws.{PreparedAgree, CommittedStays, CommittedAgree, ExecutedAgree, PagesDetermine, BatchesLeaveStates, StatesAgree, StableAgree, InstalledAgree, StartsAgree};
+ghost use Rattle.protocol.specs.Laws.{FramesAreSpelled, BodiesAreSaid, BytesAreHeard, PreparedAgree, CommittedStays, CommittedAgree, ExecutedAgree, PagesDetermine, BatchesLeaveStates, StatesAgree, StableAgree, InstalledAgree, StartsAgree};
 ghost use Rattle.protocol.specs.Run.{PointsAreLinear, NoneRunsTwice, AcceptedAtLevels, WeakAnswersAreOneSpace};
+
+/// What the definitions read from bytes is what the frame's grammar says, and what a party hears as authentic or signed.
+pub fn bytes_are_read()
+    ensures frames { FramesAreSpelled }
+    ensures bodies { BodiesAreSaid }
+    ensures heard { BytesAreHeard }
+{}
 
 /// Two correct replicas hold batches of one digest prepared in one view for one number (Castro and Liskov, TOCS 2002,
 /// section 4.5).
