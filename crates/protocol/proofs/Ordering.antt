@@ -29,7 +29,8 @@ use Rattle.protocol.specs.State.{after_batches, ran_call}
 use Rattle.protocol.specs.RightReplica.{executed_point, waiting_after, RepliesTo}
 use Rattle.protocol.specs.Texts.{NoCollision}
 use Rattle.protocol.proofs.Leaving.{get_set}
-use Rattle.protocol.proofs.States.{IsStateOf, GoodHere, states_agree}
+use Rattle.protocol.specs.Laws.{IsStateOf}
+use Rattle.protocol.proofs.States.{GoodHere, states_agree}
 use Rattle.tuple_codec.specs.Spelling.{outcome_spelling}
 use Rattle.tuple_codec.specs.Operations.{Outcome}
 

@@ -17,7 +17,7 @@ use Rattle.protocol.specs.State.{State, IsState, opening, execute, after_batches
 use Rattle.protocol.specs.RightReplica.{Point, start, Leaves, RightReplica, May, MaySay, MayCheckpoint, MayInstall, Moves, GetsPage, StartsAt, kept_states, mark_of, waiting_after, HadQuorum, executed_point}
 use Rattle.protocol.specs.Texts.{NoCollision, IsText, Holds, HasPart, AreExecuted, ExecutesBatch}
 use Rattle.protocol.specs.Texts.IsText.{part, held, page_of, under}
-use Rattle.protocol.specs.Laws.{AreReplicasRight, Takes, IsRootOf, Installs}
+use Rattle.protocol.specs.Laws.{AreReplicasRight, Takes, IsRootOf, IsStateOf, Installs, Had}
 use Rattle.protocol.proofs.Temporal.{once_weaker, once_always, once_stays, once_in_trace}
 use Rattle.protocol.proofs.Options.{and_then_some, give_if_some, some_injective}
 use Rattle.protocol.proofs.Linking.{Speaks, heard_said}
@@ -34,11 +34,6 @@ use Rattle.protocol.proofs.Executing.{executor, executed_committed}
 use Rattle.protocol.proofs.Changes.{NewChangeAt, change_is_new, logged_within}
 
 -- ---- states of executed batches
-
-pub record IsStateOf (c : Configuration) (trace : List Entry) (st : State) : Type 0 where
-  pub batches : List (List ℕ)
-  pub executed : AreExecuted c trace 1 batches
-  pub is : st ≡ after_batches c opening batches
 
 pub number_after : (c : Configuration) (st : State) (batches : List (List ℕ)) → (after_batches c st batches).number ≡ st.number + length batches
 unfolding execute
@@ -214,6 +209,10 @@ GoodHere c trace r past = (point : Point) → Leaves c r past point → Good c t
 -- at each point of the history
 abbrev pub GoodAll : Configuration → List Entry → ℕ → List Entry → Type 0
 GoodAll c trace r history = GoodHere c trace r history × Always (λ past e. GoodHere c trace r past) history
+
+good_behind : (c : Configuration) (trace : List Entry) (r : ℕ) (later past : List Entry) → GoodAll c trace r (later ++ past) → GoodAll c trace r past
+good_behind c trace r [] past h = h
+good_behind c trace r (e ∷ later) past h = good_behind c trace r later past h.1
 
 good_start : (c : Configuration) (trace : List Entry) (point : Point) → point ≡ start → Good c trace point
 good_start c trace point is = subst (Good c trace) (sym is) (record { state = first; snapshots = each })
@@ -471,13 +470,15 @@ module _ (c : Configuration) (setting : IsConfiguration c) (trace : List Entry) 
 
           holds : Holds c trace (page_text point.state)
           holds = record {
-            replica = r;
-            later = history_of r pre;
-            past = Installed p k root ∷ history_of r ys;
-            is_correct = correct;
-            splits = ap (history_of r) is ∙ history_append r pre (Installed p k root ∷ ys) ∙ ap (λ t. history_of r pre ++ t) (here (party_of (Installed p k root) == r) (eq-eqb p r own));
-            point = point;
-            leaves = leaves;
+            at = record {
+              replica = r;
+              later = history_of r pre;
+              past = Installed p k root ∷ history_of r ys;
+              is_correct = correct;
+              splits = ap (history_of r) is ∙ history_append r pre (Installed p k root ∷ ys) ∙ ap (λ t. history_of r pre ++ t) (here (party_of (Installed p k root) == r) (eq-eqb p r own));
+              point = point;
+              leaves = leaves;
+            };
             each = λ i l. inl refl;
           }
             where
@@ -506,6 +507,17 @@ module _ (c : Configuration) (setting : IsConfiguration c) (trace : List Entry) 
   -- each state of a correct replica, and each of its snapshots, is that of the executed batches
   pub states_agree : (r : ℕ) → is_correct_replica c r ≡ true → GoodAll c trace r (history_of r trace)
   states_agree r correct = all_good trace [] refl r correct
+
+  -- of each time, not of the end alone
+  pub had_executed : (st : State) → Had c trace st → IsStateOf c trace st
+  had_executed st h = pick h.1
+    where
+      good : Good c trace h.0.point
+      good = (good_behind c trace h.0.replica h.0.later h.0.past (subst (GoodAll c trace h.0.replica) h.0.splits (states_agree h.0.replica h.0.is_correct))).0 h.0.point h.0.leaves
+
+      pick : (h.0.point.state ≡ st) ⊎ Has (λ x. x ≡ st) h.0.point.snapshots → IsStateOf c trace st
+      pick (inl e) = subst (IsStateOf c trace) e good.state
+      pick (inr e) = good.snapshots st e
 
   -- ---- roots
 

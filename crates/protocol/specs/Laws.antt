@@ -7,14 +7,14 @@ use Rattle.wire.specs.Messages.{FrameData as Frame, NewViewData as NewView}
 use Rattle.wire.specs.Spelling.{SpellsFrame}
 use Rattle.signing.specs.Heard.{heard as heard_among, signed_body as signed_among}
 use Rattle.protocol.specs.Frames.{members, frame_of, said, heard, signed_body}
-use Rattle.protocol.specs.Trace.{Entry, party_of, history_of, Once, Always, Unforged}
+use Rattle.protocol.specs.Trace.{Entry, party_of, history_of, Once, Always, Has, Unforged}
 use Rattle.protocol.specs.Trace.Entry.{Installed}
 use Rattle.protocol.specs.Certificates.{Prepared, Committed, taken, batch_begun}
-use Rattle.protocol.specs.RightReplica.{RightReplica, Point, Leaves, HadQuorum, StartsAt}
+use Rattle.protocol.specs.RightReplica.{RightReplica, HadQuorum, StartsAt}
 use Rattle.protocol.specs.RightClient.{RightClient, WeakClient}
 use Rattle.protocol.specs.Linear.{points, IsLinear, Item, Legal, Covers}
 use Rattle.protocol.specs.State.{State, IsState, opening, after_batches, page_text, root_of}
-use Rattle.protocol.specs.Texts.{NoCollision, ExecutesBatch, AreExecuted}
+use Rattle.protocol.specs.Texts.{NoCollision, StoodAt, ExecutesBatch, AreExecuted}
 
 -- ---- bytes
 
@@ -86,12 +86,28 @@ PagesDetermine = (st other : State) → IsState st → IsState other → ((i : �
 abbrev pub BatchesLeaveStates : Type 0
 BatchesLeaveStates = (c : Configuration) (batches : List (List ℕ)) → IsConfiguration c → length batches < 2 ^ 48 → IsState (after_batches c opening batches)
 
--- Two correct replicas' states of one number are one state.
+-- some correct replica had the state at some time of the trace, as its own or as a snapshot
+abbrev pub Had : Configuration → List Entry → State → Type 0
+Had c trace st = (at : StoodAt c trace) × ((at.point.state ≡ st) ⊎ Has (λ x. x ≡ st) at.point.snapshots)
+
+-- it is the state after batches that were executed
+pub record IsStateOf (c : Configuration) (trace : List Entry) (st : State) : Type 0 where
+  pub batches : List (List ℕ)
+  pub executed : AreExecuted c trace 1 batches
+  pub is : st ≡ after_batches c opening batches
+
+-- Each state that a correct replica ever has, executed, kept or installed, is that of the executed batches up to its
+-- number.
+abbrev pub StatesAreExecuted : Type 0
+StatesAreExecuted =
+    (c : Configuration) → IsConfiguration c → (trace : List Entry) → AreReplicasRight c trace → Unforged c trace → NoCollision c trace
+    → (st : State) → Had c trace st → IsStateOf c trace st
+
+-- So those of one number, whenever and wherever, are one state.
 abbrev pub StatesAgree : Type 0
 StatesAgree =
     (c : Configuration) → IsConfiguration c → (trace : List Entry) → AreReplicasRight c trace → Unforged c trace → NoCollision c trace
-    → (p q : ℕ) (x y : Point) → is_correct_replica c p ≡ true → is_correct_replica c q ≡ true
-    → Leaves c p (history_of p trace) x → Leaves c q (history_of q trace) y → x.state.number ≡ y.state.number → x.state ≡ y.state
+    → (x y : State) → Had c trace x → Had c trace y → x.number ≡ y.number → x ≡ y
 
 -- the root is that of the state of the executed batches up to the number
 pub record IsRootOf (c : Configuration) (trace : List Entry) (k : ℕ) (root : List ℕ) : Type 0 where

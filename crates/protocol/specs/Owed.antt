@@ -1,12 +1,13 @@
 -- What a correct replica owes in an event: everything that the event's input brings about, and nothing where the input is
 -- dropped (Castro and Liskov, TOCS 2002, sections 4.2 to 4.5). No law of agreement uses it. It speaks of the same states
 -- as what the replica may do.
-use Rattle.std.specs.Prelude.{◌≡◌, ◌≢◌, ℕ, suc, ◌+◌, ◌%◌, ◌≤◌, ◌<◌, ◌⊎◌, Bool, true, false, ◌&&◌, List, [], ◌∷◌, ◌++◌, reverse, nat_lt, ◌==◌, if◌then◌else◌, Some, None, is_some, ⊤}
+use Rattle.std.specs.Prelude.{◌≡◌, ◌≢◌, ℕ, suc, ◌+◌, ◌%◌, ◌≤◌, ◌<◌, ◌⊎◌, Bool, true, false, ◌&&◌, List, [], ◌∷◌, ◌++◌, reverse, max, nat_lt, ◌==◌, if◌then◌else◌, Option, Some, None, is_some, option_and_then, ⊤}
 use Rattle.std.specs.List.{list_any}
 use Rattle.std.specs.Option.{option_map_or}
 use Rattle.sha2.specs.Sha256.{sha256}
 use Rattle.tuple_codec.specs.Operations.{Operation}
 use Rattle.space.specs.Applying.{outcome, is_read_only}
+use Rattle.quorum.specs.Votes.{or_else}
 use Rattle.protocol.specs.Configuration.{Configuration, primary, is_number}
 use Rattle.wire.specs.declared.terms.Mode.TheVariants as modes
 use Rattle.wire.specs.declared.terms.Level.{Level}
@@ -47,6 +48,16 @@ fetch_sent _ = 0
 abbrev pub fetching : List Entry → ℕ
 fetching past = greatest fetch_sent past
 
+-- the part of a checkpoint that a fetch asks for: number, level, index
+abbrev pub fetch_from : Body → Option (ℕ × Level × ℕ)
+fetch_from body = elim body.message [ Fetch k level index ↦ Some (k, level, index) | _ ↦ None ]
+
+-- The part that was asked for last. One is awaited at a time.
+abbrev pub last_fetch : List Entry → Option (ℕ × Level × ℕ)
+last_fetch [] = None
+last_fetch (Sent p bytes ∷ past) = or_else (option_and_then fetch_from (said bytes)) (last_fetch past)
+last_fetch (_ ∷ past) = last_fetch past
+
 -- ---- requests that a view has numbered
 
 abbrev pub BeginsWith : Configuration → ℕ → List ℕ → List Entry → Entry → Type 0
@@ -63,9 +74,9 @@ HasRequest c client timestamp batch = Has (λ frame. (call : Call) × (call_of c
 abbrev pub IsNumbered : Configuration → ℕ → List Entry → ℕ → ℕ → ℕ → Type 0
 IsNumbered c me past v client timestamp = (batch : List ℕ) × IsOfView c me past v batch × HasRequest c client timestamp batch
 
--- a number in the marks above all that the view has used
-abbrev pub IsFree : Configuration → ℕ → List Entry → ℕ → ℕ → Type 0
-IsFree c me past v i = (is_in_marks c (low c me past) i ≡ true) × ((j : ℕ) → i ≤ j → logged c me past v j ≡ None)
+-- a number in the marks above all that the view has used, and at most two above the executed number k
+abbrev pub IsFree : Configuration → ℕ → List Entry → ℕ → ℕ → ℕ → Type 0
+IsFree c me past k v i = (is_in_marks c (low c me past) i ≡ true) × (i ≤ k + 2) × ((j : ℕ) → i ≤ j → logged c me past v j ≡ None)
 
 -- a pre-prepare that isn't sent again numbers no request that the view has numbered
 abbrev pub NumbersOnce : Configuration → ℕ → List Entry → Entry → Type 0
@@ -83,16 +94,21 @@ has_number k marks = list_any (λ m. m.number == k) marks
 abbrev pub change_taken : Configuration → ℕ → ℕ → List ℕ → ℕ
 change_taken c v s bytes = option_map_or (λ x. if (x.0 == s) && nat_lt v x.1.view && is_within c x.1 then x.1.view else 0) (signed_change c bytes) 0
 
+-- The same of what is got and of what is sent: the own view change that comes back is no newer one.
+abbrev pub change_at : Configuration → List Entry → Entry → ℕ → ℕ
+change_at c past (Got p bytes) s = change_taken c (view c past) s bytes
+change_at c past (Sent p bytes) s = change_taken c (view c past) s bytes
+change_at c past _ s = 0
+
 abbrev pub latest_change : Configuration → List Entry → ℕ → ℕ
 latest_change c [] s = 0
-latest_change c (Got p bytes ∷ past) s = let v : ℕ = change_taken c (view c past) s bytes in if nat_lt (latest_change c past s) v then v else latest_change c past s
-latest_change c (_ ∷ past) s = latest_change c past s
+latest_change c (e ∷ past) s = max (latest_change c past s) (change_at c past e s)
 
 -- the waiting requests of the client are older, or this very one
 abbrev pub IsNoOlder : List Call → ℕ → ℕ → Operation → Type 0
 IsNoOlder waiting client timestamp op = Each (λ call. call.client ≡ client → (call.timestamp < timestamp) ⊎ ((call.timestamp ≡ timestamp) × (call.op ≡ op))) waiting
 
--- a rule takes the message
+-- A rule takes the message. That a part of another digest is dropped is left to the transfer's own contract.
 abbrev pub Counts : Configuration → ℕ → List Entry → Point → List ℕ → ℕ → Message → Type 0
 Counts c me past point bytes s (Request t modes.ReadOnly op) = is_read_only op ≡ true
 Counts c me past point bytes s (Request t modes.Ordered op) =
@@ -107,8 +123,8 @@ Counts c me past point bytes s (Change vc) = (is_some (signed_body c bytes) ≡ 
 Counts c me past point bytes s (Begin new) = taken c past (Got me bytes) ≡ Some new
 Counts c me past point bytes s (Reply client t kind k answer) = ⊥
 Counts c me past point bytes s (Fetch k level index) = KeptState c me past point k (λ st. ⊤)
-Counts c me past point bytes s (Meta k level index digests) = (fetching past ≡ k) × (point.state.number < k)
-Counts c me past point bytes s (Page k index text) = (fetching past ≡ k) × (point.state.number < k)
+Counts c me past point bytes s (Meta k level index digests) = (last_fetch past ≡ Some (k, level, index)) × (point.state.number < k)
+Counts c me past point bytes s (Page k index text) = (last_fetch past ≡ Some (k, levels.Page, index)) × (point.state.number < k)
 
 abbrev pub IsDropped : Configuration → ℕ → List Entry → Point → List ℕ → Type 0
 IsDropped c me past point bytes = (body : Body) → heard c me bytes ≡ Some body → Counts c me past point bytes body.sender body.message → ⊥
@@ -120,7 +136,7 @@ IsDropped c me past point bytes = (body : Body) → heard c me bytes ≡ Some bo
 pub record Owes (c : Configuration) (me : ℕ) (before : List Entry) (input : Entry) (outputs now : List Entry) (old new : Point) : Type 0 where
   -- no waiting request is without a number at an active primary, while a number is free
   pub numbers : (v i : ℕ) (call : Call) → is_active_in c now v ≡ true → primary c v ≡ me → Has (λ x. x ≡ call) new.waiting
-      → IsFree c me now v i → IsNumbered c me now v call.client call.timestamp
+      → IsFree c me now new.state.number v i → IsNumbered c me now v call.client call.timestamp
   pub numbers_once : AtOutputs (NumbersOnce c me) (input ∷ before) outputs
   -- an active backup prepares what it logs
   pub prepares : (v i : ℕ) (batch : List ℕ) → logged c me before v i ≡ None → logged c me now v i ≡ Some batch → is_active_in c now v ≡ true → primary c v ≢ me
