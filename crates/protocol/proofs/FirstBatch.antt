@@ -294,6 +294,7 @@ module _ (clients : ℕ) (seed batch a b d e f g : List ℕ) (x : IsFirstBatch (
     seen = tt;
     say = record { is_backup = λ z. cc; active = active h1 plain1; batch = batch; is_logged = logged1; digest_is = refl };
     is_sealed = x.prepare_sealed;
+    is_for = x.prepare_for;
   }
 
   may_commit : (point : Point) → MaySend c 1 h3 point (Sent 1 e) e
@@ -304,6 +305,7 @@ module _ (clients : ℕ) (seed batch a b d e f g : List ℕ) (x : IsFirstBatch (
     seen = tt;
     say = record { active = active h3 plain3; batch = batch; prepared = prepared; digest_is = refl };
     is_sealed = x.commit_sealed;
+    is_for = x.commit_for;
   }
 
   abbrev p1 : Point

@@ -1,32 +1,39 @@
 -- The definitions refuse what wrong bodies would do.
-use Rattle.std.proofs.Common.{◌≡◌, ℕ, suc, ◌+◌, ◌-◌, ◌*◌, ◌≤◌, ◌<◌, ◌⊎◌, inl, inr, Bool, true, false, cond, List, [], ◌∷◌, length, slice_get, refl, sym, ap, ◌∙◌, subst, arith, ◌&&◌, Option, Some, eqb-true, eq-eqb}
-use Rattle.std.specs.Prelude.{◌==◌, nat_le, nat_lt, option_and_then}
+use Rattle.std.proofs.Common.{◌≡◌, ℕ, suc, ◌+◌, ◌-◌, ◌*◌, ◌≤◌, ◌<◌, ◌⊎◌, inl, inr, Bool, true, false, cond, List, [], ◌∷◌, length, slice_get, refl, sym, ap, ◌∙◌, subst, arith, ◌&&◌, ◌||◌, not, bytes_eq, Option, Some, None, eqb-true, eq-eqb}
+use Rattle.std.specs.Prelude.{◌==◌, nat_le, nat_lt, option_and_then, ⊤}
+use Rattle.std.specs.List.{list_all}
 use Rattle.std.specs.Option.{option_map_or}
 use Rattle.std.proofs.lemmas.Bool.{and_parts, or_cases, leb-true, ltb-true}
+use Rattle.std.proofs.lemmas.Slice.Eq.{bytes_eq-Decides}
 use Rattle.sha2.specs.Sha256.{sha256}
+use Rattle.tuple_codec.specs.Operations.{Outcome}
+use Rattle.tuple_codec.specs.Spelling.{outcome_spelling}
 use Rattle.quorum.specs.Quorum.{count_below}
-use Rattle.protocol.specs.Configuration.{Configuration}
+use Rattle.protocol.specs.Configuration.{Configuration, span}
 use Rattle.wire.specs.declared.terms.Mode.TheVariants as modes
-use Rattle.wire.specs.Messages.{BodyData as Body, ViewChangeData as ViewChange, NewViewData as NewView, pre_prepare as PrePrepare, prepare as Prepare, commit as Commit, checkpoint as Checkpoint, view_change as Change, reply as Reply}
-use Rattle.protocol.specs.Frames.{said}
-use Rattle.protocol.specs.Trace.{Entry, Once, Always, Has}
+use Rattle.wire.specs.Messages.{BodyData as Body, ViewChangeData as ViewChange, NewViewData as NewView, ClaimData as Claim, pre_prepare as PrePrepare, prepare as Prepare, commit as Commit, checkpoint as Checkpoint, view_change as Change, reply as Reply}
+use Rattle.protocol.specs.Frames.{said, mode_of}
+use Rattle.protocol.specs.Trace.{Entry, party_of, Once, Always, Has, Hears}
 use Rattle.protocol.specs.Trace.Entry.{Invoke, Got, Tick, Executed, Installed, Sent, Accepted}
-use Rattle.protocol.specs.Selection.{is_quorum, is_weak_quorum, count_in, vouches, agrees, may_stand_at, may_be_null, is_null, is_within, changes_of, how_many, Selects}
+use Rattle.protocol.specs.Selection.{is_quorum, is_weak_quorum, passes_by, count_in, vouches, agrees, may_stand_at, may_be_null, is_null, is_within, changes_of, how_many, Selects}
 use Rattle.protocol.specs.Certificates.{target, view, is_active_in, is_later, new_view_in, logged, low}
 use Rattle.reply_cache.specs.Replies.{Kept}
 use Rattle.protocol.specs.State.{State, Ran, opening, kept_of, last_time, runs, run_call, ran_call, kept_by, page_text}
-use Rattle.protocol.specs.RightReplica.{Point, Leaves, RightReplica, May, Moves, MaySay, MaySend, MayCheckpoint, MayPrepare, MayCommit, MayPrePrepare, MayReply, RepliesTo, GetsPage}
-use Rattle.protocol.specs.RightClient.{is_complete}
-use Rattle.protocol.specs.Refused.{Says, NoExecution, RepliesAfterExecution, NoCommitAfterChange, NoPrepareAfterChange, NoEarlyCheckpoint, OnePrePrepare, NoPrepareByPrimary, ExecutesNext, KeepsPrepared, InstallsWhatItHas, TakesWellSelected, TakesNoLower, RunsOnce, AcceptsAtQuorum}
+use Rattle.protocol.specs.RightReplica.{Point, Leaves, RightReplica, May, Moves, MaySay, MaySend, MayCheckpoint, MayPrepare, MayCommit, MayPrePrepare, MayReply, MayChange, RepliesTo, GetsPage}
+use Rattle.protocol.specs.RightClient.{RightClient, Vote, latest, is_alike, is_complete, MayAccept}
+use Rattle.protocol.specs.Refused.{Says, NoExecution, newest_number, HasFrom, SaysNothingAgainst, SaysForIt, SaysNothing, HeardReply, RepliesAfterExecution, NoCommitAfterChange, NoPrepareAfterChange, NoEarlyCheckpoint, OnePrePrepare, NoPrepareByPrimary, ExecutesNext, KeepsPrepared, InstallsWhatItHas, TakesWellSelected, TakesNoLower, RunsOnce, AcceptsAtQuorum}
 use Rattle.protocol.proofs.Temporal.{once_weaker, once_stays_from}
 use Rattle.protocol.proofs.Options.{and_then_some, give_if_some, some_injective}
 use Rattle.protocol.proofs.Voting.{right_always, logged_stays}
 use Rattle.protocol.proofs.Marks.{selects, selected_in, takes}
-use Rattle.protocol.proofs.Lists.{every_has, stands_at, some_below}
+use Rattle.protocol.proofs.Lists.{has_some, every_has, passes_change, change_there, has_of_any, largest_of-has, stands_at, some_below}
 use Rattle.protocol.proofs.Changes.{change_target, target_grows}
 use Rattle.protocol.proofs.Offers.{offer_in, offers_kept, marks_above}
 use Rattle.protocol.proofs.Linking.{Speaks}
 use Rattle.protocol.proofs.Leaving.{none_kept}
+use Rattle.protocol.proofs.Legality.{executed_number}
+use Rattle.protocol.proofs.Reading.{latest_heard}
+use Rattle.protocol.proofs.Ordering.{latest_ordered}
 use Rattle.protocol.proofs.Keeping.{set_here}
 use Rattle.quorum.specs.Votes.{give_if}
 
@@ -131,14 +138,32 @@ no_prepare_by_primary c me v i digest bytes past says is right =
     let m : MayPrepare c me past v i digest = says_may c me bytes (record { sender = me; message = Prepare v i digest }) past right says in
     m.is_backup is
 
+newest_is : (c : Configuration) (me : ℕ) (xs : List Entry) (point : Point) → Leaves c me xs point → point.state.number ≡ newest_number xs
+newest_is c me [] point h = ap (λ (p : Point). p.state.number) h
+newest_is c me (e ∷ past) point h = go e h.2.may h.2.moves (newest_is c me past h.0 h.1)
+  where
+    go : (e : Entry) → May c me past h.0 e → Moves c me past h.0 e point → h.0.state.number ≡ newest_number past → point.state.number ≡ newest_number (e ∷ past)
+    go (Got p bytes) may move was = ap (λ (q : Point). q.state.number) move ∙ was
+    go (Tick p) may move was = ap (λ (q : Point). q.state.number) move ∙ was
+    go (Sent p bytes) may move was = ap (λ (q : Point). q.state.number) move ∙ was
+    go (Invoke x y z) may move was = absurd may
+    go (Accepted x y z) may move was = absurd may
+    go (Executed x k batch) may move was = ap (λ (q : Point). q.state.number) move ∙ executed_number c h.0.state batch ∙ sym may.next
+    go (Installed x k root) may move was = move.number
+
 pub executes_next : ExecutesNext
-executes_next c me k j batch root past right =
+executes_next c me k batch past right =
     let a = right.1.2.may.next in
-    let b = right.1.1.2.moves.number in
-    omega arith
+    let b = newest_is c me past right.1.0 right.1.1 in
+    a ∙ ap suc b
 
 pub keeps_prepared : KeepsPrepared
-keeps_prepared c me v i batch vc past point change prepared marks = change.prepared.all v i batch marks prepared
+keeps_prepared c me v i batch bytes vc past says new right prepared marks =
+    go (says_may c me bytes (record { sender = me; message = Change vc }) past right says)
+  where
+    go : MayChange c me past right.1.0 bytes vc → Has (λ (claim : Claim). claim.number ≡ i) vc.prepared
+    go (inl change) = change.prepared.all v i batch marks prepared
+    go (inr again) = absurd (new again.2)
 
 pub installs_what_it_has : InstallsWhatItHas
 installs_what_it_has c me k i root past old new installed within differs = go (installed.pages i within)
@@ -149,43 +174,112 @@ installs_what_it_has c me k i root past old new installed within differs = go (i
 
 -- ---- new views
 
+has_from : (c : Configuration) (new : NewView) (count : ℕ) (test : ViewChange → Bool) (P : ViewChange → Type 0) → ((vc : ViewChange) → test vc ≡ true → P vc)
+    → count ≤ count_in c test (changes_of c new) → HasFrom count c new P
+has_from c new count test P f enough =
+    (passes_by test (changes_of c new), enough, λ s h.
+        let t = passes_change test (changes_of c new) s h in
+        (t.0, change_there (changes_of c new) s t.0 t.1, f t.0 t.2))
+
+says_nothing_against : (i w : ℕ) (digest : List ℕ) (vc : ViewChange) → (nat_lt vc.low i && agrees i w digest vc) ≡ true → SaysNothingAgainst i w digest vc
+says_nothing_against i w digest vc h =
+    let p = and_parts (nat_lt vc.low i) (agrees i w digest vc) h in
+    (ltb-true vc.low i p.0, λ claim has number. by claim number (every_has (λ (claim : Claim). not (claim.number == i) || nat_lt claim.view w || ((claim.view == w) && bytes_eq claim.digest digest)) vc.prepared claim p.1 has))
+  where
+    last : (claim : Claim) → ((claim.view == w) && bytes_eq claim.digest digest) ≡ true → (claim.view ≡ w) × (claim.digest ≡ digest)
+    last claim h =
+        let p = and_parts (claim.view == w) (bytes_eq claim.digest digest) h in
+        (eqb-true claim.view w p.0, (bytes_eq-Decides claim.digest digest).0 p.1)
+
+    by : (claim : Claim) → claim.number ≡ i → (not (claim.number == i) || nat_lt claim.view w || ((claim.view == w) && bytes_eq claim.digest digest)) ≡ true → (claim.view < w) ⊎ ((claim.view ≡ w) × (claim.digest ≡ digest))
+    by claim number t = pick (or_cases (not (claim.number == i) || nat_lt claim.view w) ((claim.view == w) && bytes_eq claim.digest digest) t)
+      where
+        early : (not (claim.number == i) ≡ true) ⊎ (nat_lt claim.view w ≡ true) → claim.view < w
+        early (inl other) = let here = eq-eqb claim.number i number in absurd (let f : not true ≡ true = subst (λ (b : Bool). not b ≡ true) here other in cc)
+        early (inr lt) = ltb-true claim.view w lt
+
+        pick : ((not (claim.number == i) || nat_lt claim.view w) ≡ true) ⊎ (((claim.view == w) && bytes_eq claim.digest digest) ≡ true) → (claim.view < w) ⊎ ((claim.view ≡ w) × (claim.digest ≡ digest))
+        pick (inl k) = inl (early (or_cases (not (claim.number == i)) (nat_lt claim.view w) k))
+        pick (inr k) = inr (last claim k)
+
+says_for_it : (i w : ℕ) (digest : List ℕ) (vc : ViewChange) → vouches i w digest vc ≡ true → SaysForIt i w digest vc
+says_for_it i w digest vc h =
+    has_of_any (λ (claim : Claim). (claim.number ≡ i) × (claim.digest ≡ digest) × (w ≤ claim.view)) (λ (claim : Claim). (claim.number == i) && bytes_eq claim.digest digest && nat_le w claim.view)
+    each vc.pre_prepared h
+  where
+    each : (claim : Claim) → ((claim.number == i) && bytes_eq claim.digest digest && nat_le w claim.view) ≡ true → (claim.number ≡ i) × (claim.digest ≡ digest) × (w ≤ claim.view)
+    each claim t =
+        let p = and_parts ((claim.number == i) && bytes_eq claim.digest digest) (nat_le w claim.view) t in
+        let q = and_parts (claim.number == i) (bytes_eq claim.digest digest) p.0 in
+        (eqb-true claim.number i q.0, (bytes_eq-Decides claim.digest digest).0 q.1, leb-true w claim.view p.1)
+
+says_nothing : (i : ℕ) (vc : ViewChange) → (nat_lt vc.low i && list_all (λ (claim : Claim). not (claim.number == i)) vc.prepared) ≡ true → SaysNothing i vc
+says_nothing i vc h =
+    let p = and_parts (nat_lt vc.low i) (list_all (λ (claim : Claim). not (claim.number == i)) vc.prepared) h in
+    (ltb-true vc.low i p.0, λ has.
+        let x = has_some (λ (claim : Claim). claim.number ≡ i) vc.prepared has in
+        let other = every_has (λ (claim : Claim). not (claim.number == i)) vc.prepared x.0 p.1 x.1 in
+        let here = eq-eqb x.0.number i x.2 in
+        absurd (let f : not true ≡ true = subst (λ (b : Bool). not b ≡ true) here other in cc))
+
 pub takes_well_selected : TakesWellSelected
 takes_well_selected c past e new h = record {
-  enough = leb-true (2 * c.faults + 1) (count_in c (λ vc. true) (changes_of c new)) s.enough;
+  enough = has_from c new (2 * c.faults + 1) (λ vc. true) (λ vc. ⊤) (λ vc t. tt) (leb-true (2 * c.faults + 1) (count_in c (λ vc. true) (changes_of c new)) s.enough);
   of_its_view = λ who vc has.
       let t = every_has (λ (x : ℕ × ViewChange). (x.1.view == new.view) && is_within c x.1) (changes_of c new) (who, vc) s.each has in
       eqb-true vc.view new.view (and_parts (vc.view == new.view) (is_within c vc) t).0;
-  filled = eqb-true (length new.batches) (how_many c new) s.long;
+  filled = λ who vc claim has prepared within.
+      let n = eqb-true (length new.batches) (how_many c new) s.long in
+      let r = largest_of-has (new.start + span c) claim.number who (changes_of c new) vc has (has_number vc claim prepared) within in
+      omega arith;
   vouched = vouched;
 }
   where
     s : Selects c new
     s = selects c new (selected_in c e new (takes c 0 past e new h).brought)
 
+    has_number : (vc : ViewChange) (claim : Claim) → Has (λ x. x ≡ claim) vc.prepared → Has (λ (x : Claim). x.number ≡ claim.number) vc.prepared
+    has_number vc claim h = each vc.prepared h
+      where
+        each : (xs : List Claim) → Has (λ x. x ≡ claim) xs → Has (λ (x : Claim). x.number ≡ claim.number) xs
+        each [] h = h
+        each (x ∷ xs) (inl h) = inl (ap (λ (y : Claim). y.number) h)
+        each (x ∷ xs) (inr h) = inr (each xs h)
+
     vouched : (i : ℕ) (batch : List ℕ) → slice_get new.batches (i - new.start - 1) ≡ Some batch → new.start < i
-        → ((w : ℕ) × (w < new.view) × (c.faults + 1 ≤ count_in c (vouches i w (sha256 batch)) (changes_of c new)))
-        ⊎ ((is_null batch ≡ true) × (may_be_null c (changes_of c new) i ≡ true))
+        → ((w : ℕ) × (w < new.view) × HasFrom (2 * c.faults + 1) c new (SaysNothingAgainst i w (sha256 batch)) × HasFrom (c.faults + 1) c new (SaysForIt i w (sha256 batch)))
+        ⊎ ((batch ≡ 0 ∷ []) × HasFrom (2 * c.faults + 1) c new (SaysNothing i))
     vouched i batch get above =
         let place : i ≡ suc new.start + (i - new.start - 1) = omega arith in
         by (or_cases (nat_lt 0 (count_below (may_stand_at c (changes_of c new) i (sha256 batch)) new.view)) (is_null batch && may_be_null c (changes_of c new) i)
         (stands_at c new.view (changes_of c new) (suc new.start) new.batches (i - new.start - 1) batch s.stand get i place))
       where
         by : (nat_lt 0 (count_below (may_stand_at c (changes_of c new) i (sha256 batch)) new.view) ≡ true) ⊎ ((is_null batch && may_be_null c (changes_of c new) i) ≡ true)
-            → ((w : ℕ) × (w < new.view) × (c.faults + 1 ≤ count_in c (vouches i w (sha256 batch)) (changes_of c new)))
-            ⊎ ((is_null batch ≡ true) × (may_be_null c (changes_of c new) i ≡ true))
+            → ((w : ℕ) × (w < new.view) × HasFrom (2 * c.faults + 1) c new (SaysNothingAgainst i w (sha256 batch)) × HasFrom (c.faults + 1) c new (SaysForIt i w (sha256 batch)))
+            ⊎ ((batch ≡ 0 ∷ []) × HasFrom (2 * c.faults + 1) c new (SaysNothing i))
         by (inl k) =
             let x = some_below (may_stand_at c (changes_of c new) i (sha256 batch)) new.view k in
             let rules = and_parts (is_quorum c (count_in c (λ vc. nat_lt vc.low i && agrees i x.0 (sha256 batch) vc) (changes_of c new))) (is_weak_quorum c (count_in c (vouches i x.0 (sha256 batch)) (changes_of c new))) x.2 in
-            inl (x.0, x.1, leb-true (c.faults + 1) (count_in c (vouches i x.0 (sha256 batch)) (changes_of c new)) rules.1)
-        by (inr k) = let p = and_parts (is_null batch) (may_be_null c (changes_of c new) i) k in inr (p.0, p.1)
+            inl (x.0, x.1,
+            has_from c new (2 * c.faults + 1) (λ vc. nat_lt vc.low i && agrees i x.0 (sha256 batch) vc) (SaysNothingAgainst i x.0 (sha256 batch)) (says_nothing_against i x.0 (sha256 batch))
+            (leb-true (2 * c.faults + 1) (count_in c (λ vc. nat_lt vc.low i && agrees i x.0 (sha256 batch) vc) (changes_of c new)) rules.0),
+            has_from c new (c.faults + 1) (vouches i x.0 (sha256 batch)) (SaysForIt i x.0 (sha256 batch)) (says_for_it i x.0 (sha256 batch))
+            (leb-true (c.faults + 1) (count_in c (vouches i x.0 (sha256 batch)) (changes_of c new)) rules.1))
+        by (inr k) =
+            let p = and_parts (is_null batch) (may_be_null c (changes_of c new) i) k in
+            inr ((bytes_eq-Decides batch (0 ∷ [])).0 p.0,
+            has_from c new (2 * c.faults + 1) (λ vc. nat_lt vc.low i && list_all (λ (claim : Claim). not (claim.number == i)) vc.prepared) (SaysNothing i) (says_nothing i)
+            (leb-true (2 * c.faults + 1) (count_in c (λ vc. nat_lt vc.low i && list_all (λ (claim : Claim). not (claim.number == i)) vc.prepared) (changes_of c new)) p.1))
 
 pub takes_no_lower : TakesNoLower
-takes_no_lower c past e new h =
+takes_no_lower c me past e new vc h changed =
     let r = and_then_some (λ (x : NewView). give_if (is_later (view c past) (target past) x) x) (new_view_in c e) new h in
     let g = give_if_some (is_later (view c past) (target past) r.0) r.0 new r.2 in
     let t : is_later (view c past) (target past) new ≡ true = subst (λ (x : NewView). is_later (view c past) (target past) x ≡ true) g.1 g.0 in
     let p = and_parts (nat_lt (view c past) new.view) (nat_le (target past) new.view) t in
-    (leb-true (target past) new.view p.1, ltb-true (view c past) new.view p.0)
+    let a = leb-true (target past) new.view p.1 in
+    let b = above_target me vc past changed in
+    omega arith
 
 -- ---- requests
 
@@ -208,7 +302,29 @@ runs_once st m n call small new = go (runs st call) new
 
 -- ---- clients
 
+own_past : (c : Configuration) (me : ℕ) (xs : List Entry) → RightClient c me xs → Always (λ past e. party_of e ≡ me) xs
+own_past c me [] h = tt
+own_past c me (e ∷ past) h = (h.0.0, own_past c me past h.1)
+
+-- the latest reply of a replica was heard
+latest_kind : (c : Configuration) (me t s : ℕ) (read_only : Bool) (vote : Vote) (past : List Entry) → Always (λ past e. party_of e ≡ me) past → latest c me past t read_only s ≡ Some vote
+    → Once (Hears c me (record { sender = s; message = Reply me t (mode_of read_only) vote.number vote.answer })) past
+latest_kind c me t s true vote past own h = latest_heard c me t s vote past own h
+latest_kind c me t s false vote past own h = latest_ordered c me t s vote past own h
+
 pub accepts_at_quorum : AcceptsAtQuorum
 accepts_at_quorum c me k timestamp answer past right =
-    let m = right.0.1 in
-    (m.1, m.5, m.4, subst (λ (t : ℕ). is_complete c me past t m.1 ≡ true) m.3 m.6)
+    (mode_of m.1.read_only, m.1.number, λ s. is_alike m.1 (latest c me past timestamp m.1.read_only s),
+    leb-true (2 * c.faults + 1) (count_below (λ s. is_alike m.1 (latest c me past timestamp m.1.read_only s)) (3 * c.faults + 1)) (subst (λ (t : ℕ). is_complete c me past t m.1 ≡ true) m.3 m.6),
+    λ s h. heard s (latest c me past timestamp m.1.read_only s) refl h)
+  where
+    m : MayAccept c me past timestamp answer
+    m = right.0.1
+
+    heard : (s : ℕ) (o : Option Vote) → latest c me past timestamp m.1.read_only s ≡ o → is_alike m.1 o ≡ true → HeardReply c me timestamp (mode_of m.1.read_only) m.1.number answer past s
+    heard s None is h = absurd cc
+    heard s (Some v) is h =
+        let q = and_parts (v.number == m.1.number) (bytes_eq (outcome_spelling v.answer) (outcome_spelling m.1.answer)) h in
+        let same : outcome_spelling v.answer ≡ outcome_spelling answer = (bytes_eq-Decides (outcome_spelling v.answer) (outcome_spelling m.1.answer)).0 q.1 ∙ ap outcome_spelling m.4 in
+        (v.answer, same, subst (λ (n : ℕ). Once (Hears c me (record { sender = s; message = Reply me timestamp (mode_of m.1.read_only) n v.answer })) past) (eqb-true v.number m.1.number q.0)
+        (latest_kind c me timestamp s m.1.read_only v past (own_past c me past right.1) is))

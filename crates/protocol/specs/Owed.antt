@@ -13,9 +13,9 @@ use Rattle.wire.specs.declared.terms.Mode.TheVariants as modes
 use Rattle.wire.specs.declared.terms.Level.{Level}
 use Rattle.wire.specs.declared.terms.Level.TheVariants as levels
 use Rattle.wire.specs.Spelling.{has_children}
-use Rattle.wire.specs.Messages.{BodyData as Body, MessageData as Message, NewViewData as NewView, MarkData as Mark, request as Request, pre_prepare as PrePrepare, prepare as Prepare, commit as Commit, checkpoint as Checkpoint, view_change as Change, new_view as Begin, reply as Reply, fetch as Fetch, meta as Meta, page as Page}
+use Rattle.wire.specs.Messages.{BodyData as Body, FrameData as Frame, MessageData as Message, NewViewData as NewView, MarkData as Mark, request as Request, pre_prepare as PrePrepare, prepare as Prepare, commit as Commit, checkpoint as Checkpoint, view_change as Change, new_view as Begin, reply as Reply, fetch as Fetch, meta as Meta, page as Page}
 use Rattle.wire.specs.Words.{requests_of}
-use Rattle.protocol.specs.Frames.{said, heard, signed_body}
+use Rattle.protocol.specs.Frames.{frame_of, said, heard, signed_body, receivers_of}
 use Rattle.protocol.specs.Trace.{Entry, party_of, Once, Has, Each, Hears}
 use Rattle.protocol.specs.Trace.Entry.{Got, Tick, Sent}
 use Rattle.protocol.specs.Selection.{is_quorum, signed_change, is_within}
@@ -34,6 +34,15 @@ IsSaying me message _ = ⊥
 -- one of the outputs is a frame of this message
 abbrev pub Gives : ℕ → Message → List Entry → Type 0
 Gives me message outputs = Has (IsSaying me message) outputs
+
+-- one of them is such a frame for this party alone
+abbrev pub IsSayingTo : ℕ → ℕ → Message → Entry → Type 0
+IsSayingTo me s message (Sent p bytes) =
+    (said bytes ≡ Some (record { sender = me; message = message })) × ((frame : Frame) → frame_of bytes ≡ Some frame → receivers_of frame.proof ≡ s ∷ [])
+IsSayingTo me s message _ = ⊥
+
+abbrev pub GivesTo : ℕ → ℕ → Message → List Entry → Type 0
+GivesTo me s message outputs = Has (IsSayingTo me s message) outputs
 
 -- at each of the outputs, the oldest first, with its past
 abbrev pub AtOutputs : (List Entry → Entry → Type 0) → List Entry → List Entry → Type 0
@@ -156,9 +165,9 @@ pub record Owes (c : Configuration) (me : ℕ) (before : List Entry) (input : En
   pub reads : (client timestamp : ℕ) (op : Operation) → Hears c me (record { sender = client; message = Request timestamp modes.ReadOnly op }) before input
       → is_read_only op ≡ true → Gives me (Reply client timestamp modes.ReadOnly old.state.number (outcome (tuples old.state) op)) outputs
   pub fetched_digests : (s k index : ℕ) (level : Level) → has_children level ≡ true → Hears c me (record { sender = s; message = Fetch k level index }) before input
-      → (st : State) → KeptState c me before old k (λ x. x ≡ st) → Gives me (Meta k level index (digests_at st level index)) outputs
+      → (st : State) → KeptState c me before old k (λ x. x ≡ st) → GivesTo me s (Meta k level index (digests_at st level index)) outputs
   pub fetched_page : (s k index : ℕ) → Hears c me (record { sender = s; message = Fetch k levels.Page index }) before input
-      → (st : State) → KeptState c me before old k (λ x. x ≡ st) → Gives me (Page k index (page_text st index)) outputs
+      → (st : State) → KeptState c me before old k (λ x. x ≡ st) → GivesTo me s (Page k index (page_text st index)) outputs
   -- a quorum of checkpoints above the state, and above an open transfer, starts one
   pub fetches : (k : ℕ) (root : List ℕ) → is_quorum c (count_marks c now (record { number = k; digest = root })) ≡ true
       → new.state.number < k → fetching before < k → Gives me (Fetch k levels.Root 0) outputs

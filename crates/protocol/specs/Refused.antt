@@ -1,18 +1,21 @@
 -- Small histories that the definitions refuse: what wrong replicas, primaries and clients would make.
-use Rattle.std.specs.Prelude.{◌≡◌, ◌≢◌, ℕ, suc, ◌+◌, ◌-◌, ◌*◌, ◌≤◌, ◌<◌, ◌⊎◌, true, List, ◌∷◌, length, slice_get, Some, ⊤}
+use Rattle.std.specs.Prelude.{◌≡◌, ◌≢◌, ℕ, suc, ◌+◌, ◌-◌, ◌*◌, ◌≤◌, ◌<◌, ◌⊎◌, Bool, true, List, [], ◌∷◌, length, slice_get, Some, ⊤}
 use Rattle.sha2.specs.Sha256.{sha256}
 use Rattle.tuple_codec.specs.Operations.{Outcome}
-use Rattle.protocol.specs.Configuration.{Configuration, primary}
+use Rattle.tuple_codec.specs.Spelling.{outcome_spelling}
+use Rattle.quorum.specs.Quorum.{count_below}
+use Rattle.protocol.specs.Configuration.{Configuration, replicas, primary}
+use Rattle.wire.specs.declared.terms.Mode.{Mode}
 use Rattle.wire.specs.declared.terms.Mode.TheVariants as modes
 use Rattle.wire.specs.Messages.{BodyData as Body, ViewChangeData as ViewChange, NewViewData as NewView, ClaimData as Claim, pre_prepare as PrePrepare, prepare as Prepare, commit as Commit, checkpoint as Checkpoint, view_change as Change, reply as Reply}
 use Rattle.protocol.specs.Frames.{said}
-use Rattle.protocol.specs.Trace.{Entry, Once, Always, Has}
+use Rattle.protocol.specs.Trace.{Entry, Once, Always, Has, Hears}
 use Rattle.protocol.specs.Trace.Entry.{Executed, Installed, Sent, Accepted}
-use Rattle.protocol.specs.Selection.{count_in, vouches, may_be_null, is_null, changes_of, how_many}
-use Rattle.protocol.specs.Certificates.{target, low, is_in_marks, taken, view, Prepared}
+use Rattle.protocol.specs.Selection.{changes_of}
+use Rattle.protocol.specs.Certificates.{low, is_in_marks, taken, Prepared}
 use Rattle.protocol.specs.State.{State, Call, runs, run_call, page_text}
-use Rattle.protocol.specs.RightReplica.{Point, RightReplica, Executes, GetsPage, IsNewChange, IsInstalled}
-use Rattle.protocol.specs.RightClient.{RightClient, Vote, newest_vote, is_complete}
+use Rattle.protocol.specs.RightReplica.{Point, RightReplica, Executes, GetsPage, SentBefore, IsInstalled}
+use Rattle.protocol.specs.RightClient.{RightClient}
 
 -- the party sent a frame of this body
 abbrev pub Says : Body → List Entry → Entry → Type 0
@@ -67,17 +70,25 @@ NoPrepareByPrimary =
     → said bytes ≡ Some (record { sender = me; message = Prepare v i digest })
     → primary c v ≡ me → RightReplica c me (Sent me bytes ∷ past) → ⊥
 
--- An execution that skips a number, or goes back.
+-- the number of the newest execution or installation, first 0
+abbrev pub newest_number : List Entry → ℕ
+newest_number [] = 0
+newest_number (Executed r k batch ∷ past) = k
+newest_number (Installed r k root ∷ past) = k
+newest_number (_ ∷ past) = newest_number past
+
+-- An execution that skips a number, or goes back, whatever stands between.
 abbrev pub ExecutesNext : Type 0
 ExecutesNext =
-    (c : Configuration) (me k j : ℕ) (batch root : List ℕ) (past : List Entry)
-    → RightReplica c me (Executed me k batch ∷ Installed me j root ∷ past) → k ≡ suc j
+    (c : Configuration) (me k : ℕ) (batch : List ℕ) (past : List Entry)
+    → RightReplica c me (Executed me k batch ∷ past) → k ≡ suc (newest_number past)
 
--- A view change that leaves out a prepared batch within the marks.
+-- A new view change that leaves out a prepared batch within the marks.
 abbrev pub KeepsPrepared : Type 0
 KeepsPrepared =
-    (c : Configuration) (me v i : ℕ) (batch : List ℕ) (vc : ViewChange) (past : List Entry) (point : Point)
-    → IsNewChange c me past point vc → Prepared c me past v i batch → is_in_marks c (low c me past) i ≡ true
+    (c : Configuration) (me v i : ℕ) (batch bytes : List ℕ) (vc : ViewChange) (past : List Entry)
+    → said bytes ≡ Some (record { sender = me; message = Change vc }) → (SentBefore bytes past → ⊥) → RightReplica c me (Sent me bytes ∷ past)
+    → Prepared c me past v i batch → is_in_marks c (low c me past) i ≡ true
     → Has (λ (claim : Claim). claim.number ≡ i) vc.prepared
 
 -- An installation of a page that was neither held nor got.
@@ -89,22 +100,45 @@ InstallsWhatItHas =
 
 -- ---- a new view
 
--- Over too few view changes, over some for another view, filled too short, or with a batch for which f + 1 don't vouch:
--- such a new view is not taken.
+-- at least so many different replicas have a view change in the set of which this holds
+abbrev pub HasFrom : ℕ → Configuration → NewView → (ViewChange → Type 0) → Type 0
+HasFrom count c new P =
+    (from : ℕ → Bool) × (count ≤ count_below from (replicas c))
+    × ((s : ℕ) → from s ≡ true → (vc : ViewChange) × Has (λ x. x ≡ (s, vc)) (changes_of c new) × P vc)
+
+-- what is prepared there for the number was so in an earlier view, or is this digest in this view
+abbrev pub SaysNothingAgainst : ℕ → ℕ → List ℕ → ViewChange → Type 0
+SaysNothingAgainst i w digest vc =
+    (vc.low < i)
+    × ((claim : Claim) → Has (λ x. x ≡ claim) vc.prepared → claim.number ≡ i → (claim.view < w) ⊎ ((claim.view ≡ w) × (claim.digest ≡ digest)))
+
+-- the digest was pre-prepared there for the number, in this view or a later one
+abbrev pub SaysForIt : ℕ → ℕ → List ℕ → ViewChange → Type 0
+SaysForIt i w digest vc = Has (λ (claim : Claim). (claim.number ≡ i) × (claim.digest ≡ digest) × (w ≤ claim.view)) vc.pre_prepared
+
+-- nothing is prepared there for the number
+abbrev pub SaysNothing : ℕ → ViewChange → Type 0
+SaysNothing i vc = (vc.low < i) × (Has (λ (claim : Claim). claim.number ≡ i) vc.prepared → ⊥)
+
+-- Over too few view changes, over some for another view, that leaves out a number prepared in one of them, or with a
+-- batch for which f + 1 don't vouch: such a new view is not taken.
 pub record IsWellSelected (c : Configuration) (new : NewView) : Type 0 where
-  pub enough : 2 * c.faults + 1 ≤ count_in c (λ vc. true) (changes_of c new)
+  pub enough : HasFrom (2 * c.faults + 1) c new (λ vc. ⊤)
   pub of_its_view : (s : ℕ) (vc : ViewChange) → Has (λ x. x ≡ (s, vc)) (changes_of c new) → vc.view ≡ new.view
-  pub filled : length new.batches ≡ how_many c new
+  pub filled : (s : ℕ) (vc : ViewChange) (claim : Claim) → Has (λ x. x ≡ (s, vc)) (changes_of c new) → Has (λ x. x ≡ claim) vc.prepared
+      → claim.number ≤ new.start + 2 * c.period → claim.number ≤ new.start + length new.batches
   pub vouched : (i : ℕ) (batch : List ℕ) → slice_get new.batches (i - new.start - 1) ≡ Some batch → new.start < i
-      → ((w : ℕ) × (w < new.view) × (c.faults + 1 ≤ count_in c (vouches i w (sha256 batch)) (changes_of c new)))
-      ⊎ ((is_null batch ≡ true) × (may_be_null c (changes_of c new) i ≡ true))
+      → ((w : ℕ) × (w < new.view) × HasFrom (2 * c.faults + 1) c new (SaysNothingAgainst i w (sha256 batch)) × HasFrom (c.faults + 1) c new (SaysForIt i w (sha256 batch)))
+      ⊎ ((batch ≡ 0 ∷ []) × HasFrom (2 * c.faults + 1) c new (SaysNothing i))
 
 abbrev pub TakesWellSelected : Type 0
 TakesWellSelected = (c : Configuration) (past : List Entry) (e : Entry) (new : NewView) → taken c past e ≡ Some new → IsWellSelected c new
 
 -- A new view below a view change that was sent.
 abbrev pub TakesNoLower : Type 0
-TakesNoLower = (c : Configuration) (past : List Entry) (e : Entry) (new : NewView) → taken c past e ≡ Some new → (target past ≤ new.view) × (view c past < new.view)
+TakesNoLower =
+    (c : Configuration) (me : ℕ) (past : List Entry) (e : Entry) (new : NewView) (vc : ViewChange)
+    → taken c past e ≡ Some new → Once (Says (record { sender = me; message = Change vc })) past → vc.view ≤ new.view
 
 -- ---- requests
 
@@ -116,9 +150,16 @@ RunsOnce =
 
 -- ---- a client
 
--- An acceptance at f + 1 replies alike, or with replies of different numbers.
+-- the replica's reply of this kind and number was heard, with this answer (outcomes of one spelling are one)
+abbrev pub HeardReply : Configuration → ℕ → ℕ → Mode → ℕ → Outcome → List Entry → ℕ → Type 0
+HeardReply c me timestamp mode number answer past s =
+    (other : Outcome) × (outcome_spelling other ≡ outcome_spelling answer) × Once (Hears c me (record { sender = s; message = Reply me timestamp mode number other })) past
+
+-- An acceptance at fewer replies than those of 2f + 1 different replicas, or at replies of different kinds, numbers or
+-- answers.
 abbrev pub AcceptsAtQuorum : Type 0
 AcceptsAtQuorum =
     (c : Configuration) (me k timestamp : ℕ) (answer : Outcome) (past : List Entry)
     → RightClient c me (Accepted k timestamp answer ∷ past)
-    → (vote : Vote) × (newest_vote c me past timestamp ≡ Some vote) × (vote.answer ≡ answer) × (is_complete c me past timestamp vote ≡ true)
+    → (mode : Mode) × (number : ℕ) × (from : ℕ → Bool) × (2 * c.faults + 1 ≤ count_below from (replicas c))
+    × ((s : ℕ) → from s ≡ true → HeardReply c me timestamp mode number answer past s)

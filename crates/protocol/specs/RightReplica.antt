@@ -1,20 +1,20 @@
 -- What a correct replica may do: what each entry of its history must be, given its past (Castro and Liskov, TOCS 2002,
 -- sections 4.3 to 4.5 and, of checkpoints and transfer, 5.3). What it owes stands in Owed.
 use Rattle.std.specs.Prelude.{◌≡◌, ◌≢◌, ℕ, suc, ◌+◌, ◌%◌, ◌^◌, ◌≤◌, ◌<◌, ◌⊎◌, Bool, true, ◌&&◌, ◌||◌, not, List, [], ◌∷◌, ◌++◌, map, reverse, filter, nat_le, nat_lt, ◌==◌, if◌then◌else◌, Some, option_and_then, AllPairs, ⊤}
-use Rattle.std.specs.List.{list_all}
+use Rattle.std.specs.List.{list_all, range_with_len}
 use Rattle.std.specs.Option.{option_map_or}
 use Rattle.sha2.specs.Sha256.{sha256}
 use Rattle.tuple_codec.specs.Operations.{Operation, Outcome}
 use Rattle.space.specs.Applying.{outcome, is_read_only}
 use Rattle.partition_tree.specs.Digests.{inner_digests, page_digests}
-use Rattle.protocol.specs.Configuration.{Configuration, primary}
+use Rattle.protocol.specs.Configuration.{Configuration, replicas, primary}
 use Rattle.wire.specs.declared.terms.Mode.{Mode}
 use Rattle.wire.specs.declared.terms.Mode.TheVariants as modes
 use Rattle.wire.specs.declared.terms.Level.{Level}
 use Rattle.wire.specs.declared.terms.Level.TheVariants as levels
 use Rattle.wire.specs.Messages.{BodyData as Body, FrameData as Frame, MessageData as Message, ViewChangeData as ViewChange, NewViewData as NewView, MarkData as Mark, ClaimData as Claim, request as Request, pre_prepare as PrePrepare, prepare as Prepare, commit as Commit, checkpoint as Checkpoint, view_change as Change, new_view as Begin, reply as Reply, fetch as Fetch, meta as Meta, page as Page}
 use Rattle.wire.specs.Words.{carried, requests_of}
-use Rattle.protocol.specs.Frames.{frame_of, said, heard, IsSealed}
+use Rattle.protocol.specs.Frames.{frame_of, said, heard, IsSealed, receivers_of}
 use Rattle.protocol.specs.Trace.{Entry, party_of, Once, Has, Each, frames_in, Hears}
 use Rattle.protocol.specs.Trace.Entry.{Invoke, Got, Tick, Executed, Installed, Sent, Accepted}
 use Rattle.protocol.specs.Selection.{is_quorum}
@@ -247,7 +247,24 @@ MaySay c me past point e bytes (Fetch k level index) = ⊤
 MaySay c me past point e bytes (Meta k level index digests) = MayMeta c me past point k level index digests
 MaySay c me past point e bytes (Page k index text) = MayPage c me past point k index text
 
--- a frame of the replica's own, sealed or signed, over frames that it has seen
+-- all replicas but this one
+abbrev pub others : Configuration → ℕ → List ℕ
+others c me = filter (λ r. not (r == me)) (range_with_len 0 (replicas c))
+
+abbrev pub HeardFetch : Configuration → ℕ → List Entry → ℕ → ℕ → Level → ℕ → Type 0
+HeardFetch c me past s k level index = Once (Hears c me (record { sender = s; message = Fetch k level index })) past
+
+-- Whom a message is for: a reply its client, a part of a checkpoint one replica that asked for it, all else the other
+-- replicas. What is signed anyone can check.
+abbrev pub IsFor : Configuration → ℕ → List Entry → Message → List ℕ → Type 0
+IsFor c me past (Reply client timestamp kind number answer) receivers = receivers ≡ client ∷ []
+IsFor c me past (Meta k level index digests) receivers = (s : ℕ) × (receivers ≡ s ∷ []) × HeardFetch c me past s k level index
+IsFor c me past (Page k index text) receivers = (s : ℕ) × (receivers ≡ s ∷ []) × HeardFetch c me past s k levels.Page index
+IsFor c me past (Change vc) receivers = ⊤
+IsFor c me past (Begin new) receivers = ⊤
+IsFor c me past _ receivers = receivers ≡ others c me
+
+-- a frame of the replica's own, sealed or signed for those that it is for, over frames that it has seen
 pub record MaySend (c : Configuration) (me : ℕ) (past : List Entry) (point : Point) (e : Entry) (bytes : List ℕ) : Type 0 where
   pub body : Body
   pub says : said bytes ≡ Some body
@@ -255,6 +272,7 @@ pub record MaySend (c : Configuration) (me : ℕ) (past : List Entry) (point : P
   pub seen : Each (λ frame. Once (HasSeen frame) past) (carried body.message)
   pub say : MaySay c me past point e bytes body.message
   pub is_sealed : (frame : Frame) → frame_of bytes ≡ Some frame → IsSealed c frame
+  pub is_for : (frame : Frame) → frame_of bytes ≡ Some frame → IsFor c me past body.message (receivers_of frame.proof)
 
 -- ---- what may be executed and installed
 

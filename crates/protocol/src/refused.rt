@@ -22,8 +22,9 @@ pub fn right_replicas_do_not_skip()
     ensures installs { InstallsWhatItHas }
 {}
 
-/// A new view is not taken over too few view changes, over some for another view, with too few batches, with a batch
-/// that no `f + 1` replicas vouch for, or below a view change that was sent.
+/// A new view is not taken over too few view changes, over some for another view, if it leaves out a number prepared in
+/// one of them, with a batch against which a quorum is not silent or for which no `f + 1` replicas vouch, or below a view
+/// change that was sent.
 pub fn new_views_meet_rules()
     ensures selected { TakesWellSelected }
     ensures lower { TakesNoLower }
@@ -34,7 +35,7 @@ pub fn requests_run_once()
     ensures once { RunsOnce }
 {}
 
-/// A right client accepts at a reply that makes a quorum alike in answer and number.
+/// A right client accepts where `2f + 1` different replicas have replied alike in kind, number and answer.
 pub fn right_clients_wait()
     ensures quorum { AcceptsAtQuorum }
 {}
