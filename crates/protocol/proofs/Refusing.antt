@@ -1,28 +1,34 @@
 -- The definitions refuse what wrong bodies would do.
-use Rattle.std.proofs.Common.{◌≡◌, ℕ, suc, ◌+◌, ◌-◌, ◌*◌, ◌≤◌, ◌<◌, ◌⊎◌, inl, inr, Bool, true, false, cond, List, [], ◌∷◌, length, slice_get, refl, sym, ap, ◌∙◌, subst, arith, ◌&&◌, Option, Some, eqb-true, eq-eqb}
+use Rattle.std.proofs.Common.{◌≡◌, ℕ, suc, ◌+◌, ◌-◌, ◌*◌, ◌≤◌, ◌<◌, ◌⊎◌, inl, inr, Bool, true, false, cond, List, [], bytes_eq, None, ◌∷◌, length, slice_get, refl, sym, ap, ◌∙◌, subst, arith, ◌&&◌, Option, Some, eqb-true, eq-eqb}
 use Rattle.std.specs.Prelude.{◌==◌, nat_le, nat_lt, option_and_then}
 use Rattle.std.specs.Option.{option_map_or}
 use Rattle.std.proofs.lemmas.Bool.{and_parts, or_cases, leb-true, ltb-true}
+use Rattle.std.proofs.lemmas.Slice.Eq.{bytes_eq-Decides}
+use Rattle.tuple_codec.specs.Operations.{Outcome}
+use Rattle.tuple_codec.specs.Spelling.{outcome_spelling}
 use Rattle.sha2.specs.Sha256.{sha256}
 use Rattle.quorum.specs.Quorum.{count_below}
 use Rattle.protocol.specs.Configuration.{Configuration}
 use Rattle.wire.specs.declared.terms.Mode.TheVariants as modes
 use Rattle.wire.specs.Messages.{BodyData as Body, ViewChangeData as ViewChange, NewViewData as NewView, pre_prepare as PrePrepare, prepare as Prepare, commit as Commit, checkpoint as Checkpoint, view_change as Change, reply as Reply}
-use Rattle.protocol.specs.Frames.{said}
-use Rattle.protocol.specs.Trace.{Entry, Once, Always, Has}
+use Rattle.protocol.specs.Frames.{said, mode_of}
+use Rattle.protocol.specs.Trace.{Entry, party_of, Once, Always, Has, Hears}
 use Rattle.protocol.specs.Trace.Entry.{Invoke, Got, Tick, Executed, Installed, Sent, Accepted}
 use Rattle.protocol.specs.Selection.{is_quorum, is_weak_quorum, count_in, vouches, agrees, may_stand_at, may_be_null, is_null, is_within, changes_of, how_many, Selects}
 use Rattle.protocol.specs.Certificates.{target, view, is_active_in, is_later, new_view_in, logged, low}
 use Rattle.reply_cache.specs.Replies.{Kept}
 use Rattle.protocol.specs.State.{State, Ran, opening, kept_of, last_time, runs, run_call, ran_call, kept_by, page_text}
 use Rattle.protocol.specs.RightReplica.{Point, Leaves, RightReplica, May, Moves, MaySay, MaySend, MayCheckpoint, MayPrepare, MayCommit, MayPrePrepare, MayReply, RepliesTo, GetsPage}
-use Rattle.protocol.specs.RightClient.{is_complete}
-use Rattle.protocol.specs.Refused.{Says, NoExecution, RepliesAfterExecution, NoCommitAfterChange, NoPrepareAfterChange, NoEarlyCheckpoint, OnePrePrepare, NoPrepareByPrimary, ExecutesNext, KeepsPrepared, InstallsWhatItHas, TakesWellSelected, TakesNoLower, RunsOnce, AcceptsAtQuorum}
+use Rattle.protocol.specs.RightClient.{RightClient, Vote, latest, is_alike, count_alike}
+use Rattle.protocol.specs.Refused.{Says, NoExecution, newest_number, RepliesAfterExecution, NoCommitAfterChange, NoPrepareAfterChange, NoEarlyCheckpoint, OnePrePrepare, NoPrepareByPrimary, ExecutesNext, KeepsPrepared, InstallsWhatItHas, TakesWellSelected, TakesNoLower, RunsOnce, AcceptsAtQuorum}
 use Rattle.protocol.proofs.Temporal.{once_weaker, once_stays_from}
 use Rattle.protocol.proofs.Options.{and_then_some, give_if_some, some_injective}
 use Rattle.protocol.proofs.Voting.{right_always, logged_stays}
 use Rattle.protocol.proofs.Marks.{selects, selected_in, takes}
-use Rattle.protocol.proofs.Lists.{every_has, stands_at, some_below}
+use Rattle.protocol.proofs.Lists.{every_has, stands_at, some_below, largest_of-ge}
+use Rattle.protocol.proofs.Reading.{latest_heard}
+use Rattle.protocol.proofs.Ordering.{latest_ordered}
+use Rattle.protocol.proofs.Legality.{executed_number}
 use Rattle.protocol.proofs.Changes.{change_target, target_grows}
 use Rattle.protocol.proofs.Offers.{offer_in, offers_kept, marks_above}
 use Rattle.protocol.proofs.Linking.{Speaks}
@@ -131,11 +137,22 @@ no_prepare_by_primary c me v i digest bytes past says is right =
     let m : MayPrepare c me past v i digest = says_may c me bytes (record { sender = me; message = Prepare v i digest }) past right says in
     m.is_backup is
 
+-- the state has the newest number
+newest_state : (c : Configuration) (me : ℕ) (xs : List Entry) (point : Point) → Leaves c me xs point → point.state.number ≡ newest_number xs
+newest_state c me [] point h = ap (λ (p : Point). p.state.number) h
+newest_state c me (e ∷ past) point h = go e h.2.may h.2.moves (newest_state c me past h.0 h.1)
+  where
+    go : (e : Entry) → May c me past h.0 e → Moves c me past h.0 e point → h.0.state.number ≡ newest_number past → point.state.number ≡ newest_number (e ∷ past)
+    go (Got p bytes) may move was = ap (λ (q : Point). q.state.number) move ∙ was
+    go (Tick p) may move was = ap (λ (q : Point). q.state.number) move ∙ was
+    go (Sent p bytes) may move was = ap (λ (q : Point). q.state.number) move ∙ was
+    go (Invoke x y z) may move was = absurd may
+    go (Accepted x y z) may move was = absurd may
+    go (Executed p k batch) may move was = ap (λ (q : Point). q.state.number) move ∙ executed_number c h.0.state batch ∙ sym may.next
+    go (Installed p k root) may move was = move.number
+
 pub executes_next : ExecutesNext
-executes_next c me k j batch root past right =
-    let a = right.1.2.may.next in
-    let b = right.1.1.2.moves.number in
-    omega arith
+executes_next c me k batch past right = right.1.2.may.next ∙ ap suc (newest_state c me past right.1.0 right.1.1)
 
 pub keeps_prepared : KeepsPrepared
 keeps_prepared c me v i batch vc past point change prepared marks = change.prepared.all v i batch marks prepared
@@ -155,7 +172,10 @@ takes_well_selected c past e new h = record {
   of_its_view = λ who vc has.
       let t = every_has (λ (x : ℕ × ViewChange). (x.1.view == new.view) && is_within c x.1) (changes_of c new) (who, vc) s.each has in
       eqb-true vc.view new.view (and_parts (vc.view == new.view) (is_within c vc) t).0;
-  filled = eqb-true (length new.batches) (how_many c new) s.long;
+  filled = λ who i vc is has most.
+      let long = eqb-true (length new.batches) (how_many c new) s.long in
+      let large = largest_of-ge (new.start + 2 * c.period) i who (changes_of c new) vc is has most in
+      omega arith;
   vouched = vouched;
 }
   where
@@ -208,7 +228,30 @@ runs_once st m n call small new = go (runs st call) new
 
 -- ---- clients
 
+own_parties : (c : Configuration) (me : ℕ) (xs : List Entry) → RightClient c me xs → Always (λ past e. party_of e ≡ me) xs
+own_parties c me [] r = tt
+own_parties c me (e ∷ xs) r = (r.0.0, own_parties c me xs r.1)
+
 pub accepts_at_quorum : AcceptsAtQuorum
 accepts_at_quorum c me k timestamp answer past right =
     let m = right.0.1 in
-    (m.1, m.5, m.4, subst (λ (t : ℕ). is_complete c me past t m.1 ≡ true) m.3 m.6)
+    let full = leb-true (2 * c.faults + 1) (count_alike c me past m.0.timestamp m.1) m.6 in
+    let enough = subst (λ (t : ℕ). 2 * c.faults + 1 ≤ count_alike c me past t m.1) m.3 full in
+    (mode_of m.1.read_only, m.1.number, λ s. is_alike m.1 (latest c me past timestamp m.1.read_only s), enough,
+    λ s h. answers s m.1 m.4 m.1.read_only (latest c me past timestamp m.1.read_only s) refl h)
+  where
+    own : Always (λ past e. party_of e ≡ me) past
+    own = own_parties c me past right.1
+
+    hears : (s : ℕ) (kind : Bool) (v : Vote) → latest c me past timestamp kind s ≡ Some v → Once (Hears c me (record { sender = s; message = Reply me timestamp (mode_of kind) v.number v.answer })) past
+    hears s true v is = latest_heard c me timestamp s v past own is
+    hears s false v is = latest_ordered c me timestamp s v past own is
+
+    answers : (s : ℕ) (vote : Vote) → vote.answer ≡ answer → (kind : Bool) (o : Option Vote) → latest c me past timestamp kind s ≡ o → is_alike vote o ≡ true
+        → (other : Outcome) × (outcome_spelling other ≡ outcome_spelling answer) × Once (Hears c me (record { sender = s; message = Reply me timestamp (mode_of kind) vote.number other })) past
+    answers s vote same kind None is h = absurd cc
+    answers s vote same kind (Some v) is h =
+        let q = and_parts (v.number == vote.number) (bytes_eq (outcome_spelling v.answer) (outcome_spelling vote.answer)) h in
+        let n : v.number ≡ vote.number = eqb-true v.number vote.number q.0 in
+        let spelled = (bytes_eq-Decides (outcome_spelling v.answer) (outcome_spelling vote.answer)).0 q.1 in
+        (v.answer, spelled ∙ ap outcome_spelling same, subst (λ (i : ℕ). Once (Hears c me (record { sender = s; message = Reply me timestamp (mode_of kind) i v.answer })) past) n (hears s kind v is))

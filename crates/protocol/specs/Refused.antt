@@ -1,18 +1,21 @@
 -- Small histories that the definitions refuse: what wrong replicas, primaries and clients would make.
-use Rattle.std.specs.Prelude.{◌≡◌, ◌≢◌, ℕ, suc, ◌+◌, ◌-◌, ◌*◌, ◌≤◌, ◌<◌, ◌⊎◌, true, List, ◌∷◌, length, slice_get, Some, ⊤}
+use Rattle.std.specs.Prelude.{◌≡◌, ◌≢◌, ℕ, suc, ◌+◌, ◌-◌, ◌*◌, ◌≤◌, ◌<◌, ◌⊎◌, true, Bool, List, [], ◌∷◌, length, slice_get, Some, ⊤}
 use Rattle.sha2.specs.Sha256.{sha256}
 use Rattle.tuple_codec.specs.Operations.{Outcome}
-use Rattle.protocol.specs.Configuration.{Configuration, primary}
+use Rattle.tuple_codec.specs.Spelling.{outcome_spelling}
+use Rattle.wire.specs.declared.terms.Mode.{Mode}
+use Rattle.quorum.specs.Quorum.{count_below}
+use Rattle.protocol.specs.Configuration.{Configuration, replicas, primary}
 use Rattle.wire.specs.declared.terms.Mode.TheVariants as modes
 use Rattle.wire.specs.Messages.{BodyData as Body, ViewChangeData as ViewChange, NewViewData as NewView, ClaimData as Claim, pre_prepare as PrePrepare, prepare as Prepare, commit as Commit, checkpoint as Checkpoint, view_change as Change, reply as Reply}
 use Rattle.protocol.specs.Frames.{said}
-use Rattle.protocol.specs.Trace.{Entry, Once, Always, Has}
+use Rattle.protocol.specs.Trace.{Entry, Once, Always, Has, Hears}
 use Rattle.protocol.specs.Trace.Entry.{Executed, Installed, Sent, Accepted}
-use Rattle.protocol.specs.Selection.{count_in, vouches, may_be_null, is_null, changes_of, how_many}
+use Rattle.protocol.specs.Selection.{count_in, vouches, may_be_null, is_null, changes_of, change_by}
 use Rattle.protocol.specs.Certificates.{target, low, is_in_marks, taken, view, Prepared}
 use Rattle.protocol.specs.State.{State, Call, runs, run_call, page_text}
 use Rattle.protocol.specs.RightReplica.{Point, RightReplica, Executes, GetsPage, IsNewChange, IsInstalled}
-use Rattle.protocol.specs.RightClient.{RightClient, Vote, newest_vote, is_complete}
+use Rattle.protocol.specs.RightClient.{RightClient}
 
 -- the party sent a frame of this body
 abbrev pub Says : Body → List Entry → Entry → Type 0
@@ -67,11 +70,18 @@ NoPrepareByPrimary =
     → said bytes ≡ Some (record { sender = me; message = Prepare v i digest })
     → primary c v ≡ me → RightReplica c me (Sent me bytes ∷ past) → ⊥
 
+-- the number that was executed or installed last, first 0
+abbrev pub newest_number : List Entry → ℕ
+newest_number [] = 0
+newest_number (Executed r k batch ∷ past) = k
+newest_number (Installed r k root ∷ past) = k
+newest_number (_ ∷ past) = newest_number past
+
 -- An execution that skips a number, or goes back.
 abbrev pub ExecutesNext : Type 0
 ExecutesNext =
-    (c : Configuration) (me k j : ℕ) (batch root : List ℕ) (past : List Entry)
-    → RightReplica c me (Executed me k batch ∷ Installed me j root ∷ past) → k ≡ suc j
+    (c : Configuration) (me k : ℕ) (batch : List ℕ) (past : List Entry)
+    → RightReplica c me (Executed me k batch ∷ past) → k ≡ suc (newest_number past)
 
 -- A view change that leaves out a prepared batch within the marks.
 abbrev pub KeepsPrepared : Type 0
@@ -94,7 +104,8 @@ InstallsWhatItHas =
 pub record IsWellSelected (c : Configuration) (new : NewView) : Type 0 where
   pub enough : 2 * c.faults + 1 ≤ count_in c (λ vc. true) (changes_of c new)
   pub of_its_view : (s : ℕ) (vc : ViewChange) → Has (λ x. x ≡ (s, vc)) (changes_of c new) → vc.view ≡ new.view
-  pub filled : length new.batches ≡ how_many c new
+  pub filled : (s i : ℕ) (vc : ViewChange) → change_by (changes_of c new) s ≡ Some vc → Has (λ claim. claim.number ≡ i) vc.prepared
+      → i ≤ new.start + 2 * c.period → i ≤ new.start + length new.batches
   pub vouched : (i : ℕ) (batch : List ℕ) → slice_get new.batches (i - new.start - 1) ≡ Some batch → new.start < i
       → ((w : ℕ) × (w < new.view) × (c.faults + 1 ≤ count_in c (vouches i w (sha256 batch)) (changes_of c new)))
       ⊎ ((is_null batch ≡ true) × (may_be_null c (changes_of c new) i ≡ true))
@@ -116,9 +127,12 @@ RunsOnce =
 
 -- ---- a client
 
--- An acceptance at f + 1 replies alike, or with replies of different numbers.
+-- An acceptance at f + 1 replies alike, at one replica's reply that comes again, or with replies of different numbers:
+-- 2f + 1 different replicas were heard, and answered the call in one mode, with one number and one answer.
 abbrev pub AcceptsAtQuorum : Type 0
 AcceptsAtQuorum =
     (c : Configuration) (me k timestamp : ℕ) (answer : Outcome) (past : List Entry)
     → RightClient c me (Accepted k timestamp answer ∷ past)
-    → (vote : Vote) × (newest_vote c me past timestamp ≡ Some vote) × (vote.answer ≡ answer) × (is_complete c me past timestamp vote ≡ true)
+    → (mode : Mode) × (number : ℕ) × (from : ℕ → Bool) × (2 * c.faults + 1 ≤ count_below from (replicas c))
+    × ((s : ℕ) → from s ≡ true → (other : Outcome) × (outcome_spelling other ≡ outcome_spelling answer)
+        × Once (Hears c me (record { sender = s; message = Reply me timestamp mode number other })) past)

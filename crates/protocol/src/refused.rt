@@ -34,7 +34,7 @@ pub fn requests_run_once()
     ensures once { RunsOnce }
 {}
 
-/// A right client accepts at a reply that makes a quorum alike in answer and number.
+/// A right client accepts only where `2f + 1` different replicas answered the call alike, in mode, number and answer.
 pub fn right_clients_wait()
     ensures quorum { AcceptsAtQuorum }
 {}
