@@ -1,12 +1,13 @@
--- What a correct replica owes in an event: everything that the event's input brings about, and nothing where the input is
--- dropped (Castro and Liskov, TOCS 2002, sections 4.2 to 4.5). No law of agreement uses it. It speaks of the same states
+-- What a correct replica owes in an event: all that the event's input brings about, until nothing more is due, and
+-- nothing where the input is dropped (Castro and Liskov, TOCS 2002, sections 4.2 to 4.5). No law of agreement uses it. It speaks of the same states
 -- as what the replica may do.
-use Rattle.std.specs.Prelude.{◌≡◌, ◌≢◌, ℕ, suc, ◌+◌, ◌%◌, ◌≤◌, ◌<◌, ◌⊎◌, Bool, true, false, ◌&&◌, List, [], ◌∷◌, ◌++◌, reverse, nat_lt, ◌==◌, if◌then◌else◌, Some, None, is_some, ⊤}
+use Rattle.std.specs.Prelude.{◌≡◌, ◌≢◌, ℕ, suc, ◌+◌, ◌%◌, ◌≤◌, ◌<◌, ◌⊎◌, Bool, true, false, ◌&&◌, List, [], ◌∷◌, ◌++◌, reverse, max, nat_lt, ◌==◌, if◌then◌else◌, Option, Some, None, is_some, option_and_then, ⊤}
 use Rattle.std.specs.List.{list_any}
 use Rattle.std.specs.Option.{option_map_or}
 use Rattle.sha2.specs.Sha256.{sha256}
 use Rattle.tuple_codec.specs.Operations.{Operation}
 use Rattle.space.specs.Applying.{outcome, is_read_only}
+use Rattle.quorum.specs.Votes.{or_else}
 use Rattle.protocol.specs.Configuration.{Configuration, primary, is_number}
 use Rattle.wire.specs.declared.terms.Mode.TheVariants as modes
 use Rattle.wire.specs.declared.terms.Level.{Level}
@@ -14,7 +15,7 @@ use Rattle.wire.specs.declared.terms.Level.TheVariants as levels
 use Rattle.wire.specs.Spelling.{has_children}
 use Rattle.wire.specs.Messages.{BodyData as Body, MessageData as Message, NewViewData as NewView, MarkData as Mark, request as Request, pre_prepare as PrePrepare, prepare as Prepare, commit as Commit, checkpoint as Checkpoint, view_change as Change, new_view as Begin, reply as Reply, fetch as Fetch, meta as Meta, page as Page}
 use Rattle.wire.specs.Words.{requests_of}
-use Rattle.protocol.specs.Frames.{said, heard, signed_body}
+use Rattle.protocol.specs.Frames.{frame_of, said, heard, signed_body, receivers_of}
 use Rattle.protocol.specs.Trace.{Entry, party_of, Once, Has, Each, Hears}
 use Rattle.protocol.specs.Trace.Entry.{Got, Tick, Sent}
 use Rattle.protocol.specs.Selection.{is_quorum, signed_change, is_within}
@@ -34,6 +35,15 @@ IsSaying me message _ = ⊥
 abbrev pub Gives : ℕ → Message → List Entry → Type 0
 Gives me message outputs = Has (IsSaying me message) outputs
 
+-- one of them is a frame of this message for the replica s
+abbrev pub IsSayingTo : ℕ → ℕ → Message → Entry → Type 0
+IsSayingTo me s message (Sent p bytes) =
+    (said bytes ≡ Some (record { sender = me; message = message })) × (option_map_or (λ frame. receivers_of frame.proof) (frame_of bytes) [] ≡ s ∷ [])
+IsSayingTo me s message _ = ⊥
+
+abbrev pub GivesTo : ℕ → ℕ → Message → List Entry → Type 0
+GivesTo me s message outputs = Has (IsSayingTo me s message) outputs
+
 -- at each of the outputs, the oldest first, with its past
 abbrev pub AtOutputs : (List Entry → Entry → Type 0) → List Entry → List Entry → Type 0
 AtOutputs P past [] = ⊤
@@ -46,6 +56,15 @@ fetch_sent _ = 0
 -- the number of the latest transfer, which is open while it is above the state's
 abbrev pub fetching : List Entry → ℕ
 fetching past = greatest fetch_sent past
+
+abbrev pub place_from : Body → Option (ℕ × (Level × ℕ))
+place_from body = elim body.message [ Fetch k level index ↦ Some (k, (level, index)) | _ ↦ None ]
+
+-- the place that was asked for last: one fetch is open at a time
+abbrev pub asked_last : List Entry → Option (ℕ × (Level × ℕ))
+asked_last [] = None
+asked_last (Sent p bytes ∷ past) = or_else (option_and_then place_from (said bytes)) (asked_last past)
+asked_last (_ ∷ past) = asked_last past
 
 -- ---- requests that a view has numbered
 
@@ -74,7 +93,7 @@ NumbersOnce c me past (Sent p bytes) =
     → (client timestamp : ℕ) → HasRequest c client timestamp batch → IsNumbered c me past v client timestamp → ⊥
 NumbersOnce c me past _ = ⊤
 
--- ---- inputs that count; all others are dropped
+-- ---- inputs that count; all others are dropped (whether a part has the digest that was asked for is told by the transfer)
 
 abbrev pub has_number : ℕ → List Mark → Bool
 has_number k marks = list_any (λ m. m.number == k) marks
@@ -83,10 +102,16 @@ has_number k marks = list_any (λ m. m.number == k) marks
 abbrev pub change_taken : Configuration → ℕ → ℕ → List ℕ → ℕ
 change_taken c v s bytes = option_map_or (λ x. if (x.0 == s) && nat_lt v x.1.view && is_within c x.1 then x.1.view else 0) (signed_change c bytes) 0
 
+-- got, or the own one, sent
+abbrev pub change_at : Configuration → List Entry → Entry → ℕ → ℕ
+change_at c past (Got p bytes) s = change_taken c (view c past) s bytes
+change_at c past (Sent p bytes) s = change_taken c (view c past) s bytes
+change_at c past _ s = 0
+
+-- the greatest of them
 abbrev pub latest_change : Configuration → List Entry → ℕ → ℕ
 latest_change c [] s = 0
-latest_change c (Got p bytes ∷ past) s = let v : ℕ = change_taken c (view c past) s bytes in if nat_lt (latest_change c past s) v then v else latest_change c past s
-latest_change c (_ ∷ past) s = latest_change c past s
+latest_change c (e ∷ past) s = max (latest_change c past s) (change_at c past e s)
 
 -- the waiting requests of the client are older, or this very one
 abbrev pub IsNoOlder : List Call → ℕ → ℕ → Operation → Type 0
@@ -107,8 +132,8 @@ Counts c me past point bytes s (Change vc) = (is_some (signed_body c bytes) ≡ 
 Counts c me past point bytes s (Begin new) = taken c past (Got me bytes) ≡ Some new
 Counts c me past point bytes s (Reply client t kind k answer) = ⊥
 Counts c me past point bytes s (Fetch k level index) = KeptState c me past point k (λ st. ⊤)
-Counts c me past point bytes s (Meta k level index digests) = (fetching past ≡ k) × (point.state.number < k)
-Counts c me past point bytes s (Page k index text) = (fetching past ≡ k) × (point.state.number < k)
+Counts c me past point bytes s (Meta k level index digests) = (asked_last past ≡ Some (k, (level, index))) × (point.state.number < k)
+Counts c me past point bytes s (Page k index text) = (asked_last past ≡ Some (k, (levels.Page, index))) × (point.state.number < k)
 
 abbrev pub IsDropped : Configuration → ℕ → List Entry → Point → List ℕ → Type 0
 IsDropped c me past point bytes = (body : Body) → heard c me bytes ≡ Some body → Counts c me past point bytes body.sender body.message → ⊥
@@ -140,9 +165,9 @@ pub record Owes (c : Configuration) (me : ℕ) (before : List Entry) (input : En
   pub reads : (client timestamp : ℕ) (op : Operation) → Hears c me (record { sender = client; message = Request timestamp modes.ReadOnly op }) before input
       → is_read_only op ≡ true → Gives me (Reply client timestamp modes.ReadOnly old.state.number (outcome (tuples old.state) op)) outputs
   pub fetched_digests : (s k index : ℕ) (level : Level) → has_children level ≡ true → Hears c me (record { sender = s; message = Fetch k level index }) before input
-      → (st : State) → KeptState c me before old k (λ x. x ≡ st) → Gives me (Meta k level index (digests_at st level index)) outputs
+      → (st : State) → KeptState c me before old k (λ x. x ≡ st) → GivesTo me s (Meta k level index (digests_at st level index)) outputs
   pub fetched_page : (s k index : ℕ) → Hears c me (record { sender = s; message = Fetch k levels.Page index }) before input
-      → (st : State) → KeptState c me before old k (λ x. x ≡ st) → Gives me (Page k index (page_text st index)) outputs
+      → (st : State) → KeptState c me before old k (λ x. x ≡ st) → GivesTo me s (Page k index (page_text st index)) outputs
   -- a quorum of checkpoints above the state, and above an open transfer, starts one
   pub fetches : (k : ℕ) (root : List ℕ) → is_quorum c (count_marks c now (record { number = k; digest = root })) ≡ true
       → new.state.number < k → fetching before < k → Gives me (Fetch k levels.Root 0) outputs
