@@ -1,26 +1,27 @@
 -- The definitions refuse what wrong bodies would do.
-use Rattle.std.proofs.Common.{◌≡◌, ℕ, suc, ◌+◌, ◌-◌, ◌*◌, ◌≤◌, ◌<◌, ◌⊎◌, inl, inr, Bool, true, false, cond, List, [], bytes_eq, None, ◌∷◌, length, slice_get, refl, sym, ap, ◌∙◌, subst, arith, ◌&&◌, Option, Some, eqb-true, eq-eqb}
+use Rattle.std.specs.List.{range_with_len}
+use Rattle.std.proofs.Common.{◌≡◌, ℕ, zero, suc, not, filter, ◌+◌, ◌-◌, ◌*◌, ◌≤◌, ◌<◌, ◌⊎◌, inl, inr, Bool, true, false, cond, List, [], bytes_eq, None, ◌∷◌, length, slice_get, refl, sym, ap, ◌∙◌, subst, arith, ◌&&◌, Option, Some, eqb-true, eq-eqb}
 use Rattle.std.specs.Prelude.{◌==◌, nat_le, nat_lt, option_and_then}
 use Rattle.std.specs.Option.{option_map_or}
-use Rattle.std.proofs.lemmas.Bool.{and_parts, or_cases, leb-true, ltb-true}
+use Rattle.std.proofs.lemmas.Bool.{eqb-false, and_parts, or_cases, leb-true, ltb-true}
 use Rattle.std.proofs.lemmas.Slice.Eq.{bytes_eq-Decides}
 use Rattle.tuple_codec.specs.Operations.{Outcome}
 use Rattle.tuple_codec.specs.Spelling.{outcome_spelling}
 use Rattle.sha2.specs.Sha256.{sha256}
 use Rattle.quorum.specs.Quorum.{count_below}
-use Rattle.protocol.specs.Configuration.{Configuration}
+use Rattle.protocol.specs.Configuration.{Configuration, replicas}
 use Rattle.wire.specs.declared.terms.Mode.TheVariants as modes
-use Rattle.wire.specs.Messages.{BodyData as Body, ViewChangeData as ViewChange, NewViewData as NewView, pre_prepare as PrePrepare, prepare as Prepare, commit as Commit, checkpoint as Checkpoint, view_change as Change, reply as Reply}
-use Rattle.protocol.specs.Frames.{said, mode_of}
+use Rattle.wire.specs.Messages.{BodyData as Body, FrameData as Frame, ProofData as Proof, MacData, macs, ViewChangeData as ViewChange, NewViewData as NewView, pre_prepare as PrePrepare, prepare as Prepare, commit as Commit, checkpoint as Checkpoint, view_change as Change, reply as Reply}
+use Rattle.protocol.specs.Frames.{frame_of, said, mode_of}
 use Rattle.protocol.specs.Trace.{Entry, party_of, Once, Always, Has, Hears}
 use Rattle.protocol.specs.Trace.Entry.{Invoke, Got, Tick, Executed, Installed, Sent, Accepted}
 use Rattle.protocol.specs.Selection.{is_quorum, is_weak_quorum, count_in, vouches, agrees, may_stand_at, may_be_null, is_null, is_within, changes_of, how_many, Selects}
 use Rattle.protocol.specs.Certificates.{target, view, is_active_in, is_later, new_view_in, logged, low}
 use Rattle.reply_cache.specs.Replies.{Kept}
 use Rattle.protocol.specs.State.{State, Ran, opening, kept_of, last_time, runs, run_call, ran_call, kept_by, page_text}
-use Rattle.protocol.specs.RightReplica.{Point, Leaves, RightReplica, May, Moves, MaySay, MaySend, MayCheckpoint, MayPrepare, MayCommit, MayPrePrepare, MayReply, RepliesTo, GetsPage}
+use Rattle.protocol.specs.RightReplica.{IsAddressed, Point, Leaves, RightReplica, May, Moves, MaySay, MaySend, MayCheckpoint, MayPrepare, MayCommit, MayPrePrepare, MayReply, RepliesTo, GetsPage}
 use Rattle.protocol.specs.RightClient.{RightClient, Vote, latest, is_alike, count_alike}
-use Rattle.protocol.specs.Refused.{Says, NoExecution, newest_number, RepliesAfterExecution, NoCommitAfterChange, NoPrepareAfterChange, NoEarlyCheckpoint, OnePrePrepare, NoPrepareByPrimary, ExecutesNext, KeepsPrepared, InstallsWhatItHas, TakesWellSelected, TakesNoLower, RunsOnce, AcceptsAtQuorum}
+use Rattle.protocol.specs.Refused.{RepliesToItsClient, CommitsToAll, Says, NoExecution, newest_number, RepliesAfterExecution, NoCommitAfterChange, NoPrepareAfterChange, NoEarlyCheckpoint, OnePrePrepare, NoPrepareByPrimary, ExecutesNext, KeepsPrepared, InstallsWhatItHas, TakesWellSelected, TakesNoLower, RunsOnce, AcceptsAtQuorum}
 use Rattle.protocol.proofs.Temporal.{once_weaker, once_stays_from}
 use Rattle.protocol.proofs.Options.{and_then_some, give_if_some, some_injective}
 use Rattle.protocol.proofs.Voting.{right_always, logged_stays}
@@ -163,6 +164,48 @@ installs_what_it_has c me k i root past old new installed within differs = go (i
     go : (page_text new.state i ≡ page_text old.state i) ⊎ Once (GetsPage c me i (page_text new.state i)) past → Once (GetsPage c me i (page_text new.state i)) past
     go (inl same) = absurd (differs same)
     go (inr got) = got
+
+-- ---- whom a frame is for
+
+addressed : (c : Configuration) (me : ℕ) (bytes : List ℕ) (body : Body) (frame : Frame) (entries : List MacData) (past : List Entry) (right : RightReplica c me (Sent me bytes ∷ past)) → said bytes ≡ Some body
+    → frame_of bytes ≡ Some frame → frame.proof ≡ macs entries → IsAddressed c me past body.message (macs entries)
+addressed c me bytes body frame entries past right says is proof =
+    let m : MaySend c me past right.1.0 (Sent me bytes) bytes = right.1.2.may in
+    let same : m.body ≡ body = some_injective m.body body (sym m.says ∙ says) in
+    subst (λ (p : Proof). IsAddressed c me past body.message p) proof
+    (subst (λ (b : Body). IsAddressed c me past b.message frame.proof) same (m.is_sealed frame is).1)
+
+pub replies_to_its_client : RepliesToItsClient
+replies_to_its_client c me client timestamp number mode answer bytes frame entries past says is proof right =
+    addressed c me bytes (record { sender = me; message = Reply client timestamp mode number answer }) frame entries past right says is proof
+
+in_range : (n a s : ℕ) → a ≤ s → s < a + n → Has (λ r. r ≡ s) (range_with_len a n)
+in_range zero a s l h = absurd (omega arith)
+in_range (suc n) a s l h = go (a == s) refl (λ above. in_range n (a + 1) s above (omega arith))
+  where
+    go : (b : Bool) → (a == s) ≡ b → (a + 1 ≤ s → Has (λ r. r ≡ s) (range_with_len (a + 1) n)) → (a ≡ s) ⊎ Has (λ r. r ≡ s) (range_with_len (a + 1) n)
+    go true e below = inl (eqb-true a s e)
+    go false e below = let d = eqb-false a s e in inr (below (omega arith))
+
+kept_by_test : (test : ℕ → Bool) (xs : List ℕ) (s : ℕ) → test s ≡ true → Has (λ r. r ≡ s) xs → Has (λ r. r ≡ s) (filter test xs)
+kept_by_test test [] s t h = absurd h
+kept_by_test test (x ∷ xs) s t h = go (test x) refl h (kept_by_test test xs s t)
+  where
+    go : (b : Bool) → test x ≡ b → (x ≡ s) ⊎ Has (λ r. r ≡ s) xs → (Has (λ r. r ≡ s) xs → Has (λ r. r ≡ s) (filter test xs)) → Has (λ r. r ≡ s) (cond b (x ∷ filter test xs) (filter test xs))
+    go true e (inl k) below = inl k
+    go true e (inr k) below = inr (below k)
+    go false e (inl k) below = let same : test x ≡ test s = ap test k in let bad : false ≡ true = sym e ∙ same ∙ t in absurd cc
+    go false e (inr k) below = below k
+
+pub commits_to_all : CommitsToAll
+commits_to_all c me v i s digest bytes frame entries past says is proof within other right =
+    let e = addressed c me bytes (record { sender = me; message = Commit v i digest }) frame entries past right says is proof in
+    subst (λ (rs : List ℕ). Has (λ r. r ≡ s) rs) (sym e)
+    (kept_by_test (λ r. not (r == me)) (range_with_len 0 (replicas c)) s (differs (s == me) refl) (in_range (replicas c) 0 s (omega arith) (omega arith)))
+  where
+    differs : (b : Bool) → (s == me) ≡ b → not b ≡ true
+    differs true e = absurd (other (eqb-true s me e))
+    differs false e = refl
 
 -- ---- new views
 

@@ -1,5 +1,5 @@
 -- Small histories that the definitions refuse: what wrong replicas, primaries and clients would make.
-use Rattle.std.specs.Prelude.{◌≡◌, ◌≢◌, ℕ, suc, ◌+◌, ◌-◌, ◌*◌, ◌≤◌, ◌<◌, ◌⊎◌, true, Bool, List, [], ◌∷◌, length, slice_get, Some, ⊤}
+use Rattle.std.specs.Prelude.{◌≡◌, ◌≢◌, ℕ, suc, ◌+◌, ◌-◌, ◌*◌, ◌≤◌, ◌<◌, ◌⊎◌, true, Bool, List, [], ◌∷◌, length, map, slice_get, Some, ⊤}
 use Rattle.sha2.specs.Sha256.{sha256}
 use Rattle.tuple_codec.specs.Operations.{Outcome}
 use Rattle.tuple_codec.specs.Spelling.{outcome_spelling}
@@ -7,8 +7,8 @@ use Rattle.wire.specs.declared.terms.Mode.{Mode}
 use Rattle.quorum.specs.Quorum.{count_below}
 use Rattle.protocol.specs.Configuration.{Configuration, replicas, primary}
 use Rattle.wire.specs.declared.terms.Mode.TheVariants as modes
-use Rattle.wire.specs.Messages.{BodyData as Body, ViewChangeData as ViewChange, NewViewData as NewView, ClaimData as Claim, pre_prepare as PrePrepare, prepare as Prepare, commit as Commit, checkpoint as Checkpoint, view_change as Change, reply as Reply}
-use Rattle.protocol.specs.Frames.{said}
+use Rattle.wire.specs.Messages.{BodyData as Body, FrameData as Frame, MacData, macs, ViewChangeData as ViewChange, NewViewData as NewView, ClaimData as Claim, pre_prepare as PrePrepare, prepare as Prepare, commit as Commit, checkpoint as Checkpoint, view_change as Change, reply as Reply}
+use Rattle.protocol.specs.Frames.{frame_of, said}
 use Rattle.protocol.specs.Trace.{Entry, Once, Always, Has, Hears}
 use Rattle.protocol.specs.Trace.Entry.{Executed, Installed, Sent, Accepted}
 use Rattle.protocol.specs.Selection.{count_in, vouches, may_be_null, is_null, changes_of, change_by}
@@ -96,6 +96,24 @@ InstallsWhatItHas =
     (c : Configuration) (me k i : ℕ) (root : List ℕ) (past : List Entry) (old new : Point)
     → IsInstalled c me past old k root new → i < 1024 → page_text new.state i ≢ page_text old.state i
     → Once (GetsPage c me i (page_text new.state i)) past
+
+-- ---- whom a frame is for
+
+-- A reply that is sealed for another than its client.
+abbrev pub RepliesToItsClient : Type 0
+RepliesToItsClient =
+    (c : Configuration) (me client timestamp number : ℕ) (mode : Mode) (answer : Outcome) (bytes : List ℕ) (frame : Frame) (entries : List MacData) (past : List Entry)
+    → said bytes ≡ Some (record { sender = me; message = Reply client timestamp mode number answer })
+    → frame_of bytes ≡ Some frame → frame.proof ≡ macs entries → RightReplica c me (Sent me bytes ∷ past)
+    → map (λ x. x.receiver) entries ≡ client ∷ []
+
+-- A commit that is not sealed for each other replica.
+abbrev pub CommitsToAll : Type 0
+CommitsToAll =
+    (c : Configuration) (me v i s : ℕ) (digest bytes : List ℕ) (frame : Frame) (entries : List MacData) (past : List Entry)
+    → said bytes ≡ Some (record { sender = me; message = Commit v i digest })
+    → frame_of bytes ≡ Some frame → frame.proof ≡ macs entries → s < replicas c → s ≢ me → RightReplica c me (Sent me bytes ∷ past)
+    → Has (λ r. r ≡ s) (map (λ x. x.receiver) entries)
 
 -- ---- a new view
 
