@@ -7,12 +7,12 @@ use Rattle.sha2.specs.Sha256.{sha256}
 use Rattle.quorum.specs.Quorum.{count_below}
 use Rattle.quorum.specs.Votes.{has_digest, or_else, give_if}
 use Rattle.protocol.specs.Configuration.{Configuration}
-use Rattle.wire.specs.Messages.{BodyData as Body, MessageData as Message, NewViewData as NewView, pre_prepare as PrePrepare, prepare as Prepare, commit as Commit}
-use Rattle.protocol.specs.Frames.{said, heard, signed_body}
+use Rattle.wire.specs.Messages.{BodyData as Body, MessageData as Message, ProofData as Proof, macs, signature, NewViewData as NewView, pre_prepare as PrePrepare, prepare as Prepare, commit as Commit}
+use Rattle.protocol.specs.Frames.{receivers_of, said, heard, signed_body}
 use Rattle.protocol.specs.Trace.{Entry}
 use Rattle.protocol.specs.Trace.Entry.{Got, Executed, Sent}
 use Rattle.protocol.specs.Certificates.{view, view_after, target, low, new_view_in, new_view_from, change_sent, checkpoint_in, installed_at, taken, is_active_in, counts_at, logged, proposal, prepare_of, prepare_from, commit_of, commit_from, vote_in, first_given, Prepared, Committed, checkpoint_from, change_from, is_in_marks, is_later, batch_begun, begun_proposal, entry_proposal}
-use Rattle.protocol.specs.RightReplica.{Point, start, Leaves, RightReplica, MaySend, executed_point, waiting_after}
+use Rattle.protocol.specs.RightReplica.{others, IsFor, IsAddressed, Point, start, Leaves, RightReplica, MaySend, executed_point, waiting_after}
 use Rattle.protocol.specs.Examples.{four, IsFirstBatch, FirstBatchExecutes}
 use Rattle.protocol.proofs.Voting.{logged_stays}
 use Rattle.protocol.proofs.Commits.{prepare_stays, prepared_stays}
@@ -286,6 +286,10 @@ module _ (clients : ℕ) (seed batch a b d e f g : List ℕ) (x : IsFirstBatch (
   got : Point → List ℕ → Point
   got point bytes = record point { ran = []; waiting = waiting_after c 1 point bytes }
 
+  for_others : (past : List Entry) (message : Message) (proof : Proof) → ((rs : List ℕ) → rs ≡ others c 1 → IsFor c 1 past message rs) → receivers_of proof ≡ others c 1 → IsAddressed c 1 past message proof
+  for_others past message (macs entries) to e = to (receivers_of (macs entries)) e
+  for_others past message (signature s) to e = tt
+
   may_prepare : (point : Point) → MaySend c 1 h1 point (Sent 1 b) b
   may_prepare point = record {
     body = record { sender = 1; message = Prepare 0 1 (sha256 batch) };
@@ -293,8 +297,7 @@ module _ (clients : ℕ) (seed batch a b d e f g : List ℕ) (x : IsFirstBatch (
     own = refl;
     seen = tt;
     say = record { is_backup = λ z. cc; active = active h1 plain1; batch = batch; is_logged = logged1; digest_is = refl };
-    is_sealed = x.prepare_sealed;
-    is_for = x.prepare_for;
+    is_sealed = λ frame is. let s = x.prepare_sealed frame is in (s.0, for_others h1 (Prepare 0 1 (sha256 batch)) frame.proof (λ rs e. e) s.1);
   }
 
   may_commit : (point : Point) → MaySend c 1 h3 point (Sent 1 e) e
@@ -304,8 +307,7 @@ module _ (clients : ℕ) (seed batch a b d e f g : List ℕ) (x : IsFirstBatch (
     own = refl;
     seen = tt;
     say = record { active = active h3 plain3; batch = batch; prepared = prepared; digest_is = refl };
-    is_sealed = x.commit_sealed;
-    is_for = x.commit_for;
+    is_sealed = λ frame is. let s = x.commit_sealed frame is in (s.0, for_others h3 (Commit 0 1 (sha256 batch)) frame.proof (λ rs e. e) s.1);
   }
 
   abbrev p1 : Point

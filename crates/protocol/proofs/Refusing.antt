@@ -1,39 +1,39 @@
 -- The definitions refuse what wrong bodies would do.
-use Rattle.std.proofs.Common.{◌≡◌, ℕ, suc, ◌+◌, ◌-◌, ◌*◌, ◌≤◌, ◌<◌, ◌⊎◌, inl, inr, Bool, true, false, cond, List, [], ◌∷◌, length, slice_get, refl, sym, ap, ◌∙◌, subst, arith, ◌&&◌, ◌||◌, not, bytes_eq, Option, Some, None, eqb-true, eq-eqb}
+use Rattle.std.specs.List.{list_all, range_with_len}
+use Rattle.std.proofs.Common.{◌≡◌, ℕ, zero, suc, not, filter, ◌+◌, ◌-◌, ◌*◌, ◌≤◌, ◌<◌, ◌⊎◌, inl, inr, Bool, true, false, cond, List, [], bytes_eq, None, ◌∷◌, length, slice_get, refl, sym, ap, ◌∙◌, subst, arith, ◌&&◌, ◌||◌, Option, Some, eqb-true, eq-eqb}
 use Rattle.std.specs.Prelude.{◌==◌, nat_le, nat_lt, option_and_then, ⊤}
-use Rattle.std.specs.List.{list_all}
 use Rattle.std.specs.Option.{option_map_or}
-use Rattle.std.proofs.lemmas.Bool.{and_parts, or_cases, leb-true, ltb-true}
+use Rattle.std.proofs.lemmas.Bool.{eqb-false, and_parts, or_cases, leb-true, ltb-true}
 use Rattle.std.proofs.lemmas.Slice.Eq.{bytes_eq-Decides}
-use Rattle.sha2.specs.Sha256.{sha256}
 use Rattle.tuple_codec.specs.Operations.{Outcome}
 use Rattle.tuple_codec.specs.Spelling.{outcome_spelling}
+use Rattle.sha2.specs.Sha256.{sha256}
 use Rattle.quorum.specs.Quorum.{count_below}
-use Rattle.protocol.specs.Configuration.{Configuration, span}
+use Rattle.protocol.specs.Configuration.{Configuration, replicas, span}
 use Rattle.wire.specs.declared.terms.Mode.TheVariants as modes
-use Rattle.wire.specs.Messages.{BodyData as Body, ViewChangeData as ViewChange, NewViewData as NewView, ClaimData as Claim, pre_prepare as PrePrepare, prepare as Prepare, commit as Commit, checkpoint as Checkpoint, view_change as Change, reply as Reply}
-use Rattle.protocol.specs.Frames.{said, mode_of}
+use Rattle.wire.specs.Messages.{BodyData as Body, FrameData as Frame, ProofData as Proof, MacData, macs, ViewChangeData as ViewChange, NewViewData as NewView, ClaimData as Claim, pre_prepare as PrePrepare, prepare as Prepare, commit as Commit, checkpoint as Checkpoint, view_change as Change, reply as Reply}
+use Rattle.protocol.specs.Frames.{frame_of, said, mode_of}
 use Rattle.protocol.specs.Trace.{Entry, party_of, Once, Always, Has, Hears}
 use Rattle.protocol.specs.Trace.Entry.{Invoke, Got, Tick, Executed, Installed, Sent, Accepted}
 use Rattle.protocol.specs.Selection.{is_quorum, is_weak_quorum, passes_by, count_in, vouches, agrees, may_stand_at, may_be_null, is_null, is_within, changes_of, how_many, Selects}
 use Rattle.protocol.specs.Certificates.{target, view, is_active_in, is_later, new_view_in, logged, low}
 use Rattle.reply_cache.specs.Replies.{Kept}
 use Rattle.protocol.specs.State.{State, Ran, opening, kept_of, last_time, runs, run_call, ran_call, kept_by, page_text}
-use Rattle.protocol.specs.RightReplica.{Point, Leaves, RightReplica, May, Moves, MaySay, MaySend, MayCheckpoint, MayPrepare, MayCommit, MayPrePrepare, MayReply, MayChange, RepliesTo, GetsPage}
-use Rattle.protocol.specs.RightClient.{RightClient, Vote, latest, is_alike, is_complete, MayAccept}
-use Rattle.protocol.specs.Refused.{Says, NoExecution, newest_number, HasFrom, SaysNothingAgainst, SaysForIt, SaysNothing, HeardReply, RepliesAfterExecution, NoCommitAfterChange, NoPrepareAfterChange, NoEarlyCheckpoint, OnePrePrepare, NoPrepareByPrimary, ExecutesNext, KeepsPrepared, InstallsWhatItHas, TakesWellSelected, TakesNoLower, RunsOnce, AcceptsAtQuorum}
+use Rattle.protocol.specs.RightReplica.{IsAddressed, Point, Leaves, RightReplica, May, Moves, MaySay, MaySend, MayCheckpoint, MayPrepare, MayCommit, MayPrePrepare, MayReply, MayChange, RepliesTo, GetsPage}
+use Rattle.protocol.specs.RightClient.{RightClient, Vote, latest, is_alike, count_alike}
+use Rattle.protocol.specs.Refused.{RepliesToItsClient, CommitsToAll, Says, NoExecution, newest_number, HasFrom, SaysNothingAgainst, SaysForIt, SaysNothing, RepliesAfterExecution, NoCommitAfterChange, NoPrepareAfterChange, NoEarlyCheckpoint, OnePrePrepare, NoPrepareByPrimary, ExecutesNext, KeepsPrepared, InstallsWhatItHas, TakesWellSelected, TakesNoLower, RunsOnce, AcceptsAtQuorum}
 use Rattle.protocol.proofs.Temporal.{once_weaker, once_stays_from}
 use Rattle.protocol.proofs.Options.{and_then_some, give_if_some, some_injective}
 use Rattle.protocol.proofs.Voting.{right_always, logged_stays}
 use Rattle.protocol.proofs.Marks.{selects, selected_in, takes}
 use Rattle.protocol.proofs.Lists.{has_some, every_has, passes_change, change_there, has_of_any, largest_of-has, stands_at, some_below}
+use Rattle.protocol.proofs.Reading.{latest_heard}
+use Rattle.protocol.proofs.Ordering.{latest_ordered}
+use Rattle.protocol.proofs.Legality.{executed_number}
 use Rattle.protocol.proofs.Changes.{change_target, target_grows}
 use Rattle.protocol.proofs.Offers.{offer_in, offers_kept, marks_above}
 use Rattle.protocol.proofs.Linking.{Speaks}
 use Rattle.protocol.proofs.Leaving.{none_kept}
-use Rattle.protocol.proofs.Legality.{executed_number}
-use Rattle.protocol.proofs.Reading.{latest_heard}
-use Rattle.protocol.proofs.Ordering.{latest_ordered}
 use Rattle.protocol.proofs.Keeping.{set_here}
 use Rattle.quorum.specs.Votes.{give_if}
 
@@ -138,9 +138,10 @@ no_prepare_by_primary c me v i digest bytes past says is right =
     let m : MayPrepare c me past v i digest = says_may c me bytes (record { sender = me; message = Prepare v i digest }) past right says in
     m.is_backup is
 
-newest_is : (c : Configuration) (me : ℕ) (xs : List Entry) (point : Point) → Leaves c me xs point → point.state.number ≡ newest_number xs
-newest_is c me [] point h = ap (λ (p : Point). p.state.number) h
-newest_is c me (e ∷ past) point h = go e h.2.may h.2.moves (newest_is c me past h.0 h.1)
+-- the state has the newest number
+newest_state : (c : Configuration) (me : ℕ) (xs : List Entry) (point : Point) → Leaves c me xs point → point.state.number ≡ newest_number xs
+newest_state c me [] point h = ap (λ (p : Point). p.state.number) h
+newest_state c me (e ∷ past) point h = go e h.2.may h.2.moves (newest_state c me past h.0 h.1)
   where
     go : (e : Entry) → May c me past h.0 e → Moves c me past h.0 e point → h.0.state.number ≡ newest_number past → point.state.number ≡ newest_number (e ∷ past)
     go (Got p bytes) may move was = ap (λ (q : Point). q.state.number) move ∙ was
@@ -148,14 +149,11 @@ newest_is c me (e ∷ past) point h = go e h.2.may h.2.moves (newest_is c me pas
     go (Sent p bytes) may move was = ap (λ (q : Point). q.state.number) move ∙ was
     go (Invoke x y z) may move was = absurd may
     go (Accepted x y z) may move was = absurd may
-    go (Executed x k batch) may move was = ap (λ (q : Point). q.state.number) move ∙ executed_number c h.0.state batch ∙ sym may.next
-    go (Installed x k root) may move was = move.number
+    go (Executed p k batch) may move was = ap (λ (q : Point). q.state.number) move ∙ executed_number c h.0.state batch ∙ sym may.next
+    go (Installed p k root) may move was = move.number
 
 pub executes_next : ExecutesNext
-executes_next c me k batch past right =
-    let a = right.1.2.may.next in
-    let b = newest_is c me past right.1.0 right.1.1 in
-    a ∙ ap suc b
+executes_next c me k batch past right = right.1.2.may.next ∙ ap suc (newest_state c me past right.1.0 right.1.1)
 
 pub keeps_prepared : KeepsPrepared
 keeps_prepared c me v i batch bytes vc past says new right prepared marks =
@@ -171,6 +169,48 @@ installs_what_it_has c me k i root past old new installed within differs = go (i
     go : (page_text new.state i ≡ page_text old.state i) ⊎ Once (GetsPage c me i (page_text new.state i)) past → Once (GetsPage c me i (page_text new.state i)) past
     go (inl same) = absurd (differs same)
     go (inr got) = got
+
+-- ---- whom a frame is for
+
+addressed : (c : Configuration) (me : ℕ) (bytes : List ℕ) (body : Body) (frame : Frame) (entries : List MacData) (past : List Entry) (right : RightReplica c me (Sent me bytes ∷ past)) → said bytes ≡ Some body
+    → frame_of bytes ≡ Some frame → frame.proof ≡ macs entries → IsAddressed c me past body.message (macs entries)
+addressed c me bytes body frame entries past right says is proof =
+    let m : MaySend c me past right.1.0 (Sent me bytes) bytes = right.1.2.may in
+    let same : m.body ≡ body = some_injective m.body body (sym m.says ∙ says) in
+    subst (λ (p : Proof). IsAddressed c me past body.message p) proof
+    (subst (λ (b : Body). IsAddressed c me past b.message frame.proof) same (m.is_sealed frame is).1)
+
+pub replies_to_its_client : RepliesToItsClient
+replies_to_its_client c me client timestamp number mode answer bytes frame entries past says is proof right =
+    addressed c me bytes (record { sender = me; message = Reply client timestamp mode number answer }) frame entries past right says is proof
+
+in_range : (n a s : ℕ) → a ≤ s → s < a + n → Has (λ r. r ≡ s) (range_with_len a n)
+in_range zero a s l h = absurd (omega arith)
+in_range (suc n) a s l h = go (a == s) refl (λ above. in_range n (a + 1) s above (omega arith))
+  where
+    go : (b : Bool) → (a == s) ≡ b → (a + 1 ≤ s → Has (λ r. r ≡ s) (range_with_len (a + 1) n)) → (a ≡ s) ⊎ Has (λ r. r ≡ s) (range_with_len (a + 1) n)
+    go true e below = inl (eqb-true a s e)
+    go false e below = let d = eqb-false a s e in inr (below (omega arith))
+
+kept_by_test : (test : ℕ → Bool) (xs : List ℕ) (s : ℕ) → test s ≡ true → Has (λ r. r ≡ s) xs → Has (λ r. r ≡ s) (filter test xs)
+kept_by_test test [] s t h = absurd h
+kept_by_test test (x ∷ xs) s t h = go (test x) refl h (kept_by_test test xs s t)
+  where
+    go : (b : Bool) → test x ≡ b → (x ≡ s) ⊎ Has (λ r. r ≡ s) xs → (Has (λ r. r ≡ s) xs → Has (λ r. r ≡ s) (filter test xs)) → Has (λ r. r ≡ s) (cond b (x ∷ filter test xs) (filter test xs))
+    go true e (inl k) below = inl k
+    go true e (inr k) below = inr (below k)
+    go false e (inl k) below = let same : test x ≡ test s = ap test k in let bad : false ≡ true = sym e ∙ same ∙ t in absurd cc
+    go false e (inr k) below = below k
+
+pub commits_to_all : CommitsToAll
+commits_to_all c me v i s digest bytes frame entries past says is proof within other right =
+    let e = addressed c me bytes (record { sender = me; message = Commit v i digest }) frame entries past right says is proof in
+    subst (λ (rs : List ℕ). Has (λ r. r ≡ s) rs) (sym e)
+    (kept_by_test (λ r. not (r == me)) (range_with_len 0 (replicas c)) s (differs (s == me) refl) (in_range (replicas c) 0 s (omega arith) (omega arith)))
+  where
+    differs : (b : Bool) → (s == me) ≡ b → not b ≡ true
+    differs true e = absurd (other (eqb-true s me e))
+    differs false e = refl
 
 -- ---- new views
 
@@ -302,29 +342,30 @@ runs_once st m n call small new = go (runs st call) new
 
 -- ---- clients
 
-own_past : (c : Configuration) (me : ℕ) (xs : List Entry) → RightClient c me xs → Always (λ past e. party_of e ≡ me) xs
-own_past c me [] h = tt
-own_past c me (e ∷ past) h = (h.0.0, own_past c me past h.1)
-
--- the latest reply of a replica was heard
-latest_kind : (c : Configuration) (me t s : ℕ) (read_only : Bool) (vote : Vote) (past : List Entry) → Always (λ past e. party_of e ≡ me) past → latest c me past t read_only s ≡ Some vote
-    → Once (Hears c me (record { sender = s; message = Reply me t (mode_of read_only) vote.number vote.answer })) past
-latest_kind c me t s true vote past own h = latest_heard c me t s vote past own h
-latest_kind c me t s false vote past own h = latest_ordered c me t s vote past own h
+own_parties : (c : Configuration) (me : ℕ) (xs : List Entry) → RightClient c me xs → Always (λ past e. party_of e ≡ me) xs
+own_parties c me [] r = tt
+own_parties c me (e ∷ xs) r = (r.0.0, own_parties c me xs r.1)
 
 pub accepts_at_quorum : AcceptsAtQuorum
 accepts_at_quorum c me k timestamp answer past right =
-    (mode_of m.1.read_only, m.1.number, λ s. is_alike m.1 (latest c me past timestamp m.1.read_only s),
-    leb-true (2 * c.faults + 1) (count_below (λ s. is_alike m.1 (latest c me past timestamp m.1.read_only s)) (3 * c.faults + 1)) (subst (λ (t : ℕ). is_complete c me past t m.1 ≡ true) m.3 m.6),
-    λ s h. heard s (latest c me past timestamp m.1.read_only s) refl h)
+    let m = right.0.1 in
+    let full = leb-true (2 * c.faults + 1) (count_alike c me past m.0.timestamp m.1) m.6 in
+    let enough = subst (λ (t : ℕ). 2 * c.faults + 1 ≤ count_alike c me past t m.1) m.3 full in
+    (mode_of m.1.read_only, m.1.number, λ s. is_alike m.1 (latest c me past timestamp m.1.read_only s), enough,
+    λ s h. answers s m.1 m.4 m.1.read_only (latest c me past timestamp m.1.read_only s) refl h)
   where
-    m : MayAccept c me past timestamp answer
-    m = right.0.1
+    own : Always (λ past e. party_of e ≡ me) past
+    own = own_parties c me past right.1
 
-    heard : (s : ℕ) (o : Option Vote) → latest c me past timestamp m.1.read_only s ≡ o → is_alike m.1 o ≡ true → HeardReply c me timestamp (mode_of m.1.read_only) m.1.number answer past s
-    heard s None is h = absurd cc
-    heard s (Some v) is h =
-        let q = and_parts (v.number == m.1.number) (bytes_eq (outcome_spelling v.answer) (outcome_spelling m.1.answer)) h in
-        let same : outcome_spelling v.answer ≡ outcome_spelling answer = (bytes_eq-Decides (outcome_spelling v.answer) (outcome_spelling m.1.answer)).0 q.1 ∙ ap outcome_spelling m.4 in
-        (v.answer, same, subst (λ (n : ℕ). Once (Hears c me (record { sender = s; message = Reply me timestamp (mode_of m.1.read_only) n v.answer })) past) (eqb-true v.number m.1.number q.0)
-        (latest_kind c me timestamp s m.1.read_only v past (own_past c me past right.1) is))
+    hears : (s : ℕ) (kind : Bool) (v : Vote) → latest c me past timestamp kind s ≡ Some v → Once (Hears c me (record { sender = s; message = Reply me timestamp (mode_of kind) v.number v.answer })) past
+    hears s true v is = latest_heard c me timestamp s v past own is
+    hears s false v is = latest_ordered c me timestamp s v past own is
+
+    answers : (s : ℕ) (vote : Vote) → vote.answer ≡ answer → (kind : Bool) (o : Option Vote) → latest c me past timestamp kind s ≡ o → is_alike vote o ≡ true
+        → (other : Outcome) × (outcome_spelling other ≡ outcome_spelling answer) × Once (Hears c me (record { sender = s; message = Reply me timestamp (mode_of kind) vote.number other })) past
+    answers s vote same kind None is h = absurd cc
+    answers s vote same kind (Some v) is h =
+        let q = and_parts (v.number == vote.number) (bytes_eq (outcome_spelling v.answer) (outcome_spelling vote.answer)) h in
+        let n : v.number ≡ vote.number = eqb-true v.number vote.number q.0 in
+        let spelled = (bytes_eq-Decides (outcome_spelling v.answer) (outcome_spelling vote.answer)).0 q.1 in
+        (v.answer, spelled ∙ ap outcome_spelling same, subst (λ (i : ℕ). Once (Hears c me (record { sender = s; message = Reply me timestamp (mode_of kind) i v.answer })) past) n (hears s kind v is))

@@ -11,7 +11,7 @@ use Rattle.protocol.specs.Trace.{Entry}
 use Rattle.protocol.specs.Trace.Entry.{Invoke, Got, Executed, Sent}
 use Rattle.protocol.specs.Selection.{signed_change, may_select}
 use Rattle.protocol.specs.Certificates.{are_genuine, Committed}
-use Rattle.protocol.specs.RightReplica.{RightReplica}
+use Rattle.protocol.specs.RightReplica.{RightReplica, others}
 use Rattle.protocol.specs.RightClient.{IsRequest}
 use Rattle.protocol.specs.Run.{IsRun}
 
@@ -29,10 +29,8 @@ pub record IsFirstBatch (c : Configuration) (batch pre_prepare own_prepare other
   pub commits : said own_commit ≡ Some (record { sender = 1; message = Commit 0 1 (sha256 batch) })
   pub first_commits : heard c 1 first_commit ≡ Some (record { sender = 0; message = Commit 0 1 (sha256 batch) })
   pub second_commits : heard c 1 second_commit ≡ Some (record { sender = 2; message = Commit 0 1 (sha256 batch) })
-  pub prepare_sealed : (frame : Frame) → frame_of own_prepare ≡ Some frame → IsSealed c frame
-  pub commit_sealed : (frame : Frame) → frame_of own_commit ≡ Some frame → IsSealed c frame
-  pub prepare_for : (frame : Frame) → frame_of own_prepare ≡ Some frame → receivers_of frame.proof ≡ 0 ∷ 2 ∷ 3 ∷ []
-  pub commit_for : (frame : Frame) → frame_of own_commit ≡ Some frame → receivers_of frame.proof ≡ 0 ∷ 2 ∷ 3 ∷ []
+  pub prepare_sealed : (frame : Frame) → frame_of own_prepare ≡ Some frame → IsSealed c frame × (receivers_of frame.proof ≡ others c 1)
+  pub commit_sealed : (frame : Frame) → frame_of own_commit ≡ Some frame → IsSealed c frame × (receivers_of frame.proof ≡ others c 1)
 
 -- its history, the newest first, up to the quorum of commits
 abbrev pub first_batch : List ℕ → List ℕ → List ℕ → List ℕ → List ℕ → List ℕ → List Entry

@@ -1,6 +1,6 @@
--- What a correct replica owes in an event: everything that the event's input brings about, and nothing where the input is
--- dropped (Castro and Liskov, TOCS 2002, sections 4.2 to 4.5). No law of agreement uses it. It speaks of the same states
--- as what the replica may do.
+-- What a correct replica owes in an event: all that the event's input brings about, until nothing more is due, and
+-- nothing where the input is dropped (Castro and Liskov, TOCS 2002, sections 4.2 to 4.5). No law of agreement uses it. It
+-- speaks of the same states as what the replica may do.
 use Rattle.std.specs.Prelude.{◌≡◌, ◌≢◌, ℕ, suc, ◌+◌, ◌%◌, ◌≤◌, ◌<◌, ◌⊎◌, Bool, true, false, ◌&&◌, List, [], ◌∷◌, ◌++◌, reverse, max, nat_lt, ◌==◌, if◌then◌else◌, Option, Some, None, is_some, option_and_then, ⊤}
 use Rattle.std.specs.List.{list_any}
 use Rattle.std.specs.Option.{option_map_or}
@@ -13,7 +13,7 @@ use Rattle.wire.specs.declared.terms.Mode.TheVariants as modes
 use Rattle.wire.specs.declared.terms.Level.{Level}
 use Rattle.wire.specs.declared.terms.Level.TheVariants as levels
 use Rattle.wire.specs.Spelling.{has_children}
-use Rattle.wire.specs.Messages.{BodyData as Body, FrameData as Frame, MessageData as Message, NewViewData as NewView, MarkData as Mark, request as Request, pre_prepare as PrePrepare, prepare as Prepare, commit as Commit, checkpoint as Checkpoint, view_change as Change, new_view as Begin, reply as Reply, fetch as Fetch, meta as Meta, page as Page}
+use Rattle.wire.specs.Messages.{BodyData as Body, MessageData as Message, NewViewData as NewView, MarkData as Mark, request as Request, pre_prepare as PrePrepare, prepare as Prepare, commit as Commit, checkpoint as Checkpoint, view_change as Change, new_view as Begin, reply as Reply, fetch as Fetch, meta as Meta, page as Page}
 use Rattle.wire.specs.Words.{requests_of}
 use Rattle.protocol.specs.Frames.{frame_of, said, heard, signed_body, receivers_of}
 use Rattle.protocol.specs.Trace.{Entry, party_of, Once, Has, Each, Hears}
@@ -35,10 +35,10 @@ IsSaying me message _ = ⊥
 abbrev pub Gives : ℕ → Message → List Entry → Type 0
 Gives me message outputs = Has (IsSaying me message) outputs
 
--- one of them is such a frame for this party alone
+-- one of them is a frame of this message for the replica s
 abbrev pub IsSayingTo : ℕ → ℕ → Message → Entry → Type 0
 IsSayingTo me s message (Sent p bytes) =
-    (said bytes ≡ Some (record { sender = me; message = message })) × ((frame : Frame) → frame_of bytes ≡ Some frame → receivers_of frame.proof ≡ s ∷ [])
+    (said bytes ≡ Some (record { sender = me; message = message })) × (option_map_or (λ frame. receivers_of frame.proof) (frame_of bytes) [] ≡ s ∷ [])
 IsSayingTo me s message _ = ⊥
 
 abbrev pub GivesTo : ℕ → ℕ → Message → List Entry → Type 0
@@ -57,15 +57,14 @@ fetch_sent _ = 0
 abbrev pub fetching : List Entry → ℕ
 fetching past = greatest fetch_sent past
 
--- the part of a checkpoint that a fetch asks for: number, level, index
-abbrev pub fetch_from : Body → Option (ℕ × Level × ℕ)
-fetch_from body = elim body.message [ Fetch k level index ↦ Some (k, level, index) | _ ↦ None ]
+abbrev pub place_from : Body → Option (ℕ × (Level × ℕ))
+place_from body = elim body.message [ Fetch k level index ↦ Some (k, (level, index)) | _ ↦ None ]
 
--- The part that was asked for last. One is awaited at a time.
-abbrev pub last_fetch : List Entry → Option (ℕ × Level × ℕ)
-last_fetch [] = None
-last_fetch (Sent p bytes ∷ past) = or_else (option_and_then fetch_from (said bytes)) (last_fetch past)
-last_fetch (_ ∷ past) = last_fetch past
+-- the place that was asked for last: one fetch is open at a time
+abbrev pub asked_last : List Entry → Option (ℕ × (Level × ℕ))
+asked_last [] = None
+asked_last (Sent p bytes ∷ past) = or_else (option_and_then place_from (said bytes)) (asked_last past)
+asked_last (_ ∷ past) = asked_last past
 
 -- ---- requests that a view has numbered
 
@@ -94,7 +93,7 @@ NumbersOnce c me past (Sent p bytes) =
     → (client timestamp : ℕ) → HasRequest c client timestamp batch → IsNumbered c me past v client timestamp → ⊥
 NumbersOnce c me past _ = ⊤
 
--- ---- inputs that count; all others are dropped
+-- ---- inputs that count; all others are dropped (whether a part has the digest that was asked for is told by the transfer)
 
 abbrev pub has_number : ℕ → List Mark → Bool
 has_number k marks = list_any (λ m. m.number == k) marks
@@ -103,12 +102,13 @@ has_number k marks = list_any (λ m. m.number == k) marks
 abbrev pub change_taken : Configuration → ℕ → ℕ → List ℕ → ℕ
 change_taken c v s bytes = option_map_or (λ x. if (x.0 == s) && nat_lt v x.1.view && is_within c x.1 then x.1.view else 0) (signed_change c bytes) 0
 
--- The same of what is got and of what is sent: the own view change that comes back is no newer one.
+-- got, or the own one, sent
 abbrev pub change_at : Configuration → List Entry → Entry → ℕ → ℕ
 change_at c past (Got p bytes) s = change_taken c (view c past) s bytes
 change_at c past (Sent p bytes) s = change_taken c (view c past) s bytes
 change_at c past _ s = 0
 
+-- the greatest of them
 abbrev pub latest_change : Configuration → List Entry → ℕ → ℕ
 latest_change c [] s = 0
 latest_change c (e ∷ past) s = max (latest_change c past s) (change_at c past e s)
@@ -117,7 +117,7 @@ latest_change c (e ∷ past) s = max (latest_change c past s) (change_at c past 
 abbrev pub IsNoOlder : List Call → ℕ → ℕ → Operation → Type 0
 IsNoOlder waiting client timestamp op = Each (λ call. call.client ≡ client → (call.timestamp < timestamp) ⊎ ((call.timestamp ≡ timestamp) × (call.op ≡ op))) waiting
 
--- A rule takes the message. That a part of another digest is dropped is left to the transfer's own contract.
+-- a rule takes the message
 abbrev pub Counts : Configuration → ℕ → List Entry → Point → List ℕ → ℕ → Message → Type 0
 Counts c me past point bytes s (Request t modes.ReadOnly op) = is_read_only op ≡ true
 Counts c me past point bytes s (Request t modes.Ordered op) =
@@ -132,8 +132,8 @@ Counts c me past point bytes s (Change vc) = (is_some (signed_body c bytes) ≡ 
 Counts c me past point bytes s (Begin new) = taken c past (Got me bytes) ≡ Some new
 Counts c me past point bytes s (Reply client t kind k answer) = ⊥
 Counts c me past point bytes s (Fetch k level index) = KeptState c me past point k (λ st. ⊤)
-Counts c me past point bytes s (Meta k level index digests) = (last_fetch past ≡ Some (k, level, index)) × (point.state.number < k)
-Counts c me past point bytes s (Page k index text) = (last_fetch past ≡ Some (k, levels.Page, index)) × (point.state.number < k)
+Counts c me past point bytes s (Meta k level index digests) = (asked_last past ≡ Some (k, (level, index))) × (point.state.number < k)
+Counts c me past point bytes s (Page k index text) = (asked_last past ≡ Some (k, (levels.Page, index))) × (point.state.number < k)
 
 abbrev pub IsDropped : Configuration → ℕ → List Entry → Point → List ℕ → Type 0
 IsDropped c me past point bytes = (body : Body) → heard c me bytes ≡ Some body → Counts c me past point bytes body.sender body.message → ⊥

@@ -1,14 +1,14 @@
 -- Small histories that the definitions refuse: what wrong replicas, primaries and clients would make.
-use Rattle.std.specs.Prelude.{◌≡◌, ◌≢◌, ℕ, suc, ◌+◌, ◌-◌, ◌*◌, ◌≤◌, ◌<◌, ◌⊎◌, Bool, true, List, [], ◌∷◌, length, slice_get, Some, ⊤}
+use Rattle.std.specs.Prelude.{◌≡◌, ◌≢◌, ℕ, suc, ◌+◌, ◌-◌, ◌*◌, ◌≤◌, ◌<◌, ◌⊎◌, true, Bool, List, [], ◌∷◌, length, map, slice_get, Some, ⊤}
 use Rattle.sha2.specs.Sha256.{sha256}
 use Rattle.tuple_codec.specs.Operations.{Outcome}
 use Rattle.tuple_codec.specs.Spelling.{outcome_spelling}
+use Rattle.wire.specs.declared.terms.Mode.{Mode}
 use Rattle.quorum.specs.Quorum.{count_below}
 use Rattle.protocol.specs.Configuration.{Configuration, replicas, primary}
-use Rattle.wire.specs.declared.terms.Mode.{Mode}
 use Rattle.wire.specs.declared.terms.Mode.TheVariants as modes
-use Rattle.wire.specs.Messages.{BodyData as Body, ViewChangeData as ViewChange, NewViewData as NewView, ClaimData as Claim, pre_prepare as PrePrepare, prepare as Prepare, commit as Commit, checkpoint as Checkpoint, view_change as Change, reply as Reply}
-use Rattle.protocol.specs.Frames.{said}
+use Rattle.wire.specs.Messages.{BodyData as Body, FrameData as Frame, MacData, macs, ViewChangeData as ViewChange, NewViewData as NewView, ClaimData as Claim, pre_prepare as PrePrepare, prepare as Prepare, commit as Commit, checkpoint as Checkpoint, view_change as Change, reply as Reply}
+use Rattle.protocol.specs.Frames.{frame_of, said}
 use Rattle.protocol.specs.Trace.{Entry, Once, Always, Has, Hears}
 use Rattle.protocol.specs.Trace.Entry.{Executed, Installed, Sent, Accepted}
 use Rattle.protocol.specs.Selection.{changes_of}
@@ -70,14 +70,14 @@ NoPrepareByPrimary =
     → said bytes ≡ Some (record { sender = me; message = Prepare v i digest })
     → primary c v ≡ me → RightReplica c me (Sent me bytes ∷ past) → ⊥
 
--- the number of the newest execution or installation, first 0
+-- the number that was executed or installed last, first 0
 abbrev pub newest_number : List Entry → ℕ
 newest_number [] = 0
 newest_number (Executed r k batch ∷ past) = k
 newest_number (Installed r k root ∷ past) = k
 newest_number (_ ∷ past) = newest_number past
 
--- An execution that skips a number, or goes back, whatever stands between.
+-- An execution that skips a number, or goes back.
 abbrev pub ExecutesNext : Type 0
 ExecutesNext =
     (c : Configuration) (me k : ℕ) (batch : List ℕ) (past : List Entry)
@@ -97,6 +97,24 @@ InstallsWhatItHas =
     (c : Configuration) (me k i : ℕ) (root : List ℕ) (past : List Entry) (old new : Point)
     → IsInstalled c me past old k root new → i < 1024 → page_text new.state i ≢ page_text old.state i
     → Once (GetsPage c me i (page_text new.state i)) past
+
+-- ---- whom a frame is for
+
+-- A reply that is sealed for another than its client.
+abbrev pub RepliesToItsClient : Type 0
+RepliesToItsClient =
+    (c : Configuration) (me client timestamp number : ℕ) (mode : Mode) (answer : Outcome) (bytes : List ℕ) (frame : Frame) (entries : List MacData) (past : List Entry)
+    → said bytes ≡ Some (record { sender = me; message = Reply client timestamp mode number answer })
+    → frame_of bytes ≡ Some frame → frame.proof ≡ macs entries → RightReplica c me (Sent me bytes ∷ past)
+    → map (λ x. x.receiver) entries ≡ client ∷ []
+
+-- A commit that is not sealed for each other replica.
+abbrev pub CommitsToAll : Type 0
+CommitsToAll =
+    (c : Configuration) (me v i s : ℕ) (digest bytes : List ℕ) (frame : Frame) (entries : List MacData) (past : List Entry)
+    → said bytes ≡ Some (record { sender = me; message = Commit v i digest })
+    → frame_of bytes ≡ Some frame → frame.proof ≡ macs entries → s < replicas c → s ≢ me → RightReplica c me (Sent me bytes ∷ past)
+    → Has (λ r. r ≡ s) (map (λ x. x.receiver) entries)
 
 -- ---- a new view
 
@@ -150,16 +168,12 @@ RunsOnce =
 
 -- ---- a client
 
--- the replica's reply of this kind and number was heard, with this answer (outcomes of one spelling are one)
-abbrev pub HeardReply : Configuration → ℕ → ℕ → Mode → ℕ → Outcome → List Entry → ℕ → Type 0
-HeardReply c me timestamp mode number answer past s =
-    (other : Outcome) × (outcome_spelling other ≡ outcome_spelling answer) × Once (Hears c me (record { sender = s; message = Reply me timestamp mode number other })) past
-
--- An acceptance at fewer replies than those of 2f + 1 different replicas, or at replies of different kinds, numbers or
--- answers.
+-- An acceptance at f + 1 replies alike, at one replica's reply that comes again, or with replies of different numbers:
+-- 2f + 1 different replicas were heard, and answered the call in one mode, with one number and one answer.
 abbrev pub AcceptsAtQuorum : Type 0
 AcceptsAtQuorum =
     (c : Configuration) (me k timestamp : ℕ) (answer : Outcome) (past : List Entry)
     → RightClient c me (Accepted k timestamp answer ∷ past)
     → (mode : Mode) × (number : ℕ) × (from : ℕ → Bool) × (2 * c.faults + 1 ≤ count_below from (replicas c))
-    × ((s : ℕ) → from s ≡ true → HeardReply c me timestamp mode number answer past s)
+    × ((s : ℕ) → from s ≡ true → (other : Outcome) × (outcome_spelling other ≡ outcome_spelling answer)
+        × Once (Hears c me (record { sender = s; message = Reply me timestamp mode number other })) past)

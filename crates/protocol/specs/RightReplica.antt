@@ -12,7 +12,7 @@ use Rattle.wire.specs.declared.terms.Mode.{Mode}
 use Rattle.wire.specs.declared.terms.Mode.TheVariants as modes
 use Rattle.wire.specs.declared.terms.Level.{Level}
 use Rattle.wire.specs.declared.terms.Level.TheVariants as levels
-use Rattle.wire.specs.Messages.{BodyData as Body, FrameData as Frame, MessageData as Message, ViewChangeData as ViewChange, NewViewData as NewView, MarkData as Mark, ClaimData as Claim, request as Request, pre_prepare as PrePrepare, prepare as Prepare, commit as Commit, checkpoint as Checkpoint, view_change as Change, new_view as Begin, reply as Reply, fetch as Fetch, meta as Meta, page as Page}
+use Rattle.wire.specs.Messages.{BodyData as Body, FrameData as Frame, MessageData as Message, ProofData as Proof, macs, signature, ViewChangeData as ViewChange, NewViewData as NewView, MarkData as Mark, ClaimData as Claim, request as Request, pre_prepare as PrePrepare, prepare as Prepare, commit as Commit, checkpoint as Checkpoint, view_change as Change, new_view as Begin, reply as Reply, fetch as Fetch, meta as Meta, page as Page}
 use Rattle.wire.specs.Words.{carried, requests_of}
 use Rattle.protocol.specs.Frames.{frame_of, said, heard, IsSealed, receivers_of}
 use Rattle.protocol.specs.Trace.{Entry, party_of, Once, Has, Each, frames_in, Hears}
@@ -47,10 +47,13 @@ abbrev pub GetsPage : Configuration → ℕ → ℕ → List ℕ → List Entry 
 GetsPage c me i text past (Got p bytes) = (sender number : ℕ) × (heard c me bytes ≡ Some (record { sender = sender; message = Page number i text }))
 GetsPage c me i text past _ = ⊥
 
--- a part of a checkpoint was asked for
-abbrev pub GetsFetch : Configuration → ℕ → ℕ → Level → ℕ → List Entry → Entry → Type 0
-GetsFetch c me k level index past (Got p bytes) = (sender : ℕ) × (heard c me bytes ≡ Some (record { sender = sender; message = Fetch k level index }))
-GetsFetch c me k level index past _ = ⊥
+-- a part of a checkpoint was asked for by the replica s
+abbrev pub GetsFetch : Configuration → ℕ → ℕ → ℕ → Level → ℕ → List Entry → Entry → Type 0
+GetsFetch c me s k level index past (Got p bytes) = heard c me bytes ≡ Some (record { sender = s; message = Fetch k level index })
+GetsFetch c me s k level index past _ = ⊥
+
+abbrev pub WasAsked : Configuration → ℕ → List Entry → ℕ → ℕ → Level → ℕ → Type 0
+WasAsked c me past s k level index = Once (GetsFetch c me s k level index) past
 
 -- ---- what stands between entries
 
@@ -228,11 +231,11 @@ digests_at st levels.Page index = []
 
 abbrev pub MayMeta : Configuration → ℕ → List Entry → Point → ℕ → Level → ℕ → List (List ℕ) → Type 0
 MayMeta c me past point k level index digests =
-    KeptState c me past point k (λ st. digests ≡ digests_at st level index) × Once (GetsFetch c me k level index) past
+    KeptState c me past point k (λ st. digests ≡ digests_at st level index) × ((s : ℕ) × WasAsked c me past s k level index)
 
 abbrev pub MayPage : Configuration → ℕ → List Entry → Point → ℕ → ℕ → List ℕ → Type 0
 MayPage c me past point k index text =
-    KeptState c me past point k (λ st. text ≡ page_text st index) × Once (GetsFetch c me k levels.Page index) past
+    KeptState c me past point k (λ st. text ≡ page_text st index) × ((s : ℕ) × WasAsked c me past s k levels.Page index)
 
 abbrev pub MaySay : Configuration → ℕ → List Entry → Point → Entry → List ℕ → Message → Type 0
 MaySay c me past point e bytes (Request timestamp mode op) = ⊥
@@ -247,32 +250,31 @@ MaySay c me past point e bytes (Fetch k level index) = ⊤
 MaySay c me past point e bytes (Meta k level index digests) = MayMeta c me past point k level index digests
 MaySay c me past point e bytes (Page k index text) = MayPage c me past point k index text
 
--- all replicas but this one
+-- ---- whom a frame is for
+
 abbrev pub others : Configuration → ℕ → List ℕ
 others c me = filter (λ r. not (r == me)) (range_with_len 0 (replicas c))
 
-abbrev pub HeardFetch : Configuration → ℕ → List Entry → ℕ → ℕ → Level → ℕ → Type 0
-HeardFetch c me past s k level index = Once (Hears c me (record { sender = s; message = Fetch k level index })) past
-
--- Whom a message is for: a reply its client, a part of a checkpoint one replica that asked for it, all else the other
--- replicas. What is signed anyone can check.
+-- a reply is for its client, a part for a replica that asked for it, all else for the other replicas
 abbrev pub IsFor : Configuration → ℕ → List Entry → Message → List ℕ → Type 0
-IsFor c me past (Reply client timestamp kind number answer) receivers = receivers ≡ client ∷ []
-IsFor c me past (Meta k level index digests) receivers = (s : ℕ) × (receivers ≡ s ∷ []) × HeardFetch c me past s k level index
-IsFor c me past (Page k index text) receivers = (s : ℕ) × (receivers ≡ s ∷ []) × HeardFetch c me past s k levels.Page index
-IsFor c me past (Change vc) receivers = ⊤
-IsFor c me past (Begin new) receivers = ⊤
+IsFor c me past (Reply client timestamp mode number answer) receivers = receivers ≡ client ∷ []
+IsFor c me past (Meta k level index digests) receivers = (s : ℕ) × (receivers ≡ s ∷ []) × WasAsked c me past s k level index
+IsFor c me past (Page k index text) receivers = (s : ℕ) × (receivers ≡ s ∷ []) × WasAsked c me past s k levels.Page index
 IsFor c me past _ receivers = receivers ≡ others c me
 
--- a frame of the replica's own, sealed or signed for those that it is for, over frames that it has seen
+-- MACs are for those; a signature is for all
+abbrev pub IsAddressed : Configuration → ℕ → List Entry → Message → Proof → Type 0
+IsAddressed c me past message (macs entries) = IsFor c me past message (receivers_of (macs entries))
+IsAddressed c me past message (signature s) = ⊤
+
+-- a frame of the replica's own, sealed for those it is for, or signed, over frames that it has seen
 pub record MaySend (c : Configuration) (me : ℕ) (past : List Entry) (point : Point) (e : Entry) (bytes : List ℕ) : Type 0 where
   pub body : Body
   pub says : said bytes ≡ Some body
   pub own : body.sender ≡ me
   pub seen : Each (λ frame. Once (HasSeen frame) past) (carried body.message)
   pub say : MaySay c me past point e bytes body.message
-  pub is_sealed : (frame : Frame) → frame_of bytes ≡ Some frame → IsSealed c frame
-  pub is_for : (frame : Frame) → frame_of bytes ≡ Some frame → IsFor c me past body.message (receivers_of frame.proof)
+  pub is_sealed : (frame : Frame) → frame_of bytes ≡ Some frame → IsSealed c frame × IsAddressed c me past body.message frame.proof
 
 -- ---- what may be executed and installed
 

@@ -1,6 +1,6 @@
 //! Laws that show what the definitions refuse: each is a small history, or a part of one, that a wrong body would make.
 
-ghost use Rattle.protocol.specs.Refused.{RepliesAfterExecution, NoCommitAfterChange, NoPrepareAfterChange, NoEarlyCheckpoint, OnePrePrepare, NoPrepareByPrimary, ExecutesNext, KeepsPrepared, InstallsWhatItHas, TakesWellSelected, TakesNoLower, RunsOnce, AcceptsAtQuorum};
+ghost use Rattle.protocol.specs.Refused.{RepliesAfterExecution, NoCommitAfterChange, NoPrepareAfterChange, NoEarlyCheckpoint, OnePrePrepare, NoPrepareByPrimary, ExecutesNext, KeepsPrepared, InstallsWhatItHas, RepliesToItsClient, CommitsToAll, TakesWellSelected, TakesNoLower, RunsOnce, AcceptsAtQuorum};
 
 /// A right replica sends no ordered reply before anything is executed, no commit or prepare of a view after a view change
 /// above it, no checkpoint of a number that it never executed, no second pre-prepare of a number of a view, and no
@@ -22,6 +22,12 @@ pub fn right_replicas_do_not_skip()
     ensures installs { InstallsWhatItHas }
 {}
 
+/// A right replica seals a reply for its client alone, and a commit for each other replica.
+pub fn right_replicas_address_all()
+    ensures replies { RepliesToItsClient }
+    ensures commits { CommitsToAll }
+{}
+
 /// A new view is not taken over too few view changes, over some for another view, if it leaves out a number prepared in
 /// one of them, with a batch against which a quorum is not silent or for which no `f + 1` replicas vouch, or below a view
 /// change that was sent.
@@ -35,7 +41,7 @@ pub fn requests_run_once()
     ensures once { RunsOnce }
 {}
 
-/// A right client accepts where `2f + 1` different replicas have replied alike in kind, number and answer.
+/// A right client accepts only where `2f + 1` different replicas answered the call alike, in mode, number and answer.
 pub fn right_clients_wait()
     ensures quorum { AcceptsAtQuorum }
 {}
