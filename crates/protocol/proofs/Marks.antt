@@ -9,7 +9,7 @@ use Rattle.protocol.specs.Frames.{said, signed_body}
 use Rattle.protocol.specs.Trace.{Entry}
 use Rattle.protocol.specs.Trace.Entry.{Invoke, Got, Tick, Executed, Installed, Sent, Accepted}
 use Rattle.protocol.specs.Certificates.{view, view_after, target, taken, new_view_in, new_view_from, low, batch_begun, is_later}
-use Rattle.protocol.specs.Selection.{may_select, largest, largest_of, changes_of, may_all_stand, is_within, Selects, is_claim_within, how_many, is_start, is_mark_within, ascending, is_quorum, count_in}
+use Rattle.protocol.specs.Selection.{may_select, largest, largest_of, changes_of, may_all_stand, is_within, is_claim_within, how_many, is_start, is_mark_within, ascending, is_quorum, count_in}
 use Rattle.protocol.proofs.Options.{and_then_some, give_if_some}
 use Rattle.quorum.specs.Votes.{give_if}
 use Rattle.std.specs.List.{list_all}
@@ -120,7 +120,16 @@ largest_of-small c view limit (x ∷ xs) h =
     let b = largest_of-small c view limit xs p.1 in
     omega arith
 
--- the rules that a new view meets
+-- the rules that a new view meets, one by one
+pub record Selects (c : Configuration) (new : NewView) : Type 0 where
+  pub signed : (length (changes_of c new) == length new.changes) ≡ true
+  pub enough : is_quorum c (count_in c (λ vc. true) (changes_of c new)) ≡ true
+  pub in_order : ascending (changes_of c new) ≡ true
+  pub each : list_all (λ x. (x.1.view == new.view) && is_within c x.1) (changes_of c new) ≡ true
+  pub start : is_start c (changes_of c new) new.start new.root ≡ true
+  pub long : (length new.batches == how_many c new) ≡ true
+  pub stand : may_all_stand c new.view (changes_of c new) (suc new.start) new.batches ≡ true
+
 pub selects : (c : Configuration) (new : NewView) → may_select c new ≡ true → Selects c new
 unfolding may_select
 selects c new h =

@@ -227,22 +227,8 @@ invoke_behind p (Executed x y z ∷ past) = let r = invoke_behind p past in (Exe
 invoke_behind p (Installed x y z ∷ past) = let r = invoke_behind p past in (Installed x y z ∷ r.0, ap (λ t. Installed x y z ∷ t) r.1)
 invoke_behind p (Accepted x y z ∷ past) = let r = invoke_behind p past in (Accepted x y z ∷ r.0, ap (λ t. Accepted x y z ∷ t) r.1)
 
-invoked_length : (p : ℕ) (xs : List Entry) → invoked_at p xs ≡ length (invoke_past p xs)
-invoked_length p [] = refl
-invoked_length p (Invoke client t op ∷ past) = go (256 + client == p) (invoked_length p past)
-  where
-    go : (b : Bool) → invoked_at p past ≡ length (invoke_past p past) → cond b (length past) (invoked_at p past) ≡ length (cond b past (invoke_past p past))
-    go true h = refl
-    go false h = h
-invoked_length p (Got x y ∷ past) = invoked_length p past
-invoked_length p (Tick x ∷ past) = invoked_length p past
-invoked_length p (Sent x y ∷ past) = invoked_length p past
-invoked_length p (Executed x y z ∷ past) = invoked_length p past
-invoked_length p (Installed x y z ∷ past) = invoked_length p past
-invoked_length p (Accepted x y z ∷ past) = invoked_length p past
-
 invoked_within : (p : ℕ) (xs : List Entry) → invoked_at p xs ≤ length xs
-invoked_within p xs = let r = invoke_behind p xs in let l = length_behind r.0 (invoke_past p xs) in let e = ap length r.1 in let m = invoked_length p xs in omega arith
+invoked_within p xs = let r = invoke_behind p xs in let l = length_behind r.0 (invoke_past p xs) in let e = ap length r.1 in omega arith
 
 -- each invocation stands at or before the latest
 invoked_by : (p t : ℕ) (op : Operation) (xs : List Entry) → Once (Invokes p t op) xs → Once (λ past e. Invokes p t op past e × (length past ≤ invoked_at p xs)) xs
@@ -251,7 +237,7 @@ invoked_by p t op (Invoke client time o ∷ past) (inl h) = inl (h, rw (eq-eqb (
 invoked_by p t op (Invoke client time o ∷ past) (inr h) = inr (go (256 + client == p) (invoked_by p t op past h) (once_within (Invokes p t op) past h))
   where
     go : (b : Bool) → Once (λ past' e. Invokes p t op past' e × (length past' ≤ invoked_at p past)) past → Once (λ past' e. Invokes p t op past' e × (length past' < length past)) past
-        → Once (λ past' e. Invokes p t op past' e × (length past' ≤ cond b (length past) (invoked_at p past))) past
+        → Once (λ past' e. Invokes p t op past' e × (length past' ≤ length (cond b past (invoke_past p past)))) past
     go true below near = once_weaker (λ past' e. Invokes p t op past' e × (length past' < length past)) (λ past' e. Invokes p t op past' e × (length past' ≤ length past)) (λ past' e u. (u.0, let l = u.1 in omega arith)) past near
     go false below near = below
 invoked_by p t op (Got x y ∷ past) (inl h) = absurd h
@@ -306,7 +292,6 @@ module _ (c : Configuration) (trace : List Entry) (run : Run c trace) (later pas
           let r = invoke_behind p past in
           let shape : trace ≡ (later ++ e ∷ r.0) ++ invoke_past p past =
           is ∙ ap (λ (ys : List Entry). later ++ e ∷ ys) r.1 ∙ sym (append_assoc later (e ∷ r.0) (invoke_past p past)) in
-          let n = invoked_length p past in
           let near : q < length (invoke_past p past) = omega arith in
           let up : is_level c (invoke_past p past) k ≡ true = level_behind c (later ++ e ∷ r.0) (invoke_past p past) k q (subst (λ (ys : List Entry). first_position c ys k ≡ Some q) shape h) near in
           absurd (read_before c past p t a x kind k l up)

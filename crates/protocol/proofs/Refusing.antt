@@ -15,7 +15,7 @@ use Rattle.wire.specs.Messages.{BodyData as Body, FrameData as Frame, ProofData 
 use Rattle.protocol.specs.Frames.{frame_of, said, mode_of}
 use Rattle.protocol.specs.Trace.{Entry, party_of, Once, Always, Has, Hears}
 use Rattle.protocol.specs.Trace.Entry.{Invoke, Got, Tick, Executed, Installed, Sent, Accepted}
-use Rattle.protocol.specs.Selection.{is_quorum, is_weak_quorum, passes_by, count_in, vouches, agrees, may_stand_at, may_be_null, is_null, is_within, changes_of, how_many, Selects}
+use Rattle.protocol.specs.Selection.{is_quorum, is_weak_quorum, passes_by, count_in, vouches, agrees, may_stand_at, may_be_null, is_null, is_within, changes_of, how_many}
 use Rattle.protocol.specs.Certificates.{target, view, is_active_in, is_later, new_view_in, logged, low}
 use Rattle.reply_cache.specs.Replies.{Kept}
 use Rattle.protocol.specs.State.{State, Ran, opening, kept_of, last_time, runs, run_call, ran_call, kept_by, page_text}
@@ -25,7 +25,7 @@ use Rattle.protocol.specs.Refused.{RepliesToItsClient, CommitsToAll, Says, NoExe
 use Rattle.protocol.proofs.Temporal.{once_weaker, once_stays_from}
 use Rattle.protocol.proofs.Options.{and_then_some, give_if_some, some_injective}
 use Rattle.protocol.proofs.Voting.{right_always, logged_stays}
-use Rattle.protocol.proofs.Marks.{selects, selected_in, takes}
+use Rattle.protocol.proofs.Marks.{Selects, selects, selected_in, takes}
 use Rattle.protocol.proofs.Lists.{has_some, every_has, passes_change, change_there, has_of_any, largest_of-has, stands_at, some_below}
 use Rattle.protocol.proofs.Reading.{latest_heard}
 use Rattle.protocol.proofs.Ordering.{latest_ordered}

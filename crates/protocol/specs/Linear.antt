@@ -152,16 +152,15 @@ ordered_points c trace st k (suc more) =
     option_map_or (λ position. map (ordered_point position k) (ran_in c k st (requests_of (batch_of trace k)))) (first_position c trace k) []
     ++ ordered_points c trace (execute c st (batch_of trace k)) (suc k) more
 
--- the past of the client's latest invocation, and its position
+-- the past of the client's latest invocation
 abbrev pub invoke_past : ℕ → List Entry → List Entry
 invoke_past p [] = []
 invoke_past p (Invoke client t op ∷ past) = if 256 + client == p then past else invoke_past p past
 invoke_past p (_ ∷ past) = invoke_past p past
 
+-- its position
 abbrev pub invoked_at : ℕ → List Entry → ℕ
-invoked_at p [] = 0
-invoked_at p (Invoke client t op ∷ past) = if 256 + client == p then length past else invoked_at p past
-invoked_at p (_ ∷ past) = invoked_at p past
+invoked_at p past = length (invoke_past p past)
 
 -- the read that an acceptance ends, where its replies were read-only
 abbrev pub read_point : Configuration → List Entry → ℕ → OpenCall → Outcome → List Entry → Vote → Option Point
@@ -186,7 +185,8 @@ read_points c trace (Accepted client timestamp answer ∷ past) =
     ++ read_points c trace past
 read_points c trace (_ ∷ past) = read_points c trace past
 
--- by position, number, ordered before read-only, and then client and timestamp of reads
+-- By position, number, ordered before read-only, and then client and timestamp of reads. Of two ordered ones of a batch the
+-- one that stands first comes first, so they stay in their order.
 abbrev pub comes_before : Point → Point → Bool
 comes_before x y =
     nat_lt x.item.position y.item.position || ((x.item.position == y.item.position)

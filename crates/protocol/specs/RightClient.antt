@@ -122,8 +122,8 @@ reaction c me (Got p bytes ∷ past) = option_map_or (on_got c me (Got p bytes �
 reaction c me (Tick p ∷ past) = option_map_or (asks false) (open_call past) nothing
 reaction c me (_ ∷ past) = nothing
 
--- ---- the weak client, which the first one is: every operation is ordered, and f + 1 replies of one answer are enough,
--- whatever their numbers
+-- ---- the weak client, which the first one is: every operation is ordered, and f + 1 ordered replies of one answer are
+-- enough, whatever their numbers
 
 abbrev pub is_same_answer : Vote → Option Vote → Bool
 is_same_answer vote other = option_map_or (λ o. bytes_eq (outcome_spelling o.answer) (outcome_spelling vote.answer)) other false

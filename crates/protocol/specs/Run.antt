@@ -18,18 +18,18 @@ Follows (before ∷ past) e = is_output e ≡ true → party_of before ≡ party
 
 -- Each correct replica's history is right and prompt, or it stopped; each correct client's is a client's; no others have
 -- entries; and the outputs of an event follow its input before the next.
-pub record IsRun (c : Configuration) (trace : List Entry) : Type 0 where
+pub record IsRunOf (IsIts : ℕ → List Entry → Type 0) (c : Configuration) (trace : List Entry) : Type 0 where
   pub replicas : (p : ℕ) → is_correct_replica c p ≡ true → IsReplica c p (history_of p trace)
-  pub clients : (p : ℕ) → is_correct_client c p ≡ true → IsClient c p (history_of p trace)
+  pub clients : (p : ℕ) → is_correct_client c p ≡ true → IsIts p (history_of p trace)
   pub parties : Always (λ past e. is_correct c (party_of e) ≡ true) trace
   pub events : Always Follows trace
 
+abbrev pub IsRun : Configuration → List Entry → Type 0
+IsRun c trace = IsRunOf (IsClient c) c trace
+
 -- a run of the first client, which accepts at f + 1 replies of one answer
-pub record IsWeakRun (c : Configuration) (trace : List Entry) : Type 0 where
-  pub replicas : (p : ℕ) → is_correct_replica c p ≡ true → IsReplica c p (history_of p trace)
-  pub clients : (p : ℕ) → is_correct_client c p ≡ true → IsWeakClient c p (history_of p trace)
-  pub parties : Always (λ past e. is_correct c (party_of e) ≡ true) trace
-  pub events : Always Follows trace
+abbrev pub IsWeakRun : Configuration → List Entry → Type 0
+IsWeakRun c trace = IsRunOf (IsWeakClient c) c trace
 
 -- Over every run of a valid configuration that is unforged and whose texts do not collide, the points are legal, cover the
 -- trace and are placed: the answers that correct clients accept, of reads and writes alike, are those of one sequential

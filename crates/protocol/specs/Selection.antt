@@ -85,10 +85,14 @@ may_be_null c set number =
 abbrev pub is_null : List ℕ → Bool
 is_null batch = bytes_eq batch (0 ∷ [])
 
+-- some number below passes
+abbrev pub is_some_below : (ℕ → Bool) → ℕ → Bool
+is_some_below test n = nat_lt 0 (count_below test n)
+
 -- by some earlier view, or as the null batch
 abbrev pub may_stand : Configuration → ℕ → List (ℕ × ViewChange) → ℕ → List ℕ → Bool
 may_stand c view set number batch =
-    nat_lt 0 (count_below (may_stand_at c set number (sha256 batch)) view) || (is_null batch && may_be_null c set number)
+    is_some_below (may_stand_at c set number (sha256 batch)) view || (is_null batch && may_be_null c set number)
 
 -- each batch may stand at its number, from the given one on
 abbrev pub may_all_stand : Configuration → ℕ → List (ℕ × ViewChange) → ℕ → List (List ℕ) → Bool
@@ -113,21 +117,27 @@ ascending (x ∷ y ∷ xs) = nat_lt x.0 y.0 && ascending (y ∷ xs)
 abbrev pub how_many : Configuration → NewView → ℕ
 how_many c new = max (largest_of (new.start + span c) (changes_of c new)) new.start - new.start
 
--- The rules of a new view, each by its name.
-pub record Selects (c : Configuration) (new : NewView) : Type 0 where
-  pub signed : (length (changes_of c new) == length new.changes) ≡ true
-  pub enough : is_quorum c (count_in c (λ vc. true) (changes_of c new)) ≡ true
-  pub in_order : ascending (changes_of c new) ≡ true
-  pub each : list_all (λ x. (x.1.view == new.view) && is_within c x.1) (changes_of c new) ≡ true
-  pub start : is_start c (changes_of c new) new.start new.root ≡ true
-  pub long : (length new.batches == how_many c new) ≡ true
-  pub stand : may_all_stand c new.view (changes_of c new) (suc new.start) new.batches ≡ true
+-- ---- the rules of a new view, each by its name
+
+-- what it carries is view changes alone, and their signatures verify
+abbrev pub all_signed : Configuration → NewView → Bool
+all_signed c new = length (changes_of c new) == length new.changes
+
+-- a quorum of different replicas has one there
+abbrev pub are_enough : Configuration → NewView → Bool
+are_enough c new = is_quorum c (count_in c (λ vc. true) (changes_of c new))
+
+-- each is for the view, and within its bounds
+abbrev pub all_within : Configuration → NewView → Bool
+all_within c new = list_all (λ x. (x.1.view == new.view) && is_within c x.1) (changes_of c new)
+
+abbrev pub has_length : Configuration → NewView → Bool
+has_length c new = length new.batches == how_many c new
 
 -- whether all of them hold
 unfoldable pub may_select : Configuration → NewView → Bool
 may_select c new =
-    (length (changes_of c new) == length new.changes) && is_quorum c (count_in c (λ vc. true) (changes_of c new)) && ascending (changes_of c new)
-    && list_all (λ x. (x.1.view == new.view) && is_within c x.1) (changes_of c new)
+    all_signed c new && are_enough c new && ascending (changes_of c new) && all_within c new
     && is_start c (changes_of c new) new.start new.root
-    && (length new.batches == how_many c new)
+    && has_length c new
     && may_all_stand c new.view (changes_of c new) (suc new.start) new.batches
