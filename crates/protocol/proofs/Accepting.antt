@@ -16,7 +16,7 @@ use Rattle.space.specs.Applying.{is_read_only, outcome}
 use Rattle.protocol.specs.State.{State, Ran, opening, tuples, kept_of, execute}
 use Rattle.reply_cache.specs.Replies.{Kept}
 use Rattle.protocol.specs.RightReplica.{Leaves, MaySay, MayReply}
-use Rattle.protocol.specs.RightClient.{RightClient, OpenCall, open_call, last_call, Vote, latest, is_alike, count_alike, newest_vote, MayAccept, vote_of}
+use Rattle.protocol.specs.RightClient.{SafeClient, OpenCall, open_call, last_call, Vote, latest, is_alike, count_alike, newest_vote, MayAccept, vote_of}
 use Rattle.protocol.specs.Texts.{ExecutesBatch}
 use Rattle.protocol.specs.Linear.{batch_of, first_position, is_level, Invokes, Accepts}
 use Rattle.quorum.specs.Votes.{give_if, or_else}
@@ -45,12 +45,12 @@ use Rattle.protocol.specs.Linear.{invoke_past}
 
 pub record FullRun (c : Configuration) (xs : List Entry) : Type 0 where
   pub run : Run c xs
-  pub right : (p : ℕ) → is_correct_client c p ≡ true → RightClient c p (history_of p xs)
+  pub right : (p : ℕ) → is_correct_client c p ≡ true → SafeClient c p (history_of p xs)
 
 pub full_earlier : (c : Configuration) (e : Entry) (xs : List Entry) → FullRun c (e ∷ xs) → FullRun c xs
 full_earlier c e xs f = record { run = run_earlier c e xs f.run; right = λ p h. go p (party_of e == p) (f.right p h) }
   where
-    go : (p : ℕ) (b : Bool) → RightClient c p (cond b (e ∷ history_of p xs) (history_of p xs)) → RightClient c p (history_of p xs)
+    go : (p : ℕ) (b : Bool) → SafeClient c p (cond b (e ∷ history_of p xs) (history_of p xs)) → SafeClient c p (history_of p xs)
     go p true h = h.1
     go p false h = h
 
@@ -63,7 +63,7 @@ full_part c (e ∷ later) xs f = full_part c later xs (full_earlier c e (later +
 pub record Accepting (c : Configuration) (past : List Entry) (p t : ℕ) (a : Outcome) : Type 0 where
   pub client : is_correct_client c p ≡ true
   pub run : Run c past
-  pub right : RightClient c p (history_of p past)
+  pub right : SafeClient c p (history_of p past)
   pub call : OpenCall
   pub vote : Vote
   pub opened : open_call (history_of p past) ≡ Some call
@@ -97,7 +97,7 @@ accepting c past cl t a full = go (is_correct_replica c (256 + cl)) refl full.ru
           subst (λ (i : ℕ). 2 * c.faults + 1 ≤ count_below (λ s. is_alike m.1 (latest c (256 + cl) (history_of (256 + cl) past) i m.1.read_only s)) (3 * c.faults + 1)) m.3 q;
     }
 
-    head : (b : Bool) → b ≡ true → is_correct_client c (256 + cl) ≡ true → RightClient c (256 + cl) (cond b (Accepted cl t a ∷ history_of (256 + cl) past) (history_of (256 + cl) past)) → Accepting c past (256 + cl) t a
+    head : (b : Bool) → b ≡ true → is_correct_client c (256 + cl) ≡ true → SafeClient c (256 + cl) (cond b (Accepted cl t a ∷ history_of (256 + cl) past) (history_of (256 + cl) past)) → Accepting c past (256 + cl) t a
     head true e client r = build client r.0.1
     head false e client r = absurd cc
 
@@ -117,7 +117,7 @@ open_last (Sent x y ∷ past) call h = open_last past call h
 open_last (Executed x y z ∷ past) call h = open_last past call h
 open_last (Installed x y z ∷ past) call h = open_last past call h
 
-accepts_le : (c : Configuration) (p t : ℕ) (a : Outcome) (xs : List Entry) → RightClient c p xs → Once (Accepts p t a) xs → t ≤ last_call xs
+accepts_le : (c : Configuration) (p t : ℕ) (a : Outcome) (xs : List Entry) → SafeClient c p xs → Once (Accepts p t a) xs → t ≤ last_call xs
 accepts_le c p t a [] r h = absurd h
 accepts_le c p t a (Accepted x y z ∷ past) r (inl h) = let m = r.0.1 in let l = open_last past m.0 m.2 in let k = m.3 in let e = h.1 in omega arith
 accepts_le c p t a (Invoke x y z ∷ past) r (inr h) = let l = accepts_le c p t a past r.1 h in let n = r.0.1.0 in omega arith
@@ -134,7 +134,7 @@ accepts_le c p t a (Executed x y z ∷ past) r (inr h) = accepts_le c p t a past
 accepts_le c p t a (Installed x y z ∷ past) r (inr h) = accepts_le c p t a past r.1 h
 accepts_le c p t a (Accepted x y z ∷ past) r (inr h) = accepts_le c p t a past r.1 h
 
-accepts_lt : (c : Configuration) (p t : ℕ) (a : Outcome) (call : OpenCall) (xs : List Entry) → RightClient c p xs → open_call xs ≡ Some call → Once (Accepts p t a) xs → t < call.timestamp
+accepts_lt : (c : Configuration) (p t : ℕ) (a : Outcome) (call : OpenCall) (xs : List Entry) → SafeClient c p xs → open_call xs ≡ Some call → Once (Accepts p t a) xs → t < call.timestamp
 accepts_lt c p t a call [] r o h = absurd h
 accepts_lt c p t a call (Accepted x y z ∷ past) r o h = absurd cc
 accepts_lt c p t a call (Invoke x y z ∷ past) r o (inr h) =

@@ -17,7 +17,7 @@ use Rattle.protocol.specs.Selection.{changes_of, count_in, passes_by, vouches, m
 use Rattle.protocol.specs.RightReplica.{HasSeen}
 use Rattle.protocol.specs.Texts.{NoCollision}
 use Rattle.protocol.specs.State.{Call, call_in, call_of}
-use Rattle.protocol.specs.Laws.{AreReplicasRight, Takes}
+use Rattle.protocol.specs.Laws.{AreReplicasSafe, Takes}
 use Rattle.protocol.proofs.Temporal.{once_weaker, once_in_trace}
 use Rattle.protocol.proofs.Options.{and_then_some, give_if_some, some_injective, given_once, or_else_cases}
 use Rattle.protocol.proofs.Linking.{heard_said}
@@ -156,7 +156,7 @@ null_asked c trace a h frame call has is =
 
 -- ---- by induction over the views
 
-module _ (c : Configuration) (setting : IsConfiguration c) (trace : List Entry) (right : AreReplicasRight c trace) (unforged : Unforged c trace) (apart : NoCollision c trace) where
+module _ (c : Configuration) (setting : IsConfiguration c) (trace : List Entry) (right : AreReplicasSafe c trace) (unforged : Unforged c trace) (apart : NoCollision c trace) where
   AskedIn : ℕ → Type 0
   AskedIn v = (r i : ℕ) (a : List ℕ) → is_correct_replica c r ≡ true → logged c r (history_of r trace) v i ≡ Some a → Asked c trace a
 

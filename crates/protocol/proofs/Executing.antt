@@ -12,7 +12,7 @@ use Rattle.protocol.specs.Certificates.{proposal, logged, commit_of, commit_from
 use Rattle.quorum.specs.Votes.{has_digest}
 use Rattle.protocol.specs.Texts.{IsText, HasBatch, batches_of, ExecutesBatch}
 use Rattle.protocol.specs.Texts.IsText.{batch}
-use Rattle.protocol.specs.Laws.{AreReplicasRight, ExecutedAgree}
+use Rattle.protocol.specs.Laws.{AreReplicasSafe, ExecutedAgree}
 use Rattle.protocol.proofs.Temporal.{once_weaker, once_stays, once_in_trace, once_in_history}
 use Rattle.protocol.proofs.Options.{given_stays, given_once, give_if_some}
 use Rattle.protocol.proofs.Linking.{heard_said}
@@ -73,7 +73,7 @@ executor c k a xs h =
     who (e ∷ past) (inl h) = let w = at past e h in (w.0, w.1, inl w.2)
     who (e ∷ past) (inr h) = let w = who past h in (w.0, w.1, inr w.2)
 
-pub executed_committed : (c : Configuration) (trace : List Entry) (r k : ℕ) (a : List ℕ) → AreReplicasRight c trace → is_correct_replica c r ≡ true
+pub executed_committed : (c : Configuration) (trace : List Entry) (r k : ℕ) (a : List ℕ) → AreReplicasSafe c trace → is_correct_replica c r ≡ true
     → Once (ExecutesBatch c k a) (history_of r trace) → Ready c r k a (history_of r trace)
 executed_committed c trace r k a right correct h =
     once_stays (Ready c r k a) (λ e past x. record { view = x.view; committed = committed_later c r x.view k a e past x.committed }) (history_of r trace)
@@ -120,7 +120,7 @@ has_any_past text past past' (Executed x y z) h = absurd h
 has_any_past text past past' (Installed x y z) h = absurd h
 has_any_past text past past' (Accepted x y z) h = absurd h
 
-pub logged_text : (c : Configuration) (trace : List Entry) (r v i : ℕ) (a : List ℕ) → AreReplicasRight c trace → is_correct_replica c r ≡ true
+pub logged_text : (c : Configuration) (trace : List Entry) (r v i : ℕ) (a : List ℕ) → AreReplicasSafe c trace → is_correct_replica c r ≡ true
     → logged c r (history_of r trace) v i ≡ Some a → IsText c trace a
 unfolding logged
 logged_text c trace r v i a right correct h =

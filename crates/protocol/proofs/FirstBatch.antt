@@ -12,7 +12,7 @@ use Rattle.protocol.specs.Frames.{receivers_of, said, heard, signed_body}
 use Rattle.protocol.specs.Trace.{Entry}
 use Rattle.protocol.specs.Trace.Entry.{Got, Executed, Sent}
 use Rattle.protocol.specs.Certificates.{view, view_after, target, low, new_view_in, new_view_from, change_sent, checkpoint_in, installed_at, taken, is_active_in, counts_at, logged, proposal, prepare_of, prepare_from, commit_of, commit_from, vote_in, first_given, Prepared, Committed, checkpoint_from, change_from, is_in_marks, is_later, batch_begun, begun_proposal, entry_proposal}
-use Rattle.protocol.specs.RightReplica.{others, IsFor, IsAddressed, Point, start, Leaves, RightReplica, MaySend, executed_point, waiting_after}
+use Rattle.protocol.specs.RightReplica.{others, IsFor, IsAddressed, Point, first_point, Leaves, SafeReplica, MaySend, executed_point, waiting_after}
 use Rattle.protocol.specs.Examples.{four, IsFirstBatch, FirstBatchExecutes}
 use Rattle.protocol.proofs.Voting.{logged_stays}
 use Rattle.protocol.proofs.Commits.{prepare_stays, prepared_stays}
@@ -311,7 +311,7 @@ module _ (clients : ℕ) (seed batch a b d e f g : List ℕ) (x : IsFirstBatch (
   }
 
   abbrev p1 : Point
-  p1 = record start { ran = []; waiting = waiting_after c 1 start a }
+  p1 = record first_point { ran = []; waiting = waiting_after c 1 first_point a }
 
   abbrev p3 : Point
   p3 = record p1 { ran = []; waiting = waiting_after c 1 p1 d }
@@ -323,7 +323,7 @@ module _ (clients : ℕ) (seed batch a b d e f g : List ℕ) (x : IsFirstBatch (
   p6 = record p5 { ran = []; waiting = waiting_after c 1 p5 g }
 
   leaves1 : Leaves c 1 h1 p1
-  leaves1 = (start, refl, record { own = refl; may = tt; moves = refl })
+  leaves1 = (first_point, refl, record { own = refl; may = tt; moves = refl })
 
   leaves3 : Leaves c 1 h3 p3
   leaves3 = (p1, (p1, leaves1, record { own = refl; may = may_prepare p1; moves = refl }), record { own = refl; may = tt; moves = refl })
@@ -331,7 +331,7 @@ module _ (clients : ℕ) (seed batch a b d e f g : List ℕ) (x : IsFirstBatch (
   leaves6 : Leaves c 1 h6 p6
   leaves6 = (p5, (p3, (p3, leaves3, record { own = refl; may = may_commit p3; moves = refl }), record { own = refl; may = tt; moves = refl }), record { own = refl; may = tt; moves = refl })
 
-  pub executes : Committed c 1 h6 0 1 batch × RightReplica c 1 (Executed 1 1 batch ∷ h6)
+  pub executes : Committed c 1 h6 0 1 batch × SafeReplica c 1 (Executed 1 1 batch ∷ h6)
   executes =
       (committed, (executed_point c p6 1 batch, (p6, leaves6, record { own = refl; may = record { next = refl; in_view = 0; committed = committed }; moves = refl })))
 

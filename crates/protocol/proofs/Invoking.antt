@@ -13,7 +13,7 @@ use Rattle.protocol.specs.Trace.Entry.{Invoke, Got, Tick, Executed, Installed, S
 use Rattle.protocol.specs.State.{Call, call_in, call_of}
 use Rattle.protocol.specs.RightClient.{AnyClient, MayAsk, MayRequest, OpenCall, open_call, last_call}
 use Rattle.protocol.specs.Texts.{ExecutesBatch}
-use Rattle.protocol.specs.Linear.{Point, batch_of, is_level, Invokes, Asks}
+use Rattle.protocol.specs.Linear.{Placing, batch_of, is_level, Invokes, Asks}
 use Rattle.quorum.specs.Votes.{give_if}
 use Rattle.protocol.proofs.Temporal.{once_weaker, once_always, once_once, once_in_history, once_in_trace}
 use Rattle.protocol.proofs.Options.{and_then_some, some_injective, given_once, give_if_some}
@@ -219,7 +219,7 @@ executed_asked c xs k b run h frame call has is =
     let ready = executed_committed c xs p.0 k b run.runs.replicas p.1 p.2 in
     all_asked c run.setting xs run.runs.replicas run.runs.unforged run.apart ready.view p.0 k b p.1 ready.committed.prepared.logged frame call has is
 
-module _ (c : Configuration) (trace : List Entry) (run : Run c trace) (x : Point) (s : Source c trace x) (positive : 1 ≤ x.number) where
+module _ (c : Configuration) (trace : List Entry) (run : Run c trace) (x : Placing) (s : Source c trace x) (positive : 1 ≤ x.number) where
   -- the request was asked where its batch's level came, or before
   source_asked : At (λ past e. (length past ≡ s.position) × Once (AsksFrame c s.from.frame) (e ∷ past)) trace
   source_asked =
@@ -228,7 +228,7 @@ module _ (c : Configuration) (trace : List Entry) (run : Run c trace) (x : Point
       let g = give_if_some (is_level c (at.entry ∷ at.past) s.number) (length at.past) s.position at.holds in
       let whole : Run c (at.later ++ at.entry ∷ at.past) = subst (Run c) at.is run in
       let here : Run c (at.entry ∷ at.past) = run_part c at.later (at.entry ∷ at.past) whole in
-      let number : x.number ≡ s.number = ap (λ (y : Point). y.number) s.is in
+      let number : x.number ≡ s.number = ap (λ (y : Placing). y.number) s.is in
       let one : 1 ≤ s.number = omega arith in
       let self : s.number ≤ s.number = omega arith in
       let ex = level_executed c (at.entry ∷ at.past) s.number here g.0 s.number one self in
@@ -257,7 +257,7 @@ module _ (c : Configuration) (trace : List Entry) (run : Run c trace) (x : Point
   pub ran_asked : Once (λ past e. Asks c x.item.client x.item.timestamp x.item.op past e × (length past ≤ x.item.position)) trace
   ran_asked =
       let at = source_asked in
-      subst (λ (y : Point). Once (λ past e. Asks c y.item.client y.item.timestamp y.item.op past e × (length past ≤ y.item.position)) trace) (sym s.is)
+      subst (λ (y : Placing). Once (λ past e. Asks c y.item.client y.item.timestamp y.item.op past e × (length past ≤ y.item.position)) trace) (sym s.is)
       (whole_once (Asks c (256 + s.ran.call.client) s.ran.call.timestamp s.ran.call.op) at
       (once_weaker (AsksFrame c s.from.frame) (Asks c (256 + s.ran.call.client) s.ran.call.timestamp s.ran.call.op)
       (asks_request c s.from.frame (256 + s.ran.call.client) s.ran.call.timestamp s.ran.call.op spelled) (at.entry ∷ at.past) at.holds.1))
@@ -265,11 +265,11 @@ module _ (c : Configuration) (trace : List Entry) (run : Run c trace) (x : Point
   pub ran_invoked : is_correct_client c x.item.client ≡ true → Once (λ past e. Invokes x.item.client x.item.timestamp x.item.op past e × (length past ≤ x.item.position)) trace
   ran_invoked correct =
       let at = source_asked in
-      let client : is_correct_client c (256 + s.ran.call.client) ≡ true = subst (λ (y : Point). is_correct_client c y.item.client ≡ true) s.is correct in
+      let client : is_correct_client c (256 + s.ran.call.client) ≡ true = subst (λ (y : Placing). is_correct_client c y.item.client ≡ true) s.is correct in
       let whole : Run c (at.later ++ at.entry ∷ at.past) = subst (Run c) at.is run in
       let here : Run c (at.entry ∷ at.past) = run_part c at.later (at.entry ∷ at.past) whole in
       let says = asks_said c (at.entry ∷ at.past) s.from.frame (asking (256 + s.ran.call.client) s.ran.call.timestamp false s.ran.call.op) here.runs spelled (correct_client c (256 + s.ran.call.client) client) at.holds.1 in
       let invoked = asked_op c (256 + s.ran.call.client) s.ran.call.timestamp false s.ran.call.op (history_of (256 + s.ran.call.client) (at.entry ∷ at.past)) (here.runs.clients (256 + s.ran.call.client) client) says in
-      subst (λ (y : Point). Once (λ past e. Invokes y.item.client y.item.timestamp y.item.op past e × (length past ≤ y.item.position)) trace) (sym s.is)
+      subst (λ (y : Placing). Once (λ past e. Invokes y.item.client y.item.timestamp y.item.op past e × (length past ≤ y.item.position)) trace) (sym s.is)
       (whole_once (Invokes (256 + s.ran.call.client) s.ran.call.timestamp s.ran.call.op) at
       (invoked_in_trace (256 + s.ran.call.client) s.ran.call.timestamp s.ran.call.op (at.entry ∷ at.past) invoked))

@@ -9,7 +9,7 @@ use Rattle.protocol.specs.Frames.{said, signed_body}
 use Rattle.protocol.specs.Trace.{Entry}
 use Rattle.protocol.specs.Trace.Entry.{Invoke, Got, Tick, Executed, Installed, Sent, Accepted}
 use Rattle.protocol.specs.Certificates.{view, view_after, target, taken, new_view_in, new_view_from, low, batch_begun, is_later}
-use Rattle.protocol.specs.Selection.{may_select, largest, largest_of, changes_of, may_all_stand, is_within, is_claim_within, how_many, is_start, is_mark_within, ascending, is_quorum, count_in}
+use Rattle.protocol.specs.Selection.{may_select, largest, largest_of, changes_of, may_all_stand, is_within, is_claim_within, how_many, is_start, is_checkpoint_within, ascending, is_quorum, count_in}
 use Rattle.protocol.proofs.Options.{and_then_some, give_if_some}
 use Rattle.quorum.specs.Votes.{give_if}
 use Rattle.std.specs.List.{list_all}
@@ -108,7 +108,7 @@ largest_small c vc limit (claim ∷ claims) h = go (nat_le claim.number limit) (
 
 within_prepared : (c : Configuration) (vc : ViewChange) → is_within c vc ≡ true → list_all (is_claim_within c vc) vc.prepared ≡ true
 within_prepared c vc h =
-    let a = and_parts (is_number vc.view && is_number vc.low && list_all (is_claim_within c vc) vc.prepared && list_all (is_claim_within c vc) vc.pre_prepared) (list_all (is_mark_within c vc) vc.checkpoints) h in
+    let a = and_parts (is_number vc.view && is_number vc.low && list_all (is_claim_within c vc) vc.prepared && list_all (is_claim_within c vc) vc.pre_prepared) (list_all (is_checkpoint_within c vc) vc.checkpoints) h in
     let b = and_parts (is_number vc.view && is_number vc.low && list_all (is_claim_within c vc) vc.prepared) (list_all (is_claim_within c vc) vc.pre_prepared) a.0 in
     (and_parts (is_number vc.view && is_number vc.low) (list_all (is_claim_within c vc) vc.prepared) b.0).1
 

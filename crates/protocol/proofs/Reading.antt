@@ -12,7 +12,7 @@ use Rattle.protocol.specs.Trace.Entry.{Invoke, Got, Tick, Executed, Installed, S
 use Rattle.protocol.specs.RightReplica.{MaySay, MayReply}
 use Rattle.protocol.specs.RightClient.{AnyClient, MayAsk, MayRequest, OpenCall, open_call, last_call, Vote, vote_of, later_vote, latest, is_alike}
 use Rattle.protocol.specs.Linear.{reached, is_level}
-use Rattle.protocol.specs.Laws.{AreReplicasRight}
+use Rattle.protocol.specs.Laws.{AreReplicasSafe}
 use Rattle.protocol.proofs.Modes.{mode_is}
 use Rattle.protocol.proofs.Temporal.{once_weaker, once_in_trace}
 use Rattle.protocol.proofs.Options.{and_then_some, give_if_some, some_injective}
@@ -28,7 +28,7 @@ use Rattle.protocol.specs.Linear.{invoke_past}
 
 pub record Runs (c : Configuration) (xs : List Entry) : Type 0 where
   pub unforged : Unforged c xs
-  pub replicas : AreReplicasRight c xs
+  pub replicas : AreReplicasSafe c xs
   pub clients : (p : ℕ) → is_correct_client c p ≡ true → AnyClient p (history_of p xs)
 
 pub runs_earlier : (c : Configuration) (e : Entry) (xs : List Entry) → Runs c (e ∷ xs) → Runs c xs

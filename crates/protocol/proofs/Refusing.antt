@@ -19,8 +19,8 @@ use Rattle.protocol.specs.Selection.{is_quorum, is_weak_quorum, passes_by, count
 use Rattle.protocol.specs.Certificates.{target, view, is_active_in, is_later, new_view_in, logged, low}
 use Rattle.reply_cache.specs.Replies.{Kept}
 use Rattle.protocol.specs.State.{State, Ran, opening, kept_of, last_time, runs, run_call, ran_call, kept_by, page_text}
-use Rattle.protocol.specs.RightReplica.{IsAddressed, Point, Leaves, RightReplica, May, Moves, MaySay, MaySend, MayCheckpoint, MayPrepare, MayCommit, MayPrePrepare, MayReply, MayChange, RepliesTo, GetsPage}
-use Rattle.protocol.specs.RightClient.{RightClient, Vote, latest, is_alike, count_alike}
+use Rattle.protocol.specs.RightReplica.{IsAddressed, Point, Leaves, SafeReplica, May, Moves, MaySay, MaySend, MayCheckpoint, MayPrepare, MayCommit, MayPrePrepare, MayReply, MayChange, RepliesTo, GetsPage}
+use Rattle.protocol.specs.RightClient.{SafeClient, Vote, latest, is_alike, count_alike}
 use Rattle.protocol.specs.Refused.{RepliesToItsClient, CommitsToAll, Says, NoExecution, newest_number, HasFrom, SaysNothingAgainst, SaysForIt, SaysNothing, RepliesAfterExecution, NoCommitAfterChange, NoPrepareAfterChange, NoEarlyCheckpoint, OnePrePrepare, NoPrepareByPrimary, ExecutesNext, KeepsPrepared, InstallsWhatItHas, TakesWellSelected, TakesNoLower, RunsOnce, AcceptsAtQuorum}
 use Rattle.protocol.proofs.Temporal.{once_weaker, once_stays_from}
 use Rattle.protocol.proofs.Options.{and_then_some, give_if_some, some_injective}
@@ -38,7 +38,7 @@ use Rattle.protocol.proofs.Keeping.{set_here}
 use Rattle.quorum.specs.Votes.{give_if}
 
 -- what the newest frame says, a right replica may say
-says_may : (c : Configuration) (me : ℕ) (bytes : List ℕ) (body : Body) (past : List Entry) (right : RightReplica c me (Sent me bytes ∷ past)) → said bytes ≡ Some body
+says_may : (c : Configuration) (me : ℕ) (bytes : List ℕ) (body : Body) (past : List Entry) (right : SafeReplica c me (Sent me bytes ∷ past)) → said bytes ≡ Some body
     → MaySay c me past right.1.0 (Sent me bytes) bytes body.message
 says_may c me bytes body past right h =
     let m : MaySend c me past right.1.0 (Sent me bytes) bytes = right.1.2.may in
@@ -172,7 +172,7 @@ installs_what_it_has c me k i root past old new installed within differs = go (i
 
 -- ---- whom a frame is for
 
-addressed : (c : Configuration) (me : ℕ) (bytes : List ℕ) (body : Body) (frame : Frame) (entries : List MacData) (past : List Entry) (right : RightReplica c me (Sent me bytes ∷ past)) → said bytes ≡ Some body
+addressed : (c : Configuration) (me : ℕ) (bytes : List ℕ) (body : Body) (frame : Frame) (entries : List MacData) (past : List Entry) (right : SafeReplica c me (Sent me bytes ∷ past)) → said bytes ≡ Some body
     → frame_of bytes ≡ Some frame → frame.proof ≡ macs entries → IsAddressed c me past body.message (macs entries)
 addressed c me bytes body frame entries past right says is proof =
     let m : MaySend c me past right.1.0 (Sent me bytes) bytes = right.1.2.may in
@@ -342,7 +342,7 @@ runs_once st m n call small new = go (runs st call) new
 
 -- ---- clients
 
-own_parties : (c : Configuration) (me : ℕ) (xs : List Entry) → RightClient c me xs → Always (λ past e. party_of e ≡ me) xs
+own_parties : (c : Configuration) (me : ℕ) (xs : List Entry) → SafeClient c me xs → Always (λ past e. party_of e ≡ me) xs
 own_parties c me [] r = tt
 own_parties c me (e ∷ xs) r = (r.0.0, own_parties c me xs r.1)
 

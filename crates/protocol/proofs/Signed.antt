@@ -10,7 +10,7 @@ use Rattle.protocol.specs.Trace.Entry.{Invoke, Got, Tick, Executed, Installed, S
 use Rattle.protocol.specs.Certificates.{new_view_in, new_view_from, taken}
 use Rattle.protocol.specs.Selection.{changes_of, signed_change, change_in, change_by, list_of}
 use Rattle.protocol.specs.RightReplica.{HasSeen}
-use Rattle.protocol.specs.Laws.{AreReplicasRight, Takes}
+use Rattle.protocol.specs.Laws.{AreReplicasSafe, Takes}
 use Rattle.protocol.proofs.Temporal.{once_weaker, once_in_history, always_sees, always_in_history}
 use Rattle.protocol.proofs.Options.{and_then_some, some_injective}
 use Rattle.protocol.proofs.Linking.{Speaks, signed_heard, heard_said, sent_spoken}
@@ -136,7 +136,7 @@ taken_seen c new bytes h past e t = go e (takes c 0 past e new t).brought
     go (Accepted x y z) b = absurd cc
 
 -- the view change of a correct replica that stands in a taken new view was sent by it
-pub change_was_said : (c : Configuration) (trace : List Entry) (q s : ℕ) (new : NewView) (vc : ViewChange) → AreReplicasRight c trace → Unforged c trace
+pub change_was_said : (c : Configuration) (trace : List Entry) (q s : ℕ) (new : NewView) (vc : ViewChange) → AreReplicasSafe c trace → Unforged c trace
     → is_correct_replica c q ≡ true → is_correct_replica c s ≡ true → Once (Takes c new) (history_of q trace) → change_by (changes_of c new) s ≡ Some vc
     → Once (Speaks (changing s vc)) (history_of s trace)
 change_was_said c trace q s new vc right unforged correct from taken is =

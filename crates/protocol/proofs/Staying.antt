@@ -10,10 +10,10 @@ use Rattle.protocol.specs.Configuration.{Configuration, IsConfiguration, span, i
 use Rattle.wire.specs.Messages.{ViewChangeData as ViewChange, NewViewData as NewView, ClaimData as Claim}
 use Rattle.protocol.specs.Trace.{Entry, history_of, Once, Unforged, Has}
 use Rattle.std.specs.List.{list_all, list_any}
-use Rattle.protocol.specs.Selection.{is_quorum, is_weak_quorum, count_in, passes_by, change_by, changes_of, may_select, may_stand_at, may_be_null, may_all_stand, is_null, is_within, is_claim_within, is_mark_within, agrees, vouches, how_many}
+use Rattle.protocol.specs.Selection.{is_quorum, is_weak_quorum, count_in, passes_by, change_by, changes_of, may_select, may_stand_at, may_be_null, may_all_stand, is_null, is_within, is_claim_within, is_checkpoint_within, agrees, vouches, how_many}
 use Rattle.protocol.specs.Certificates.{batch_begun, commit_of, Prepared, Committed, logged}
 use Rattle.quorum.specs.Votes.{has_digest}
-use Rattle.protocol.specs.Laws.{AreReplicasRight, Takes, HasOrStartsAbove, CommittedStays, CommittedAgree}
+use Rattle.protocol.specs.Laws.{AreReplicasSafe, Takes, HasOrStartsAbove, CommittedStays, CommittedAgree}
 use Rattle.protocol.proofs.Temporal.{once_weaker, once_stays}
 use Rattle.protocol.proofs.Voting.{right_always}
 use Rattle.protocol.proofs.Marks.{takes, selected_in, selects}
@@ -56,7 +56,7 @@ pub member_of : (c : Configuration) (new : NewView) (s : ℕ) (vc : ViewChange) 
 member_of c new s vc sel is =
     let t = every_change (λ vc. (vc.view == new.view) && is_within c vc) (changes_of c new) s vc sel.each is in
     let p = and_parts (vc.view == new.view) (is_within c vc) t in
-    let w = and_parts (is_number vc.view && is_number vc.low && list_all (is_claim_within c vc) vc.prepared && list_all (is_claim_within c vc) vc.pre_prepared) (list_all (is_mark_within c vc) vc.checkpoints) p.1 in
+    let w = and_parts (is_number vc.view && is_number vc.low && list_all (is_claim_within c vc) vc.prepared && list_all (is_claim_within c vc) vc.pre_prepared) (list_all (is_checkpoint_within c vc) vc.checkpoints) p.1 in
     let y = and_parts (is_number vc.view && is_number vc.low && list_all (is_claim_within c vc) vc.prepared) (list_all (is_claim_within c vc) vc.pre_prepared) w.0 in
     let z = and_parts (is_number vc.view && is_number vc.low) (list_all (is_claim_within c vc) vc.prepared) y.0 in
     record {
@@ -67,7 +67,7 @@ member_of c new s vc sel is =
 
 -- ---- over one committed batch
 
-module _ (c : Configuration) (setting : IsConfiguration c) (trace : List Entry) (right : AreReplicasRight c trace) (unforged : Unforged c trace)
+module _ (c : Configuration) (setting : IsConfiguration c) (trace : List Entry) (right : AreReplicasSafe c trace) (unforged : Unforged c trace)
     (p v i : ℕ) (a : List ℕ) (correct : is_correct_replica c p ≡ true) (committed : Committed c p (history_of p trace) v i a) where
   few : count_below (is_faulty_replica c) (3 * c.faults + 1) ≤ c.faults
   few = let m = count_members c.faulty_replicas (3 * c.faults + 1) in let k = setting.few in omega arith
@@ -265,7 +265,7 @@ committed_stays c setting trace right unforged p q v i a new correct correct' co
     settled c setting trace right unforged p v i a correct committed new.view above q new correct' takes' refl
 
 -- the later of two committed batches has the digest of the earlier
-later_agrees : (c : Configuration) → IsConfiguration c → (trace : List Entry) → AreReplicasRight c trace → Unforged c trace
+later_agrees : (c : Configuration) → IsConfiguration c → (trace : List Entry) → AreReplicasSafe c trace → Unforged c trace
     → (p q v w i : ℕ) (a b : List ℕ) → is_correct_replica c p ≡ true → is_correct_replica c q ≡ true
     → Committed c p (history_of p trace) v i a → Committed c q (history_of q trace) w i b → v < w → sha256 b ≡ sha256 a
 later_agrees c setting trace right unforged p q v w i a b correct correct' x y above =

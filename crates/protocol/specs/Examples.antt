@@ -11,7 +11,7 @@ use Rattle.protocol.specs.Trace.{Entry}
 use Rattle.protocol.specs.Trace.Entry.{Invoke, Got, Executed, Sent}
 use Rattle.protocol.specs.Selection.{signed_change, may_select}
 use Rattle.protocol.specs.Certificates.{are_genuine, Committed}
-use Rattle.protocol.specs.RightReplica.{RightReplica, others}
+use Rattle.protocol.specs.RightReplica.{SafeReplica, others}
 use Rattle.protocol.specs.RightClient.{IsRequest}
 use Rattle.protocol.specs.Run.{IsRun}
 
@@ -42,7 +42,7 @@ abbrev pub FirstBatchExecutes : Type 0
 FirstBatchExecutes =
     (clients : ℕ) (seed batch a b d e f g : List ℕ) → IsFirstBatch (four clients seed) batch a b d e f g
     → Committed (four clients seed) 1 (first_batch a b d e f g) 0 1 batch
-    × RightReplica (four clients seed) 1 (Executed 1 1 batch ∷ first_batch a b d e f g)
+    × SafeReplica (four clients seed) 1 (Executed 1 1 batch ∷ first_batch a b d e f g)
 
 -- A trace in which a correct client has invoked an operation and asked all replicas for it, and nothing has come yet, is a
 -- run.

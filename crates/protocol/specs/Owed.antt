@@ -16,14 +16,13 @@ use Rattle.wire.specs.Spelling.{has_children}
 use Rattle.wire.specs.Messages.{BodyData as Body, MessageData as Message, NewViewData as NewView, MarkData as Mark, request as Request, pre_prepare as PrePrepare, prepare as Prepare, commit as Commit, checkpoint as Checkpoint, view_change as Change, new_view as Begin, reply as Reply, fetch as Fetch, meta as Meta, page as Page}
 use Rattle.wire.specs.Words.{requests_of}
 use Rattle.protocol.specs.Frames.{frame_of, said, heard, signed_body, receivers_of}
-use Rattle.protocol.specs.Trace.{Entry, party_of, Once, Has, Each, Hears}
+use Rattle.protocol.specs.Trace.{Entry, party_of, is_output, Once, Has, Each, either, Hears}
 use Rattle.protocol.specs.Trace.Entry.{Got, Tick, Sent}
 use Rattle.protocol.specs.Selection.{is_quorum, signed_change, is_within}
-use Rattle.protocol.specs.Certificates.{greatest, view, is_active_in, taken, marks_of, count_marks, low, is_in_marks, entry_proposal, logged, prepare_from, commit_from, vote_in, prepare_of, commit_of, Prepared, Committed}
+use Rattle.protocol.specs.Certificates.{greatest, view, is_active_in, taken, checkpoints_of, count_checkpoints, low, is_in_marks, entry_proposal, logged, prepare_from, commit_from, vote_in, prepare_of, commit_of, Prepared, Committed}
 use Rattle.reply_cache.specs.Replies.{Kept}
 use Rattle.protocol.specs.State.{State, Call, call_of, Ran, kept_of, last_time, tuples, root_of, page_text}
-use Rattle.protocol.specs.RightReplica.{Point, start, IsStep, KeptState, Executes, digests_at}
-use Rattle.protocol.specs.RightClient.{is_output, either}
+use Rattle.protocol.specs.RightReplica.{Point, first_point, IsStep, KeptState, Executes, digests_at}
 
 -- ---- words on outputs
 
@@ -127,7 +126,7 @@ Counts c me past point bytes s (PrePrepare v i batch) = (entry_proposal c me pas
 Counts c me past point bytes s (Prepare v i digest) = (vote_in c me past (Got me bytes) (prepare_from c s v i) v i ≡ Some digest) × (prepare_of c me past v i s ≡ None)
 Counts c me past point bytes s (Commit v i digest) = (vote_in c me past (Got me bytes) (commit_from s v i) v i ≡ Some digest) × (commit_of c me past v i s ≡ None)
 Counts c me past point bytes s (Checkpoint k root) =
-    (low c me past < k) × (is_number k ≡ true) × (has_number k (marks_of c past s) ≡ false) × (has_number k (marks_of c (Got me bytes ∷ past) s) ≡ true)
+    (low c me past < k) × (is_number k ≡ true) × (has_number k (checkpoints_of c past s) ≡ false) × (has_number k (checkpoints_of c (Got me bytes ∷ past) s) ≡ true)
 Counts c me past point bytes s (Change vc) = (is_some (signed_body c bytes) ≡ true) × (view c past < vc.view) × (is_within c vc ≡ true) × (latest_change c past s < vc.view)
 Counts c me past point bytes s (Begin new) = taken c past (Got me bytes) ≡ Some new
 Counts c me past point bytes s (Reply client t kind k answer) = ⊥
@@ -169,16 +168,16 @@ pub record Owes (c : Configuration) (me : ℕ) (before : List Entry) (input : En
   pub fetched_page : (s k index : ℕ) → Hears c me (record { sender = s; message = Fetch k levels.Page index }) before input
       → (st : State) → KeptState c me before old k (λ x. x ≡ st) → GivesTo me s (Page k index (page_text st index)) outputs
   -- a quorum of checkpoints above the state, and above an open transfer, starts one
-  pub fetches : (k : ℕ) (root : List ℕ) → is_quorum c (count_marks c now (record { number = k; digest = root })) ≡ true
+  pub fetches : (k : ℕ) (root : List ℕ) → is_quorum c (count_checkpoints c now (record { number = k; digest = root })) ≡ true
       → new.state.number < k → fetching before < k → Gives me (Fetch k levels.Root 0) outputs
   pub dropped : (bytes : List ℕ) → input ≡ Got me bytes → IsDropped c me before old bytes → outputs ≡ []
 
 -- ---- histories
 
--- The history is right and prompt, over one choice of points. outputs: those of the newest event that stand behind the
+-- The history is safe and prompt, over one choice of points. outputs: those of the newest event that stand behind the
 -- list, the oldest first; new: the point behind that event; point: the one behind the list.
 abbrev pub Proceeds : Configuration → ℕ → List Entry → List Entry → Point → Point → Type 0
-Proceeds c me [] outputs new point = (point ≡ start) × (outputs ≡ [])
+Proceeds c me [] outputs new point = (point ≡ first_point) × (outputs ≡ [])
 Proceeds c me (e ∷ past) outputs new point =
     (old : Point) × IsStep c me past old e point
     × either (is_output e)
@@ -188,7 +187,7 @@ Proceeds c me (e ∷ past) outputs new point =
 abbrev pub IsInput : Entry → Type 0
 IsInput e = elim e [ Got p bytes ↦ ⊤ | Tick p ↦ ⊤ | _ ↦ ⊥ ]
 
--- The whole of what a correct replica's history is: right and prompt; or it stopped, and from some input on there is no
+-- The whole of what a correct replica's history is: safe and prompt; or it stopped, and from some input on there is no
 -- output at all.
 abbrev pub IsReplica : Configuration → ℕ → List Entry → Type 0
 IsReplica c me [] = ⊤

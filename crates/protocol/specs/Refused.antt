@@ -14,8 +14,8 @@ use Rattle.protocol.specs.Trace.Entry.{Executed, Installed, Sent, Accepted}
 use Rattle.protocol.specs.Selection.{changes_of}
 use Rattle.protocol.specs.Certificates.{low, is_in_marks, taken, Prepared}
 use Rattle.protocol.specs.State.{State, Call, runs, run_call, page_text}
-use Rattle.protocol.specs.RightReplica.{Point, RightReplica, Executes, GetsPage, SentBefore, IsInstalled}
-use Rattle.protocol.specs.RightClient.{RightClient}
+use Rattle.protocol.specs.RightReplica.{Point, SafeReplica, Executes, GetsPage, SentBefore, IsInstalled}
+use Rattle.protocol.specs.RightClient.{SafeClient}
 
 -- the party sent a frame of this body
 abbrev pub Says : Body → List Entry → Entry → Type 0
@@ -34,41 +34,41 @@ abbrev pub RepliesAfterExecution : Type 0
 RepliesAfterExecution =
     (c : Configuration) (me client timestamp number : ℕ) (answer : Outcome) (bytes : List ℕ) (past : List Entry)
     → said bytes ≡ Some (record { sender = me; message = Reply client timestamp modes.Ordered number answer })
-    → Always NoExecution past → RightReplica c me (Sent me bytes ∷ past) → ⊥
+    → Always NoExecution past → SafeReplica c me (Sent me bytes ∷ past) → ⊥
 
 -- A commit of a view after a view change above it, and a prepare.
 abbrev pub NoCommitAfterChange : Type 0
 NoCommitAfterChange =
     (c : Configuration) (me v i : ℕ) (digest bytes : List ℕ) (vc : ViewChange) (past : List Entry)
     → said bytes ≡ Some (record { sender = me; message = Commit v i digest })
-    → Once (Says (record { sender = me; message = Change vc })) past → v < vc.view → RightReplica c me (Sent me bytes ∷ past) → ⊥
+    → Once (Says (record { sender = me; message = Change vc })) past → v < vc.view → SafeReplica c me (Sent me bytes ∷ past) → ⊥
 
 abbrev pub NoPrepareAfterChange : Type 0
 NoPrepareAfterChange =
     (c : Configuration) (me v i : ℕ) (digest bytes : List ℕ) (vc : ViewChange) (past : List Entry)
     → said bytes ≡ Some (record { sender = me; message = Prepare v i digest })
-    → Once (Says (record { sender = me; message = Change vc })) past → v < vc.view → RightReplica c me (Sent me bytes ∷ past) → ⊥
+    → Once (Says (record { sender = me; message = Change vc })) past → v < vc.view → SafeReplica c me (Sent me bytes ∷ past) → ⊥
 
 -- A checkpoint of a number that was never executed.
 abbrev pub NoEarlyCheckpoint : Type 0
 NoEarlyCheckpoint =
     (c : Configuration) (me k : ℕ) (root bytes : List ℕ) (past : List Entry)
     → said bytes ≡ Some (record { sender = me; message = Checkpoint k root })
-    → (Once (Executes k) past → ⊥) → RightReplica c me (Sent me bytes ∷ past) → ⊥
+    → (Once (Executes k) past → ⊥) → SafeReplica c me (Sent me bytes ∷ past) → ⊥
 
 -- Two pre-prepares of one number of a view.
 abbrev pub OnePrePrepare : Type 0
 OnePrePrepare =
     (c : Configuration) (me v i : ℕ) (a b bytes : List ℕ) (past : List Entry)
     → said bytes ≡ Some (record { sender = me; message = PrePrepare v i b })
-    → Once (Says (record { sender = me; message = PrePrepare v i a })) past → RightReplica c me (Sent me bytes ∷ past) → a ≡ b
+    → Once (Says (record { sender = me; message = PrePrepare v i a })) past → SafeReplica c me (Sent me bytes ∷ past) → a ≡ b
 
 -- A prepare by the primary.
 abbrev pub NoPrepareByPrimary : Type 0
 NoPrepareByPrimary =
     (c : Configuration) (me v i : ℕ) (digest bytes : List ℕ) (past : List Entry)
     → said bytes ≡ Some (record { sender = me; message = Prepare v i digest })
-    → primary c v ≡ me → RightReplica c me (Sent me bytes ∷ past) → ⊥
+    → primary c v ≡ me → SafeReplica c me (Sent me bytes ∷ past) → ⊥
 
 -- the number that was executed or installed last, first 0
 abbrev pub newest_number : List Entry → ℕ
@@ -81,13 +81,13 @@ newest_number (_ ∷ past) = newest_number past
 abbrev pub ExecutesNext : Type 0
 ExecutesNext =
     (c : Configuration) (me k : ℕ) (batch : List ℕ) (past : List Entry)
-    → RightReplica c me (Executed me k batch ∷ past) → k ≡ suc (newest_number past)
+    → SafeReplica c me (Executed me k batch ∷ past) → k ≡ suc (newest_number past)
 
 -- A new view change that leaves out a prepared batch within the marks.
 abbrev pub KeepsPrepared : Type 0
 KeepsPrepared =
     (c : Configuration) (me v i : ℕ) (batch bytes : List ℕ) (vc : ViewChange) (past : List Entry)
-    → said bytes ≡ Some (record { sender = me; message = Change vc }) → (SentBefore bytes past → ⊥) → RightReplica c me (Sent me bytes ∷ past)
+    → said bytes ≡ Some (record { sender = me; message = Change vc }) → (SentBefore bytes past → ⊥) → SafeReplica c me (Sent me bytes ∷ past)
     → Prepared c me past v i batch → is_in_marks c (low c me past) i ≡ true
     → Has (λ (claim : Claim). claim.number ≡ i) vc.prepared
 
@@ -105,7 +105,7 @@ abbrev pub RepliesToItsClient : Type 0
 RepliesToItsClient =
     (c : Configuration) (me client timestamp number : ℕ) (mode : Mode) (answer : Outcome) (bytes : List ℕ) (frame : Frame) (entries : List MacData) (past : List Entry)
     → said bytes ≡ Some (record { sender = me; message = Reply client timestamp mode number answer })
-    → frame_of bytes ≡ Some frame → frame.proof ≡ macs entries → RightReplica c me (Sent me bytes ∷ past)
+    → frame_of bytes ≡ Some frame → frame.proof ≡ macs entries → SafeReplica c me (Sent me bytes ∷ past)
     → map (λ x. x.receiver) entries ≡ client ∷ []
 
 -- A commit that is not sealed for each other replica.
@@ -113,7 +113,7 @@ abbrev pub CommitsToAll : Type 0
 CommitsToAll =
     (c : Configuration) (me v i s : ℕ) (digest bytes : List ℕ) (frame : Frame) (entries : List MacData) (past : List Entry)
     → said bytes ≡ Some (record { sender = me; message = Commit v i digest })
-    → frame_of bytes ≡ Some frame → frame.proof ≡ macs entries → s < replicas c → s ≢ me → RightReplica c me (Sent me bytes ∷ past)
+    → frame_of bytes ≡ Some frame → frame.proof ≡ macs entries → s < replicas c → s ≢ me → SafeReplica c me (Sent me bytes ∷ past)
     → Has (λ r. r ≡ s) (map (λ x. x.receiver) entries)
 
 -- ---- a new view
@@ -173,7 +173,7 @@ RunsOnce =
 abbrev pub AcceptsAtQuorum : Type 0
 AcceptsAtQuorum =
     (c : Configuration) (me k timestamp : ℕ) (answer : Outcome) (past : List Entry)
-    → RightClient c me (Accepted k timestamp answer ∷ past)
+    → SafeClient c me (Accepted k timestamp answer ∷ past)
     → (mode : Mode) × (number : ℕ) × (from : ℕ → Bool) × (2 * c.faults + 1 ≤ count_below from (replicas c))
     × ((s : ℕ) → from s ≡ true → (other : Outcome) × (outcome_spelling other ≡ outcome_spelling answer)
         × Once (Hears c me (record { sender = s; message = Reply me timestamp mode number other })) past)

@@ -12,7 +12,7 @@ use Rattle.quorum.specs.Votes.{give_if}
 use Rattle.protocol.specs.Configuration.{Configuration, replicas}
 use Rattle.wire.specs.Messages.{BodyData as Body, FrameData as Frame, MessageData as Message, request as Request, reply as Reply}
 use Rattle.protocol.specs.Frames.{reads_only, mode_of, frame_of, said, heard, IsSealed, receivers_of}
-use Rattle.protocol.specs.Trace.{Entry, party_of, Always}
+use Rattle.protocol.specs.Trace.{Entry, party_of, is_output, Always, either}
 use Rattle.protocol.specs.Trace.Entry.{Invoke, Got, Tick, Sent, Accepted}
 use Rattle.protocol.specs.Selection.{is_quorum}
 
@@ -145,9 +145,6 @@ weak_reaction c me (_ ∷ past) = nothing
 
 -- ---- histories
 
-abbrev pub is_output : Entry → Bool
-is_output e = elim e [ Invoke client t op ↦ false | Got p bytes ↦ false | Tick p ↦ false | _ ↦ true ]
-
 -- the bytes are a request of the call, sealed for all replicas
 pub record IsRequest (c : Configuration) (me : ℕ) (read_only : Bool) (call : OpenCall) (bytes : List ℕ) : Type 0 where
   pub says : said bytes ≡ Some (record { sender = me; message = Request call.timestamp (mode_of read_only) call.op })
@@ -166,11 +163,6 @@ MayInput past (Got p bytes) = ⊤
 MayInput past (Tick p) = ⊤
 MayInput past _ = ⊥
 
--- the one or the other
-abbrev pub either : Bool → Type 0 → Type 0 → Type 0
-either true one other = one
-either false one other = other
-
 -- each event gives what it is to; outputs: those of the newest event, the oldest first, that stand behind the list
 abbrev pub Reacts : Configuration → ℕ → (List Entry → Reaction) → List Entry → List Entry → Type 0
 Reacts c me react outputs [] = outputs ≡ []
@@ -183,13 +175,14 @@ abbrev pub IsClientBy : Configuration → ℕ → (List Entry → Reaction) → 
 IsClientBy c me react [] = ⊤
 IsClientBy c me react (e ∷ past) = Reacts c me react [] (e ∷ past) ⊎ ((party_of e ≡ me) × MayInput past e × IsClientBy c me react past)
 
+-- the whole of what a correct client's history is
 abbrev pub IsClient : Configuration → ℕ → List Entry → Type 0
 IsClient c me history = IsClientBy c me (reaction c me) history
 
 abbrev pub IsWeakClient : Configuration → ℕ → List Entry → Type 0
 IsWeakClient c me history = IsClientBy c me (weak_reaction c me) history
 
--- ---- what each entry may be: the part of it that the laws use
+-- ---- what each entry may be: the part of it that the laws use (a history is safe where it has nothing else)
 
 abbrev pub MayAccept : Configuration → ℕ → List Entry → ℕ → Outcome → Type 0
 MayAccept c me past timestamp answer =
@@ -217,11 +210,11 @@ MayClient Accepting me past e = MayInput past e
 abbrev pub RightBy : (List Entry → ℕ → Outcome → Type 0) → ℕ → List Entry → Type 0
 RightBy Accepting me history = Always (λ past e. (party_of e ≡ me) × MayClient Accepting me past e) history
 
-abbrev pub RightClient : Configuration → ℕ → List Entry → Type 0
-RightClient c me history = RightBy (MayAccept c me) me history
+abbrev pub SafeClient : Configuration → ℕ → List Entry → Type 0
+SafeClient c me history = RightBy (MayAccept c me) me history
 
-abbrev pub WeakClient : Configuration → ℕ → List Entry → Type 0
-WeakClient c me history = RightBy (MayWeaklyAccept c me) me history
+abbrev pub SafeWeakClient : Configuration → ℕ → List Entry → Type 0
+SafeWeakClient c me history = RightBy (MayWeaklyAccept c me) me history
 
 -- what both clients keep, whatever they accept
 abbrev pub AnyClient : ℕ → List Entry → Type 0

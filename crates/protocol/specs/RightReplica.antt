@@ -1,5 +1,6 @@
 -- What a correct replica may do: what each entry of its history must be, given its past (Castro and Liskov, TOCS 2002,
--- sections 4.3 to 4.5 and, of checkpoints and transfer, 5.3). What it owes stands in Owed.
+-- sections 4.3 to 4.5 and, of checkpoints and transfer, 5.3). What it owes, and the whole of what its history is
+-- (IsReplica), stands in Owed.
 use Rattle.std.specs.Prelude.{◌≡◌, ◌≢◌, ℕ, suc, ◌+◌, ◌%◌, ◌^◌, ◌≤◌, ◌<◌, ◌⊎◌, Bool, true, ◌&&◌, ◌||◌, not, List, [], ◌∷◌, ◌++◌, map, reverse, filter, nat_le, nat_lt, ◌==◌, if◌then◌else◌, Some, option_and_then, AllPairs, ⊤}
 use Rattle.std.specs.List.{list_all, range_with_len}
 use Rattle.std.specs.Option.{option_map_or}
@@ -18,7 +19,7 @@ use Rattle.protocol.specs.Frames.{frame_of, said, heard, IsSealed, receivers_of}
 use Rattle.protocol.specs.Trace.{Entry, party_of, Once, Has, Each, frames_in, Hears}
 use Rattle.protocol.specs.Trace.Entry.{Invoke, Got, Tick, Executed, Installed, Sent, Accepted}
 use Rattle.protocol.specs.Selection.{is_quorum}
-use Rattle.protocol.specs.Certificates.{view, target, is_active_in, taken, count_marks, low, is_in_marks, are_genuine, logged, Prepared, Committed}
+use Rattle.protocol.specs.Certificates.{view, target, is_active_in, taken, count_checkpoints, low, is_in_marks, are_genuine, logged, Prepared, Committed}
 use Rattle.reply_cache.specs.Replies.{Kept}
 use Rattle.protocol.specs.State.{State, IsState, Call, call_in, Ran, opening, execute, root_of, pages_of, page_text, kept_of, last_time, tuples, ran_in}
 
@@ -65,8 +66,8 @@ pub record Point : Type 0 where
   pub ran : List Ran
   pub waiting : List Call
 
-abbrev pub start : Point
-start = record { state = opening; snapshots = opening ∷ []; ran = []; waiting = [] }
+abbrev pub first_point : Point
+first_point = record { state = opening; snapshots = opening ∷ []; ran = []; waiting = [] }
 
 -- A request waits once it is got, where its timestamp is above its client's last and above that of a waiting one, which
 -- it replaces.
@@ -122,8 +123,8 @@ Moves c me past old _ new = new ≡ old
 abbrev pub kept_states : ℕ → List State → List State
 kept_states h snapshots = filter (λ st. nat_le h st.number) snapshots
 
-abbrev pub mark_of : State → Mark
-mark_of st = record { number = st.number; digest = root_of st }
+abbrev pub checkpoint_of : State → Mark
+checkpoint_of st = record { number = st.number; digest = root_of st }
 
 -- the latest prepared digest of each number in the marks, one a number
 pub record IsPreparedList (c : Configuration) (me : ℕ) (past : List Entry) (claims : List Claim) : Type 0 where
@@ -133,7 +134,7 @@ pub record IsPreparedList (c : Configuration) (me : ℕ) (past : List Entry) (cl
       × ((v : ℕ) (batch : List ℕ) → claim.view < v → Prepared c me past v claim.number batch → ⊥)
   pub all : (v i : ℕ) (batch : List ℕ) → is_in_marks c (low c me past) i ≡ true → Prepared c me past v i batch
       → Has (λ x. x.number ≡ i) claims
-  pub differ : AllPairs (λ x y. x.number < y.number) claims
+  pub ascending : AllPairs (λ x y. x.number < y.number) claims
 
 -- each digest that was pre-prepared for a number in the marks, with its latest view
 pub record IsProposedList (c : Configuration) (me : ℕ) (past : List Entry) (claims : List Claim) : Type 0 where
@@ -150,7 +151,7 @@ pub record IsNewChange (c : Configuration) (me : ℕ) (past : List Entry) (point
   pub newer : target past < vc.view
   pub is_view : vc.view < 2 ^ 48
   pub low : vc.low ≡ low c me past
-  pub checkpoints : vc.checkpoints ≡ map mark_of (reverse (kept_states vc.low point.snapshots))
+  pub checkpoints : vc.checkpoints ≡ map checkpoint_of (reverse (kept_states vc.low point.snapshots))
   pub prepared : IsPreparedList c me past vc.prepared
   pub proposed : IsProposedList c me past vc.pre_prepared
 
@@ -289,7 +290,7 @@ StartsAt c k root past e = (new : NewView) × (taken c past e ≡ Some new) × (
 
 -- a quorum of checkpoints, counted as for stability, was alike at one point of the past
 abbrev pub HadQuorum : Configuration → Mark → List Entry → Type 0
-HadQuorum c mark past = Once (λ earlier e. is_quorum c (count_marks c (e ∷ earlier) mark) ≡ true) past
+HadQuorum c mark past = Once (λ earlier e. is_quorum c (count_checkpoints c (e ∷ earlier) mark) ≡ true) past
 
 -- a number above the state's, of a quorum of checkpoints or of a new view's start
 abbrev pub MayInstall : Configuration → List Entry → Point → ℕ → List ℕ → Type 0
@@ -305,16 +306,17 @@ May c me past point (Installed r k root) = MayInstall c past point k root
 May c me past point (Sent p bytes) = MaySend c me past point (Sent p bytes) bytes
 May c me past point (Accepted client timestamp answer) = ⊥
 
--- one entry of a right history, from the point before it to the one behind it
+-- one entry that a replica may have, from the point before it to the one behind it
 pub record IsStep (c : Configuration) (me : ℕ) (past : List Entry) (old : Point) (e : Entry) (new : Point) : Type 0 where
   pub own : party_of e ≡ me
   pub may : May c me past old e
   pub moves : Moves c me past old e new
 
--- the history is right, and leaves the replica at the point
+-- each entry is one that the replica may have, and the last leaves it at the point
 abbrev pub Leaves : Configuration → ℕ → List Entry → Point → Type 0
-Leaves c me [] point = point ≡ start
+Leaves c me [] point = point ≡ first_point
 Leaves c me (e ∷ past) point = (old : Point) × Leaves c me past old × IsStep c me past old e point
 
-abbrev pub RightReplica : Configuration → ℕ → List Entry → Type 0
-RightReplica c me history = (point : Point) × Leaves c me history point
+-- The history is safe: it has nothing that a correct replica may not do. The laws use no more of it.
+abbrev pub SafeReplica : Configuration → ℕ → List Entry → Type 0
+SafeReplica c me history = (point : Point) × Leaves c me history point

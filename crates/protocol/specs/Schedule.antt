@@ -12,9 +12,9 @@ use Rattle.quorum.specs.Votes.{or_else}
 use Rattle.protocol.specs.Configuration.{Configuration, replicas, is_replica, is_client, is_correct, is_correct_client}
 use Rattle.wire.specs.Messages.{ProofData as Proof, macs, signature}
 use Rattle.protocol.specs.Frames.{frame_of, receivers_of}
-use Rattle.protocol.specs.Trace.{Entry, history_of}
+use Rattle.protocol.specs.Trace.{Entry, is_output, history_of}
 use Rattle.protocol.specs.Trace.Entry.{Invoke, Got, Tick, Sent, Accepted}
-use Rattle.protocol.specs.RightClient.{open_call, is_output}
+use Rattle.protocol.specs.RightClient.{open_call}
 use Rattle.protocol.specs.Linear.{Item, points}
 
 -- A client stands with its number in a call, all others with their party.

@@ -48,12 +48,12 @@ count_in c test set = count_below (passes_by test set) (replicas c)
 abbrev pub is_claim_within : Configuration → ViewChange → Claim → Bool
 is_claim_within c vc claim = nat_lt claim.view vc.view && nat_lt vc.low claim.number && nat_le claim.number (vc.low + span c) && is_number claim.number
 
-abbrev pub is_mark_within : Configuration → ViewChange → Mark → Bool
-is_mark_within c vc mark = nat_le vc.low mark.number && nat_le mark.number (vc.low + span c) && (mark.number % c.period == 0) && is_number mark.number
+abbrev pub is_checkpoint_within : Configuration → ViewChange → Mark → Bool
+is_checkpoint_within c vc mark = nat_le vc.low mark.number && nat_le mark.number (vc.low + span c) && (mark.number % c.period == 0) && is_number mark.number
 
 abbrev pub is_within : Configuration → ViewChange → Bool
 is_within c vc = is_number vc.view && is_number vc.low
-    && list_all (is_claim_within c vc) vc.prepared && list_all (is_claim_within c vc) vc.pre_prepared && list_all (is_mark_within c vc) vc.checkpoints
+    && list_all (is_claim_within c vc) vc.prepared && list_all (is_claim_within c vc) vc.pre_prepared && list_all (is_checkpoint_within c vc) vc.checkpoints
 
 -- ---- the rules
 

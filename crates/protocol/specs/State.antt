@@ -1,4 +1,4 @@
--- The state that batches leave, its pages and its root (Castro and Liskov, TOCS 2002, sections 4.3 and 4.4).
+-- The state that batches leave, its pages and its root (Castro and Liskov, TOCS 2002, section 4.3 and, of pages and root, 5.3).
 use Rattle.std.specs.Prelude.{◌≡◌, ℕ, suc, ◌-◌, Bool, ◌&&◌, not, List, [], ◌∷◌, ◌++◌, length, map, replicate, nat_lt, ◌==◌, if◌then◌else◌, Option, Some, None, slice_get, slice_set, option_and_then, fold}
 use Rattle.std.specs.List.{range_with_len}
 use Rattle.std.specs.Option.{option_map_or}

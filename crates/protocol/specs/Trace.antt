@@ -1,6 +1,6 @@
 -- Traces and histories. Both are lists of entries, the newest first, so that what stands behind an entry is its past,
 -- and the position of an entry is how many stand behind it.
-use Rattle.std.specs.Prelude.{◌≡◌, ℕ, ◌+◌, ◌⊎◌, true, List, [], ◌∷◌, filter, ◌==◌, Some, ⊤}
+use Rattle.std.specs.Prelude.{◌≡◌, ℕ, ◌+◌, ◌⊎◌, Bool, true, false, List, [], ◌∷◌, filter, ◌==◌, Some, ⊤}
 use Rattle.std.specs.Option.{option_map_or}
 use Rattle.tuple_codec.specs.Operations.{Operation, Outcome}
 use Rattle.protocol.specs.Configuration.{Configuration, is_correct}
@@ -27,6 +27,10 @@ party_of (Installed replica number root) = replica
 party_of (Sent party bytes) = party
 party_of (Accepted client timestamp answer) = 256 + client
 
+-- an input begins an event, and outputs follow it
+abbrev pub is_output : Entry → Bool
+is_output e = elim e [ Invoke client t op ↦ false | Got p bytes ↦ false | Tick p ↦ false | _ ↦ true ]
+
 -- the history of one party: its entries of the trace
 abbrev pub history_of : ℕ → List Entry → List Entry
 history_of p trace = filter (λ e. party_of e == p) trace
@@ -46,10 +50,15 @@ abbrev pub Has : {A : Type 0} → (A → Type 0) → List A → Type 0
 Has P [] = ⊥
 Has P (x ∷ xs) = P x ⊎ Has P xs
 
--- each element of the list
+-- each element of the list; by recursion on it, so that a list that is known gives a product
 abbrev pub Each : {A : Type 0} → (A → Type 0) → List A → Type 0
 Each P [] = ⊤
 Each P (x ∷ xs) = P x × Each P xs
+
+-- the one or the other
+abbrev pub either : Bool → Type 0 → Type 0 → Type 0
+either true one other = one
+either false one other = other
 
 -- ---- frames
 

@@ -4,7 +4,7 @@
 pub mod accepted;
 pub mod refused;
 
-ghost use Rattle.protocol.specs.Laws.{FramesAreSpelled, BodiesAreSaid, BytesAreHeard, PreparedAgree, CommittedStays, CommittedAgree, ExecutedAgree, PagesDetermine, BatchesLeaveStates, StatesAreExecuted, StatesAgree, StableAgree, InstalledAgree, StartsAgree, LinearOfRight, WeakIsOneSpace};
+ghost use Rattle.protocol.specs.Laws.{FramesAreSpelled, BodiesAreSaid, BytesAreHeard, PreparedAgree, CommittedStays, CommittedAgree, ExecutedAgree, PagesDetermine, BatchesLeaveStates, StatesAreExecuted, StatesAgree, StableAgree, InstalledAgree, StartsAgree, LinearOfSafe, WeakIsOneSpace};
 ghost use Rattle.protocol.specs.Run.{PointsAreLinear, NoneRunsTwice, AcceptedAtLevels, WeakAnswersAreOneSpace};
 
 /// What the definitions read from bytes is what the frame's grammar says, and what a party hears as authentic or signed.
@@ -68,9 +68,9 @@ pub fn points_are_linear()
     ensures linear { PointsAreLinear }
 {}
 
-/// The same over a trace whose histories are right, whether or not the replicas do all that they owe.
-pub fn right_histories_are_linear()
-    ensures linear { LinearOfRight }
+/// The same over a trace whose histories are safe, whether or not the replicas do all that they owe.
+pub fn safe_histories_are_linear()
+    ensures linear { LinearOfSafe }
 {}
 
 /// At an acceptance all but `f` of the correct replicas have reached the replies' number; a read finds them at most
@@ -85,7 +85,7 @@ pub fn weak_answers_are_one_space()
     ensures weak { WeakAnswersAreOneSpace }
 {}
 
-/// The same over a trace whose histories are right, whether or not the replicas do all that they owe.
+/// The same over a trace whose histories are safe, whether or not the replicas do all that they owe.
 pub fn weak_histories_are_one_space()
     ensures weak { WeakIsOneSpace }
 {}
