@@ -1,9 +1,9 @@
 -- The definitions refuse what wrong bodies would do.
 use Rattle.std.specs.List.{list_all, range_with_len}
-use Rattle.std.proofs.Common.{◌≡◌, ℕ, zero, suc, not, filter, ◌+◌, ◌-◌, ◌*◌, ◌≤◌, ◌<◌, ◌⊎◌, inl, inr, Bool, true, false, cond, List, [], bytes_eq, None, ◌∷◌, length, slice_get, refl, sym, ap, ◌∙◌, subst, arith, ◌&&◌, ◌||◌, Option, Some, eqb-true, eq-eqb}
-use Rattle.std.specs.Prelude.{◌==◌, nat_le, nat_lt, option_and_then, ⊤}
+use Rattle.std.proofs.Common.{◌≡◌, ℕ, zero, suc, max, not, filter, ◌+◌, ◌-◌, ◌*◌, ◌≤◌, ◌<◌, ◌⊎◌, inl, inr, Bool, true, false, cond, List, [], bytes_eq, None, ◌∷◌, length, slice_get, refl, sym, ap, ◌∙◌, subst, arith, ◌&&◌, ◌||◌, Option, Some, eqb-true, eq-eqb}
+use Rattle.std.specs.Prelude.{◌==◌, nat_le, nat_lt, option_and_then, is_some, ⊤}
 use Rattle.std.specs.Option.{option_map_or}
-use Rattle.std.proofs.lemmas.Bool.{eqb-false, and_parts, or_cases, leb-true, ltb-true}
+use Rattle.std.proofs.lemmas.Bool.{eqb-false, ltb-false, and_parts, or_cases, leb-true, ltb-true}
 use Rattle.std.proofs.lemmas.Slice.Eq.{bytes_eq-Decides}
 use Rattle.tuple_codec.specs.Operations.{Outcome}
 use Rattle.tuple_codec.specs.Spelling.{outcome_spelling}
@@ -12,20 +12,22 @@ use Rattle.quorum.specs.Quorum.{count_below}
 use Rattle.protocol.specs.Configuration.{Configuration, replicas, span}
 use Rattle.wire.specs.declared.terms.Mode.TheVariants as modes
 use Rattle.wire.specs.Messages.{BodyData as Body, FrameData as Frame, ProofData as Proof, MacData, macs, ViewChangeData as ViewChange, NewViewData as NewView, ClaimData as Claim, pre_prepare as PrePrepare, prepare as Prepare, commit as Commit, checkpoint as Checkpoint, view_change as Change, reply as Reply}
-use Rattle.protocol.specs.Frames.{frame_of, said, mode_of}
+use Rattle.protocol.specs.Frames.{frame_of, said, heard, mode_of}
 use Rattle.protocol.specs.Trace.{Entry, party_of, Once, Always, Has, Hears}
 use Rattle.protocol.specs.Trace.Entry.{Invoke, Got, Tick, Executed, Installed, Sent, Accepted}
 use Rattle.protocol.specs.Selection.{is_quorum, is_weak_quorum, passes_by, count_in, vouches, agrees, may_stand_at, may_be_null, is_null, is_within, changes_of, how_many}
 use Rattle.protocol.specs.Certificates.{target, view, is_active_in, is_later, new_view_in, logged, low}
 use Rattle.reply_cache.specs.Replies.{Kept}
 use Rattle.protocol.specs.State.{State, Ran, opening, kept_of, last_time, runs, run_call, ran_call, kept_by, page_text}
-use Rattle.protocol.specs.RightReplica.{IsAddressed, Point, Leaves, SafeReplica, May, Moves, MaySay, MaySend, MayCheckpoint, MayPrepare, MayCommit, MayPrePrepare, MayReply, MayChange, RepliesTo, GetsPage}
+use Rattle.protocol.specs.RightReplica.{IsAddressed, Point, Leaves, SafeReplica, May, Moves, MaySay, MaySend, MayCheckpoint, MayPrepare, MayCommit, MayPrePrepare, MayReply, MayReplyRead, MayChange, SendsBytes, RepliesTo, GetsPage}
 use Rattle.protocol.specs.RightClient.{SafeClient, Vote, latest, is_alike, count_alike}
-use Rattle.protocol.specs.Refused.{RepliesToItsClient, CommitsToAll, Says, NoExecution, newest_number, HasFrom, SaysNothingAgainst, SaysForIt, SaysNothing, RepliesAfterExecution, NoCommitAfterChange, NoPrepareAfterChange, NoEarlyCheckpoint, OnePrePrepare, NoPrepareByPrimary, ExecutesNext, KeepsPrepared, InstallsWhatItHas, TakesWellSelected, TakesNoLower, RunsOnce, AcceptsAtQuorum}
+use Rattle.protocol.specs.Refused.{ProposesAuthentic, ReadsNewest, NoChangeWhileActive, AnswersReads, DropsReplies, DropsOwnChange, RepliesToItsClient, CommitsToAll, Says, NoExecution, newest_number, HasFrom, SaysNothingAgainst, SaysForIt, SaysNothing, RepliesAfterExecution, NoCommitAfterChange, NoPrepareAfterChange, NoEarlyCheckpoint, OnePrePrepare, NoPrepareByPrimary, ExecutesNext, KeepsPrepared, InstallsWhatItHas, TakesWellSelected, TakesNoLower, RunsOnce, AcceptsAtQuorum}
+use Rattle.wire.specs.Words.{requests_of}
+use Rattle.protocol.specs.Owed.{Owes, Counts, IsReplica, change_taken, latest_change}
 use Rattle.protocol.proofs.Temporal.{once_weaker, once_stays_from}
 use Rattle.protocol.proofs.Options.{and_then_some, give_if_some, some_injective}
 use Rattle.protocol.proofs.Voting.{right_always, logged_stays}
-use Rattle.protocol.proofs.Marks.{Selects, selects, selected_in, takes}
+use Rattle.protocol.proofs.Marks.{Selects, selects, selected_in, takes, view_grows}
 use Rattle.protocol.proofs.Lists.{has_some, every_has, passes_change, change_there, has_of_any, largest_of-has, stands_at, some_below}
 use Rattle.protocol.proofs.Reading.{latest_heard}
 use Rattle.protocol.proofs.Ordering.{latest_ordered}
@@ -169,6 +171,107 @@ installs_what_it_has c me k i root past old new installed within differs = go (i
     go : (page_text new.state i ≡ page_text old.state i) ⊎ Once (GetsPage c me i (page_text new.state i)) past → Once (GetsPage c me i (page_text new.state i)) past
     go (inl same) = absurd (differs same)
     go (inr got) = got
+
+pub proposes_authentic : ProposesAuthentic
+proposes_authentic c me v i batch bytes request past says right has =
+    let m : MayPrePrepare c me past (Sent me bytes) v i batch = says_may c me bytes (record { sender = me; message = PrePrepare v i batch }) past right says in
+    there (heard c me request) (every_has (λ (x : List ℕ). is_some (heard c me x)) (requests_of batch) request m.genuine has)
+  where
+    there : (o : Option Body) → is_some o ≡ true → (body : Body) × (o ≡ Some body)
+    there None h = absurd cc
+    there (Some body) h = (body, refl)
+
+pub reads_newest : ReadsNewest
+reads_newest c me client timestamp number answer bytes past says right =
+    let m : MayReplyRead c me past right.1.0 client timestamp number answer = says_may c me bytes (record { sender = me; message = Reply client timestamp modes.ReadOnly number answer }) past right says in
+    m.number_is ∙ newest_state c me past right.1.0 right.1.1
+
+pub no_change_while_active : NoChangeWhileActive
+no_change_while_active c me bytes vc past says before active right = go (says_may c me bytes (record { sender = me; message = Change vc }) past right says)
+  where
+    sends : (x : List Entry) (e : Entry) → SendsBytes bytes x e → Says (record { sender = me; message = Change vc }) x e
+    sends x (Sent p sent) h = subst (λ (ys : List ℕ). said ys ≡ Some (record { sender = me; message = Change vc })) (sym h) says
+    sends x (Invoke a b d) h = absurd h
+    sends x (Got a b) h = absurd h
+    sends x (Tick a) h = absurd h
+    sends x (Executed a b d) h = absurd h
+    sends x (Installed a b d) h = absurd h
+    sends x (Accepted a b d) h = absurd h
+
+    go : MayChange c me past right.1.0 bytes vc → ⊥
+    go (inl change) =
+        let a = above_target me vc past (once_weaker (SendsBytes bytes) (Says (record { sender = me; message = Change vc })) sends past before) in
+        let b = change.newer in
+        omega arith
+    go (inr again) = let a = again.0 in omega arith
+
+-- ---- what is owed
+
+record Owed (c : Configuration) (me : ℕ) (bytes : List ℕ) (past outputs : List Entry) : Type 0 where
+  old : Point
+  new : Point
+  now : List Entry
+  owes : Owes c me past (Got me bytes) outputs now old new
+
+owed_later : (c : Configuration) (me : ℕ) (bytes later : List ℕ) (past : List Entry) → IsReplica c me (Sent me later ∷ Tick me ∷ Got me bytes ∷ past) → Owed c me bytes past []
+owed_later c me bytes later past (inl h) = record { old = _; new = _; now = _; owes = h.1.2.2.1.2.0 }
+owed_later c me bytes later past (inr h) = absurd h.1
+
+owed_here : (c : Configuration) (me : ℕ) (bytes later : List ℕ) (past : List Entry) → IsReplica c me (Sent me later ∷ Got me bytes ∷ past) → Owed c me bytes past (Sent me later ∷ [])
+owed_here c me bytes later past (inl h) = record { old = _; new = _; now = _; owes = h.1.2.2.0 }
+owed_here c me bytes later past (inr h) = absurd h.1
+
+pub answers_reads : AnswersReads
+answers_reads c me client timestamp op bytes later past hears is h =
+    let o = owed_later c me bytes later past h in o.owes.reads client timestamp op hears is
+
+-- an output belies that the input is dropped
+not_dropped : (c : Configuration) (me : ℕ) (bytes later : List ℕ) (past : List Entry) (body : Body) → heard c me bytes ≡ Some body → IsReplica c me (Sent me later ∷ Got me bytes ∷ past)
+    → ((point : Point) → Counts c me past point bytes body.sender body.message → ⊥) → ⊥
+not_dropped c me bytes later past body hears h never =
+    let o = owed_here c me bytes later past h in
+    let none : Sent me later ∷ [] ≡ [] = o.owes.dropped bytes refl (λ other is k.
+        never o.old (subst (λ (x : Body). Counts c me past o.old bytes x.sender x.message) (some_injective other body (sym is ∙ hears)) k)) in
+    absurd cc
+
+pub drops_replies : DropsReplies
+drops_replies c me s client timestamp number mode answer bytes later past hears h =
+    not_dropped c me bytes later past (record { sender = s; message = Reply client timestamp mode number answer }) hears h (λ point k. k)
+
+pub drops_own_change : DropsOwnChange
+drops_own_change c me vc bytes later past hears signed before h =
+    not_dropped c me bytes later past (record { sender = me; message = Change vc }) hears h (λ point k. late k.1 k.2 k.3)
+  where
+    taken_or : is_within c vc ≡ true → (v : ℕ) → vc.view ≤ max (change_taken c v me bytes) v
+    taken_or within v =
+        let is : change_taken c v me bytes ≡ cond ((me == me) && nat_lt v vc.view && is_within c vc) vc.view 0
+        = ap (λ (o : Option (ℕ × ViewChange)). option_map_or (λ (x : ℕ × ViewChange). cond ((x.0 == me) && nat_lt v x.1.view && is_within c x.1) x.1.view 0) o 0) signed in
+        let r = go (me == me) (nat_lt v vc.view) (is_within c vc) (eq-eqb me me refl) within (λ k. ltb-false v vc.view k) in
+        subst (λ (n : ℕ). vc.view ≤ max n v) (sym is) r
+      where
+        go : (a b d : Bool) → a ≡ true → d ≡ true → (b ≡ false → vc.view ≤ v) → vc.view ≤ max (cond (a && b && d) vc.view 0) v
+        go true true true ea ed f = omega arith
+        go true false true ea ed f = let l = f refl in omega arith
+        go true b false ea ed f = absurd cc
+        go false b d ea ed f = absurd cc
+
+    counted : is_within c vc ≡ true → (x : List Entry) (e : Entry) → SendsBytes bytes x e → vc.view ≤ max (latest_change c (e ∷ x) me) (view c (e ∷ x))
+    counted within x (Sent p sent) t =
+        let r : vc.view ≤ max (change_taken c (view c x) me sent) (view c x) = subst (λ (ys : List ℕ). vc.view ≤ max (change_taken c (view c x) me ys) (view c x)) (sym t) (taken_or within (view c x)) in
+        let grows = view_grows c (Sent p sent) x in
+        omega arith
+    counted within x (Invoke a b d) t = absurd t
+    counted within x (Got a b) t = absurd t
+    counted within x (Tick a) t = absurd t
+    counted within x (Executed a b d) t = absurd t
+    counted within x (Installed a b d) t = absurd t
+    counted within x (Accepted a b d) t = absurd t
+
+    late : view c past < vc.view → is_within c vc ≡ true → latest_change c past me < vc.view → ⊥
+    late above within newer =
+        let a = once_stays_from (λ x. vc.view ≤ max (latest_change c x me) (view c x)) (λ e x k. let grows = view_grows c e x in omega arith) past
+        (once_weaker (SendsBytes bytes) (λ x e. vc.view ≤ max (latest_change c (e ∷ x) me) (view c (e ∷ x))) (counted within) past before) in
+        omega arith
 
 -- ---- whom a frame is for
 

@@ -1,21 +1,24 @@
 -- Small histories that the definitions refuse: what wrong replicas, primaries and clients would make.
 use Rattle.std.specs.Prelude.{◌≡◌, ◌≢◌, ℕ, suc, ◌+◌, ◌-◌, ◌*◌, ◌≤◌, ◌<◌, ◌⊎◌, true, Bool, List, [], ◌∷◌, length, map, slice_get, Some, ⊤}
 use Rattle.sha2.specs.Sha256.{sha256}
-use Rattle.tuple_codec.specs.Operations.{Outcome}
+use Rattle.tuple_codec.specs.Operations.{Operation, Outcome}
+use Rattle.space.specs.Applying.{is_read_only}
+use Rattle.wire.specs.Words.{requests_of}
 use Rattle.tuple_codec.specs.Spelling.{outcome_spelling}
 use Rattle.wire.specs.declared.terms.Mode.{Mode}
 use Rattle.quorum.specs.Quorum.{count_below}
 use Rattle.protocol.specs.Configuration.{Configuration, replicas, primary}
 use Rattle.wire.specs.declared.terms.Mode.TheVariants as modes
-use Rattle.wire.specs.Messages.{BodyData as Body, FrameData as Frame, MacData, macs, ViewChangeData as ViewChange, NewViewData as NewView, ClaimData as Claim, pre_prepare as PrePrepare, prepare as Prepare, commit as Commit, checkpoint as Checkpoint, view_change as Change, reply as Reply}
-use Rattle.protocol.specs.Frames.{frame_of, said}
+use Rattle.wire.specs.Messages.{BodyData as Body, FrameData as Frame, MacData, macs, ViewChangeData as ViewChange, NewViewData as NewView, ClaimData as Claim, request as Request, pre_prepare as PrePrepare, prepare as Prepare, commit as Commit, checkpoint as Checkpoint, view_change as Change, reply as Reply}
+use Rattle.protocol.specs.Frames.{frame_of, said, heard}
 use Rattle.protocol.specs.Trace.{Entry, Once, Always, Has, Hears}
-use Rattle.protocol.specs.Trace.Entry.{Executed, Installed, Sent, Accepted}
-use Rattle.protocol.specs.Selection.{changes_of}
-use Rattle.protocol.specs.Certificates.{low, is_in_marks, taken, Prepared}
+use Rattle.protocol.specs.Trace.Entry.{Got, Tick, Executed, Installed, Sent, Accepted}
+use Rattle.protocol.specs.Selection.{changes_of, signed_change}
+use Rattle.protocol.specs.Certificates.{low, is_in_marks, taken, target, view, Prepared}
 use Rattle.protocol.specs.State.{State, Call, runs, run_call, page_text}
 use Rattle.protocol.specs.RightReplica.{Point, SafeReplica, Executes, GetsPage, SentBefore, IsInstalled}
 use Rattle.protocol.specs.RightClient.{SafeClient}
+use Rattle.protocol.specs.Owed.{IsReplica}
 
 -- the party sent a frame of this body
 abbrev pub Says : Body → List Entry → Entry → Type 0
@@ -70,12 +73,33 @@ NoPrepareByPrimary =
     → said bytes ≡ Some (record { sender = me; message = Prepare v i digest })
     → primary c v ≡ me → SafeReplica c me (Sent me bytes ∷ past) → ⊥
 
+-- A pre-prepare over a request that is not authentic to the primary.
+abbrev pub ProposesAuthentic : Type 0
+ProposesAuthentic =
+    (c : Configuration) (me v i : ℕ) (batch bytes request : List ℕ) (past : List Entry)
+    → said bytes ≡ Some (record { sender = me; message = PrePrepare v i batch }) → SafeReplica c me (Sent me bytes ∷ past)
+    → Has (λ x. x ≡ request) (requests_of batch) → (body : Body) × (heard c me request ≡ Some body)
+
+-- A view change that goes again while its sender is active.
+abbrev pub NoChangeWhileActive : Type 0
+NoChangeWhileActive =
+    (c : Configuration) (me : ℕ) (bytes : List ℕ) (vc : ViewChange) (past : List Entry)
+    → said bytes ≡ Some (record { sender = me; message = Change vc }) → SentBefore bytes past → target past ≤ view c past
+    → SafeReplica c me (Sent me bytes ∷ past) → ⊥
+
 -- the number that was executed or installed last, first 0
 abbrev pub newest_number : List Entry → ℕ
 newest_number [] = 0
 newest_number (Executed r k batch ∷ past) = k
 newest_number (Installed r k root ∷ past) = k
 newest_number (_ ∷ past) = newest_number past
+
+-- A read answered with another number than that.
+abbrev pub ReadsNewest : Type 0
+ReadsNewest =
+    (c : Configuration) (me client timestamp number : ℕ) (answer : Outcome) (bytes : List ℕ) (past : List Entry)
+    → said bytes ≡ Some (record { sender = me; message = Reply client timestamp modes.ReadOnly number answer }) → SafeReplica c me (Sent me bytes ∷ past)
+    → number ≡ newest_number past
 
 -- An execution that skips a number, or goes back.
 abbrev pub ExecutesNext : Type 0
@@ -115,6 +139,29 @@ CommitsToAll =
     → said bytes ≡ Some (record { sender = me; message = Commit v i digest })
     → frame_of bytes ≡ Some frame → frame.proof ≡ macs entries → s < replicas c → s ≢ me → SafeReplica c me (Sent me bytes ∷ past)
     → Has (λ r. r ≡ s) (map (λ x. x.receiver) entries)
+
+-- ---- what is owed. A replica that sends a frame later has not stopped.
+
+-- A read that is got, and not answered.
+abbrev pub AnswersReads : Type 0
+AnswersReads =
+    (c : Configuration) (me client timestamp : ℕ) (op : Operation) (bytes later : List ℕ) (past : List Entry)
+    → heard c me bytes ≡ Some (record { sender = client; message = Request timestamp modes.ReadOnly op }) → is_read_only op ≡ true
+    → IsReplica c me (Sent me later ∷ Tick me ∷ Got me bytes ∷ past) → ⊥
+
+-- A frame that answers a reply, which a replica drops.
+abbrev pub DropsReplies : Type 0
+DropsReplies =
+    (c : Configuration) (me s client timestamp number : ℕ) (mode : Mode) (answer : Outcome) (bytes later : List ℕ) (past : List Entry)
+    → heard c me bytes ≡ Some (record { sender = s; message = Reply client timestamp mode number answer })
+    → IsReplica c me (Sent me later ∷ Got me bytes ∷ past) → ⊥
+
+-- A frame that answers the own view change, which comes back.
+abbrev pub DropsOwnChange : Type 0
+DropsOwnChange =
+    (c : Configuration) (me : ℕ) (vc : ViewChange) (bytes later : List ℕ) (past : List Entry)
+    → heard c me bytes ≡ Some (record { sender = me; message = Change vc }) → signed_change c bytes ≡ Some (me, vc) → SentBefore bytes past
+    → IsReplica c me (Sent me later ∷ Got me bytes ∷ past) → ⊥
 
 -- ---- a new view
 
