@@ -11,7 +11,7 @@ use Rattle.sha2.specs.Sha256.{sha256}
 use Rattle.quorum.specs.Quorum.{count_below}
 use Rattle.protocol.specs.Configuration.{Configuration, replicas}
 use Rattle.wire.specs.declared.terms.Mode.TheVariants as modes
-use Rattle.wire.specs.Messages.{BodyData as Body, FrameData as Frame, ProofData as Proof, MacData, macs, ViewChangeData as ViewChange, NewViewData as NewView, pre_prepare as PrePrepare, prepare as Prepare, commit as Commit, checkpoint as Checkpoint, view_change as Change, reply as Reply}
+use Rattle.wire.specs.Messages.{BodyData as Body, FrameData as Frame, ProofData as Proof, MacData, macs, ViewChangeData as ViewChange, NewViewData as NewView, pre_prepare as PrePrepare, prepare as Prepare, commit as Commit, checkpoint as Checkpoint, view_change as Change, reply as Reply, meta as Meta, page as Page}
 use Rattle.protocol.specs.Frames.{frame_of, said, mode_of}
 use Rattle.protocol.specs.Trace.{Entry, party_of, Once, Always, Has, Hears}
 use Rattle.protocol.specs.Trace.Entry.{Invoke, Got, Tick, Executed, Installed, Sent, Accepted}
@@ -20,8 +20,9 @@ use Rattle.protocol.specs.Certificates.{target, view, is_active_in, is_later, ne
 use Rattle.reply_cache.specs.Replies.{Kept}
 use Rattle.protocol.specs.State.{State, Ran, opening, kept_of, last_time, runs, run_call, ran_call, kept_by, page_text}
 use Rattle.protocol.specs.RightReplica.{IsAddressed, Point, Leaves, RightReplica, May, Moves, MaySay, MaySend, MayCheckpoint, MayPrepare, MayCommit, MayPrePrepare, MayReply, RepliesTo, GetsPage}
+use Rattle.protocol.specs.Owed.{Counts}
 use Rattle.protocol.specs.RightClient.{RightClient, Vote, latest, is_alike, count_alike}
-use Rattle.protocol.specs.Refused.{RepliesToItsClient, CommitsToAll, Says, NoExecution, newest_number, RepliesAfterExecution, NoCommitAfterChange, NoPrepareAfterChange, NoEarlyCheckpoint, OnePrePrepare, NoPrepareByPrimary, ExecutesNext, KeepsPrepared, InstallsWhatItHas, TakesWellSelected, TakesNoLower, RunsOnce, AcceptsAtQuorum}
+use Rattle.protocol.specs.Refused.{UnaskedDigestsAreDropped, UnaskedPagesAreDropped, RepliesToItsClient, CommitsToAll, Says, NoExecution, newest_number, RepliesAfterExecution, NoCommitAfterChange, NoPrepareAfterChange, NoEarlyCheckpoint, OnePrePrepare, NoPrepareByPrimary, ExecutesNext, KeepsPrepared, InstallsWhatItHas, TakesWellSelected, TakesNoLower, RunsOnce, AcceptsAtQuorum}
 use Rattle.protocol.proofs.Temporal.{once_weaker, once_stays_from}
 use Rattle.protocol.proofs.Options.{and_then_some, give_if_some, some_injective}
 use Rattle.protocol.proofs.Voting.{right_always, logged_stays}
@@ -206,6 +207,20 @@ commits_to_all c me v i s digest bytes frame entries past says is proof within o
     differs : (b : Bool) → (s == me) ≡ b → not b ≡ true
     differs true e = absurd (other (eqb-true s me e))
     differs false e = refl
+
+-- ---- what is dropped
+
+pub unasked_digests_are_dropped : UnaskedDigestsAreDropped
+unasked_digests_are_dropped c me s k index level digests bytes past point h never body is counts =
+    let asked : Body = record { sender = s; message = Meta k level index digests } in
+    let t = subst (λ (b : Body). Counts c me past point bytes b.sender b.message) (some_injective body asked (sym is ∙ h)) counts in
+    never t.0
+
+pub unasked_pages_are_dropped : UnaskedPagesAreDropped
+unasked_pages_are_dropped c me s k index text bytes past point h never body is counts =
+    let asked : Body = record { sender = s; message = Page k index text } in
+    let t = subst (λ (b : Body). Counts c me past point bytes b.sender b.message) (some_injective body asked (sym is ∙ h)) counts in
+    never t.0
 
 -- ---- new views
 

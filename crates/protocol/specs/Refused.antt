@@ -4,11 +4,13 @@ use Rattle.sha2.specs.Sha256.{sha256}
 use Rattle.tuple_codec.specs.Operations.{Outcome}
 use Rattle.tuple_codec.specs.Spelling.{outcome_spelling}
 use Rattle.wire.specs.declared.terms.Mode.{Mode}
+use Rattle.wire.specs.declared.terms.Level.{Level}
+use Rattle.wire.specs.declared.terms.Level.TheVariants as levels
 use Rattle.quorum.specs.Quorum.{count_below}
 use Rattle.protocol.specs.Configuration.{Configuration, replicas, primary}
 use Rattle.wire.specs.declared.terms.Mode.TheVariants as modes
-use Rattle.wire.specs.Messages.{BodyData as Body, FrameData as Frame, MacData, macs, ViewChangeData as ViewChange, NewViewData as NewView, ClaimData as Claim, pre_prepare as PrePrepare, prepare as Prepare, commit as Commit, checkpoint as Checkpoint, view_change as Change, reply as Reply}
-use Rattle.protocol.specs.Frames.{frame_of, said}
+use Rattle.wire.specs.Messages.{BodyData as Body, FrameData as Frame, MacData, macs, ViewChangeData as ViewChange, NewViewData as NewView, ClaimData as Claim, pre_prepare as PrePrepare, prepare as Prepare, commit as Commit, checkpoint as Checkpoint, view_change as Change, reply as Reply, meta as Meta, page as Page}
+use Rattle.protocol.specs.Frames.{frame_of, said, heard}
 use Rattle.protocol.specs.Trace.{Entry, Once, Always, Has, Hears}
 use Rattle.protocol.specs.Trace.Entry.{Executed, Installed, Sent, Accepted}
 use Rattle.protocol.specs.Selection.{count_in, vouches, may_be_null, is_null, changes_of, change_by}
@@ -16,6 +18,7 @@ use Rattle.protocol.specs.Certificates.{target, low, is_in_marks, taken, view, P
 use Rattle.protocol.specs.State.{State, Call, runs, run_call, page_text}
 use Rattle.protocol.specs.RightReplica.{Point, RightReplica, Executes, GetsPage, IsNewChange, IsInstalled}
 use Rattle.protocol.specs.RightClient.{RightClient}
+use Rattle.protocol.specs.Owed.{asked_last, IsDropped}
 
 -- the party sent a frame of this body
 abbrev pub Says : Body → List Entry → Entry → Type 0
@@ -114,6 +117,21 @@ CommitsToAll =
     → said bytes ≡ Some (record { sender = me; message = Commit v i digest })
     → frame_of bytes ≡ Some frame → frame.proof ≡ macs entries → s < replicas c → s ≢ me → RightReplica c me (Sent me bytes ∷ past)
     → Has (λ r. r ≡ s) (map (λ x. x.receiver) entries)
+
+-- ---- what is dropped
+
+-- A part of a state that was not asked for last.
+abbrev pub UnaskedDigestsAreDropped : Type 0
+UnaskedDigestsAreDropped =
+    (c : Configuration) (me s k index : ℕ) (level : Level) (digests : List (List ℕ)) (bytes : List ℕ) (past : List Entry) (point : Point)
+    → heard c me bytes ≡ Some (record { sender = s; message = Meta k level index digests })
+    → asked_last past ≢ Some (k, (level, index)) → IsDropped c me past point bytes
+
+abbrev pub UnaskedPagesAreDropped : Type 0
+UnaskedPagesAreDropped =
+    (c : Configuration) (me s k index : ℕ) (text bytes : List ℕ) (past : List Entry) (point : Point)
+    → heard c me bytes ≡ Some (record { sender = s; message = Page k index text })
+    → asked_last past ≢ Some (k, (levels.Page, index)) → IsDropped c me past point bytes
 
 -- ---- a new view
 

@@ -1,6 +1,6 @@
 //! Laws that show what the definitions refuse: each is a small history, or a part of one, that a wrong body would make.
 
-ghost use Rattle.protocol.specs.Refused.{RepliesAfterExecution, NoCommitAfterChange, NoPrepareAfterChange, NoEarlyCheckpoint, OnePrePrepare, NoPrepareByPrimary, ExecutesNext, KeepsPrepared, InstallsWhatItHas, RepliesToItsClient, CommitsToAll, TakesWellSelected, TakesNoLower, RunsOnce, AcceptsAtQuorum};
+ghost use Rattle.protocol.specs.Refused.{RepliesAfterExecution, NoCommitAfterChange, NoPrepareAfterChange, NoEarlyCheckpoint, OnePrePrepare, NoPrepareByPrimary, ExecutesNext, KeepsPrepared, InstallsWhatItHas, RepliesToItsClient, CommitsToAll, UnaskedDigestsAreDropped, UnaskedPagesAreDropped, TakesWellSelected, TakesNoLower, RunsOnce, AcceptsAtQuorum};
 
 /// A right replica sends no ordered reply before anything is executed, no commit or prepare of a view after a view change
 /// above it, no checkpoint of a number that it never executed, no second pre-prepare of a number of a view, and no
@@ -26,6 +26,12 @@ pub fn right_replicas_do_not_skip()
 pub fn right_replicas_address_all()
     ensures replies { RepliesToItsClient }
     ensures commits { CommitsToAll }
+{}
+
+/// A prompt replica drops a part of a state that it did not ask for last, and so gives nothing for it.
+pub fn unasked_parts_are_dropped()
+    ensures digests { UnaskedDigestsAreDropped }
+    ensures pages { UnaskedPagesAreDropped }
 {}
 
 /// A new view is not taken over too few view changes, over some for another view, with too few batches, with a batch
