@@ -294,9 +294,13 @@ pub accepts_at_quorum : AcceptsAtQuorum
 accepts_at_quorum c me k timestamp answer past right =
     let m = right.0.1 in
     let full = leb-true (2 * c.faults + 1) (count_alike c me past m.0.timestamp m.1) m.6 in
-    let enough = subst (λ (t : ℕ). 2 * c.faults + 1 ≤ count_alike c me past t m.1) m.3 full in
-    (mode_of m.1.read_only, m.1.number, λ s. is_alike m.1 (latest c me past timestamp m.1.read_only s), enough,
-    λ s h. answers s m.1 m.4 m.1.read_only (latest c me past timestamp m.1.read_only s) refl h)
+    let enough = subst (λ (t : ℕ). 2 * c.faults + 1 ≤ count_alike c me past t m.1) m.3 full in (
+      mode_of m.1.read_only,
+      m.1.number,
+      λ s. is_alike m.1 (latest c me past timestamp m.1.read_only s),
+      enough,
+      λ s h. answers s m.1 m.4 m.1.read_only (latest c me past timestamp m.1.read_only s) refl h,
+    )
   where
     own : Always (λ past e. party_of e ≡ me) past
     own = own_parties c me past right.1

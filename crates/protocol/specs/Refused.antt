@@ -171,4 +171,4 @@ AcceptsAtQuorum =
     → RightClient c me (Accepted k timestamp answer ∷ past)
     → (mode : Mode) × (number : ℕ) × (from : ℕ → Bool) × (2 * c.faults + 1 ≤ count_below from (replicas c))
     × ((s : ℕ) → from s ≡ true → (other : Outcome) × (outcome_spelling other ≡ outcome_spelling answer)
-        × Once (Hears c me (record { sender = s; message = Reply me timestamp mode number other })) past)
+    × Once (Hears c me (record { sender = s; message = Reply me timestamp mode number other })) past)
