@@ -11,7 +11,7 @@ use Rattle.sha2.specs.Sha256.{sha256}
 use Rattle.quorum.specs.Quorum.{count_below}
 use Rattle.protocol.specs.Configuration.{Configuration, replicas, span}
 use Rattle.wire.specs.declared.terms.Mode.TheVariants as modes
-use Rattle.wire.specs.Messages.{BodyData as Body, FrameData as Frame, ProofData as Proof, MacData, macs, ViewChangeData as ViewChange, NewViewData as NewView, ClaimData as Claim, pre_prepare as PrePrepare, prepare as Prepare, commit as Commit, checkpoint as Checkpoint, view_change as Change, reply as Reply}
+use Rattle.wire.specs.Messages.{BodyData as Body, FrameData as Frame, ProofData as Proof, MacData, macs, ViewChangeData as ViewChange, NewViewData as NewView, ClaimData as Claim, pre_prepare as PrePrepare, prepare as Prepare, commit as Commit, checkpoint as Checkpoint, view_change as Change, reply as Reply, meta as Meta, page as Page}
 use Rattle.protocol.specs.Frames.{frame_of, said, heard, mode_of}
 use Rattle.protocol.specs.Trace.{Entry, party_of, Once, Always, Has, Hears}
 use Rattle.protocol.specs.Trace.Entry.{Invoke, Got, Tick, Executed, Installed, Sent, Accepted}
@@ -21,7 +21,7 @@ use Rattle.reply_cache.specs.Replies.{Kept}
 use Rattle.protocol.specs.State.{State, Ran, opening, kept_of, last_time, runs, run_call, ran_call, kept_by, page_text}
 use Rattle.protocol.specs.RightReplica.{IsAddressed, Point, Leaves, SafeReplica, May, Moves, MaySay, MaySend, MayCheckpoint, MayPrepare, MayCommit, MayPrePrepare, MayReply, MayReplyRead, MayChange, SendsBytes, RepliesTo, GetsPage}
 use Rattle.protocol.specs.RightClient.{SafeClient, Vote, latest, is_alike, count_alike}
-use Rattle.protocol.specs.Refused.{ProposesAuthentic, ReadsNewest, NoChangeWhileActive, AnswersReads, DropsReplies, DropsOwnChange, RepliesToItsClient, CommitsToAll, Says, NoExecution, newest_number, HasFrom, SaysNothingAgainst, SaysForIt, SaysNothing, RepliesAfterExecution, NoCommitAfterChange, NoPrepareAfterChange, NoEarlyCheckpoint, OnePrePrepare, NoPrepareByPrimary, ExecutesNext, KeepsPrepared, InstallsWhatItHas, TakesWellSelected, TakesNoLower, RunsOnce, AcceptsAtQuorum}
+use Rattle.protocol.specs.Refused.{UnaskedDigestsAreDropped, UnaskedPagesAreDropped, ProposesAuthentic, ReadsNewest, NoChangeWhileActive, AnswersReads, DropsReplies, DropsOwnChange, RepliesToItsClient, CommitsToAll, Says, NoExecution, newest_number, HasFrom, SaysNothingAgainst, SaysForIt, SaysNothing, RepliesAfterExecution, NoCommitAfterChange, NoPrepareAfterChange, NoEarlyCheckpoint, OnePrePrepare, NoPrepareByPrimary, ExecutesNext, KeepsPrepared, InstallsWhatItHas, TakesWellSelected, TakesNoLower, RunsOnce, AcceptsAtQuorum}
 use Rattle.wire.specs.Words.{requests_of}
 use Rattle.protocol.specs.Owed.{Owes, Counts, IsReplica, change_taken, latest_change}
 use Rattle.protocol.proofs.Temporal.{once_weaker, once_stays_from}
@@ -315,6 +315,20 @@ commits_to_all c me v i s digest bytes frame entries past says is proof within o
     differs true e = absurd (other (eqb-true s me e))
     differs false e = refl
 
+-- ---- what is dropped
+
+pub unasked_digests_are_dropped : UnaskedDigestsAreDropped
+unasked_digests_are_dropped c me s k index level digests bytes past point h never body is counts =
+    let asked : Body = record { sender = s; message = Meta k level index digests } in
+    let t = subst (λ (b : Body). Counts c me past point bytes b.sender b.message) (some_injective body asked (sym is ∙ h)) counts in
+    never t.0
+
+pub unasked_pages_are_dropped : UnaskedPagesAreDropped
+unasked_pages_are_dropped c me s k index text bytes past point h never body is counts =
+    let asked : Body = record { sender = s; message = Page k index text } in
+    let t = subst (λ (b : Body). Counts c me past point bytes b.sender b.message) (some_injective body asked (sym is ∙ h)) counts in
+    never t.0
+
 -- ---- new views
 
 has_from : (c : Configuration) (new : NewView) (count : ℕ) (test : ViewChange → Bool) (P : ViewChange → Type 0) → ((vc : ViewChange) → test vc ≡ true → P vc)
@@ -453,9 +467,13 @@ pub accepts_at_quorum : AcceptsAtQuorum
 accepts_at_quorum c me k timestamp answer past right =
     let m = right.0.1 in
     let full = leb-true (2 * c.faults + 1) (count_alike c me past m.0.timestamp m.1) m.6 in
-    let enough = subst (λ (t : ℕ). 2 * c.faults + 1 ≤ count_alike c me past t m.1) m.3 full in
-    (mode_of m.1.read_only, m.1.number, λ s. is_alike m.1 (latest c me past timestamp m.1.read_only s), enough,
-    λ s h. answers s m.1 m.4 m.1.read_only (latest c me past timestamp m.1.read_only s) refl h)
+    let enough = subst (λ (t : ℕ). 2 * c.faults + 1 ≤ count_alike c me past t m.1) m.3 full in (
+      mode_of m.1.read_only,
+      m.1.number,
+      λ s. is_alike m.1 (latest c me past timestamp m.1.read_only s),
+      enough,
+      λ s h. answers s m.1 m.4 m.1.read_only (latest c me past timestamp m.1.read_only s) refl h,
+    )
   where
     own : Always (λ past e. party_of e ≡ me) past
     own = own_parties c me past right.1

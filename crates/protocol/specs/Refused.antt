@@ -6,10 +6,12 @@ use Rattle.space.specs.Applying.{is_read_only}
 use Rattle.wire.specs.Words.{requests_of}
 use Rattle.tuple_codec.specs.Spelling.{outcome_spelling}
 use Rattle.wire.specs.declared.terms.Mode.{Mode}
+use Rattle.wire.specs.declared.terms.Level.{Level}
+use Rattle.wire.specs.declared.terms.Level.TheVariants as levels
 use Rattle.quorum.specs.Quorum.{count_below}
 use Rattle.protocol.specs.Configuration.{Configuration, replicas, primary}
 use Rattle.wire.specs.declared.terms.Mode.TheVariants as modes
-use Rattle.wire.specs.Messages.{BodyData as Body, FrameData as Frame, MacData, macs, ViewChangeData as ViewChange, NewViewData as NewView, ClaimData as Claim, request as Request, pre_prepare as PrePrepare, prepare as Prepare, commit as Commit, checkpoint as Checkpoint, view_change as Change, reply as Reply}
+use Rattle.wire.specs.Messages.{BodyData as Body, FrameData as Frame, MacData, macs, ViewChangeData as ViewChange, NewViewData as NewView, ClaimData as Claim, request as Request, pre_prepare as PrePrepare, prepare as Prepare, commit as Commit, checkpoint as Checkpoint, view_change as Change, reply as Reply, meta as Meta, page as Page}
 use Rattle.protocol.specs.Frames.{frame_of, said, heard}
 use Rattle.protocol.specs.Trace.{Entry, Once, Always, Has, Hears}
 use Rattle.protocol.specs.Trace.Entry.{Got, Tick, Executed, Installed, Sent, Accepted}
@@ -18,7 +20,7 @@ use Rattle.protocol.specs.Certificates.{low, is_in_marks, taken, target, view, P
 use Rattle.protocol.specs.State.{State, Call, runs, run_call, page_text}
 use Rattle.protocol.specs.RightReplica.{Point, SafeReplica, Executes, GetsPage, SentBefore, IsInstalled}
 use Rattle.protocol.specs.RightClient.{SafeClient}
-use Rattle.protocol.specs.Owed.{IsReplica}
+use Rattle.protocol.specs.Owed.{asked_last, IsDropped, IsReplica}
 
 -- the party sent a frame of this body
 abbrev pub Says : Body → List Entry → Entry → Type 0
@@ -140,6 +142,21 @@ CommitsToAll =
     → frame_of bytes ≡ Some frame → frame.proof ≡ macs entries → s < replicas c → s ≢ me → SafeReplica c me (Sent me bytes ∷ past)
     → Has (λ r. r ≡ s) (map (λ x. x.receiver) entries)
 
+-- ---- what is dropped
+
+-- A part of a state that was not asked for last.
+abbrev pub UnaskedDigestsAreDropped : Type 0
+UnaskedDigestsAreDropped =
+    (c : Configuration) (me s k index : ℕ) (level : Level) (digests : List (List ℕ)) (bytes : List ℕ) (past : List Entry) (point : Point)
+    → heard c me bytes ≡ Some (record { sender = s; message = Meta k level index digests })
+    → asked_last past ≢ Some (k, (level, index)) → IsDropped c me past point bytes
+
+abbrev pub UnaskedPagesAreDropped : Type 0
+UnaskedPagesAreDropped =
+    (c : Configuration) (me s k index : ℕ) (text bytes : List ℕ) (past : List Entry) (point : Point)
+    → heard c me bytes ≡ Some (record { sender = s; message = Page k index text })
+    → asked_last past ≢ Some (k, (levels.Page, index)) → IsDropped c me past point bytes
+
 -- ---- what is owed. A replica that sends a frame later has not stopped.
 
 -- A read that is got, and not answered.
@@ -223,4 +240,4 @@ AcceptsAtQuorum =
     → SafeClient c me (Accepted k timestamp answer ∷ past)
     → (mode : Mode) × (number : ℕ) × (from : ℕ → Bool) × (2 * c.faults + 1 ≤ count_below from (replicas c))
     × ((s : ℕ) → from s ≡ true → (other : Outcome) × (outcome_spelling other ≡ outcome_spelling answer)
-        × Once (Hears c me (record { sender = s; message = Reply me timestamp mode number other })) past)
+    × Once (Hears c me (record { sender = s; message = Reply me timestamp mode number other })) past)

@@ -1,6 +1,6 @@
 //! Laws that show what the definitions refuse: each is a small history, or a part of one, that a wrong body would make.
 
-ghost use Rattle.protocol.specs.Refused.{ProposesAuthentic, ReadsNewest, NoChangeWhileActive, AnswersReads, DropsReplies, DropsOwnChange, RepliesAfterExecution, NoCommitAfterChange, NoPrepareAfterChange, NoEarlyCheckpoint, OnePrePrepare, NoPrepareByPrimary, ExecutesNext, KeepsPrepared, InstallsWhatItHas, RepliesToItsClient, CommitsToAll, TakesWellSelected, TakesNoLower, RunsOnce, AcceptsAtQuorum};
+ghost use Rattle.protocol.specs.Refused.{ProposesAuthentic, ReadsNewest, NoChangeWhileActive, AnswersReads, DropsReplies, DropsOwnChange, UnaskedDigestsAreDropped, UnaskedPagesAreDropped, RepliesAfterExecution, NoCommitAfterChange, NoPrepareAfterChange, NoEarlyCheckpoint, OnePrePrepare, NoPrepareByPrimary, ExecutesNext, KeepsPrepared, InstallsWhatItHas, RepliesToItsClient, CommitsToAll, TakesWellSelected, TakesNoLower, RunsOnce, AcceptsAtQuorum};
 
 /// A right replica sends no ordered reply before anything is executed, no commit or prepare of a view after a view change
 /// above it, no checkpoint of a number that it never executed, no second pre-prepare of a number of a view, and no
@@ -38,6 +38,12 @@ pub fn correct_replicas_answer()
 pub fn right_replicas_address_all()
     ensures replies { RepliesToItsClient }
     ensures commits { CommitsToAll }
+{}
+
+/// A prompt replica drops a part of a state that it did not ask for last, and so gives nothing for it.
+pub fn unasked_parts_are_dropped()
+    ensures digests { UnaskedDigestsAreDropped }
+    ensures pages { UnaskedPagesAreDropped }
 {}
 
 /// A new view is not taken over too few view changes, over some for another view, if it leaves out a number prepared in
