@@ -231,7 +231,7 @@ not_dropped : (c : Configuration) (me : ℕ) (bytes later : List ℕ) (past : Li
 not_dropped c me bytes later past body hears h never =
     let o = owed_here c me bytes later past h in
     let none : Sent me later ∷ [] ≡ [] = o.owes.dropped bytes refl (λ other is k.
-        never o.old (subst (λ (x : Body). Counts c me past o.old bytes x.sender x.message) (some_injective other body (sym is ∙ hears)) k)) in
+    never o.old (subst (λ (x : Body). Counts c me past o.old bytes x.sender x.message) (some_injective other body (sym is ∙ hears)) k)) in
     absurd cc
 
 pub drops_replies : DropsReplies
@@ -333,10 +333,13 @@ unasked_pages_are_dropped c me s k index text bytes past point h never body is c
 
 has_from : (c : Configuration) (new : NewView) (count : ℕ) (test : ViewChange → Bool) (P : ViewChange → Type 0) → ((vc : ViewChange) → test vc ≡ true → P vc)
     → count ≤ count_in c test (changes_of c new) → HasFrom count c new P
-has_from c new count test P f enough =
-    (passes_by test (changes_of c new), enough, λ s h.
-        let t = passes_change test (changes_of c new) s h in
-        (t.0, change_there (changes_of c new) s t.0 t.1, f t.0 t.2))
+has_from c new count test P f enough = (
+  passes_by test (changes_of c new),
+  enough,
+  λ s h.
+      let t = passes_change test (changes_of c new) s h in
+      (t.0, change_there (changes_of c new) s t.0 t.1, f t.0 t.2),
+)
 
 says_nothing_against : (i w : ℕ) (digest : List ℕ) (vc : ViewChange) → (nat_lt vc.low i && agrees i w digest vc) ≡ true → SaysNothingAgainst i w digest vc
 says_nothing_against i w digest vc h =
@@ -372,12 +375,14 @@ says_for_it i w digest vc h =
 
 says_nothing : (i : ℕ) (vc : ViewChange) → (nat_lt vc.low i && list_all (λ (claim : Claim). not (claim.number == i)) vc.prepared) ≡ true → SaysNothing i vc
 says_nothing i vc h =
-    let p = and_parts (nat_lt vc.low i) (list_all (λ (claim : Claim). not (claim.number == i)) vc.prepared) h in
-    (ltb-true vc.low i p.0, λ has.
-        let x = has_some (λ (claim : Claim). claim.number ≡ i) vc.prepared has in
-        let other = every_has (λ (claim : Claim). not (claim.number == i)) vc.prepared x.0 p.1 x.1 in
-        let here = eq-eqb x.0.number i x.2 in
-        absurd (let f : not true ≡ true = subst (λ (b : Bool). not b ≡ true) here other in cc))
+    let p = and_parts (nat_lt vc.low i) (list_all (λ (claim : Claim). not (claim.number == i)) vc.prepared) h in (
+      ltb-true vc.low i p.0,
+      λ has.
+          let x = has_some (λ (claim : Claim). claim.number ≡ i) vc.prepared has in
+          let other = every_has (λ (claim : Claim). not (claim.number == i)) vc.prepared x.0 p.1 x.1 in
+          let here = eq-eqb x.0.number i x.2 in
+          absurd (let f : not true ≡ true = subst (λ (b : Bool). not b ≡ true) here other in cc),
+    )
 
 pub takes_well_selected : TakesWellSelected
 takes_well_selected c past e new h = record {
@@ -417,16 +422,21 @@ takes_well_selected c past e new h = record {
         by (inl k) =
             let x = some_below (may_stand_at c (changes_of c new) i (sha256 batch)) new.view k in
             let rules = and_parts (is_quorum c (count_in c (λ vc. nat_lt vc.low i && agrees i x.0 (sha256 batch) vc) (changes_of c new))) (is_weak_quorum c (count_in c (vouches i x.0 (sha256 batch)) (changes_of c new))) x.2 in
-            inl (x.0, x.1,
-            has_from c new (2 * c.faults + 1) (λ vc. nat_lt vc.low i && agrees i x.0 (sha256 batch) vc) (SaysNothingAgainst i x.0 (sha256 batch)) (says_nothing_against i x.0 (sha256 batch))
-            (leb-true (2 * c.faults + 1) (count_in c (λ vc. nat_lt vc.low i && agrees i x.0 (sha256 batch) vc) (changes_of c new)) rules.0),
-            has_from c new (c.faults + 1) (vouches i x.0 (sha256 batch)) (SaysForIt i x.0 (sha256 batch)) (says_for_it i x.0 (sha256 batch))
-            (leb-true (c.faults + 1) (count_in c (vouches i x.0 (sha256 batch)) (changes_of c new)) rules.1))
+            inl (
+              x.0,
+              x.1,
+              has_from c new (2 * c.faults + 1) (λ vc. nat_lt vc.low i && agrees i x.0 (sha256 batch) vc) (SaysNothingAgainst i x.0 (sha256 batch)) (says_nothing_against i x.0 (sha256 batch))
+                  (leb-true (2 * c.faults + 1) (count_in c (λ vc. nat_lt vc.low i && agrees i x.0 (sha256 batch) vc) (changes_of c new)) rules.0),
+              has_from c new (c.faults + 1) (vouches i x.0 (sha256 batch)) (SaysForIt i x.0 (sha256 batch)) (says_for_it i x.0 (sha256 batch))
+                  (leb-true (c.faults + 1) (count_in c (vouches i x.0 (sha256 batch)) (changes_of c new)) rules.1),
+            )
         by (inr k) =
             let p = and_parts (is_null batch) (may_be_null c (changes_of c new) i) k in
-            inr ((bytes_eq-Decides batch (0 ∷ [])).0 p.0,
-            has_from c new (2 * c.faults + 1) (λ vc. nat_lt vc.low i && list_all (λ (claim : Claim). not (claim.number == i)) vc.prepared) (SaysNothing i) (says_nothing i)
-            (leb-true (2 * c.faults + 1) (count_in c (λ vc. nat_lt vc.low i && list_all (λ (claim : Claim). not (claim.number == i)) vc.prepared) (changes_of c new)) p.1))
+            inr (
+              (bytes_eq-Decides batch (0 ∷ [])).0 p.0,
+              has_from c new (2 * c.faults + 1) (λ vc. nat_lt vc.low i && list_all (λ (claim : Claim). not (claim.number == i)) vc.prepared) (SaysNothing i) (says_nothing i)
+                  (leb-true (2 * c.faults + 1) (count_in c (λ vc. nat_lt vc.low i && list_all (λ (claim : Claim). not (claim.number == i)) vc.prepared) (changes_of c new)) p.1),
+            )
 
 pub takes_no_lower : TakesNoLower
 takes_no_lower c me past e new vc h changed =

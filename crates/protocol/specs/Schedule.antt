@@ -95,6 +95,8 @@ pub record AreReceivers (c : Configuration) (receivers : List ℕ) : Type 0 wher
   pub ascend : AllPairs (λ p q. p < q) receivers
   pub parties : All (λ p. is_party c p ≡ true) receivers
 
+-- A call's timestamp is no part of the step: in a run it is the client's next one. That holds of a client that stopped too,
+-- whose call stays open, so that it has no second one.
 abbrev pub IsAllowed : Configuration → World → Step → Type 0
 IsAllowed c w (calls k op) = (is_correct_client c (256 + k) ≡ true) × (open_call (history_of (256 + k) w.past) ≡ None) × IsOperation op
 IsAllowed c w (deliver frame party) = (frame < length w.frames) × (is_correct c party ≡ true)
