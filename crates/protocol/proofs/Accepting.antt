@@ -27,13 +27,13 @@ use Rattle.protocol.proofs.Lists.{has_some}
 use Rattle.protocol.proofs.Voting.{RightAt, once_right, correct_replica}
 use Rattle.protocol.proofs.States.{GoodHere, GoodAll, states_agree, correct_of, once_append}
 use Rattle.protocol.proofs.Reading.{own_entries, asking, correct_client, latest_heard, last_of, last_of-history, read_level_after, read_level_before}
-use Rattle.protocol.proofs.Ordering.{latest_ordered, ordered_level}
+use Rattle.protocol.proofs.Ordering.{latest_ordered, ordered_level, replies_to}
 use Rattle.protocol.proofs.Running.{Run, run_earlier, state_by, is_by, executed_greatest}
 use Rattle.protocol.proofs.Ran.{place_before}
 use Rattle.protocol.proofs.Keeping.{RanBy, IsRun, Keeps, rans_ran, kept_ran-opening, ran_by-more}
 use Rattle.protocol.proofs.Invoking.{once_split, asked_op}
 use Rattle.protocol.specs.Linear.{last_executed}
-use Rattle.protocol.specs.RightReplica.{RepliesTo, MayReplyRead}
+use Rattle.protocol.specs.RightReplica.{reply_of, MayReplyRead}
 use Rattle.protocol.proofs.Bodies.{FitsMessage, heard_fits}
 use Rattle.protocol.proofs.Paging.{same_outcome}
 use Rattle.protocol.proofs.Temporal.{once_stays}
@@ -326,27 +326,29 @@ ordered_replied c trace s p t number answer run correct client r = go r.may
 
     go : MayReply c s r.past r.point p t modes.Ordered number answer → RanBy c trace opening 1 (last_executed trace) (Answers p t number answer)
     go (inl h) =
-        let x = has_some (λ (ran : Ran). RepliesTo p t number answer ran.call.client ran.kept) r.point.ran h in
+        let x = has_some (λ (ran : Ran). reply_of ran.call.client ran.kept ≡ Reply p t modes.Ordered number answer) r.point.ran h in
+        let says = replies_to p t number answer x.0.call.client x.0.kept x.2 in
         more (IsRun x.0) (λ j y u.
         let e : y ≡ x.0 = u.0 in
         let cl : y.call.client ≡ x.0.call.client = ap (λ (z : Ran). z.call.client) e in
-        let a = x.2.client_is in
+        let a = says.client_is in
         let is_client' : 256 + y.call.client ≡ p = omega arith in
-        let time : y.call.timestamp ≡ t = sym u.2 ∙ ap (λ (z : Ran). z.kept.timestamp) e ∙ x.2.time in
-        let text : y.kept.outcome ≡ answer = ap (λ (z : Ran). z.kept.outcome) e ∙ x.2.answer_is in
-        let number' : number ≡ j = sym x.2.number_is ∙ sym (ap (λ (z : Ran). z.kept.number) e) ∙ u.1 in
+        let time : y.call.timestamp ≡ t = sym u.2 ∙ ap (λ (z : Ran). z.kept.timestamp) e ∙ says.time in
+        let text : y.kept.outcome ≡ answer = ap (λ (z : Ran). z.kept.outcome) e ∙ says.answer_is in
+        let number' : number ≡ j = sym says.number_is ∙ sym (ap (λ (z : Ran). z.kept.number) e) ∙ u.1 in
         (is_client', time, text, number'))
         (rans_ran c trace run s correct r.past emb r.good r.point r.leaves x.0 x.1)
     go (inr h) =
         let there : kept_of (state_by c trace opening 1 r.point.state.number) h.0 ≡ Some h.1 = subst (λ (st : State). kept_of st h.0 ≡ Some h.1) by.is h.2 in
+        let says = replies_to p t number answer h.0 h.1 h.3 in
         more (Keeps h.0 h.1) (λ j y u.
         let e : y.kept ≡ h.1 = u.0 in
         let cl = u.1 in
-        let a = h.3.client_is in
+        let a = says.client_is in
         let is_client' : 256 + y.call.client ≡ p = omega arith in
-        let time : y.call.timestamp ≡ t = sym u.3 ∙ ap (λ (z : Kept). z.timestamp) e ∙ h.3.time in
-        let text : y.kept.outcome ≡ answer = ap (λ (z : Kept). z.outcome) e ∙ h.3.answer_is in
-        let number' : number ≡ j = sym h.3.number_is ∙ u.2 in
+        let time : y.call.timestamp ≡ t = sym u.3 ∙ ap (λ (z : Kept). z.timestamp) e ∙ says.time in
+        let text : y.kept.outcome ≡ answer = ap (λ (z : Kept). z.outcome) e ∙ says.answer_is in
+        let number' : number ≡ j = sym says.number_is ∙ u.2 in
         (is_client', time, text, number'))
         (kept_ran-opening c trace r.point.state.number h.0 h.1 there)
 

@@ -26,7 +26,7 @@ use Rattle.protocol.proofs.Lists.{has_some}
 use Rattle.protocol.proofs.Levels.{reached_grows, reached_history, number_reached, level_after}
 use Rattle.protocol.proofs.Reading.{Runs, correct_client, own_entries}
 use Rattle.protocol.specs.State.{after_batches, ran_call}
-use Rattle.protocol.specs.RightReplica.{executed_point, waiting_after, RepliesTo}
+use Rattle.protocol.specs.RightReplica.{executed_point, waiting_after, reply_of}
 use Rattle.protocol.specs.Texts.{NoCollision}
 use Rattle.protocol.proofs.Leaving.{get_set}
 use Rattle.protocol.specs.Laws.{IsStateOf}
@@ -137,6 +137,21 @@ ran_at_most c r (e ∷ past) point h x k = go e h.2.may h.2.moves (ran_at_most c
 abbrev pub ordering : ℕ → ℕ → ℕ → ℕ → Outcome → Body
 ordering s p t number answer = record { sender = s; message = Reply p t modes.Ordered number answer }
 
+-- what a reply of something kept says
+pub record RepliesTo (client timestamp number : ℕ) (answer : Outcome) (call_client : ℕ) (kept : Kept) : Type 0 where
+  pub client_is : client ≡ 256 + call_client
+  pub time : kept.timestamp ≡ timestamp
+  pub number_is : kept.number ≡ number
+  pub answer_is : kept.outcome ≡ answer
+
+pub replies_to : (client timestamp number : ℕ) (answer : Outcome) (k : ℕ) (kept : Kept) → reply_of k kept ≡ Reply client timestamp modes.Ordered number answer → RepliesTo client timestamp number answer k kept
+replies_to client timestamp number answer k kept h =
+    let a : 256 + k ≡ client = cc in
+    let b : kept.timestamp ≡ timestamp = cc in
+    let d : kept.number ≡ number = cc in
+    let e : kept.outcome ≡ answer = cc in
+    record { client_is = sym a; time = b; number_is = d; answer_is = e }
+
 says_ordered : (c : Configuration) (trace : List Entry) (s p t number : ℕ) (answer : Outcome) (past : List Entry) (e : Entry) → RightAt c s past e → GoodHere c trace s past
     → Speaks (ordering s p t number answer) past e → number ≤ reached past s
 says_ordered c trace s p t number answer past (Sent q bytes) r good h =
@@ -148,9 +163,9 @@ says_ordered c trace s p t number answer past (Sent q bytes) r good h =
 
     go : MayReply c s past r.point p t modes.Ordered number answer → number ≤ reached past s
     go (inl h) =
-        let x = has_some (λ (ran : Ran). RepliesTo p t number answer ran.call.client ran.kept) r.point.ran h in
-        let m = ran_at_most c s past r.point r.leaves x.0 x.1 in let n = x.2.number_is in let a = at in omega arith
-    go (inr h) = let m = kept_at_most c trace r.point.state (good r.point r.leaves).state h.0 h.1 h.2 in let n = h.3.number_is in let a = at in omega arith
+        let x = has_some (λ (ran : Ran). reply_of ran.call.client ran.kept ≡ Reply p t modes.Ordered number answer) r.point.ran h in
+        let m = ran_at_most c s past r.point r.leaves x.0 x.1 in let n = (replies_to p t number answer x.0.call.client x.0.kept x.2).number_is in let a = at in omega arith
+    go (inr h) = let m = kept_at_most c trace r.point.state (good r.point r.leaves).state h.0 h.1 h.2 in let n = (replies_to p t number answer h.0 h.1 h.3).number_is in let a = at in omega arith
 says_ordered c trace s p t number answer past (Invoke x y z) r good h = absurd h
 says_ordered c trace s p t number answer past (Got x y) r good h = absurd h
 says_ordered c trace s p t number answer past (Tick x) r good h = absurd h

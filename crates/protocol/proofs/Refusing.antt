@@ -19,7 +19,7 @@ use Rattle.protocol.specs.Selection.{is_quorum, is_weak_quorum, passes_by, count
 use Rattle.protocol.specs.Certificates.{target, view, is_active_in, is_later, new_view_in, logged, low}
 use Rattle.reply_cache.specs.Replies.{Kept}
 use Rattle.protocol.specs.State.{State, Ran, opening, kept_of, last_time, runs, run_call, ran_call, kept_by, page_text}
-use Rattle.protocol.specs.RightReplica.{IsAddressed, Point, Leaves, SafeReplica, May, Moves, MaySay, MaySend, MayCheckpoint, MayPrepare, MayCommit, MayPrePrepare, MayReply, MayReplyRead, MayChange, SendsBytes, RepliesTo, GetsPage}
+use Rattle.protocol.specs.RightReplica.{IsAddressed, Point, Leaves, SafeReplica, May, Moves, MaySay, MaySend, MayCheckpoint, MayPrepare, MayCommit, MayPrePrepare, MayReply, MayReplyRead, MayChange, SendsBytes, reply_of, GetsPage}
 use Rattle.protocol.specs.RightClient.{SafeClient, Vote, latest, is_alike, count_alike}
 use Rattle.protocol.specs.Refused.{UnaskedDigestsAreDropped, UnaskedPagesAreDropped, ProposesAuthentic, ReadsNewest, NoChangeWhileActive, AnswersReads, DropsReplies, DropsOwnChange, RepliesToItsClient, CommitsToAll, Says, NoExecution, newest_number, HasFrom, SaysNothingAgainst, SaysForIt, SaysNothing, RepliesAfterExecution, NoCommitAfterChange, NoPrepareAfterChange, NoEarlyCheckpoint, OnePrePrepare, NoPrepareByPrimary, ExecutesNext, KeepsPrepared, InstallsWhatItHas, TakesWellSelected, TakesNoLower, RunsOnce, AcceptsAtQuorum}
 use Rattle.wire.specs.Words.{requests_of}
@@ -73,7 +73,7 @@ replies_after_execution c me client timestamp number answer bytes past says none
     u = untouched c me past right.1.0 right.1.1 none
 
     go : MayReply c me past right.1.0 client timestamp modes.Ordered number answer → ⊥
-    go (inl h) = subst (λ (rans : List Ran). Has (λ (ran : Ran). RepliesTo client timestamp number answer ran.call.client ran.kept) rans) u.ran h
+    go (inl h) = subst (λ (rans : List Ran). Has (λ (ran : Ran). reply_of ran.call.client ran.kept ≡ Reply client timestamp modes.Ordered number answer) rans) u.ran h
     go (inr h) = none_kept 256 h.0 h.1 (subst (λ (st : State). kept_of st h.0 ≡ Some h.1) u.state h.2)
 
 -- ---- after a view change

@@ -22,7 +22,7 @@ use Rattle.protocol.specs.Selection.{is_quorum, signed_change, is_within}
 use Rattle.protocol.specs.Certificates.{greatest, view, is_active_in, taken, checkpoints_of, count_checkpoints, low, is_in_marks, entry_proposal, logged, prepare_from, commit_from, vote_in, prepare_of, commit_of, Prepared, Committed}
 use Rattle.reply_cache.specs.Replies.{Kept}
 use Rattle.protocol.specs.State.{State, Call, call_of, Ran, kept_of, last_time, tuples, root_of, page_text}
-use Rattle.protocol.specs.RightReplica.{Point, first_point, IsStep, KeptState, Executes, digests_at}
+use Rattle.protocol.specs.RightReplica.{Point, first_point, reply_of, IsStep, KeptState, Executes, digests_at}
 
 -- ---- words on outputs
 
@@ -155,12 +155,12 @@ pub record Owes (c : Configuration) (me : ℕ) (before : List Entry) (input : En
   -- nothing that is committed and next is left
   pub executes : (v : ℕ) (batch : List ℕ) → Committed c me now v (suc new.state.number) batch → ⊥
   pub replies : (ran : Ran) → Has (λ x. x ≡ ran) new.ran
-      → Gives me (Reply (256 + ran.call.client) ran.kept.timestamp modes.Ordered ran.kept.number ran.kept.outcome) outputs
+      → Gives me (reply_of ran.call.client ran.kept) outputs
   pub checkpoints : (k : ℕ) → Has (λ e. Executes k [] e) outputs → k % c.period ≡ 0
       → Has (λ st. (st.number ≡ k) × Gives me (Checkpoint k (root_of st)) outputs) new.snapshots
   -- a request of the last timestamp gets its kept reply again
   pub again : (k timestamp : ℕ) (op : Operation) (kept : Kept) → Hears c me (record { sender = 256 + k; message = Request timestamp modes.Ordered op }) before input
-      → kept_of old.state k ≡ Some kept → kept.timestamp ≡ timestamp → Gives me (Reply (256 + k) timestamp modes.Ordered kept.number kept.outcome) outputs
+      → kept_of old.state k ≡ Some kept → kept.timestamp ≡ timestamp → Gives me (reply_of k kept) outputs
   pub reads : (client timestamp : ℕ) (op : Operation) → Hears c me (record { sender = client; message = Request timestamp modes.ReadOnly op }) before input
       → is_read_only op ≡ true → Gives me (Reply client timestamp modes.ReadOnly old.state.number (outcome (tuples old.state) op)) outputs
   pub fetched_digests : (s k index : ℕ) (level : Level) → has_children level ≡ true → Hears c me (record { sender = s; message = Fetch k level index }) before input

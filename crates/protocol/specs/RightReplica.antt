@@ -196,17 +196,15 @@ abbrev pub MayBegin : Configuration → ℕ → List Entry → Entry → List �
 MayBegin c me past e bytes new =
     (primary c new.view ≡ me) × ((taken c past e ≡ Some new) ⊎ ((is_active_in c past new.view ≡ true) × SentBefore bytes past))
 
--- a reply is of a request that ran in the event, or the client's kept one
-pub record RepliesTo (client timestamp number : ℕ) (answer : Outcome) (call_client : ℕ) (kept : Kept) : Type 0 where
-  pub client_is : client ≡ 256 + call_client
-  pub time : kept.timestamp ≡ timestamp
-  pub number_is : kept.number ≡ number
-  pub answer_is : kept.outcome ≡ answer
+-- what is kept for the client k, as a reply to it
+abbrev pub reply_of : ℕ → Kept → Message
+reply_of k kept = Reply (256 + k) kept.timestamp modes.Ordered kept.number kept.outcome
 
+-- a reply is of a request that ran in the event, or the client's kept one
 abbrev pub MayReplyOrdered : Point → ℕ → ℕ → ℕ → Outcome → Type 0
 MayReplyOrdered point client timestamp number answer =
-    Has (λ ran. RepliesTo client timestamp number answer ran.call.client ran.kept) point.ran
-    ⊎ ((k : ℕ) × (kept : Kept) × (kept_of point.state k ≡ Some kept) × RepliesTo client timestamp number answer k kept)
+    Has (λ ran. reply_of ran.call.client ran.kept ≡ Reply client timestamp modes.Ordered number answer) point.ran
+    ⊎ ((k : ℕ) × (kept : Kept) × (kept_of point.state k ≡ Some kept) × (reply_of k kept ≡ Reply client timestamp modes.Ordered number answer))
 
 -- a read that was got is answered from the executed state, with its number
 pub record MayReplyRead (c : Configuration) (me : ℕ) (past : List Entry) (point : Point) (client timestamp number : ℕ) (answer : Outcome) : Type 0 where
