@@ -7,15 +7,16 @@ use Rattle.protocol.specs.RightReplica
 use Rattle.protocol.proofs.Running
 use Rattle.quorum.specs.Quorum.{count_below}
 use Rattle.protocol.specs.Configuration.{Configuration, is_replica, is_correct_replica, is_correct_client}
-use Rattle.protocol.specs.Wire.{Body, Message}
-use Rattle.protocol.specs.Wire.Message.{Reply}
+use Rattle.wire.specs.declared.terms.Mode.TheVariants as modes
+use Rattle.wire.specs.Messages.{BodyData as Body, MessageData as Message, reply as Reply}
+use Rattle.protocol.specs.Frames.{heard, mode_of, reads_only}
 use Rattle.protocol.specs.Trace.{Entry, party_of, history_of, Once, Always, Has, Hears}
 use Rattle.protocol.specs.Trace.Entry.{Invoke, Got, Tick, Executed, Installed, Sent, Accepted}
 use Rattle.space.specs.Applying.{is_read_only, outcome}
 use Rattle.protocol.specs.State.{State, Ran, opening, tuples, kept_of, execute}
 use Rattle.reply_cache.specs.Replies.{Kept}
 use Rattle.protocol.specs.RightReplica.{Leaves, MaySay, MayReply}
-use Rattle.protocol.specs.RightClient.{RightClient, OpenCall, open_call, last_call, Vote, latest, is_alike, count_alike, newest_vote, MayAccept, vote_of}
+use Rattle.protocol.specs.RightClient.{SafeClient, OpenCall, open_call, last_call, Vote, latest, is_alike, count_alike, newest_vote, MayAccept, vote_of}
 use Rattle.protocol.specs.Texts.{ExecutesBatch}
 use Rattle.protocol.specs.Linear.{batch_of, first_position, is_level, Invokes, Accepts}
 use Rattle.quorum.specs.Votes.{give_if, or_else}
@@ -26,31 +27,30 @@ use Rattle.protocol.proofs.Lists.{has_some}
 use Rattle.protocol.proofs.Voting.{RightAt, once_right, correct_replica}
 use Rattle.protocol.proofs.States.{GoodHere, GoodAll, states_agree, correct_of, once_append}
 use Rattle.protocol.proofs.Reading.{own_entries, asking, correct_client, latest_heard, last_of, last_of-history, read_level_after, read_level_before}
-use Rattle.protocol.proofs.Ordering.{latest_ordered, ordered_level}
+use Rattle.protocol.proofs.Ordering.{latest_ordered, ordered_level, replies_to}
 use Rattle.protocol.proofs.Running.{Run, run_earlier, state_by, is_by, executed_greatest}
 use Rattle.protocol.proofs.Ran.{place_before}
 use Rattle.protocol.proofs.Keeping.{RanBy, IsRun, Keeps, rans_ran, kept_ran-opening, ran_by-more}
 use Rattle.protocol.proofs.Invoking.{once_split, asked_op}
 use Rattle.protocol.specs.Linear.{last_executed}
-use Rattle.protocol.specs.RightReplica.{RepliesTo, MayReplyRead}
+use Rattle.protocol.specs.RightReplica.{reply_of, MayReplyRead}
 use Rattle.protocol.proofs.Bodies.{FitsMessage, heard_fits}
 use Rattle.protocol.proofs.Paging.{same_outcome}
 use Rattle.protocol.proofs.Temporal.{once_stays}
 use Rattle.tuple_codec.specs.Operations.{Outcome, IsOutcome, Operation}
 use Rattle.tuple_codec.specs.Spelling.{outcome_spelling}
-use Rattle.protocol.specs.Keys.{heard}
 use Rattle.protocol.specs.Linear.{invoke_past}
 
 -- ---- a run with right clients
 
 pub record FullRun (c : Configuration) (xs : List Entry) : Type 0 where
   pub run : Run c xs
-  pub right : (p : ℕ) → is_correct_client c p ≡ true → RightClient c p (history_of p xs)
+  pub right : (p : ℕ) → is_correct_client c p ≡ true → SafeClient c p (history_of p xs)
 
 pub full_earlier : (c : Configuration) (e : Entry) (xs : List Entry) → FullRun c (e ∷ xs) → FullRun c xs
 full_earlier c e xs f = record { run = run_earlier c e xs f.run; right = λ p h. go p (party_of e == p) (f.right p h) }
   where
-    go : (p : ℕ) (b : Bool) → RightClient c p (cond b (e ∷ history_of p xs) (history_of p xs)) → RightClient c p (history_of p xs)
+    go : (p : ℕ) (b : Bool) → SafeClient c p (cond b (e ∷ history_of p xs) (history_of p xs)) → SafeClient c p (history_of p xs)
     go p true h = h.1
     go p false h = h
 
@@ -63,7 +63,7 @@ full_part c (e ∷ later) xs f = full_part c later xs (full_earlier c e (later +
 pub record Accepting (c : Configuration) (past : List Entry) (p t : ℕ) (a : Outcome) : Type 0 where
   pub client : is_correct_client c p ≡ true
   pub run : Run c past
-  pub right : RightClient c p (history_of p past)
+  pub right : SafeClient c p (history_of p past)
   pub call : OpenCall
   pub vote : Vote
   pub opened : open_call (history_of p past) ≡ Some call
@@ -97,7 +97,7 @@ accepting c past cl t a full = go (is_correct_replica c (256 + cl)) refl full.ru
           subst (λ (i : ℕ). 2 * c.faults + 1 ≤ count_below (λ s. is_alike m.1 (latest c (256 + cl) (history_of (256 + cl) past) i m.1.read_only s)) (3 * c.faults + 1)) m.3 q;
     }
 
-    head : (b : Bool) → b ≡ true → is_correct_client c (256 + cl) ≡ true → RightClient c (256 + cl) (cond b (Accepted cl t a ∷ history_of (256 + cl) past) (history_of (256 + cl) past)) → Accepting c past (256 + cl) t a
+    head : (b : Bool) → b ≡ true → is_correct_client c (256 + cl) ≡ true → SafeClient c (256 + cl) (cond b (Accepted cl t a ∷ history_of (256 + cl) past) (history_of (256 + cl) past)) → Accepting c past (256 + cl) t a
     head true e client r = build client r.0.1
     head false e client r = absurd cc
 
@@ -117,7 +117,7 @@ open_last (Sent x y ∷ past) call h = open_last past call h
 open_last (Executed x y z ∷ past) call h = open_last past call h
 open_last (Installed x y z ∷ past) call h = open_last past call h
 
-accepts_le : (c : Configuration) (p t : ℕ) (a : Outcome) (xs : List Entry) → RightClient c p xs → Once (Accepts p t a) xs → t ≤ last_call xs
+accepts_le : (c : Configuration) (p t : ℕ) (a : Outcome) (xs : List Entry) → SafeClient c p xs → Once (Accepts p t a) xs → t ≤ last_call xs
 accepts_le c p t a [] r h = absurd h
 accepts_le c p t a (Accepted x y z ∷ past) r (inl h) = let m = r.0.1 in let l = open_last past m.0 m.2 in let k = m.3 in let e = h.1 in omega arith
 accepts_le c p t a (Invoke x y z ∷ past) r (inr h) = let l = accepts_le c p t a past r.1 h in let n = r.0.1.0 in omega arith
@@ -134,7 +134,7 @@ accepts_le c p t a (Executed x y z ∷ past) r (inr h) = accepts_le c p t a past
 accepts_le c p t a (Installed x y z ∷ past) r (inr h) = accepts_le c p t a past r.1 h
 accepts_le c p t a (Accepted x y z ∷ past) r (inr h) = accepts_le c p t a past r.1 h
 
-accepts_lt : (c : Configuration) (p t : ℕ) (a : Outcome) (call : OpenCall) (xs : List Entry) → RightClient c p xs → open_call xs ≡ Some call → Once (Accepts p t a) xs → t < call.timestamp
+accepts_lt : (c : Configuration) (p t : ℕ) (a : Outcome) (call : OpenCall) (xs : List Entry) → SafeClient c p xs → open_call xs ≡ Some call → Once (Accepts p t a) xs → t < call.timestamp
 accepts_lt c p t a call [] r o h = absurd h
 accepts_lt c p t a call (Accepted x y z ∷ past) r o h = absurd cc
 accepts_lt c p t a call (Invoke x y z ∷ past) r o (inr h) =
@@ -222,10 +222,10 @@ once_history_later Q s (e ∷ later) xs h = once_history_more Q s e (later ++ xs
 pub embedded : (Q : List Entry → Entry → Type 0) (s : ℕ) (trace later past : List Entry) (e : Entry) → trace ≡ later ++ e ∷ past → Once Q (history_of s past) → Once Q (history_of s trace)
 embedded Q s trace later past e is h = subst (λ (ys : List Entry). Once Q (history_of s ys)) (sym is) (once_history_later Q s later (e ∷ past) (once_history_more Q s e past h))
 
-reply_may : (c : Configuration) (s p t : ℕ) (kind : Bool) (number : ℕ) (answer : Outcome) (past : List Entry) (e : Entry) → RightAt c s past e → Speaks (record { sender = s; message = Reply p t kind number answer }) past e
-    → (point : RightReplica.Point) × Leaves c s past point × MayReply c s past point p t kind number answer
+reply_may : (c : Configuration) (s p t : ℕ) (kind : Bool) (number : ℕ) (answer : Outcome) (past : List Entry) (e : Entry) → RightAt c s past e → Speaks (record { sender = s; message = Reply p t (mode_of kind) number answer }) past e
+    → (point : RightReplica.Point) × Leaves c s past point × MayReply c s past point p t (mode_of kind) number answer
 reply_may c s p t kind number answer past (Sent q bytes) r h =
-    let is = some_injective r.may.body (record { sender = s; message = Reply p t kind number answer }) (sym r.may.says ∙ h) in
+    let is = some_injective r.may.body (record { sender = s; message = Reply p t (mode_of kind) number answer }) (sym r.may.says ∙ h) in
     (r.point, r.leaves, subst (λ (x : Body). MaySay c s past r.point (Sent q bytes) bytes x.message) is r.may.say)
 reply_may c s p t kind number answer past (Invoke x y z) r h = absurd h
 reply_may c s p t kind number answer past (Got x y) r h = absurd h
@@ -243,16 +243,16 @@ pub record Replied (c : Configuration) (trace : List Entry) (s p t : ℕ) (kind 
   pub good : GoodAll c trace s past
   pub point : RightReplica.Point
   pub leaves : Leaves c s past point
-  pub may : MayReply c s past point p t kind number answer
+  pub may : MayReply c s past point p t (mode_of kind) number answer
 
 pub replied : (c : Configuration) (trace : List Entry) (s p t : ℕ) (kind : Bool) (number : ℕ) (answer : Outcome) → Run c trace → is_correct_replica c s ≡ true
-    → Once (Speaks (record { sender = s; message = Reply p t kind number answer })) (history_of s trace) → Replied c trace s p t kind number answer
+    → Once (Speaks (record { sender = s; message = Reply p t (mode_of kind) number answer })) (history_of s trace) → Replied c trace s p t kind number answer
 replied c trace s p t kind number answer run correct h =
     let goods = states_agree c run.setting trace run.runs.replicas run.runs.unforged run.apart s correct in
-    let at = once_split (λ past e. GoodHere c trace s past × (RightAt c s past e × Speaks (record { sender = s; message = Reply p t kind number answer }) past e × Always (RightAt c s) past) × Always (λ past e. GoodHere c trace s past) past)
+    let at = once_split (λ past e. GoodHere c trace s past × (RightAt c s past e × Speaks (record { sender = s; message = Reply p t (mode_of kind) number answer }) past e × Always (RightAt c s) past) × Always (λ past e. GoodHere c trace s past) past)
     (history_of s trace)
-    (once_always (λ past e. GoodHere c trace s past) (λ past e. RightAt c s past e × Speaks (record { sender = s; message = Reply p t kind number answer }) past e × Always (RightAt c s) past) (history_of s trace) goods.1
-    (once_right c s (Speaks (record { sender = s; message = Reply p t kind number answer })) (history_of s trace) (run.runs.replicas s correct) h)) in
+    (once_always (λ past e. GoodHere c trace s past) (λ past e. RightAt c s past e × Speaks (record { sender = s; message = Reply p t (mode_of kind) number answer }) past e × Always (RightAt c s) past) (history_of s trace) goods.1
+    (once_right c s (Speaks (record { sender = s; message = Reply p t (mode_of kind) number answer })) (history_of s trace) (run.runs.replicas s correct) h)) in
     let m = reply_may c s p t kind number answer at.past at.entry at.holds.1.0 at.holds.1.1 in
     record { past = at.past; entry = at.entry; later = at.later; is = at.is; good = (at.holds.0, at.holds.2); point = m.0; leaves = m.1; may = m.2 }
 
@@ -324,39 +324,41 @@ ordered_replied c trace s p t number answer run correct client r = go r.may
     more : (Q : ℕ → Ran → Type 0) → ((j : ℕ) (x : Ran) → Q j x → Answers p t number answer j x) → RanBy c trace opening 1 r.point.state.number Q → RanBy c trace opening 1 (last_executed trace) (Answers p t number answer)
     more Q f h = ran_by-more c trace opening 1 r.point.state.number (last_executed trace) (Answers p t number answer) most (ran_by-weaker c trace opening 1 r.point.state.number Q (Answers p t number answer) f h)
 
-    go : MayReply c s r.past r.point p t false number answer → RanBy c trace opening 1 (last_executed trace) (Answers p t number answer)
+    go : MayReply c s r.past r.point p t modes.Ordered number answer → RanBy c trace opening 1 (last_executed trace) (Answers p t number answer)
     go (inl h) =
-        let x = has_some (λ (ran : Ran). RepliesTo p t number answer ran.call.client ran.kept) r.point.ran h in
+        let x = has_some (λ (ran : Ran). reply_of ran.call.client ran.kept ≡ Reply p t modes.Ordered number answer) r.point.ran h in
+        let says = replies_to p t number answer x.0.call.client x.0.kept x.2 in
         more (IsRun x.0) (λ j y u.
         let e : y ≡ x.0 = u.0 in
         let cl : y.call.client ≡ x.0.call.client = ap (λ (z : Ran). z.call.client) e in
-        let a = x.2.client_is in
+        let a = says.client_is in
         let is_client' : 256 + y.call.client ≡ p = omega arith in
-        let time : y.call.timestamp ≡ t = sym u.2 ∙ ap (λ (z : Ran). z.kept.timestamp) e ∙ x.2.time in
-        let text : y.kept.outcome ≡ answer = ap (λ (z : Ran). z.kept.outcome) e ∙ x.2.answer_is in
-        let number' : number ≡ j = sym x.2.number_is ∙ sym (ap (λ (z : Ran). z.kept.number) e) ∙ u.1 in
+        let time : y.call.timestamp ≡ t = sym u.2 ∙ ap (λ (z : Ran). z.kept.timestamp) e ∙ says.time in
+        let text : y.kept.outcome ≡ answer = ap (λ (z : Ran). z.kept.outcome) e ∙ says.answer_is in
+        let number' : number ≡ j = sym says.number_is ∙ sym (ap (λ (z : Ran). z.kept.number) e) ∙ u.1 in
         (is_client', time, text, number'))
         (rans_ran c trace run s correct r.past emb r.good r.point r.leaves x.0 x.1)
     go (inr h) =
         let there : kept_of (state_by c trace opening 1 r.point.state.number) h.0 ≡ Some h.1 = subst (λ (st : State). kept_of st h.0 ≡ Some h.1) by.is h.2 in
+        let says = replies_to p t number answer h.0 h.1 h.3 in
         more (Keeps h.0 h.1) (λ j y u.
         let e : y.kept ≡ h.1 = u.0 in
         let cl = u.1 in
-        let a = h.3.client_is in
+        let a = says.client_is in
         let is_client' : 256 + y.call.client ≡ p = omega arith in
-        let time : y.call.timestamp ≡ t = sym u.3 ∙ ap (λ (z : Kept). z.timestamp) e ∙ h.3.time in
-        let text : y.kept.outcome ≡ answer = ap (λ (z : Kept). z.outcome) e ∙ h.3.answer_is in
-        let number' : number ≡ j = sym h.3.number_is ∙ u.2 in
+        let time : y.call.timestamp ≡ t = sym u.3 ∙ ap (λ (z : Kept). z.timestamp) e ∙ says.time in
+        let text : y.kept.outcome ≡ answer = ap (λ (z : Kept). z.outcome) e ∙ says.answer_is in
+        let number' : number ≡ j = sym says.number_is ∙ u.2 in
         (is_client', time, text, number'))
         (kept_ran-opening c trace r.point.state.number h.0 h.1 there)
 
 -- ---- answers that are heard are within the limits
 
-pub heard_answer : (c : Configuration) (p s t : ℕ) (kind : Bool) (number : ℕ) (answer : Outcome) (xs : List Entry) → Once (Hears c p (record { sender = s; message = Reply p t kind number answer })) xs → IsOutcome answer
-heard_answer c p s t kind number answer xs h = once_stays (λ past. IsOutcome answer) (λ e past k. k) xs (once_weaker (Hears c p (record { sender = s; message = Reply p t kind number answer })) (λ past e. IsOutcome answer) step xs h)
+pub heard_answer : (c : Configuration) (p s t : ℕ) (kind : Bool) (number : ℕ) (answer : Outcome) (xs : List Entry) → Once (Hears c p (record { sender = s; message = Reply p t (mode_of kind) number answer })) xs → IsOutcome answer
+heard_answer c p s t kind number answer xs h = once_stays (λ past. IsOutcome answer) (λ e past k. k) xs (once_weaker (Hears c p (record { sender = s; message = Reply p t (mode_of kind) number answer })) (λ past e. IsOutcome answer) step xs h)
   where
-    step : (past : List Entry) (e : Entry) → Hears c p (record { sender = s; message = Reply p t kind number answer }) past e → IsOutcome answer
-    step past (Got q bytes) h = heard_fits c p bytes (record { sender = s; message = Reply p t kind number answer }) h
+    step : (past : List Entry) (e : Entry) → Hears c p (record { sender = s; message = Reply p t (mode_of kind) number answer }) past e → IsOutcome answer
+    step past (Got q bytes) h = heard_fits c p bytes (record { sender = s; message = Reply p t (mode_of kind) number answer }) h
     step past (Invoke x y z) h = absurd h
     step past (Tick x) h = absurd h
     step past (Executed x y z) h = absurd h
@@ -365,8 +367,8 @@ heard_answer c p s t kind number answer xs h = once_stays (λ past. IsOutcome an
     step past (Accepted x y z) h = absurd h
 
 vote_answer : (me t s : ℕ) (vote : Vote) (sender : ℕ) (message : Message) → vote_of me t s (record { sender = sender; message = message }) ≡ Some vote → FitsMessage message → IsOutcome vote.answer
-vote_answer me t s vote sender (Reply client timestamp read_only number answer) h f =
-    let g = give_if_some ((sender == s) && (client == me) && (timestamp == t)) (record { read_only = read_only; number = number; answer = answer }) vote h in
+vote_answer me t s vote sender (Reply client timestamp mode number answer) h f =
+    let g = give_if_some ((sender == s) && (client == me) && (timestamp == t)) (record { read_only = reads_only mode; number = number; answer = answer }) vote h in
     subst IsOutcome (ap (λ (v : Vote). v.answer) g.1) f
 vote_answer me t s vote sender _ h f = absurd cc
 
@@ -387,7 +389,7 @@ newest_answer c me t vote (Accepted x y z ∷ past) h = absurd cc
 pub record Voted (c : Configuration) (past : List Entry) (p t : ℕ) (kind : Bool) (vote : Vote) : Type 0 where
   pub replica : ℕ
   pub is_correct : is_correct_replica c replica ≡ true
-  pub says : Once (Speaks (record { sender = replica; message = Reply p t kind vote.number vote.answer })) (history_of replica past)
+  pub says : Once (Speaks (record { sender = replica; message = Reply p t (mode_of kind) vote.number vote.answer })) (history_of replica past)
 
 pub voted : (c : Configuration) (past : List Entry) (p t : ℕ) (a : Outcome) (x : Accepting c past p t a) → Voted c past p t x.vote.read_only x.vote
 voted c past p t a x =
@@ -399,12 +401,12 @@ voted c past p t a x =
     own : Always (λ past e. party_of e ≡ p) (history_of p past)
     own = own_entries c p (history_of p past) (x.run.runs.clients p x.client)
 
-    hears : (s : ℕ) (kind : Bool) (v : Vote) → latest c p (history_of p past) t kind s ≡ Some v → Once (Hears c p (record { sender = s; message = Reply p t kind v.number v.answer })) (history_of p past)
+    hears : (s : ℕ) (kind : Bool) (v : Vote) → latest c p (history_of p past) t kind s ≡ Some v → Once (Hears c p (record { sender = s; message = Reply p t (mode_of kind) v.number v.answer })) (history_of p past)
     hears s true v is = latest_heard c p t s v (history_of p past) own is
     hears s false v is = latest_ordered c p t s v (history_of p past) own is
 
     go : (s : ℕ) → is_correct_replica c s ≡ true → (kind : Bool) (o : Option Vote) → latest c p (history_of p past) t kind s ≡ o → is_alike x.vote o ≡ true
-        → Once (Speaks (record { sender = s; message = Reply p t kind x.vote.number x.vote.answer })) (history_of s past)
+        → Once (Speaks (record { sender = s; message = Reply p t (mode_of kind) x.vote.number x.vote.answer })) (history_of s past)
     go s correct kind None is k = absurd cc
     go s correct kind (Some v) is k =
         let q = and_parts (v.number == x.vote.number) (bytes_eq (outcome_spelling v.answer) (outcome_spelling x.vote.answer)) k in
@@ -412,6 +414,6 @@ voted c past p t a x =
         let m : v.answer ≡ x.vote.answer =
         same_outcome v.answer x.vote.answer (heard_answer c p s t kind v.number v.answer (history_of p past) (hears s kind v is)) (newest_answer c p t x.vote (history_of p past) x.newest)
         ((bytes_eq-Decides (outcome_spelling v.answer) (outcome_spelling x.vote.answer)).0 q.1) in
-        let said' = heard_was_said c past p (record { sender = s; message = Reply p t kind v.number v.answer }) x.run.runs.unforged (correct_client c p x.client) (correct_replica c s correct) (hears s kind v is) in
-        subst (λ (i : ℕ). Once (Speaks (record { sender = s; message = Reply p t kind i x.vote.answer })) (history_of s past)) n
-        (subst (λ (b : Outcome). Once (Speaks (record { sender = s; message = Reply p t kind v.number b })) (history_of s past)) m said')
+        let said' = heard_was_said c past p (record { sender = s; message = Reply p t (mode_of kind) v.number v.answer }) x.run.runs.unforged (correct_client c p x.client) (correct_replica c s correct) (hears s kind v is) in
+        subst (λ (i : ℕ). Once (Speaks (record { sender = s; message = Reply p t (mode_of kind) i x.vote.answer })) (history_of s past)) n
+        (subst (λ (b : Outcome). Once (Speaks (record { sender = s; message = Reply p t (mode_of kind) v.number b })) (history_of s past)) m said')

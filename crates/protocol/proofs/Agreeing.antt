@@ -7,12 +7,12 @@ use Rattle.sha2.specs.Sha256.{sha256}
 use Rattle.quorum.proofs.Counting.{quorums_meet, count_with, count_members, count_mono}
 use Rattle.quorum.specs.Quorum.{count_below}
 use Rattle.protocol.specs.Configuration.{Configuration, primary, is_correct_replica, is_faulty_replica, is_replica}
-use Rattle.protocol.specs.Wire.{Body}
+use Rattle.wire.specs.Messages.{BodyData as Body}
 use Rattle.protocol.specs.Trace.{Entry, history_of, Once, Always, Unforged}
 use Rattle.protocol.specs.Trace.Entry.{Invoke, Got, Tick, Executed, Installed, Sent, Accepted}
 use Rattle.quorum.specs.Votes.{has_digest}
 use Rattle.protocol.specs.Certificates.{proposal, logged, prepare_of, Prepared}
-use Rattle.protocol.specs.Laws.{AreReplicasRight, PreparedAgree}
+use Rattle.protocol.specs.Laws.{AreReplicasSafe, PreparedAgree}
 use Rattle.protocol.proofs.Temporal.{once_weaker}
 use Rattle.protocol.proofs.Options.{given_once, some_injective}
 use Rattle.protocol.proofs.Linking.{Speaks}
@@ -36,7 +36,7 @@ speaks_offer v i batch body is past (Installed x y z) h = absurd h
 speaks_offer v i batch body is past (Accepted x y z) h = absurd h
 
 -- what a right replica logs, a correct primary of the view offered
-pub logged_was_offered : (c : Configuration) (trace : List Entry) (p v i : ℕ) (batch : List ℕ) → AreReplicasRight c trace → Unforged c trace
+pub logged_was_offered : (c : Configuration) (trace : List Entry) (p v i : ℕ) (batch : List ℕ) → AreReplicasSafe c trace → Unforged c trace
     → is_correct_replica c p ≡ true → is_correct_replica c (primary c v) ≡ true
     → logged c p (history_of p trace) v i ≡ Some batch → offered v i (history_of (primary c v) trace) ≡ Some batch
 unfolding logged

@@ -6,9 +6,10 @@ use Rattle.std.proofs.lemmas.Slice.Eq.{bytes_eq-Decides}
 use Rattle.sha2.specs.Sha256.{sha256}
 use Rattle.quorum.specs.Quorum.{count_below}
 use Rattle.protocol.specs.Configuration.{Configuration, IsConfiguration, is_replica, is_client, is_correct_replica, primary}
-use Rattle.protocol.specs.Wire.{Body, Message, NewView, Claim, said, carried, requests_of, pieces}
-use Rattle.protocol.specs.Wire.Message.{Request, PrePrepare}
-use Rattle.protocol.specs.Keys.{heard}
+use Rattle.wire.specs.Messages.{BodyData as Body, MessageData as Message, NewViewData as NewView, ClaimData as Claim, request as Request, pre_prepare as PrePrepare}
+use Rattle.wire.specs.Words.{carried, requests_of}
+use Rattle.wire.specs.Reading.{requests_at}
+use Rattle.protocol.specs.Frames.{said, heard, reads_only}
 use Rattle.protocol.specs.Trace.{Entry, party_of, history_of, Once, Always, Unforged, frames_in, carried_by, Each, Has}
 use Rattle.protocol.specs.Trace.Entry.{Invoke, Got, Tick, Executed, Installed, Sent, Accepted}
 use Rattle.protocol.specs.Certificates.{proposal, begun_proposal, entry_proposal, logged, taken, batch_begun, are_genuine, is_in_marks, low}
@@ -16,10 +17,10 @@ use Rattle.protocol.specs.Selection.{changes_of, count_in, passes_by, vouches, m
 use Rattle.protocol.specs.RightReplica.{HasSeen}
 use Rattle.protocol.specs.Texts.{NoCollision}
 use Rattle.protocol.specs.State.{Call, call_in, call_of}
-use Rattle.protocol.specs.Laws.{AreReplicasRight, Takes}
+use Rattle.protocol.specs.Laws.{AreReplicasSafe, Takes}
 use Rattle.protocol.proofs.Temporal.{once_weaker, once_in_trace}
 use Rattle.protocol.proofs.Options.{and_then_some, give_if_some, some_injective, given_once, or_else_cases}
-use Rattle.protocol.proofs.Linking.{heard_parts}
+use Rattle.protocol.proofs.Linking.{heard_said}
 use Rattle.protocol.proofs.Voting.{RightAt, right_always}
 use Rattle.protocol.proofs.Marks.{takes, proposes, Proposes, selected_in}
 use Rattle.protocol.proofs.Signed.{change_was_said, each_has}
@@ -30,7 +31,6 @@ use Rattle.protocol.proofs.Executing.{logged_text}
 use Rattle.protocol.proofs.States.{correct_of}
 use Rattle.protocol.proofs.Offers.{entry_batch}
 use Rattle.protocol.specs.Certificates.{batch_from}
-use Rattle.protocol.specs.Wire.{pieces}
 
 -- a correct replica got the frame, genuine to itself, alone or carried
 unfoldable pub AsksFrame : Configuration → List ℕ → List Entry → Entry → Type 0
@@ -55,7 +55,7 @@ call_client c frame call body h is =
     subst (λ (x : Body). is_client c x.sender ≡ true) same (client r.0.sender r.0.message r.2)
   where
     client : (sender : ℕ) (message : Message) → call_in c (record { sender = sender; message = message }) ≡ Some call → is_client c sender ≡ true
-    client sender (Request t read_only op) h = go read_only (is_client c sender) refl h
+    client sender (Request t mode op) h = go (reads_only mode) (is_client c sender) refl h
       where
         go : (x y : Bool) → is_client c sender ≡ y → cond (not x && y) (Some (record { client = sender - 256; timestamp = t; op = op })) None ≡ Some call → is_client c sender ≡ true
         go false true e h = e
@@ -98,7 +98,6 @@ Asked c trace batch = (frame : List ℕ) (call : Call) → Has (λ x. x ≡ fram
 
 carried_prepare : (bytes : List ℕ) (body : Body) (v i : ℕ) (batch : List ℕ) (frame : List ℕ) → said bytes ≡ Some body → body.message ≡ PrePrepare v i batch → Has (λ x. x ≡ frame) (requests_of batch)
     → Has (λ x. x ≡ frame) (carried_by bytes)
-unfolding carried
 carried_prepare bytes body v i batch frame is message h = rw is (rw message h)
 
 heard_asked : (c : Configuration) (r v i : ℕ) (a : List ℕ) (bytes : List ℕ) (sender : ℕ) (message : Message) → heard c r bytes ≡ Some (record { sender = sender; message = message })
@@ -108,8 +107,7 @@ heard_asked c r v i a bytes sender (PrePrepare view number b) is h frame has =
     let g = give_if_some ((view == v) && (number == i) && (sender == primary c v) && are_genuine c r b) b a h in
     let p = and_parts ((view == v) && (number == i) && (sender == primary c v)) (are_genuine c r b) g.0 in
     let has' : Has (λ x. x ≡ frame) (requests_of b) = subst (λ (x : List ℕ). Has (λ y. y ≡ frame) (requests_of x)) (sym g.1) has in
-    let parts = heard_parts c r bytes (record { sender = sender; message = PrePrepare view number b }) is in
-    let says : said bytes ≡ Some (record { sender = sender; message = PrePrepare view number b }) = rw parts.1 parts.2 in (
+    let says : said bytes ≡ Some (record { sender = sender; message = PrePrepare view number b }) = heard_said c r bytes (record { sender = sender; message = PrePrepare view number b }) is in (
       every_has (λ request. is_some (heard c r request)) (requests_of b) frame p.1 has',
       inr (carried_prepare bytes (record { sender = sender; message = PrePrepare view number b }) view number b frame says refl has'),
     )
@@ -117,7 +115,6 @@ heard_asked c r v i a bytes sender _ is h frame has = absurd cc
 
 sent_genuine : (c : Configuration) (r v i : ℕ) (a : List ℕ) (sender : ℕ) (message : Message)
     → batch_from c r v i (record { sender = sender; message = message }) ≡ Some a → (are_genuine c r a ≡ true) × ((frame : List ℕ) → Has (λ x. x ≡ frame) (requests_of a) → Has (λ x. x ≡ frame) (carried message))
-unfolding carried
 sent_genuine c r v i a sender (PrePrepare view number b) h =
     let g = give_if_some ((view == v) && (number == i) && (sender == primary c v) && are_genuine c r b) b a h in
     let p = and_parts ((view == v) && (number == i) && (sender == primary c v)) (are_genuine c r b) g.0 in (
@@ -152,14 +149,14 @@ entry_asked c setting r v i a xs past (Accepted x y z) emb correct right h frame
 
 -- the null batch has no requests
 null_asked : (c : Configuration) (trace : List Entry) (a : List ℕ) → is_null a ≡ true → Asked c trace a
-unfolding requests_of pieces
+unfolding requests_of requests_at
 null_asked c trace a h frame call has is =
     let e : a ≡ 0 ∷ [] = (bytes_eq-Decides a (0 ∷ [])).0 h in
     absurd (subst (λ (x : List ℕ). Has (λ y. y ≡ frame) (requests_of x)) e has)
 
 -- ---- by induction over the views
 
-module _ (c : Configuration) (setting : IsConfiguration c) (trace : List Entry) (right : AreReplicasRight c trace) (unforged : Unforged c trace) (apart : NoCollision c trace) where
+module _ (c : Configuration) (setting : IsConfiguration c) (trace : List Entry) (right : AreReplicasSafe c trace) (unforged : Unforged c trace) (apart : NoCollision c trace) where
   AskedIn : ℕ → Type 0
   AskedIn v = (r i : ℕ) (a : List ℕ) → is_correct_replica c r ≡ true → logged c r (history_of r trace) v i ≡ Some a → Asked c trace a
 
@@ -173,7 +170,7 @@ module _ (c : Configuration) (setting : IsConfiguration c) (trace : List Entry) 
       let s = correct_of c setting (passes_by (vouches i x (sha256 a)) (changes_of c new)) more in
       let t = passes_change (vouches i x (sha256 a)) (changes_of c new) s.0 s.2 in
       let says = change_was_said c trace r s.0 new t.0 right unforged correct s.1 takes' t.1 in
-      let k = some_of_has (λ (claim : Claim). (claim.number == i) && bytes_eq claim.digest (sha256 a) && nat_le x claim.view) t.0.proposed t.2 in
+      let k = some_of_has (λ (claim : Claim). (claim.number == i) && bytes_eq claim.digest (sha256 a) && nat_le x claim.view) t.0.pre_prepared t.2 in
       let parts = and_parts ((k.0.number == i) && bytes_eq k.0.digest (sha256 a)) (nat_le x k.0.view) k.2 in
       let ends = and_parts (k.0.number == i) (bytes_eq k.0.digest (sha256 a)) parts.0 in
       let m = member_of c new s.0 t.0 sel t.1 in

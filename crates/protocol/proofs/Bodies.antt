@@ -1,144 +1,103 @@
 -- What the laws use of how bodies are read: their operations and answers are within the limits, timestamps fit their
 -- bytes, and a batch has at most 16 requests.
-use Rattle.std.proofs.Common.{◌≡◌, ℕ, zero, suc, ◌+◌, ◌^◌, ◌≤◌, ◌<◌, Bool, true, false, cond, List, [], ◌∷◌, length, take, drop, refl, ap, subst, arith, ◌&&◌, Option, Some, None}
-use Rattle.std.specs.Prelude.{option_and_then, nat_lt, nat_le, slice_index, ◌==◌, ⊤}
+use Rattle.std.proofs.Common.{◌≡◌, ℕ, zero, suc, ◌+◌, ◌^◌, ◌≤◌, ◌<◌, Bool, cond, List, [], ◌∷◌, ◌++◌, length, refl, ap, subst, arith, ◌&&◌, Option, Some, None}
+use Rattle.std.specs.Prelude.{nat_lt, nat_le, ⊤}
 use Rattle.std.specs.List.{list_all}
-use Rattle.std.proofs.lemmas.Bool.{and_parts, ltb-true, leb-true}
+use Rattle.std.proofs.lemmas.Bool.{and_parts, leb-true}
 use Rattle.tuple_tree.specs.Values.{AreBytes}
-use Rattle.tuple_codec.specs.Operations.{Operation, Outcome, IsOperation, IsOutcome}
-use Rattle.tuple_codec.specs.Spelling.{operation_spelling, outcome_spelling}
-use Rattle.tuple_codec.specs.Reading.{Reader, operation_at, outcome_at}
-use Rattle.tuple_codec.proofs.Grammar.{Reads}
-use Rattle.tuple_codec.proofs.Readers.{bytes_take, bytes_drop}
-use Rattle.tuple_codec.proofs.OperationLaws.{operation_reads, outcome_reads}
+use Rattle.tuple_codec.specs.Operations.{IsOperation, IsOutcome}
+use Rattle.tuple_codec.specs.Reading.{Reader, byte_at}
+use Rattle.tuple_codec.proofs.Readers.{bind_some, guard_holds}
+use Rattle.wire.specs.Messages.{BodyData as Body, MessageData as Message, FrameData as Frame, request as Request, pre_prepare as PrePrepare, prepare as Prepare, commit as Commit, checkpoint as Checkpoint, view_change as Change, new_view as Begin, reply as Reply, fetch as Fetch, meta as Meta, page as Page}
+use Rattle.wire.specs.Spelling.{IsMessage}
+use Rattle.wire.specs.Reading.{frame_of as frame_spelled, passing, if_it, more_at, anyhow, piece_at, is_request, requests_at}
+use Rattle.wire.specs.Words.{said as body_spelled, requests_of}
+use Rattle.wire.proofs.Carriers.{frame_of_found}
 use Rattle.protocol.specs.Configuration.{Configuration}
-use Rattle.protocol.specs.Wire.{Body, Message, Frame, whole, number_at, pieces, frames_or_none, requests_of, request_in, message_of, body_of, frame_of, said}
-use Rattle.protocol.specs.Wire.Message.{Request, PrePrepare, Prepare, Commit, Checkpoint, Reply, Fetch, Page}
-use Rattle.protocol.specs.Wire.Proof.{Signature}
-use Rattle.protocol.specs.Keys.{heard}
-use Rattle.protocol.proofs.Options.{and_then_some, some_injective}
-use Rattle.protocol.proofs.Linking.{heard_parts}
-
--- ---- what is read whole
-
-whole_found : {V : Type 0} (IsValue : V → Type 0) (spelling : V → List ℕ) (at : Reader V) → Reads IsValue spelling at
-    → (bs : List ℕ) (v : V) → AreBytes bs → whole (at bs) ≡ Some v → IsValue v
-whole_found IsValue spelling at reads bs v bytes h = go (at bs) refl h
-  where
-    go : (o : Option (_ × List ℕ)) → at bs ≡ o → whole o ≡ Some v → IsValue v
-    go None is h = absurd cc
-    go (Some (w, [])) is h = subst IsValue (some_injective w v h) (reads.found bs [] w bytes is).1
-    go (Some (w, b ∷ rest)) is h = absurd cc
+use Rattle.protocol.specs.Frames.{said, heard}
+use Rattle.protocol.proofs.Options.{some_injective}
+use Rattle.protocol.proofs.Linking.{are_bytes, heard_said}
 
 -- ---- what a message has
 
 abbrev pub FitsMessage : Message → Type 0
-FitsMessage (Request t read_only op) = (t < 2 ^ 64) × IsOperation op
-FitsMessage (Reply client t read_only number answer) = IsOutcome answer
+FitsMessage (Request t mode op) = (t < 2 ^ 64) × IsOperation op
+FitsMessage (Reply client t mode number answer) = IsOutcome answer
 FitsMessage _ = ⊤
 
-pick : (b : Bool) (x y : Option Message) → ((m : Message) → x ≡ Some m → FitsMessage m) → ((m : Message) → y ≡ Some m → FitsMessage m) → (m : Message) → cond b x y ≡ Some m → FitsMessage m
-pick true x y f g m h = f m h
-pick false x y f g m h = g m h
+message_fits : (m : Message) → IsMessage m → FitsMessage m
+message_fits (Request t mode op) h = h
+message_fits (Reply client t mode number answer) h = h.4
+message_fits (PrePrepare v i batch) h = tt
+message_fits (Prepare v i digest) h = tt
+message_fits (Commit v i digest) h = tt
+message_fits (Checkpoint k root) h = tt
+message_fits (Change vc) h = tt
+message_fits (Begin new) h = tt
+message_fits (Fetch k level index) h = tt
+message_fits (Meta k level index digests) h = tt
+message_fits (Page k index text) h = tt
 
-request_fits : (t : ℕ) (read_only : Bool) (o : Option Operation) → ((op : Operation) → o ≡ Some op → IsOperation op) → (m : Message) → request_in t read_only o ≡ Some m → FitsMessage m
-request_fits t read_only o valid m h = go (nat_lt t (2 ^ 64)) refl h
-  where
-    go : (b : Bool) → nat_lt t (2 ^ 64) ≡ b → cond b (option_and_then (λ x. Some (Request t read_only x)) o) None ≡ Some m → FitsMessage m
-    go false e h = absurd cc
-    go true e h =
-        let r = and_then_some (λ (x : Operation). Some (Request t read_only x)) o m h in
-        subst FitsMessage (some_injective (Request t read_only r.0) m r.2) (ltb-true t (2 ^ 64) e, valid r.0 r.1)
-
-plain : (x m : Message) → FitsMessage x → Some x ≡ Some m → FitsMessage m
-plain x m f h = subst FitsMessage (some_injective x m h) f
-
-message_fits : (kind : ℕ) (r : List ℕ) → AreBytes r → (m : Message) → message_of kind r ≡ Some m → FitsMessage m
-unfolding message_of
-message_fits kind r bytes =
-    pick (kind == 0x41) _ _ (request_fits (number_at 8 0 r) (slice_index r 8 == 1) (whole (operation_at (drop 9 r)))
-    (λ op h. whole_found IsOperation operation_spelling operation_at operation_reads (drop 9 r) op (bytes_drop 9 r bytes) h))
-    (pick (kind == 0x42) _ _ (λ m h. plain (PrePrepare (number_at 8 0 r) (number_at 8 8 r) (drop 16 r)) m tt h)
-    (pick (kind == 0x43) _ _ (λ m h. plain (Prepare (number_at 8 0 r) (number_at 8 8 r) (drop 16 r)) m tt h)
-    (pick (kind == 0x44) _ _ (λ m h. plain (Commit (number_at 8 0 r) (number_at 8 8 r) (drop 16 r)) m tt h)
-    (pick (kind == 0x45) _ _ (λ m h. plain (Checkpoint (number_at 8 0 r) (drop 8 r)) m tt h)
-    (pick (kind == 0x48) _ _ reply
-    (pick (kind == 0x49) _ _ (λ m h. plain (Fetch (number_at 8 0 r) (slice_index r 8) (number_at 2 9 r)) m tt h)
-    (pick (kind == 0x4b) _ _ (λ m h. plain (Page (number_at 8 0 r) (number_at 2 8 r) (drop 10 r)) m tt h) (λ m h. absurd cc))))))))
-  where
-    reply : (m : Message) → option_and_then (λ answer. Some (Reply (number_at 2 0 r) (number_at 8 2 r) (slice_index r 10 == 1) (number_at 8 11 r) answer)) (whole (outcome_at (drop 19 r))) ≡ Some m → FitsMessage m
-    reply m h =
-        let q = and_then_some (λ (answer : Outcome). Some (Reply (number_at 2 0 r) (number_at 8 2 r) (slice_index r 10 == 1) (number_at 8 11 r) answer)) (whole (outcome_at (drop 19 r))) m h in
-        plain (Reply (number_at 2 0 r) (number_at 8 2 r) (slice_index r 10 == 1) (number_at 8 11 r) q.0) m
-        (whole_found IsOutcome outcome_spelling outcome_at outcome_reads (drop 19 r) q.0 (bytes_drop 19 r bytes) q.1) q.2
-
-body_fits : (text : List ℕ) → AreBytes text → (body : Body) → body_of text ≡ Some body → FitsMessage body.message
-unfolding body_of
-body_fits text bytes body h =
-    let r = and_then_some (λ message. Some (let b : Body = record { sender = number_at 2 1 text; message = message } in b)) (message_of (slice_index text 0) (drop 3 text)) body h in
-    let is : ◌≡◌ {A = Body} (record { sender = number_at 2 1 text; message = r.0 }) body = some_injective {A = Body} (record { sender = number_at 2 1 text; message = r.0 }) body r.2 in
-    subst (λ (b : Body). FitsMessage b.message) is (message_fits (slice_index text 0) (drop 3 text) (bytes_drop 3 text bytes) r.0 r.1)
-
--- ---- a frame is bytes
-
-are_bytes : (bs : List ℕ) → list_all (λ b. nat_lt b 256) bs ≡ true → AreBytes bs
-are_bytes [] h i = omega arith
-are_bytes (b ∷ bs) h zero = ltb-true b 256 (and_parts (nat_lt b 256) (list_all (λ b. nat_lt b 256) bs) h).0
-are_bytes (b ∷ bs) h (suc i) = are_bytes bs (and_parts (nat_lt b 256) (list_all (λ b. nat_lt b 256) bs) h).1 i
-
-frame_bytes : (bytes : List ℕ) (frame : Frame) → frame_of bytes ≡ Some frame → AreBytes frame.text
-unfolding frame_of
-frame_bytes bytes frame h = go (list_all (λ b. nat_lt b 256) bytes) refl (nat_le (4 + number_at 4 0 bytes) (length bytes)) h
-  where
-    go : (a : Bool) → list_all (λ b. nat_lt b 256) bytes ≡ a → (b : Bool) → cond (a && b) (Some (record { text = take (number_at 4 0 bytes) (drop 4 bytes); proof = Signature (drop (4 + number_at 4 0 bytes) bytes) })) None ≡ Some frame → AreBytes frame.text
-    go true is true h =
-        subst AreBytes (ap (λ (o : Option Frame). frame_text o) h) (bytes_take (number_at 4 0 bytes) (drop 4 bytes) (bytes_drop 4 bytes (are_bytes bytes is)))
-      where
-        frame_text : Option Frame → List ℕ
-        frame_text None = []
-        frame_text (Some f) = f.text
-    go true is false h = absurd cc
-    go false is b h = absurd cc
+spelled_fits : (bytes : List ℕ) (body : Body) → AreBytes bytes → body_spelled bytes ≡ Some body → FitsMessage body.message
+unfolding body_spelled
+spelled_fits bytes body are h =
+    let k = bind_some (frame_spelled bytes) (λ (f : Frame). Some f.body) body h in
+    let same : k.0.body ≡ body = some_injective k.0.body body k.2 in
+    subst (λ (b : Body). FitsMessage b.message) same (message_fits k.0.body.message (frame_of_found bytes k.0 are k.1).valid.message)
 
 pub said_fits : (bytes : List ℕ) (body : Body) → said bytes ≡ Some body → FitsMessage body.message
+unfolding said
 said_fits bytes body h =
-    let r = and_then_some (λ (frame : Frame). body_of frame.text) (frame_of bytes) body h in
-    body_fits r.0.text (frame_bytes bytes r.0 r.1) body r.2
+    let g = guard_holds (list_all (λ b. nat_lt b 256) bytes) (body_spelled bytes) body h in
+    spelled_fits bytes body (are_bytes bytes g.0) g.1
 
 pub heard_fits : (c : Configuration) (me : ℕ) (bytes : List ℕ) (body : Body) → heard c me bytes ≡ Some body → FitsMessage body.message
-heard_fits c me bytes body h =
-    let r = heard_parts c me bytes body h in
-    body_fits r.0.text (frame_bytes bytes r.0 r.1) body r.2
+heard_fits c me bytes body h = said_fits bytes body (heard_said c me bytes body h)
 
 -- ---- batches
 
-pieces_many : (n : ℕ) (bytes : List ℕ) (frames : List (List ℕ)) → pieces n bytes ≡ Some frames → length frames ≡ n
-unfolding pieces
-pieces_many zero [] frames h = ap length (sym' (some_injective [] frames h))
-  where
-    sym' : [] ≡ frames → frames ≡ []
-    sym' e = cc
-pieces_many zero (x ∷ bytes) frames h = absurd cc
-pieces_many (suc n) bytes frames h =
-    let r = and_then_some (λ rest. Some (take (number_at 4 0 bytes) (drop 4 bytes) ∷ rest)) (pieces n (drop (4 + number_at 4 0 bytes) bytes)) frames h in
-    let is : take (number_at 4 0 bytes) (drop 4 bytes) ∷ r.0 ≡ frames = some_injective (take (number_at 4 0 bytes) (drop 4 bytes) ∷ r.0) frames r.2 in
-    let l = pieces_many n (drop (4 + number_at 4 0 bytes) bytes) r.0 r.1 in
-    let e : length frames ≡ suc (length r.0) = ap length (back is) in
+one_more : {A : Type 0} (xs : List A) (x : A) → length (xs ++ x ∷ []) ≡ suc (length xs)
+one_more [] x = refl
+one_more (y ∷ xs) x = ap suc (one_more xs x)
+
+more_many : {A : Type 0} (at : Reader A) (fits : List A → A → Bool) (n : ℕ) (xs ys : List A) (bs rest : List ℕ)
+    → more_at at fits n xs bs ≡ Some (ys, rest) → length ys ≡ length xs + n
+more_many at fits zero xs ys bs rest e =
+    let same : xs ≡ ys = ap (λ (p : List _ × List ℕ). p.0) (some_injective (xs, bs) (ys, rest) e) in
+    subst (λ zs. length zs ≡ length xs + 0) same (omega arith)
+more_many at fits (suc n) xs ys bs rest e =
+    let k = bind_some (at bs) (λ x. cond (fits xs x.0) (more_at at fits n (xs ++ x.0 ∷ []) x.1) None) (ys, rest) e in
+    let g = guard_holds (fits xs k.0.0) (more_at at fits n (xs ++ k.0.0 ∷ []) k.0.1) (ys, rest) k.2 in
+    let l : length ys ≡ length (xs ++ k.0.0 ∷ []) + n = more_many at fits n (xs ++ k.0.0 ∷ []) ys k.0.1 rest g.1 in
+    let o : length (xs ++ k.0.0 ∷ []) ≡ suc (length xs) = one_more xs k.0.0 in
     omega arith
-  where
-    back : {x y : List (List ℕ)} → x ≡ y → y ≡ x
-    back e = cc
+
+passed : (n : ℕ × List ℕ) (bs : List ℕ) → passing (λ n. nat_le 0 n && nat_le n 16) byte_at bs ≡ Some n → n.0 ≤ 16
+passed n bs h =
+    let k = bind_some (byte_at bs) (λ x. if_it (nat_le 0 x.0 && nat_le x.0 16) x) n h in
+    let g = guard_holds (nat_le 0 k.0.0 && nat_le k.0.0 16) (Some k.0) n k.2 in
+    let same : k.0 ≡ n = some_injective k.0 n g.1 in
+    subst (λ (m : ℕ × List ℕ). m.0 ≤ 16) same (leb-true k.0.0 16 (and_parts (nat_le 0 k.0.0) (nat_le k.0.0 16) g.0).1)
+
+few_at : (bs rest : List ℕ) (frames : List (List ℕ)) → requests_at 0 bs ≡ Some (frames, rest) → length frames ≤ 16
+unfolding requests_at
+few_at bs rest frames h =
+    let k = bind_some (passing (λ n. nat_le 0 n && nat_le n 16) byte_at bs) (λ n. more_at (passing is_request piece_at) anyhow n.0 [] n.1) (frames, rest) h in
+    let l = more_many (passing is_request piece_at) anyhow k.0.0 [] frames k.0.1 rest k.2 in
+    let m = passed k.0 bs k.1 in
+    omega arith
 
 -- a batch has at most 16 requests
 pub requests_few : (batch : List ℕ) → length (requests_of batch) ≤ 16
 unfolding requests_of
-requests_few [] = omega arith
-requests_few (count ∷ bytes) = go (nat_le count 16) refl
+requests_few batch = go (requests_at 0 batch) refl
   where
-    those : count ≤ 16 → (o : Option (List (List ℕ))) → pieces count bytes ≡ o → length (frames_or_none o) ≤ 16
-    those l None is = omega arith
-    those l (Some frames) is = let n = pieces_many count bytes frames is in omega arith
+    go : (o : Option (List (List ℕ) × List ℕ)) → requests_at 0 batch ≡ o → length (requests_of batch) ≤ 16
+    go None is = rw is (omega arith)
+    go (Some (frames, [])) is = rw is (few_at batch [] frames is)
+    go (Some (frames, b ∷ rest)) is = rw is (omega arith)
 
-    go : (b : Bool) → nat_le count 16 ≡ b → length (cond b (frames_or_none (pieces count bytes)) []) ≤ 16
-    go true e = those (leb-true count 16 e) (pieces count bytes) refl
-    go false e = omega arith
+-- the null batch has none
+pub null_empty : requests_of (0 ∷ []) ≡ []
+unfolding requests_of requests_at
+null_empty = refl

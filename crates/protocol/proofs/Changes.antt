@@ -5,8 +5,8 @@ use Rattle.std.specs.Option.{option_map_or}
 use Rattle.std.proofs.lemmas.Bool.{and_parts, and_from, leb-true, lt-ltb, le-leb, cases_lt}
 use Rattle.sha2.specs.Sha256.{sha256}
 use Rattle.protocol.specs.Configuration.{Configuration, span, is_number}
-use Rattle.protocol.specs.Wire.{Body, Message, ViewChange, Claim, said}
-use Rattle.protocol.specs.Wire.Message.{Commit, Change}
+use Rattle.wire.specs.Messages.{BodyData as Body, MessageData as Message, ViewChangeData as ViewChange, ClaimData as Claim, commit as Commit, view_change as Change}
+use Rattle.protocol.specs.Frames.{said}
 use Rattle.protocol.specs.Trace.{Entry, Once, Always, Has}
 use Rattle.protocol.specs.Trace.Entry.{Invoke, Got, Tick, Executed, Installed, Sent, Accepted}
 use Rattle.protocol.specs.Certificates.{logged, target, is_in_marks, low, Prepared, proposal, taken, batch_begun, view, entry_proposal, change_from}
@@ -215,7 +215,7 @@ pub record Proposed (c : Configuration) (s : ℕ) (claim : Claim) (past : List E
   pub digest_is : sha256 batch ≡ claim.digest
 
 pub proposed : (c : Configuration) (s : ℕ) (vc : ViewChange) (xs : List Entry) → Always (RightAt c s) xs → Once (Speaks (changing s vc)) xs
-    → (claim : Claim) → Has (λ x. x ≡ claim) vc.proposed → Proposed c s claim xs
+    → (claim : Claim) → Has (λ x. x ≡ claim) vc.pre_prepared → Proposed c s claim xs
 proposed c s vc xs right says claim h =
     once_stays (Proposed c s claim) (λ e past p. record { batch = p.batch; is_logged = logged_stays c s claim.view claim.number p.batch e past p.is_logged; digest_is = p.digest_is }) xs
     (once_weaker (NewChangeAt c s vc) (λ past e. Proposed c s claim past)

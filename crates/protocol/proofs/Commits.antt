@@ -5,14 +5,13 @@ use Rattle.std.proofs.lemmas.Bool.{and_parts}
 use Rattle.sha2.specs.Sha256.{sha256}
 use Rattle.quorum.proofs.Counting.{count_mono}
 use Rattle.protocol.specs.Configuration.{Configuration, is_correct_replica, replicas}
-use Rattle.protocol.specs.Wire.{Body, Message}
-use Rattle.protocol.specs.Wire.Message.{Commit}
+use Rattle.wire.specs.Messages.{BodyData as Body, MessageData as Message, commit as Commit}
 use Rattle.protocol.specs.Trace.{Entry, history_of, Once, Always, Unforged}
 use Rattle.protocol.specs.Trace.Entry.{Invoke, Got, Tick, Executed, Installed, Sent, Accepted}
 use Rattle.protocol.specs.Certificates.{prepare_from, commit_from, vote_in, prepare_of, commit_of, is_active_in, Prepared}
 use Rattle.quorum.specs.Votes.{has_digest}
 use Rattle.protocol.specs.RightReplica.{MaySay, MayCommit}
-use Rattle.protocol.specs.Laws.{AreReplicasRight}
+use Rattle.protocol.specs.Laws.{AreReplicasSafe}
 use Rattle.protocol.proofs.Temporal.{once_weaker}
 use Rattle.protocol.proofs.Options.{give_if_some, given_stays, given_once, some_injective}
 use Rattle.protocol.proofs.Linking.{Speaks}
@@ -81,7 +80,7 @@ says_prepared c me v i d past (Accepted x y z) r h = absurd h
 abbrev pub CommitsAt : Configuration → ℕ → ℕ → ℕ → List ℕ → List Entry → Entry → Type 0
 CommitsAt c me v i d past e = Commits c me v i d past × Speaks (committing me v i d) past e
 
-pub voter_commits : (c : Configuration) (trace : List Entry) (p s v i : ℕ) (d : List ℕ) → AreReplicasRight c trace → Unforged c trace
+pub voter_commits : (c : Configuration) (trace : List Entry) (p s v i : ℕ) (d : List ℕ) → AreReplicasSafe c trace → Unforged c trace
     → is_correct_replica c p ≡ true → is_correct_replica c s ≡ true
     → commit_of c p (history_of p trace) v i s ≡ Some d → Once (CommitsAt c s v i d) (history_of s trace)
 unfolding commit_of

@@ -4,18 +4,18 @@ use Rattle.std.specs.Prelude.{◌==◌, nat_lt}
 use Rattle.sha2.specs.Sha256.{sha256}
 use Rattle.quorum.proofs.Counting.{count_mono}
 use Rattle.protocol.specs.Configuration.{Configuration, replicas, is_correct_replica}
-use Rattle.protocol.specs.Wire.{Body, Message, NewView, said}
-use Rattle.protocol.specs.Wire.Message.{PrePrepare, Begin}
+use Rattle.wire.specs.Messages.{BodyData as Body, MessageData as Message, NewViewData as NewView, pre_prepare as PrePrepare, new_view as Begin}
+use Rattle.protocol.specs.Frames.{said}
 use Rattle.protocol.specs.Trace.{Entry, party_of, history_of, Once, Always, Has}
 use Rattle.protocol.specs.Trace.Entry.{Invoke, Got, Tick, Executed, Installed, Sent, Accepted}
 use Rattle.protocol.specs.Certificates.{proposal, logged, commit_of, commit_from, vote_in, Committed, batch_begun}
 use Rattle.quorum.specs.Votes.{has_digest}
 use Rattle.protocol.specs.Texts.{IsText, HasBatch, batches_of, ExecutesBatch}
 use Rattle.protocol.specs.Texts.IsText.{batch}
-use Rattle.protocol.specs.Laws.{AreReplicasRight, ExecutedAgree}
+use Rattle.protocol.specs.Laws.{AreReplicasSafe, ExecutedAgree}
 use Rattle.protocol.proofs.Temporal.{once_weaker, once_stays, once_in_trace, once_in_history}
 use Rattle.protocol.proofs.Options.{given_stays, given_once, give_if_some}
-use Rattle.protocol.proofs.Linking.{heard_parts}
+use Rattle.protocol.proofs.Linking.{heard_said}
 use Rattle.protocol.proofs.Voting.{RightAt, once_right, Brings}
 use Rattle.protocol.proofs.Offers.{offer_from, proposal_offer}
 use Rattle.protocol.proofs.Commits.{prepared_stays, digest_stays}
@@ -73,7 +73,7 @@ executor c k a xs h =
     who (e ∷ past) (inl h) = let w = at past e h in (w.0, w.1, inl w.2)
     who (e ∷ past) (inr h) = let w = who past h in (w.0, w.1, inr w.2)
 
-pub executed_committed : (c : Configuration) (trace : List Entry) (r k : ℕ) (a : List ℕ) → AreReplicasRight c trace → is_correct_replica c r ≡ true
+pub executed_committed : (c : Configuration) (trace : List Entry) (r k : ℕ) (a : List ℕ) → AreReplicasSafe c trace → is_correct_replica c r ≡ true
     → Once (ExecutesBatch c k a) (history_of r trace) → Ready c r k a (history_of r trace)
 executed_committed c trace r k a right correct h =
     once_stays (Ready c r k a) (λ e past x. record { view = x.view; committed = committed_later c r x.view k a e past x.committed }) (history_of r trace)
@@ -102,8 +102,7 @@ offer_has v i a sender _ h = absurd cc
 
 brought_has : (c : Configuration) (v i : ℕ) (a : List ℕ) (body : Body) → offer_from v i body ≡ Some a → (past : List Entry) (e : Entry) → Brings c body past e → HasBatch a past e
 brought_has c v i a body is past (Got p bytes) h =
-    let parts = heard_parts c p bytes body h in
-    let says : said bytes ≡ Some body = rw parts.1 parts.2 in
+    let says : said bytes ≡ Some body = heard_said c p bytes body h in
     (body, says, offer_has v i a body.sender body.message is)
 brought_has c v i a body is past (Sent p bytes) h = (body, h, offer_has v i a body.sender body.message is)
 brought_has c v i a body is past (Invoke x y z) h = absurd cc
@@ -121,7 +120,7 @@ has_any_past text past past' (Executed x y z) h = absurd h
 has_any_past text past past' (Installed x y z) h = absurd h
 has_any_past text past past' (Accepted x y z) h = absurd h
 
-pub logged_text : (c : Configuration) (trace : List Entry) (r v i : ℕ) (a : List ℕ) → AreReplicasRight c trace → is_correct_replica c r ≡ true
+pub logged_text : (c : Configuration) (trace : List Entry) (r v i : ℕ) (a : List ℕ) → AreReplicasSafe c trace → is_correct_replica c r ≡ true
     → logged c r (history_of r trace) v i ≡ Some a → IsText c trace a
 unfolding logged
 logged_text c trace r v i a right correct h =

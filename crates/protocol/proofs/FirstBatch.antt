@@ -7,18 +7,17 @@ use Rattle.sha2.specs.Sha256.{sha256}
 use Rattle.quorum.specs.Quorum.{count_below}
 use Rattle.quorum.specs.Votes.{has_digest, or_else, give_if}
 use Rattle.protocol.specs.Configuration.{Configuration}
-use Rattle.protocol.specs.Wire.{Body, Message, NewView, said, carried}
-use Rattle.protocol.specs.Wire.Message.{PrePrepare, Prepare, Commit}
-use Rattle.protocol.specs.Keys.{heard, signed_body}
+use Rattle.wire.specs.Messages.{BodyData as Body, MessageData as Message, ProofData as Proof, macs, signature, NewViewData as NewView, pre_prepare as PrePrepare, prepare as Prepare, commit as Commit}
+use Rattle.protocol.specs.Frames.{receivers_of, said, heard, signed_body}
 use Rattle.protocol.specs.Trace.{Entry}
 use Rattle.protocol.specs.Trace.Entry.{Got, Executed, Sent}
 use Rattle.protocol.specs.Certificates.{view, view_after, target, low, new_view_in, new_view_from, change_sent, checkpoint_in, installed_at, taken, is_active_in, counts_at, logged, proposal, prepare_of, prepare_from, commit_of, commit_from, vote_in, first_given, Prepared, Committed, checkpoint_from, change_from, is_in_marks, is_later, batch_begun, begun_proposal, entry_proposal}
-use Rattle.protocol.specs.RightReplica.{Point, start, Leaves, RightReplica, MaySend, executed_point, waiting_after}
+use Rattle.protocol.specs.RightReplica.{others, IsFor, IsAddressed, Point, first_point, Leaves, SafeReplica, MaySend, executed_point, waiting_after}
 use Rattle.protocol.specs.Examples.{four, IsFirstBatch, FirstBatchExecutes}
 use Rattle.protocol.proofs.Voting.{logged_stays}
 use Rattle.protocol.proofs.Commits.{prepare_stays, prepared_stays}
 use Rattle.protocol.proofs.Executing.{commit_stays}
-use Rattle.protocol.proofs.Signatures.{signed_heard}
+use Rattle.protocol.proofs.Linking.{signed_heard}
 use Rattle.protocol.proofs.Options.{some_injective}
 
 same_digest : (d : List ℕ) → has_digest d (Some d) ≡ true
@@ -287,30 +286,32 @@ module _ (clients : ℕ) (seed batch a b d e f g : List ℕ) (x : IsFirstBatch (
   got : Point → List ℕ → Point
   got point bytes = record point { ran = []; waiting = waiting_after c 1 point bytes }
 
+  for_others : (past : List Entry) (message : Message) (proof : Proof) → ((rs : List ℕ) → rs ≡ others c 1 → IsFor c 1 past message rs) → receivers_of proof ≡ others c 1 → IsAddressed c 1 past message proof
+  for_others past message (macs entries) to e = to (receivers_of (macs entries)) e
+  for_others past message (signature s) to e = tt
+
   may_prepare : (point : Point) → MaySend c 1 h1 point (Sent 1 b) b
-  unfolding carried
   may_prepare point = record {
     body = record { sender = 1; message = Prepare 0 1 (sha256 batch) };
     says = x.prepares;
     own = refl;
     seen = tt;
     say = record { is_backup = λ z. cc; active = active h1 plain1; batch = batch; is_logged = logged1; digest_is = refl };
-    is_sealed = x.prepare_sealed;
+    is_sealed = λ frame is. let s = x.prepare_sealed frame is in (s.0, for_others h1 (Prepare 0 1 (sha256 batch)) frame.proof (λ rs e. e) s.1);
   }
 
   may_commit : (point : Point) → MaySend c 1 h3 point (Sent 1 e) e
-  unfolding carried
   may_commit point = record {
     body = record { sender = 1; message = Commit 0 1 (sha256 batch) };
     says = x.commits;
     own = refl;
     seen = tt;
     say = record { active = active h3 plain3; batch = batch; prepared = prepared; digest_is = refl };
-    is_sealed = x.commit_sealed;
+    is_sealed = λ frame is. let s = x.commit_sealed frame is in (s.0, for_others h3 (Commit 0 1 (sha256 batch)) frame.proof (λ rs e. e) s.1);
   }
 
   abbrev p1 : Point
-  p1 = record start { ran = []; waiting = waiting_after c 1 start a }
+  p1 = record first_point { ran = []; waiting = waiting_after c 1 first_point a }
 
   abbrev p3 : Point
   p3 = record p1 { ran = []; waiting = waiting_after c 1 p1 d }
@@ -322,7 +323,7 @@ module _ (clients : ℕ) (seed batch a b d e f g : List ℕ) (x : IsFirstBatch (
   p6 = record p5 { ran = []; waiting = waiting_after c 1 p5 g }
 
   leaves1 : Leaves c 1 h1 p1
-  leaves1 = (start, refl, record { own = refl; may = tt; moves = refl })
+  leaves1 = (first_point, refl, record { own = refl; may = tt; moves = refl })
 
   leaves3 : Leaves c 1 h3 p3
   leaves3 = (p1, (p1, leaves1, record { own = refl; may = may_prepare p1; moves = refl }), record { own = refl; may = tt; moves = refl })
@@ -330,7 +331,7 @@ module _ (clients : ℕ) (seed batch a b d e f g : List ℕ) (x : IsFirstBatch (
   leaves6 : Leaves c 1 h6 p6
   leaves6 = (p5, (p3, (p3, leaves3, record { own = refl; may = may_commit p3; moves = refl }), record { own = refl; may = tt; moves = refl }), record { own = refl; may = tt; moves = refl })
 
-  pub executes : Committed c 1 h6 0 1 batch × RightReplica c 1 (Executed 1 1 batch ∷ h6)
+  pub executes : Committed c 1 h6 0 1 batch × SafeReplica c 1 (Executed 1 1 batch ∷ h6)
   executes =
       (committed, (executed_point c p6 1 batch, (p6, leaves6, record { own = refl; may = record { next = refl; in_view = 0; committed = committed }; moves = refl })))
 

@@ -3,19 +3,21 @@ use Rattle.std.proofs.Common.{◌≡◌, ℕ, suc, ◌+◌, ◌-◌, ◌≤◌, 
 use Rattle.std.specs.Prelude.{nat_lt, nat_le}
 use Rattle.std.proofs.lemmas.Bool.{and_parts, leb-true}
 use Rattle.protocol.specs.Configuration.{Configuration, is_client, is_correct, is_correct_client}
-use Rattle.protocol.specs.Wire.{Body, Message, requests_of, said}
-use Rattle.protocol.specs.Wire.Message.{Request}
-use Rattle.protocol.specs.Keys.{heard}
-use Rattle.protocol.specs.Trace.{Entry, party_of, history_of, Once, Always, frames_in, SendsText, IsFromSender, IsUnforgedAt, Has}
+use Rattle.wire.specs.declared.terms.Mode.TheVariants as modes
+use Rattle.wire.specs.Messages.{BodyData as Body, MessageData as Message, request as Request}
+use Rattle.wire.specs.Words.{requests_of}
+use Rattle.wire.specs.declared.terms.Mode.{Mode}
+use Rattle.protocol.specs.Frames.{reads_only, mode_of, said, heard}
+use Rattle.protocol.specs.Trace.{Entry, party_of, history_of, Once, Always, frames_in, SendsBody, IsFromSender, IsUnforgedAt, Has}
 use Rattle.protocol.specs.Trace.Entry.{Invoke, Got, Tick, Executed, Installed, Sent, Accepted}
 use Rattle.protocol.specs.State.{Call, call_in, call_of}
 use Rattle.protocol.specs.RightClient.{AnyClient, MayAsk, MayRequest, OpenCall, open_call, last_call}
 use Rattle.protocol.specs.Texts.{ExecutesBatch}
-use Rattle.protocol.specs.Linear.{Point, batch_of, is_level, Invokes, Asks}
+use Rattle.protocol.specs.Linear.{Placing, batch_of, is_level, Invokes, Asks}
 use Rattle.quorum.specs.Votes.{give_if}
 use Rattle.protocol.proofs.Temporal.{once_weaker, once_always, once_once, once_in_history, once_in_trace}
 use Rattle.protocol.proofs.Options.{and_then_some, some_injective, given_once, give_if_some}
-use Rattle.protocol.proofs.Linking.{Speaks, heard_parts, same_text}
+use Rattle.protocol.proofs.Linking.{Speaks, heard_said, sent_spoken}
 use Rattle.protocol.proofs.Signed.{each_has}
 use Rattle.protocol.proofs.Voting.{correct_replica}
 use Rattle.protocol.proofs.States.{once_append}
@@ -72,7 +74,7 @@ asked_op c p t read_only text (e ∷ past) r (inr h) = inr (asked_op c p t read_
 asked_op c p t read_only text (Sent x bytes ∷ past) r (inl h) =
     let m = r.0.1 in
     let is : m.0 ≡ asking p t read_only text = some_injective m.0 (asking p t read_only text) (sym m.1 ∙ h) in
-    let ask : MayRequest past t read_only text = subst (λ (b : Body). MayAsk past b.message) is m.3 in
+    let ask : MayRequest past t (reads_only (mode_of read_only)) text = subst (λ (b : Body). MayAsk past b.message) is m.3 in
     inr (opened_op p t text past (own_entries c p past r.1) ask.0)
 asked_op c p t read_only text (Invoke x y z ∷ past) r (inl h) = absurd h
 asked_op c p t read_only text (Got x y ∷ past) r (inl h) = absurd h
@@ -146,18 +148,16 @@ asks_said c xs frame body runs is from h =
     known : (p : ℕ) (o : Option Body) → heard c p frame ≡ o → is_some o ≡ true → heard c p frame ≡ Some body
     known p None e s = absurd cc
     known p (Some b) e s =
-        let parts = heard_parts c p frame b e in
-        let said' : said frame ≡ Some b = rw parts.1 parts.2 in
+        let said' : said frame ≡ Some b = heard_said c p frame b e in
         e ∙ sym said' ∙ is
 
     step : (past : List Entry) (e : Entry) → IsUnforgedAt c past e × AsksFrame c frame past e × Always (IsUnforgedAt c) past
         → Once (λ past e. (party_of e ≡ body.sender) × Speaks body (history_of body.sender past) e) past
     step past (Got q bytes) t =
         let hears = known q (heard c q frame) refl t.1.1 in
-        let parts = heard_parts c q frame body hears in
         let each : IsFromSender c q past frame = each_has (IsFromSender c q past) (frames_in bytes) frame (t.0 (correct_replica c q t.1.0)) t.1.2 in
-        once_weaker (SendsText body.sender parts.0.text) (λ past e. (party_of e ≡ body.sender) × Speaks body (history_of body.sender past) e)
-        (same_text body.sender parts.0 body parts.2) past (each body parts.0 parts.1 hears from)
+        once_weaker (SendsBody body) (λ past e. (party_of e ≡ body.sender) × Speaks body (history_of body.sender past) e)
+        (sent_spoken body) past (each body hears from)
     step past (Sent a b) t = absurd t.1
     step past (Invoke a b d) t = absurd t.1
     step past (Tick a) t = absurd t.1
@@ -171,11 +171,11 @@ call_body c frame call h =
     r.1 ∙ ap Some (go r.0.sender r.0.message r.2)
   where
     go : (sender : ℕ) (message : Message) → call_in c (record { sender = sender; message = message }) ≡ Some call → ◌≡◌ {A = Body} (record { sender = sender; message = message }) (asking (256 + call.client) call.timestamp false call.op)
-    go sender (Request t read_only op) h = test read_only (is_client c sender) refl h
+    go sender (Request t mode op) h = test mode (is_client c sender) refl h
       where
-        test : (x y : Bool) → is_client c sender ≡ y → cond (not x && y) (Some (let z : Call = record { client = sender - 256; timestamp = t; op = op } in z)) None ≡ Some call
+        test : (x : Mode) (y : Bool) → is_client c sender ≡ y → cond (not (reads_only x) && y) (Some (let z : Call = record { client = sender - 256; timestamp = t; op = op } in z)) None ≡ Some call
             → ◌≡◌ {A = Body} (record { sender = sender; message = Request t x op }) (asking (256 + call.client) call.timestamp false call.op)
-        test false true e h =
+        test modes.Ordered true e h =
             let is : ◌≡◌ {A = Call} (record { client = sender - 256; timestamp = t; op = op }) call = some_injective {A = Call} (record { client = sender - 256; timestamp = t; op = op }) call h in
             let cl : sender - 256 ≡ call.client = ap (λ (x : Call). x.client) is in
             let u = and_parts (nat_le 256 sender) (nat_lt sender (256 + c.clients)) e in
@@ -184,8 +184,8 @@ call_body c frame call h =
             let et : t ≡ call.timestamp = ap (λ (x : Call). x.timestamp) is in
             let eo : op ≡ call.op = ap (λ (x : Call). x.op) is in
             rw (es, et, eo) refl
-        test false false e h = absurd cc
-        test true y e h = absurd cc
+        test modes.Ordered false e h = absurd cc
+        test modes.ReadOnly y e h = absurd cc
     go sender _ h = absurd cc
 
 pub asks_request : (c : Configuration) (frame : List ℕ) (sender t : ℕ) (op : Operation) → said frame ≡ Some (asking sender t false op) → (past : List Entry) (e : Entry) → AsksFrame c frame past e → Asks c sender t op past e
@@ -195,11 +195,10 @@ asks_request c frame sender t op is past (Got p bytes) h = (h.0, there (frames_i
     known : (o : Option Body) → heard c p frame ≡ o → is_some o ≡ true → heard c p frame ≡ Some (asking sender t false op)
     known None e s = absurd cc
     known (Some b) e s =
-        let parts = heard_parts c p frame b e in
-        let said' : said frame ≡ Some b = rw parts.1 parts.2 in
+        let said' : said frame ≡ Some b = heard_said c p frame b e in
         e ∙ sym said' ∙ is
 
-    there : (xs : List (List ℕ)) → Has (λ x. x ≡ frame) xs → Has (λ x. heard c p x ≡ Some (record { sender = sender; message = Request t false op })) xs
+    there : (xs : List (List ℕ)) → Has (λ x. x ≡ frame) xs → Has (λ x. heard c p x ≡ Some (record { sender = sender; message = Request t modes.Ordered op })) xs
     there [] k = k
     there (x ∷ xs) (inl k) = inl (subst (λ (y : List ℕ). heard c p y ≡ Some (asking sender t false op)) (sym k) (known (heard c p frame) refl h.1))
     there (x ∷ xs) (inr k) = inr (there xs k)
@@ -220,7 +219,7 @@ executed_asked c xs k b run h frame call has is =
     let ready = executed_committed c xs p.0 k b run.runs.replicas p.1 p.2 in
     all_asked c run.setting xs run.runs.replicas run.runs.unforged run.apart ready.view p.0 k b p.1 ready.committed.prepared.logged frame call has is
 
-module _ (c : Configuration) (trace : List Entry) (run : Run c trace) (x : Point) (s : Source c trace x) (positive : 1 ≤ x.number) where
+module _ (c : Configuration) (trace : List Entry) (run : Run c trace) (x : Placing) (s : Source c trace x) (positive : 1 ≤ x.number) where
   -- the request was asked where its batch's level came, or before
   source_asked : At (λ past e. (length past ≡ s.position) × Once (AsksFrame c s.from.frame) (e ∷ past)) trace
   source_asked =
@@ -229,7 +228,7 @@ module _ (c : Configuration) (trace : List Entry) (run : Run c trace) (x : Point
       let g = give_if_some (is_level c (at.entry ∷ at.past) s.number) (length at.past) s.position at.holds in
       let whole : Run c (at.later ++ at.entry ∷ at.past) = subst (Run c) at.is run in
       let here : Run c (at.entry ∷ at.past) = run_part c at.later (at.entry ∷ at.past) whole in
-      let number : x.number ≡ s.number = ap (λ (y : Point). y.number) s.is in
+      let number : x.number ≡ s.number = ap (λ (y : Placing). y.number) s.is in
       let one : 1 ≤ s.number = omega arith in
       let self : s.number ≤ s.number = omega arith in
       let ex = level_executed c (at.entry ∷ at.past) s.number here g.0 s.number one self in
@@ -258,7 +257,7 @@ module _ (c : Configuration) (trace : List Entry) (run : Run c trace) (x : Point
   pub ran_asked : Once (λ past e. Asks c x.item.client x.item.timestamp x.item.op past e × (length past ≤ x.item.position)) trace
   ran_asked =
       let at = source_asked in
-      subst (λ (y : Point). Once (λ past e. Asks c y.item.client y.item.timestamp y.item.op past e × (length past ≤ y.item.position)) trace) (sym s.is)
+      subst (λ (y : Placing). Once (λ past e. Asks c y.item.client y.item.timestamp y.item.op past e × (length past ≤ y.item.position)) trace) (sym s.is)
       (whole_once (Asks c (256 + s.ran.call.client) s.ran.call.timestamp s.ran.call.op) at
       (once_weaker (AsksFrame c s.from.frame) (Asks c (256 + s.ran.call.client) s.ran.call.timestamp s.ran.call.op)
       (asks_request c s.from.frame (256 + s.ran.call.client) s.ran.call.timestamp s.ran.call.op spelled) (at.entry ∷ at.past) at.holds.1))
@@ -266,11 +265,11 @@ module _ (c : Configuration) (trace : List Entry) (run : Run c trace) (x : Point
   pub ran_invoked : is_correct_client c x.item.client ≡ true → Once (λ past e. Invokes x.item.client x.item.timestamp x.item.op past e × (length past ≤ x.item.position)) trace
   ran_invoked correct =
       let at = source_asked in
-      let client : is_correct_client c (256 + s.ran.call.client) ≡ true = subst (λ (y : Point). is_correct_client c y.item.client ≡ true) s.is correct in
+      let client : is_correct_client c (256 + s.ran.call.client) ≡ true = subst (λ (y : Placing). is_correct_client c y.item.client ≡ true) s.is correct in
       let whole : Run c (at.later ++ at.entry ∷ at.past) = subst (Run c) at.is run in
       let here : Run c (at.entry ∷ at.past) = run_part c at.later (at.entry ∷ at.past) whole in
       let says = asks_said c (at.entry ∷ at.past) s.from.frame (asking (256 + s.ran.call.client) s.ran.call.timestamp false s.ran.call.op) here.runs spelled (correct_client c (256 + s.ran.call.client) client) at.holds.1 in
       let invoked = asked_op c (256 + s.ran.call.client) s.ran.call.timestamp false s.ran.call.op (history_of (256 + s.ran.call.client) (at.entry ∷ at.past)) (here.runs.clients (256 + s.ran.call.client) client) says in
-      subst (λ (y : Point). Once (λ past e. Invokes y.item.client y.item.timestamp y.item.op past e × (length past ≤ y.item.position)) trace) (sym s.is)
+      subst (λ (y : Placing). Once (λ past e. Invokes y.item.client y.item.timestamp y.item.op past e × (length past ≤ y.item.position)) trace) (sym s.is)
       (whole_once (Invokes (256 + s.ran.call.client) s.ran.call.timestamp s.ran.call.op) at
       (invoked_in_trace (256 + s.ran.call.client) s.ran.call.timestamp s.ran.call.op (at.entry ∷ at.past) invoked))

@@ -6,15 +6,16 @@ use Rattle.std.proofs.lemmas.Bool.{and_parts, leb-true, ltb-true, eqb-false}
 use Rattle.protocol.specs.RightReplica
 use Rattle.protocol.proofs.Sorting
 use Rattle.protocol.specs.Configuration.{Configuration, IsConfiguration, is_client, is_correct_replica}
-use Rattle.protocol.specs.Wire.{Message, requests_of, said}
-use Rattle.protocol.specs.Wire.Message.{Request}
+use Rattle.wire.specs.Messages.{MessageData as Message, request as Request}
+use Rattle.wire.specs.Words.{requests_of}
+use Rattle.protocol.specs.Frames.{reads_only, said}
 use Rattle.protocol.specs.Trace.{Entry, party_of, Once, Has}
 use Rattle.protocol.specs.Trace.Entry.{Invoke, Got, Tick, Executed, Installed, Sent, Accepted}
 use Rattle.protocol.specs.State.{State, Call, Ran, opening, runs, run_call, call_in, call_of, run_frame, execute, ran_by, ran_in, kept_by, kept_of, last_time}
 use Rattle.reply_cache.specs.Replies.{Kept}
 use Rattle.protocol.specs.RightReplica.{Leaves, May, Moves}
 use Rattle.protocol.specs.Texts.{ExecutesBatch}
-use Rattle.protocol.specs.Linear.{Item, Point, NoneTwice, ordered_point, ordered_points, first_position, batch_of, comes_before, insert_point, sorted}
+use Rattle.protocol.specs.Linear.{Item, Placing, NoneTwice, ordered_point, ordered_points, first_position, batch_of, comes_before, insert_point, sorted}
 use Rattle.protocol.proofs.Options.{and_then_some, some_injective}
 use Rattle.protocol.proofs.Legality.{none_points, none_later, executed_number}
 use Rattle.protocol.proofs.States.{GoodAll}
@@ -180,7 +181,7 @@ module _ (c : Configuration) (xs : List Entry) (run : Run c xs) (r : ℕ) (corre
 
 -- ---- among the points
 
-pub record IsRanPoint (c : Configuration) (trace : List Entry) (Q : ℕ → Ran → Type 0) (x : Point) : Type 0 where
+pub record IsRanPoint (c : Configuration) (trace : List Entry) (Q : ℕ → Ran → Type 0) (x : Placing) : Type 0 where
   pub number : ℕ
   pub position : ℕ
   pub ran : Ran
@@ -223,14 +224,14 @@ ran_point c trace st k (suc n) (suc more) Q places l (inl h) =
 
 -- ---- no request runs twice
 
-abbrev pub Differ : Point → Point → Type 0
+abbrev pub Differ : Placing → Placing → Type 0
 Differ x y = x.item.client ≡ y.item.client → x.item.timestamp ≡ y.item.timestamp → ⊥
 
-abbrev pub AllDiffer : List Point → Type 0
+abbrev pub AllDiffer : List Placing → Type 0
 AllDiffer [] = ⊤
 AllDiffer (x ∷ xs) = AllOf (Differ x) xs × AllDiffer xs
 
-pub differ_filter : (keep : Point → Bool) (xs : List Point) → AllDiffer xs → AllDiffer (filter keep xs)
+pub differ_filter : (keep : Placing → Bool) (xs : List Placing) → AllDiffer xs → AllDiffer (filter keep xs)
 differ_filter keep [] a = tt
 differ_filter keep (x ∷ xs) a = go (keep x) (differ_filter keep xs a.1)
   where
@@ -238,11 +239,11 @@ differ_filter keep (x ∷ xs) a = go (keep x) (differ_filter keep xs a.1)
     go true below = (all_filter (Differ x) keep xs a.0, below)
     go false below = below
 
-pub differ_append : (xs ys : List Point) → AllDiffer xs → AllDiffer ys → AllOf (λ x. AllOf (Differ x) ys) xs → AllDiffer (xs ++ ys)
+pub differ_append : (xs ys : List Placing) → AllDiffer xs → AllDiffer ys → AllOf (λ x. AllOf (Differ x) ys) xs → AllDiffer (xs ++ ys)
 differ_append [] ys a b d = b
 differ_append (x ∷ xs) ys a b d = (all_append (Differ x) xs ys a.0 d.0, differ_append xs ys a.1 b d.1)
 
-differ_insert : (x : Point) (ys : List Point) → AllOf (Differ x) ys → AllDiffer ys → AllDiffer (insert_point x ys)
+differ_insert : (x : Placing) (ys : List Placing) → AllOf (Differ x) ys → AllDiffer ys → AllDiffer (insert_point x ys)
 differ_insert x [] a d = (tt, tt)
 differ_insert x (y ∷ ys) a d = go (comes_before x y) (differ_insert x ys a.1 d.1)
   where
@@ -250,25 +251,25 @@ differ_insert x (y ∷ ys) a d = go (comes_before x y) (differ_insert x ys a.1 d
     go true below = (a, d)
     go false below = (insert_all (Differ y) x ys (λ e f. a.0 (sym e) (sym f)) d.0, below)
 
-pub differ_sorted : (xs : List Point) → AllDiffer xs → AllDiffer (sorted xs)
+pub differ_sorted : (xs : List Placing) → AllDiffer xs → AllDiffer (sorted xs)
 differ_sorted [] a = tt
 differ_sorted (x ∷ xs) a = differ_insert x (sorted xs) (sorted_all (Differ x) xs a.0) (differ_sorted xs a.1)
 
-pub none_twice : (xs : List Point) → AllDiffer xs → NoneTwice (map (λ (x : Point). x.item) xs)
+pub none_twice : (xs : List Placing) → AllDiffer xs → NoneTwice (map (λ (x : Placing). x.item) xs)
 none_twice [] a = tt
 none_twice (x ∷ xs) a = (apart xs a.0, none_twice xs a.1)
   where
-    apart : (ys : List Point) → AllOf (Differ x) ys → Has (λ (y : Item). (y.client ≡ x.item.client) × (y.timestamp ≡ x.item.timestamp)) (map (λ (y : Point). y.item) ys) → ⊥
+    apart : (ys : List Placing) → AllOf (Differ x) ys → Has (λ (y : Item). (y.client ≡ x.item.client) × (y.timestamp ≡ x.item.timestamp)) (map (λ (y : Placing). y.item) ys) → ⊥
     apart [] a h = h
     apart (y ∷ ys) a (inl h) = a.0 (sym h.0) (sym h.1)
     apart (y ∷ ys) a (inr h) = apart ys a.1 h
 
 -- two of the points of one client and timestamp are one
-pub differ_same : (xs : List Point) → AllDiffer xs → (x y : Point) → Has (λ z. z ≡ x) xs → Has (λ z. z ≡ y) xs → x.item.client ≡ y.item.client → x.item.timestamp ≡ y.item.timestamp → x ≡ y
+pub differ_same : (xs : List Placing) → AllDiffer xs → (x y : Placing) → Has (λ z. z ≡ x) xs → Has (λ z. z ≡ y) xs → x.item.client ≡ y.item.client → x.item.timestamp ≡ y.item.timestamp → x ≡ y
 differ_same [] a x y h k e f = absurd h
 differ_same (z ∷ xs) a x y (inl h) (inl k) e f = sym h ∙ k
-differ_same (z ∷ xs) a x y (inl h) (inr k) e f = absurd (Sorting.all_has (Differ z) xs y a.0 k (ap (λ (u : Point). u.item.client) h ∙ e) (ap (λ (u : Point). u.item.timestamp) h ∙ f))
-differ_same (z ∷ xs) a x y (inr h) (inl k) e f = absurd (Sorting.all_has (Differ z) xs x a.0 h (ap (λ (u : Point). u.item.client) k ∙ sym e) (ap (λ (u : Point). u.item.timestamp) k ∙ sym f))
+differ_same (z ∷ xs) a x y (inl h) (inr k) e f = absurd (Sorting.all_has (Differ z) xs y a.0 k (ap (λ (u : Placing). u.item.client) h ∙ e) (ap (λ (u : Placing). u.item.timestamp) h ∙ f))
+differ_same (z ∷ xs) a x y (inr h) (inl k) e f = absurd (Sorting.all_has (Differ z) xs x a.0 h (ap (λ (u : Placing). u.item.client) k ∙ sym e) (ap (λ (u : Placing). u.item.timestamp) k ∙ sym f))
 differ_same (z ∷ xs) a x y (inr h) (inr k) e f = differ_same xs a.1 x y h k e f
 
 -- ---- timestamps grow
@@ -285,7 +286,7 @@ set_there (x ∷ xs) zero (suc j) y n = refl
 set_there (x ∷ xs) (suc i) zero y n = refl
 set_there (x ∷ xs) (suc i) (suc j) y n = set_there xs i j y (λ e. n (ap suc e))
 
-abbrev pub Later : State → Point → Type 0
+abbrev pub Later : State → Placing → Type 0
 Later st x = (cl : ℕ) → x.item.client ≡ 256 + cl → last_time st cl < x.item.timestamp
 
 abbrev after_call : State → ℕ → Call → State
@@ -312,13 +313,13 @@ call_small c setting frame call h =
     few = setting.clients
 
     go : (sender : ℕ) (message : Message) → call_in c (record { sender = sender; message = message }) ≡ Some call → call.client < 256
-    go sender (Request t read_only op) h = test (not read_only && is_client c sender) refl h
+    go sender (Request t mode op) h = test (not (reads_only mode) && is_client c sender) refl h
       where
-        test : (b : Bool) → (not read_only && is_client c sender) ≡ b → cond b (Some (let x : Call = record { client = sender - 256; timestamp = t; op = op } in x)) None ≡ Some call → call.client < 256
+        test : (b : Bool) → (not (reads_only mode) && is_client c sender) ≡ b → cond b (Some (let x : Call = record { client = sender - 256; timestamp = t; op = op } in x)) None ≡ Some call → call.client < 256
         test true e h =
             let is : ◌≡◌ {A = Call} (record { client = sender - 256; timestamp = t; op = op }) call = some_injective {A = Call} (record { client = sender - 256; timestamp = t; op = op }) call h in
             let at : sender - 256 ≡ call.client = ap (λ (x : Call). x.client) is in
-            let p = and_parts (not read_only) (is_client c sender) e in
+            let p = and_parts (not (reads_only mode)) (is_client c sender) e in
             let u = and_parts (nat_le 256 sender) (nat_lt sender (256 + c.clients)) p.1 in
             let a : 256 ≤ sender = leb-true 256 sender u.0 in
             let b : sender < 256 + c.clients = ltb-true sender (256 + c.clients) u.1 in
@@ -346,10 +347,10 @@ pub executed_full : (c : Configuration) (st : State) (b : List ℕ) → Full st 
 unfolding execute
 executed_full c st b full = frames_full c (suc st.number) st (requests_of b) full
 
-abbrev DifferWith : ℕ → ℕ → List Point → State → List Ran → Type 0
+abbrev DifferWith : ℕ → ℕ → List Placing → State → List Ran → Type 0
 DifferWith p k rest s rans = AllOf (Later s) (map (ordered_point p k) rans ++ rest) × AllDiffer (map (ordered_point p k) rans ++ rest)
 
-pub frames_differ : (c : Configuration) → IsConfiguration c → (p k : ℕ) (st : State) (frames : List (List ℕ)) (rest : List Point) → Full st → AllOf (Later (fold (run_frame c k) st frames)) rest → AllDiffer rest
+pub frames_differ : (c : Configuration) → IsConfiguration c → (p k : ℕ) (st : State) (frames : List (List ℕ)) (rest : List Placing) → Full st → AllOf (Later (fold (run_frame c k) st frames)) rest → AllDiffer rest
     → AllOf (Later st) (map (ordered_point p k) (ran_in c k st frames) ++ rest) × AllDiffer (map (ordered_point p k) (ran_in c k st frames) ++ rest)
 frames_differ c setting p k st [] rest full later differ = (later, differ)
 frames_differ c setting p k st (frame ∷ frames) rest full later differ = go (call_of c frame) refl (λ f. frames_differ c setting p k (run_frame c k st frame) frames rest f later differ)
@@ -363,7 +364,7 @@ frames_differ c setting p k st (frame ∷ frames) rest full later differ = go (c
         let l : call.client < length st.replies = omega arith in
         let newer : last_time st call.client < call.timestamp = ltb-true (last_time st call.client) call.timestamp e in
         let r = below (length_set st.replies call.client (Some (kept_by st k call)) ∙ full) in
-        let xs : List Point = map (ordered_point p k) (ran_in c k (after_call st k call) frames) ++ rest in (
+        let xs : List Placing = map (ordered_point p k) (ran_in c k (after_call st k call) frames) ++ rest in (
           (
             λ cl is_cl. let n : call.client ≡ cl = omega arith in subst (λ (i : ℕ). last_time st i < call.timestamp) n newer,
             all_weaker (Later (after_call st k call)) (Later st) (λ x h cl is_cl. let a = h cl is_cl in let g = time_grows st k call cl l newer in omega arith) xs r.0,
@@ -392,7 +393,7 @@ points_differ c setting trace st k (suc more) is full =
     let is' : suc k ≡ suc (execute c st (batch_of trace k)).number = omega arith in
     go (first_position c trace k) refl (points_differ c setting trace (execute c st (batch_of trace k)) (suc k) more is' (executed_full c st (batch_of trace k) full))
   where
-    moved : (x : Point) → Later (execute c st (batch_of trace k)) x → Later (fold (run_frame c k) st (requests_of (batch_of trace k))) x
+    moved : (x : Placing) → Later (execute c st (batch_of trace k)) x → Later (fold (run_frame c k) st (requests_of (batch_of trace k))) x
     moved x h cl is_cl =
         let a = h cl is_cl in
         let b = executed_times c st (batch_of trace k) cl in

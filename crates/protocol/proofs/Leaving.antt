@@ -12,8 +12,9 @@ use Rattle.space.specs.Births.{Entry, IsState as IsSpace}
 use Rattle.space.proofs.Keeping.{IsState-state_after, IsState-empty}
 use Rattle.space.proofs.Batches.{next_after}
 use Rattle.protocol.specs.Configuration.{Configuration, is_client}
-use Rattle.protocol.specs.Wire.{Message, requests_of, said}
-use Rattle.protocol.specs.Wire.Message.{Request}
+use Rattle.wire.specs.Messages.{MessageData as Message, request as Request}
+use Rattle.wire.specs.Words.{requests_of}
+use Rattle.protocol.specs.Frames.{reads_only, said}
 use Rattle.reply_cache.specs.Replies.{Kept, IsKept}
 use Rattle.protocol.specs.State.{State, IsState, Call, opening, tuples, last_time, call_in, call_of, runs, kept_by, ran_call, run_call, run_frame, execute, after_batches}
 use Rattle.protocol.specs.Laws.{BatchesLeaveStates}
@@ -112,7 +113,7 @@ call_fits c frame call h =
     go r.0.sender r.0.message (said_fits frame r.0 r.1) r.2
   where
     go : (sender : ℕ) (message : Message) → FitsMessage message → call_in c (record { sender = sender; message = message }) ≡ Some call → (call.timestamp < 2 ^ 64) × IsOperation call.op
-    go sender (Request t read_only op) f h = pick (not read_only && is_client c sender) h
+    go sender (Request t mode op) f h = pick (not (reads_only mode) && is_client c sender) h
       where
         pick : (b : Bool) → cond b (Some (let x : Call = record { client = sender - 256; timestamp = t; op = op } in x)) None ≡ Some call → (call.timestamp < 2 ^ 64) × IsOperation call.op
         pick true h =

@@ -2,10 +2,10 @@
 use Rattle.std.proofs.Common.{◌≡◌, ℕ, zero, suc, ◌≤◌, Bool, true, false, cond, List, [], ◌∷◌, ◌++◌, length, map, fold, refl, sym, ap, ◌∙◌, subst, arith, Option, Some, None}
 use Rattle.std.specs.Option.{option_map_or}
 use Rattle.protocol.specs.Configuration.{Configuration}
-use Rattle.protocol.specs.Wire.{requests_of}
+use Rattle.wire.specs.Words.{requests_of}
 use Rattle.protocol.specs.Trace.{Entry}
 use Rattle.protocol.specs.State.{State, Call, Ran, tuples, runs, run_call, call_of, run_frame, execute, ran_by, ran_in, kept_by}
-use Rattle.protocol.specs.Linear.{Item, LegalFrom, Point, ordered_point, ordered_points, first_position, batch_of, is_level}
+use Rattle.protocol.specs.Linear.{Item, LegalFrom, Placing, ordered_point, ordered_points, first_position, batch_of, is_level}
 use Rattle.protocol.specs.Certificates.{first_given}
 use Rattle.quorum.specs.Votes.{give_if, or_else}
 use Rattle.protocol.proofs.Levels.{level_below}
@@ -56,11 +56,11 @@ none_points c trace st k zero h = refl
 none_points c trace st k (suc more) h =
     rw h (none_points c trace (execute c st (batch_of trace k)) (suc k) more (none_later c k trace h))
 
-pub map_items : (xs ys : List Point) → map (λ (x : Point). x.item) (xs ++ ys) ≡ map (λ (x : Point). x.item) xs ++ map (λ (x : Point). x.item) ys
+pub map_items : (xs ys : List Placing) → map (λ (x : Placing). x.item) (xs ++ ys) ≡ map (λ (x : Placing). x.item) xs ++ map (λ (x : Placing). x.item) ys
 map_items [] ys = refl
 map_items (x ∷ xs) ys = ap (λ t. x.item ∷ t) (map_items xs ys)
 
-pub ran_items : (position k : ℕ) (rans : List Ran) → map (λ (x : Point). x.item) (map (ordered_point position k) rans) ≡ map (item_of position k) rans
+pub ran_items : (position k : ℕ) (rans : List Ran) → map (λ (x : Placing). x.item) (map (ordered_point position k) rans) ≡ map (item_of position k) rans
 ran_items position k [] = refl
 ran_items position k (x ∷ xs) = ap (λ t. item_of position k x ∷ t) (ran_items position k xs)
 
@@ -73,24 +73,24 @@ unfolding execute
 executed_number c st batch = refl
 
 -- the ordered requests of all batches whose level comes are legal, one after another
-pub legal_ordered : (c : Configuration) (trace : List Entry) (st : State) (k more : ℕ) → k ≡ suc st.number → LegalFrom (tuples st) (map (λ (x : Point). x.item) (ordered_points c trace st k more))
+pub legal_ordered : (c : Configuration) (trace : List Entry) (st : State) (k more : ℕ) → k ≡ suc st.number → LegalFrom (tuples st) (map (λ (x : Placing). x.item) (ordered_points c trace st k more))
 legal_ordered c trace st k zero is = tt
 legal_ordered c trace st k (suc more) is = go (first_position c trace k) refl (legal_ordered c trace (execute c st (batch_of trace k)) (suc k) more next)
   where
     next : suc k ≡ suc (execute c st (batch_of trace k)).number
     next = let n = executed_number c st (batch_of trace k) in omega arith
 
-    go : (o : Option ℕ) → first_position c trace k ≡ o → LegalFrom (tuples (execute c st (batch_of trace k))) (map (λ (x : Point). x.item) (ordered_points c trace (execute c st (batch_of trace k)) (suc k) more))
-        → LegalFrom (tuples st) (map (λ (x : Point). x.item) (option_map_or (λ position. map (ordered_point position k) (ran_in c k st (requests_of (batch_of trace k)))) o [] ++ ordered_points c trace (execute c st (batch_of trace k)) (suc k) more))
+    go : (o : Option ℕ) → first_position c trace k ≡ o → LegalFrom (tuples (execute c st (batch_of trace k))) (map (λ (x : Placing). x.item) (ordered_points c trace (execute c st (batch_of trace k)) (suc k) more))
+        → LegalFrom (tuples st) (map (λ (x : Placing). x.item) (option_map_or (λ position. map (ordered_point position k) (ran_in c k st (requests_of (batch_of trace k)))) o [] ++ ordered_points c trace (execute c st (batch_of trace k)) (suc k) more))
     go None e below = rw (none_points c trace (execute c st (batch_of trace k)) (suc k) more (none_later c k trace e)) tt
     go (Some position) e below =
-        let rest : List Item = map (λ (x : Point). x.item) (ordered_points c trace (execute c st (batch_of trace k)) (suc k) more) in
-        let at : LegalFrom (tuples (fold (run_frame c k) st (requests_of (batch_of trace k)))) (map (λ (x : Point). x.item) (ordered_points c trace (execute c st (batch_of trace k)) (suc k) more)) =
-        subst (λ (n : ℕ). LegalFrom (tuples (fold (run_frame c n) st (requests_of (batch_of trace k)))) (map (λ (x : Point). x.item) (ordered_points c trace (execute c st (batch_of trace k)) (suc k) more))) (sym is)
-        (subst (λ (t : List TupleTree). LegalFrom t (map (λ (x : Point). x.item) (ordered_points c trace (execute c st (batch_of trace k)) (suc k) more))) (executed_tuples c st (batch_of trace k)) below) in
-        let ran = legal_ran c position k st (requests_of (batch_of trace k)) (map (λ (x : Point). x.item) (ordered_points c trace (execute c st (batch_of trace k)) (suc k) more)) at in
-        let shape : map (λ (x : Point). x.item) (map (ordered_point position k) (ran_in c k st (requests_of (batch_of trace k))) ++ ordered_points c trace (execute c st (batch_of trace k)) (suc k) more)
-        ≡ map (item_of position k) (ran_in c k st (requests_of (batch_of trace k))) ++ map (λ (x : Point). x.item) (ordered_points c trace (execute c st (batch_of trace k)) (suc k) more) =
+        let rest : List Item = map (λ (x : Placing). x.item) (ordered_points c trace (execute c st (batch_of trace k)) (suc k) more) in
+        let at : LegalFrom (tuples (fold (run_frame c k) st (requests_of (batch_of trace k)))) (map (λ (x : Placing). x.item) (ordered_points c trace (execute c st (batch_of trace k)) (suc k) more)) =
+        subst (λ (n : ℕ). LegalFrom (tuples (fold (run_frame c n) st (requests_of (batch_of trace k)))) (map (λ (x : Placing). x.item) (ordered_points c trace (execute c st (batch_of trace k)) (suc k) more))) (sym is)
+        (subst (λ (t : List TupleTree). LegalFrom t (map (λ (x : Placing). x.item) (ordered_points c trace (execute c st (batch_of trace k)) (suc k) more))) (executed_tuples c st (batch_of trace k)) below) in
+        let ran = legal_ran c position k st (requests_of (batch_of trace k)) (map (λ (x : Placing). x.item) (ordered_points c trace (execute c st (batch_of trace k)) (suc k) more)) at in
+        let shape : map (λ (x : Placing). x.item) (map (ordered_point position k) (ran_in c k st (requests_of (batch_of trace k))) ++ ordered_points c trace (execute c st (batch_of trace k)) (suc k) more)
+        ≡ map (item_of position k) (ran_in c k st (requests_of (batch_of trace k))) ++ map (λ (x : Placing). x.item) (ordered_points c trace (execute c st (batch_of trace k)) (suc k) more) =
         map_items (map (ordered_point position k) (ran_in c k st (requests_of (batch_of trace k)))) (ordered_points c trace (execute c st (batch_of trace k)) (suc k) more)
-        ∙ ap (λ t. t ++ map (λ (x : Point). x.item) (ordered_points c trace (execute c st (batch_of trace k)) (suc k) more)) (ran_items position k (ran_in c k st (requests_of (batch_of trace k)))) in
+        ∙ ap (λ t. t ++ map (λ (x : Placing). x.item) (ordered_points c trace (execute c st (batch_of trace k)) (suc k) more)) (ran_items position k (ran_in c k st (requests_of (batch_of trace k)))) in
         subst (λ (t : List Item). LegalFrom (tuples st) t) (sym shape) ran

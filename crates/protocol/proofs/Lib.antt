@@ -1,8 +1,9 @@
 pub mod Temporal
 pub mod Options
+pub mod Modes
 pub mod Linking
+pub mod Spelled
 pub mod Voting
-pub mod Signatures
 pub mod Marks
 pub mod Offers
 pub mod Agreeing

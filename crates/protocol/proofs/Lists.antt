@@ -1,12 +1,12 @@
 -- Laws of the words on lists that the rules of a new view use.
-use Rattle.std.proofs.Common.{◌≡◌, ℕ, zero, suc, ◌+◌, ◌≤◌, ◌<◌, inl, inr, Bool, true, false, cond, max, List, [], ◌∷◌, length, slice_get, Option, Some, None, refl, sym, subst, arith, ◌||◌}
+use Rattle.std.proofs.Common.{◌≡◌, ℕ, zero, suc, ◌+◌, ◌≤◌, ◌<◌, ◌⊎◌, inl, inr, Bool, true, false, cond, max, List, [], ◌∷◌, length, slice_get, Option, Some, None, refl, sym, ap₂, subst, arith, ◌||◌, eqb-true}
 use Rattle.std.specs.Prelude.{◌==◌, nat_lt, nat_le}
 use Rattle.std.specs.Option.{option_map_or}
 use Rattle.std.proofs.lemmas.Bool.{and_parts, le-leb, ltb-true}
 use Rattle.quorum.proofs.Counting.{some_more}
 use Rattle.quorum.specs.Quorum.{count_below}
 use Rattle.protocol.specs.Configuration.{Configuration}
-use Rattle.protocol.specs.Wire.{ViewChange, Claim}
+use Rattle.wire.specs.Messages.{ViewChangeData as ViewChange, ClaimData as Claim}
 use Rattle.std.specs.List.{list_all, list_any}
 use Rattle.protocol.specs.Selection.{change_by, passes_by, largest, largest_of, may_stand, may_all_stand}
 use Rattle.protocol.specs.Trace.{Has}
@@ -47,7 +47,7 @@ passes_change test set s h = go (change_by set s) h
     go None k = absurd cc
     go (Some vc) k = (vc, refl, k)
 
-largest_ge : (limit i : ℕ) (claims : List Claim) → Has (λ x. x.number ≡ i) claims → i ≤ limit → i ≤ largest limit claims
+pub largest_ge : (limit i : ℕ) (claims : List Claim) → Has (λ x. x.number ≡ i) claims → i ≤ limit → i ≤ largest limit claims
 largest_ge limit i [] h l = absurd h
 largest_ge limit i (claim ∷ claims) (inl h) l =
     let le : claim.number ≤ limit = omega arith in
@@ -69,6 +69,32 @@ largest_of-ge limit i s (x ∷ xs) vc is h l = go (x.0 == s) is (largest_of-ge l
         let same : x.1 ≡ vc = cc in
         let r = largest_ge limit i x.1.prepared (subst (λ (z : ViewChange). Has (λ x. x.number ≡ i) z.prepared) (sym same) h) l in omega arith
     go false k below = let r = below k h l in omega arith
+
+-- the same over each member
+pub largest_of-has : (limit i s : ℕ) (set : List (ℕ × ViewChange)) (vc : ViewChange) → Has (λ x. x ≡ (s, vc)) set → Has (λ x. x.number ≡ i) vc.prepared → i ≤ limit → i ≤ largest_of limit set
+largest_of-has limit i s [] vc is h l = absurd is
+largest_of-has limit i s (x ∷ xs) vc (inl is) h l =
+    let r = largest_ge limit i x.1.prepared (subst (λ (z : ℕ × ViewChange). Has (λ x. x.number ≡ i) z.1.prepared) (sym is) h) l in omega arith
+largest_of-has limit i s (x ∷ xs) vc (inr is) h l = let r = largest_of-has limit i s xs vc is h l in omega arith
+
+pub change_there : (set : List (ℕ × ViewChange)) (s : ℕ) (vc : ViewChange) → change_by set s ≡ Some vc → Has (λ x. x ≡ (s, vc)) set
+change_there [] s vc h = absurd cc
+change_there (x ∷ xs) s vc h = go (x.0 == s) refl h (change_there xs s vc)
+  where
+    go : (b : Bool) → (x.0 == s) ≡ b → cond b (Some x.1) (change_by xs s) ≡ Some vc → (change_by xs s ≡ Some vc → Has (λ x. x ≡ (s, vc)) xs) → Has (λ x. x ≡ (s, vc)) (x ∷ xs)
+    go true own k below =
+        let i : x.1 ≡ vc = cc in
+        let n : x.0 ≡ s = eqb-true x.0 s own in
+        inl (ap₂ (λ (m : ℕ) (y : ViewChange). let r : ℕ × ViewChange = (m, y) in r) n i)
+    go false own k below = inr (below k)
+
+pub has_of_any : {A : Type 0} (P : A → Type 0) (test : A → Bool) → ((x : A) → test x ≡ true → P x) → (xs : List A) → list_any test xs ≡ true → Has P xs
+has_of_any P test f [] h = absurd cc
+has_of_any P test f (x ∷ xs) h = go (test x) refl h (has_of_any P test f xs)
+  where
+    go : (b : Bool) → test x ≡ b → (b || list_any test xs) ≡ true → (list_any test xs ≡ true → Has P xs) → P x ⊎ Has P xs
+    go true e k below = inl (f x e)
+    go false e k below = inr (below k)
 
 pub get_there : (xs : List (List ℕ)) (k : ℕ) → k < length xs → (x : List ℕ) × (slice_get xs k ≡ Some x)
 get_there [] k l = absurd (omega arith)

@@ -4,13 +4,12 @@ use Rattle.std.specs.Prelude.{◌==◌, nat_lt, nat_le, ◌^◌}
 use Rattle.std.specs.Option.{option_map_or}
 use Rattle.std.proofs.lemmas.Bool.{and_parts, ltb-true, leb-true}
 use Rattle.protocol.specs.Configuration.{Configuration, span, primary, is_number}
-use Rattle.protocol.specs.Wire.{Body, Message, NewView, ViewChange, Claim, said}
-use Rattle.protocol.specs.Wire.Message.{Begin}
-use Rattle.protocol.specs.Keys.{signed_body}
+use Rattle.wire.specs.Messages.{BodyData as Body, MessageData as Message, NewViewData as NewView, ViewChangeData as ViewChange, ClaimData as Claim, new_view as Begin}
+use Rattle.protocol.specs.Frames.{said, signed_body}
 use Rattle.protocol.specs.Trace.{Entry}
 use Rattle.protocol.specs.Trace.Entry.{Invoke, Got, Tick, Executed, Installed, Sent, Accepted}
 use Rattle.protocol.specs.Certificates.{view, view_after, target, taken, new_view_in, new_view_from, low, batch_begun, is_later}
-use Rattle.protocol.specs.Selection.{may_select, largest, largest_of, changes_of, may_all_stand, is_within, Selects, is_claim_within, how_many, is_start, is_mark_within, ascending, is_quorum, count_in}
+use Rattle.protocol.specs.Selection.{may_select, largest, largest_of, changes_of, may_all_stand, is_within, is_claim_within, how_many, is_start, is_checkpoint_within, ascending, is_quorum, count_in}
 use Rattle.protocol.proofs.Options.{and_then_some, give_if_some}
 use Rattle.quorum.specs.Votes.{give_if}
 use Rattle.std.specs.List.{list_all}
@@ -109,8 +108,8 @@ largest_small c vc limit (claim ∷ claims) h = go (nat_le claim.number limit) (
 
 within_prepared : (c : Configuration) (vc : ViewChange) → is_within c vc ≡ true → list_all (is_claim_within c vc) vc.prepared ≡ true
 within_prepared c vc h =
-    let a = and_parts (is_number vc.view && is_number vc.low && list_all (is_claim_within c vc) vc.prepared && list_all (is_claim_within c vc) vc.proposed) (list_all (is_mark_within c vc) vc.checkpoints) h in
-    let b = and_parts (is_number vc.view && is_number vc.low && list_all (is_claim_within c vc) vc.prepared) (list_all (is_claim_within c vc) vc.proposed) a.0 in
+    let a = and_parts (is_number vc.view && is_number vc.low && list_all (is_claim_within c vc) vc.prepared && list_all (is_claim_within c vc) vc.pre_prepared) (list_all (is_checkpoint_within c vc) vc.checkpoints) h in
+    let b = and_parts (is_number vc.view && is_number vc.low && list_all (is_claim_within c vc) vc.prepared) (list_all (is_claim_within c vc) vc.pre_prepared) a.0 in
     (and_parts (is_number vc.view && is_number vc.low) (list_all (is_claim_within c vc) vc.prepared) b.0).1
 
 largest_of-small : (c : Configuration) (view limit : ℕ) (set : List (ℕ × ViewChange)) → list_all (λ x. (x.1.view == view) && is_within c x.1) set ≡ true → largest_of limit set < 2 ^ 48
@@ -121,7 +120,16 @@ largest_of-small c view limit (x ∷ xs) h =
     let b = largest_of-small c view limit xs p.1 in
     omega arith
 
--- the rules that a new view meets
+-- the rules that a new view meets, one by one
+pub record Selects (c : Configuration) (new : NewView) : Type 0 where
+  pub signed : (length (changes_of c new) == length new.changes) ≡ true
+  pub enough : is_quorum c (count_in c (λ vc. true) (changes_of c new)) ≡ true
+  pub in_order : ascending (changes_of c new) ≡ true
+  pub each : list_all (λ x. (x.1.view == new.view) && is_within c x.1) (changes_of c new) ≡ true
+  pub start : is_start c (changes_of c new) new.start new.root ≡ true
+  pub long : (length new.batches == how_many c new) ≡ true
+  pub stand : may_all_stand c new.view (changes_of c new) (suc new.start) new.batches ≡ true
+
 pub selects : (c : Configuration) (new : NewView) → may_select c new ≡ true → Selects c new
 unfolding may_select
 selects c new h =

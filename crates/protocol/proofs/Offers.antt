@@ -4,9 +4,8 @@ use Rattle.std.proofs.Common.{◌≡◌, ℕ, ◌+◌, ◌^◌, ◌≤◌, ◌<�
 use Rattle.std.specs.Prelude.{option_and_then, ◌==◌, nat_lt, nat_le}
 use Rattle.std.proofs.lemmas.Bool.{and_parts, and_cases, ltb-true, ltb-false, leb-false}
 use Rattle.protocol.specs.Configuration.{Configuration, span, primary, is_number}
-use Rattle.protocol.specs.Wire.{Body, Message, NewView, said}
-use Rattle.protocol.specs.Wire.Message.{PrePrepare, Begin}
-use Rattle.protocol.specs.Keys.{signed_body}
+use Rattle.wire.specs.Messages.{BodyData as Body, MessageData as Message, NewViewData as NewView, pre_prepare as PrePrepare, new_view as Begin}
+use Rattle.protocol.specs.Frames.{said, signed_body}
 use Rattle.protocol.specs.Trace.{Entry, Once, Always}
 use Rattle.protocol.specs.Trace.Entry.{Invoke, Got, Tick, Executed, Installed, Sent, Accepted}
 use Rattle.quorum.specs.Votes.{or_else, give_if}
@@ -15,7 +14,7 @@ use Rattle.protocol.specs.RightReplica.{Point, MaySay, MayPrePrepare, SentBefore
 use Rattle.protocol.proofs.Temporal.{once_weaker, once_always, once_stays_from}
 use Rattle.protocol.proofs.Options.{and_then_some, give_if_some, or_else_cases, or_else_first, given_once, given_stays, some_injective}
 use Rattle.protocol.proofs.Voting.{RightAt, Brings, logged_stays}
-use Rattle.protocol.proofs.Signatures.{signed_heard}
+use Rattle.protocol.proofs.Linking.{signed_heard}
 use Rattle.protocol.proofs.Marks.{view_grows, low_grows, takes, begins, few_batches, selected_in, proposes}
 
 -- the batch that a body offers for the view and number, and the batch that an entry does

@@ -6,9 +6,10 @@ use Rattle.std.proofs.lemmas.Bool.{and_parts}
 use Rattle.protocol.specs.RightReplica
 use Rattle.quorum.specs.Quorum.{count_below}
 use Rattle.protocol.specs.Configuration.{Configuration, IsConfiguration, is_correct_replica, is_correct_client}
-use Rattle.protocol.specs.Wire.{Body, Message, requests_of}
-use Rattle.protocol.specs.Wire.Message.{Reply}
-use Rattle.protocol.specs.Keys.{heard}
+use Rattle.wire.specs.declared.terms.Mode.TheVariants as modes
+use Rattle.wire.specs.Messages.{BodyData as Body, MessageData as Message, reply as Reply}
+use Rattle.wire.specs.Words.{requests_of}
+use Rattle.protocol.specs.Frames.{reads_only, heard}
 use Rattle.protocol.specs.Trace.{Entry, party_of, history_of, Once, Always, Has, Hears}
 use Rattle.protocol.specs.Trace.Entry.{Invoke, Got, Tick, Executed, Installed, Sent, Accepted}
 use Rattle.protocol.specs.State.{State, Call, Ran, opening, runs, run_call, call_of, run_frame, execute, ran_by, ran_in, kept_by, kept_of}
@@ -16,6 +17,7 @@ use Rattle.reply_cache.specs.Replies.{Kept}
 use Rattle.protocol.specs.RightReplica.{Leaves, May, Moves, MaySay, MayReply, snapshots_after}
 use Rattle.protocol.specs.RightClient.{Vote, vote_of, later_vote, latest, is_alike}
 use Rattle.protocol.specs.Linear.{reached, is_level}
+use Rattle.protocol.proofs.Modes.{mode_is}
 use Rattle.protocol.proofs.Temporal.{once_weaker, once_always, once_stays}
 use Rattle.protocol.proofs.Options.{and_then_some, give_if_some, some_injective}
 use Rattle.protocol.proofs.Linking.{Speaks, heard_was_said}
@@ -24,10 +26,11 @@ use Rattle.protocol.proofs.Lists.{has_some}
 use Rattle.protocol.proofs.Levels.{reached_grows, reached_history, number_reached, level_after}
 use Rattle.protocol.proofs.Reading.{Runs, correct_client, own_entries}
 use Rattle.protocol.specs.State.{after_batches, ran_call}
-use Rattle.protocol.specs.RightReplica.{executed_point, waiting_after, RepliesTo}
+use Rattle.protocol.specs.RightReplica.{executed_point, waiting_after, reply_of}
 use Rattle.protocol.specs.Texts.{NoCollision}
 use Rattle.protocol.proofs.Leaving.{get_set}
-use Rattle.protocol.proofs.States.{IsStateOf, GoodHere, states_agree}
+use Rattle.protocol.specs.Laws.{IsStateOf}
+use Rattle.protocol.proofs.States.{GoodHere, states_agree}
 use Rattle.tuple_codec.specs.Spelling.{outcome_spelling}
 use Rattle.tuple_codec.specs.Operations.{Outcome}
 
@@ -132,7 +135,22 @@ ran_at_most c r (e ∷ past) point h x k = go e h.2.may h.2.moves (ran_at_most c
 -- ---- an ordered reply
 
 abbrev pub ordering : ℕ → ℕ → ℕ → ℕ → Outcome → Body
-ordering s p t number answer = record { sender = s; message = Reply p t false number answer }
+ordering s p t number answer = record { sender = s; message = Reply p t modes.Ordered number answer }
+
+-- what a reply of something kept says
+pub record RepliesTo (client timestamp number : ℕ) (answer : Outcome) (call_client : ℕ) (kept : Kept) : Type 0 where
+  pub client_is : client ≡ 256 + call_client
+  pub time : kept.timestamp ≡ timestamp
+  pub number_is : kept.number ≡ number
+  pub answer_is : kept.outcome ≡ answer
+
+pub replies_to : (client timestamp number : ℕ) (answer : Outcome) (k : ℕ) (kept : Kept) → reply_of k kept ≡ Reply client timestamp modes.Ordered number answer → RepliesTo client timestamp number answer k kept
+replies_to client timestamp number answer k kept h =
+    let a : 256 + k ≡ client = cc in
+    let b : kept.timestamp ≡ timestamp = cc in
+    let d : kept.number ≡ number = cc in
+    let e : kept.outcome ≡ answer = cc in
+    record { client_is = sym a; time = b; number_is = d; answer_is = e }
 
 says_ordered : (c : Configuration) (trace : List Entry) (s p t number : ℕ) (answer : Outcome) (past : List Entry) (e : Entry) → RightAt c s past e → GoodHere c trace s past
     → Speaks (ordering s p t number answer) past e → number ≤ reached past s
@@ -143,11 +161,11 @@ says_ordered c trace s p t number answer past (Sent q bytes) r good h =
     at : r.point.state.number ≡ reached past s
     at = number_reached c s past r.point r.leaves
 
-    go : MayReply c s past r.point p t false number answer → number ≤ reached past s
+    go : MayReply c s past r.point p t modes.Ordered number answer → number ≤ reached past s
     go (inl h) =
-        let x = has_some (λ (ran : Ran). RepliesTo p t number answer ran.call.client ran.kept) r.point.ran h in
-        let m = ran_at_most c s past r.point r.leaves x.0 x.1 in let n = x.2.number_is in let a = at in omega arith
-    go (inr h) = let m = kept_at_most c trace r.point.state (good r.point r.leaves).state h.0 h.1 h.2 in let n = h.3.number_is in let a = at in omega arith
+        let x = has_some (λ (ran : Ran). reply_of ran.call.client ran.kept ≡ Reply p t modes.Ordered number answer) r.point.ran h in
+        let m = ran_at_most c s past r.point r.leaves x.0 x.1 in let n = (replies_to p t number answer x.0.call.client x.0.kept x.2).number_is in let a = at in omega arith
+    go (inr h) = let m = kept_at_most c trace r.point.state (good r.point r.leaves).state h.0 h.1 h.2 in let n = (replies_to p t number answer h.0 h.1 h.3).number_is in let a = at in omega arith
 says_ordered c trace s p t number answer past (Invoke x y z) r good h = absurd h
 says_ordered c trace s p t number answer past (Got x y) r good h = absurd h
 says_ordered c trace s p t number answer past (Tick x) r good h = absurd h
@@ -169,14 +187,14 @@ ordered_reached c setting s p t number answer xs runs apart correct h =
 
 vote_body : (me t s : ℕ) (vote : Vote) (sender : ℕ) (message : Message) → vote_of me t s (record { sender = sender; message = message }) ≡ Some vote → vote.read_only ≡ false
     → ◌≡◌ {A = Body} (record { sender = sender; message = message }) (ordering s me t vote.number vote.answer)
-vote_body me t s vote sender (Reply client timestamp read_only number answer) h ro =
-    let g = give_if_some ((sender == s) && (client == me) && (timestamp == t)) (record { read_only = read_only; number = number; answer = answer }) vote h in
+vote_body me t s vote sender (Reply client timestamp mode number answer) h ro =
+    let g = give_if_some ((sender == s) && (client == me) && (timestamp == t)) (record { read_only = reads_only mode; number = number; answer = answer }) vote h in
     let p = and_parts ((sender == s) && (client == me)) (timestamp == t) g.0 in
     let q = and_parts (sender == s) (client == me) p.0 in
     let es : sender ≡ s = eqb-true sender s q.0 in
     let ec : client ≡ me = eqb-true client me q.1 in
     let et : timestamp ≡ t = eqb-true timestamp t p.1 in
-    let er : read_only ≡ false = ap (λ (x : Vote). x.read_only) g.1 ∙ ro in
+    let er : mode ≡ modes.Ordered = mode_is mode false (ap (λ (x : Vote). x.read_only) g.1 ∙ ro) in
     let en : number ≡ vote.number = ap (λ (x : Vote). x.number) g.1 in
     let ea : answer ≡ vote.answer = ap (λ (x : Vote). x.answer) g.1 in
     rw (es, ec, et, er, en, ea) refl

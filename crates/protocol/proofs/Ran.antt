@@ -4,11 +4,11 @@ use Rattle.std.specs.Prelude.{nat_le}
 use Rattle.std.specs.Option.{option_map_or}
 use Rattle.std.proofs.lemmas.Bool.{le-leb}
 use Rattle.protocol.specs.Configuration.{Configuration}
-use Rattle.protocol.specs.Wire.{requests_of}
+use Rattle.wire.specs.Words.{requests_of}
 use Rattle.protocol.specs.Trace.{Entry, Has}
 use Rattle.space.specs.Applying.{tuples_after}
 use Rattle.protocol.specs.State.{State, Call, Ran, tuples, runs, run_call, call_of, run_frame, execute, ran_by, ran_in, kept_by}
-use Rattle.protocol.specs.Linear.{Point, ordered_point, ordered_points, first_position, batch_of, is_level}
+use Rattle.protocol.specs.Linear.{Placing, ordered_point, ordered_points, first_position, batch_of, is_level}
 use Rattle.quorum.specs.Votes.{give_if, or_else}
 use Rattle.protocol.proofs.Options.{some_injective}
 use Rattle.protocol.proofs.Levels.{level_below}
@@ -76,7 +76,7 @@ ran_frames c k st (frame ∷ frames) = go (call_of c frame) refl (all_weaker (Fr
     go None is a = a
     go (Some call) is a = test call is (runs st call) (ran_in c k (run_frame c k st frame) frames) a
 
-pub record Source (c : Configuration) (trace : List Entry) (x : Point) : Type 0 where
+pub record Source (c : Configuration) (trace : List Entry) (x : Placing) : Type 0 where
   pub ran : Ran
   pub position : ℕ
   pub number : ℕ
@@ -94,7 +94,7 @@ ordered_sources c trace st k (suc more) = all_append (Source c trace) _ _ (go (f
         (all_weaker (FromFrame c (requests_of (batch_of trace k))) (λ x. Source c trace (ordered_point p k x)) (λ x f. record { ran = x; position = p; number = k; is = refl; from = f; place = is })
         (ran_in c k st (requests_of (batch_of trace k))) (ran_frames c k st (requests_of (batch_of trace k))))
 
-pub source_ordered : (c : Configuration) (trace : List Entry) (x : Point) → Source c trace x → IsOrdered (first_position c trace) x
+pub source_ordered : (c : Configuration) (trace : List Entry) (x : Placing) → Source c trace x → IsOrdered (first_position c trace) x
 source_ordered c trace x s = subst (IsOrdered (first_position c trace)) (sym s.is) (record {
   stands = record { at = s.position; is_at = s.place; after = omega arith; before = before };
   exact = omega arith;
@@ -122,7 +122,7 @@ pub points_ascend : (c : Configuration) (trace : List Entry) (st : State) (k mor
 points_ascend c trace st k zero = tt
 points_ascend c trace st k (suc more) = go (first_position c trace k) (points_ascend c trace (execute c st (batch_of trace k)) (suc k) more) (points_from c trace (execute c st (batch_of trace k)) (suc k) more)
   where
-    each : (p : ℕ) (xs : List Ran) (rest : List Point) → Ascends (λ x. x.number) rest → AllOf (λ x. suc k ≤ x.number) rest → Ascends (λ x. x.number) (map (ordered_point p k) xs ++ rest)
+    each : (p : ℕ) (xs : List Ran) (rest : List Placing) → Ascends (λ x. x.number) rest → AllOf (λ x. suc k ≤ x.number) rest → Ascends (λ x. x.number) (map (ordered_point p k) xs ++ rest)
     each p [] rest a l = a
     each p (x ∷ xs) rest a l = (all_append (λ y. k ≤ y.number) (map (ordered_point p k) xs) rest (same xs) (all_weaker (λ y. suc k ≤ y.number) (λ y. k ≤ y.number) (λ y m. omega arith) rest l), each p xs rest a l)
       where
@@ -137,7 +137,7 @@ points_ascend c trace st k (suc more) = go (first_position c trace k) (points_as
 
 -- ---- the tuples at a number
 
-tuples_append : (r : ℕ) (t : List TupleTree) (xs ys : List Point) → tuples_at r t (xs ++ ys) ≡ tuples_at r (tuples_at r t xs) ys
+tuples_append : (r : ℕ) (t : List TupleTree) (xs ys : List Placing) → tuples_at r t (xs ++ ys) ≡ tuples_at r (tuples_at r t xs) ys
 tuples_append r t [] ys = refl
 tuples_append r t (x ∷ xs) ys = tuples_append r (cond (nat_le x.number r) (after_item t x.item) t) xs ys
 
@@ -161,7 +161,7 @@ ran_tuples c position k r st (frame ∷ frames) l = go (call_of c frame) refl (r
     go None is below = below
     go (Some call) is below = step call (runs st call) below
 
-map_append : (f : Ran → Point) (xs ys : List Ran) → map f (xs ++ ys) ≡ map f xs ++ map f ys
+map_append : (f : Ran → Placing) (xs ys : List Ran) → map f (xs ++ ys) ≡ map f xs ++ map f ys
 map_append f [] ys = refl
 map_append f (x ∷ xs) ys = ap (λ t. f x ∷ t) (map_append f xs ys)
 

@@ -3,13 +3,15 @@ use Rattle.std.proofs.Common.{◌≡◌, ℕ, inl, inr, Bool, true, false, not, 
 use Rattle.std.specs.Option.{option_map_or}
 use Rattle.tuple_codec.specs.Operations.{Outcome}
 use Rattle.space.specs.Applying.{is_read_only}
+use Rattle.protocol.specs.Frames.{mode_of}
+use Rattle.protocol.proofs.Modes.{reads_mode}
 use Rattle.protocol.specs.Configuration.{Configuration}
-use Rattle.protocol.specs.Wire.Message.{Request}
-use Rattle.protocol.specs.Trace.{Entry, party_of}
+use Rattle.wire.specs.Messages.{request as Request}
+use Rattle.protocol.specs.Trace.{Entry, party_of, is_output, either}
 use Rattle.protocol.specs.Trace.Entry.{Invoke, Got, Tick, Executed, Installed, Sent, Accepted}
-use Rattle.protocol.specs.RightClient.{OpenCall, open_call, Vote, newest_vote, is_complete, went_ordered, is_answered, Reaction, fallback, on_reply, on_got, reaction, is_weakly_complete, weakly_on_got, weak_reaction, is_output, either, IsReaction, MayInput, Reacts, IsClientBy, IsClient, IsWeakClient, MayAccept, MayWeaklyAccept, MayClient, RightBy, RightClient, WeakClient}
+use Rattle.protocol.specs.RightClient.{OpenCall, open_call, Vote, newest_vote, is_complete, went_ordered, is_answered, Reaction, fallback, on_reply, on_got, reaction, is_weakly_complete, weakly_on_got, weak_reaction, IsReaction, MayInput, Reacts, IsClientBy, IsClient, IsWeakClient, MayAccept, MayWeaklyAccept, MayClient, RightBy, SafeClient, SafeWeakClient}
 use Rattle.protocol.specs.RightClient.Reaction.{nothing, asks, accepts}
-use Rattle.protocol.specs.RightReplica.{start, Point, Leaves, RightReplica, waiting_after}
+use Rattle.protocol.specs.RightReplica.{first_point, Point, Leaves, SafeReplica, waiting_after}
 use Rattle.protocol.specs.Owed.{Owes, Proceeds, IsInput, IsReplica}
 
 -- ---- clients, by what they react
@@ -41,7 +43,7 @@ module _ (c : Configuration) (me : ℕ) (react : List Entry → Reaction) (Accep
       head x y xs e = cc
 
       asked : MayClient Accepting me now (Sent me h.0)
-      asked = (record { sender = me; message = Request call.timestamp read_only call.op }, h.2.says, refl, asks_open now read_only call is)
+      asked = let may = asks_open now read_only call is in (record { sender = me; message = Request call.timestamp (mode_of read_only) call.op }, h.2.says, refl, (may.0, λ e. may.1 (sym (reads_mode read_only) ∙ e)))
   output_may e outputs now (accepts t a) is h = subst (MayClient Accepting me now) (sym (head e (Accepted h.0 t a) outputs h.1)) (accepts_may now t a is)
     where
       head : (x y : Entry) (xs : List Entry) → x ∷ xs ≡ y ∷ [] → x ≡ y
@@ -178,7 +180,7 @@ client_accepts c me (Installed x y z ∷ past) t a h = absurd cc
 client_accepts c me (Sent x y ∷ past) t a h = absurd cc
 client_accepts c me (Accepted x y z ∷ past) t a h = absurd cc
 
-pub is_client_right : (c : Configuration) (me : ℕ) (xs : List Entry) → IsClient c me xs → RightClient c me xs
+pub is_client_right : (c : Configuration) (me : ℕ) (xs : List Entry) → IsClient c me xs → SafeClient c me xs
 is_client_right c me xs h = client_right c me (reaction c me) (MayAccept c me) (client_asks c me) (client_accepts c me) xs h
 
 -- ---- the weak client
@@ -250,7 +252,7 @@ weak_accepts c me (Installed x y z ∷ past) t a h = absurd cc
 weak_accepts c me (Sent x y ∷ past) t a h = absurd cc
 weak_accepts c me (Accepted x y z ∷ past) t a h = absurd cc
 
-pub is_weak_right : (c : Configuration) (me : ℕ) (xs : List Entry) → IsWeakClient c me xs → WeakClient c me xs
+pub is_weak_right : (c : Configuration) (me : ℕ) (xs : List Entry) → IsWeakClient c me xs → SafeWeakClient c me xs
 is_weak_right c me xs h = client_right c me (weak_reaction c me) (MayWeaklyAccept c me) (weak_asks c me) (weak_accepts c me) xs h
 
 -- ---- a replica
@@ -268,12 +270,12 @@ proceeds_leaves c me (e ∷ past) outputs new point h = (
   h.1,
 )
 
-pub is_replica_right : (c : Configuration) (me : ℕ) (xs : List Entry) → IsReplica c me xs → RightReplica c me xs
-is_replica_right c me [] h = (start, refl)
+pub is_replica_right : (c : Configuration) (me : ℕ) (xs : List Entry) → IsReplica c me xs → SafeReplica c me xs
+is_replica_right c me [] h = (first_point, refl)
 is_replica_right c me (e ∷ past) (inl h) = (h.0, proceeds_leaves c me (e ∷ past) [] h.0 h.0 h.1)
 is_replica_right c me (e ∷ past) (inr h) = go e h.0 h.1 (is_replica_right c me past h.2)
   where
-    go : (e : Entry) → party_of e ≡ me → IsInput e → RightReplica c me past → RightReplica c me (e ∷ past)
+    go : (e : Entry) → party_of e ≡ me → IsInput e → SafeReplica c me past → SafeReplica c me (e ∷ past)
     go (Got p bytes) own i r =
         (record r.0 { ran = []; waiting = waiting_after c me r.0 bytes }, (r.0, r.1, record { own = own; may = tt; moves = refl }))
     go (Tick p) own i r = (record r.0 { ran = [] }, (r.0, r.1, record { own = own; may = tt; moves = refl }))

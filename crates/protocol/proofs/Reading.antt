@@ -4,15 +4,16 @@ use Rattle.std.specs.Prelude.{◌==◌, option_and_then}
 use Rattle.std.proofs.lemmas.Bool.{and_parts}
 use Rattle.quorum.specs.Quorum.{count_below}
 use Rattle.protocol.specs.Configuration.{Configuration, IsConfiguration, is_correct, is_correct_replica, is_correct_client}
-use Rattle.protocol.specs.Wire.{Body, Message}
-use Rattle.protocol.specs.Wire.Message.{Request, Reply}
-use Rattle.protocol.specs.Keys.{heard}
+use Rattle.wire.specs.declared.terms.Mode.TheVariants as modes
+use Rattle.wire.specs.Messages.{BodyData as Body, MessageData as Message, request as Request, reply as Reply}
+use Rattle.protocol.specs.Frames.{reads_only, mode_of, heard}
 use Rattle.protocol.specs.Trace.{Entry, party_of, history_of, Once, Always, Unforged, Hears}
 use Rattle.protocol.specs.Trace.Entry.{Invoke, Got, Tick, Executed, Installed, Sent, Accepted}
 use Rattle.protocol.specs.RightReplica.{MaySay, MayReply}
 use Rattle.protocol.specs.RightClient.{AnyClient, MayAsk, MayRequest, OpenCall, open_call, last_call, Vote, vote_of, later_vote, latest, is_alike}
 use Rattle.protocol.specs.Linear.{reached, is_level}
-use Rattle.protocol.specs.Laws.{AreReplicasRight}
+use Rattle.protocol.specs.Laws.{AreReplicasSafe}
+use Rattle.protocol.proofs.Modes.{mode_is}
 use Rattle.protocol.proofs.Temporal.{once_weaker, once_in_trace}
 use Rattle.protocol.proofs.Options.{and_then_some, give_if_some, some_injective}
 use Rattle.protocol.proofs.Linking.{Speaks, heard_was_said}
@@ -27,7 +28,7 @@ use Rattle.protocol.specs.Linear.{invoke_past}
 
 pub record Runs (c : Configuration) (xs : List Entry) : Type 0 where
   pub unforged : Unforged c xs
-  pub replicas : AreReplicasRight c xs
+  pub replicas : AreReplicasSafe c xs
   pub clients : (p : ℕ) → is_correct_client c p ≡ true → AnyClient p (history_of p xs)
 
 pub runs_earlier : (c : Configuration) (e : Entry) (xs : List Entry) → Runs c (e ∷ xs) → Runs c xs
@@ -77,7 +78,7 @@ own_entries c p [] r = tt
 own_entries c p (e ∷ xs) r = (r.0.0, own_entries c p xs r.1)
 
 abbrev pub asking : ℕ → ℕ → Bool → Operation → Body
-asking p t read_only text = record { sender = p; message = Request t read_only text }
+asking p t read_only text = record { sender = p; message = Request t (mode_of read_only) text }
 
 -- what a right client asks it invoked
 pub asked_invoked : (c : Configuration) (p t : ℕ) (read_only : Bool) (text : Operation) (xs : List Entry) → AnyClient p xs → Once (Speaks (asking p t read_only text)) xs → Once (InvokesAt p t) xs
@@ -86,7 +87,7 @@ asked_invoked c p t read_only text (e ∷ past) r (inr h) = inr (asked_invoked c
 asked_invoked c p t read_only text (Sent x bytes ∷ past) r (inl h) =
     let m = r.0.1 in
     let is : m.0 ≡ asking p t read_only text = some_injective m.0 (asking p t read_only text) (sym m.1 ∙ h) in
-    let ask : MayRequest past t read_only text = subst (λ (b : Body). MayAsk past b.message) is m.3 in
+    let ask : MayRequest past t (reads_only (mode_of read_only)) text = subst (λ (b : Body). MayAsk past b.message) is m.3 in
     inr (opened p t text past (own_entries c p past r.1) ask.0)
 asked_invoked c p t read_only text (Invoke x y z ∷ past) r (inl h) = absurd h
 asked_invoked c p t read_only text (Got x y ∷ past) r (inl h) = absurd h
@@ -98,7 +99,7 @@ asked_invoked c p t read_only text (Accepted x y z ∷ past) r (inl h) = absurd 
 -- ---- a read-only reply stands behind its request's invocation, at the replica's number
 
 abbrev pub replying : ℕ → ℕ → ℕ → ℕ → Outcome → Body
-replying s p t number answer = record { sender = s; message = Reply p t true number answer }
+replying s p t number answer = record { sender = s; message = Reply p t modes.ReadOnly number answer }
 
 pub ReadAt : Configuration → ℕ → ℕ → ℕ → ℕ → List Entry → Entry → Type 0
 ReadAt c s p t number past e = (reached past s ≡ number) × ((text : Operation) × Once (Hears c s (asking p t true text)) past)
@@ -107,7 +108,7 @@ says_read : (c : Configuration) (s p t number : ℕ) (answer : Outcome) (past : 
 unfolding ReadAt
 says_read c s p t number answer past (Sent q bytes) r h =
     let is = some_injective r.may.body (replying s p t number answer) (sym r.may.says ∙ h) in
-    let m : MayReply c s past r.point p t true number answer = subst (λ (x : Body). MaySay c s past r.point (Sent q bytes) bytes x.message) is r.may.say in
+    let m : MayReply c s past r.point p t modes.ReadOnly number answer = subst (λ (x : Body). MaySay c s past r.point (Sent q bytes) bytes x.message) is r.may.say in
     (sym (m.number_is ∙ number_reached c s past r.point r.leaves), (m.op, m.heard))
 says_read c s p t number answer past (Invoke x y z) r h = absurd h
 says_read c s p t number answer past (Got x y) r h = absurd h
@@ -153,14 +154,14 @@ read_answered c s p t number answer xs runs correct client h =
 
 vote_body : (me t s : ℕ) (vote : Vote) (sender : ℕ) (message : Message) → vote_of me t s (record { sender = sender; message = message }) ≡ Some vote → vote.read_only ≡ true
     → ◌≡◌ {A = Body} (record { sender = sender; message = message }) (replying s me t vote.number vote.answer)
-vote_body me t s vote sender (Reply client timestamp read_only number answer) h ro =
-    let g = give_if_some ((sender == s) && (client == me) && (timestamp == t)) (record { read_only = read_only; number = number; answer = answer }) vote h in
+vote_body me t s vote sender (Reply client timestamp mode number answer) h ro =
+    let g = give_if_some ((sender == s) && (client == me) && (timestamp == t)) (record { read_only = reads_only mode; number = number; answer = answer }) vote h in
     let p = and_parts ((sender == s) && (client == me)) (timestamp == t) g.0 in
     let q = and_parts (sender == s) (client == me) p.0 in
     let es : sender ≡ s = eqb-true sender s q.0 in
     let ec : client ≡ me = eqb-true client me q.1 in
     let et : timestamp ≡ t = eqb-true timestamp t p.1 in
-    let er : read_only ≡ true = ap (λ (x : Vote). x.read_only) g.1 ∙ ro in
+    let er : mode ≡ modes.ReadOnly = mode_is mode true (ap (λ (x : Vote). x.read_only) g.1 ∙ ro) in
     let en : number ≡ vote.number = ap (λ (x : Vote). x.number) g.1 in
     let ea : answer ≡ vote.answer = ap (λ (x : Vote). x.answer) g.1 in
     rw (es, ec, et, er, en, ea) refl

@@ -11,7 +11,7 @@ use Rattle.space.specs.Applying.{is_read_only, outcome}
 use Rattle.protocol.specs.State.{opening, tuples}
 use Rattle.protocol.specs.RightClient.{OpenCall, open_call, Vote, newest_vote}
 use Rattle.protocol.specs.Texts.{ExecutesBatch}
-use Rattle.protocol.specs.Linear.{Point, first_position, is_level, ordered_points, invoked_at, read_point, read_points, Invokes, Accepts}
+use Rattle.protocol.specs.Linear.{Placing, first_position, is_level, ordered_points, invoked_at, read_point, read_points, Invokes, Accepts}
 use Rattle.quorum.specs.Votes.{give_if, or_else}
 use Rattle.protocol.proofs.Temporal.{once_weaker}
 use Rattle.protocol.proofs.Options.{some_injective, and_then_some, give_if_some}
@@ -28,7 +28,7 @@ use Rattle.tuple_tree.specs.Values.{TupleTree}
 use Rattle.tuple_codec.specs.Operations.{Outcome, Operation}
 use Rattle.protocol.specs.Linear.{invoke_past}
 
-abbrev pub read_of : Configuration → List Entry → ℕ → OpenCall → Outcome → List Entry → Vote → Point
+abbrev pub read_of : Configuration → List Entry → ℕ → OpenCall → Outcome → List Entry → Vote → Placing
 read_of c trace p call a past vote = record {
   item = record {
     client = p;
@@ -42,23 +42,23 @@ read_of c trace p call a past vote = record {
 }
 
 -- the point is that of the read accepted at the entry
-abbrev pub MadeAt : Configuration → List Entry → Point → List Entry → Entry → Type 0
+abbrev pub MadeAt : Configuration → List Entry → Placing → List Entry → Entry → Type 0
 MadeAt c trace y past (Accepted cl t a) =
     (call : OpenCall) × (vote : Vote) × (open_call (history_of (256 + cl) past) ≡ Some call) × (newest_vote c (256 + cl) (history_of (256 + cl) past) t ≡ Some vote)
     × (vote.read_only ≡ true) × (read_of c trace (256 + cl) call a past vote ≡ y)
 MadeAt c trace y past _ = ⊥
 
-abbrev made_option : Configuration → List Entry → ℕ → ℕ → Outcome → List Entry → Option Point
+abbrev made_option : Configuration → List Entry → ℕ → ℕ → Outcome → List Entry → Option Placing
 made_option c trace p t a past = option_and_then (λ call. option_and_then (read_point c trace p call a past) (newest_vote c p (history_of p past) t)) (open_call (history_of p past))
 
-made_here : (c : Configuration) (trace : List Entry) (y : Point) (past : List Entry) (cl t : ℕ) (a : Outcome) → made_option c trace (256 + cl) t a past ≡ Some y → MadeAt c trace y past (Accepted cl t a)
+made_here : (c : Configuration) (trace : List Entry) (y : Placing) (past : List Entry) (cl t : ℕ) (a : Outcome) → made_option c trace (256 + cl) t a past ≡ Some y → MadeAt c trace y past (Accepted cl t a)
 made_here c trace y past cl t a h =
     let r = and_then_some (λ (call : OpenCall). option_and_then (read_point c trace (256 + cl) call a past) (newest_vote c (256 + cl) (history_of (256 + cl) past) t)) (open_call (history_of (256 + cl) past)) y h in
     let q = and_then_some (read_point c trace (256 + cl) r.0 a past) (newest_vote c (256 + cl) (history_of (256 + cl) past) t) y r.2 in
     let g = give_if_some q.0.read_only (read_of c trace (256 + cl) r.0 a past q.0) y q.2 in
     (r.0, q.0, r.1, q.1, g.0, g.1)
 
-here_made : (c : Configuration) (trace : List Entry) (y : Point) (past : List Entry) (cl t : ℕ) (a : Outcome) → MadeAt c trace y past (Accepted cl t a) → made_option c trace (256 + cl) t a past ≡ Some y
+here_made : (c : Configuration) (trace : List Entry) (y : Placing) (past : List Entry) (cl t : ℕ) (a : Outcome) → MadeAt c trace y past (Accepted cl t a) → made_option c trace (256 + cl) t a past ≡ Some y
 here_made c trace y past cl t a m =
     ap (option_and_then (λ (call : OpenCall). option_and_then (read_point c trace (256 + cl) call a past) (newest_vote c (256 + cl) (history_of (256 + cl) past) t))) m.2
     ∙ ap (option_and_then (read_point c trace (256 + cl) m.0 a past)) m.3
@@ -70,7 +70,7 @@ pub reads_made : (c : Configuration) (trace xs : List Entry) → AllOf (λ y. On
 reads_made c trace [] = tt
 reads_made c trace (Accepted cl t a ∷ past) = go (made_option c trace (256 + cl) t a past) refl (all_weaker (λ y. Once (MadeAt c trace y) past) (λ y. Once (MadeAt c trace y) (Accepted cl t a ∷ past)) (λ y h. inr h) (read_points c trace past) (reads_made c trace past))
   where
-    go : (o : Option Point) → made_option c trace (256 + cl) t a past ≡ o → AllOf (λ y. Once (MadeAt c trace y) (Accepted cl t a ∷ past)) (read_points c trace past)
+    go : (o : Option Placing) → made_option c trace (256 + cl) t a past ≡ o → AllOf (λ y. Once (MadeAt c trace y) (Accepted cl t a ∷ past)) (read_points c trace past)
         → AllOf (λ y. Once (MadeAt c trace y) (Accepted cl t a ∷ past)) (option_map_or (λ point. point ∷ []) o [] ++ read_points c trace past)
     go None is rest = rest
     go (Some y) is rest = (inl (made_here c trace y past cl t a is), rest)
@@ -82,7 +82,7 @@ reads_made c trace (Executed x y z ∷ past) = all_weaker (λ y. Once (MadeAt c 
 reads_made c trace (Installed x y z ∷ past) = all_weaker (λ y. Once (MadeAt c trace y) past) (λ w. Once (MadeAt c trace w) (Installed x y z ∷ past)) (λ y h. inr h) (read_points c trace past) (reads_made c trace past)
 
 -- and each acceptance of a read made its point
-pub made_read : (c : Configuration) (trace : List Entry) (y : Point) (xs : List Entry) → Once (MadeAt c trace y) xs → Has (λ z. z ≡ y) (read_points c trace xs)
+pub made_read : (c : Configuration) (trace : List Entry) (y : Placing) (xs : List Entry) → Once (MadeAt c trace y) xs → Has (λ z. z ≡ y) (read_points c trace xs)
 made_read c trace y [] h = h
 made_read c trace y (Accepted cl t a ∷ past) (inr h) = has_right (λ z. z ≡ y) _ _ (made_read c trace y past h)
 made_read c trace y (Accepted cl t a ∷ past) (inl h) = rw (here_made c trace y past cl t a h) (inl refl)
@@ -147,12 +147,12 @@ one_kind c p t (e ∷ past) run (inl h) (inr k) = not_again c true false p t pas
 one_kind c p t (e ∷ past) run (inr h) (inl k) = not_again c false true p t past e run k h
 one_kind c p t (e ∷ past) run (inr h) (inr k) = one_kind c p t past (full_earlier c e past run) h k
 
-kind_made : (c : Configuration) (trace : List Entry) (y : Point) (past : List Entry) (e : Entry) → FullRun c (e ∷ past) → MadeAt c trace y past e → KindAt c true y.item.client y.item.timestamp past e
+kind_made : (c : Configuration) (trace : List Entry) (y : Placing) (past : List Entry) (e : Entry) → FullRun c (e ∷ past) → MadeAt c trace y past e → KindAt c true y.item.client y.item.timestamp past e
 kind_made c trace y past (Accepted cl t a) run m =
     let x = accepting c past cl t a run in
     let call : x.call ≡ m.0 = some_injective x.call m.0 (sym x.opened ∙ m.2) in
-    let time : t ≡ y.item.timestamp = sym x.time ∙ ap (λ (o : OpenCall). o.timestamp) call ∙ ap (λ (z : Point). z.item.timestamp) m.5 in
-    (ap (λ (z : Point). z.item.client) m.5, time, (m.1, m.3, m.4))
+    let time : t ≡ y.item.timestamp = sym x.time ∙ ap (λ (o : OpenCall). o.timestamp) call ∙ ap (λ (z : Placing). z.item.timestamp) m.5 in
+    (ap (λ (z : Placing). z.item.client) m.5, time, (m.1, m.3, m.4))
 kind_made c trace y past (Invoke x z w) run m = absurd m
 kind_made c trace y past (Got x z) run m = absurd m
 kind_made c trace y past (Tick x) run m = absurd m
@@ -160,7 +160,7 @@ kind_made c trace y past (Sent x z) run m = absurd m
 kind_made c trace y past (Executed x z w) run m = absurd m
 kind_made c trace y past (Installed x z w) run m = absurd m
 
-pub made_kind : (c : Configuration) (trace : List Entry) (y : Point) (xs : List Entry) → FullRun c xs → Once (MadeAt c trace y) xs → Once (KindAt c true y.item.client y.item.timestamp) xs
+pub made_kind : (c : Configuration) (trace : List Entry) (y : Placing) (xs : List Entry) → FullRun c xs → Once (MadeAt c trace y) xs → Once (KindAt c true y.item.client y.item.timestamp) xs
 made_kind c trace y [] run h = h
 made_kind c trace y (e ∷ past) run (inl h) = inl (kind_made c trace y past e run h)
 made_kind c trace y (e ∷ past) run (inr h) = inr (made_kind c trace y past (full_earlier c e past run) h)
@@ -170,7 +170,7 @@ pub reads_differ : (c : Configuration) (trace xs : List Entry) → FullRun c xs 
 reads_differ c trace [] run = tt
 reads_differ c trace (Accepted cl t a ∷ past) run = go (made_option c trace (256 + cl) t a past) refl (reads_differ c trace past (full_earlier c (Accepted cl t a) past run))
   where
-    go : (o : Option Point) → made_option c trace (256 + cl) t a past ≡ o → AllDiffer (read_points c trace past) → AllDiffer (option_map_or (λ point. point ∷ []) o [] ++ read_points c trace past)
+    go : (o : Option Placing) → made_option c trace (256 + cl) t a past ≡ o → AllDiffer (read_points c trace past) → AllDiffer (option_map_or (λ point. point ∷ []) o [] ++ read_points c trace past)
     go None is rest = rest
     go (Some y) is rest = (
       all_weaker (λ z. Once (MadeAt c trace z) past) (Differ y) (λ z h same time.
@@ -227,22 +227,8 @@ invoke_behind p (Executed x y z ∷ past) = let r = invoke_behind p past in (Exe
 invoke_behind p (Installed x y z ∷ past) = let r = invoke_behind p past in (Installed x y z ∷ r.0, ap (λ t. Installed x y z ∷ t) r.1)
 invoke_behind p (Accepted x y z ∷ past) = let r = invoke_behind p past in (Accepted x y z ∷ r.0, ap (λ t. Accepted x y z ∷ t) r.1)
 
-invoked_length : (p : ℕ) (xs : List Entry) → invoked_at p xs ≡ length (invoke_past p xs)
-invoked_length p [] = refl
-invoked_length p (Invoke client t op ∷ past) = go (256 + client == p) (invoked_length p past)
-  where
-    go : (b : Bool) → invoked_at p past ≡ length (invoke_past p past) → cond b (length past) (invoked_at p past) ≡ length (cond b past (invoke_past p past))
-    go true h = refl
-    go false h = h
-invoked_length p (Got x y ∷ past) = invoked_length p past
-invoked_length p (Tick x ∷ past) = invoked_length p past
-invoked_length p (Sent x y ∷ past) = invoked_length p past
-invoked_length p (Executed x y z ∷ past) = invoked_length p past
-invoked_length p (Installed x y z ∷ past) = invoked_length p past
-invoked_length p (Accepted x y z ∷ past) = invoked_length p past
-
 invoked_within : (p : ℕ) (xs : List Entry) → invoked_at p xs ≤ length xs
-invoked_within p xs = let r = invoke_behind p xs in let l = length_behind r.0 (invoke_past p xs) in let e = ap length r.1 in let m = invoked_length p xs in omega arith
+invoked_within p xs = let r = invoke_behind p xs in let l = length_behind r.0 (invoke_past p xs) in let e = ap length r.1 in omega arith
 
 -- each invocation stands at or before the latest
 invoked_by : (p t : ℕ) (op : Operation) (xs : List Entry) → Once (Invokes p t op) xs → Once (λ past e. Invokes p t op past e × (length past ≤ invoked_at p xs)) xs
@@ -251,7 +237,7 @@ invoked_by p t op (Invoke client time o ∷ past) (inl h) = inl (h, rw (eq-eqb (
 invoked_by p t op (Invoke client time o ∷ past) (inr h) = inr (go (256 + client == p) (invoked_by p t op past h) (once_within (Invokes p t op) past h))
   where
     go : (b : Bool) → Once (λ past' e. Invokes p t op past' e × (length past' ≤ invoked_at p past)) past → Once (λ past' e. Invokes p t op past' e × (length past' < length past)) past
-        → Once (λ past' e. Invokes p t op past' e × (length past' ≤ cond b (length past) (invoked_at p past))) past
+        → Once (λ past' e. Invokes p t op past' e × (length past' ≤ length (cond b past (invoke_past p past)))) past
     go true below near = once_weaker (λ past' e. Invokes p t op past' e × (length past' < length past)) (λ past' e. Invokes p t op past' e × (length past' ≤ length past)) (λ past' e u. (u.0, let l = u.1 in omega arith)) past near
     go false below near = below
 invoked_by p t op (Got x y ∷ past) (inl h) = absurd h
@@ -269,10 +255,10 @@ invoked_by p t op (Accepted x y z ∷ past) (inr h) = inr (invoked_by p t op pas
 
 -- ---- an acceptance in a run
 
-abbrev pub all_ordered : Configuration → List Entry → List Point
+abbrev pub all_ordered : Configuration → List Entry → List Placing
 all_ordered c trace = ordered_points c trace opening 1 (last_executed trace)
 
-pub record ReadFacts (c : Configuration) (trace : List Entry) (y : Point) : Type 0 where
+pub record ReadFacts (c : Configuration) (trace : List Entry) (y : Placing) : Type 0 where
   pub stands : Stands (first_position c trace) y
   pub client : is_correct_client c y.item.client ≡ true
   pub invoked : Once (λ past e. Invokes y.item.client y.item.timestamp y.item.op past e × (length past ≤ y.item.position)) trace
@@ -306,7 +292,6 @@ module _ (c : Configuration) (trace : List Entry) (run : Run c trace) (later pas
           let r = invoke_behind p past in
           let shape : trace ≡ (later ++ e ∷ r.0) ++ invoke_past p past =
           is ∙ ap (λ (ys : List Entry). later ++ e ∷ ys) r.1 ∙ sym (append_assoc later (e ∷ r.0) (invoke_past p past)) in
-          let n = invoked_length p past in
           let near : q < length (invoke_past p past) = omega arith in
           let up : is_level c (invoke_past p past) k ≡ true = level_behind c (later ++ e ∷ r.0) (invoke_past p past) k q (subst (λ (ys : List Entry). first_position c ys k ≡ Some q) shape h) near in
           absurd (read_before c past p t a x kind k l up)

@@ -1,27 +1,37 @@
 -- The definitions refuse what wrong bodies would do.
-use Rattle.std.proofs.Common.{◌≡◌, ℕ, suc, ◌+◌, ◌-◌, ◌*◌, ◌≤◌, ◌<◌, ◌⊎◌, inl, inr, Bool, true, false, cond, List, [], ◌∷◌, length, slice_get, refl, sym, ap, ◌∙◌, subst, arith, ◌&&◌, Option, Some, eqb-true, eq-eqb}
-use Rattle.std.specs.Prelude.{◌==◌, nat_le, nat_lt, option_and_then}
+use Rattle.std.specs.List.{list_all, range_with_len}
+use Rattle.std.proofs.Common.{◌≡◌, ℕ, zero, suc, max, not, filter, ◌+◌, ◌-◌, ◌*◌, ◌≤◌, ◌<◌, ◌⊎◌, inl, inr, Bool, true, false, cond, List, [], bytes_eq, None, ◌∷◌, length, slice_get, refl, sym, ap, ◌∙◌, subst, arith, ◌&&◌, ◌||◌, Option, Some, eqb-true, eq-eqb}
+use Rattle.std.specs.Prelude.{◌==◌, nat_le, nat_lt, option_and_then, is_some, ⊤}
 use Rattle.std.specs.Option.{option_map_or}
-use Rattle.std.proofs.lemmas.Bool.{and_parts, or_cases, leb-true, ltb-true}
+use Rattle.std.proofs.lemmas.Bool.{eqb-false, ltb-false, and_parts, or_cases, leb-true, ltb-true}
+use Rattle.std.proofs.lemmas.Slice.Eq.{bytes_eq-Decides}
+use Rattle.tuple_codec.specs.Operations.{Outcome}
+use Rattle.tuple_codec.specs.Spelling.{outcome_spelling}
 use Rattle.sha2.specs.Sha256.{sha256}
 use Rattle.quorum.specs.Quorum.{count_below}
-use Rattle.protocol.specs.Configuration.{Configuration}
-use Rattle.protocol.specs.Wire.{Body, ViewChange, NewView, said}
-use Rattle.protocol.specs.Wire.Message.{PrePrepare, Prepare, Commit, Checkpoint, Change, Reply}
-use Rattle.protocol.specs.Trace.{Entry, Once, Always, Has}
+use Rattle.protocol.specs.Configuration.{Configuration, replicas, span}
+use Rattle.wire.specs.declared.terms.Mode.TheVariants as modes
+use Rattle.wire.specs.Messages.{BodyData as Body, FrameData as Frame, ProofData as Proof, MacData, macs, ViewChangeData as ViewChange, NewViewData as NewView, ClaimData as Claim, pre_prepare as PrePrepare, prepare as Prepare, commit as Commit, checkpoint as Checkpoint, view_change as Change, reply as Reply, meta as Meta, page as Page}
+use Rattle.protocol.specs.Frames.{frame_of, said, heard, mode_of}
+use Rattle.protocol.specs.Trace.{Entry, party_of, Once, Always, Has, Hears}
 use Rattle.protocol.specs.Trace.Entry.{Invoke, Got, Tick, Executed, Installed, Sent, Accepted}
-use Rattle.protocol.specs.Selection.{is_quorum, is_weak_quorum, count_in, vouches, agrees, may_stand_at, may_be_null, is_null, is_within, changes_of, how_many, Selects}
+use Rattle.protocol.specs.Selection.{is_quorum, is_weak_quorum, passes_by, count_in, vouches, agrees, may_stand_at, may_be_null, is_null, is_within, changes_of, how_many}
 use Rattle.protocol.specs.Certificates.{target, view, is_active_in, is_later, new_view_in, logged, low}
 use Rattle.reply_cache.specs.Replies.{Kept}
 use Rattle.protocol.specs.State.{State, Ran, opening, kept_of, last_time, runs, run_call, ran_call, kept_by, page_text}
-use Rattle.protocol.specs.RightReplica.{Point, Leaves, RightReplica, May, Moves, MaySay, MaySend, MayCheckpoint, MayPrepare, MayCommit, MayPrePrepare, MayReply, RepliesTo, GetsPage}
-use Rattle.protocol.specs.RightClient.{is_complete}
-use Rattle.protocol.specs.Refused.{Says, NoExecution, RepliesAfterExecution, NoCommitAfterChange, NoPrepareAfterChange, NoEarlyCheckpoint, OnePrePrepare, NoPrepareByPrimary, ExecutesNext, KeepsPrepared, InstallsWhatItHas, TakesWellSelected, TakesNoLower, RunsOnce, AcceptsAtQuorum}
+use Rattle.protocol.specs.RightReplica.{IsAddressed, Point, Leaves, SafeReplica, May, Moves, MaySay, MaySend, MayCheckpoint, MayPrepare, MayCommit, MayPrePrepare, MayReply, MayReplyRead, MayChange, SendsBytes, reply_of, GetsPage}
+use Rattle.protocol.specs.RightClient.{SafeClient, Vote, latest, is_alike, count_alike}
+use Rattle.protocol.specs.Refused.{UnaskedDigestsAreDropped, UnaskedPagesAreDropped, ProposesAuthentic, ReadsNewest, NoChangeWhileActive, AnswersReads, DropsReplies, DropsOwnChange, RepliesToItsClient, CommitsToAll, Says, NoExecution, newest_number, HasFrom, SaysNothingAgainst, SaysForIt, SaysNothing, RepliesAfterExecution, NoCommitAfterChange, NoPrepareAfterChange, NoEarlyCheckpoint, OnePrePrepare, NoPrepareByPrimary, ExecutesNext, KeepsPrepared, InstallsWhatItHas, TakesWellSelected, TakesNoLower, RunsOnce, AcceptsAtQuorum}
+use Rattle.wire.specs.Words.{requests_of}
+use Rattle.protocol.specs.Owed.{Owes, Counts, IsReplica, change_taken, latest_change}
 use Rattle.protocol.proofs.Temporal.{once_weaker, once_stays_from}
 use Rattle.protocol.proofs.Options.{and_then_some, give_if_some, some_injective}
 use Rattle.protocol.proofs.Voting.{right_always, logged_stays}
-use Rattle.protocol.proofs.Marks.{selects, selected_in, takes}
-use Rattle.protocol.proofs.Lists.{every_has, stands_at, some_below}
+use Rattle.protocol.proofs.Marks.{Selects, selects, selected_in, takes, view_grows}
+use Rattle.protocol.proofs.Lists.{has_some, every_has, passes_change, change_there, has_of_any, largest_of-has, stands_at, some_below}
+use Rattle.protocol.proofs.Reading.{latest_heard}
+use Rattle.protocol.proofs.Ordering.{latest_ordered}
+use Rattle.protocol.proofs.Legality.{executed_number}
 use Rattle.protocol.proofs.Changes.{change_target, target_grows}
 use Rattle.protocol.proofs.Offers.{offer_in, offers_kept, marks_above}
 use Rattle.protocol.proofs.Linking.{Speaks}
@@ -30,7 +40,7 @@ use Rattle.protocol.proofs.Keeping.{set_here}
 use Rattle.quorum.specs.Votes.{give_if}
 
 -- what the newest frame says, a right replica may say
-says_may : (c : Configuration) (me : ℕ) (bytes : List ℕ) (body : Body) (past : List Entry) (right : RightReplica c me (Sent me bytes ∷ past)) → said bytes ≡ Some body
+says_may : (c : Configuration) (me : ℕ) (bytes : List ℕ) (body : Body) (past : List Entry) (right : SafeReplica c me (Sent me bytes ∷ past)) → said bytes ≡ Some body
     → MaySay c me past right.1.0 (Sent me bytes) bytes body.message
 says_may c me bytes body past right h =
     let m : MaySend c me past right.1.0 (Sent me bytes) bytes = right.1.2.may in
@@ -57,13 +67,13 @@ untouched c me (e ∷ past) point h a = go e h.2.may h.2.moves a.0 (untouched c 
 
 pub replies_after_execution : RepliesAfterExecution
 replies_after_execution c me client timestamp number answer bytes past says none right =
-    go (says_may c me bytes (record { sender = me; message = Reply client timestamp false number answer }) past right says)
+    go (says_may c me bytes (record { sender = me; message = Reply client timestamp modes.Ordered number answer }) past right says)
   where
     u : Untouched right.1.0
     u = untouched c me past right.1.0 right.1.1 none
 
-    go : MayReply c me past right.1.0 client timestamp false number answer → ⊥
-    go (inl h) = subst (λ (rans : List Ran). Has (λ (ran : Ran). RepliesTo client timestamp number answer ran.call.client ran.kept) rans) u.ran h
+    go : MayReply c me past right.1.0 client timestamp modes.Ordered number answer → ⊥
+    go (inl h) = subst (λ (rans : List Ran). Has (λ (ran : Ran). reply_of ran.call.client ran.kept ≡ Reply client timestamp modes.Ordered number answer) rans) u.ran h
     go (inr h) = none_kept 256 h.0 h.1 (subst (λ (st : State). kept_of st h.0 ≡ Some h.1) u.state h.2)
 
 -- ---- after a view change
@@ -130,14 +140,30 @@ no_prepare_by_primary c me v i digest bytes past says is right =
     let m : MayPrepare c me past v i digest = says_may c me bytes (record { sender = me; message = Prepare v i digest }) past right says in
     m.is_backup is
 
+-- the state has the newest number
+newest_state : (c : Configuration) (me : ℕ) (xs : List Entry) (point : Point) → Leaves c me xs point → point.state.number ≡ newest_number xs
+newest_state c me [] point h = ap (λ (p : Point). p.state.number) h
+newest_state c me (e ∷ past) point h = go e h.2.may h.2.moves (newest_state c me past h.0 h.1)
+  where
+    go : (e : Entry) → May c me past h.0 e → Moves c me past h.0 e point → h.0.state.number ≡ newest_number past → point.state.number ≡ newest_number (e ∷ past)
+    go (Got p bytes) may move was = ap (λ (q : Point). q.state.number) move ∙ was
+    go (Tick p) may move was = ap (λ (q : Point). q.state.number) move ∙ was
+    go (Sent p bytes) may move was = ap (λ (q : Point). q.state.number) move ∙ was
+    go (Invoke x y z) may move was = absurd may
+    go (Accepted x y z) may move was = absurd may
+    go (Executed p k batch) may move was = ap (λ (q : Point). q.state.number) move ∙ executed_number c h.0.state batch ∙ sym may.next
+    go (Installed p k root) may move was = move.number
+
 pub executes_next : ExecutesNext
-executes_next c me k j batch root past right =
-    let a = right.1.2.may.next in
-    let b = right.1.1.2.moves.number in
-    omega arith
+executes_next c me k batch past right = right.1.2.may.next ∙ ap suc (newest_state c me past right.1.0 right.1.1)
 
 pub keeps_prepared : KeepsPrepared
-keeps_prepared c me v i batch vc past point change prepared marks = change.prepared.all v i batch marks prepared
+keeps_prepared c me v i batch bytes vc past says new right prepared marks =
+    go (says_may c me bytes (record { sender = me; message = Change vc }) past right says)
+  where
+    go : MayChange c me past right.1.0 bytes vc → Has (λ (claim : Claim). claim.number ≡ i) vc.prepared
+    go (inl change) = change.prepared.all v i batch marks prepared
+    go (inr again) = absurd (new again.2)
 
 pub installs_what_it_has : InstallsWhatItHas
 installs_what_it_has c me k i root past old new installed within differs = go (installed.pages i within)
@@ -146,45 +172,281 @@ installs_what_it_has c me k i root past old new installed within differs = go (i
     go (inl same) = absurd (differs same)
     go (inr got) = got
 
+pub proposes_authentic : ProposesAuthentic
+proposes_authentic c me v i batch bytes request past says right has =
+    let m : MayPrePrepare c me past (Sent me bytes) v i batch = says_may c me bytes (record { sender = me; message = PrePrepare v i batch }) past right says in
+    there (heard c me request) (every_has (λ (x : List ℕ). is_some (heard c me x)) (requests_of batch) request m.genuine has)
+  where
+    there : (o : Option Body) → is_some o ≡ true → (body : Body) × (o ≡ Some body)
+    there None h = absurd cc
+    there (Some body) h = (body, refl)
+
+pub reads_newest : ReadsNewest
+reads_newest c me client timestamp number answer bytes past says right =
+    let m : MayReplyRead c me past right.1.0 client timestamp number answer = says_may c me bytes (record { sender = me; message = Reply client timestamp modes.ReadOnly number answer }) past right says in
+    m.number_is ∙ newest_state c me past right.1.0 right.1.1
+
+pub no_change_while_active : NoChangeWhileActive
+no_change_while_active c me bytes vc past says before active right = go (says_may c me bytes (record { sender = me; message = Change vc }) past right says)
+  where
+    sends : (x : List Entry) (e : Entry) → SendsBytes bytes x e → Says (record { sender = me; message = Change vc }) x e
+    sends x (Sent p sent) h = subst (λ (ys : List ℕ). said ys ≡ Some (record { sender = me; message = Change vc })) (sym h) says
+    sends x (Invoke a b d) h = absurd h
+    sends x (Got a b) h = absurd h
+    sends x (Tick a) h = absurd h
+    sends x (Executed a b d) h = absurd h
+    sends x (Installed a b d) h = absurd h
+    sends x (Accepted a b d) h = absurd h
+
+    go : MayChange c me past right.1.0 bytes vc → ⊥
+    go (inl change) =
+        let a = above_target me vc past (once_weaker (SendsBytes bytes) (Says (record { sender = me; message = Change vc })) sends past before) in
+        let b = change.newer in
+        omega arith
+    go (inr again) = let a = again.0 in omega arith
+
+-- ---- what is owed
+
+record Owed (c : Configuration) (me : ℕ) (bytes : List ℕ) (past outputs : List Entry) : Type 0 where
+  old : Point
+  new : Point
+  now : List Entry
+  owes : Owes c me past (Got me bytes) outputs now old new
+
+owed_later : (c : Configuration) (me : ℕ) (bytes later : List ℕ) (past : List Entry) → IsReplica c me (Sent me later ∷ Tick me ∷ Got me bytes ∷ past) → Owed c me bytes past []
+owed_later c me bytes later past (inl h) = record { old = _; new = _; now = _; owes = h.1.2.2.1.2.0 }
+owed_later c me bytes later past (inr h) = absurd h.1
+
+owed_here : (c : Configuration) (me : ℕ) (bytes later : List ℕ) (past : List Entry) → IsReplica c me (Sent me later ∷ Got me bytes ∷ past) → Owed c me bytes past (Sent me later ∷ [])
+owed_here c me bytes later past (inl h) = record { old = _; new = _; now = _; owes = h.1.2.2.0 }
+owed_here c me bytes later past (inr h) = absurd h.1
+
+pub answers_reads : AnswersReads
+answers_reads c me client timestamp op bytes later past hears is h =
+    let o = owed_later c me bytes later past h in o.owes.reads client timestamp op hears is
+
+-- an output belies that the input is dropped
+not_dropped : (c : Configuration) (me : ℕ) (bytes later : List ℕ) (past : List Entry) (body : Body) → heard c me bytes ≡ Some body → IsReplica c me (Sent me later ∷ Got me bytes ∷ past)
+    → ((point : Point) → Counts c me past point bytes body.sender body.message → ⊥) → ⊥
+not_dropped c me bytes later past body hears h never =
+    let o = owed_here c me bytes later past h in
+    let none : Sent me later ∷ [] ≡ [] = o.owes.dropped bytes refl (λ other is k.
+    never o.old (subst (λ (x : Body). Counts c me past o.old bytes x.sender x.message) (some_injective other body (sym is ∙ hears)) k)) in
+    absurd cc
+
+pub drops_replies : DropsReplies
+drops_replies c me s client timestamp number mode answer bytes later past hears h =
+    not_dropped c me bytes later past (record { sender = s; message = Reply client timestamp mode number answer }) hears h (λ point k. k)
+
+pub drops_own_change : DropsOwnChange
+drops_own_change c me vc bytes later past hears signed before h =
+    not_dropped c me bytes later past (record { sender = me; message = Change vc }) hears h (λ point k. late k.1 k.2 k.3)
+  where
+    taken_or : is_within c vc ≡ true → (v : ℕ) → vc.view ≤ max (change_taken c v me bytes) v
+    taken_or within v =
+        let is : change_taken c v me bytes ≡ cond ((me == me) && nat_lt v vc.view && is_within c vc) vc.view 0
+        = ap (λ (o : Option (ℕ × ViewChange)). option_map_or (λ (x : ℕ × ViewChange). cond ((x.0 == me) && nat_lt v x.1.view && is_within c x.1) x.1.view 0) o 0) signed in
+        let r = go (me == me) (nat_lt v vc.view) (is_within c vc) (eq-eqb me me refl) within (λ k. ltb-false v vc.view k) in
+        subst (λ (n : ℕ). vc.view ≤ max n v) (sym is) r
+      where
+        go : (a b d : Bool) → a ≡ true → d ≡ true → (b ≡ false → vc.view ≤ v) → vc.view ≤ max (cond (a && b && d) vc.view 0) v
+        go true true true ea ed f = omega arith
+        go true false true ea ed f = let l = f refl in omega arith
+        go true b false ea ed f = absurd cc
+        go false b d ea ed f = absurd cc
+
+    counted : is_within c vc ≡ true → (x : List Entry) (e : Entry) → SendsBytes bytes x e → vc.view ≤ max (latest_change c (e ∷ x) me) (view c (e ∷ x))
+    counted within x (Sent p sent) t =
+        let r : vc.view ≤ max (change_taken c (view c x) me sent) (view c x) = subst (λ (ys : List ℕ). vc.view ≤ max (change_taken c (view c x) me ys) (view c x)) (sym t) (taken_or within (view c x)) in
+        let grows = view_grows c (Sent p sent) x in
+        omega arith
+    counted within x (Invoke a b d) t = absurd t
+    counted within x (Got a b) t = absurd t
+    counted within x (Tick a) t = absurd t
+    counted within x (Executed a b d) t = absurd t
+    counted within x (Installed a b d) t = absurd t
+    counted within x (Accepted a b d) t = absurd t
+
+    late : view c past < vc.view → is_within c vc ≡ true → latest_change c past me < vc.view → ⊥
+    late above within newer =
+        let a = once_stays_from (λ x. vc.view ≤ max (latest_change c x me) (view c x)) (λ e x k. let grows = view_grows c e x in omega arith) past
+        (once_weaker (SendsBytes bytes) (λ x e. vc.view ≤ max (latest_change c (e ∷ x) me) (view c (e ∷ x))) (counted within) past before) in
+        omega arith
+
+-- ---- whom a frame is for
+
+addressed : (c : Configuration) (me : ℕ) (bytes : List ℕ) (body : Body) (frame : Frame) (entries : List MacData) (past : List Entry) (right : SafeReplica c me (Sent me bytes ∷ past)) → said bytes ≡ Some body
+    → frame_of bytes ≡ Some frame → frame.proof ≡ macs entries → IsAddressed c me past body.message (macs entries)
+addressed c me bytes body frame entries past right says is proof =
+    let m : MaySend c me past right.1.0 (Sent me bytes) bytes = right.1.2.may in
+    let same : m.body ≡ body = some_injective m.body body (sym m.says ∙ says) in
+    subst (λ (p : Proof). IsAddressed c me past body.message p) proof
+    (subst (λ (b : Body). IsAddressed c me past b.message frame.proof) same (m.is_sealed frame is).1)
+
+pub replies_to_its_client : RepliesToItsClient
+replies_to_its_client c me client timestamp number mode answer bytes frame entries past says is proof right =
+    addressed c me bytes (record { sender = me; message = Reply client timestamp mode number answer }) frame entries past right says is proof
+
+in_range : (n a s : ℕ) → a ≤ s → s < a + n → Has (λ r. r ≡ s) (range_with_len a n)
+in_range zero a s l h = absurd (omega arith)
+in_range (suc n) a s l h = go (a == s) refl (λ above. in_range n (a + 1) s above (omega arith))
+  where
+    go : (b : Bool) → (a == s) ≡ b → (a + 1 ≤ s → Has (λ r. r ≡ s) (range_with_len (a + 1) n)) → (a ≡ s) ⊎ Has (λ r. r ≡ s) (range_with_len (a + 1) n)
+    go true e below = inl (eqb-true a s e)
+    go false e below = let d = eqb-false a s e in inr (below (omega arith))
+
+kept_by_test : (test : ℕ → Bool) (xs : List ℕ) (s : ℕ) → test s ≡ true → Has (λ r. r ≡ s) xs → Has (λ r. r ≡ s) (filter test xs)
+kept_by_test test [] s t h = absurd h
+kept_by_test test (x ∷ xs) s t h = go (test x) refl h (kept_by_test test xs s t)
+  where
+    go : (b : Bool) → test x ≡ b → (x ≡ s) ⊎ Has (λ r. r ≡ s) xs → (Has (λ r. r ≡ s) xs → Has (λ r. r ≡ s) (filter test xs)) → Has (λ r. r ≡ s) (cond b (x ∷ filter test xs) (filter test xs))
+    go true e (inl k) below = inl k
+    go true e (inr k) below = inr (below k)
+    go false e (inl k) below = let same : test x ≡ test s = ap test k in let bad : false ≡ true = sym e ∙ same ∙ t in absurd cc
+    go false e (inr k) below = below k
+
+pub commits_to_all : CommitsToAll
+commits_to_all c me v i s digest bytes frame entries past says is proof within other right =
+    let e = addressed c me bytes (record { sender = me; message = Commit v i digest }) frame entries past right says is proof in
+    subst (λ (rs : List ℕ). Has (λ r. r ≡ s) rs) (sym e)
+    (kept_by_test (λ r. not (r == me)) (range_with_len 0 (replicas c)) s (differs (s == me) refl) (in_range (replicas c) 0 s (omega arith) (omega arith)))
+  where
+    differs : (b : Bool) → (s == me) ≡ b → not b ≡ true
+    differs true e = absurd (other (eqb-true s me e))
+    differs false e = refl
+
+-- ---- what is dropped
+
+pub unasked_digests_are_dropped : UnaskedDigestsAreDropped
+unasked_digests_are_dropped c me s k index level digests bytes past point h never body is counts =
+    let asked : Body = record { sender = s; message = Meta k level index digests } in
+    let t = subst (λ (b : Body). Counts c me past point bytes b.sender b.message) (some_injective body asked (sym is ∙ h)) counts in
+    never t.0
+
+pub unasked_pages_are_dropped : UnaskedPagesAreDropped
+unasked_pages_are_dropped c me s k index text bytes past point h never body is counts =
+    let asked : Body = record { sender = s; message = Page k index text } in
+    let t = subst (λ (b : Body). Counts c me past point bytes b.sender b.message) (some_injective body asked (sym is ∙ h)) counts in
+    never t.0
+
 -- ---- new views
+
+has_from : (c : Configuration) (new : NewView) (count : ℕ) (test : ViewChange → Bool) (P : ViewChange → Type 0) → ((vc : ViewChange) → test vc ≡ true → P vc)
+    → count ≤ count_in c test (changes_of c new) → HasFrom count c new P
+has_from c new count test P f enough = (
+  passes_by test (changes_of c new),
+  enough,
+  λ s h.
+      let t = passes_change test (changes_of c new) s h in
+      (t.0, change_there (changes_of c new) s t.0 t.1, f t.0 t.2),
+)
+
+says_nothing_against : (i w : ℕ) (digest : List ℕ) (vc : ViewChange) → (nat_lt vc.low i && agrees i w digest vc) ≡ true → SaysNothingAgainst i w digest vc
+says_nothing_against i w digest vc h =
+    let p = and_parts (nat_lt vc.low i) (agrees i w digest vc) h in
+    (ltb-true vc.low i p.0, λ claim has number. by claim number (every_has (λ (claim : Claim). not (claim.number == i) || nat_lt claim.view w || ((claim.view == w) && bytes_eq claim.digest digest)) vc.prepared claim p.1 has))
+  where
+    last : (claim : Claim) → ((claim.view == w) && bytes_eq claim.digest digest) ≡ true → (claim.view ≡ w) × (claim.digest ≡ digest)
+    last claim h =
+        let p = and_parts (claim.view == w) (bytes_eq claim.digest digest) h in
+        (eqb-true claim.view w p.0, (bytes_eq-Decides claim.digest digest).0 p.1)
+
+    by : (claim : Claim) → claim.number ≡ i → (not (claim.number == i) || nat_lt claim.view w || ((claim.view == w) && bytes_eq claim.digest digest)) ≡ true → (claim.view < w) ⊎ ((claim.view ≡ w) × (claim.digest ≡ digest))
+    by claim number t = pick (or_cases (not (claim.number == i) || nat_lt claim.view w) ((claim.view == w) && bytes_eq claim.digest digest) t)
+      where
+        early : (not (claim.number == i) ≡ true) ⊎ (nat_lt claim.view w ≡ true) → claim.view < w
+        early (inl other) = let here = eq-eqb claim.number i number in absurd (let f : not true ≡ true = subst (λ (b : Bool). not b ≡ true) here other in cc)
+        early (inr lt) = ltb-true claim.view w lt
+
+        pick : ((not (claim.number == i) || nat_lt claim.view w) ≡ true) ⊎ (((claim.view == w) && bytes_eq claim.digest digest) ≡ true) → (claim.view < w) ⊎ ((claim.view ≡ w) × (claim.digest ≡ digest))
+        pick (inl k) = inl (early (or_cases (not (claim.number == i)) (nat_lt claim.view w) k))
+        pick (inr k) = inr (last claim k)
+
+says_for_it : (i w : ℕ) (digest : List ℕ) (vc : ViewChange) → vouches i w digest vc ≡ true → SaysForIt i w digest vc
+says_for_it i w digest vc h =
+    has_of_any (λ (claim : Claim). (claim.number ≡ i) × (claim.digest ≡ digest) × (w ≤ claim.view)) (λ (claim : Claim). (claim.number == i) && bytes_eq claim.digest digest && nat_le w claim.view)
+    each vc.pre_prepared h
+  where
+    each : (claim : Claim) → ((claim.number == i) && bytes_eq claim.digest digest && nat_le w claim.view) ≡ true → (claim.number ≡ i) × (claim.digest ≡ digest) × (w ≤ claim.view)
+    each claim t =
+        let p = and_parts ((claim.number == i) && bytes_eq claim.digest digest) (nat_le w claim.view) t in
+        let q = and_parts (claim.number == i) (bytes_eq claim.digest digest) p.0 in
+        (eqb-true claim.number i q.0, (bytes_eq-Decides claim.digest digest).0 q.1, leb-true w claim.view p.1)
+
+says_nothing : (i : ℕ) (vc : ViewChange) → (nat_lt vc.low i && list_all (λ (claim : Claim). not (claim.number == i)) vc.prepared) ≡ true → SaysNothing i vc
+says_nothing i vc h =
+    let p = and_parts (nat_lt vc.low i) (list_all (λ (claim : Claim). not (claim.number == i)) vc.prepared) h in (
+      ltb-true vc.low i p.0,
+      λ has.
+          let x = has_some (λ (claim : Claim). claim.number ≡ i) vc.prepared has in
+          let other = every_has (λ (claim : Claim). not (claim.number == i)) vc.prepared x.0 p.1 x.1 in
+          let here = eq-eqb x.0.number i x.2 in
+          absurd (let f : not true ≡ true = subst (λ (b : Bool). not b ≡ true) here other in cc),
+    )
 
 pub takes_well_selected : TakesWellSelected
 takes_well_selected c past e new h = record {
-  enough = leb-true (2 * c.faults + 1) (count_in c (λ vc. true) (changes_of c new)) s.enough;
+  enough = has_from c new (2 * c.faults + 1) (λ vc. true) (λ vc. ⊤) (λ vc t. tt) (leb-true (2 * c.faults + 1) (count_in c (λ vc. true) (changes_of c new)) s.enough);
   of_its_view = λ who vc has.
       let t = every_has (λ (x : ℕ × ViewChange). (x.1.view == new.view) && is_within c x.1) (changes_of c new) (who, vc) s.each has in
       eqb-true vc.view new.view (and_parts (vc.view == new.view) (is_within c vc) t).0;
-  filled = eqb-true (length new.batches) (how_many c new) s.long;
+  filled = λ who vc claim has prepared within.
+      let n = eqb-true (length new.batches) (how_many c new) s.long in
+      let r = largest_of-has (new.start + span c) claim.number who (changes_of c new) vc has (has_number vc claim prepared) within in
+      omega arith;
   vouched = vouched;
 }
   where
     s : Selects c new
     s = selects c new (selected_in c e new (takes c 0 past e new h).brought)
 
+    has_number : (vc : ViewChange) (claim : Claim) → Has (λ x. x ≡ claim) vc.prepared → Has (λ (x : Claim). x.number ≡ claim.number) vc.prepared
+    has_number vc claim h = each vc.prepared h
+      where
+        each : (xs : List Claim) → Has (λ x. x ≡ claim) xs → Has (λ (x : Claim). x.number ≡ claim.number) xs
+        each [] h = h
+        each (x ∷ xs) (inl h) = inl (ap (λ (y : Claim). y.number) h)
+        each (x ∷ xs) (inr h) = inr (each xs h)
+
     vouched : (i : ℕ) (batch : List ℕ) → slice_get new.batches (i - new.start - 1) ≡ Some batch → new.start < i
-        → ((w : ℕ) × (w < new.view) × (c.faults + 1 ≤ count_in c (vouches i w (sha256 batch)) (changes_of c new)))
-        ⊎ ((is_null batch ≡ true) × (may_be_null c (changes_of c new) i ≡ true))
+        → ((w : ℕ) × (w < new.view) × HasFrom (2 * c.faults + 1) c new (SaysNothingAgainst i w (sha256 batch)) × HasFrom (c.faults + 1) c new (SaysForIt i w (sha256 batch)))
+        ⊎ ((batch ≡ 0 ∷ []) × HasFrom (2 * c.faults + 1) c new (SaysNothing i))
     vouched i batch get above =
         let place : i ≡ suc new.start + (i - new.start - 1) = omega arith in
         by (or_cases (nat_lt 0 (count_below (may_stand_at c (changes_of c new) i (sha256 batch)) new.view)) (is_null batch && may_be_null c (changes_of c new) i)
         (stands_at c new.view (changes_of c new) (suc new.start) new.batches (i - new.start - 1) batch s.stand get i place))
       where
         by : (nat_lt 0 (count_below (may_stand_at c (changes_of c new) i (sha256 batch)) new.view) ≡ true) ⊎ ((is_null batch && may_be_null c (changes_of c new) i) ≡ true)
-            → ((w : ℕ) × (w < new.view) × (c.faults + 1 ≤ count_in c (vouches i w (sha256 batch)) (changes_of c new)))
-            ⊎ ((is_null batch ≡ true) × (may_be_null c (changes_of c new) i ≡ true))
+            → ((w : ℕ) × (w < new.view) × HasFrom (2 * c.faults + 1) c new (SaysNothingAgainst i w (sha256 batch)) × HasFrom (c.faults + 1) c new (SaysForIt i w (sha256 batch)))
+            ⊎ ((batch ≡ 0 ∷ []) × HasFrom (2 * c.faults + 1) c new (SaysNothing i))
         by (inl k) =
             let x = some_below (may_stand_at c (changes_of c new) i (sha256 batch)) new.view k in
             let rules = and_parts (is_quorum c (count_in c (λ vc. nat_lt vc.low i && agrees i x.0 (sha256 batch) vc) (changes_of c new))) (is_weak_quorum c (count_in c (vouches i x.0 (sha256 batch)) (changes_of c new))) x.2 in
-            inl (x.0, x.1, leb-true (c.faults + 1) (count_in c (vouches i x.0 (sha256 batch)) (changes_of c new)) rules.1)
-        by (inr k) = let p = and_parts (is_null batch) (may_be_null c (changes_of c new) i) k in inr (p.0, p.1)
+            inl (
+              x.0,
+              x.1,
+              has_from c new (2 * c.faults + 1) (λ vc. nat_lt vc.low i && agrees i x.0 (sha256 batch) vc) (SaysNothingAgainst i x.0 (sha256 batch)) (says_nothing_against i x.0 (sha256 batch))
+                  (leb-true (2 * c.faults + 1) (count_in c (λ vc. nat_lt vc.low i && agrees i x.0 (sha256 batch) vc) (changes_of c new)) rules.0),
+              has_from c new (c.faults + 1) (vouches i x.0 (sha256 batch)) (SaysForIt i x.0 (sha256 batch)) (says_for_it i x.0 (sha256 batch))
+                  (leb-true (c.faults + 1) (count_in c (vouches i x.0 (sha256 batch)) (changes_of c new)) rules.1),
+            )
+        by (inr k) =
+            let p = and_parts (is_null batch) (may_be_null c (changes_of c new) i) k in
+            inr (
+              (bytes_eq-Decides batch (0 ∷ [])).0 p.0,
+              has_from c new (2 * c.faults + 1) (λ vc. nat_lt vc.low i && list_all (λ (claim : Claim). not (claim.number == i)) vc.prepared) (SaysNothing i) (says_nothing i)
+                  (leb-true (2 * c.faults + 1) (count_in c (λ vc. nat_lt vc.low i && list_all (λ (claim : Claim). not (claim.number == i)) vc.prepared) (changes_of c new)) p.1),
+            )
 
 pub takes_no_lower : TakesNoLower
-takes_no_lower c past e new h =
+takes_no_lower c me past e new vc h changed =
     let r = and_then_some (λ (x : NewView). give_if (is_later (view c past) (target past) x) x) (new_view_in c e) new h in
     let g = give_if_some (is_later (view c past) (target past) r.0) r.0 new r.2 in
     let t : is_later (view c past) (target past) new ≡ true = subst (λ (x : NewView). is_later (view c past) (target past) x ≡ true) g.1 g.0 in
     let p = and_parts (nat_lt (view c past) new.view) (nat_le (target past) new.view) t in
-    (leb-true (target past) new.view p.1, ltb-true (view c past) new.view p.0)
+    let a = leb-true (target past) new.view p.1 in
+    let b = above_target me vc past changed in
+    omega arith
 
 -- ---- requests
 
@@ -207,7 +469,34 @@ runs_once st m n call small new = go (runs st call) new
 
 -- ---- clients
 
+own_parties : (c : Configuration) (me : ℕ) (xs : List Entry) → SafeClient c me xs → Always (λ past e. party_of e ≡ me) xs
+own_parties c me [] r = tt
+own_parties c me (e ∷ xs) r = (r.0.0, own_parties c me xs r.1)
+
 pub accepts_at_quorum : AcceptsAtQuorum
 accepts_at_quorum c me k timestamp answer past right =
     let m = right.0.1 in
-    (m.1, m.5, m.4, subst (λ (t : ℕ). is_complete c me past t m.1 ≡ true) m.3 m.6)
+    let full = leb-true (2 * c.faults + 1) (count_alike c me past m.0.timestamp m.1) m.6 in
+    let enough = subst (λ (t : ℕ). 2 * c.faults + 1 ≤ count_alike c me past t m.1) m.3 full in (
+      mode_of m.1.read_only,
+      m.1.number,
+      λ s. is_alike m.1 (latest c me past timestamp m.1.read_only s),
+      enough,
+      λ s h. answers s m.1 m.4 m.1.read_only (latest c me past timestamp m.1.read_only s) refl h,
+    )
+  where
+    own : Always (λ past e. party_of e ≡ me) past
+    own = own_parties c me past right.1
+
+    hears : (s : ℕ) (kind : Bool) (v : Vote) → latest c me past timestamp kind s ≡ Some v → Once (Hears c me (record { sender = s; message = Reply me timestamp (mode_of kind) v.number v.answer })) past
+    hears s true v is = latest_heard c me timestamp s v past own is
+    hears s false v is = latest_ordered c me timestamp s v past own is
+
+    answers : (s : ℕ) (vote : Vote) → vote.answer ≡ answer → (kind : Bool) (o : Option Vote) → latest c me past timestamp kind s ≡ o → is_alike vote o ≡ true
+        → (other : Outcome) × (outcome_spelling other ≡ outcome_spelling answer) × Once (Hears c me (record { sender = s; message = Reply me timestamp (mode_of kind) vote.number other })) past
+    answers s vote same kind None is h = absurd cc
+    answers s vote same kind (Some v) is h =
+        let q = and_parts (v.number == vote.number) (bytes_eq (outcome_spelling v.answer) (outcome_spelling vote.answer)) h in
+        let n : v.number ≡ vote.number = eqb-true v.number vote.number q.0 in
+        let spelled = (bytes_eq-Decides (outcome_spelling v.answer) (outcome_spelling vote.answer)).0 q.1 in
+        (v.answer, spelled ∙ ap outcome_spelling same, subst (λ (i : ℕ). Once (Hears c me (record { sender = s; message = Reply me timestamp (mode_of kind) i v.answer })) past) n (hears s kind v is))

@@ -20,7 +20,8 @@ use Rattle.protocol.specs.Linear.{last_executed, reached, count_correct, has_rea
 use Rattle.protocol.proofs.Temporal.{once_weaker}
 use Rattle.protocol.proofs.Options.{given_once, give_if_some}
 use Rattle.protocol.proofs.Executing.{executed_agree}
-use Rattle.protocol.proofs.States.{IsStateOf, number_after, states_agree}
+use Rattle.protocol.specs.Laws.{IsStateOf}
+use Rattle.protocol.proofs.States.{number_after, states_agree}
 use Rattle.protocol.proofs.Levels.{many_correct, reached_history, number_reached}
 use Rattle.protocol.proofs.Reading.{Runs, runs_earlier}
 
@@ -37,21 +38,23 @@ executed_later c e xs first [] h = tt
 executed_later c e xs first (x ∷ batches) h = (inr h.0, executed_later c e xs (first + 1) batches h.1)
 
 holds_later : (c : Configuration) (e : Entry) (xs : List Entry) (page : ℕ → List ℕ) → Holds c xs page → Holds c (e ∷ xs) page
-holds_later c e xs page h = go (party_of e == h.replica) refl
+holds_later c e xs page h = go (party_of e == h.at.replica) refl
   where
-    splits : (b : Bool) → (party_of e == h.replica) ≡ b → cond b (e ∷ history_of h.replica xs) (history_of h.replica xs) ≡ cond b (e ∷ h.later) h.later ++ h.past
-    splits true is = ap (λ t. e ∷ t) h.splits
-    splits false is = h.splits
+    splits : (b : Bool) → (party_of e == h.at.replica) ≡ b → cond b (e ∷ history_of h.at.replica xs) (history_of h.at.replica xs) ≡ cond b (e ∷ h.at.later) h.at.later ++ h.at.past
+    splits true is = ap (λ t. e ∷ t) h.at.splits
+    splits false is = h.at.splits
 
-    go : (b : Bool) → (party_of e == h.replica) ≡ b → Holds c (e ∷ xs) page
+    go : (b : Bool) → (party_of e == h.at.replica) ≡ b → Holds c (e ∷ xs) page
     go b is = record {
-      replica = h.replica;
-      later = cond (party_of e == h.replica) (e ∷ h.later) h.later;
-      past = h.past;
-      is_correct = h.is_correct;
-      splits = splits (party_of e == h.replica) refl;
-      point = h.point;
-      leaves = h.leaves;
+      at = record {
+        replica = h.at.replica;
+        later = cond (party_of e == h.at.replica) (e ∷ h.at.later) h.at.later;
+        past = h.at.past;
+        is_correct = h.at.is_correct;
+        splits = splits (party_of e == h.at.replica) refl;
+        point = h.at.point;
+        leaves = h.at.leaves;
+      };
       each = h.each;
     }
 

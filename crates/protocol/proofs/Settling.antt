@@ -3,11 +3,11 @@ use Rattle.std.proofs.Common.{◌≡◌, ℕ, ◌≤◌, ◌<◌, ◌⊎◌, inl
 use Rattle.std.specs.Prelude.{option_and_then}
 use Rattle.sha2.specs.Sha256.{sha256}
 use Rattle.protocol.specs.Configuration.{Configuration, is_correct_replica}
-use Rattle.protocol.specs.Wire.{NewView}
+use Rattle.wire.specs.Messages.{NewViewData as NewView}
 use Rattle.protocol.specs.Trace.{Entry, history_of, Once, Always}
 use Rattle.quorum.specs.Votes.{or_else}
 use Rattle.protocol.specs.Certificates.{begun_proposal, entry_proposal, view, view_after, new_view_in, target, low, is_in_marks, logged, proposal, taken, batch_begun, is_later}
-use Rattle.protocol.specs.Laws.{AreReplicasRight, Takes, HasOrStartsAbove}
+use Rattle.protocol.specs.Laws.{AreReplicasSafe, Takes, HasOrStartsAbove}
 use Rattle.protocol.proofs.Options.{and_then_some, some_injective, or_else_cases}
 use Rattle.protocol.proofs.Voting.{RightAt, right_always, logged_stays}
 use Rattle.protocol.proofs.Marks.{low_grows, takes, proposes}
@@ -127,7 +127,7 @@ logged_settled c trace i d u s settled some correct (e ∷ past) emb right b h =
             (reaches_placed c trace i d u s settled correct past (λ R x. emb R (inr x)) right.1
             (reached c u past (entry_within c s u i b past e right.0 m).0 some))
 
-pub settled_logged : (c : Configuration) (trace : List Entry) (i : ℕ) (d : List ℕ) (u s : ℕ) → AreReplicasRight c trace → Settled c trace i d u → 0 < u → is_correct_replica c s ≡ true
+pub settled_logged : (c : Configuration) (trace : List Entry) (i : ℕ) (d : List ℕ) (u s : ℕ) → AreReplicasSafe c trace → Settled c trace i d u → 0 < u → is_correct_replica c s ≡ true
     → (b : List ℕ) → logged c s (history_of s trace) u i ≡ Some b → sha256 b ≡ d
 settled_logged c trace i d u s right settled some correct b h =
     let r = right s correct in

@@ -2,21 +2,20 @@
 use Rattle.std.proofs.Common.{◌≡◌, ℕ, inl, inr, Bool, true, false, cond, List, [], ◌∷◌, ◌++◌, map, Option, Some, None, refl, sym, ap, ap₂, ◌∙◌, subst, eqb-true}
 use Rattle.std.specs.Prelude.{◌==◌, ⊤}
 use Rattle.protocol.specs.Configuration.{Configuration, is_correct, is_correct_replica}
-use Rattle.protocol.specs.Wire.{Body, Message, NewView, ViewChange, said, carried, requests_of_all}
-use Rattle.protocol.specs.Wire.Message.{Change, Begin}
-use Rattle.protocol.specs.Keys.{heard, signed_body}
-use Rattle.protocol.specs.Trace.{Entry, party_of, history_of, Once, Always, SendsText, IsFromSender, IsUnforgedAt, Unforged, frames_in, carried_by, Each, Has}
+use Rattle.wire.specs.Messages.{BodyData as Body, MessageData as Message, NewViewData as NewView, ViewChangeData as ViewChange, view_change as Change, new_view as Begin}
+use Rattle.wire.specs.Words.{carried, requests_of_all}
+use Rattle.protocol.specs.Frames.{said, heard, signed_body}
+use Rattle.protocol.specs.Trace.{Entry, party_of, history_of, Once, Always, SendsBody, IsFromSender, IsUnforgedAt, Unforged, frames_in, carried_by, Each, Has}
 use Rattle.protocol.specs.Trace.Entry.{Invoke, Got, Tick, Executed, Installed, Sent, Accepted}
 use Rattle.protocol.specs.Certificates.{new_view_in, new_view_from, taken}
 use Rattle.protocol.specs.Selection.{changes_of, signed_change, change_in, change_by, list_of}
 use Rattle.protocol.specs.RightReplica.{HasSeen}
-use Rattle.protocol.specs.Laws.{AreReplicasRight, Takes}
+use Rattle.protocol.specs.Laws.{AreReplicasSafe, Takes}
 use Rattle.protocol.proofs.Temporal.{once_weaker, once_in_history, always_sees, always_in_history}
 use Rattle.protocol.proofs.Options.{and_then_some, some_injective}
-use Rattle.protocol.proofs.Linking.{Speaks, heard_parts, same_text}
+use Rattle.protocol.proofs.Linking.{Speaks, signed_heard, heard_said, sent_spoken}
 use Rattle.protocol.proofs.Voting.{RightAt, right_always, correct_replica, speaks_as_itself}
 use Rattle.protocol.proofs.Marks.{takes, begins}
-use Rattle.protocol.proofs.Signatures.{signed_heard}
 
 -- ---- words on lists
 
@@ -48,13 +47,12 @@ gots_said c trace q unforged correct =
     step past (Got p whole) u emb own = λ bytes has body signed from.
         let mine : is_correct c p ≡ true = rw own correct in
         let hears : heard c p bytes ≡ Some body = signed_heard c bytes body signed p in
-        let parts = heard_parts c p bytes body hears in
         let frames : Each (IsFromSender c p past) (frames_in whole) = u mine in
         let one : IsFromSender c p past bytes = each_has (IsFromSender c p past) (frames_in whole) bytes frames has in
-        let sends = one body parts.0 parts.1 hears (correct_replica c body.sender from) in
+        let sends = one body hears (correct_replica c body.sender from) in
         once_in_history (Speaks body) body.sender trace
-        (once_weaker (SendsText body.sender parts.0.text) (λ past e. (party_of e ≡ body.sender) × Speaks body (history_of body.sender past) e)
-        (same_text body.sender parts.0 body parts.2) trace (emb (SendsText body.sender parts.0.text) sends))
+        (once_weaker (SendsBody body) (λ past e. (party_of e ≡ body.sender) × Speaks body (history_of body.sender past) e)
+        (sent_spoken body) trace (emb (SendsBody body) sends))
     step past (Invoke x y z) u emb own = tt
     step past (Tick x) u emb own = tt
     step past (Executed x y z) u emb own = tt
@@ -69,8 +67,7 @@ seen_was_said c trace q (e ∷ past) emb right gots bytes (inr h) = seen_was_sai
 seen_was_said c trace q (Got p whole ∷ past) emb right gots bytes (inl h) = gots.0 bytes h
 seen_was_said c trace q (Sent p whole ∷ past) emb right gots bytes (inl (inl is)) = λ body signed from.
     let hears = signed_heard c bytes body signed 0 in
-    let parts = heard_parts c 0 bytes body hears in
-    let says : said bytes ≡ Some body = rw parts.1 parts.2 in
+    let says : said bytes ≡ Some body = heard_said c 0 bytes body hears in
     let here : said whole ≡ Some body = rw is says in
     let mine : body.sender ≡ q = speaks_as_itself c q body past (Sent p whole) right.0 here in
     subst (λ (x : ℕ). Once (Speaks body) (history_of x trace)) (sym mine) (emb (Speaks body) (inl here))
@@ -119,7 +116,6 @@ change_frame c (frame ∷ frames) s vc h = go (signed_change c frame) refl h (ch
 
 begin_seen : (new : NewView) (bytes : List ℕ) (whole : List ℕ) (body : Body) → said whole ≡ Some body → body.message ≡ Begin new → Has (λ x. x ≡ bytes) new.changes
     → Has (λ x. x ≡ bytes) (carried_by whole)
-unfolding carried
 begin_seen new bytes whole body is message h = rw is (rw message (has_append new.changes (requests_of_all new.batches) bytes h))
 
 taken_seen : (c : Configuration) (new : NewView) (bytes : List ℕ) → Has (λ x. x ≡ bytes) new.changes → (past : List Entry) (e : Entry) → Takes c new past e → HasSeen bytes past e
@@ -128,8 +124,7 @@ taken_seen c new bytes h past e t = go e (takes c 0 past e new t).brought
     go : (e : Entry) → new_view_in c e ≡ Some new → HasSeen bytes past e
     go (Got p whole) b =
         let r = and_then_some (new_view_from c) (signed_body c whole) new b in
-        let parts = heard_parts c p whole r.0 (signed_heard c whole r.0 r.1 p) in
-        let is : said whole ≡ Some r.0 = rw parts.1 parts.2 in
+        let is : said whole ≡ Some r.0 = heard_said c p whole r.0 (signed_heard c whole r.0 r.1 p) in
         inr (begin_seen new bytes whole r.0 is (begins c r.0 new r.2).message_is h)
     go (Sent p whole) b =
         let r = and_then_some (new_view_from c) (said whole) new b in
@@ -141,7 +136,7 @@ taken_seen c new bytes h past e t = go e (takes c 0 past e new t).brought
     go (Accepted x y z) b = absurd cc
 
 -- the view change of a correct replica that stands in a taken new view was sent by it
-pub change_was_said : (c : Configuration) (trace : List Entry) (q s : ℕ) (new : NewView) (vc : ViewChange) → AreReplicasRight c trace → Unforged c trace
+pub change_was_said : (c : Configuration) (trace : List Entry) (q s : ℕ) (new : NewView) (vc : ViewChange) → AreReplicasSafe c trace → Unforged c trace
     → is_correct_replica c q ≡ true → is_correct_replica c s ≡ true → Once (Takes c new) (history_of q trace) → change_by (changes_of c new) s ≡ Some vc
     → Once (Speaks (changing s vc)) (history_of s trace)
 change_was_said c trace q s new vc right unforged correct from taken is =

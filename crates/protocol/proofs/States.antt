@@ -7,21 +7,20 @@ use mathlib.Core.List.{reverse_aux}
 use Rattle.quorum.proofs.Counting.{some_more, count_members}
 use Rattle.quorum.specs.Quorum.{count_below}
 use Rattle.protocol.specs.Configuration.{Configuration, IsConfiguration, is_replica, is_faulty_replica, is_correct_replica, is_number}
-use Rattle.protocol.specs.Wire.{Body, Message, Mark, NewView, ViewChange}
-use Rattle.protocol.specs.Wire.Message.{Checkpoint, Page}
+use Rattle.wire.specs.Messages.{BodyData as Body, MessageData as Message, MarkData as Mark, NewViewData as NewView, ViewChangeData as ViewChange, checkpoint as Checkpoint, page as Page}
 use Rattle.protocol.specs.Trace.{Entry, party_of, history_of, Once, Always, Unforged, IsUnforgedAt, Has}
 use Rattle.protocol.specs.Trace.Entry.{Invoke, Got, Tick, Executed, Installed, Sent, Accepted}
-use Rattle.protocol.specs.Certificates.{checkpoint_from, checkpoint_in, insert_mark, with_mark, marks_of, has_mark, count_marks, brought}
+use Rattle.protocol.specs.Certificates.{checkpoint_from, checkpoint_in, insert_checkpoint, with_checkpoint, checkpoints_of, says_checkpoint, count_checkpoints, brought}
 use Rattle.protocol.specs.Selection.{is_quorum, changes_of, passes_by, count_in, may_select}
 use Rattle.std.specs.List.{list_any}
 use Rattle.protocol.specs.State.{State, IsState, opening, execute, after_batches, page_text, root_of}
-use Rattle.protocol.specs.RightReplica.{Point, start, Leaves, RightReplica, May, MaySay, MayCheckpoint, MayInstall, Moves, GetsPage, StartsAt, kept_states, mark_of, waiting_after, HadQuorum, executed_point}
+use Rattle.protocol.specs.RightReplica.{Point, first_point, Leaves, SafeReplica, May, MaySay, MayCheckpoint, MayInstall, Moves, GetsPage, StartsAt, kept_states, checkpoint_of, waiting_after, HadQuorum, executed_point}
 use Rattle.protocol.specs.Texts.{NoCollision, IsText, Holds, HasPart, AreExecuted, ExecutesBatch}
 use Rattle.protocol.specs.Texts.IsText.{part, held, page_of, under}
-use Rattle.protocol.specs.Laws.{AreReplicasRight, Takes, IsRootOf, Installs}
+use Rattle.protocol.specs.Laws.{AreReplicasSafe, Takes, IsRootOf, IsStateOf, Installs, Had}
 use Rattle.protocol.proofs.Temporal.{once_weaker, once_always, once_stays, once_in_trace}
 use Rattle.protocol.proofs.Options.{and_then_some, give_if_some, some_injective}
-use Rattle.protocol.proofs.Linking.{Speaks, heard_parts}
+use Rattle.protocol.proofs.Linking.{Speaks, heard_said}
 use Rattle.protocol.proofs.Voting.{RightAt, right_always, once_right, Brings, brought_was_said}
 use Rattle.protocol.proofs.Signed.{changing, change_was_said}
 use Rattle.protocol.proofs.Lists.{has_some, some_of_has, passes_change}
@@ -35,11 +34,6 @@ use Rattle.protocol.proofs.Executing.{executor, executed_committed}
 use Rattle.protocol.proofs.Changes.{NewChangeAt, change_is_new, logged_within}
 
 -- ---- states of executed batches
-
-pub record IsStateOf (c : Configuration) (trace : List Entry) (st : State) : Type 0 where
-  pub batches : List (List ℕ)
-  pub executed : AreExecuted c trace 1 batches
-  pub is : st ≡ after_batches c opening batches
 
 pub number_after : (c : Configuration) (st : State) (batches : List (List ℕ)) → (after_batches c st batches).number ≡ st.number + length batches
 unfolding execute
@@ -62,20 +56,20 @@ executed_append c trace first (x ∷ batches) batch k is a h =
 abbrev pub checking : ℕ → ℕ → List ℕ → Body
 checking s k root = record { sender = s; message = Checkpoint k root }
 
-has_take : (mark : Mark) (n : ℕ) (marks : List Mark) → has_mark mark (take n marks) ≡ true → has_mark mark marks ≡ true
+has_take : (mark : Mark) (n : ℕ) (marks : List Mark) → says_checkpoint mark (take n marks) ≡ true → says_checkpoint mark marks ≡ true
 has_take mark zero [] h = h
 has_take mark zero (m ∷ marks) h = absurd cc
 has_take mark (suc n) [] h = h
 has_take mark (suc n) (m ∷ marks) h = go ((m.number == mark.number) && bytes_eq m.digest mark.digest) h (has_take mark n marks)
   where
-    go : (b : Bool) → (b || has_mark mark (take n marks)) ≡ true → (has_mark mark (take n marks) ≡ true → has_mark mark marks ≡ true) → (b || has_mark mark marks) ≡ true
+    go : (b : Bool) → (b || says_checkpoint mark (take n marks)) ≡ true → (says_checkpoint mark (take n marks) ≡ true → says_checkpoint mark marks ≡ true) → (b || says_checkpoint mark marks) ≡ true
     go true k below = refl
     go false k below = below k
 
 abbrev pub is_mark : Mark → Mark → Bool
 is_mark mark m = (m.number == mark.number) && bytes_eq m.digest mark.digest
 
-has_insert : (mark new : Mark) (marks : List Mark) → has_mark mark (insert_mark new marks) ≡ true → (is_mark mark new ≡ true) ⊎ (has_mark mark marks ≡ true)
+has_insert : (mark new : Mark) (marks : List Mark) → says_checkpoint mark (insert_checkpoint new marks) ≡ true → (is_mark mark new ≡ true) ⊎ (says_checkpoint mark marks ≡ true)
 has_insert mark new [] h = go (is_mark mark new) h
   where
     go : (b : Bool) → (b || false) ≡ true → (b ≡ true) ⊎ (false ≡ true)
@@ -83,26 +77,26 @@ has_insert mark new [] h = go (is_mark mark new) h
     go false k = inr k
 has_insert mark new (m ∷ marks) h = go (m.number == new.number) (nat_lt m.number new.number) h (has_insert mark new marks)
   where
-    keep : (x : Bool) → (x || has_mark mark (insert_mark new marks)) ≡ true → (has_mark mark (insert_mark new marks) ≡ true → (is_mark mark new ≡ true) ⊎ (has_mark mark marks ≡ true))
-        → (is_mark mark new ≡ true) ⊎ ((x || has_mark mark marks) ≡ true)
+    keep : (x : Bool) → (x || says_checkpoint mark (insert_checkpoint new marks)) ≡ true → (says_checkpoint mark (insert_checkpoint new marks) ≡ true → (is_mark mark new ≡ true) ⊎ (says_checkpoint mark marks ≡ true))
+        → (is_mark mark new ≡ true) ⊎ ((x || says_checkpoint mark marks) ≡ true)
     keep true k below = inr refl
     keep false k below = below k
 
-    go : (a b : Bool) → has_mark mark (cond a (m ∷ marks) (cond b (new ∷ m ∷ marks) (m ∷ insert_mark new marks))) ≡ true
-        → (has_mark mark (insert_mark new marks) ≡ true → (is_mark mark new ≡ true) ⊎ (has_mark mark marks ≡ true))
-        → (is_mark mark new ≡ true) ⊎ (has_mark mark (m ∷ marks) ≡ true)
+    go : (a b : Bool) → says_checkpoint mark (cond a (m ∷ marks) (cond b (new ∷ m ∷ marks) (m ∷ insert_checkpoint new marks))) ≡ true
+        → (says_checkpoint mark (insert_checkpoint new marks) ≡ true → (is_mark mark new ≡ true) ⊎ (says_checkpoint mark marks ≡ true))
+        → (is_mark mark new ≡ true) ⊎ (says_checkpoint mark (m ∷ marks) ≡ true)
     go true b k below = inr k
-    go false true k below = or_cases (is_mark mark new) (has_mark mark (m ∷ marks)) k
+    go false true k below = or_cases (is_mark mark new) (says_checkpoint mark (m ∷ marks)) k
     go false false k below = keep (is_mark mark m) k below
 
-marks_source : (c : Configuration) (s : ℕ) (mark : Mark) (xs : List Entry) → has_mark mark (marks_of c xs s) ≡ true
+marks_source : (c : Configuration) (s : ℕ) (mark : Mark) (xs : List Entry) → says_checkpoint mark (checkpoints_of c xs s) ≡ true
     → Once (λ past e. (m : Mark) × (checkpoint_in c e ≡ Some (s, m)) × (is_mark mark m ≡ true)) xs
-unfolding marks_of
+unfolding checkpoints_of
 marks_source c s mark [] h = absurd cc
 marks_source c s mark (e ∷ past) h = go (checkpoint_in c e) refl h (marks_source c s mark past)
   where
-    go : (o : Option (ℕ × Mark)) → checkpoint_in c e ≡ o → has_mark mark (with_mark s o (marks_of c past s)) ≡ true
-        → (has_mark mark (marks_of c past s) ≡ true → Once (λ past e. (m : Mark) × (checkpoint_in c e ≡ Some (s, m)) × (is_mark mark m ≡ true)) past)
+    go : (o : Option (ℕ × Mark)) → checkpoint_in c e ≡ o → says_checkpoint mark (with_checkpoint s o (checkpoints_of c past s)) ≡ true
+        → (says_checkpoint mark (checkpoints_of c past s) ≡ true → Once (λ past e. (m : Mark) × (checkpoint_in c e ≡ Some (s, m)) × (is_mark mark m ≡ true)) past)
         → Once (λ past e. (m : Mark) × (checkpoint_in c e ≡ Some (s, m)) × (is_mark mark m ≡ true)) (e ∷ past)
     go None is k below = inr (below k)
     go (Some x) is k below = from (x.0 == s) refl k
@@ -110,13 +104,13 @@ marks_source c s mark (e ∷ past) h = go (checkpoint_in c e) refl h (marks_sour
         here : x.0 ≡ s → checkpoint_in c e ≡ Some (s, x.1)
         here own = is ∙ ap (λ (t : ℕ). Some (let p : ℕ × Mark = (t, x.1) in p)) own
 
-        pick : x.0 ≡ s → (is_mark mark x.1 ≡ true) ⊎ (has_mark mark (marks_of c past s) ≡ true) → Once (λ past e. (m : Mark) × (checkpoint_in c e ≡ Some (s, m)) × (is_mark mark m ≡ true)) (e ∷ past)
+        pick : x.0 ≡ s → (is_mark mark x.1 ≡ true) ⊎ (says_checkpoint mark (checkpoints_of c past s) ≡ true) → Once (λ past e. (m : Mark) × (checkpoint_in c e ≡ Some (s, m)) × (is_mark mark m ≡ true)) (e ∷ past)
         pick own (inl y) = inl (x.1, here own, y)
         pick own (inr y) = inr (below y)
 
-        from : (b : Bool) → (x.0 == s) ≡ b → has_mark mark (cond b (take 3 (insert_mark x.1 (marks_of c past s))) (marks_of c past s)) ≡ true
+        from : (b : Bool) → (x.0 == s) ≡ b → says_checkpoint mark (cond b (take 3 (insert_checkpoint x.1 (checkpoints_of c past s))) (checkpoints_of c past s)) ≡ true
             → Once (λ past e. (m : Mark) × (checkpoint_in c e ≡ Some (s, m)) × (is_mark mark m ≡ true)) (e ∷ past)
-        from true own k = pick (eqb-true x.0 s own) (has_insert mark x.1 (marks_of c past s) (has_take mark 3 (insert_mark x.1 (marks_of c past s)) k))
+        from true own k = pick (eqb-true x.0 s own) (has_insert mark x.1 (checkpoints_of c past s) (has_take mark 3 (insert_checkpoint x.1 (checkpoints_of c past s)) k))
         from false own k = inr (below k)
 
 checkpoint_body : (s : ℕ) (mark m : Mark) (sender : ℕ) (message : Message) → checkpoint_from (record { sender = sender; message = message }) ≡ Some (s, m) → is_mark mark m ≡ true
@@ -185,12 +179,12 @@ pub always_append : (R : List Entry → Entry → Type 0) (pre xs : List Entry) 
 always_append R [] xs h = h
 always_append R (e ∷ pre) xs h = always_append R pre xs h.1
 
-pub right_append : (c : Configuration) (p : ℕ) (pre xs : List Entry) → RightReplica c p (history_of p (pre ++ xs)) → RightReplica c p (history_of p xs)
+pub right_append : (c : Configuration) (p : ℕ) (pre xs : List Entry) → SafeReplica c p (history_of p (pre ++ xs)) → SafeReplica c p (history_of p xs)
 right_append c p [] xs h = h
 right_append c p (e ∷ pre) xs h = go (party_of e == p) h (right_append c p pre xs)
   where
-    go : (b : Bool) → RightReplica c p (cond b (e ∷ history_of p (pre ++ xs)) (history_of p (pre ++ xs))) → (RightReplica c p (history_of p (pre ++ xs)) → RightReplica c p (history_of p xs))
-        → RightReplica c p (history_of p xs)
+    go : (b : Bool) → SafeReplica c p (cond b (e ∷ history_of p (pre ++ xs)) (history_of p (pre ++ xs))) → (SafeReplica c p (history_of p (pre ++ xs)) → SafeReplica c p (history_of p xs))
+        → SafeReplica c p (history_of p xs)
     go true r below = below (r.1.0, r.1.1)
     go false r below = below r
 
@@ -216,7 +210,11 @@ GoodHere c trace r past = (point : Point) → Leaves c r past point → Good c t
 abbrev pub GoodAll : Configuration → List Entry → ℕ → List Entry → Type 0
 GoodAll c trace r history = GoodHere c trace r history × Always (λ past e. GoodHere c trace r past) history
 
-good_start : (c : Configuration) (trace : List Entry) (point : Point) → point ≡ start → Good c trace point
+good_behind : (c : Configuration) (trace : List Entry) (r : ℕ) (later past : List Entry) → GoodAll c trace r (later ++ past) → GoodAll c trace r past
+good_behind c trace r [] past h = h
+good_behind c trace r (e ∷ later) past h = good_behind c trace r later past h.1
+
+good_start : (c : Configuration) (trace : List Entry) (point : Point) → point ≡ first_point → Good c trace point
 good_start c trace point is = subst (Good c trace) (sym is) (record { state = first; snapshots = each })
   where
     first : IsStateOf c trace opening
@@ -253,7 +251,7 @@ says_known c trace s k root past (Installed x y z) r good h = absurd h
 says_known c trace s k root past (Accepted x y z) r good h = absurd h
 
 -- what a correct replica's checkpoint says is known
-checkpoint_known : (c : Configuration) (trace ys : List Entry) (s k : ℕ) (root : List ℕ) → RightReplica c s (history_of s ys) → GoodAll c trace s (history_of s ys)
+checkpoint_known : (c : Configuration) (trace ys : List Entry) (s k : ℕ) (root : List ℕ) → SafeReplica c s (history_of s ys) → GoodAll c trace s (history_of s ys)
     → Once (Speaks (checking s k root)) (history_of s ys) → Known c trace k root
 checkpoint_known c trace ys s k root right good h =
     once_stays (λ past. Known c trace k root) (λ e past x. x) (history_of s ys)
@@ -263,7 +261,7 @@ checkpoint_known c trace ys s k root right good h =
     (once_right c s (Speaks (checking s k root)) (history_of s ys) right h)))
 
 -- what a correct replica's view change lists as a checkpoint is known
-change_known : (c : Configuration) (trace ys : List Entry) (s k : ℕ) (root : List ℕ) (vc : ViewChange) → RightReplica c s (history_of s ys) → GoodAll c trace s (history_of s ys)
+change_known : (c : Configuration) (trace ys : List Entry) (s k : ℕ) (root : List ℕ) (vc : ViewChange) → SafeReplica c s (history_of s ys) → GoodAll c trace s (history_of s ys)
     → Once (Speaks (changing s vc)) (history_of s ys) → Has (λ (mark : Mark). (mark.number ≡ k) × (mark.digest ≡ root)) vc.checkpoints → Known c trace k root
 change_known c trace ys s k root vc right good h has =
     once_stays (λ past. Known c trace k root) (λ e past x. x) (history_of s ys)
@@ -274,9 +272,9 @@ change_known c trace ys s k root vc right good h has =
   where
     step : (past : List Entry) (e : Entry) → GoodHere c trace s past × NewChangeAt c s vc past e × Always (λ past e. GoodHere c trace s past) past → Known c trace k root
     step past e t =
-        let listed : Has (λ (mark : Mark). (mark.number ≡ k) × (mark.digest ≡ root)) (map mark_of (reverse (kept_states vc.low t.1.point.snapshots))) =
+        let listed : Has (λ (mark : Mark). (mark.number ≡ k) × (mark.digest ≡ root)) (map checkpoint_of (reverse (kept_states vc.low t.1.point.snapshots))) =
         subst (λ (marks : List Mark). Has (λ (mark : Mark). (mark.number ≡ k) × (mark.digest ≡ root)) marks) t.1.is_new.checkpoints has in
-        let kept = has_map (λ (mark : Mark). (mark.number ≡ k) × (mark.digest ≡ root)) mark_of (reverse (kept_states vc.low t.1.point.snapshots)) listed in
+        let kept = has_map (λ (mark : Mark). (mark.number ≡ k) × (mark.digest ≡ root)) checkpoint_of (reverse (kept_states vc.low t.1.point.snapshots)) listed in
         let states : Has (λ (st : State). (st.number ≡ k) × (root_of st ≡ root)) (kept_states vc.low t.1.point.snapshots) =
         has_reverse (λ (st : State). (st.number ≡ k) × (root_of st ≡ root)) (kept_states vc.low t.1.point.snapshots) kept in
         known_snapshot c trace k root t.1.point (t.0 t.1.point t.1.leaves)
@@ -296,16 +294,16 @@ correct_of c setting test enough =
     let s = some_more test (is_faulty_replica c) (3 * c.faults + 1) more in
     (s.0, and_from (is_replica c s.0) (not (is_faulty_replica c s.0)) (lt-ltb s.0 (3 * c.faults + 1) s.1) (not_from_false (is_faulty_replica c s.0) s.2), s.3)
 
-module _ (c : Configuration) (setting : IsConfiguration c) (trace ys : List Entry) (right : AreReplicasRight c ys) (unforged : Unforged c ys)
+module _ (c : Configuration) (setting : IsConfiguration c) (trace ys : List Entry) (right : AreReplicasSafe c ys) (unforged : Unforged c ys)
     (good : (s : ℕ) → is_correct_replica c s ≡ true → GoodAll c trace s (history_of s ys)) (r : ℕ) (correct : is_correct_replica c r ≡ true) (k : ℕ) (root : List ℕ) where
   Shows : ℕ → List Entry → Entry → Type 0
   Shows s past e = (m : Mark) × (checkpoint_in c e ≡ Some (s, m)) × (is_mark (record { number = k; digest = root }) m ≡ true)
 
-  by_quorum : Once (λ earlier e. is_quorum c (count_marks c (e ∷ earlier) (record { number = k; digest = root })) ≡ true) (history_of r ys) → Known c trace k root
+  by_quorum : Once (λ earlier e. is_quorum c (count_checkpoints c (e ∷ earlier) (record { number = k; digest = root })) ≡ true) (history_of r ys) → Known c trace k root
   unfolding Shows
   by_quorum h =
       let found : Once (λ past e. (s : ℕ) × Once (Shows s) (e ∷ past) × (is_correct_replica c s ≡ true)) (history_of r ys) =
-      once_weaker (λ earlier e. is_quorum c (count_marks c (e ∷ earlier) (record { number = k; digest = root })) ≡ true)
+      once_weaker (λ earlier e. is_quorum c (count_checkpoints c (e ∷ earlier) (record { number = k; digest = root })) ≡ true)
       (λ past e. (s : ℕ) × Once (Shows s) (e ∷ past) × (is_correct_replica c s ≡ true)) one (history_of r ys) h in
       let s = once_some (λ s past e. Once (Shows s) (e ∷ past)) (λ s. is_correct_replica c s ≡ true) (history_of r ys) found in
       let shown : Once (Shows s.0) (history_of r ys) = once_from (Shows s.0) (history_of r ys) s.1 in
@@ -316,13 +314,13 @@ module _ (c : Configuration) (setting : IsConfiguration c) (trace ys : List Entr
       let says = brought_was_said c ys r (checking s.0 k root) right unforged correct s.2 brings in
       checkpoint_known c trace ys s.0 k root (right s.0 s.2) (good s.0 s.2) says
     where
-      one : (past : List Entry) (e : Entry) → is_quorum c (count_marks c (e ∷ past) (record { number = k; digest = root })) ≡ true
+      one : (past : List Entry) (e : Entry) → is_quorum c (count_checkpoints c (e ∷ past) (record { number = k; digest = root })) ≡ true
           → (s : ℕ) × Once (λ past e. (m : Mark) × (checkpoint_in c e ≡ Some (s, m)) × (is_mark (record { number = k; digest = root }) m ≡ true)) (e ∷ past) × (is_correct_replica c s ≡ true)
       one past e q =
-          let enough : 2 * c.faults + 1 ≤ count_below (λ s. has_mark (record { number = k; digest = root }) (marks_of c (e ∷ past) s)) (3 * c.faults + 1) =
-          leb-true (2 * c.faults + 1) (count_marks c (e ∷ past) (record { number = k; digest = root })) q in
-          let more : c.faults < count_below (λ s. has_mark (record { number = k; digest = root }) (marks_of c (e ∷ past) s)) (3 * c.faults + 1) = omega arith in
-          let s = correct_of c setting (λ s. has_mark (record { number = k; digest = root }) (marks_of c (e ∷ past) s)) more in
+          let enough : 2 * c.faults + 1 ≤ count_below (λ s. says_checkpoint (record { number = k; digest = root }) (checkpoints_of c (e ∷ past) s)) (3 * c.faults + 1) =
+          leb-true (2 * c.faults + 1) (count_checkpoints c (e ∷ past) (record { number = k; digest = root })) q in
+          let more : c.faults < count_below (λ s. says_checkpoint (record { number = k; digest = root }) (checkpoints_of c (e ∷ past) s)) (3 * c.faults + 1) = omega arith in
+          let s = correct_of c setting (λ s. says_checkpoint (record { number = k; digest = root }) (checkpoints_of c (e ∷ past) s)) more in
           (s.0, marks_source c s.0 (record { number = k; digest = root }) (e ∷ past) s.2, s.1)
 
   by_new_view : Once (StartsAt c k root) (history_of r ys) → Known c trace k root
@@ -353,15 +351,14 @@ module _ (c : Configuration) (setting : IsConfiguration c) (trace ys : List Entr
   installed_known : (old : Point) → MayInstall c (history_of r ys) old k root → Known c trace k root
   installed_known old may = go may.1
     where
-      go : Once (λ earlier e. is_quorum c (count_marks c (e ∷ earlier) (record { number = k; digest = root })) ≡ true) (history_of r ys) ⊎ Once (StartsAt c k root) (history_of r ys) → Known c trace k root
+      go : Once (λ earlier e. is_quorum c (count_checkpoints c (e ∷ earlier) (record { number = k; digest = root })) ≡ true) (history_of r ys) ⊎ Once (StartsAt c k root) (history_of r ys) → Known c trace k root
       go (inl h) = by_quorum h
       go (inr h) = by_new_view h
 
 -- what is got in a page is a text
 got_part : (c : Configuration) (r i : ℕ) (text : List ℕ) (past other : List Entry) (e : Entry) → GetsPage c r i text past e → HasPart text other e
 got_part c r i text past other (Got p bytes) h =
-    let parts = heard_parts c r bytes (record { sender = h.0; message = Page h.1 i text }) h.2 in
-    (record { sender = h.0; message = Page h.1 i text }, rw parts.1 parts.2, inl refl)
+    (record { sender = h.0; message = Page h.1 i text }, heard_said c r bytes (record { sender = h.0; message = Page h.1 i text }) h.2, inl refl)
 got_part c r i text past other (Invoke x y z) h = absurd h
 got_part c r i text past other (Tick x) h = absurd h
 got_part c r i text past other (Executed x y z) h = absurd h
@@ -371,14 +368,14 @@ got_part c r i text past other (Accepted x y z) h = absurd h
 
 -- ---- executed batches are fewer than 2^48
 
-number_small : (c : Configuration) (trace : List Entry) → AreReplicasRight c trace → (k : ℕ) (a : List ℕ) → Once (ExecutesBatch c k a) trace → k < 2 ^ 48
+number_small : (c : Configuration) (trace : List Entry) → AreReplicasSafe c trace → (k : ℕ) (a : List ℕ) → Once (ExecutesBatch c k a) trace → k < 2 ^ 48
 number_small c trace right k a h =
     let p = executor c k a trace h in
     let first = executed_committed c trace p.0 k a right p.1 p.2 in
     let r = right p.0 p.1 in
     (logged_within c p.0 first.view k a (history_of p.0 trace) (right_always c p.0 (history_of p.0 trace) r.0 r.1) first.committed.prepared.logged).1
 
-few_executed : (c : Configuration) (trace : List Entry) → AreReplicasRight c trace → (first : ℕ) (batches : List (List ℕ)) → first ≤ 2 ^ 48 → AreExecuted c trace first batches → first + length batches ≤ 2 ^ 48
+few_executed : (c : Configuration) (trace : List Entry) → AreReplicasSafe c trace → (first : ℕ) (batches : List (List ℕ)) → first ≤ 2 ^ 48 → AreExecuted c trace first batches → first + length batches ≤ 2 ^ 48
 few_executed c trace right first [] l h = omega arith
 few_executed c trace right first (batch ∷ batches) l h =
     let one = number_small c trace right first batch h.0 in
@@ -386,7 +383,7 @@ few_executed c trace right first (batch ∷ batches) l h =
     let rest = few_executed c trace right (first + 1) batches next h.1 in
     omega arith
 
-pub executed_leave : (c : Configuration) → IsConfiguration c → (trace : List Entry) → AreReplicasRight c trace → (batches : List (List ℕ)) → AreExecuted c trace 1 batches → IsState (after_batches c opening batches)
+pub executed_leave : (c : Configuration) → IsConfiguration c → (trace : List Entry) → AreReplicasSafe c trace → (batches : List (List ℕ)) → AreExecuted c trace 1 batches → IsState (after_batches c opening batches)
 executed_leave c setting trace right batches h =
     let one : 1 ≤ 2 ^ 48 = omega arith in
     let few = few_executed c trace right 1 batches one h in
@@ -395,7 +392,7 @@ executed_leave c setting trace right batches h =
 
 -- ---- the induction over the trace
 
-module _ (c : Configuration) (setting : IsConfiguration c) (trace : List Entry) (right : AreReplicasRight c trace) (unforged : Unforged c trace) (apart : NoCollision c trace) where
+module _ (c : Configuration) (setting : IsConfiguration c) (trace : List Entry) (right : AreReplicasSafe c trace) (unforged : Unforged c trace) (apart : NoCollision c trace) where
   -- a held state with the root of a state of executed batches is that state
   same_state : (st : State) → IsStateOf c trace st → (other : State) → IsState other → Holds c trace (page_text other) → ((i : ℕ) → i < 1024 → IsText c trace (page_text other i)) → root_of st ≡ root_of other → IsStateOf c trace other
   same_state st is other state holds texts root =
@@ -447,8 +444,8 @@ module _ (c : Configuration) (setting : IsConfiguration c) (trace : List Entry) 
           go false e = was.snapshots st e
   good_step pre ys (Installed p k root) is r correct own good old point leaves was may move = record { state = next; snapshots = each }
     where
-      right_ys : AreReplicasRight c ys
-      right_ys q from = right_append c q (pre ++ Installed p k root ∷ []) ys (subst (λ (t : List Entry). RightReplica c q (history_of q t)) (is ∙ sym (append_assoc pre (Installed p k root ∷ []) ys)) (right q from))
+      right_ys : AreReplicasSafe c ys
+      right_ys q from = right_append c q (pre ++ Installed p k root ∷ []) ys (subst (λ (t : List Entry). SafeReplica c q (history_of q t)) (is ∙ sym (append_assoc pre (Installed p k root ∷ []) ys)) (right q from))
 
       unforged_ys : Unforged c ys
       unforged_ys = always_append (IsUnforgedAt c) (pre ++ Installed p k root ∷ []) ys (subst (λ (t : List Entry). Unforged c t) (is ∙ sym (append_assoc pre (Installed p k root ∷ []) ys)) unforged)
@@ -473,13 +470,15 @@ module _ (c : Configuration) (setting : IsConfiguration c) (trace : List Entry) 
 
           holds : Holds c trace (page_text point.state)
           holds = record {
-            replica = r;
-            later = history_of r pre;
-            past = Installed p k root ∷ history_of r ys;
-            is_correct = correct;
-            splits = ap (history_of r) is ∙ history_append r pre (Installed p k root ∷ ys) ∙ ap (λ t. history_of r pre ++ t) (here (party_of (Installed p k root) == r) (eq-eqb p r own));
-            point = point;
-            leaves = leaves;
+            at = record {
+              replica = r;
+              later = history_of r pre;
+              past = Installed p k root ∷ history_of r ys;
+              is_correct = correct;
+              splits = ap (history_of r) is ∙ history_append r pre (Installed p k root ∷ ys) ∙ ap (λ t. history_of r pre ++ t) (here (party_of (Installed p k root) == r) (eq-eqb p r own));
+              point = point;
+              leaves = leaves;
+            };
             each = λ i l. inl refl;
           }
             where
@@ -508,6 +507,17 @@ module _ (c : Configuration) (setting : IsConfiguration c) (trace : List Entry) 
   -- each state of a correct replica, and each of its snapshots, is that of the executed batches
   pub states_agree : (r : ℕ) → is_correct_replica c r ≡ true → GoodAll c trace r (history_of r trace)
   states_agree r correct = all_good trace [] refl r correct
+
+  -- of each time, not of the end alone
+  pub had_executed : (st : State) → Had c trace st → IsStateOf c trace st
+  had_executed st h = pick h.1
+    where
+      good : Good c trace h.0.point
+      good = (good_behind c trace h.0.replica h.0.later h.0.past (subst (GoodAll c trace h.0.replica) h.0.splits (states_agree h.0.replica h.0.is_correct))).0 h.0.point h.0.leaves
+
+      pick : (h.0.point.state ≡ st) ⊎ Has (λ x. x ≡ st) h.0.point.snapshots → IsStateOf c trace st
+      pick (inl e) = subst (IsStateOf c trace) e good.state
+      pick (inr e) = good.snapshots st e
 
   -- ---- roots
 

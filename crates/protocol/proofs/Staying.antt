@@ -7,13 +7,13 @@ use Rattle.sha2.specs.Sha256.{sha256}
 use Rattle.quorum.proofs.Counting.{quorums_meet, some_more, count_members}
 use Rattle.quorum.specs.Quorum.{count_below}
 use Rattle.protocol.specs.Configuration.{Configuration, IsConfiguration, span, is_replica, is_faulty_replica, is_correct_replica, is_number}
-use Rattle.protocol.specs.Wire.{ViewChange, NewView, Claim}
+use Rattle.wire.specs.Messages.{ViewChangeData as ViewChange, NewViewData as NewView, ClaimData as Claim}
 use Rattle.protocol.specs.Trace.{Entry, history_of, Once, Unforged, Has}
 use Rattle.std.specs.List.{list_all, list_any}
-use Rattle.protocol.specs.Selection.{is_quorum, is_weak_quorum, count_in, passes_by, change_by, changes_of, may_select, may_stand_at, may_be_null, may_all_stand, is_null, is_within, is_claim_within, is_mark_within, agrees, vouches, how_many}
+use Rattle.protocol.specs.Selection.{is_quorum, is_weak_quorum, count_in, passes_by, change_by, changes_of, may_select, may_stand_at, may_be_null, may_all_stand, is_null, is_within, is_claim_within, is_checkpoint_within, agrees, vouches, how_many}
 use Rattle.protocol.specs.Certificates.{batch_begun, commit_of, Prepared, Committed, logged}
 use Rattle.quorum.specs.Votes.{has_digest}
-use Rattle.protocol.specs.Laws.{AreReplicasRight, Takes, HasOrStartsAbove, CommittedStays, CommittedAgree}
+use Rattle.protocol.specs.Laws.{AreReplicasSafe, Takes, HasOrStartsAbove, CommittedStays, CommittedAgree}
 use Rattle.protocol.proofs.Temporal.{once_weaker, once_stays}
 use Rattle.protocol.proofs.Voting.{right_always}
 use Rattle.protocol.proofs.Marks.{takes, selected_in, selects}
@@ -50,24 +50,24 @@ claim_within c vc claim h =
 pub record Member (c : Configuration) (new : NewView) (vc : ViewChange) : Type 0 where
   pub view_is : vc.view ≡ new.view
   pub prepared : (claim : Claim) → Has (λ x. x ≡ claim) vc.prepared → (claim.view < vc.view) × (claim.number ≤ vc.low + span c)
-  pub proposed : (claim : Claim) → Has (λ x. x ≡ claim) vc.proposed → (claim.view < vc.view) × (claim.number ≤ vc.low + span c)
+  pub proposed : (claim : Claim) → Has (λ x. x ≡ claim) vc.pre_prepared → (claim.view < vc.view) × (claim.number ≤ vc.low + span c)
 
 pub member_of : (c : Configuration) (new : NewView) (s : ℕ) (vc : ViewChange) → Selected c new → change_by (changes_of c new) s ≡ Some vc → Member c new vc
 member_of c new s vc sel is =
     let t = every_change (λ vc. (vc.view == new.view) && is_within c vc) (changes_of c new) s vc sel.each is in
     let p = and_parts (vc.view == new.view) (is_within c vc) t in
-    let w = and_parts (is_number vc.view && is_number vc.low && list_all (is_claim_within c vc) vc.prepared && list_all (is_claim_within c vc) vc.proposed) (list_all (is_mark_within c vc) vc.checkpoints) p.1 in
-    let y = and_parts (is_number vc.view && is_number vc.low && list_all (is_claim_within c vc) vc.prepared) (list_all (is_claim_within c vc) vc.proposed) w.0 in
+    let w = and_parts (is_number vc.view && is_number vc.low && list_all (is_claim_within c vc) vc.prepared && list_all (is_claim_within c vc) vc.pre_prepared) (list_all (is_checkpoint_within c vc) vc.checkpoints) p.1 in
+    let y = and_parts (is_number vc.view && is_number vc.low && list_all (is_claim_within c vc) vc.prepared) (list_all (is_claim_within c vc) vc.pre_prepared) w.0 in
     let z = and_parts (is_number vc.view && is_number vc.low) (list_all (is_claim_within c vc) vc.prepared) y.0 in
     record {
       view_is = eqb-true vc.view new.view p.0;
       prepared = λ claim h. claim_within c vc claim (every_has (is_claim_within c vc) vc.prepared claim z.1 h);
-      proposed = λ claim h. claim_within c vc claim (every_has (is_claim_within c vc) vc.proposed claim y.1 h);
+      proposed = λ claim h. claim_within c vc claim (every_has (is_claim_within c vc) vc.pre_prepared claim y.1 h);
     }
 
 -- ---- over one committed batch
 
-module _ (c : Configuration) (setting : IsConfiguration c) (trace : List Entry) (right : AreReplicasRight c trace) (unforged : Unforged c trace)
+module _ (c : Configuration) (setting : IsConfiguration c) (trace : List Entry) (right : AreReplicasSafe c trace) (unforged : Unforged c trace)
     (p v i : ℕ) (a : List ℕ) (correct : is_correct_replica c p ≡ true) (committed : Committed c p (history_of p trace) v i a) where
   few : count_below (is_faulty_replica c) (3 * c.faults + 1) ≤ c.faults
   few = let m = count_members c.faulty_replicas (3 * c.faults + 1) in let k = setting.few in omega arith
@@ -137,7 +137,7 @@ module _ (c : Configuration) (setting : IsConfiguration c) (trace : List Entry) 
       let who : is_correct_replica c s.0 ≡ true = is_correct s.0 s.1 s.2 in
       let t = passes_change (vouches i x (sha256 b)) (changes_of c new) s.0 s.3 in
       let says = change_was_said c trace q s.0 new t.0 right unforged correct' who takes' t.1 in
-      let k = some_of_has (λ (claim : Claim). (claim.number == i) && bytes_eq claim.digest (sha256 b) && nat_le x claim.view) t.0.proposed t.2 in
+      let k = some_of_has (λ (claim : Claim). (claim.number == i) && bytes_eq claim.digest (sha256 b) && nat_le x claim.view) t.0.pre_prepared t.2 in
       let parts = and_parts ((k.0.number == i) && bytes_eq k.0.digest (sha256 b)) (nat_le x k.0.view) k.2 in
       let ends = and_parts (k.0.number == i) (bytes_eq k.0.digest (sha256 b)) parts.0 in
       let m = member_of c new s.0 t.0 sel t.1 in
@@ -265,7 +265,7 @@ committed_stays c setting trace right unforged p q v i a new correct correct' co
     settled c setting trace right unforged p v i a correct committed new.view above q new correct' takes' refl
 
 -- the later of two committed batches has the digest of the earlier
-later_agrees : (c : Configuration) → IsConfiguration c → (trace : List Entry) → AreReplicasRight c trace → Unforged c trace
+later_agrees : (c : Configuration) → IsConfiguration c → (trace : List Entry) → AreReplicasSafe c trace → Unforged c trace
     → (p q v w i : ℕ) (a b : List ℕ) → is_correct_replica c p ≡ true → is_correct_replica c q ≡ true
     → Committed c p (history_of p trace) v i a → Committed c q (history_of q trace) w i b → v < w → sha256 b ≡ sha256 a
 later_agrees c setting trace right unforged p q v w i a b correct correct' x y above =

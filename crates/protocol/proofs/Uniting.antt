@@ -4,11 +4,11 @@ use Rattle.protocol.specs.Configuration.{Configuration, IsConfiguration}
 use Rattle.protocol.specs.Trace.{Entry, Unforged}
 use Rattle.protocol.specs.State.{State, opening, after_batches}
 use Rattle.protocol.specs.Texts.{NoCollision, AreExecuted}
-use Rattle.protocol.specs.Laws.{AreReplicasRight, StatesAgree}
+use Rattle.protocol.specs.Laws.{AreReplicasSafe, IsStateOf, StatesAreExecuted, StatesAgree}
 use Rattle.protocol.proofs.Executing.{executed_agree}
-use Rattle.protocol.proofs.States.{IsStateOf, number_after, states_agree}
+use Rattle.protocol.proofs.States.{number_after, had_executed}
 
-pub same_batches : (c : Configuration) → IsConfiguration c → (trace : List Entry) → AreReplicasRight c trace → Unforged c trace → NoCollision c trace
+pub same_batches : (c : Configuration) → IsConfiguration c → (trace : List Entry) → AreReplicasSafe c trace → Unforged c trace → NoCollision c trace
     → (first : ℕ) (xs ys : List (List ℕ)) → length xs ≡ length ys → AreExecuted c trace first xs → AreExecuted c trace first ys → xs ≡ ys
 same_batches c setting trace right unforged apart first [] [] n a b = refl
 same_batches c setting trace right unforged apart first [] (y ∷ ys) n a b = absurd (omega arith)
@@ -18,7 +18,7 @@ same_batches c setting trace right unforged apart first (x ∷ xs) (y ∷ ys) n 
     ap₂ (λ (u : List ℕ) (us : List (List ℕ)). u ∷ us) (executed_agree c setting trace right unforged apart first x y a.0 b.0)
     (same_batches c setting trace right unforged apart (first + 1) xs ys m a.1 b.1)
 
-pub same_state_of : (c : Configuration) → IsConfiguration c → (trace : List Entry) → AreReplicasRight c trace → Unforged c trace → NoCollision c trace
+pub same_state_of : (c : Configuration) → IsConfiguration c → (trace : List Entry) → AreReplicasSafe c trace → Unforged c trace → NoCollision c trace
     → (x y : State) → IsStateOf c trace x → IsStateOf c trace y → x.number ≡ y.number → x ≡ y
 same_state_of c setting trace right unforged apart x y a b n =
     let m = number_after c opening a.batches in
@@ -29,8 +29,9 @@ same_state_of c setting trace right unforged apart x y a b n =
     let same = same_batches c setting trace right unforged apart 1 a.batches b.batches l a.executed b.executed in
     a.is ∙ ap (after_batches c opening) same ∙ sym b.is
 
+pub all_states_executed : StatesAreExecuted
+all_states_executed c setting trace right unforged apart st h = had_executed c setting trace right unforged apart st h
+
 pub all_states_agree : StatesAgree
-all_states_agree c setting trace right unforged apart p q x y correct correct' leaves leaves' n =
-    same_state_of c setting trace right unforged apart x.state y.state
-    ((states_agree c setting trace right unforged apart p correct).0 x leaves).state
-    ((states_agree c setting trace right unforged apart q correct').0 y leaves').state n
+all_states_agree c setting trace right unforged apart x y a b n =
+    same_state_of c setting trace right unforged apart x y (had_executed c setting trace right unforged apart x a) (had_executed c setting trace right unforged apart y b) n

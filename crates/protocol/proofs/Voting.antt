@@ -4,14 +4,13 @@ use Rattle.std.specs.Prelude.{option_and_then, ◌==◌}
 use Rattle.std.proofs.lemmas.Bool.{and_parts}
 use Rattle.sha2.specs.Sha256.{sha256}
 use Rattle.protocol.specs.Configuration.{Configuration, is_correct, is_correct_replica, primary}
-use Rattle.protocol.specs.Wire.{Body, Message}
-use Rattle.protocol.specs.Wire.Message.{Prepare}
-use Rattle.protocol.specs.Keys.{heard}
+use Rattle.wire.specs.Messages.{BodyData as Body, MessageData as Message, prepare as Prepare}
+use Rattle.protocol.specs.Frames.{heard}
 use Rattle.protocol.specs.Trace.{Entry, party_of, history_of, Once, Always, Unforged, Hears}
 use Rattle.protocol.specs.Trace.Entry.{Invoke, Got, Tick, Executed, Installed, Sent, Accepted}
 use Rattle.protocol.specs.Certificates.{proposal, logged, prepare_from, vote_in, prepare_of, brought, counts_at}
-use Rattle.protocol.specs.RightReplica.{Point, Leaves, May, MaySay, MayPrepare, RightReplica}
-use Rattle.protocol.specs.Laws.{AreReplicasRight}
+use Rattle.protocol.specs.RightReplica.{Point, Leaves, May, MaySay, MayPrepare, SafeReplica}
+use Rattle.protocol.specs.Laws.{AreReplicasSafe}
 use Rattle.protocol.proofs.Temporal.{once_weaker, once_always, once_stays}
 use Rattle.protocol.proofs.Options.{and_then_some, give_if_some, given_stays, given_once, some_injective}
 use Rattle.protocol.proofs.Linking.{Speaks, heard_was_said}
@@ -28,7 +27,7 @@ pub right_always : (c : Configuration) (me : ℕ) (xs : List Entry) (point : Poi
 right_always c me [] point h = tt
 right_always c me (e ∷ past) point h = (record { point = h.0; own = h.2.own; leaves = h.1; may = h.2.may }, right_always c me past h.0 h.1)
 
-pub once_right : (c : Configuration) (me : ℕ) (Q : List Entry → Entry → Type 0) (xs : List Entry) → RightReplica c me xs → Once Q xs
+pub once_right : (c : Configuration) (me : ℕ) (Q : List Entry → Entry → Type 0) (xs : List Entry) → SafeReplica c me xs → Once Q xs
     → Once (λ past e. RightAt c me past e × Q past e × Always (RightAt c me) past) xs
 once_right c me Q xs right h = once_always (RightAt c me) Q xs (right_always c me xs right.0 right.1) h
 
@@ -114,7 +113,7 @@ brings_either c p body past (Installed x y z) own h = absurd cc
 brings_either c p body past (Accepted x y z) own h = absurd cc
 
 -- what a right replica hears of a correct one, or says itself, its sender said
-pub brought_was_said : (c : Configuration) (trace : List Entry) (p : ℕ) (body : Body) → AreReplicasRight c trace → Unforged c trace
+pub brought_was_said : (c : Configuration) (trace : List Entry) (p : ℕ) (body : Body) → AreReplicasSafe c trace → Unforged c trace
     → is_correct_replica c p ≡ true → is_correct_replica c body.sender ≡ true
     → Once (Brings c body) (history_of p trace) → Once (Speaks body) (history_of body.sender trace)
 brought_was_said c trace p body right unforged correct from h = go (once_either (Hears c p body) (Speaks body) (history_of p trace) either)
@@ -163,7 +162,7 @@ says_logged c me v i d past (Installed x y z) r h = absurd h
 says_logged c me v i d past (Accepted x y z) r h = absurd h
 
 -- a correct replica whose prepare a right replica counts has logged a batch of that digest
-pub voter_logs : (c : Configuration) (trace : List Entry) (p s v i : ℕ) (d : List ℕ) → AreReplicasRight c trace → Unforged c trace
+pub voter_logs : (c : Configuration) (trace : List Entry) (p s v i : ℕ) (d : List ℕ) → AreReplicasSafe c trace → Unforged c trace
     → is_correct_replica c p ≡ true → is_correct_replica c s ≡ true
     → prepare_of c p (history_of p trace) v i s ≡ Some d → Logs c s v i d (history_of s trace)
 unfolding prepare_of

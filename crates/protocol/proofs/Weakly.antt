@@ -8,14 +8,16 @@ use Rattle.tuple_codec.specs.Operations.{Outcome}
 use Rattle.tuple_codec.specs.Spelling.{outcome_spelling}
 use Rattle.quorum.specs.Quorum.{count_below}
 use Rattle.protocol.specs.Configuration.{Configuration, IsConfiguration, is_correct, is_correct_replica, is_correct_client}
-use Rattle.protocol.specs.Wire.{requests_of, said}
+use Rattle.wire.specs.Words.{requests_of}
+use Rattle.wire.specs.Reading.{requests_at}
+use Rattle.protocol.specs.Frames.{said}
 use Rattle.protocol.specs.Trace.{Entry, party_of, history_of, Once, Always, Has, Unforged}
 use Rattle.protocol.specs.Trace.Entry.{Invoke, Got, Tick, Executed, Installed, Sent, Accepted}
 use Rattle.protocol.specs.State.{State, Ran, opening, tuples, run_frame, execute, ran_in}
-use Rattle.protocol.specs.RightClient.{Vote, newest_vote, latest, is_same_answer, is_weakly_complete, MayWeaklyAccept, WeakClient, AnyClient, MayClient}
+use Rattle.protocol.specs.RightClient.{Vote, newest_vote, latest, is_same_answer, is_weakly_complete, MayWeaklyAccept, SafeWeakClient, AnyClient, MayClient}
 use Rattle.protocol.specs.Texts.{NoCollision, ExecutesBatch}
-use Rattle.protocol.specs.Linear.{Item, LegalFrom, Invokes, Accepts, Asks, Point, ordered_point, batch_of, last_executed}
-use Rattle.protocol.specs.Laws.{AreReplicasRight, AreClientsWeak, IsOneSpace, WeakIsOneSpace}
+use Rattle.protocol.specs.Linear.{Item, LegalFrom, Invokes, Accepts, Asks, Placing, ordered_point, batch_of, last_executed}
+use Rattle.protocol.specs.Laws.{AreReplicasSafe, AreClientsWeak, IsOneSpace, WeakIsOneSpace}
 use Rattle.protocol.proofs.Temporal.{once_weaker, once_in_history}
 use Rattle.protocol.proofs.Linking.{heard_was_said}
 use Rattle.protocol.proofs.Lists.{has_some}
@@ -32,7 +34,6 @@ use Rattle.protocol.proofs.Invoking.{once_split, At, once_within, asked_op, invo
 use Rattle.protocol.proofs.Accepting.{Answers, replied, ordered_replied, accepts_own, heard_answer, newest_answer}
 use Rattle.protocol.proofs.Whole.{has_items, has_at}
 use Rattle.protocol.specs.Trace.{Hears}
-use Rattle.protocol.specs.Wire.{pieces}
 use Rattle.protocol.specs.Certificates.{first_given}
 use Rattle.protocol.specs.Linear.{batch_at}
 use Rattle.protocol.specs.State.{last_time}
@@ -47,27 +48,27 @@ use Rattle.protocol.specs.Run
 -- ---- all that ran, at one position
 
 -- the requests that ran in n batches, from the number k on
-ran_points : Configuration → List Entry → ℕ → State → ℕ → ℕ → List Point
+ran_points : Configuration → List Entry → ℕ → State → ℕ → ℕ → List Placing
 ran_points c trace position st k zero = []
 ran_points c trace position st k (suc n) =
     map (ordered_point position k) (ran_in c k st (requests_of (batch_of trace k))) ++ ran_points c trace position (execute c st (batch_of trace k)) (suc k) n
 
-ran_legal : (c : Configuration) (trace : List Entry) (position : ℕ) (st : State) (k n : ℕ) → k ≡ suc st.number → LegalFrom (tuples st) (map (λ (x : Point). x.item) (ran_points c trace position st k n))
+ran_legal : (c : Configuration) (trace : List Entry) (position : ℕ) (st : State) (k n : ℕ) → k ≡ suc st.number → LegalFrom (tuples st) (map (λ (x : Placing). x.item) (ran_points c trace position st k n))
 unfolding ran_points
 ran_legal c trace position st k zero is = tt
 ran_legal c trace position st k (suc n) is =
     let number = executed_number c st (batch_of trace k) in
     let is' : suc k ≡ suc (execute c st (batch_of trace k)).number = omega arith in
-    let rest : List Item = map (λ (x : Point). x.item) (ran_points c trace position (execute c st (batch_of trace k)) (suc k) n) in
+    let rest : List Item = map (λ (x : Placing). x.item) (ran_points c trace position (execute c st (batch_of trace k)) (suc k) n) in
     let below = ran_legal c trace position (execute c st (batch_of trace k)) (suc k) n is' in
-    let at : LegalFrom (tuples (fold (run_frame c k) st (requests_of (batch_of trace k)))) (map (λ (x : Point). x.item) (ran_points c trace position (execute c st (batch_of trace k)) (suc k) n)) =
-    subst (λ (j : ℕ). LegalFrom (tuples (fold (run_frame c j) st (requests_of (batch_of trace k)))) (map (λ (x : Point). x.item) (ran_points c trace position (execute c st (batch_of trace k)) (suc k) n))) (sym is)
-    (subst (λ (t : List TupleTree). LegalFrom t (map (λ (x : Point). x.item) (ran_points c trace position (execute c st (batch_of trace k)) (suc k) n))) (executed_tuples c st (batch_of trace k)) below) in
-    let ran = legal_ran c position k st (requests_of (batch_of trace k)) (map (λ (x : Point). x.item) (ran_points c trace position (execute c st (batch_of trace k)) (suc k) n)) at in
-    let shape : map (λ (x : Point). x.item) (map (ordered_point position k) (ran_in c k st (requests_of (batch_of trace k))) ++ ran_points c trace position (execute c st (batch_of trace k)) (suc k) n)
-    ≡ map (item_of position k) (ran_in c k st (requests_of (batch_of trace k))) ++ map (λ (x : Point). x.item) (ran_points c trace position (execute c st (batch_of trace k)) (suc k) n) =
+    let at : LegalFrom (tuples (fold (run_frame c k) st (requests_of (batch_of trace k)))) (map (λ (x : Placing). x.item) (ran_points c trace position (execute c st (batch_of trace k)) (suc k) n)) =
+    subst (λ (j : ℕ). LegalFrom (tuples (fold (run_frame c j) st (requests_of (batch_of trace k)))) (map (λ (x : Placing). x.item) (ran_points c trace position (execute c st (batch_of trace k)) (suc k) n))) (sym is)
+    (subst (λ (t : List TupleTree). LegalFrom t (map (λ (x : Placing). x.item) (ran_points c trace position (execute c st (batch_of trace k)) (suc k) n))) (executed_tuples c st (batch_of trace k)) below) in
+    let ran = legal_ran c position k st (requests_of (batch_of trace k)) (map (λ (x : Placing). x.item) (ran_points c trace position (execute c st (batch_of trace k)) (suc k) n)) at in
+    let shape : map (λ (x : Placing). x.item) (map (ordered_point position k) (ran_in c k st (requests_of (batch_of trace k))) ++ ran_points c trace position (execute c st (batch_of trace k)) (suc k) n)
+    ≡ map (item_of position k) (ran_in c k st (requests_of (batch_of trace k))) ++ map (λ (x : Placing). x.item) (ran_points c trace position (execute c st (batch_of trace k)) (suc k) n) =
     map_items (map (ordered_point position k) (ran_in c k st (requests_of (batch_of trace k)))) (ran_points c trace position (execute c st (batch_of trace k)) (suc k) n)
-    ∙ ap (λ t. t ++ map (λ (x : Point). x.item) (ran_points c trace position (execute c st (batch_of trace k)) (suc k) n)) (ran_items position k (ran_in c k st (requests_of (batch_of trace k)))) in
+    ∙ ap (λ t. t ++ map (λ (x : Placing). x.item) (ran_points c trace position (execute c st (batch_of trace k)) (suc k) n)) (ran_items position k (ran_in c k st (requests_of (batch_of trace k)))) in
     subst (λ (t : List Item). LegalFrom (tuples st) t) (sym shape) ran
 
 ran_differ : (c : Configuration) → IsConfiguration c → (trace : List Entry) (position : ℕ) (st : State) (k n : ℕ) → k ≡ suc st.number → Full st
@@ -81,7 +82,7 @@ ran_differ c setting trace position st k (suc n) is full =
     frames_differ c setting position k st (requests_of (batch_of trace k)) (ran_points c trace position (execute c st (batch_of trace k)) (suc k) n) full
     (all_weaker (Later (execute c st (batch_of trace k))) (Later (fold (run_frame c k) st (requests_of (batch_of trace k)))) moved (ran_points c trace position (execute c st (batch_of trace k)) (suc k) n) below.0) below.1
   where
-    moved : (x : Point) → Later (execute c st (batch_of trace k)) x → Later (fold (run_frame c k) st (requests_of (batch_of trace k))) x
+    moved : (x : Placing) → Later (execute c st (batch_of trace k)) x → Later (fold (run_frame c k) st (requests_of (batch_of trace k))) x
     moved x h cl is_cl =
         let a = h cl is_cl in
         let b = executed_times c st (batch_of trace k) cl in
@@ -90,7 +91,7 @@ ran_differ c setting trace position st k (suc n) is full =
 
 -- ---- where each comes from
 
-record RanFrom (c : Configuration) (trace : List Entry) (position : ℕ) (x : Point) : Type 0 where
+record RanFrom (c : Configuration) (trace : List Entry) (position : ℕ) (x : Placing) : Type 0 where
   ran : Ran
   number : ℕ
   is : x ≡ ordered_point position number ran
@@ -107,7 +108,7 @@ ran_sources c trace position st k (suc n) =
     (ran_sources c trace position (execute c st (batch_of trace k)) (suc k) n)
 
 -- what ran is among them
-record IsRanAt (position : ℕ) (Q : ℕ → Ran → Type 0) (x : Point) : Type 0 where
+record IsRanAt (position : ℕ) (Q : ℕ → Ran → Type 0) (x : Placing) : Type 0 where
   ran : Ran
   number : ℕ
   is : x ≡ ordered_point position number ran
@@ -126,7 +127,7 @@ ran_there c trace position st k (suc n) Q (inl h) = has_left (IsRanAt position Q
 
 -- ---- a weak acceptance
 
-weak_is_any : (c : Configuration) (p : ℕ) (xs : List Entry) → WeakClient c p xs → AnyClient p xs
+weak_is_any : (c : Configuration) (p : ℕ) (xs : List Entry) → SafeWeakClient c p xs → AnyClient p xs
 weak_is_any c p [] r = tt
 weak_is_any c p (e ∷ xs) r = ((r.0.0, go e r.0.1), weak_is_any c p xs r.1)
   where
@@ -139,7 +140,7 @@ weak_is_any c p (e ∷ xs) r = ((r.0.0, go e r.0.1), weak_is_any c p xs r.1)
     go (Sent x y) h = h
     go (Accepted x y z) h = tt
 
-weakly : (c : Configuration) (p : ℕ) (xs : List Entry) → WeakClient c p xs → (t : ℕ) (a : Outcome) → Once (Accepts p t a) xs → Once (λ past e. Accepts p t a past e × MayWeaklyAccept c p past t a) xs
+weakly : (c : Configuration) (p : ℕ) (xs : List Entry) → SafeWeakClient c p xs → (t : ℕ) (a : Outcome) → Once (Accepts p t a) xs → Once (λ past e. Accepts p t a past e × MayWeaklyAccept c p past t a) xs
 weakly c p [] r t a h = absurd h
 weakly c p (e ∷ xs) r t a (inr h) = inr (weakly c p xs r.1 t a h)
 weakly c p (Accepted x y z ∷ xs) r t a (inl h) =
@@ -153,7 +154,7 @@ weakly c p (Sent x y ∷ xs) r t a (inl h) = absurd h
 
 -- a batch with requests was executed
 batch_executed : (c : Configuration) (xs : List Entry) (k : ℕ) (frame : List ℕ) → Run c xs → Has (λ x. x ≡ frame) (requests_of (batch_of xs k)) → Once (ExecutesBatch c k (batch_of xs k)) xs
-unfolding requests_of pieces
+unfolding requests_of requests_at
 batch_executed c xs k frame run h = go (first_given (λ past e. batch_at k e) xs) refl h
   where
     go : (o : Option (List ℕ)) → first_given (λ past e. batch_at k e) xs ≡ o → Has (λ x. x ≡ frame) (requests_of (option_map_or (λ batch. batch) o (0 ∷ []))) → Once (ExecutesBatch c k (option_map_or (λ batch. batch) (first_given (λ past e. batch_at k e) xs) (0 ∷ []))) xs
@@ -165,7 +166,7 @@ batch_executed c xs k frame run h = go (first_given (λ past e. batch_at k e) xs
 
 -- ---- together
 
-module _ (c : Configuration) (setting : IsConfiguration c) (trace : List Entry) (right : AreReplicasRight c trace) (weak : AreClientsWeak c trace)
+module _ (c : Configuration) (setting : IsConfiguration c) (trace : List Entry) (right : AreReplicasSafe c trace) (weak : AreClientsWeak c trace)
     (parties : Always (λ past e. is_correct c (party_of e) ≡ true) trace) (unforged : Unforged c trace) (apart : NoCollision c trace) where
   run : Run c trace
   run = record {
@@ -175,15 +176,15 @@ module _ (c : Configuration) (setting : IsConfiguration c) (trace : List Entry) 
     parties = parties;
   }
 
-  abbrev all_ran : List Point
+  abbrev all_ran : List Placing
   all_ran = ran_points c trace (length trace) opening 1 (last_executed trace)
 
   record Facts (item : Item) : Type 0 where
     invoked : is_correct_client c item.client ≡ true → Once (Invokes item.client item.timestamp item.op) trace
     asked : Once (λ past e. Asks c item.client item.timestamp item.op past e × (length past ≤ item.position)) trace
 
-  facts_of : (x : Point) → RanFrom c trace (length trace) x → Facts x.item
-  facts_of x s = subst (λ (y : Point). Facts y.item) (sym s.is) (record { invoked = invoked; asked = asked })
+  facts_of : (x : Placing) → RanFrom c trace (length trace) x → Facts x.item
+  facts_of x s = subst (λ (y : Placing). Facts y.item) (sym s.is) (record { invoked = invoked; asked = asked })
     where
       asks : Once (AsksFrame c s.from.frame) trace
       asks = executed_asked c trace s.number (batch_of trace s.number) run (batch_executed c trace s.number s.from.frame run s.from.is_there) s.from.frame s.ran.call s.from.is_there s.from.is_call
@@ -208,12 +209,12 @@ module _ (c : Configuration) (setting : IsConfiguration c) (trace : List Entry) 
   all_facts : AllOf (λ x. Facts x.item) all_ran
   all_facts = all_weaker (RanFrom c trace (length trace)) (λ x. Facts x.item) facts_of all_ran (ran_sources c trace (length trace) opening 1 (last_executed trace))
 
-  item_facts : (item : Item) → Has (λ y. y ≡ item) (map (λ (x : Point). x.item) all_ran) → Facts item
-  item_facts item h = all_has Facts (map (λ (x : Point). x.item) all_ran) item (has_map_all Facts (λ (x : Point). x.item) all_ran all_facts) h
+  item_facts : (item : Item) → Has (λ y. y ≡ item) (map (λ (x : Placing). x.item) all_ran) → Facts item
+  item_facts item h = all_has Facts (map (λ (x : Placing). x.item) all_ran) item (has_map_all Facts (λ (x : Placing). x.item) all_ran all_facts) h
 
   -- what is accepted ran
   accepted_ran : (p t : ℕ) (a : Outcome) → is_correct_client c p ≡ true → Once (Accepts p t a) trace
-      → Has (λ item. (item.client ≡ p) × (item.timestamp ≡ t) × (item.answer ≡ a) × Once (Invokes p t item.op) trace) (map (λ (x : Point). x.item) all_ran)
+      → Has (λ item. (item.client ≡ p) × (item.timestamp ≡ t) × (item.answer ≡ a) × Once (Invokes p t item.op) trace) (map (λ (x : Placing). x.item) all_ran)
   accepted_ran p t a client h =
       has_items (λ item. (item.client ≡ p) × (item.timestamp ≡ t) × (item.answer ≡ a) × Once (Invokes p t item.op) trace) all_ran
       (found at.past m.1 m.4 m.5 (subst (λ (i : ℕ). is_weakly_complete c p at.past i m.1 ≡ true) m.3 m.6) (λ Q k. subst (λ (ys : List Entry). Once Q ys) (sym at.is) (once_append Q at.later (at.entry ∷ at.past) (inr k))) own_past)
@@ -240,7 +241,7 @@ module _ (c : Configuration) (setting : IsConfiguration c) (trace : List Entry) 
           let s = correct_of c setting (λ s. is_same_answer vote (latest c p past t false s)) more in
           by s.0 s.1 (latest c p past t false s.0) refl s.2
         where
-          shows : (x : Point) → Has (λ y. y ≡ x) all_ran → x.item.client ≡ p → x.item.timestamp ≡ t → x.item.answer ≡ a
+          shows : (x : Placing) → Has (λ y. y ≡ x) all_ran → x.item.client ≡ p → x.item.timestamp ≡ t → x.item.answer ≡ a
               → Has (λ x. (x.item.client ≡ p) × (x.item.timestamp ≡ t) × (x.item.answer ≡ a) × Once (Invokes p t x.item.op) trace) all_ran
           shows x has is_p is_t is_a =
               let f = all_has (λ y. Facts y.item) all_ran x all_facts has in
@@ -259,12 +260,12 @@ module _ (c : Configuration) (setting : IsConfiguration c) (trace : List Entry) 
               let there = has_some (IsRanAt (length trace) (Answers p t v.number v.answer)) all_ran (ran_there c trace (length trace) opening 1 (last_executed trace) (Answers p t v.number v.answer) ran) in
               let same : v.answer ≡ vote.answer = same_outcome v.answer vote.answer (heard_answer c p s t false v.number v.answer (history_of p trace) hears) (newest_answer c p t vote past newest)
               ((bytes_eq-Decides (outcome_spelling v.answer) (outcome_spelling vote.answer)).0 k) in
-              shows there.0 there.1 (ap (λ (x : Point). x.item.client) there.2.is ∙ there.2.holds.0) (ap (λ (x : Point). x.item.timestamp) there.2.is ∙ there.2.holds.1)
-              (ap (λ (x : Point). x.item.answer) there.2.is ∙ there.2.holds.2 ∙ same ∙ answer)
+              shows there.0 there.1 (ap (λ (x : Placing). x.item.client) there.2.is ∙ there.2.holds.0) (ap (λ (x : Placing). x.item.timestamp) there.2.is ∙ there.2.holds.1)
+              (ap (λ (x : Placing). x.item.answer) there.2.is ∙ there.2.holds.2 ∙ same ∙ answer)
 
   pub one_space : IsOneSpace c trace
   one_space = record {
-    items = map (λ (x : Point). x.item) all_ran;
+    items = map (λ (x : Placing). x.item) all_ran;
     legal = ran_legal c trace (length trace) opening 1 (last_executed trace) refl;
     covers = record {
       accepted = accepted_ran;

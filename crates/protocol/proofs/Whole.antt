@@ -9,10 +9,10 @@ use Rattle.protocol.specs.Trace.{Entry, party_of, history_of, Once, Always, Unfo
 use Rattle.protocol.specs.Trace.Entry.{Invoke, Got, Tick, Executed, Installed, Sent, Accepted}
 use Rattle.space.specs.Applying.{tuples_after}
 use Rattle.protocol.specs.State.{opening}
-use Rattle.protocol.specs.RightClient.{OpenCall, Vote, RightClient, AnyClient, MayClient, MayAccept}
+use Rattle.protocol.specs.RightClient.{OpenCall, Vote, SafeClient, AnyClient, MayClient, MayAccept}
 use Rattle.protocol.specs.Texts.{NoCollision}
-use Rattle.protocol.specs.Linear.{Item, Point, Legal, IsLinear, Invokes, Accepts, Asks, first_position, read_points, is_double, sorted, insert_point, comes_before, points, is_level}
-use Rattle.protocol.specs.Laws.{LinearOfRight, IsRightTrace}
+use Rattle.protocol.specs.Linear.{Item, Placing, Legal, IsLinear, Invokes, Accepts, Asks, first_position, read_points, is_double, sorted, insert_point, comes_before, points, is_level}
+use Rattle.protocol.specs.Laws.{LinearOfSafe, IsSafeTrace}
 use Rattle.protocol.proofs.Temporal.{once_weaker, once_in_history}
 use Rattle.protocol.proofs.Lists.{has_some}
 use Rattle.protocol.proofs.Legality.{legal_ordered}
@@ -30,7 +30,7 @@ use Rattle.protocol.proofs.Reacting.{is_replica_right, is_client_right}
 
 -- ---- lists
 
-has_insert : (P : Point → Type 0) (x : Point) (ys : List Point) → P x ⊎ Has P ys → Has P (insert_point x ys)
+has_insert : (P : Placing → Type 0) (x : Placing) (ys : List Placing) → P x ⊎ Has P ys → Has P (insert_point x ys)
 has_insert P x [] (inl h) = inl h
 has_insert P x [] (inr h) = absurd h
 has_insert P x (y ∷ ys) h = go (comes_before x y) h (has_insert P x ys)
@@ -41,22 +41,22 @@ has_insert P x (y ∷ ys) h = go (comes_before x y) h (has_insert P x ys)
     go false (inr (inl k)) below = inl k
     go false (inr (inr k)) below = inr (below (inr k))
 
-has_sorted : (P : Point → Type 0) (xs : List Point) → Has P xs → Has P (sorted xs)
+has_sorted : (P : Placing → Type 0) (xs : List Placing) → Has P xs → Has P (sorted xs)
 has_sorted P [] h = h
 has_sorted P (x ∷ xs) (inl h) = has_insert P x (sorted xs) (inl h)
 has_sorted P (x ∷ xs) (inr h) = has_insert P x (sorted xs) (inr (has_sorted P xs h))
 
-pub has_items : (P : Item → Type 0) (xs : List Point) → Has (λ x. P x.item) xs → Has P (map (λ (x : Point). x.item) xs)
+pub has_items : (P : Item → Type 0) (xs : List Placing) → Has (λ x. P x.item) xs → Has P (map (λ (x : Placing). x.item) xs)
 has_items P [] h = h
 has_items P (x ∷ xs) (inl h) = inl h
 has_items P (x ∷ xs) (inr h) = inr (has_items P xs h)
 
-pub has_at : (P : Point → Type 0) (xs : List Point) (x : Point) → Has (λ y. y ≡ x) xs → P x → Has P xs
+pub has_at : (P : Placing → Type 0) (xs : List Placing) (x : Placing) → Has (λ y. y ≡ x) xs → P x → Has P xs
 has_at P [] x h p = h
 has_at P (y ∷ ys) x (inl h) p = inl (subst P (sym h) p)
 has_at P (y ∷ ys) x (inr h) p = inr (has_at P ys x h p)
 
-has_filter : (keep : Point → Bool) (xs : List Point) (x : Point) → Has (λ y. y ≡ x) xs → keep x ≡ true → Has (λ y. y ≡ x) (filter keep xs)
+has_filter : (keep : Placing → Bool) (xs : List Placing) (x : Placing) → Has (λ y. y ≡ x) xs → keep x ≡ true → Has (λ y. y ≡ x) (filter keep xs)
 has_filter keep [] x h k = h
 has_filter keep (y ∷ ys) x h k = go (keep y) refl h (has_filter keep ys x)
   where
@@ -66,7 +66,7 @@ has_filter keep (y ∷ ys) x h k = go (keep y) refl h (has_filter keep ys x)
     go false e (inl h) below = absurd (let bad : false ≡ true = sym e ∙ ap keep h ∙ k in cc)
     go false e (inr h) below = below h k
 
-kept_all : (keep : Point → Bool) (xs : List Point) → AllOf (λ x. keep x ≡ true) (filter keep xs)
+kept_all : (keep : Placing → Bool) (xs : List Placing) → AllOf (λ x. keep x ≡ true) (filter keep xs)
 kept_all keep [] = tt
 kept_all keep (x ∷ xs) = go (keep x) refl (kept_all keep xs)
   where
@@ -74,7 +74,7 @@ kept_all keep (x ∷ xs) = go (keep x) refl (kept_all keep xs)
     go true e below = (e, below)
     go false e below = below
 
-not_double : (ys : List Point) (x : Point) → is_double ys x ≡ false → AllOf (Differ x) ys
+not_double : (ys : List Placing) (x : Placing) → is_double ys x ≡ false → AllOf (Differ x) ys
 not_double [] x h = tt
 not_double (y ∷ ys) x h = go ((y.item.client == x.item.client) && (y.item.timestamp == x.item.timestamp)) refl h (not_double ys x)
   where
@@ -86,17 +86,17 @@ not_double (y ∷ ys) x h = go ((y.item.client == x.item.client) && (y.item.time
       below k,
     )
 
-double_has : (ys : List Point) (x : Point) → is_double ys x ≡ true → (y : Point) × Has (λ z. z ≡ y) ys × (y.item.client ≡ x.item.client) × (y.item.timestamp ≡ x.item.timestamp)
+double_has : (ys : List Placing) (x : Placing) → is_double ys x ≡ true → (y : Placing) × Has (λ z. z ≡ y) ys × (y.item.client ≡ x.item.client) × (y.item.timestamp ≡ x.item.timestamp)
 double_has [] x h = absurd cc
 double_has (y ∷ ys) x h = go ((y.item.client == x.item.client) && (y.item.timestamp == x.item.timestamp)) refl h (double_has ys x)
   where
     go : (b : Bool) → ((y.item.client == x.item.client) && (y.item.timestamp == x.item.timestamp)) ≡ b → (b || is_double ys x) ≡ true
-        → (is_double ys x ≡ true → (z : Point) × Has (λ w. w ≡ z) ys × (z.item.client ≡ x.item.client) × (z.item.timestamp ≡ x.item.timestamp))
-        → (z : Point) × Has (λ w. w ≡ z) (y ∷ ys) × (z.item.client ≡ x.item.client) × (z.item.timestamp ≡ x.item.timestamp)
+        → (is_double ys x ≡ true → (z : Placing) × Has (λ w. w ≡ z) ys × (z.item.client ≡ x.item.client) × (z.item.timestamp ≡ x.item.timestamp))
+        → (z : Placing) × Has (λ w. w ≡ z) (y ∷ ys) × (z.item.client ≡ x.item.client) × (z.item.timestamp ≡ x.item.timestamp)
     go true e k below = let p = and_parts (y.item.client == x.item.client) (y.item.timestamp == x.item.timestamp) e in (y, inl refl, eqb-true y.item.client x.item.client p.0, eqb-true y.item.timestamp x.item.timestamp p.1)
     go false e k below = let r = below k in (r.0, inr r.1, r.2, r.3)
 
-all_of : (P : Point → Type 0) (xs : List Point) → ((x : Point) → Has (λ y. y ≡ x) xs → P x) → AllOf P xs
+all_of : (P : Placing → Type 0) (xs : List Placing) → ((x : Placing) → Has (λ y. y ≡ x) xs → P x) → AllOf P xs
 all_of P [] f = tt
 all_of P (x ∷ xs) f = (f x (inl refl), all_of P xs (λ y h. f y (inr h)))
 
@@ -127,16 +127,16 @@ module _ (c : Configuration) (trace : List Entry) (full : FullRun c trace) where
   abbrev run : Run c trace
   run = full.run
 
-  abbrev reads : List Point
+  abbrev reads : List Placing
   reads = read_points c trace trace
 
-  abbrev keep : Point → Bool
+  abbrev keep : Placing → Bool
   keep x = not (is_double reads x)
 
-  abbrev kept : List Point
+  abbrev kept : List Placing
   kept = filter keep (all_ordered c trace)
 
-  abbrev all_points : List Point
+  abbrev all_points : List Placing
   all_points = kept ++ reads
 
   -- the ordered ones
@@ -144,7 +144,7 @@ module _ (c : Configuration) (trace : List Entry) (full : FullRun c trace) where
   sources = all_both (Source c trace) (λ x. 1 ≤ x.number) (all_ordered c trace) (ordered_sources c trace opening 1 (last_executed trace)) (points_from c trace opening 1 (last_executed trace))
 
   -- the reads
-  read_made : (y : Point) → Once (MadeAt c trace y) trace → ReadFacts c trace y
+  read_made : (y : Placing) → Once (MadeAt c trace y) trace → ReadFacts c trace y
   read_made y h =
       let at = once_split (MadeAt c trace y) trace h in
       go at.later at.past at.entry at.is at.holds
@@ -172,7 +172,7 @@ module _ (c : Configuration) (trace : List Entry) (full : FullRun c trace) where
   dropped : AllOf (λ o. keep o ≡ false → Changes o) (all_ordered c trace)
   dropped = all_weaker (λ x. Source c trace x × (1 ≤ x.number)) (λ o. keep o ≡ false → Changes o) one (all_ordered c trace) sources
     where
-      one : (o : Point) → Source c trace o × (1 ≤ o.number) → keep o ≡ false → Changes o
+      one : (o : Placing) → Source c trace o × (1 ≤ o.number) → keep o ≡ false → Changes o
       one o s k ts =
           let d = double_has reads o (double (is_double reads o) k) in
           let y = all_has (ReadFacts c trace) reads d.0 facts d.1 in
@@ -193,7 +193,7 @@ module _ (c : Configuration) (trace : List Entry) (full : FullRun c trace) where
           double true e = refl
           double false e = absurd cc
 
-  legal : Legal (map (λ (x : Point). x.item) (sorted all_points))
+  legal : Legal (map (λ (x : Placing). x.item) (sorted all_points))
   legal = sorted_legal (first_position c trace) keep (all_ordered c trace) reads []
       (all_weaker (Source c trace) (IsOrdered (first_position c trace)) (source_ordered c trace) (all_ordered c trace) (ordered_sources c trace opening 1 (last_executed trace)))
       (points_ascend c trace opening 1 (last_executed trace)) dropped
@@ -219,7 +219,7 @@ module _ (c : Configuration) (trace : List Entry) (full : FullRun c trace) where
 
   -- the point of an acceptance
   record Shown (p t : ℕ) (a : Outcome) (past : List Entry) : Type 0 where
-    point : Point
+    point : Placing
     is_there : Has (λ x. x ≡ point) all_points
     client : point.item.client ≡ p
     time : point.item.timestamp ≡ t
@@ -249,9 +249,9 @@ module _ (c : Configuration) (trace : List Entry) (full : FullRun c trace) where
           let r = has_some (IsRanPoint c trace (Answers (256 + cl) t x.vote.number x.vote.answer)) (all_ordered c trace) (ordered_has c trace run later past (Accepted cl t a) is (256 + cl) t a x kind) in
           let q = accepted_place c trace later past (Accepted cl t a) (256 + cl) t a is x in
           let f = r.2 in
-          let client : r.0.item.client ≡ 256 + cl = ap (λ (z : Point). z.item.client) f.is ∙ f.holds.0 in
-          let time : r.0.item.timestamp ≡ t = ap (λ (z : Point). z.item.timestamp) f.is ∙ f.holds.1 in
-          let position : r.0.item.position ≡ f.position = ap (λ (z : Point). z.item.position) f.is in
+          let client : r.0.item.client ≡ 256 + cl = ap (λ (z : Placing). z.item.client) f.is ∙ f.holds.0 in
+          let time : r.0.item.timestamp ≡ t = ap (λ (z : Placing). z.item.timestamp) f.is ∙ f.holds.1 in
+          let position : r.0.item.position ≡ f.position = ap (λ (z : Placing). z.item.position) f.is in
           let place : f.position ≡ q.0 = Options.some_injective f.position q.0 (sym f.place ∙ ap (first_position c trace) (sym f.holds.3) ∙ q.1) in
           let l = q.2 in
           record {
@@ -259,11 +259,11 @@ module _ (c : Configuration) (trace : List Entry) (full : FullRun c trace) where
             is_there = has_left (λ z. z ≡ r.0) kept reads (has_filter keep (all_ordered c trace) r.0 r.1 (single r.0 client time (is_double reads r.0) refl));
             client = client;
             time = time;
-            answer = ap (λ (z : Point). z.item.answer) f.is ∙ f.holds.2 ∙ x.answer;
+            answer = ap (λ (z : Placing). z.item.answer) f.is ∙ f.holds.2 ∙ x.answer;
             bound = omega arith;
           }
         where
-          single : (z : Point) → z.item.client ≡ 256 + cl → z.item.timestamp ≡ t → (b : Bool) → is_double reads z ≡ b → not (is_double reads z) ≡ true
+          single : (z : Placing) → z.item.client ≡ 256 + cl → z.item.timestamp ≡ t → (b : Bool) → is_double reads z ≡ b → not (is_double reads z) ≡ true
           single z client time false e = rw e refl
           single z client time true e =
               let d = double_has reads z e in
@@ -273,12 +273,12 @@ module _ (c : Configuration) (trace : List Entry) (full : FullRun c trace) where
               absurd (one_kind c (256 + cl) t trace full moved (whole (KindAt c false (256 + cl) t) (refl, refl, (x.vote, x.newest, kind))))
 
   accepted_there : (p t : ℕ) (a : Outcome) → is_correct_client c p ≡ true → Once (Accepts p t a) trace
-      → Has (λ item. (item.client ≡ p) × (item.timestamp ≡ t) × (item.answer ≡ a) × Once (Invokes p t item.op) trace) (map (λ (x : Point). x.item) (sorted all_points))
+      → Has (λ item. (item.client ≡ p) × (item.timestamp ≡ t) × (item.answer ≡ a) × Once (Invokes p t item.op) trace) (map (λ (x : Placing). x.item) (sorted all_points))
   accepted_there p t a client h =
       let at = once_split (Accepts p t a) trace h in
       go at.later at.past at.entry at.is at.holds
     where
-      make : (past : List Entry) → Shown p t a past → Has (λ item. (item.client ≡ p) × (item.timestamp ≡ t) × (item.answer ≡ a) × Once (Invokes p t item.op) trace) (map (λ (x : Point). x.item) (sorted all_points))
+      make : (past : List Entry) → Shown p t a past → Has (λ item. (item.client ≡ p) × (item.timestamp ≡ t) × (item.answer ≡ a) × Once (Invokes p t item.op) trace) (map (λ (x : Placing). x.item) (sorted all_points))
       make past s =
           let f = all_has (λ x. ItemFacts c trace x.item) all_points s.point item_facts s.is_there in
           let right : is_correct_client c s.point.item.client ≡ true = subst (λ (i : ℕ). is_correct_client c i ≡ true) (sym s.client) client in
@@ -290,7 +290,7 @@ module _ (c : Configuration) (trace : List Entry) (full : FullRun c trace) where
           (has_sorted (λ x. (x.item.client ≡ p) × (x.item.timestamp ≡ t) × (x.item.answer ≡ a) × Once (Invokes p t x.item.op) trace) all_points
           (has_at (λ x. (x.item.client ≡ p) × (x.item.timestamp ≡ t) × (x.item.answer ≡ a) × Once (Invokes p t x.item.op) trace) all_points s.point s.is_there (s.client, s.time, s.answer, moved)))
 
-      go : (later past : List Entry) (e : Entry) → trace ≡ later ++ e ∷ past → Accepts p t a past e → Has (λ item. (item.client ≡ p) × (item.timestamp ≡ t) × (item.answer ≡ a) × Once (Invokes p t item.op) trace) (map (λ (x : Point). x.item) (sorted all_points))
+      go : (later past : List Entry) (e : Entry) → trace ≡ later ++ e ∷ past → Accepts p t a past e → Has (λ item. (item.client ≡ p) × (item.timestamp ≡ t) × (item.answer ≡ a) × Once (Invokes p t item.op) trace) (map (λ (x : Placing). x.item) (sorted all_points))
       go later past (Accepted cl time answer) is k =
           make past (subst (λ (i : ℕ). Shown i t a past) k.0 (subst (λ (i : ℕ). Shown (256 + cl) i a past) k.1 (subst (λ (b : Outcome). Shown (256 + cl) time b past) k.2 (shown later past cl time answer is))))
       go later past (Invoke x z w) is m = absurd m
@@ -301,14 +301,14 @@ module _ (c : Configuration) (trace : List Entry) (full : FullRun c trace) where
       go later past (Installed x z w) is m = absurd m
 
   -- no point of an accepted call is behind its acceptance
-  before_accepted : (x : Point) → Has (λ y. y ≡ x) all_points → (a : Outcome) → Always (λ past e. Accepts x.item.client x.item.timestamp a past e → x.item.position ≤ length past) trace
+  before_accepted : (x : Placing) → Has (λ y. y ≡ x) all_points → (a : Outcome) → Always (λ past e. Accepts x.item.client x.item.timestamp a past e → x.item.position ≤ length past) trace
   before_accepted x has a = always_split (λ past e. Accepts x.item.client x.item.timestamp a past e → x.item.position ≤ length past) trace go
     where
       go : (later past : List Entry) (e : Entry) → trace ≡ later ++ e ∷ past → Accepts x.item.client x.item.timestamp a past e → x.item.position ≤ length past
       go later past (Accepted cl time answer) is k =
           let s = shown later past cl time answer is in
           let same : s.point ≡ x = differ_same all_points differ s.point x s.is_there has (s.client ∙ k.0) (s.time ∙ k.1) in
-          subst (λ (y : Point). y.item.position ≤ length past) same s.bound
+          subst (λ (y : Placing). y.item.position ≤ length past) same s.bound
       go later past (Invoke y z w) is m = absurd m
       go later past (Got y z) is m = absurd m
       go later past (Tick y) is m = absurd m
@@ -318,10 +318,10 @@ module _ (c : Configuration) (trace : List Entry) (full : FullRun c trace) where
 
   -- ---- together
 
-  item_has : (P : Item → Type 0) → AllOf (λ x. P x.item) all_points → (item : Item) → Has (λ y. y ≡ item) (map (λ (x : Point). x.item) (sorted all_points)) → P item
-  item_has P all item h = all_has P (map (λ (x : Point). x.item) (sorted all_points)) item (has_map_all P (λ (x : Point). x.item) (sorted all_points) (sorted_all (λ x. P x.item) all_points all)) h
+  item_has : (P : Item → Type 0) → AllOf (λ x. P x.item) all_points → (item : Item) → Has (λ y. y ≡ item) (map (λ (x : Placing). x.item) (sorted all_points)) → P item
+  item_has P all item h = all_has P (map (λ (x : Placing). x.item) (sorted all_points)) item (has_map_all P (λ (x : Placing). x.item) (sorted all_points) (sorted_all (λ x. P x.item) all_points all)) h
 
-  linear : IsLinear c (map (λ (x : Point). x.item) (sorted all_points)) trace
+  linear : IsLinear c (map (λ (x : Placing). x.item) (sorted all_points)) trace
   linear = record {
     legal = legal;
     covers = record {
@@ -342,7 +342,7 @@ module _ (c : Configuration) (trace : List Entry) (full : FullRun c trace) where
   unfolding points
   points_linear = linear
 
-any_client : (c : Configuration) (p : ℕ) (xs : List Entry) → RightClient c p xs → AnyClient p xs
+any_client : (c : Configuration) (p : ℕ) (xs : List Entry) → SafeClient c p xs → AnyClient p xs
 any_client c p [] r = tt
 any_client c p (e ∷ xs) r = ((r.0.0, go e r.0.1), any_client c p xs r.1)
   where
@@ -355,7 +355,7 @@ any_client c p (e ∷ xs) r = ((r.0.0, go e r.0.1), any_client c p xs r.1)
     go (Sent x y) h = h
     go (Accepted x y z) h = tt
 
-pub full_run : (c : Configuration) → IsConfiguration c → (trace : List Entry) → IsRightTrace c trace → Unforged c trace → NoCollision c trace → FullRun c trace
+pub full_run : (c : Configuration) → IsConfiguration c → (trace : List Entry) → IsSafeTrace c trace → Unforged c trace → NoCollision c trace → FullRun c trace
 full_run c setting trace right unforged apart = record {
   run = record {
     setting = setting;
@@ -366,7 +366,7 @@ full_run c setting trace right unforged apart = record {
   right = right.clients;
 }
 
-pub linear_of_right : LinearOfRight
+pub linear_of_right : LinearOfSafe
 linear_of_right c setting trace right unforged apart = points_linear c trace (full_run c setting trace right unforged apart)
 
 pub points_are_linear : PointsAreLinear

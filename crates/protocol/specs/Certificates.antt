@@ -8,9 +8,9 @@ use Rattle.sha2.specs.Sha256.{sha256}
 use Rattle.quorum.specs.Quorum.{count_below}
 use Rattle.quorum.specs.Votes.{or_else, give_if, has_digest}
 use Rattle.protocol.specs.Configuration.{Configuration, replicas, primary, span, is_number}
-use Rattle.protocol.specs.Wire.{Body, NewView, Mark, said, requests_of}
-use Rattle.protocol.specs.Wire.Message.{PrePrepare, Prepare, Commit, Checkpoint, Change, Begin}
-use Rattle.protocol.specs.Keys.{heard, signed_body}
+use Rattle.wire.specs.Messages.{BodyData as Body, NewViewData as NewView, MarkData as Mark, pre_prepare as PrePrepare, prepare as Prepare, commit as Commit, checkpoint as Checkpoint, view_change as Change, new_view as Begin}
+use Rattle.wire.specs.Words.{requests_of}
+use Rattle.protocol.specs.Frames.{said, heard, signed_body}
 use Rattle.protocol.specs.Trace.{Entry}
 use Rattle.protocol.specs.Trace.Entry.{Got, Installed, Sent}
 use Rattle.protocol.specs.Selection.{is_quorum, may_select}
@@ -84,29 +84,29 @@ checkpoint_from body = elim body.message [ Checkpoint number root ↦ give_if (i
 abbrev pub checkpoint_in : Configuration → Entry → Option (ℕ × Mark)
 checkpoint_in c e = option_and_then checkpoint_from (brought c e)
 
-abbrev pub insert_mark : Mark → List Mark → List Mark
-insert_mark mark [] = mark ∷ []
-insert_mark mark (m ∷ ms) = if m.number == mark.number then m ∷ ms else if nat_lt m.number mark.number then mark ∷ m ∷ ms else m ∷ insert_mark mark ms
+abbrev pub insert_checkpoint : Mark → List Mark → List Mark
+insert_checkpoint mark [] = mark ∷ []
+insert_checkpoint mark (m ∷ ms) = if m.number == mark.number then m ∷ ms else if nat_lt m.number mark.number then mark ∷ m ∷ ms else m ∷ insert_checkpoint mark ms
 
-abbrev pub with_mark : ℕ → Option (ℕ × Mark) → List Mark → List Mark
-with_mark s None marks = marks
-with_mark s (Some x) marks = if x.0 == s then take 3 (insert_mark x.1 marks) else marks
+abbrev pub with_checkpoint : ℕ → Option (ℕ × Mark) → List Mark → List Mark
+with_checkpoint s None marks = marks
+with_checkpoint s (Some x) marks = if x.0 == s then take 3 (insert_checkpoint x.1 marks) else marks
 
 -- of each sender the checkpoints of the three largest numbers, the largest first; of one number the first counts
-unfoldable pub marks_of : Configuration → List Entry → ℕ → List Mark
-marks_of c [] s = []
-marks_of c (e ∷ past) s = with_mark s (checkpoint_in c e) (marks_of c past s)
+unfoldable pub checkpoints_of : Configuration → List Entry → ℕ → List Mark
+checkpoints_of c [] s = []
+checkpoints_of c (e ∷ past) s = with_checkpoint s (checkpoint_in c e) (checkpoints_of c past s)
 
-abbrev pub has_mark : Mark → List Mark → Bool
-has_mark mark marks = list_any (λ m. (m.number == mark.number) && bytes_eq m.digest mark.digest) marks
+abbrev pub says_checkpoint : Mark → List Mark → Bool
+says_checkpoint mark marks = list_any (λ m. (m.number == mark.number) && bytes_eq m.digest mark.digest) marks
 
 -- how many different replicas' checkpoints say this
-abbrev pub count_marks : Configuration → List Entry → Mark → ℕ
-count_marks c past mark = count_below (λ s. has_mark mark (marks_of c past s)) (replicas c)
+abbrev pub count_checkpoints : Configuration → List Entry → Mark → ℕ
+count_checkpoints c past mark = count_below (λ s. says_checkpoint mark (checkpoints_of c past s)) (replicas c)
 
 -- Stable: a quorum of checkpoints is alike, the own among them.
 abbrev pub is_stable : Configuration → ℕ → List Entry → Mark → Bool
-is_stable c me past mark = is_quorum c (count_marks c past mark) && has_mark mark (marks_of c past me)
+is_stable c me past mark = is_quorum c (count_checkpoints c past mark) && says_checkpoint mark (checkpoints_of c past me)
 
 -- ---- the low mark
 

@@ -5,14 +5,13 @@ use Rattle.sha2.specs.Sha256.{sha256}
 use Rattle.tuple_codec.specs.Operations.{Operation, IsOperation}
 use Rattle.space.specs.Applying.{is_read_only}
 use Rattle.protocol.specs.Configuration.{Configuration, IsConfiguration, is_correct_client}
-use Rattle.protocol.specs.Wire.{Frame, ViewChange, frame_of, said}
-use Rattle.protocol.specs.Wire.Message.{PrePrepare, Prepare, Commit}
-use Rattle.protocol.specs.Keys.{heard, IsSealed}
+use Rattle.wire.specs.Messages.{FrameData as Frame, ViewChangeData as ViewChange, pre_prepare as PrePrepare, prepare as Prepare, commit as Commit}
+use Rattle.protocol.specs.Frames.{frame_of, said, heard, IsSealed, receivers_of}
 use Rattle.protocol.specs.Trace.{Entry}
 use Rattle.protocol.specs.Trace.Entry.{Invoke, Got, Executed, Sent}
 use Rattle.protocol.specs.Selection.{signed_change, may_select}
 use Rattle.protocol.specs.Certificates.{are_genuine, Committed}
-use Rattle.protocol.specs.RightReplica.{RightReplica}
+use Rattle.protocol.specs.RightReplica.{SafeReplica, others}
 use Rattle.protocol.specs.RightClient.{IsRequest}
 use Rattle.protocol.specs.Run.{IsRun}
 
@@ -30,8 +29,8 @@ pub record IsFirstBatch (c : Configuration) (batch pre_prepare own_prepare other
   pub commits : said own_commit ≡ Some (record { sender = 1; message = Commit 0 1 (sha256 batch) })
   pub first_commits : heard c 1 first_commit ≡ Some (record { sender = 0; message = Commit 0 1 (sha256 batch) })
   pub second_commits : heard c 1 second_commit ≡ Some (record { sender = 2; message = Commit 0 1 (sha256 batch) })
-  pub prepare_sealed : (frame : Frame) → frame_of own_prepare ≡ Some frame → IsSealed c 1 frame
-  pub commit_sealed : (frame : Frame) → frame_of own_commit ≡ Some frame → IsSealed c 1 frame
+  pub prepare_sealed : (frame : Frame) → frame_of own_prepare ≡ Some frame → IsSealed c frame × (receivers_of frame.proof ≡ others c 1)
+  pub commit_sealed : (frame : Frame) → frame_of own_commit ≡ Some frame → IsSealed c frame × (receivers_of frame.proof ≡ others c 1)
 
 -- its history, the newest first, up to the quorum of commits
 abbrev pub first_batch : List ℕ → List ℕ → List ℕ → List ℕ → List ℕ → List ℕ → List Entry
@@ -43,7 +42,7 @@ abbrev pub FirstBatchExecutes : Type 0
 FirstBatchExecutes =
     (clients : ℕ) (seed batch a b d e f g : List ℕ) → IsFirstBatch (four clients seed) batch a b d e f g
     → Committed (four clients seed) 1 (first_batch a b d e f g) 0 1 batch
-    × RightReplica (four clients seed) 1 (Executed 1 1 batch ∷ first_batch a b d e f g)
+    × SafeReplica (four clients seed) 1 (Executed 1 1 batch ∷ first_batch a b d e f g)
 
 -- A trace in which a correct client has invoked an operation and asked all replicas for it, and nothing has come yet, is a
 -- run.
@@ -62,7 +61,7 @@ holding batch root = record {
   low = 0;
   checkpoints = record { number = 0; digest = root } ∷ [];
   prepared = record { number = 1; digest = sha256 batch; view = 0 } ∷ [];
-  proposed = record { number = 1; digest = sha256 batch; view = 0 } ∷ [];
+  pre_prepared = record { number = 1; digest = sha256 batch; view = 0 } ∷ [];
 }
 
 -- The new view over their view changes that starts at 0 and has the batch for number 1 meets the rules.

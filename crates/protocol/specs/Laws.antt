@@ -1,25 +1,49 @@
--- The laws of agreement.
-use Rattle.std.specs.Prelude.{◌≡◌, ℕ, ◌^◌, ◌≤◌, ◌<◌, ◌⊎◌, true, List, length, Some}
+-- The laws: what bytes say, and agreement.
+use Rattle.std.specs.Prelude.{◌≡◌, ◌↔◌, ℕ, ◌^◌, ◌≤◌, ◌<◌, ◌⊎◌, true, List, length, Some}
 use Rattle.sha2.specs.Sha256.{sha256}
 use Rattle.protocol.specs.Configuration.{Configuration, IsConfiguration, is_correct, is_correct_replica, is_correct_client}
-use Rattle.protocol.specs.Wire.{NewView}
-use Rattle.protocol.specs.Trace.{Entry, party_of, history_of, Once, Always, Unforged}
+use Rattle.tuple_tree.specs.Values.{AreBytes}
+use Rattle.wire.specs.Messages.{FrameData as Frame, NewViewData as NewView}
+use Rattle.wire.specs.Spelling.{SpellsFrame}
+use Rattle.signing.specs.Heard.{heard as heard_among, signed_body as signed_among}
+use Rattle.protocol.specs.Frames.{members, frame_of, said, heard, signed_body}
+use Rattle.protocol.specs.Trace.{Entry, party_of, history_of, Once, Always, Has, Unforged}
 use Rattle.protocol.specs.Trace.Entry.{Installed}
 use Rattle.protocol.specs.Certificates.{Prepared, Committed, taken, batch_begun}
-use Rattle.protocol.specs.RightReplica.{RightReplica, Point, Leaves, HadQuorum, StartsAt}
-use Rattle.protocol.specs.RightClient.{RightClient, WeakClient}
+use Rattle.protocol.specs.RightReplica.{SafeReplica, HadQuorum, StartsAt}
+use Rattle.protocol.specs.RightClient.{SafeClient, SafeWeakClient}
 use Rattle.protocol.specs.Linear.{points, IsLinear, Item, Legal, Covers}
 use Rattle.protocol.specs.State.{State, IsState, opening, after_batches, page_text, root_of}
-use Rattle.protocol.specs.Texts.{NoCollision, ExecutesBatch, AreExecuted}
+use Rattle.protocol.specs.Texts.{NoCollision, StoodAt, ExecutesBatch, AreExecuted}
 
--- Each correct replica's history is right.
-abbrev pub AreReplicasRight : Configuration → List Entry → Type 0
-AreReplicasRight c trace = (p : ℕ) → is_correct_replica c p ≡ true → RightReplica c p (history_of p trace)
+-- ---- bytes
+
+-- A list of bytes spells what its grammar says.
+abbrev pub FramesAreSpelled : Type 0
+FramesAreSpelled = (bytes : List ℕ) (frame : Frame) → AreBytes bytes → (frame_of bytes ≡ Some frame) ↔ SpellsFrame bytes frame
+
+-- What a spelled frame says is its body.
+abbrev pub BodiesAreSaid : Type 0
+BodiesAreSaid = (bytes : List ℕ) (frame : Frame) → AreBytes bytes → SpellsFrame bytes frame → said bytes ≡ Some frame.body
+
+-- What a party takes from bytes is what it hears from them in its configuration, and a signed body is one.
+pub record IsAsHeard (c : Configuration) (bytes : List ℕ) : Type 0 where
+  pub heard : (me : ℕ) → heard c me bytes ≡ heard_among (members c) me bytes
+  pub signed : signed_body c bytes ≡ signed_among (members c) bytes
+
+abbrev pub BytesAreHeard : Type 0
+BytesAreHeard = (c : Configuration) (bytes : List ℕ) → AreBytes bytes → IsAsHeard c bytes
+
+-- ---- agreement
+
+-- Each correct replica's history is safe.
+abbrev pub AreReplicasSafe : Configuration → List Entry → Type 0
+AreReplicasSafe c trace = (p : ℕ) → is_correct_replica c p ≡ true → SafeReplica c p (history_of p trace)
 
 -- What two correct replicas hold prepared in one view for one number has one digest.
 abbrev pub PreparedAgree : Type 0
 PreparedAgree =
-    (c : Configuration) → IsConfiguration c → (trace : List Entry) → AreReplicasRight c trace → Unforged c trace
+    (c : Configuration) → IsConfiguration c → (trace : List Entry) → AreReplicasSafe c trace → Unforged c trace
     → (p q v i : ℕ) (a b : List ℕ) → is_correct_replica c p ≡ true → is_correct_replica c q ≡ true
     → Prepared c p (history_of p trace) v i a → Prepared c q (history_of q trace) v i b → sha256 a ≡ sha256 b
 
@@ -34,7 +58,7 @@ Takes c new past e = taken c past e ≡ Some new
 -- starts at or above the number.
 abbrev pub CommittedStays : Type 0
 CommittedStays =
-    (c : Configuration) → IsConfiguration c → (trace : List Entry) → AreReplicasRight c trace → Unforged c trace
+    (c : Configuration) → IsConfiguration c → (trace : List Entry) → AreReplicasSafe c trace → Unforged c trace
     → (p q v i : ℕ) (a : List ℕ) (new : NewView) → is_correct_replica c p ≡ true → is_correct_replica c q ≡ true
     → Committed c p (history_of p trace) v i a → Once (Takes c new) (history_of q trace) → v < new.view
     → HasOrStartsAbove i (sha256 a) new
@@ -42,14 +66,14 @@ CommittedStays =
 -- What two correct replicas hold committed for one number has one digest, over all views.
 abbrev pub CommittedAgree : Type 0
 CommittedAgree =
-    (c : Configuration) → IsConfiguration c → (trace : List Entry) → AreReplicasRight c trace → Unforged c trace
+    (c : Configuration) → IsConfiguration c → (trace : List Entry) → AreReplicasSafe c trace → Unforged c trace
     → (p q v w i : ℕ) (a b : List ℕ) → is_correct_replica c p ≡ true → is_correct_replica c q ≡ true
     → Committed c p (history_of p trace) v i a → Committed c q (history_of q trace) w i b → sha256 a ≡ sha256 b
 
 -- What two correct replicas execute for one number is one batch.
 abbrev pub ExecutedAgree : Type 0
 ExecutedAgree =
-    (c : Configuration) → IsConfiguration c → (trace : List Entry) → AreReplicasRight c trace → Unforged c trace → NoCollision c trace
+    (c : Configuration) → IsConfiguration c → (trace : List Entry) → AreReplicasSafe c trace → Unforged c trace → NoCollision c trace
     → (k : ℕ) (a b : List ℕ) → Once (ExecutesBatch c k a) trace → Once (ExecutesBatch c k b) trace → a ≡ b
 
 -- ---- states
@@ -62,12 +86,28 @@ PagesDetermine = (st other : State) → IsState st → IsState other → ((i : �
 abbrev pub BatchesLeaveStates : Type 0
 BatchesLeaveStates = (c : Configuration) (batches : List (List ℕ)) → IsConfiguration c → length batches < 2 ^ 48 → IsState (after_batches c opening batches)
 
--- Two correct replicas' states of one number are one state.
+-- some correct replica had the state at some time of the trace, as its own or as a snapshot
+abbrev pub Had : Configuration → List Entry → State → Type 0
+Had c trace st = (at : StoodAt c trace) × ((at.point.state ≡ st) ⊎ Has (λ x. x ≡ st) at.point.snapshots)
+
+-- it is the state after batches that were executed
+pub record IsStateOf (c : Configuration) (trace : List Entry) (st : State) : Type 0 where
+  pub batches : List (List ℕ)
+  pub executed : AreExecuted c trace 1 batches
+  pub is : st ≡ after_batches c opening batches
+
+-- Each state that a correct replica ever has, executed, kept or installed, is that of the executed batches up to its
+-- number.
+abbrev pub StatesAreExecuted : Type 0
+StatesAreExecuted =
+    (c : Configuration) → IsConfiguration c → (trace : List Entry) → AreReplicasSafe c trace → Unforged c trace → NoCollision c trace
+    → (st : State) → Had c trace st → IsStateOf c trace st
+
+-- So those of one number, whenever and wherever, are one state.
 abbrev pub StatesAgree : Type 0
 StatesAgree =
-    (c : Configuration) → IsConfiguration c → (trace : List Entry) → AreReplicasRight c trace → Unforged c trace → NoCollision c trace
-    → (p q : ℕ) (x y : Point) → is_correct_replica c p ≡ true → is_correct_replica c q ≡ true
-    → Leaves c p (history_of p trace) x → Leaves c q (history_of q trace) y → x.state.number ≡ y.state.number → x.state ≡ y.state
+    (c : Configuration) → IsConfiguration c → (trace : List Entry) → AreReplicasSafe c trace → Unforged c trace → NoCollision c trace
+    → (x y : State) → Had c trace x → Had c trace y → x.number ≡ y.number → x ≡ y
 
 -- the root is that of the state of the executed batches up to the number
 pub record IsRootOf (c : Configuration) (trace : List Entry) (k : ℕ) (root : List ℕ) : Type 0 where
@@ -83,7 +123,7 @@ Installs k root past _ = ⊥
 -- what happens at a correct replica with a number and a root gives the root of the executed batches
 abbrev pub GivesRoots : (Configuration → ℕ → List ℕ → List Entry → Type 0) → Type 0
 GivesRoots Happens =
-    (c : Configuration) → IsConfiguration c → (trace : List Entry) → AreReplicasRight c trace → Unforged c trace → NoCollision c trace
+    (c : Configuration) → IsConfiguration c → (trace : List Entry) → AreReplicasSafe c trace → Unforged c trace → NoCollision c trace
     → (r k : ℕ) (root : List ℕ) → is_correct_replica c r ≡ true → Happens c k root (history_of r trace) → IsRootOf c trace k root
 
 -- What a quorum of checkpoints says, what is installed, and what a new view starts with, has the root of the executed
@@ -100,14 +140,14 @@ StartsAgree = GivesRoots (λ c k root history. Once (StartsAt c k root) history)
 -- ---- points
 
 -- what the laws use of a run: what its correct replicas and clients do, they may do, and no others have entries
-pub record IsRightTrace (c : Configuration) (trace : List Entry) : Type 0 where
-  pub replicas : AreReplicasRight c trace
-  pub clients : (p : ℕ) → is_correct_client c p ≡ true → RightClient c p (history_of p trace)
+pub record IsSafeTrace (c : Configuration) (trace : List Entry) : Type 0 where
+  pub replicas : AreReplicasSafe c trace
+  pub clients : (p : ℕ) → is_correct_client c p ≡ true → SafeClient c p (history_of p trace)
   pub parties : Always (λ past e. is_correct c (party_of e) ≡ true) trace
 
-abbrev pub LinearOfRight : Type 0
-LinearOfRight =
-    (c : Configuration) → IsConfiguration c → (trace : List Entry) → IsRightTrace c trace → Unforged c trace → NoCollision c trace
+abbrev pub LinearOfSafe : Type 0
+LinearOfSafe =
+    (c : Configuration) → IsConfiguration c → (trace : List Entry) → IsSafeTrace c trace → Unforged c trace → NoCollision c trace
     → IsLinear c (points c trace) trace
 
 -- Some list of items is legal and covers the trace, under the client that accepts at f + 1 replies of one answer too: one
@@ -118,9 +158,9 @@ pub record IsOneSpace (c : Configuration) (trace : List Entry) : Type 0 where
   pub covers : Covers c items trace
 
 abbrev pub AreClientsWeak : Configuration → List Entry → Type 0
-AreClientsWeak c trace = (p : ℕ) → is_correct_client c p ≡ true → WeakClient c p (history_of p trace)
+AreClientsWeak c trace = (p : ℕ) → is_correct_client c p ≡ true → SafeWeakClient c p (history_of p trace)
 
 abbrev pub WeakIsOneSpace : Type 0
 WeakIsOneSpace =
-    (c : Configuration) → IsConfiguration c → (trace : List Entry) → AreReplicasRight c trace → AreClientsWeak c trace
+    (c : Configuration) → IsConfiguration c → (trace : List Entry) → AreReplicasSafe c trace → AreClientsWeak c trace
     → Always (λ past e. is_correct c (party_of e) ≡ true) trace → Unforged c trace → NoCollision c trace → IsOneSpace c trace

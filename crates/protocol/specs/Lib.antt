@@ -1,6 +1,5 @@
 pub mod Configuration
-pub mod Wire
-pub mod Keys
+pub mod Frames
 pub mod Trace
 pub mod Selection
 pub mod Certificates

@@ -7,9 +7,10 @@ use Rattle.space.specs.Applying.{outcome, tuples_after}
 use Rattle.quorum.specs.Quorum.{count_below}
 use Rattle.quorum.specs.Votes.{give_if}
 use Rattle.protocol.specs.Configuration.{Configuration, replicas, is_correct_replica, is_correct_client}
-use Rattle.protocol.specs.Wire.{requests_of}
-use Rattle.protocol.specs.Wire.Message.{Request}
-use Rattle.protocol.specs.Keys.{heard}
+use Rattle.wire.specs.declared.terms.Mode.TheVariants as modes
+use Rattle.wire.specs.Messages.{request as Request}
+use Rattle.wire.specs.Words.{requests_of}
+use Rattle.protocol.specs.Frames.{heard}
 use Rattle.protocol.specs.Trace.{Entry, history_of, frames_in, Once, Always, Has}
 use Rattle.protocol.specs.Trace.Entry.{Invoke, Got, Executed, Installed, Accepted}
 use Rattle.protocol.specs.Certificates.{first_given, greatest}
@@ -49,7 +50,7 @@ Accepts p timestamp answer past _ = ⊥
 abbrev pub Asks : Configuration → ℕ → ℕ → Operation → List Entry → Entry → Type 0
 Asks c client timestamp op past (Got p bytes) =
     (is_correct_replica c p ≡ true)
-    × Has (λ frame. heard c p frame ≡ Some (record { sender = client; message = Request timestamp false op })) (frames_in bytes)
+    × Has (λ frame. heard c p frame ≡ Some (record { sender = client; message = Request timestamp modes.Ordered op })) (frames_in bytes)
 Asks c client timestamp op past _ = ⊥
 
 abbrev pub NoneTwice : List Item → Type 0
@@ -132,12 +133,12 @@ abbrev pub last_executed : List Entry → ℕ
 last_executed past = greatest executed_at past
 
 -- an item with what orders it
-pub record Point : Type 0 where
+pub record Placing : Type 0 where
   pub item : Item
   pub number : ℕ
   pub read_only : Bool
 
-abbrev pub ordered_point : ℕ → ℕ → Ran → Point
+abbrev pub ordered_point : ℕ → ℕ → Ran → Placing
 ordered_point position number ran = record {
   item = record { client = 256 + ran.call.client; timestamp = ran.call.timestamp; op = ran.call.op; answer = ran.kept.outcome; position = position };
   number = number;
@@ -145,25 +146,24 @@ ordered_point position number ran = record {
 }
 
 -- the requests that ran, batch by batch from the number k on, where their level comes
-abbrev pub ordered_points : Configuration → List Entry → State → ℕ → ℕ → List Point
+abbrev pub ordered_points : Configuration → List Entry → State → ℕ → ℕ → List Placing
 ordered_points c trace st k zero = []
 ordered_points c trace st k (suc more) =
     option_map_or (λ position. map (ordered_point position k) (ran_in c k st (requests_of (batch_of trace k)))) (first_position c trace k) []
     ++ ordered_points c trace (execute c st (batch_of trace k)) (suc k) more
 
--- the past of the client's latest invocation, and its position
+-- the past of the client's latest invocation
 abbrev pub invoke_past : ℕ → List Entry → List Entry
 invoke_past p [] = []
 invoke_past p (Invoke client t op ∷ past) = if 256 + client == p then past else invoke_past p past
 invoke_past p (_ ∷ past) = invoke_past p past
 
+-- its position
 abbrev pub invoked_at : ℕ → List Entry → ℕ
-invoked_at p [] = 0
-invoked_at p (Invoke client t op ∷ past) = if 256 + client == p then length past else invoked_at p past
-invoked_at p (_ ∷ past) = invoked_at p past
+invoked_at p past = length (invoke_past p past)
 
 -- the read that an acceptance ends, where its replies were read-only
-abbrev pub read_point : Configuration → List Entry → ℕ → OpenCall → Outcome → List Entry → Vote → Option Point
+abbrev pub read_point : Configuration → List Entry → ℕ → OpenCall → Outcome → List Entry → Vote → Option Placing
 read_point c trace p call answer past vote = give_if vote.read_only (record {
   item = record {
     client = p;
@@ -176,7 +176,7 @@ read_point c trace p call answer past vote = give_if vote.read_only (record {
   read_only = true;
 })
 
-abbrev pub read_points : Configuration → List Entry → List Entry → List Point
+abbrev pub read_points : Configuration → List Entry → List Entry → List Placing
 read_points c trace [] = []
 read_points c trace (Accepted client timestamp answer ∷ past) =
     option_map_or (λ point. point ∷ [])
@@ -185,22 +185,23 @@ read_points c trace (Accepted client timestamp answer ∷ past) =
     ++ read_points c trace past
 read_points c trace (_ ∷ past) = read_points c trace past
 
--- by position, number, ordered before read-only, and then client and timestamp of reads
-abbrev pub comes_before : Point → Point → Bool
+-- By position, number, ordered before read-only, and then client and timestamp of reads. Of two ordered ones of a batch the
+-- one that stands first comes first, so they stay in their order.
+abbrev pub comes_before : Placing → Placing → Bool
 comes_before x y =
     nat_lt x.item.position y.item.position || ((x.item.position == y.item.position)
     && (nat_lt x.number y.number || ((x.number == y.number)
     && (not x.read_only || (y.read_only && (nat_lt x.item.client y.item.client || ((x.item.client == y.item.client) && nat_le x.item.timestamp y.item.timestamp)))))))
 
-abbrev pub insert_point : Point → List Point → List Point
+abbrev pub insert_point : Placing → List Placing → List Placing
 insert_point x [] = x ∷ []
 insert_point x (y ∷ ys) = if comes_before x y then x ∷ y ∷ ys else y ∷ insert_point x ys
 
-abbrev pub sorted : List Point → List Point
+abbrev pub sorted : List Placing → List Placing
 sorted [] = []
 sorted (x ∷ xs) = insert_point x (sorted xs)
 
-abbrev pub is_double : List Point → Point → Bool
+abbrev pub is_double : List Placing → Placing → Bool
 is_double [] x = false
 is_double (y ∷ ys) x = ((y.item.client == x.item.client) && (y.item.timestamp == x.item.timestamp)) || is_double ys x
 
@@ -208,5 +209,5 @@ is_double (y ∷ ys) x = ((y.item.client == x.item.client) && (y.item.timestamp 
 -- that were accepted read-only; and those reads, at that position or at their invocation, whichever is later.
 unfoldable pub points : Configuration → List Entry → List Item
 points c trace =
-    let reads : List Point = read_points c trace trace in
+    let reads : List Placing = read_points c trace trace in
     map (λ x. x.item) (sorted (filter (λ x. not (is_double reads x)) (ordered_points c trace opening 1 (last_executed trace)) ++ reads))

@@ -1,24 +1,28 @@
--- What a correct replica owes in an event: everything that the event's input brings about, and nothing where the input is
--- dropped (Castro and Liskov, TOCS 2002, sections 4.2 to 4.5). No law of agreement uses it. It speaks of the same states
--- as what the replica may do.
-use Rattle.std.specs.Prelude.{◌≡◌, ◌≢◌, ℕ, suc, ◌+◌, ◌%◌, ◌≤◌, ◌<◌, ◌⊎◌, Bool, true, false, ◌&&◌, List, [], ◌∷◌, ◌++◌, reverse, nat_lt, ◌==◌, if◌then◌else◌, Some, None, is_some, ⊤}
+-- What a correct replica owes in an event: all that the event's input brings about, until nothing more is due, and
+-- nothing where the input is dropped (Castro and Liskov, TOCS 2002, sections 4.2 to 4.5). No law of agreement uses it. It
+-- speaks of the same states as what the replica may do.
+use Rattle.std.specs.Prelude.{◌≡◌, ◌≢◌, ℕ, suc, ◌+◌, ◌%◌, ◌≤◌, ◌<◌, ◌⊎◌, Bool, true, false, ◌&&◌, List, [], ◌∷◌, ◌++◌, reverse, max, nat_lt, ◌==◌, if◌then◌else◌, Option, Some, None, is_some, option_and_then, ⊤}
 use Rattle.std.specs.List.{list_any}
 use Rattle.std.specs.Option.{option_map_or}
 use Rattle.sha2.specs.Sha256.{sha256}
 use Rattle.tuple_codec.specs.Operations.{Operation}
 use Rattle.space.specs.Applying.{outcome, is_read_only}
+use Rattle.quorum.specs.Votes.{or_else}
 use Rattle.protocol.specs.Configuration.{Configuration, primary, is_number}
-use Rattle.protocol.specs.Wire.{Body, Message, NewView, Mark, said, requests_of}
-use Rattle.protocol.specs.Wire.Message.{Request, PrePrepare, Prepare, Commit, Checkpoint, Change, Begin, Reply, Fetch, Meta, Page}
-use Rattle.protocol.specs.Keys.{heard, signed_body}
-use Rattle.protocol.specs.Trace.{Entry, party_of, Once, Has, Each, Hears}
+use Rattle.wire.specs.declared.terms.Mode.TheVariants as modes
+use Rattle.wire.specs.declared.terms.Level.{Level}
+use Rattle.wire.specs.declared.terms.Level.TheVariants as levels
+use Rattle.wire.specs.Spelling.{has_children}
+use Rattle.wire.specs.Messages.{BodyData as Body, MessageData as Message, NewViewData as NewView, MarkData as Mark, request as Request, pre_prepare as PrePrepare, prepare as Prepare, commit as Commit, checkpoint as Checkpoint, view_change as Change, new_view as Begin, reply as Reply, fetch as Fetch, meta as Meta, page as Page}
+use Rattle.wire.specs.Words.{requests_of}
+use Rattle.protocol.specs.Frames.{frame_of, said, heard, signed_body, receivers_of}
+use Rattle.protocol.specs.Trace.{Entry, party_of, is_output, Once, Has, Each, either, Hears}
 use Rattle.protocol.specs.Trace.Entry.{Got, Tick, Sent}
 use Rattle.protocol.specs.Selection.{is_quorum, signed_change, is_within}
-use Rattle.protocol.specs.Certificates.{greatest, view, is_active_in, taken, marks_of, count_marks, low, is_in_marks, entry_proposal, logged, prepare_from, commit_from, vote_in, prepare_of, commit_of, Prepared, Committed}
+use Rattle.protocol.specs.Certificates.{greatest, view, is_active_in, taken, checkpoints_of, count_checkpoints, low, is_in_marks, entry_proposal, logged, prepare_from, commit_from, vote_in, prepare_of, commit_of, Prepared, Committed}
 use Rattle.reply_cache.specs.Replies.{Kept}
 use Rattle.protocol.specs.State.{State, Call, call_of, Ran, kept_of, last_time, tuples, root_of, page_text}
-use Rattle.protocol.specs.RightReplica.{Point, start, IsStep, KeptState, Executes, digests_at}
-use Rattle.protocol.specs.RightClient.{is_output, either}
+use Rattle.protocol.specs.RightReplica.{Point, first_point, reply_of, IsStep, KeptState, Executes, digests_at}
 
 -- ---- words on outputs
 
@@ -29,6 +33,15 @@ IsSaying me message _ = ⊥
 -- one of the outputs is a frame of this message
 abbrev pub Gives : ℕ → Message → List Entry → Type 0
 Gives me message outputs = Has (IsSaying me message) outputs
+
+-- one of them is a frame of this message for the replica s
+abbrev pub IsSayingTo : ℕ → ℕ → Message → Entry → Type 0
+IsSayingTo me s message (Sent p bytes) =
+    (said bytes ≡ Some (record { sender = me; message = message })) × (option_map_or (λ frame. receivers_of frame.proof) (frame_of bytes) [] ≡ s ∷ [])
+IsSayingTo me s message _ = ⊥
+
+abbrev pub GivesTo : ℕ → ℕ → Message → List Entry → Type 0
+GivesTo me s message outputs = Has (IsSayingTo me s message) outputs
 
 -- at each of the outputs, the oldest first, with its past
 abbrev pub AtOutputs : (List Entry → Entry → Type 0) → List Entry → List Entry → Type 0
@@ -42,6 +55,15 @@ fetch_sent _ = 0
 -- the number of the latest transfer, which is open while it is above the state's
 abbrev pub fetching : List Entry → ℕ
 fetching past = greatest fetch_sent past
+
+abbrev pub place_from : Body → Option (ℕ × (Level × ℕ))
+place_from body = elim body.message [ Fetch k level index ↦ Some (k, (level, index)) | _ ↦ None ]
+
+-- the place that was asked for last: one fetch is open at a time
+abbrev pub asked_last : List Entry → Option (ℕ × (Level × ℕ))
+asked_last [] = None
+asked_last (Sent p bytes ∷ past) = or_else (option_and_then place_from (said bytes)) (asked_last past)
+asked_last (_ ∷ past) = asked_last past
 
 -- ---- requests that a view has numbered
 
@@ -59,9 +81,9 @@ HasRequest c client timestamp batch = Has (λ frame. (call : Call) × (call_of c
 abbrev pub IsNumbered : Configuration → ℕ → List Entry → ℕ → ℕ → ℕ → Type 0
 IsNumbered c me past v client timestamp = (batch : List ℕ) × IsOfView c me past v batch × HasRequest c client timestamp batch
 
--- a number in the marks above all that the view has used
-abbrev pub IsFree : Configuration → ℕ → List Entry → ℕ → ℕ → Type 0
-IsFree c me past v i = (is_in_marks c (low c me past) i ≡ true) × ((j : ℕ) → i ≤ j → logged c me past v j ≡ None)
+-- a number in the marks above all that the view has used, and at most two above the executed number k
+abbrev pub IsFree : Configuration → ℕ → List Entry → ℕ → ℕ → ℕ → Type 0
+IsFree c me past k v i = (is_in_marks c (low c me past) i ≡ true) × (i ≤ k + 2) × ((j : ℕ) → i ≤ j → logged c me past v j ≡ None)
 
 -- a pre-prepare that isn't sent again numbers no request that the view has numbered
 abbrev pub NumbersOnce : Configuration → ℕ → List Entry → Entry → Type 0
@@ -70,7 +92,7 @@ NumbersOnce c me past (Sent p bytes) =
     → (client timestamp : ℕ) → HasRequest c client timestamp batch → IsNumbered c me past v client timestamp → ⊥
 NumbersOnce c me past _ = ⊤
 
--- ---- inputs that count; all others are dropped
+-- ---- inputs that count; all others are dropped (whether a part has the digest that was asked for is told by the transfer)
 
 abbrev pub has_number : ℕ → List Mark → Bool
 has_number k marks = list_any (λ m. m.number == k) marks
@@ -79,10 +101,16 @@ has_number k marks = list_any (λ m. m.number == k) marks
 abbrev pub change_taken : Configuration → ℕ → ℕ → List ℕ → ℕ
 change_taken c v s bytes = option_map_or (λ x. if (x.0 == s) && nat_lt v x.1.view && is_within c x.1 then x.1.view else 0) (signed_change c bytes) 0
 
+-- got, or the own one, sent
+abbrev pub change_at : Configuration → List Entry → Entry → ℕ → ℕ
+change_at c past (Got p bytes) s = change_taken c (view c past) s bytes
+change_at c past (Sent p bytes) s = change_taken c (view c past) s bytes
+change_at c past _ s = 0
+
+-- the greatest of them
 abbrev pub latest_change : Configuration → List Entry → ℕ → ℕ
 latest_change c [] s = 0
-latest_change c (Got p bytes ∷ past) s = let v : ℕ = change_taken c (view c past) s bytes in if nat_lt (latest_change c past s) v then v else latest_change c past s
-latest_change c (_ ∷ past) s = latest_change c past s
+latest_change c (e ∷ past) s = max (latest_change c past s) (change_at c past e s)
 
 -- the waiting requests of the client are older, or this very one
 abbrev pub IsNoOlder : List Call → ℕ → ℕ → Operation → Type 0
@@ -90,21 +118,21 @@ IsNoOlder waiting client timestamp op = Each (λ call. call.client ≡ client �
 
 -- a rule takes the message
 abbrev pub Counts : Configuration → ℕ → List Entry → Point → List ℕ → ℕ → Message → Type 0
-Counts c me past point bytes s (Request t true op) = is_read_only op ≡ true
-Counts c me past point bytes s (Request t false op) =
+Counts c me past point bytes s (Request t modes.ReadOnly op) = is_read_only op ≡ true
+Counts c me past point bytes s (Request t modes.Ordered op) =
     (k : ℕ) × (s ≡ 256 + k)
     × (((kept : Kept) × (kept_of point.state k ≡ Some kept) × (kept.timestamp ≡ t)) ⊎ ((last_time point.state k < t) × IsNoOlder point.waiting k t op))
 Counts c me past point bytes s (PrePrepare v i batch) = (entry_proposal c me past (Got me bytes) v i ≡ Some batch) × (logged c me past v i ≡ None)
 Counts c me past point bytes s (Prepare v i digest) = (vote_in c me past (Got me bytes) (prepare_from c s v i) v i ≡ Some digest) × (prepare_of c me past v i s ≡ None)
 Counts c me past point bytes s (Commit v i digest) = (vote_in c me past (Got me bytes) (commit_from s v i) v i ≡ Some digest) × (commit_of c me past v i s ≡ None)
 Counts c me past point bytes s (Checkpoint k root) =
-    (low c me past < k) × (is_number k ≡ true) × (has_number k (marks_of c past s) ≡ false) × (has_number k (marks_of c (Got me bytes ∷ past) s) ≡ true)
+    (low c me past < k) × (is_number k ≡ true) × (has_number k (checkpoints_of c past s) ≡ false) × (has_number k (checkpoints_of c (Got me bytes ∷ past) s) ≡ true)
 Counts c me past point bytes s (Change vc) = (is_some (signed_body c bytes) ≡ true) × (view c past < vc.view) × (is_within c vc ≡ true) × (latest_change c past s < vc.view)
 Counts c me past point bytes s (Begin new) = taken c past (Got me bytes) ≡ Some new
 Counts c me past point bytes s (Reply client t kind k answer) = ⊥
 Counts c me past point bytes s (Fetch k level index) = KeptState c me past point k (λ st. ⊤)
-Counts c me past point bytes s (Meta k level index digests) = (fetching past ≡ k) × (point.state.number < k)
-Counts c me past point bytes s (Page k index text) = (fetching past ≡ k) × (point.state.number < k)
+Counts c me past point bytes s (Meta k level index digests) = (asked_last past ≡ Some (k, (level, index))) × (point.state.number < k)
+Counts c me past point bytes s (Page k index text) = (asked_last past ≡ Some (k, (levels.Page, index))) × (point.state.number < k)
 
 abbrev pub IsDropped : Configuration → ℕ → List Entry → Point → List ℕ → Type 0
 IsDropped c me past point bytes = (body : Body) → heard c me bytes ≡ Some body → Counts c me past point bytes body.sender body.message → ⊥
@@ -116,7 +144,7 @@ IsDropped c me past point bytes = (body : Body) → heard c me bytes ≡ Some bo
 pub record Owes (c : Configuration) (me : ℕ) (before : List Entry) (input : Entry) (outputs now : List Entry) (old new : Point) : Type 0 where
   -- no waiting request is without a number at an active primary, while a number is free
   pub numbers : (v i : ℕ) (call : Call) → is_active_in c now v ≡ true → primary c v ≡ me → Has (λ x. x ≡ call) new.waiting
-      → IsFree c me now v i → IsNumbered c me now v call.client call.timestamp
+      → IsFree c me now new.state.number v i → IsNumbered c me now v call.client call.timestamp
   pub numbers_once : AtOutputs (NumbersOnce c me) (input ∷ before) outputs
   -- an active backup prepares what it logs
   pub prepares : (v i : ℕ) (batch : List ℕ) → logged c me before v i ≡ None → logged c me now v i ≡ Some batch → is_active_in c now v ≡ true → primary c v ≢ me
@@ -127,29 +155,29 @@ pub record Owes (c : Configuration) (me : ℕ) (before : List Entry) (input : En
   -- nothing that is committed and next is left
   pub executes : (v : ℕ) (batch : List ℕ) → Committed c me now v (suc new.state.number) batch → ⊥
   pub replies : (ran : Ran) → Has (λ x. x ≡ ran) new.ran
-      → Gives me (Reply (256 + ran.call.client) ran.kept.timestamp false ran.kept.number ran.kept.outcome) outputs
+      → Gives me (reply_of ran.call.client ran.kept) outputs
   pub checkpoints : (k : ℕ) → Has (λ e. Executes k [] e) outputs → k % c.period ≡ 0
       → Has (λ st. (st.number ≡ k) × Gives me (Checkpoint k (root_of st)) outputs) new.snapshots
   -- a request of the last timestamp gets its kept reply again
-  pub again : (k timestamp : ℕ) (op : Operation) (kept : Kept) → Hears c me (record { sender = 256 + k; message = Request timestamp false op }) before input
-      → kept_of old.state k ≡ Some kept → kept.timestamp ≡ timestamp → Gives me (Reply (256 + k) timestamp false kept.number kept.outcome) outputs
-  pub reads : (client timestamp : ℕ) (op : Operation) → Hears c me (record { sender = client; message = Request timestamp true op }) before input
-      → is_read_only op ≡ true → Gives me (Reply client timestamp true old.state.number (outcome (tuples old.state) op)) outputs
-  pub fetched_digests : (s k level index : ℕ) → level < 2 → Hears c me (record { sender = s; message = Fetch k level index }) before input
-      → (st : State) → KeptState c me before old k (λ x. x ≡ st) → Gives me (Meta k level index (digests_at st level index)) outputs
-  pub fetched_page : (s k index : ℕ) → Hears c me (record { sender = s; message = Fetch k 2 index }) before input
-      → (st : State) → KeptState c me before old k (λ x. x ≡ st) → Gives me (Page k index (page_text st index)) outputs
+  pub again : (k timestamp : ℕ) (op : Operation) (kept : Kept) → Hears c me (record { sender = 256 + k; message = Request timestamp modes.Ordered op }) before input
+      → kept_of old.state k ≡ Some kept → kept.timestamp ≡ timestamp → Gives me (reply_of k kept) outputs
+  pub reads : (client timestamp : ℕ) (op : Operation) → Hears c me (record { sender = client; message = Request timestamp modes.ReadOnly op }) before input
+      → is_read_only op ≡ true → Gives me (Reply client timestamp modes.ReadOnly old.state.number (outcome (tuples old.state) op)) outputs
+  pub fetched_digests : (s k index : ℕ) (level : Level) → has_children level ≡ true → Hears c me (record { sender = s; message = Fetch k level index }) before input
+      → (st : State) → KeptState c me before old k (λ x. x ≡ st) → GivesTo me s (Meta k level index (digests_at st level index)) outputs
+  pub fetched_page : (s k index : ℕ) → Hears c me (record { sender = s; message = Fetch k levels.Page index }) before input
+      → (st : State) → KeptState c me before old k (λ x. x ≡ st) → GivesTo me s (Page k index (page_text st index)) outputs
   -- a quorum of checkpoints above the state, and above an open transfer, starts one
-  pub fetches : (k : ℕ) (root : List ℕ) → is_quorum c (count_marks c now (record { number = k; digest = root })) ≡ true
-      → new.state.number < k → fetching before < k → Gives me (Fetch k 0 0) outputs
+  pub fetches : (k : ℕ) (root : List ℕ) → is_quorum c (count_checkpoints c now (record { number = k; digest = root })) ≡ true
+      → new.state.number < k → fetching before < k → Gives me (Fetch k levels.Root 0) outputs
   pub dropped : (bytes : List ℕ) → input ≡ Got me bytes → IsDropped c me before old bytes → outputs ≡ []
 
 -- ---- histories
 
--- The history is right and prompt, over one choice of points. outputs: those of the newest event that stand behind the
+-- The history is safe and prompt, over one choice of points. outputs: those of the newest event that stand behind the
 -- list, the oldest first; new: the point behind that event; point: the one behind the list.
 abbrev pub Proceeds : Configuration → ℕ → List Entry → List Entry → Point → Point → Type 0
-Proceeds c me [] outputs new point = (point ≡ start) × (outputs ≡ [])
+Proceeds c me [] outputs new point = (point ≡ first_point) × (outputs ≡ [])
 Proceeds c me (e ∷ past) outputs new point =
     (old : Point) × IsStep c me past old e point
     × either (is_output e)
@@ -159,7 +187,7 @@ Proceeds c me (e ∷ past) outputs new point =
 abbrev pub IsInput : Entry → Type 0
 IsInput e = elim e [ Got p bytes ↦ ⊤ | Tick p ↦ ⊤ | _ ↦ ⊥ ]
 
--- The whole of what a correct replica's history is: right and prompt; or it stopped, and from some input on there is no
+-- The whole of what a correct replica's history is: safe and prompt; or it stopped, and from some input on there is no
 -- output at all.
 abbrev pub IsReplica : Configuration → ℕ → List Entry → Type 0
 IsReplica c me [] = ⊤

@@ -10,10 +10,9 @@ use Rattle.space.specs.Applying.{is_read_only}
 use Rattle.quorum.specs.Quorum.{count_below}
 use Rattle.quorum.specs.Votes.{give_if}
 use Rattle.protocol.specs.Configuration.{Configuration, replicas}
-use Rattle.protocol.specs.Wire.{Body, Frame, Message, frame_of, said}
-use Rattle.protocol.specs.Wire.Message.{Request, Reply}
-use Rattle.protocol.specs.Keys.{heard, IsSealed, receivers_of}
-use Rattle.protocol.specs.Trace.{Entry, party_of, Always}
+use Rattle.wire.specs.Messages.{BodyData as Body, FrameData as Frame, MessageData as Message, request as Request, reply as Reply}
+use Rattle.protocol.specs.Frames.{reads_only, mode_of, frame_of, said, heard, IsSealed, receivers_of}
+use Rattle.protocol.specs.Trace.{Entry, party_of, is_output, Always, either}
 use Rattle.protocol.specs.Trace.Entry.{Invoke, Got, Tick, Sent, Accepted}
 use Rattle.protocol.specs.Selection.{is_quorum}
 
@@ -45,7 +44,7 @@ pub record Vote : Type 0 where
 
 abbrev pub vote_of : ℕ → ℕ → ℕ → Body → Option Vote
 vote_of me timestamp s body = elim body.message [
-  | Reply client t read_only number answer ↦ give_if ((body.sender == s) && (client == me) && (t == timestamp)) (record { read_only = read_only; number = number; answer = answer })
+  | Reply client t mode number answer ↦ give_if ((body.sender == s) && (client == me) && (t == timestamp)) (record { read_only = reads_only mode; number = number; answer = answer })
   | _ ↦ None
 ]
 
@@ -90,7 +89,7 @@ pub data Reaction : Type 0 where
   accepts : (timestamp : ℕ) (answer : Outcome) → Reaction
 
 abbrev pub is_ordered_request : ℕ → Body → Bool
-is_ordered_request timestamp body = elim body.message [ Request t read_only op ↦ (t == timestamp) && not read_only | _ ↦ false ]
+is_ordered_request timestamp body = elim body.message [ Request t mode op ↦ (t == timestamp) && not (reads_only mode) | _ ↦ false ]
 
 -- the open call's request was sent ordered
 abbrev pub went_ordered : List Entry → ℕ → Bool
@@ -123,8 +122,8 @@ reaction c me (Got p bytes ∷ past) = option_map_or (on_got c me (Got p bytes �
 reaction c me (Tick p ∷ past) = option_map_or (asks false) (open_call past) nothing
 reaction c me (_ ∷ past) = nothing
 
--- ---- the weak client, which the first one is: every operation is ordered, and f + 1 replies of one answer are enough,
--- whatever their numbers
+-- ---- the weak client, which the first one is: every operation is ordered, and f + 1 ordered replies of one answer are
+-- enough, whatever their numbers
 
 abbrev pub is_same_answer : Vote → Option Vote → Bool
 is_same_answer vote other = option_map_or (λ o. bytes_eq (outcome_spelling o.answer) (outcome_spelling vote.answer)) other false
@@ -146,13 +145,10 @@ weak_reaction c me (_ ∷ past) = nothing
 
 -- ---- histories
 
-abbrev pub is_output : Entry → Bool
-is_output e = elim e [ Invoke client t op ↦ false | Got p bytes ↦ false | Tick p ↦ false | _ ↦ true ]
-
 -- the bytes are a request of the call, sealed for all replicas
 pub record IsRequest (c : Configuration) (me : ℕ) (read_only : Bool) (call : OpenCall) (bytes : List ℕ) : Type 0 where
-  pub says : said bytes ≡ Some (record { sender = me; message = Request call.timestamp read_only call.op })
-  pub is_sealed : (frame : Frame) → frame_of bytes ≡ Some frame → IsSealed c me frame × (receivers_of frame.proof ≡ range_with_len 0 (replicas c))
+  pub says : said bytes ≡ Some (record { sender = me; message = Request call.timestamp (mode_of read_only) call.op })
+  pub is_sealed : (frame : Frame) → frame_of bytes ≡ Some frame → IsSealed c frame × (receivers_of frame.proof ≡ range_with_len 0 (replicas c))
 
 -- the outputs of an event, the oldest first, are what the client gives
 abbrev pub IsReaction : Configuration → ℕ → Reaction → List Entry → Type 0
@@ -167,11 +163,6 @@ MayInput past (Got p bytes) = ⊤
 MayInput past (Tick p) = ⊤
 MayInput past _ = ⊥
 
--- the one or the other
-abbrev pub either : Bool → Type 0 → Type 0 → Type 0
-either true one other = one
-either false one other = other
-
 -- each event gives what it is to; outputs: those of the newest event, the oldest first, that stand behind the list
 abbrev pub Reacts : Configuration → ℕ → (List Entry → Reaction) → List Entry → List Entry → Type 0
 Reacts c me react outputs [] = outputs ≡ []
@@ -184,13 +175,14 @@ abbrev pub IsClientBy : Configuration → ℕ → (List Entry → Reaction) → 
 IsClientBy c me react [] = ⊤
 IsClientBy c me react (e ∷ past) = Reacts c me react [] (e ∷ past) ⊎ ((party_of e ≡ me) × MayInput past e × IsClientBy c me react past)
 
+-- the whole of what a correct client's history is
 abbrev pub IsClient : Configuration → ℕ → List Entry → Type 0
 IsClient c me history = IsClientBy c me (reaction c me) history
 
 abbrev pub IsWeakClient : Configuration → ℕ → List Entry → Type 0
 IsWeakClient c me history = IsClientBy c me (weak_reaction c me) history
 
--- ---- what each entry may be: the part of it that the laws use
+-- ---- what each entry may be: the part of it that the laws use (a history is safe where it has nothing else)
 
 abbrev pub MayAccept : Configuration → ℕ → List Entry → ℕ → Outcome → Type 0
 MayAccept c me past timestamp answer =
@@ -208,7 +200,7 @@ MayRequest past timestamp read_only op =
     (open_call past ≡ Some (record { timestamp = timestamp; op = op })) × (read_only ≡ true → is_read_only op ≡ true)
 
 abbrev pub MayAsk : List Entry → Message → Type 0
-MayAsk past message = elim message [ Request timestamp read_only op ↦ MayRequest past timestamp read_only op | _ ↦ ⊥ ]
+MayAsk past message = elim message [ Request timestamp mode op ↦ MayRequest past timestamp (reads_only mode) op | _ ↦ ⊥ ]
 
 abbrev pub MayClient : (List Entry → ℕ → Outcome → Type 0) → ℕ → List Entry → Entry → Type 0
 MayClient Accepting me past (Sent p bytes) = (body : Body) × (said bytes ≡ Some body) × (body.sender ≡ me) × MayAsk past body.message
@@ -218,11 +210,11 @@ MayClient Accepting me past e = MayInput past e
 abbrev pub RightBy : (List Entry → ℕ → Outcome → Type 0) → ℕ → List Entry → Type 0
 RightBy Accepting me history = Always (λ past e. (party_of e ≡ me) × MayClient Accepting me past e) history
 
-abbrev pub RightClient : Configuration → ℕ → List Entry → Type 0
-RightClient c me history = RightBy (MayAccept c me) me history
+abbrev pub SafeClient : Configuration → ℕ → List Entry → Type 0
+SafeClient c me history = RightBy (MayAccept c me) me history
 
-abbrev pub WeakClient : Configuration → ℕ → List Entry → Type 0
-WeakClient c me history = RightBy (MayWeaklyAccept c me) me history
+abbrev pub SafeWeakClient : Configuration → ℕ → List Entry → Type 0
+SafeWeakClient c me history = RightBy (MayWeaklyAccept c me) me history
 
 -- what both clients keep, whatever they accept
 abbrev pub AnyClient : ℕ → List Entry → Type 0

@@ -1,20 +1,25 @@
 -- What a correct replica may do: what each entry of its history must be, given its past (Castro and Liskov, TOCS 2002,
--- sections 4.3 to 4.5 and, of checkpoints and transfer, 5.3). What it owes stands in Owed.
-use Rattle.std.specs.Prelude.{◌≡◌, ◌≢◌, ℕ, suc, ◌+◌, ◌%◌, ◌^◌, ◌≤◌, ◌<◌, ◌⊎◌, Bool, true, false, ◌&&◌, ◌||◌, not, List, [], ◌∷◌, ◌++◌, map, reverse, filter, nat_le, nat_lt, ◌==◌, if◌then◌else◌, Some, option_and_then, AllPairs, ⊤}
-use Rattle.std.specs.List.{list_all}
+-- sections 4.3 to 4.5 and, of checkpoints and transfer, 5.3). What it owes, and the whole of what its history is
+-- (IsReplica), stands in Owed.
+use Rattle.std.specs.Prelude.{◌≡◌, ◌≢◌, ℕ, suc, ◌+◌, ◌%◌, ◌^◌, ◌≤◌, ◌<◌, ◌⊎◌, Bool, true, ◌&&◌, ◌||◌, not, List, [], ◌∷◌, ◌++◌, map, reverse, filter, nat_le, nat_lt, ◌==◌, if◌then◌else◌, Some, option_and_then, AllPairs, ⊤}
+use Rattle.std.specs.List.{list_all, range_with_len}
 use Rattle.std.specs.Option.{option_map_or}
 use Rattle.sha2.specs.Sha256.{sha256}
 use Rattle.tuple_codec.specs.Operations.{Operation, Outcome}
 use Rattle.space.specs.Applying.{outcome, is_read_only}
 use Rattle.partition_tree.specs.Digests.{inner_digests, page_digests}
-use Rattle.protocol.specs.Configuration.{Configuration, primary}
-use Rattle.protocol.specs.Wire.{Body, Frame, Message, ViewChange, NewView, Mark, Claim, frame_of, said, carried, requests_of}
-use Rattle.protocol.specs.Wire.Message.{Request, PrePrepare, Prepare, Commit, Checkpoint, Change, Begin, Reply, Fetch, Meta, Page}
-use Rattle.protocol.specs.Keys.{heard, IsSealed}
+use Rattle.protocol.specs.Configuration.{Configuration, replicas, primary}
+use Rattle.wire.specs.declared.terms.Mode.{Mode}
+use Rattle.wire.specs.declared.terms.Mode.TheVariants as modes
+use Rattle.wire.specs.declared.terms.Level.{Level}
+use Rattle.wire.specs.declared.terms.Level.TheVariants as levels
+use Rattle.wire.specs.Messages.{BodyData as Body, FrameData as Frame, MessageData as Message, ProofData as Proof, macs, signature, ViewChangeData as ViewChange, NewViewData as NewView, MarkData as Mark, ClaimData as Claim, request as Request, pre_prepare as PrePrepare, prepare as Prepare, commit as Commit, checkpoint as Checkpoint, view_change as Change, new_view as Begin, reply as Reply, fetch as Fetch, meta as Meta, page as Page}
+use Rattle.wire.specs.Words.{carried, requests_of}
+use Rattle.protocol.specs.Frames.{frame_of, said, heard, IsSealed, receivers_of}
 use Rattle.protocol.specs.Trace.{Entry, party_of, Once, Has, Each, frames_in, Hears}
 use Rattle.protocol.specs.Trace.Entry.{Invoke, Got, Tick, Executed, Installed, Sent, Accepted}
 use Rattle.protocol.specs.Selection.{is_quorum}
-use Rattle.protocol.specs.Certificates.{view, target, is_active_in, taken, count_marks, low, is_in_marks, are_genuine, logged, Prepared, Committed}
+use Rattle.protocol.specs.Certificates.{view, target, is_active_in, taken, count_checkpoints, low, is_in_marks, are_genuine, logged, Prepared, Committed}
 use Rattle.reply_cache.specs.Replies.{Kept}
 use Rattle.protocol.specs.State.{State, IsState, Call, call_in, Ran, opening, execute, root_of, pages_of, page_text, kept_of, last_time, tuples, ran_in}
 
@@ -43,10 +48,13 @@ abbrev pub GetsPage : Configuration → ℕ → ℕ → List ℕ → List Entry 
 GetsPage c me i text past (Got p bytes) = (sender number : ℕ) × (heard c me bytes ≡ Some (record { sender = sender; message = Page number i text }))
 GetsPage c me i text past _ = ⊥
 
--- a part of a checkpoint was asked for
-abbrev pub GetsFetch : Configuration → ℕ → ℕ → ℕ → ℕ → List Entry → Entry → Type 0
-GetsFetch c me k level index past (Got p bytes) = (sender : ℕ) × (heard c me bytes ≡ Some (record { sender = sender; message = Fetch k level index }))
-GetsFetch c me k level index past _ = ⊥
+-- a part of a checkpoint was asked for by the replica s
+abbrev pub GetsFetch : Configuration → ℕ → ℕ → ℕ → Level → ℕ → List Entry → Entry → Type 0
+GetsFetch c me s k level index past (Got p bytes) = heard c me bytes ≡ Some (record { sender = s; message = Fetch k level index })
+GetsFetch c me s k level index past _ = ⊥
+
+abbrev pub WasAsked : Configuration → ℕ → List Entry → ℕ → ℕ → Level → ℕ → Type 0
+WasAsked c me past s k level index = Once (GetsFetch c me s k level index) past
 
 -- ---- what stands between entries
 
@@ -58,8 +66,8 @@ pub record Point : Type 0 where
   pub ran : List Ran
   pub waiting : List Call
 
-abbrev pub start : Point
-start = record { state = opening; snapshots = opening ∷ []; ran = []; waiting = [] }
+abbrev pub first_point : Point
+first_point = record { state = opening; snapshots = opening ∷ []; ran = []; waiting = [] }
 
 -- A request waits once it is got, where its timestamp is above its client's last and above that of a waiting one, which
 -- it replaces.
@@ -115,8 +123,8 @@ Moves c me past old _ new = new ≡ old
 abbrev pub kept_states : ℕ → List State → List State
 kept_states h snapshots = filter (λ st. nat_le h st.number) snapshots
 
-abbrev pub mark_of : State → Mark
-mark_of st = record { number = st.number; digest = root_of st }
+abbrev pub checkpoint_of : State → Mark
+checkpoint_of st = record { number = st.number; digest = root_of st }
 
 -- the latest prepared digest of each number in the marks, one a number
 pub record IsPreparedList (c : Configuration) (me : ℕ) (past : List Entry) (claims : List Claim) : Type 0 where
@@ -126,7 +134,7 @@ pub record IsPreparedList (c : Configuration) (me : ℕ) (past : List Entry) (cl
       × ((v : ℕ) (batch : List ℕ) → claim.view < v → Prepared c me past v claim.number batch → ⊥)
   pub all : (v i : ℕ) (batch : List ℕ) → is_in_marks c (low c me past) i ≡ true → Prepared c me past v i batch
       → Has (λ x. x.number ≡ i) claims
-  pub differ : AllPairs (λ x y. x.number < y.number) claims
+  pub ascending : AllPairs (λ x y. x.number < y.number) claims
 
 -- each digest that was pre-prepared for a number in the marks, with its latest view
 pub record IsProposedList (c : Configuration) (me : ℕ) (past : List Entry) (claims : List Claim) : Type 0 where
@@ -143,9 +151,9 @@ pub record IsNewChange (c : Configuration) (me : ℕ) (past : List Entry) (point
   pub newer : target past < vc.view
   pub is_view : vc.view < 2 ^ 48
   pub low : vc.low ≡ low c me past
-  pub checkpoints : vc.checkpoints ≡ map mark_of (reverse (kept_states vc.low point.snapshots))
+  pub checkpoints : vc.checkpoints ≡ map checkpoint_of (reverse (kept_states vc.low point.snapshots))
   pub prepared : IsPreparedList c me past vc.prepared
-  pub proposed : IsProposedList c me past vc.proposed
+  pub proposed : IsProposedList c me past vc.pre_prepared
 
 -- ---- what may be sent. Each clause covers sending again too.
 
@@ -188,47 +196,48 @@ abbrev pub MayBegin : Configuration → ℕ → List Entry → Entry → List �
 MayBegin c me past e bytes new =
     (primary c new.view ≡ me) × ((taken c past e ≡ Some new) ⊎ ((is_active_in c past new.view ≡ true) × SentBefore bytes past))
 
--- a reply is of a request that ran in the event, or the client's kept one
-pub record RepliesTo (client timestamp number : ℕ) (answer : Outcome) (call_client : ℕ) (kept : Kept) : Type 0 where
-  pub client_is : client ≡ 256 + call_client
-  pub time : kept.timestamp ≡ timestamp
-  pub number_is : kept.number ≡ number
-  pub answer_is : kept.outcome ≡ answer
+-- what is kept for the client k, as a reply to it
+abbrev pub reply_of : ℕ → Kept → Message
+reply_of k kept = Reply (256 + k) kept.timestamp modes.Ordered kept.number kept.outcome
 
+-- a reply is of a request that ran in the event, or the client's kept one
 abbrev pub MayReplyOrdered : Point → ℕ → ℕ → ℕ → Outcome → Type 0
 MayReplyOrdered point client timestamp number answer =
-    Has (λ ran. RepliesTo client timestamp number answer ran.call.client ran.kept) point.ran
-    ⊎ ((k : ℕ) × (kept : Kept) × (kept_of point.state k ≡ Some kept) × RepliesTo client timestamp number answer k kept)
+    Has (λ ran. reply_of ran.call.client ran.kept ≡ Reply client timestamp modes.Ordered number answer) point.ran
+    ⊎ ((k : ℕ) × (kept : Kept) × (kept_of point.state k ≡ Some kept) × (reply_of k kept ≡ Reply client timestamp modes.Ordered number answer))
 
 -- a read that was got is answered from the executed state, with its number
 pub record MayReplyRead (c : Configuration) (me : ℕ) (past : List Entry) (point : Point) (client timestamp number : ℕ) (answer : Outcome) : Type 0 where
   pub op : Operation
   pub is_read : is_read_only op ≡ true
-  pub heard : Once (Hears c me (record { sender = client; message = Request timestamp true op })) past
+  pub heard : Once (Hears c me (record { sender = client; message = Request timestamp modes.ReadOnly op })) past
   pub answer_is : answer ≡ outcome (tuples point.state) op
   pub number_is : number ≡ point.state.number
 
-abbrev pub MayReply : Configuration → ℕ → List Entry → Point → ℕ → ℕ → Bool → ℕ → Outcome → Type 0
-MayReply c me past point client timestamp false number answer = MayReplyOrdered point client timestamp number answer
-MayReply c me past point client timestamp true number answer = MayReplyRead c me past point client timestamp number answer
+abbrev pub MayReply : Configuration → ℕ → List Entry → Point → ℕ → ℕ → Mode → ℕ → Outcome → Type 0
+MayReply c me past point client timestamp modes.Ordered number answer = MayReplyOrdered point client timestamp number answer
+MayReply c me past point client timestamp modes.ReadOnly number answer = MayReplyRead c me past point client timestamp number answer
 
 -- a part of a kept state answers a fetch that was got
 abbrev pub KeptState : Configuration → ℕ → List Entry → Point → ℕ → (State → Type 0) → Type 0
 KeptState c me past point k P = Has (λ st. (st.number ≡ k) × P st) (kept_states (low c me past) point.snapshots)
 
-abbrev pub digests_at : State → ℕ → ℕ → List (List ℕ)
-digests_at st level index = if level == 0 then inner_digests (pages_of st) else page_digests (pages_of st) index
+-- the digests below a place; below a page there are none
+abbrev pub digests_at : State → Level → ℕ → List (List ℕ)
+digests_at st levels.Root index = inner_digests (pages_of st)
+digests_at st levels.Inner index = page_digests (pages_of st) index
+digests_at st levels.Page index = []
 
-abbrev pub MayMeta : Configuration → ℕ → List Entry → Point → ℕ → ℕ → ℕ → List (List ℕ) → Type 0
+abbrev pub MayMeta : Configuration → ℕ → List Entry → Point → ℕ → Level → ℕ → List (List ℕ) → Type 0
 MayMeta c me past point k level index digests =
-    KeptState c me past point k (λ st. digests ≡ digests_at st level index) × Once (GetsFetch c me k level index) past
+    KeptState c me past point k (λ st. digests ≡ digests_at st level index) × ((s : ℕ) × WasAsked c me past s k level index)
 
 abbrev pub MayPage : Configuration → ℕ → List Entry → Point → ℕ → ℕ → List ℕ → Type 0
 MayPage c me past point k index text =
-    KeptState c me past point k (λ st. text ≡ page_text st index) × Once (GetsFetch c me k 2 index) past
+    KeptState c me past point k (λ st. text ≡ page_text st index) × ((s : ℕ) × WasAsked c me past s k levels.Page index)
 
 abbrev pub MaySay : Configuration → ℕ → List Entry → Point → Entry → List ℕ → Message → Type 0
-MaySay c me past point e bytes (Request timestamp read_only op) = ⊥
+MaySay c me past point e bytes (Request timestamp mode op) = ⊥
 MaySay c me past point e bytes (PrePrepare v i batch) = MayPrePrepare c me past e v i batch
 MaySay c me past point e bytes (Prepare v i digest) = MayPrepare c me past v i digest
 MaySay c me past point e bytes (Commit v i digest) = MayCommit c me past v i digest
@@ -240,14 +249,31 @@ MaySay c me past point e bytes (Fetch k level index) = ⊤
 MaySay c me past point e bytes (Meta k level index digests) = MayMeta c me past point k level index digests
 MaySay c me past point e bytes (Page k index text) = MayPage c me past point k index text
 
--- a frame of the replica's own, sealed or signed, over frames that it has seen
+-- ---- whom a frame is for
+
+abbrev pub others : Configuration → ℕ → List ℕ
+others c me = filter (λ r. not (r == me)) (range_with_len 0 (replicas c))
+
+-- a reply is for its client, a part for a replica that asked for it, all else for the other replicas
+abbrev pub IsFor : Configuration → ℕ → List Entry → Message → List ℕ → Type 0
+IsFor c me past (Reply client timestamp mode number answer) receivers = receivers ≡ client ∷ []
+IsFor c me past (Meta k level index digests) receivers = (s : ℕ) × (receivers ≡ s ∷ []) × WasAsked c me past s k level index
+IsFor c me past (Page k index text) receivers = (s : ℕ) × (receivers ≡ s ∷ []) × WasAsked c me past s k levels.Page index
+IsFor c me past _ receivers = receivers ≡ others c me
+
+-- MACs are for those; a signature is for all
+abbrev pub IsAddressed : Configuration → ℕ → List Entry → Message → Proof → Type 0
+IsAddressed c me past message (macs entries) = IsFor c me past message (receivers_of (macs entries))
+IsAddressed c me past message (signature s) = ⊤
+
+-- a frame of the replica's own, sealed for those it is for, or signed, over frames that it has seen
 pub record MaySend (c : Configuration) (me : ℕ) (past : List Entry) (point : Point) (e : Entry) (bytes : List ℕ) : Type 0 where
   pub body : Body
   pub says : said bytes ≡ Some body
   pub own : body.sender ≡ me
   pub seen : Each (λ frame. Once (HasSeen frame) past) (carried body.message)
   pub say : MaySay c me past point e bytes body.message
-  pub is_sealed : (frame : Frame) → frame_of bytes ≡ Some frame → IsSealed c me frame
+  pub is_sealed : (frame : Frame) → frame_of bytes ≡ Some frame → IsSealed c frame × IsAddressed c me past body.message frame.proof
 
 -- ---- what may be executed and installed
 
@@ -262,7 +288,7 @@ StartsAt c k root past e = (new : NewView) × (taken c past e ≡ Some new) × (
 
 -- a quorum of checkpoints, counted as for stability, was alike at one point of the past
 abbrev pub HadQuorum : Configuration → Mark → List Entry → Type 0
-HadQuorum c mark past = Once (λ earlier e. is_quorum c (count_marks c (e ∷ earlier) mark) ≡ true) past
+HadQuorum c mark past = Once (λ earlier e. is_quorum c (count_checkpoints c (e ∷ earlier) mark) ≡ true) past
 
 -- a number above the state's, of a quorum of checkpoints or of a new view's start
 abbrev pub MayInstall : Configuration → List Entry → Point → ℕ → List ℕ → Type 0
@@ -278,16 +304,17 @@ May c me past point (Installed r k root) = MayInstall c past point k root
 May c me past point (Sent p bytes) = MaySend c me past point (Sent p bytes) bytes
 May c me past point (Accepted client timestamp answer) = ⊥
 
--- one entry of a right history, from the point before it to the one behind it
+-- one entry that a replica may have, from the point before it to the one behind it
 pub record IsStep (c : Configuration) (me : ℕ) (past : List Entry) (old : Point) (e : Entry) (new : Point) : Type 0 where
   pub own : party_of e ≡ me
   pub may : May c me past old e
   pub moves : Moves c me past old e new
 
--- the history is right, and leaves the replica at the point
+-- each entry is one that the replica may have, and the last leaves it at the point
 abbrev pub Leaves : Configuration → ℕ → List Entry → Point → Type 0
-Leaves c me [] point = point ≡ start
+Leaves c me [] point = point ≡ first_point
 Leaves c me (e ∷ past) point = (old : Point) × Leaves c me past old × IsStep c me past old e point
 
-abbrev pub RightReplica : Configuration → ℕ → List Entry → Type 0
-RightReplica c me history = (point : Point) × Leaves c me history point
+-- The history is safe: it has nothing that a correct replica may not do. The laws use no more of it.
+abbrev pub SafeReplica : Configuration → ℕ → List Entry → Type 0
+SafeReplica c me history = (point : Point) × Leaves c me history point

@@ -1,14 +1,14 @@
 -- Runs: what the correct replicas and clients do together, whatever the faulty ones send and however frames come.
 use Rattle.std.specs.Prelude.{◌≡◌, ℕ, ◌+◌, ◌<◌, true, false, List, [], ◌∷◌, Some, ⊤, map, suc, ◌++◌}
 use Rattle.protocol.specs.Configuration.{Configuration, IsConfiguration, is_correct, is_correct_replica, is_correct_client}
-use Rattle.protocol.specs.Trace.{Entry, party_of, history_of, Always, Unforged}
+use Rattle.protocol.specs.Trace.{Entry, party_of, is_output, history_of, Always, Unforged}
 use Rattle.protocol.specs.Trace.Entry.{Accepted}
-use Rattle.protocol.specs.RightClient.{is_output, IsClient, IsWeakClient, Vote, newest_vote}
+use Rattle.protocol.specs.RightClient.{IsClient, IsWeakClient, Vote, newest_vote}
 use Rattle.protocol.specs.Owed.{IsReplica}
 use Rattle.protocol.specs.Texts.{NoCollision}
-use Rattle.protocol.specs.Wire.{requests_of}
+use Rattle.wire.specs.Words.{requests_of}
 use Rattle.protocol.specs.State.{State, opening, execute, ran_in}
-use Rattle.protocol.specs.Linear.{points, IsLinear, is_level, invoke_past, Point, ordered_point, NoneTwice}
+use Rattle.protocol.specs.Linear.{points, IsLinear, is_level, invoke_past, Placing, ordered_point, NoneTwice}
 use Rattle.protocol.specs.Laws.{IsOneSpace}
 
 -- an output follows its input, or an output of the same event
@@ -16,20 +16,20 @@ abbrev pub Follows : List Entry → Entry → Type 0
 Follows [] e = is_output e ≡ false
 Follows (before ∷ past) e = is_output e ≡ true → party_of before ≡ party_of e
 
--- Each correct replica's history is right and prompt, or it stopped; each correct client's is a client's; no others have
+-- Each correct replica's history is safe and prompt, or it stopped; each correct client's is a client's; no others have
 -- entries; and the outputs of an event follow its input before the next.
-pub record IsRun (c : Configuration) (trace : List Entry) : Type 0 where
+pub record IsRunOf (IsIts : ℕ → List Entry → Type 0) (c : Configuration) (trace : List Entry) : Type 0 where
   pub replicas : (p : ℕ) → is_correct_replica c p ≡ true → IsReplica c p (history_of p trace)
-  pub clients : (p : ℕ) → is_correct_client c p ≡ true → IsClient c p (history_of p trace)
+  pub clients : (p : ℕ) → is_correct_client c p ≡ true → IsIts p (history_of p trace)
   pub parties : Always (λ past e. is_correct c (party_of e) ≡ true) trace
   pub events : Always Follows trace
 
+abbrev pub IsRun : Configuration → List Entry → Type 0
+IsRun c trace = IsRunOf (IsClient c) c trace
+
 -- a run of the first client, which accepts at f + 1 replies of one answer
-pub record IsWeakRun (c : Configuration) (trace : List Entry) : Type 0 where
-  pub replicas : (p : ℕ) → is_correct_replica c p ≡ true → IsReplica c p (history_of p trace)
-  pub clients : (p : ℕ) → is_correct_client c p ≡ true → IsWeakClient c p (history_of p trace)
-  pub parties : Always (λ past e. is_correct c (party_of e) ≡ true) trace
-  pub events : Always Follows trace
+abbrev pub IsWeakRun : Configuration → List Entry → Type 0
+IsWeakRun c trace = IsRunOf (IsWeakClient c) c trace
 
 -- Over every run of a valid configuration that is unforged and whose texts do not collide, the points are legal, cover the
 -- trace and are placed: the answers that correct clients accept, of reads and writes alike, are those of one sequential
@@ -66,7 +66,7 @@ AcceptedAtLevels =
 -- ---- over all batches
 
 -- the requests that run in these batches, one after another
-abbrev pub ran_points : Configuration → State → List (List ℕ) → List Point
+abbrev pub ran_points : Configuration → State → List (List ℕ) → List Placing
 ran_points c st [] = []
 ran_points c st (batch ∷ batches) =
     map (ordered_point 0 (suc st.number)) (ran_in c (suc st.number) st (requests_of batch)) ++ ran_points c (execute c st batch) batches

@@ -1,20 +1,20 @@
 -- Which inputs a schedule feeds, over the real bytes of sealed and signed frames, and which of its steps are allowed. Here
 -- the entries that are to come stand oldest first.
-use Rattle.std.specs.Prelude.{◌≡◌, ℕ, suc, ◌-◌, ◌+◌, ◌≤◌, ◌<◌, Bool, true, false, ◌&&◌, ◌||◌, not, List, [], ◌∷◌, ◌++◌, length, take, reverse, ◌==◌, if◌then◌else◌, Option, Some, None, slice_get, All, AllPairs, ⊤}
+use Rattle.std.specs.Prelude.{◌≡◌, ℕ, suc, ◌-◌, ◌+◌, ◌≤◌, ◌<◌, Bool, true, false, ◌&&◌, ◌||◌, not, List, [], ◌∷◌, ◌++◌, length, map, take, reverse, ◌==◌, if◌then◌else◌, Option, Some, None, slice_get, All, AllPairs, ⊤}
 use Rattle.std.specs.List.{list_any, range_with_len}
 use Rattle.std.specs.Option.{option_map_or}
-use Rattle.std.specs.Int.{w16, w32, to_be_bytes}
 use Rattle.tuple_codec.specs.Operations.{Operation, Outcome, IsOperation}
-use Rattle.authenticator.specs.Mac.{hmac_of}
+use Rattle.authenticator.specs.Keys.{signing_seed}
+use Rattle.authenticator.specs.Sealing.{entry_for}
+use Rattle.wire.specs.Spelling.{piece, proof_spelling}
 use Rattle.signing.specs.Signatures.{signature_of}
 use Rattle.quorum.specs.Votes.{or_else}
 use Rattle.protocol.specs.Configuration.{Configuration, replicas, is_replica, is_client, is_correct, is_correct_client}
-use Rattle.protocol.specs.Wire.{Proof, frame_of}
-use Rattle.protocol.specs.Wire.Proof.{Macs, Signature}
-use Rattle.protocol.specs.Keys.{key_between, receivers_of}
-use Rattle.protocol.specs.Trace.{Entry, history_of}
+use Rattle.wire.specs.Messages.{ProofData as Proof, macs, signature}
+use Rattle.protocol.specs.Frames.{frame_of, receivers_of}
+use Rattle.protocol.specs.Trace.{Entry, is_output, history_of}
 use Rattle.protocol.specs.Trace.Entry.{Invoke, Got, Tick, Sent, Accepted}
-use Rattle.protocol.specs.RightClient.{open_call, is_output}
+use Rattle.protocol.specs.RightClient.{open_call}
 use Rattle.protocol.specs.Linear.{Item, points}
 
 -- A client stands with its number in a call, all others with their party.
@@ -36,26 +36,19 @@ pub record Made : Type 0 where
 
 -- a sealed frame is for those with a MAC, a signed one for all other replicas
 abbrev pub meant_for : Configuration → ℕ → Proof → List ℕ
-meant_for c sender (Macs entries) = receivers_of (Macs entries)
-meant_for c sender (Signature signature) = range_with_len 0 sender ++ range_with_len (suc sender) (replicas c - suc sender)
+meant_for c sender (macs entries) = receivers_of (macs entries)
+meant_for c sender (signature s) = range_with_len 0 sender ++ range_with_len (suc sender) (replicas c - suc sender)
 
 abbrev pub made_by : Configuration → Entry → List Made
 made_by c (Sent p bytes) = record { bytes = bytes; receivers = option_map_or (λ frame. meant_for c p frame.proof) (frame_of bytes) [] } ∷ []
 made_by c _ = []
 
-abbrev pub behind_length : List ℕ → List ℕ
-behind_length body = to_be_bytes w32 (length body) ++ body
-
-abbrev pub sealed_macs : Configuration → ℕ → List ℕ → List ℕ → List ℕ
-sealed_macs c sender body [] = []
-sealed_macs c sender body (q ∷ receivers) = to_be_bytes w16 q ++ hmac_of (key_between c sender q) body ++ sealed_macs c sender body receivers
-
 -- the bytes of a frame with MACs under the sender's keys, and of one signed with a leaf of the replica's seed
 abbrev pub sealed_bytes : Configuration → ℕ → List ℕ → List ℕ → List ℕ
-sealed_bytes c sender receivers body = behind_length body ++ 0 ∷ length receivers ∷ sealed_macs c sender body receivers
+sealed_bytes c sender receivers body = piece body ++ proof_spelling (macs (map (entry_for c.seed sender body) receivers))
 
 abbrev pub signed_bytes : Configuration → ℕ → ℕ → List ℕ → List ℕ
-signed_bytes c replica leaf body = behind_length body ++ 1 ∷ signature_of (hmac_of c.seed (0x53 ∷ to_be_bytes w16 replica)) leaf body
+signed_bytes c replica leaf body = piece body ++ proof_spelling (signature (signature_of (signing_seed c.seed replica) leaf body))
 
 -- ---- the world between steps
 
@@ -102,6 +95,8 @@ pub record AreReceivers (c : Configuration) (receivers : List ℕ) : Type 0 wher
   pub ascend : AllPairs (λ p q. p < q) receivers
   pub parties : All (λ p. is_party c p ≡ true) receivers
 
+-- A call's timestamp is no part of the step: in a run it is the client's next one. That holds of a client that stopped too,
+-- whose call stays open, so that it has no second one.
 abbrev pub IsAllowed : Configuration → World → Step → Type 0
 IsAllowed c w (calls k op) = (is_correct_client c (256 + k) ≡ true) × (open_call (history_of (256 + k) w.past) ≡ None) × IsOperation op
 IsAllowed c w (deliver frame party) = (frame < length w.frames) × (is_correct c party ≡ true)

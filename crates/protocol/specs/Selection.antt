@@ -1,13 +1,12 @@
 -- What a new view may start with (Castro and Liskov, TOCS 2002, section 4.5).
-use Rattle.std.specs.Prelude.{◌≡◌, ℕ, suc, ◌+◌, ◌-◌, ◌*◌, ◌%◌, Bool, true, false, ◌&&◌, ◌||◌, not, List, [], ◌∷◌, length, map, max, nat_lt, nat_le, ◌==◌, if◌then◌else◌, Option, Some, None, option_and_then, bytes_eq}
+use Rattle.std.specs.Prelude.{ℕ, suc, ◌+◌, ◌-◌, ◌*◌, ◌%◌, Bool, true, false, ◌&&◌, ◌||◌, not, List, [], ◌∷◌, length, map, max, nat_lt, nat_le, ◌==◌, if◌then◌else◌, Option, Some, None, option_and_then, bytes_eq}
 use Rattle.std.specs.List.{list_all, list_any}
 use Rattle.std.specs.Option.{option_map_or}
 use Rattle.sha2.specs.Sha256.{sha256}
 use Rattle.quorum.specs.Quorum.{count_below}
 use Rattle.protocol.specs.Configuration.{Configuration, replicas, span, is_number}
-use Rattle.protocol.specs.Wire.{Body, NewView, ViewChange, Mark, Claim}
-use Rattle.protocol.specs.Wire.Message.{Change}
-use Rattle.protocol.specs.Keys.{signed_body}
+use Rattle.wire.specs.Messages.{BodyData as Body, NewViewData as NewView, ViewChangeData as ViewChange, MarkData as Mark, ClaimData as Claim, view_change as Change}
+use Rattle.protocol.specs.Frames.{signed_body}
 
 abbrev pub is_quorum : Configuration → ℕ → Bool
 is_quorum c count = nat_le (2 * c.faults + 1) count
@@ -49,12 +48,12 @@ count_in c test set = count_below (passes_by test set) (replicas c)
 abbrev pub is_claim_within : Configuration → ViewChange → Claim → Bool
 is_claim_within c vc claim = nat_lt claim.view vc.view && nat_lt vc.low claim.number && nat_le claim.number (vc.low + span c) && is_number claim.number
 
-abbrev pub is_mark_within : Configuration → ViewChange → Mark → Bool
-is_mark_within c vc mark = nat_le vc.low mark.number && nat_le mark.number (vc.low + span c) && (mark.number % c.period == 0) && is_number mark.number
+abbrev pub is_checkpoint_within : Configuration → ViewChange → Mark → Bool
+is_checkpoint_within c vc mark = nat_le vc.low mark.number && nat_le mark.number (vc.low + span c) && (mark.number % c.period == 0) && is_number mark.number
 
 abbrev pub is_within : Configuration → ViewChange → Bool
 is_within c vc = is_number vc.view && is_number vc.low
-    && list_all (is_claim_within c vc) vc.prepared && list_all (is_claim_within c vc) vc.proposed && list_all (is_mark_within c vc) vc.checkpoints
+    && list_all (is_claim_within c vc) vc.prepared && list_all (is_claim_within c vc) vc.pre_prepared && list_all (is_checkpoint_within c vc) vc.checkpoints
 
 -- ---- the rules
 
@@ -70,7 +69,7 @@ agrees number view digest vc = list_all (λ claim. not (claim.number == number) 
 
 -- it pre-prepared this digest for the number in this view or a later one
 abbrev pub vouches : ℕ → ℕ → List ℕ → ViewChange → Bool
-vouches number view digest vc = list_any (λ claim. (claim.number == number) && bytes_eq claim.digest digest && nat_le view claim.view) vc.proposed
+vouches number view digest vc = list_any (λ claim. (claim.number == number) && bytes_eq claim.digest digest && nat_le view claim.view) vc.pre_prepared
 
 -- a digest may stand at the number by this view: a quorum has nothing against it, and f + 1 vouch for it
 abbrev pub may_stand_at : Configuration → List (ℕ × ViewChange) → ℕ → List ℕ → ℕ → Bool
@@ -86,10 +85,14 @@ may_be_null c set number =
 abbrev pub is_null : List ℕ → Bool
 is_null batch = bytes_eq batch (0 ∷ [])
 
+-- some number below passes
+abbrev pub is_some_below : (ℕ → Bool) → ℕ → Bool
+is_some_below test n = nat_lt 0 (count_below test n)
+
 -- by some earlier view, or as the null batch
 abbrev pub may_stand : Configuration → ℕ → List (ℕ × ViewChange) → ℕ → List ℕ → Bool
 may_stand c view set number batch =
-    nat_lt 0 (count_below (may_stand_at c set number (sha256 batch)) view) || (is_null batch && may_be_null c set number)
+    is_some_below (may_stand_at c set number (sha256 batch)) view || (is_null batch && may_be_null c set number)
 
 -- each batch may stand at its number, from the given one on
 abbrev pub may_all_stand : Configuration → ℕ → List (ℕ × ViewChange) → ℕ → List (List ℕ) → Bool
@@ -114,21 +117,27 @@ ascending (x ∷ y ∷ xs) = nat_lt x.0 y.0 && ascending (y ∷ xs)
 abbrev pub how_many : Configuration → NewView → ℕ
 how_many c new = max (largest_of (new.start + span c) (changes_of c new)) new.start - new.start
 
--- The rules of a new view, each by its name.
-pub record Selects (c : Configuration) (new : NewView) : Type 0 where
-  pub signed : (length (changes_of c new) == length new.changes) ≡ true
-  pub enough : is_quorum c (count_in c (λ vc. true) (changes_of c new)) ≡ true
-  pub in_order : ascending (changes_of c new) ≡ true
-  pub each : list_all (λ x. (x.1.view == new.view) && is_within c x.1) (changes_of c new) ≡ true
-  pub start : is_start c (changes_of c new) new.start new.root ≡ true
-  pub long : (length new.batches == how_many c new) ≡ true
-  pub stand : may_all_stand c new.view (changes_of c new) (suc new.start) new.batches ≡ true
+-- ---- the rules of a new view, each by its name
+
+-- what it carries is view changes alone, and their signatures verify
+abbrev pub all_signed : Configuration → NewView → Bool
+all_signed c new = length (changes_of c new) == length new.changes
+
+-- a quorum of different replicas has one there
+abbrev pub are_enough : Configuration → NewView → Bool
+are_enough c new = is_quorum c (count_in c (λ vc. true) (changes_of c new))
+
+-- each is for the view, and within its bounds
+abbrev pub all_within : Configuration → NewView → Bool
+all_within c new = list_all (λ x. (x.1.view == new.view) && is_within c x.1) (changes_of c new)
+
+abbrev pub has_length : Configuration → NewView → Bool
+has_length c new = length new.batches == how_many c new
 
 -- whether all of them hold
 unfoldable pub may_select : Configuration → NewView → Bool
 may_select c new =
-    (length (changes_of c new) == length new.changes) && is_quorum c (count_in c (λ vc. true) (changes_of c new)) && ascending (changes_of c new)
-    && list_all (λ x. (x.1.view == new.view) && is_within c x.1) (changes_of c new)
+    all_signed c new && are_enough c new && ascending (changes_of c new) && all_within c new
     && is_start c (changes_of c new) new.start new.root
-    && (length new.batches == how_many c new)
+    && has_length c new
     && may_all_stand c new.view (changes_of c new) (suc new.start) new.batches

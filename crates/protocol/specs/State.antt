@@ -1,4 +1,4 @@
--- The state that batches leave, its pages and its root (Castro and Liskov, TOCS 2002, sections 4.3 and 4.4).
+-- The state that batches leave, its pages and its root (Castro and Liskov, TOCS 2002, section 4.3 and, of pages and root, 5.3).
 use Rattle.std.specs.Prelude.{◌≡◌, ℕ, suc, ◌-◌, Bool, ◌&&◌, not, List, [], ◌∷◌, ◌++◌, length, map, replicate, nat_lt, ◌==◌, if◌then◌else◌, Option, Some, None, slice_get, slice_set, option_and_then, fold}
 use Rattle.std.specs.List.{range_with_len}
 use Rattle.std.specs.Option.{option_map_or}
@@ -9,8 +9,9 @@ use Rattle.space.specs.Births.{SpaceState, empty_state, tuples_of, state_after}
 use Rattle.space.specs.Pages.{IsStateAt, header_text, page_text as tuple_page}
 use Rattle.partition_tree.specs.Digests.{root_of as root_of_pages}
 use Rattle.protocol.specs.Configuration.{Configuration, is_client}
-use Rattle.protocol.specs.Wire.{Body, requests_of, said}
-use Rattle.protocol.specs.Wire.Message.{Request}
+use Rattle.wire.specs.Messages.{BodyData as Body, request as Request}
+use Rattle.wire.specs.Words.{requests_of}
+use Rattle.protocol.specs.Frames.{said, reads_only}
 use Rattle.reply_cache.specs.Replies.{Kept, IsKept}
 use Rattle.reply_cache.specs.Pages.{reply_text}
 
@@ -43,7 +44,7 @@ pub record Call : Type 0 where
 
 abbrev pub call_in : Configuration → Body → Option Call
 call_in c body = elim body.message [
-  | Request timestamp read_only op ↦ if not read_only && is_client c body.sender
+  | Request timestamp mode op ↦ if not (reads_only mode) && is_client c body.sender
       then Some (record { client = body.sender - 256; timestamp = timestamp; op = op }) else None
   | _ ↦ None
 ]

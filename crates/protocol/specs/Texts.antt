@@ -4,8 +4,8 @@ use Rattle.std.specs.List.{concat}
 use Rattle.sha2.specs.Sha256.{sha256}
 use Rattle.partition_tree.specs.Digests.{inner_digests, page_digests}
 use Rattle.protocol.specs.Configuration.{Configuration, is_correct_replica}
-use Rattle.protocol.specs.Wire.{Body, Message, said}
-use Rattle.protocol.specs.Wire.Message.{PrePrepare, Begin, Meta, Page}
+use Rattle.wire.specs.Messages.{BodyData as Body, MessageData as Message, pre_prepare as PrePrepare, new_view as Begin, meta as Meta, page as Page}
+use Rattle.protocol.specs.Frames.{said}
 use Rattle.protocol.specs.Trace.{Entry, history_of, Once, Has}
 use Rattle.protocol.specs.Trace.Entry.{Got, Executed, Sent}
 use Rattle.protocol.specs.State.{opening, after_batches, page_text, all_pages}
@@ -47,9 +47,8 @@ pub data IsUnder (page : ℕ → List ℕ) : List ℕ → Type 0 where
   inner : (j : ℕ) → j < 32 → IsUnder page (concat (page_digests (all_pages page) j))
   top : IsUnder page (concat (inner_digests (all_pages page)))
 
--- The pages that a correct replica holds at a point: its state's, with some that it got, each for its own place, in
--- place of them.
-pub record Holds (c : Configuration) (trace : List Entry) (page : ℕ → List ℕ) : Type 0 where
+-- a correct replica stood at the point, at some time of the trace
+pub record StoodAt (c : Configuration) (trace : List Entry) : Type 0 where
   pub replica : ℕ
   pub later : List Entry
   pub past : List Entry
@@ -57,7 +56,12 @@ pub record Holds (c : Configuration) (trace : List Entry) (page : ℕ → List �
   pub splits : history_of replica trace ≡ later ++ past
   pub point : Point
   pub leaves : Leaves c replica past point
-  pub each : (i : ℕ) → i < 1024 → IsHeld c replica past point.state i (page i)
+
+-- The pages that a correct replica holds at a point: its state's, with some that it got, each for its own place, in
+-- place of them.
+pub record Holds (c : Configuration) (trace : List Entry) (page : ℕ → List ℕ) : Type 0 where
+  pub at : StoodAt c trace
+  pub each : (i : ℕ) → i < 1024 → IsHeld c at.replica at.past at.point.state i (page i)
 
 -- The null batch; each batch that was got or sent; each page and each text of digests that was got; the texts of digests
 -- under the pages that a correct replica holds; and the pages, and the texts of digests under them, of each state of

@@ -1,11 +1,12 @@
 -- Traces and histories. Both are lists of entries, the newest first, so that what stands behind an entry is its past,
 -- and the position of an entry is how many stand behind it.
-use Rattle.std.specs.Prelude.{◌≡◌, ℕ, ◌+◌, ◌⊎◌, true, List, [], ◌∷◌, filter, ◌==◌, Some, ⊤}
+use Rattle.std.specs.Prelude.{◌≡◌, ℕ, ◌+◌, ◌⊎◌, Bool, true, false, List, [], ◌∷◌, filter, ◌==◌, Some, ⊤}
 use Rattle.std.specs.Option.{option_map_or}
 use Rattle.tuple_codec.specs.Operations.{Operation, Outcome}
 use Rattle.protocol.specs.Configuration.{Configuration, is_correct}
-use Rattle.protocol.specs.Wire.{Body, Frame, frame_of, said, carried}
-use Rattle.protocol.specs.Keys.{heard}
+use Rattle.wire.specs.Messages.{BodyData as Body}
+use Rattle.wire.specs.Words.{carried}
+use Rattle.protocol.specs.Frames.{said, heard}
 
 -- What happens at the correct parties. A client stands with its number here, and 256 above it as a party.
 pub data Entry : Type 0 where
@@ -26,6 +27,10 @@ party_of (Installed replica number root) = replica
 party_of (Sent party bytes) = party
 party_of (Accepted client timestamp answer) = 256 + client
 
+-- an input begins an event, and outputs follow it
+abbrev pub is_output : Entry → Bool
+is_output e = elim e [ Invoke client t op ↦ false | Got p bytes ↦ false | Tick p ↦ false | _ ↦ true ]
+
 -- the history of one party: its entries of the trace
 abbrev pub history_of : ℕ → List Entry → List Entry
 history_of p trace = filter (λ e. party_of e == p) trace
@@ -45,10 +50,15 @@ abbrev pub Has : {A : Type 0} → (A → Type 0) → List A → Type 0
 Has P [] = ⊥
 Has P (x ∷ xs) = P x ⊎ Has P xs
 
--- each element of the list
+-- each element of the list; by recursion on it, so that a list that is known gives a product
 abbrev pub Each : {A : Type 0} → (A → Type 0) → List A → Type 0
 Each P [] = ⊤
 Each P (x ∷ xs) = P x × Each P xs
+
+-- the one or the other
+abbrev pub either : Bool → Type 0 → Type 0 → Type 0
+either true one other = one
+either false one other = other
 
 -- ---- frames
 
@@ -59,10 +69,10 @@ carried_by bytes = option_map_or (λ body. carried body.message) (said bytes) []
 abbrev pub frames_in : List ℕ → List (List ℕ)
 frames_in bytes = bytes ∷ carried_by bytes
 
--- the party sent a frame of this body
-abbrev pub SendsText : ℕ → List ℕ → List Entry → Entry → Type 0
-SendsText p text past (Sent party bytes) = (party ≡ p) × ((frame : Frame) × (frame_of bytes ≡ Some frame) × (frame.text ≡ text))
-SendsText p text past _ = ⊥
+-- the sender sent a frame of this body
+abbrev pub SendsBody : Body → List Entry → Entry → Type 0
+SendsBody body past (Sent party bytes) = (party ≡ body.sender) × (said bytes ≡ Some body)
+SendsBody body past _ = ⊥
 
 -- the party got a frame that it takes as genuine, of this body
 abbrev pub Hears : Configuration → ℕ → Body → List Entry → Entry → Type 0
@@ -72,10 +82,9 @@ Hears c me body past _ = ⊥
 -- ---- no message of a correct party is forged
 
 -- where a correct party can take the frame as a correct sender's, by its MAC or by its signature, the sender sent a
--- frame of that body before
+-- frame of that body before (a body has one spelling, of which MACs and signatures are made)
 abbrev pub IsFromSender : Configuration → ℕ → List Entry → List ℕ → Type 0
-IsFromSender c me past bytes = (body : Body) (frame : Frame) → frame_of bytes ≡ Some frame → heard c me bytes ≡ Some body
-    → is_correct c body.sender ≡ true → Once (SendsText body.sender frame.text) past
+IsFromSender c me past bytes = (body : Body) → heard c me bytes ≡ Some body → is_correct c body.sender ≡ true → Once (SendsBody body) past
 
 abbrev pub IsUnforgedAt : Configuration → List Entry → Entry → Type 0
 IsUnforgedAt c past (Got me bytes) = is_correct c me ≡ true → Each (IsFromSender c me past) (frames_in bytes)

@@ -4,8 +4,15 @@
 pub mod accepted;
 pub mod refused;
 
-ghost use Rattle.protocol.specs.Laws.{PreparedAgree, CommittedStays, CommittedAgree, ExecutedAgree, PagesDetermine, BatchesLeaveStates, StatesAgree, StableAgree, InstalledAgree, StartsAgree};
+ghost use Rattle.protocol.specs.Laws.{FramesAreSpelled, BodiesAreSaid, BytesAreHeard, PreparedAgree, CommittedStays, CommittedAgree, ExecutedAgree, PagesDetermine, BatchesLeaveStates, StatesAreExecuted, StatesAgree, StableAgree, InstalledAgree, StartsAgree, LinearOfSafe, WeakIsOneSpace};
 ghost use Rattle.protocol.specs.Run.{PointsAreLinear, NoneRunsTwice, AcceptedAtLevels, WeakAnswersAreOneSpace};
+
+/// What the definitions read from bytes is what the frame's grammar says, and what a party hears as authentic or signed.
+pub fn bytes_are_read()
+    ensures frames { FramesAreSpelled }
+    ensures bodies { BodiesAreSaid }
+    ensures heard { BytesAreHeard }
+{}
 
 /// Two correct replicas hold batches of one digest prepared in one view for one number (Castro and Liskov, TOCS 2002,
 /// section 4.5).
@@ -38,8 +45,10 @@ pub fn batches_leave_states()
     ensures leave { BatchesLeaveStates }
 {}
 
-/// Two correct replicas' states of one number are one state.
+/// Each state that a correct replica ever has, executed, kept or installed, is that of the executed batches up to its
+/// number, so states of one number are one state (Castro and Liskov, TOCS 2002, section 4.3).
 pub fn states_agree()
+    ensures executed { StatesAreExecuted }
     ensures agree { StatesAgree }
 {}
 
@@ -51,12 +60,17 @@ pub fn roots_agree()
     ensures starts { StartsAgree }
 {}
 
-/// Over every run of a valid configuration, if no message of a correct party is forged and no digests collide, the
+/// Over every run of a valid configuration, if no message of a correct party is forged and the texts of the trace do not collide, the
 /// points of the trace are legal, cover it and are placed: the answers that correct clients accept, of reads and writes
 /// alike, are those of one sequential tuple space, in which each operation acts at most once, an accepted one exactly
 /// once, at a position between its invocation and its acceptance (Herlihy and Wing, TOPLAS 1990, section 2).
 pub fn points_are_linear()
     ensures linear { PointsAreLinear }
+{}
+
+/// The same over a trace whose histories are safe, whether or not the replicas do all that they owe.
+pub fn safe_histories_are_linear()
+    ensures linear { LinearOfSafe }
 {}
 
 /// At an acceptance all but `f` of the correct replicas have reached the replies' number; a read finds them at most
@@ -69,6 +83,11 @@ pub fn accepted_at_levels()
 /// space, in which each operation acts at most once. Where they stand in time is not promised.
 pub fn weak_answers_are_one_space()
     ensures weak { WeakAnswersAreOneSpace }
+{}
+
+/// The same over a trace whose histories are safe, whether or not the replicas do all that they owe.
+pub fn weak_histories_are_one_space()
+    ensures weak { WeakIsOneSpace }
 {}
 
 /// No client and timestamp runs twice over all batches.

@@ -1,0 +1,5 @@
+use Rattle.protocol.proofs.Whole
+use Rattle.protocol.proofs.safe_histories_are_linear.Goals as goal
+
+pub returns : goal.returns
+returns c = record { linear = Whole.linear_of_right }

@@ -1,0 +1,5 @@
+use Rattle.protocol.proofs.Weakly
+use Rattle.protocol.proofs.weak_histories_are_one_space.Goals as goal
+
+pub returns : goal.returns
+returns c = record { weak = Weakly.weak_is_one_space }
