@@ -55,6 +55,14 @@ pub sealed-too_long : (seed : List ℕ) (body : BodyData) (ps : List ℕ)
     → frame_limit body.message < length (piece (body_spelling body)) + (2 + 34 * length ps) → IsTooLong (sealed_for seed body ps)
 sealed-too_long seed body ps long = let whole = length-sealed seed body ps in record { over = omega (arith, whole, long) }
 
+pub sealed-over : (seed : List ℕ) (body : BodyData) (ps : List ℕ) → IsTooLong (sealed_for seed body ps)
+    → frame_limit body.message < length (piece (body_spelling body)) + (2 + 34 * length ps)
+sealed-over seed body ps long = let whole = length-sealed seed body ps in omega (arith, whole, long.over)
+
+pub sealed-short : (seed : List ℕ) (body : BodyData) (ps : List ℕ)
+    → length (piece (body_spelling body)) + (2 + 34 * length ps) ≤ frame_limit body.message → ¬ IsTooLong (sealed_for seed body ps)
+sealed-short seed body ps short long = let over = sealed-over seed body ps long in omega (arith, over, short)
+
 -- what goes with MACs has no lists that are counted
 pub counts_fit : (m : MessageData) → is_signed m ≡ false → CountsFit m
 counts_fit (view_change c) unsigned = absurd cc

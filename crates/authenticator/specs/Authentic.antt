@@ -1,5 +1,5 @@
--- When a frame is authentic to a party (Castro and Liskov, TOCS 2002): its sender made a MAC of its body for
--- that party.
+-- When a frame is authentic to a party: its sender made a MAC of its body for that party (Castro and Liskov, Practical
+-- Byzantine fault tolerance and proactive recovery, TOCS 2002, on the authentication of messages).
 use Rattle.std.specs.Prelude.{ℕ, Bool, false, ◌&&◌, ◌==◌, List, bytes_eq}
 use Rattle.std.specs.List.{list_any}
 use Rattle.wire.specs.Messages.{BodyData, MacData, ProofData, macs, signature, FrameData}

@@ -37,13 +37,15 @@ impl Model for Ring {
 }
 
 impl Ring {
-    /// The keys of a seed for `3 * f + 1` replicas and so many clients. It takes no memory yet.
-    pub fn new(alloc: Global, seed: &[u8; 32], f: u8, clients: u16) -> Ring
-        ensures { result ≡ record { seed = seed.now; faults = f; clients = clients } }
+    /// The keys of a seed of 32 bytes. Up to `faults` replicas, 1 to 3, may be faulty, so there are `3 * faults + 1` of
+    /// them; `clients`, 1 to 256, is how many clients there are. Other numbers are taken as they are. It gives no
+    /// error: it takes no memory and derives no key yet.
+    pub fn new(alloc: Global, seed: &[u8; 32], faults: u8, clients: u16) -> Ring
+        ensures { result ≡ record { seed = seed.now; faults = faults; clients = clients } }
     {
         Ring {
             seed: *seed,
-            faults: f,
+            faults,
             clients,
             source: Key::new(seed),
             kept: HashMap::new(alloc),

@@ -36,6 +36,7 @@ pub enum OpenFault {
     /// The proof has no entry for the receiver, or a wrong one.
     #[error("the MAC is wrong")]
     BadMac,
+    /// There was no room for the frame.
     #[error("out of memory")]
     NoMemory,
 }
@@ -46,6 +47,7 @@ pub enum SealFault {
     /// The frame would be longer than it may be.
     #[error("the frame is too long")]
     TooLarge,
+    /// There was no room for the frame.
     #[error("out of memory")]
     NoMemory,
 }
@@ -83,7 +85,10 @@ pub struct Opened {
 }
 
 impl Ring {
-    /// The bytes of a frame of this body, with a MAC for each of 1 to 10 receivers, which ascend by their numbers.
+    /// The bytes of a frame of this body, with a MAC for each of 1 to 10 receivers, which ascend by their numbers. The
+    /// body may be said and goes with MACs, so it is no view change and no new view.
+    /// [`SealFault::TooLarge`] comes exactly where the frame would be longer than it may be, and
+    /// [`SealFault::NoMemory`] where there is no room for it. Neither changes the ring.
     pub fn seal(
         &mut self,
         alloc: Global,
@@ -92,13 +97,14 @@ impl Ring {
     ) -> Result<Vec<u8>, SealFault>
         requires { IsSealable (body_data body.now) (map party_number receivers.now) }
         ensures sealed { IfOk result (λ frame. SpellsFrame frame.items (sealed_for self.old.seed (body_data body.now) (map party_number receivers.now))) }
-        ensures large { result ≡ Err SealFault.TooLarge → IsTooLong (sealed_for self.old.seed (body_data body.now) (map party_number receivers.now)) }
+        ensures large { (result ≡ Err SealFault.TooLarge) ↔ IsTooLong (sealed_for self.old.seed (body_data body.now) (map party_number receivers.now)) }
         ensures same { self.new ≡ self.old }
     {
         let mut frame = match begin_frame(alloc, body, 2 + 34 * receivers.len()) {
             Ok(frame) => frame,
             Err(WireFault::TooLarge) => return Err(SealFault::TooLarge),
-            Err(_) => return Err(SealFault::NoMemory),
+            Err(WireFault::NoMemory) => return Err(SealFault::NoMemory),
+            Err(WireFault::Malformed) => unreachable!(),
         };
         let entries = self.entries(body.sender.number(), body_bytes(&frame), receivers);
         put_proof(&mut frame, &Proof::Macs(entries))?;
@@ -130,7 +136,7 @@ impl Ring {
 
     /// The frame that the bytes spell, where its sender takes part and may send such a message, and its proof has the
     /// right entry for `me` or is a signature, which is not tested here. The first refusal that applies is given, in
-    /// the order of [`OpenFault`].
+    /// the order of [`OpenFault`]; want of memory may come before any of them.
     pub fn open(&mut self, alloc: Global, bytes: &[u8], me: Party) -> Result<Opened, OpenFault>
         ensures opened { IfOk result (λ o. Opens self.old (party_number me) bytes.now (frame_data o.frame)) }
         ensures all { (f : FrameData) → Opens self.old (party_number me) bytes.now f → MatchResult result (λ o. frame_data o.frame ≡ f) (λ e. e ≡ OpenFault.NoMemory) }

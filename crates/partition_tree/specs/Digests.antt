@@ -1,6 +1,6 @@
 -- The digests of a partition tree of 1,024 pages in 32 inner parts (Castro and Liskov, Practical Byzantine fault
--- tolerance and proactive recovery, TOCS 2002, section 5.3). A digest is SHA-256 (FIPS 180-4), and the pages are the
--- list of their texts.
+-- tolerance and proactive recovery, TOCS 2002, on hierarchical state partitions). A digest is SHA-256 (FIPS 180-4), and
+-- the pages are the list of their texts.
 use Rattle.std.specs.Prelude.{ℕ, ◌*◌, List, [], map, take, drop, replicate}
 use Rattle.std.specs.List.{concat, range_with_len}
 use Rattle.sha2.specs.Sha256.{sha256}

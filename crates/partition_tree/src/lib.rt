@@ -2,7 +2,7 @@
 //!
 //! Each page has the digest of its text, each of the 32 inner parts that of the digests of its 32 pages, and the root
 //! that of the digests of the inner parts (Castro and Liskov, Practical Byzantine fault tolerance and proactive
-//! recovery, TOCS 2002, section 5.3, on hierarchical state partitions; FIPS 180-4 for SHA-256). Two replicas that hold
+//! recovery, TOCS 2002, on hierarchical state partitions; FIPS 180-4 for SHA-256). Two replicas that hold
 //! the same pages have the same root, and a replica that lags finds the pages that differ by going down from the root.
 #![tactic(auto)]
 

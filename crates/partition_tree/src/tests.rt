@@ -6,18 +6,43 @@ use std::test::Fail;
 // A page that holds one tuple, of the number 1, with birth number 0.
 const FIRST_TEXT: &[u8; 18] = b"\0\0\0\0\0\0\0\0\x01\x01\0\0\0\0\0\0\0\x01";
 
-// The digests were computed by Python's hashlib, where pages = [b''] * 1024, and then pages[0] and pages[300] are set:
+// The page of a client whose request with timestamp 1 ran in batch 1 and was answered by `done`.
+const FIRST_REPLY: &[u8; 17] = b"\0\0\0\0\0\0\0\x01\0\0\0\0\0\0\0\x011";
+
+// The header of a new state, and that after one batch with 1 as the next birth number.
+const NEW_HEADER: &[u8; 17] = b"\x01\0\0\0\0\0\0\0\0\0\0\0\0\0\0\0\0";
+
+const FIRST_HEADER: &[u8; 17] = b"\x01\0\0\0\0\0\0\0\x01\0\0\0\0\0\0\0\x01";
+
+// A replica's state has tuples on the pages 0 to 255, last replies on the pages 256 to 511, and its header here.
+const HEADER_PAGE: usize = 512;
+
+// The digests were computed by Python's hashlib, where pages = [b''] * 1024, and then those of each test are set:
 //   H = lambda text: hashlib.sha256(text).digest()
 //   parts = [H(b''.join(H(page) for page in pages[32 * j:32 * j + 32])) for j in range(32)]
 //   root = H(b''.join(parts))
+// So for NEW_STATE_ROOT pages[512] = b'\x01' + bytes(16), and for FIRST_STATE_ROOT, where one = (1).to_bytes(8, 'big'):
+//   pages[0] = bytes(8) + b'\x01\x01' + one
+//   pages[256] = one + one + b'1'
+//   pages[512] = b'\x01' + one + one
 const EMPTY_PAGE: Digest = [
     0xe3, 0xb0, 0xc4, 0x42, 0x98, 0xfc, 0x1c, 0x14, 0x9a, 0xfb, 0xf4, 0xc8, 0x99, 0x6f, 0xb9, 0x24,
     0x27, 0xae, 0x41, 0xe4, 0x64, 0x9b, 0x93, 0x4c, 0xa4, 0x95, 0x99, 0x1b, 0x78, 0x52, 0xb8, 0x55,
 ];
 
-const NEW_ROOT: Digest = [
+const EMPTY_ROOT: Digest = [
     0x11, 0xfe, 0x8a, 0x78, 0x81, 0x7f, 0x2e, 0x8d, 0xee, 0x25, 0xfa, 0xff, 0xb1, 0xa8, 0x48, 0xf8,
     0x3d, 0x31, 0x5f, 0x99, 0x9b, 0xb4, 0x5c, 0xdd, 0x74, 0xfa, 0x33, 0x2a, 0xfd, 0x56, 0x30, 0x03,
+];
+
+const NEW_STATE_ROOT: Digest = [
+    0x2e, 0xc6, 0x7f, 0xea, 0xf3, 0x0f, 0x69, 0x48, 0xc2, 0x4b, 0x35, 0xe1, 0xb1, 0x61, 0x24, 0x9f,
+    0x42, 0x19, 0x23, 0x0b, 0xca, 0x9d, 0xc9, 0x31, 0x0a, 0xbf, 0xec, 0xd7, 0x8b, 0xc6, 0xb0, 0xfd,
+];
+
+const FIRST_STATE_ROOT: Digest = [
+    0x96, 0xd4, 0xc2, 0x45, 0x5c, 0x93, 0xd6, 0xd3, 0xe2, 0x04, 0xab, 0xd1, 0xd3, 0x28, 0xe2, 0x45,
+    0x4c, 0x6a, 0x54, 0xca, 0x70, 0x64, 0xd0, 0x84, 0x4c, 0x7c, 0x78, 0xb0, 0x2f, 0x8b, 0x62, 0x99,
 ];
 
 const FIRST_ROOT: Digest = [
@@ -43,9 +68,22 @@ const SECOND_ROOT: Digest = [
 #[test]
 fn a_new_tree(rt: HostRuntime) -> Result<(), Fail> {
     let tree = Tree::new(rt.alloc())?;
-    assert_eq!(rt; tree.root(), NEW_ROOT);
+    assert_eq!(rt; tree.root(), EMPTY_ROOT);
     assert_eq!(rt; tree.page(PAGES - 1).len(), 0);
     assert_eq!(rt; tree.children(Level::Inner, 31)[31], EMPTY_PAGE);
+    Ok(())
+}
+
+// A new state, and the state after `out (1)` of client 0.
+#[test]
+fn roots_of_states(rt: HostRuntime) -> Result<(), Fail> {
+    let mut tree = Tree::new(rt.alloc())?;
+    tree.set_page(HEADER_PAGE, NEW_HEADER)?;
+    assert_eq!(rt; tree.root(), NEW_STATE_ROOT);
+    tree.set_page(0, FIRST_TEXT)?;
+    tree.set_page(256, FIRST_REPLY)?;
+    tree.set_page(HEADER_PAGE, FIRST_HEADER)?;
+    assert_eq!(rt; tree.root(), FIRST_STATE_ROOT);
     Ok(())
 }
 
@@ -81,21 +119,24 @@ fn a_snapshot_keeps_its_pages(rt: HostRuntime) -> Result<(), Fail> {
     Ok(())
 }
 
-// Passes whichever allocation is refused, as by `rt try --test --fail-alloc 1..`.
+// Passes whichever allocation is refused, as by `rt try --test --fail-alloc N`, since the second try is granted.
 #[test]
 fn refusals_change_nothing(rt: HostRuntime) -> Result<(), Fail> {
-    let Ok(mut tree) = Tree::new(rt.alloc()) else {
-        return Ok(());
+    let mut tree = match Tree::new(rt.alloc()) {
+        Ok(tree) => tree,
+        Err(NoMemory) => Tree::new(rt.alloc())?,
     };
-    let root = match tree.set_page(0, FIRST_TEXT) {
-        Ok(()) => FIRST_ROOT,
-        Err(NoMemory) => NEW_ROOT,
-    };
-    assert_eq!(rt; tree.root(), root);
-    assert_eq!(rt; tree.page(0).is_empty(), root == NEW_ROOT);
-    if let Ok(snapshot) = tree.snapshot() {
-        assert_eq!(rt; snapshot.root(), root);
+    if tree.set_page(0, FIRST_TEXT).is_err() {
+        assert_eq!(rt; tree.root(), EMPTY_ROOT);
+        assert!(rt; tree.page(0).is_empty());
+        tree.set_page(0, FIRST_TEXT)?;
     }
-    assert_eq!(rt; tree.root(), root);
+    let snapshot = match tree.snapshot() {
+        Ok(snapshot) => snapshot,
+        Err(NoMemory) => tree.snapshot()?,
+    };
+    assert_eq!(rt; tree.root(), FIRST_ROOT);
+    assert_eq!(rt; snapshot.root(), FIRST_ROOT);
+    assert_eq!(rt; snapshot.page(0), FIRST_TEXT.as_slice());
     Ok(())
 }

@@ -43,7 +43,7 @@ impl Model for Tree {
 }
 
 impl Tree {
-    /// A tree of empty pages.
+    /// A tree of empty pages. NoMemory where memory runs out.
     pub fn new(alloc: Global) -> Result<Tree, NoMemory>
         ensures { IfOk result (λ t. t ≡ empty_pages) }
     {
@@ -96,7 +96,7 @@ impl Tree {
         Ok(())
     }
 
-    /// The pages as they are now, kept apart from what is set later.
+    /// The pages as they are now, copied, so that what is set later leaves them. NoMemory where memory runs out.
     pub fn snapshot(&self) -> Result<Snapshot, NoMemory>
         ensures { IfOk result (λ s. s ≡ self.now) }
     {

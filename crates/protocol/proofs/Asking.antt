@@ -6,7 +6,7 @@ use Rattle.std.proofs.lemmas.Slice.Eq.{bytes_eq-Decides}
 use Rattle.sha2.specs.Sha256.{sha256}
 use Rattle.quorum.specs.Quorum.{count_below}
 use Rattle.protocol.specs.Configuration.{Configuration, IsConfiguration, is_replica, is_client, is_correct_replica, primary}
-use Rattle.wire.specs.Messages.{BodyData as Body, MessageData as Message, NewViewData as NewView, ClaimData as Claim, request as Request, pre_prepare as PrePrepare}
+use Rattle.wire.specs.Messages.{BodyData as Body, MessageData as Message, NewViewData, ClaimData as Claim, request as Request, pre_prepare as PrePrepare}
 use Rattle.wire.specs.Words.{carried, requests_of}
 use Rattle.wire.specs.Reading.{requests_at}
 use Rattle.protocol.specs.Frames.{said, heard, reads_only}
@@ -161,7 +161,7 @@ module _ (c : Configuration) (setting : IsConfiguration c) (trace : List Entry) 
   AskedIn v = (r i : ℕ) (a : List ℕ) → is_correct_replica c r ≡ true → logged c r (history_of r trace) v i ≡ Some a → Asked c trace a
 
   -- f + 1 replicas vouch for it in a lower view
-  vouched_asked : (v : ℕ) → ((u : ℕ) → u < v → AskedIn u) → (r i : ℕ) (a : List ℕ) (new : NewView) → is_correct_replica c r ≡ true → logged c r (history_of r trace) v i ≡ Some a
+  vouched_asked : (v : ℕ) → ((u : ℕ) → u < v → AskedIn u) → (r i : ℕ) (a : List ℕ) (new : NewViewData) → is_correct_replica c r ≡ true → logged c r (history_of r trace) v i ≡ Some a
       → Once (Takes c new) (history_of r trace) → new.view ≡ v → Selected c new → (x : ℕ) → is_weak_quorum c (count_in c (vouches i x (sha256 a)) (changes_of c new)) ≡ true → Asked c trace a
   unfolding AskedIn
   vouched_asked v below r i a new correct logs takes' view_is sel x h =
@@ -183,7 +183,7 @@ module _ (c : Configuration) (setting : IsConfiguration c) (trace : List Entry) 
       let same : o.batch ≡ a = apart o.batch a (logged_text c trace s.0 k.0.view k.0.number o.batch right s.1 o.is_logged) (logged_text c trace r v i a right correct logs) digest in
       subst (Asked c trace) same (below k.0.view lower s.0 k.0.number o.batch s.1 o.is_logged)
 
-  begun_asked : (v : ℕ) → ((u : ℕ) → u < v → AskedIn u) → (r i : ℕ) (a : List ℕ) (new : NewView) → is_correct_replica c r ≡ true → logged c r (history_of r trace) v i ≡ Some a
+  begun_asked : (v : ℕ) → ((u : ℕ) → u < v → AskedIn u) → (r i : ℕ) (a : List ℕ) (new : NewViewData) → is_correct_replica c r ≡ true → logged c r (history_of r trace) v i ≡ Some a
       → Once (Takes c new) (history_of r trace) → batch_begun v i new ≡ Some a → may_select c new ≡ true → Asked c trace a
   begun_asked v below r i a new correct logs takes' has may =
       by (or_cases (nat_lt 0 (count_below (may_stand_at c (changes_of c new) i (sha256 a)) new.view)) (is_null a && may_be_null c (changes_of c new) i) stand)

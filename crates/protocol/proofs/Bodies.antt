@@ -8,7 +8,7 @@ use Rattle.tuple_tree.specs.Values.{AreBytes}
 use Rattle.tuple_codec.specs.Operations.{IsOperation, IsOutcome}
 use Rattle.tuple_codec.specs.Reading.{Reader, byte_at}
 use Rattle.tuple_codec.proofs.Readers.{bind_some, guard_holds}
-use Rattle.wire.specs.Messages.{BodyData as Body, MessageData as Message, FrameData as Frame, request as Request, pre_prepare as PrePrepare, prepare as Prepare, commit as Commit, checkpoint as Checkpoint, view_change as Change, new_view as Begin, reply as Reply, fetch as Fetch, meta as Meta, page as Page}
+use Rattle.wire.specs.Messages.{BodyData as Body, MessageData as Message, FrameData as Frame, request as Request, pre_prepare as PrePrepare, prepare as Prepare, commit as Commit, checkpoint as Checkpoint, view_change as ViewChange, new_view as NewView, reply as Reply, fetch as Fetch, meta as Meta, page as Page}
 use Rattle.wire.specs.Spelling.{IsMessage}
 use Rattle.wire.specs.Reading.{frame_of as frame_spelled, passing, if_it, more_at, anyhow, piece_at, is_request, requests_at}
 use Rattle.wire.specs.Words.{said as body_spelled, requests_of}
@@ -32,8 +32,8 @@ message_fits (PrePrepare v i batch) h = tt
 message_fits (Prepare v i digest) h = tt
 message_fits (Commit v i digest) h = tt
 message_fits (Checkpoint k root) h = tt
-message_fits (Change vc) h = tt
-message_fits (Begin new) h = tt
+message_fits (ViewChange vc) h = tt
+message_fits (NewView new) h = tt
 message_fits (Fetch k level index) h = tt
 message_fits (Meta k level index digests) h = tt
 message_fits (Page k index text) h = tt

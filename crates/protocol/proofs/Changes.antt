@@ -5,12 +5,12 @@ use Rattle.std.specs.Option.{option_map_or}
 use Rattle.std.proofs.lemmas.Bool.{and_parts, and_from, leb-true, lt-ltb, le-leb, cases_lt}
 use Rattle.sha2.specs.Sha256.{sha256}
 use Rattle.protocol.specs.Configuration.{Configuration, span, is_number}
-use Rattle.wire.specs.Messages.{BodyData as Body, MessageData as Message, ViewChangeData as ViewChange, ClaimData as Claim, commit as Commit, view_change as Change}
+use Rattle.wire.specs.Messages.{BodyData as Body, MessageData as Message, ViewChangeData, ClaimData as Claim, commit as Commit, view_change as ViewChange}
 use Rattle.protocol.specs.Frames.{said}
 use Rattle.protocol.specs.Trace.{Entry, Once, Always, Has}
 use Rattle.protocol.specs.Trace.Entry.{Invoke, Got, Tick, Executed, Installed, Sent, Accepted}
 use Rattle.protocol.specs.Certificates.{logged, target, is_in_marks, low, Prepared, proposal, taken, batch_begun, view, entry_proposal, change_from}
-use Rattle.protocol.specs.RightReplica.{Point, Leaves, MaySay, MayChange, IsNewChange, SendsBytes}
+use Rattle.protocol.specs.RightReplica.{Point, Leaves, MaySay, MayViewChange, IsNewViewChange, SendsBytes}
 use Rattle.protocol.proofs.Temporal.{once_weaker, once_always, once_order, once_stays, once_stays_from}
 use Rattle.protocol.proofs.Options.{or_else_cases, given_once, some_injective}
 use Rattle.protocol.proofs.Linking.{Speaks}
@@ -22,10 +22,10 @@ use Rattle.protocol.proofs.Offers.{entry_within}
 
 -- ---- the first time that a view change is sent
 
-pub record NewChangeAt (c : Configuration) (s : ℕ) (vc : ViewChange) (past : List Entry) (e : Entry) : Type 0 where
+pub record NewChangeAt (c : Configuration) (s : ℕ) (vc : ViewChangeData) (past : List Entry) (e : Entry) : Type 0 where
   pub point : Point
   pub leaves : Leaves c s past point
-  pub is_new : IsNewChange c s past point vc
+  pub is_new : IsNewViewChange c s past point vc
   pub says : Speaks (changing s vc) past e
 
 again_says : (body : Body) (bytes : List ℕ) → said bytes ≡ Some body → (past : List Entry) (e : Entry) → SendsBytes bytes past e → Speaks body past e
@@ -37,11 +37,11 @@ again_says body bytes is past (Executed x y z) h = absurd h
 again_says body bytes is past (Installed x y z) h = absurd h
 again_says body bytes is past (Accepted x y z) h = absurd h
 
-says_change : (c : Configuration) (s : ℕ) (vc : ViewChange) (past : List Entry) (e : Entry) → RightAt c s past e → Speaks (changing s vc) past e
+says_change : (c : Configuration) (s : ℕ) (vc : ViewChangeData) (past : List Entry) (e : Entry) → RightAt c s past e → Speaks (changing s vc) past e
     → NewChangeAt c s vc past e ⊎ Once (Speaks (changing s vc)) past
 says_change c s vc past (Sent p bytes) r h = go (subst (λ (x : Body). MaySay c s past r.point (Sent p bytes) bytes x.message) (some_injective r.may.body (changing s vc) (sym r.may.says ∙ h)) r.may.say)
   where
-    go : MayChange c s past r.point bytes vc → NewChangeAt c s vc past (Sent p bytes) ⊎ Once (Speaks (changing s vc)) past
+    go : MayViewChange c s past r.point bytes vc → NewChangeAt c s vc past (Sent p bytes) ⊎ Once (Speaks (changing s vc)) past
     go (inl n) = inl (record { point = r.point; leaves = r.leaves; is_new = n; says = h })
     go (inr n) = inr (once_weaker (SendsBytes bytes) (Speaks (changing s vc)) (again_says (changing s vc) bytes h) past n.2)
 says_change c s vc past (Invoke x y z) r h = absurd h
@@ -51,7 +51,7 @@ says_change c s vc past (Executed x y z) r h = absurd h
 says_change c s vc past (Installed x y z) r h = absurd h
 says_change c s vc past (Accepted x y z) r h = absurd h
 
-pub change_is_new : (c : Configuration) (s : ℕ) (vc : ViewChange) (xs : List Entry) → Always (RightAt c s) xs → Once (Speaks (changing s vc)) xs → Once (NewChangeAt c s vc) xs
+pub change_is_new : (c : Configuration) (s : ℕ) (vc : ViewChangeData) (xs : List Entry) → Always (RightAt c s) xs → Once (Speaks (changing s vc)) xs → Once (NewChangeAt c s vc) xs
 change_is_new c s vc [] right h = absurd h
 change_is_new c s vc (e ∷ past) right (inr h) = inr (change_is_new c s vc past right.1 h)
 change_is_new c s vc (e ∷ past) right (inl h) = go (says_change c s vc past e right.0 h) (change_is_new c s vc past right.1)
@@ -65,7 +65,7 @@ change_is_new c s vc (e ∷ past) right (inl h) = go (says_change c s vc past e 
 pub target_grows : (e : Entry) (past : List Entry) → target past ≤ target (e ∷ past)
 target_grows e past = omega arith
 
-pub change_target : (s : ℕ) (vc : ViewChange) (past : List Entry) (e : Entry) → Speaks (changing s vc) past e → vc.view ≤ target (e ∷ past)
+pub change_target : (s : ℕ) (vc : ViewChangeData) (past : List Entry) (e : Entry) → Speaks (changing s vc) past e → vc.view ≤ target (e ∷ past)
 change_target s vc past (Sent p bytes) h =
     let is : option_map_or change_from (said bytes) 0 ≡ vc.view = ap (λ o. option_map_or change_from o 0) h in omega arith
 change_target s vc past (Invoke x y z) h = absurd h
@@ -75,10 +75,10 @@ change_target s vc past (Executed x y z) h = absurd h
 change_target s vc past (Installed x y z) h = absurd h
 change_target s vc past (Accepted x y z) h = absurd h
 
-not_both : (s v i : ℕ) (d : List ℕ) (vc : ViewChange) (past : List Entry) (e : Entry) → Speaks (committing s v i d) past e → Speaks (changing s vc) past e → ⊥
+not_both : (s v i : ℕ) (d : List ℕ) (vc : ViewChangeData) (past : List Entry) (e : Entry) → Speaks (committing s v i d) past e → Speaks (changing s vc) past e → ⊥
 not_both s v i d vc past (Sent p bytes) h k =
     let is : committing s v i d ≡ changing s vc = some_injective (committing s v i d) (changing s vc) (sym h ∙ k) in
-    let m : ◌≡◌ {A = Message} (Commit v i d) (Change vc) = ap (λ (x : Body). x.message) is in cc
+    let m : ◌≡◌ {A = Message} (Commit v i d) (ViewChange vc) = ap (λ (x : Body). x.message) is in cc
 not_both s v i d vc past (Invoke x y z) h k = h
 not_both s v i d vc past (Got x y) h k = h
 not_both s v i d vc past (Tick x) h k = h
@@ -87,12 +87,12 @@ not_both s v i d vc past (Installed x y z) h k = h
 not_both s v i d vc past (Accepted x y z) h k = h
 
 -- at the view change the batch is prepared
-pub record Pledges (c : Configuration) (s v i : ℕ) (d : List ℕ) (vc : ViewChange) (past : List Entry) : Type 0 where
+pub record Pledges (c : Configuration) (s v i : ℕ) (d : List ℕ) (vc : ViewChangeData) (past : List Entry) : Type 0 where
   pub batch : List ℕ
   pub prepared : Prepared c s past v i batch
   pub digest_is : sha256 batch ≡ d
   pub point : Point
-  pub is_new : IsNewChange c s past point vc
+  pub is_new : IsNewViewChange c s past point vc
 
 record Had (c : Configuration) (s v i : ℕ) (d : List ℕ) (past : List Entry) : Type 0 where
   batch : List ℕ
@@ -102,7 +102,7 @@ record Had (c : Configuration) (s v i : ℕ) (d : List ℕ) (past : List Entry) 
 had_stays : (c : Configuration) (s v i : ℕ) (d : List ℕ) (e : Entry) (past : List Entry) → Had c s v i d past → Had c s v i d (e ∷ past)
 had_stays c s v i d e past h = record { batch = h.batch; prepared = prepared_stays c s v i h.batch e past h.prepared; digest_is = h.digest_is }
 
-pub pledge : (c : Configuration) (s v i : ℕ) (d : List ℕ) (vc : ViewChange) (xs : List Entry) → Once (CommitsAt c s v i d) xs → Once (NewChangeAt c s vc) xs → v < vc.view
+pub pledge : (c : Configuration) (s v i : ℕ) (d : List ℕ) (vc : ViewChangeData) (xs : List Entry) → Once (CommitsAt c s v i d) xs → Once (NewChangeAt c s vc) xs → v < vc.view
     → Once (λ past e. Pledges c s v i d vc past) xs
 pledge c s v i d vc xs commits changes above = go (once_order (NewChangeAt c s vc) (CommitsAt c s v i d) xs changes commits)
   where
@@ -168,18 +168,18 @@ pub record Claimed (c : Configuration) (s v i : ℕ) (claim : Claim) (past : Lis
   pub digest_is : sha256 batch ≡ claim.digest
   pub at_least : v ≤ claim.view
 
-pub record Pledged (c : Configuration) (s v i : ℕ) (vc : ViewChange) (past : List Entry) : Type 0 where
+pub record Pledged (c : Configuration) (s v i : ℕ) (vc : ViewChangeData) (past : List Entry) : Type 0 where
   pub has : vc.low < i → Has (λ x. x.number ≡ i) vc.prepared
   pub each : (claim : Claim) → Has (λ x. x ≡ claim) vc.prepared → claim.number ≡ i → Claimed c s v i claim past
 
-pledged_stays : (c : Configuration) (s v i : ℕ) (vc : ViewChange) (e : Entry) (past : List Entry) → Pledged c s v i vc past → Pledged c s v i vc (e ∷ past)
+pledged_stays : (c : Configuration) (s v i : ℕ) (vc : ViewChangeData) (e : Entry) (past : List Entry) → Pledged c s v i vc past → Pledged c s v i vc (e ∷ past)
 pledged_stays c s v i vc e past p = record {
   has = p.has;
   each = λ claim h is. let k = p.each claim h is in
       record { batch = k.batch; prepared = prepared_stays c s claim.view i k.batch e past k.prepared; digest_is = k.digest_is; at_least = k.at_least };
 }
 
-pledged_at : (c : Configuration) (s v i : ℕ) (d : List ℕ) (vc : ViewChange) (past : List Entry) → Always (RightAt c s) past → Pledges c s v i d vc past → Pledged c s v i vc past
+pledged_at : (c : Configuration) (s v i : ℕ) (d : List ℕ) (vc : ViewChangeData) (past : List Entry) → Always (RightAt c s) past → Pledges c s v i d vc past → Pledged c s v i vc past
 pledged_at c s v i d vc past right p = record { has = has; each = each }
   where
     has : vc.low < i → Has (λ x. x.number ≡ i) vc.prepared
@@ -200,7 +200,7 @@ pledged_at c s v i d vc past right p = record { has = has; each = each }
         go (inl lt) none = absurd (none v p.batch lt (subst (λ (x : ℕ). Prepared c s past v x p.batch) (sym is) p.prepared))
         go (inr le) none = le
 
-pub pledged : (c : Configuration) (s v i : ℕ) (d : List ℕ) (vc : ViewChange) (xs : List Entry) → Always (RightAt c s) xs → Once (CommitsAt c s v i d) xs → Once (Speaks (changing s vc)) xs → v < vc.view
+pub pledged : (c : Configuration) (s v i : ℕ) (d : List ℕ) (vc : ViewChangeData) (xs : List Entry) → Always (RightAt c s) xs → Once (CommitsAt c s v i d) xs → Once (Speaks (changing s vc)) xs → v < vc.view
     → Pledged c s v i vc xs
 pledged c s v i d vc xs right commits says above =
     once_stays (Pledged c s v i vc) (pledged_stays c s v i vc) xs
@@ -214,7 +214,7 @@ pub record Proposed (c : Configuration) (s : ℕ) (claim : Claim) (past : List E
   pub is_logged : logged c s past claim.view claim.number ≡ Some batch
   pub digest_is : sha256 batch ≡ claim.digest
 
-pub proposed : (c : Configuration) (s : ℕ) (vc : ViewChange) (xs : List Entry) → Always (RightAt c s) xs → Once (Speaks (changing s vc)) xs
+pub proposed : (c : Configuration) (s : ℕ) (vc : ViewChangeData) (xs : List Entry) → Always (RightAt c s) xs → Once (Speaks (changing s vc)) xs
     → (claim : Claim) → Has (λ x. x ≡ claim) vc.pre_prepared → Proposed c s claim xs
 proposed c s vc xs right says claim h =
     once_stays (Proposed c s claim) (λ e past p. record { batch = p.batch; is_logged = logged_stays c s claim.view claim.number p.batch e past p.is_logged; digest_is = p.digest_is }) xs

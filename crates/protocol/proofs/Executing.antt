@@ -4,7 +4,7 @@ use Rattle.std.specs.Prelude.{◌==◌, nat_lt}
 use Rattle.sha2.specs.Sha256.{sha256}
 use Rattle.quorum.proofs.Counting.{count_mono}
 use Rattle.protocol.specs.Configuration.{Configuration, replicas, is_correct_replica}
-use Rattle.wire.specs.Messages.{BodyData as Body, MessageData as Message, NewViewData as NewView, pre_prepare as PrePrepare, new_view as Begin}
+use Rattle.wire.specs.Messages.{BodyData as Body, MessageData as Message, NewViewData, pre_prepare as PrePrepare, new_view as NewView}
 use Rattle.protocol.specs.Frames.{said}
 use Rattle.protocol.specs.Trace.{Entry, party_of, history_of, Once, Always, Has}
 use Rattle.protocol.specs.Trace.Entry.{Invoke, Got, Tick, Executed, Installed, Sent, Accepted}
@@ -83,7 +83,7 @@ executed_committed c trace r k a right correct h =
 
 -- ---- a logged batch is a text
 
-begun_has : (v i : ℕ) (new : NewView) (a : List ℕ) → batch_begun v i new ≡ Some a → Has (λ x. x ≡ a) new.batches
+begun_has : (v i : ℕ) (new : NewViewData) (a : List ℕ) → batch_begun v i new ≡ Some a → Has (λ x. x ≡ a) new.batches
 begun_has v i new a h = go ((new.view == v) && nat_lt new.start i) h
   where
     get : (xs : List (List ℕ)) (k : ℕ) → slice_get xs k ≡ Some a → Has (λ x. x ≡ a) xs
@@ -97,7 +97,7 @@ begun_has v i new a h = go ((new.view == v) && nat_lt new.start i) h
 
 offer_has : (v i : ℕ) (a : List ℕ) (sender : ℕ) (message : Message) → offer_from v i (record { sender = sender; message = message }) ≡ Some a → Has (λ x. x ≡ a) (batches_of message)
 offer_has v i a sender (PrePrepare view number b) h = inl (give_if_some ((view == v) && (number == i)) b a h).1
-offer_has v i a sender (Begin new) h = begun_has v i new a h
+offer_has v i a sender (NewView new) h = begun_has v i new a h
 offer_has v i a sender _ h = absurd cc
 
 brought_has : (c : Configuration) (v i : ℕ) (a : List ℕ) (body : Body) → offer_from v i body ≡ Some a → (past : List Entry) (e : Entry) → Brings c body past e → HasBatch a past e

@@ -7,7 +7,7 @@ use Rattle.sha2.specs.Sha256.{sha256}
 use Rattle.quorum.specs.Quorum.{count_below}
 use Rattle.quorum.specs.Votes.{has_digest, or_else, give_if}
 use Rattle.protocol.specs.Configuration.{Configuration}
-use Rattle.wire.specs.Messages.{BodyData as Body, MessageData as Message, ProofData as Proof, macs, signature, NewViewData as NewView, pre_prepare as PrePrepare, prepare as Prepare, commit as Commit}
+use Rattle.wire.specs.Messages.{BodyData as Body, MessageData as Message, ProofData as Proof, macs, signature, NewViewData, request as Request, pre_prepare as PrePrepare, prepare as Prepare, commit as Commit, reply as Reply, fetch as Fetch, meta as Meta}
 use Rattle.protocol.specs.Frames.{receivers_of, said, heard, signed_body}
 use Rattle.protocol.specs.Trace.{Entry}
 use Rattle.protocol.specs.Trace.Entry.{Got, Executed, Sent}
@@ -20,7 +20,7 @@ use Rattle.protocol.proofs.Executing.{commit_stays}
 use Rattle.protocol.proofs.Linking.{signed_heard}
 use Rattle.protocol.proofs.Options.{some_injective}
 
-same_digest : (d : List ℕ) → has_digest d (Some d) ≡ true
+pub same_digest : (d : List ℕ) → has_digest d (Some d) ≡ true
 same_digest d = (bytes_eq-Decides d d).1 refl
 
 two_of_four : (p : ℕ → Bool) → p 1 ≡ true → p 2 ≡ true → 2 ≤ count_below p 4
@@ -46,30 +46,30 @@ three_of_four p a b d = go (p 0) (p 1) (p 2) (p 3) a b d
     go true false y z e f g = absurd cc
     go true true false z e f g = absurd cc
 
--- ---- ordering messages change no view and no mark
+-- ---- ordering messages, requests and replies change no view and no mark
 
-record Plain (c : Configuration) (past : List Entry) (e : Entry) : Type 0 where
-  view : new_view_in c e ≡ None
-  change : change_sent e ≡ 0
-  checkpoint : checkpoint_in c e ≡ None
-  installed : installed_at e ≡ 0
+pub record Plain (c : Configuration) (past : List Entry) (e : Entry) : Type 0 where
+  pub view : new_view_in c e ≡ None
+  pub change : change_sent e ≡ 0
+  pub checkpoint : checkpoint_in c e ≡ None
+  pub installed : installed_at e ≡ 0
 
-abbrev AllPlain : Configuration → List Entry → Type 0
+abbrev pub AllPlain : Configuration → List Entry → Type 0
 AllPlain c [] = Rattle.std.specs.Prelude.⊤
 AllPlain c (e ∷ past) = Plain c past e × AllPlain c past
 
-record Still (c : Configuration) (me : ℕ) (past : List Entry) : Type 0 where
-  view_is : view c past ≡ 0
-  target_is : target past ≡ 0
-  low_is : low c me past ≡ 0
+pub record Still (c : Configuration) (me : ℕ) (past : List Entry) : Type 0 where
+  pub view_is : view c past ≡ 0
+  pub target_is : target past ≡ 0
+  pub low_is : low c me past ≡ 0
 
-still : (c : Configuration) (me : ℕ) (xs : List Entry) → AllPlain c xs → Still c me xs
+pub still : (c : Configuration) (me : ℕ) (xs : List Entry) → AllPlain c xs → Still c me xs
 unfolding view low
 still c me [] p = record { view_is = refl; target_is = refl; low_is = refl }
 still c me (e ∷ past) p =
     let s = still c me past p.1 in
-    let n : taken c past e ≡ None = ap (option_and_then (λ (new : NewView). Rattle.quorum.specs.Votes.give_if (Rattle.protocol.specs.Certificates.is_later (view c past) (target past) new) new)) p.0.view in
-    let start_is : option_map_or (λ (new : NewView). new.start) (taken c past e) 0 ≡ 0 = ap (λ (o : Option NewView). option_map_or (λ (new : NewView). new.start) o 0) n in
+    let n : taken c past e ≡ None = ap (option_and_then (λ (new : NewViewData). Rattle.quorum.specs.Votes.give_if (Rattle.protocol.specs.Certificates.is_later (view c past) (target past) new) new)) p.0.view in
+    let start_is : option_map_or (λ (new : NewViewData). new.start) (taken c past e) 0 ≡ 0 = ap (λ (o : Option NewViewData). option_map_or (λ (new : NewViewData). new.start) o 0) n in
     let stable_is : Rattle.protocol.specs.Certificates.stable_at c me past e ≡ 0 = stable (checkpoint_in c e) p.0.checkpoint in
     let v = s.view_is in let t = s.target_is in let l = s.low_is in let a = p.0.change in let i = p.0.installed in
     record {
@@ -82,28 +82,40 @@ still c me (e ∷ past) p =
     stable None is = refl
     stable (Some x) is = absurd cc
 
-abbrev IsOrdering : Message → Type 0
-IsOrdering message = elim message [ PrePrepare v i batch ↦ ⊤ | Prepare v i digest ↦ ⊤ | Commit v i digest ↦ ⊤ | _ ↦ ⊥ ]
+abbrev pub IsPlain : Message → Type 0
+IsPlain message = elim message [ Request t mode op ↦ ⊤ | PrePrepare v i batch ↦ ⊤ | Prepare v i digest ↦ ⊤ | Commit v i digest ↦ ⊤ | Reply client t mode number answer ↦ ⊤ | Fetch k level index ↦ ⊤ | Meta k level index digests ↦ ⊤ | _ ↦ ⊥ ]
 
-none_begins : (c : Configuration) (sender : ℕ) (message : Message) → IsOrdering message → new_view_from c (record { sender = sender; message = message }) ≡ None
+none_begins : (c : Configuration) (sender : ℕ) (message : Message) → IsPlain message → new_view_from c (record { sender = sender; message = message }) ≡ None
+none_begins c sender (Request t mode op) h = refl
 none_begins c sender (PrePrepare v i batch) h = refl
 none_begins c sender (Prepare v i digest) h = refl
 none_begins c sender (Commit v i digest) h = refl
+none_begins c sender (Reply client t mode number answer) h = refl
+none_begins c sender (Fetch k level index) h = refl
+none_begins c sender (Meta k level index digests) h = refl
 none_begins c sender _ h = absurd h
 
-none_checks : (sender : ℕ) (message : Message) → IsOrdering message → checkpoint_from (record { sender = sender; message = message }) ≡ None
+none_checks : (sender : ℕ) (message : Message) → IsPlain message → checkpoint_from (record { sender = sender; message = message }) ≡ None
+none_checks sender (Request t mode op) h = refl
 none_checks sender (PrePrepare v i batch) h = refl
 none_checks sender (Prepare v i digest) h = refl
 none_checks sender (Commit v i digest) h = refl
+none_checks sender (Reply client t mode number answer) h = refl
+none_checks sender (Fetch k level index) h = refl
+none_checks sender (Meta k level index digests) h = refl
 none_checks sender _ h = absurd h
 
-none_changes : (sender : ℕ) (message : Message) → IsOrdering message → change_from (record { sender = sender; message = message }) ≡ 0
+none_changes : (sender : ℕ) (message : Message) → IsPlain message → change_from (record { sender = sender; message = message }) ≡ 0
+none_changes sender (Request t mode op) h = refl
 none_changes sender (PrePrepare v i batch) h = refl
 none_changes sender (Prepare v i digest) h = refl
 none_changes sender (Commit v i digest) h = refl
+none_changes sender (Reply client t mode number answer) h = refl
+none_changes sender (Fetch k level index) h = refl
+none_changes sender (Meta k level index digests) h = refl
 none_changes sender _ h = absurd h
 
-heard_plain : (c : Configuration) (past : List Entry) (p : ℕ) (bytes : List ℕ) (body : Body) → heard c p bytes ≡ Some body → IsOrdering body.message → Plain c past (Got p bytes)
+pub heard_plain : (c : Configuration) (past : List Entry) (p : ℕ) (bytes : List ℕ) (body : Body) → heard c p bytes ≡ Some body → IsPlain body.message → Plain c past (Got p bytes)
 heard_plain c past p bytes body h o = record {
   view = go (signed_body c bytes) refl;
   change = refl;
@@ -117,7 +129,7 @@ heard_plain c past p bytes body h o = record {
         let same : b ≡ body = some_injective b body (sym (signed_heard c bytes b is p) ∙ h) in
         ap (new_view_from c) same ∙ none_begins c body.sender body.message o
 
-said_plain : (c : Configuration) (past : List Entry) (p : ℕ) (bytes : List ℕ) (body : Body) → said bytes ≡ Some body → IsOrdering body.message → Plain c past (Sent p bytes)
+pub said_plain : (c : Configuration) (past : List Entry) (p : ℕ) (bytes : List ℕ) (body : Body) → said bytes ≡ Some body → IsPlain body.message → Plain c past (Sent p bytes)
 said_plain c past p bytes body h o = record {
   view = ap (option_and_then (new_view_from c)) h ∙ none_begins c body.sender body.message o;
   change = ap (λ (b : Option Body). option_map_or change_from b 0) h ∙ none_changes body.sender body.message o;
@@ -183,7 +195,7 @@ module _ (clients : ℕ) (seed batch a b d e f g : List ℕ) (x : IsFirstBatch (
       or_else_second (Some z) later y h k = absurd cc
 
       no_view : taken c [] (Got 1 a) ≡ None
-      no_view = ap (option_and_then (λ (new : NewView). give_if (is_later (view c []) (target []) new) new)) plain1.0.view
+      no_view = ap (option_and_then (λ (new : NewViewData). give_if (is_later (view c []) (target []) new) new)) plain1.0.view
 
       nothing_begun : (m : Bool) → cond m (option_and_then (batch_begun 0 1) (taken c [] (Got 1 a))) None ≡ None
       nothing_begun true = ap (option_and_then (batch_begun 0 1)) no_view

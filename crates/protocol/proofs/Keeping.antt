@@ -1,8 +1,9 @@
 -- A kept reply is of a request that ran in the batch of its number, and no request runs twice.
-use Rattle.std.proofs.Common.{◌≡◌, ℕ, zero, suc, ◌+◌, ◌-◌, ◌≤◌, ◌<◌, ◌⊎◌, inl, inr, Bool, true, false, not, cond, List, [], ◌∷◌, ◌++◌, length, map, fold, filter, replicate, refl, sym, ap, ◌∙◌, subst, arith, ◌&&◌, Option, Some, None, eqb-true}
-use Rattle.std.specs.Prelude.{◌==◌, nat_lt, nat_le, option_and_then, slice_set, slice_get, ⊤}
+use Rattle.std.proofs.Common.{◌≡◌, ℕ, zero, suc, ◌+◌, ◌-◌, ◌≤◌, ◌<◌, ◌⊎◌, inl, inr, Bool, true, false, not, cond, List, [], ◌∷◌, ◌++◌, length, map, fold, filter, refl, sym, ap, ◌∙◌, subst, arith, ◌&&◌, Option, Some, None, eqb-true}
+use Rattle.std.specs.Prelude.{◌==◌, nat_lt, nat_le, ⊤}
 use Rattle.std.specs.Option.{option_map_or}
 use Rattle.std.proofs.lemmas.Bool.{and_parts, leb-true, ltb-true, eqb-false}
+use Rattle.std.proofs.lemmas.List.{length-set, get_or-set_same, get_or-set_other}
 use Rattle.protocol.specs.RightReplica
 use Rattle.protocol.proofs.Sorting
 use Rattle.protocol.specs.Configuration.{Configuration, IsConfiguration, is_client, is_correct_replica}
@@ -12,7 +13,7 @@ use Rattle.protocol.specs.Frames.{reads_only, said}
 use Rattle.protocol.specs.Trace.{Entry, party_of, Once, Has}
 use Rattle.protocol.specs.Trace.Entry.{Invoke, Got, Tick, Executed, Installed, Sent, Accepted}
 use Rattle.protocol.specs.State.{State, Call, Ran, opening, runs, run_call, call_in, call_of, run_frame, execute, ran_by, ran_in, kept_by, kept_of, last_time}
-use Rattle.reply_cache.specs.Replies.{Kept}
+use Rattle.reply_cache.specs.Replies.{Kept, Replies, last_of, with_reply}
 use Rattle.protocol.specs.RightReplica.{Leaves, May, Moves}
 use Rattle.protocol.specs.Texts.{ExecutesBatch}
 use Rattle.protocol.specs.Linear.{Item, Placing, NoneTwice, ordered_point, ordered_points, first_position, batch_of, comes_before, insert_point, sorted}
@@ -23,7 +24,7 @@ use Rattle.protocol.proofs.Running.{Run, state_by, batch_is, is_by}
 use Rattle.protocol.proofs.Sorting.{AllOf, all_weaker, all_filter, all_append, insert_all, sorted_all}
 use Rattle.protocol.specs.State.{ran_call}
 use Rattle.protocol.specs.RightReplica.{waiting_after}
-use Rattle.protocol.proofs.Leaving.{get_set, length_set}
+use Rattle.protocol.proofs.Leaving.{last_put, none_kept, opening_is}
 
 -- ---- what ran in n batches from the number k on
 
@@ -45,7 +46,7 @@ ran_by-last c xs st k (suc n) j Q is h = let e : j ≡ suc k + n = omega arith i
 abbrev pub Keeps : ℕ → Kept → ℕ → Ran → Type 0
 Keeps cl kept j x = (x.kept ≡ kept) × (x.call.client ≡ cl) × (kept.number ≡ j) × (x.kept.timestamp ≡ x.call.timestamp)
 
-frames_kept : (c : Configuration) (k : ℕ) (st : State) (frames : List (List ℕ)) (cl : ℕ) (kept : Kept) → kept_of (fold (run_frame c k) st frames) cl ≡ Some kept
+pub frames_kept : (c : Configuration) (k : ℕ) (st : State) (frames : List (List ℕ)) (cl : ℕ) (kept : Kept) → kept_of (fold (run_frame c k) st frames) cl ≡ Some kept
     → (kept_of st cl ≡ Some kept) ⊎ Has (Keeps cl kept k) (ran_in c k st frames)
 frames_kept c k st [] cl kept h = inl h
 frames_kept c k st (frame ∷ frames) cl kept h = go (call_of c frame) (frames_kept c k (run_frame c k st frame) frames cl kept h)
@@ -56,20 +57,19 @@ frames_kept c k st (frame ∷ frames) cl kept h = go (call_of c frame) (frames_k
     test call false rest h = h
     test call true rest (inr h) = inr (inr h)
     test call true rest (inl h) =
-        let t = and_then_some (λ (x : Option Kept). x) (slice_get (slice_set st.replies call.client (Some (kept_by st k call))) cl) kept h in
-        pick t.0 t.2 (get_set st.replies call.client cl (Some (kept_by st k call)) t.0 t.1)
+        pick (last_put st.replies call.client cl (kept_by st k call))
       where
-        pick : (o : Option Kept) → o ≡ Some kept → ((o ≡ Some (kept_by st k call)) × (call.client ≡ cl)) ⊎ (slice_get st.replies cl ≡ Some o)
+        pick : ((kept_of (ran_call st k call) cl ≡ Some (kept_by st k call)) × (call.client ≡ cl)) ⊎ (kept_of (ran_call st k call) cl ≡ kept_of st cl)
             → (kept_of st cl ≡ Some kept) ⊎ Has (Keeps cl kept k) (let x : Ran = record { call = call; kept = kept_by st k call } in x ∷ rest)
-        pick o is (inl e) = let same : kept_by st k call ≡ kept = some_injective (kept_by st k call) kept (sym e.0 ∙ is) in inr (inl (same, e.1, sym (ap (λ (x : Kept). x.number) same), refl))
-        pick o is (inr e) = inl (ap (option_and_then (λ (x : Option Kept). x)) e ∙ is)
+        pick (inl e) = let same : kept_by st k call ≡ kept = some_injective (kept_by st k call) kept (sym e.0 ∙ h) in inr (inl (same, e.1, sym (ap (λ (x : Kept). x.number) same), refl))
+        pick (inr e) = inl (sym e ∙ h)
 
     go : (o : Option Call) → (kept_of (option_map_or (run_call st k) o st) cl ≡ Some kept) ⊎ Has (Keeps cl kept k) (ran_in c k (run_frame c k st frame) frames)
         → (kept_of st cl ≡ Some kept) ⊎ Has (Keeps cl kept k) (option_map_or (ran_by st k) o [] ++ ran_in c k (run_frame c k st frame) frames)
     go None h = h
     go (Some call) h = test call (runs st call) (ran_in c k (run_frame c k st frame) frames) h
 
-executed_kept : (c : Configuration) (st : State) (b : List ℕ) (cl : ℕ) → kept_of (execute c st b) cl ≡ kept_of (fold (run_frame c (suc st.number)) st (requests_of b)) cl
+pub executed_kept : (c : Configuration) (st : State) (b : List ℕ) (cl : ℕ) → kept_of (execute c st b) cl ≡ kept_of (fold (run_frame c (suc st.number)) st (requests_of b)) cl
 unfolding execute
 executed_kept c st b cl = refl
 
@@ -93,20 +93,12 @@ kept_ran c xs st k (suc n) cl kept is h =
         pick (inl e) = inl e
         pick (inr e) = inr (inl e)
 
-none_kept : (cl : ℕ) (kept : Kept) → kept_of opening cl ≡ Some kept → ⊥
-none_kept cl kept h = go 256 cl h
-  where
-    go : (n i : ℕ) → option_and_then (λ (x : Option Kept). x) (slice_get (replicate n None) i) ≡ Some kept → ⊥
-    go zero i h = absurd cc
-    go (suc n) zero h = absurd cc
-    go (suc n) (suc i) h = go n i h
-
 -- what is kept after n batches ran in one of them
 pub kept_ran-opening : (c : Configuration) (xs : List Entry) (n cl : ℕ) (kept : Kept) → kept_of (state_by c xs opening 1 n) cl ≡ Some kept → RanBy c xs opening 1 n (Keeps cl kept)
 kept_ran-opening c xs n cl kept h = go (kept_ran c xs opening 1 n cl kept refl h)
   where
     go : (kept_of opening cl ≡ Some kept) ⊎ RanBy c xs opening 1 n (Keeps cl kept) → RanBy c xs opening 1 n (Keeps cl kept)
-    go (inl e) = absurd (none_kept cl kept e)
+    go (inl e) = absurd (let none : None ≡ Some kept = sym (none_kept cl) ∙ e in cc)
     go (inr e) = e
 
 -- ---- what ran in the running event
@@ -130,7 +122,7 @@ ran_here c k st (frame ∷ frames) x h = go (call_of c frame) h (ran_here c k (r
     go None h below = below h
     go (Some call) h below = test call (runs st call) (ran_in c k (run_frame c k st frame) frames) below h
 
-has_either : {A : Type 0} (P : A → Type 0) (xs ys : List A) → Has P (xs ++ ys) → Has P xs ⊎ Has P ys
+pub has_either : {A : Type 0} (P : A → Type 0) (xs ys : List A) → Has P (xs ++ ys) → Has P xs ⊎ Has P ys
 has_either P [] ys h = inr h
 has_either P (x ∷ xs) ys (inl h) = inl (inl h)
 has_either P (x ∷ xs) ys (inr h) = go (has_either P xs ys h)
@@ -274,37 +266,31 @@ differ_same (z ∷ xs) a x y (inr h) (inr k) e f = differ_same xs a.1 x y h k e 
 
 -- ---- timestamps grow
 
-pub set_here : {A : Type 0} (xs : List A) (i : ℕ) (y : A) → i < length xs → slice_get (slice_set xs i y) i ≡ Some y
-set_here [] i y l = absurd (omega arith)
-set_here (x ∷ xs) zero y l = refl
-set_here (x ∷ xs) (suc i) y l = let m : i < length xs = omega arith in set_here xs i y m
+pub put_here : (replies : Replies) (client : ℕ) (kept : Kept) → client < length replies → last_of (with_reply replies client kept) client ≡ Some kept
+put_here replies client kept l = get_or-set_same replies client (Some kept) None l
 
-set_there : {A : Type 0} (xs : List A) (i j : ℕ) (y : A) → (i ≡ j → ⊥) → slice_get (slice_set xs i y) j ≡ slice_get xs j
-set_there [] i j y n = refl
-set_there (x ∷ xs) zero zero y n = absurd (n refl)
-set_there (x ∷ xs) zero (suc j) y n = refl
-set_there (x ∷ xs) (suc i) zero y n = refl
-set_there (x ∷ xs) (suc i) (suc j) y n = set_there xs i j y (λ e. n (ap suc e))
+put_there : (replies : Replies) (i client : ℕ) (kept : Kept) → (i ≡ client → ⊥) → last_of (with_reply replies i kept) client ≡ last_of replies client
+put_there replies i client kept n = get_or-set_other replies i client (Some kept) None (λ e. n (sym e))
 
 abbrev pub Later : State → Placing → Type 0
 Later st x = (cl : ℕ) → x.item.client ≡ 256 + cl → last_time st cl < x.item.timestamp
 
-abbrev after_call : State → ℕ → Call → State
+abbrev pub after_call : State → ℕ → Call → State
 after_call st k call = ran_call st k call
 
-time_here : (st : State) (k : ℕ) (call : Call) → call.client < length st.replies → last_time (after_call st k call) call.client ≡ call.timestamp
-time_here st k call l = ap (λ (o : Option (Option Kept)). option_map_or (λ (kept : Kept). kept.timestamp) (option_and_then (λ (x : Option Kept). x) o) 0) (set_here st.replies call.client (Some (kept_by st k call)) l)
+pub time_here : (st : State) (k : ℕ) (call : Call) → call.client < length st.replies → last_time (after_call st k call) call.client ≡ call.timestamp
+time_here st k call l = ap (λ (o : Option Kept). option_map_or (λ (kept : Kept). kept.timestamp) o 0) (put_here st.replies call.client (kept_by st k call) l)
 
-time_grows : (st : State) (k : ℕ) (call : Call) (cl : ℕ) → call.client < length st.replies → last_time st call.client < call.timestamp → last_time st cl ≤ last_time (after_call st k call) cl
+pub time_grows : (st : State) (k : ℕ) (call : Call) (cl : ℕ) → call.client < length st.replies → last_time st call.client < call.timestamp → last_time st cl ≤ last_time (after_call st k call) cl
 time_grows st k call cl l m = go (call.client == cl) refl
   where
     go : (b : Bool) → (call.client == cl) ≡ b → last_time st cl ≤ last_time (after_call st k call) cl
     go true e = let same : call.client ≡ cl = eqb-true call.client cl e in subst (λ (i : ℕ). last_time st i ≤ last_time (after_call st k call) i) same (let h = time_here st k call l in omega arith)
     go false e =
-        let h : last_time (after_call st k call) cl ≡ last_time st cl = ap (λ (o : Option (Option Kept)). option_map_or (λ (kept : Kept). kept.timestamp) (option_and_then (λ (x : Option Kept). x) o) 0)
-        (set_there st.replies call.client cl (Some (kept_by st k call)) (eqb-false call.client cl e)) in omega arith
+        let h : last_time (after_call st k call) cl ≡ last_time st cl = ap (λ (o : Option Kept). option_map_or (λ (kept : Kept). kept.timestamp) o 0)
+        (put_there st.replies call.client cl (kept_by st k call) (eqb-false call.client cl e)) in omega arith
 
-call_small : (c : Configuration) → IsConfiguration c → (frame : List ℕ) (call : Call) → call_of c frame ≡ Some call → call.client < 256
+pub call_small : (c : Configuration) → IsConfiguration c → (frame : List ℕ) (call : Call) → call_of c frame ≡ Some call → call.client < 256
 call_small c setting frame call h =
     let r = and_then_some (call_in c) (said frame) call h in
     go r.0.sender r.0.message r.2
@@ -331,12 +317,15 @@ call_small c setting frame call h =
 abbrev pub Full : State → Type 0
 Full st = length st.replies ≡ 256
 
-frames_full : (c : Configuration) (k : ℕ) (st : State) (frames : List (List ℕ)) → Full st → Full (fold (run_frame c k) st frames)
+pub opening_full : Full opening
+opening_full = opening_is.replies.all
+
+pub frames_full : (c : Configuration) (k : ℕ) (st : State) (frames : List (List ℕ)) → Full st → Full (fold (run_frame c k) st frames)
 frames_full c k st [] full = full
 frames_full c k st (frame ∷ frames) full = frames_full c k (run_frame c k st frame) frames (go (call_of c frame))
   where
     test : (call : Call) (b : Bool) → Full (cond b (after_call st k call) st)
-    test call true = length_set st.replies call.client (Some (kept_by st k call)) ∙ full
+    test call true = length-set st.replies call.client (Some (kept_by st k call)) ∙ full
     test call false = full
 
     go : (o : Option Call) → Full (option_map_or (run_call st k) o st)
@@ -363,7 +352,7 @@ frames_differ c setting p k st (frame ∷ frames) rest full later differ = go (c
         let f : length st.replies ≡ 256 = full in
         let l : call.client < length st.replies = omega arith in
         let newer : last_time st call.client < call.timestamp = ltb-true (last_time st call.client) call.timestamp e in
-        let r = below (length_set st.replies call.client (Some (kept_by st k call)) ∙ full) in
+        let r = below (length-set st.replies call.client (Some (kept_by st k call)) ∙ full) in
         let xs : List Placing = map (ordered_point p k) (ran_in c k (after_call st k call) frames) ++ rest in (
           (
             λ cl is_cl. let n : call.client ≡ cl = omega arith in subst (λ (i : ℕ). last_time st i < call.timestamp) n newer,

@@ -1,9 +1,10 @@
 -- Batches leave states.
 use Rattle.std.proofs.Common.{◌≡◌, ℕ, zero, suc, ◌+◌, ◌-◌, ◌*◌, ◌^◌, ◌≤◌, ◌<◌, ◌⊎◌, inl, inr, Bool, true, false, not, cond, List, [], ◌∷◌, length, map, take, refl, sym, ap, ◌∙◌, subst, arith, ◌&&◌, Option, Some, None}
-use Rattle.std.specs.Prelude.{option_and_then, slice_get, slice_set, fold, filter, find, replicate, is_some, All}
+use Rattle.std.specs.Prelude.{fold, filter, find, replicate, is_some, All}
 use Rattle.std.specs.Option.{option_map_or}
 use Rattle.std.proofs.lemmas.Bool.{ltb-true}
 use Rattle.std.proofs.lemmas.List.Elements.{All-head, All-tail}
+use Rattle.std.proofs.lemmas.List.{length-set}
 use Rattle.tuple_tree.specs.Values.{TupleTree, IsTuple}
 use Rattle.tuple_codec.specs.Operations.{Operation, out, rdp, inp, cas, rd_all, done, full, swapped, AreTuples, IsOperation, IsOutcome}
 use Rattle.template_match.specs.Tests.{is_match}
@@ -15,8 +16,9 @@ use Rattle.protocol.specs.Configuration.{Configuration, is_client}
 use Rattle.wire.specs.Messages.{MessageData as Message, request as Request}
 use Rattle.wire.specs.Words.{requests_of}
 use Rattle.protocol.specs.Frames.{reads_only, said}
-use Rattle.reply_cache.specs.Replies.{Kept, IsKept}
-use Rattle.protocol.specs.State.{State, IsState, Call, opening, tuples, last_time, call_in, call_of, runs, kept_by, ran_call, run_call, run_frame, execute, after_batches}
+use Rattle.reply_cache.specs.Replies.{Kept, Replies, no_replies, last_of, with_reply, IsKept, IsReply, AreReplies}
+use Rattle.reply_cache.proofs.Slots.{AreReplies-none}
+use Rattle.protocol.specs.State.{State, IsState, Call, opening, tuples, kept_of, last_time, call_in, call_of, runs, kept_by, ran_call, run_call, run_frame, execute, after_batches}
 use Rattle.protocol.specs.Laws.{BatchesLeaveStates}
 use Rattle.protocol.proofs.Options.{and_then_some, some_injective}
 use Rattle.protocol.proofs.Bodies.{said_fits, FitsMessage, requests_few}
@@ -70,33 +72,37 @@ tuples_are (e ∷ es) h = (All-head (λ (x : Entry). IsTuple x.1) e es h, tuples
 
 -- ---- kept replies
 
-pub get_set : {A : Type 0} (xs : List A) (i j : ℕ) (y z : A) → slice_get (slice_set xs i y) j ≡ Some z → ((z ≡ y) × (i ≡ j)) ⊎ (slice_get xs j ≡ Some z)
-get_set [] i j y z h = absurd cc
-get_set (x ∷ xs) zero zero y z h = inl (let e : y ≡ z = cc in (sym e, refl))
-get_set (x ∷ xs) zero (suc j) y z h = inr h
-get_set (x ∷ xs) (suc i) zero y z h = inr h
-get_set (x ∷ xs) (suc i) (suc j) y z h = go (get_set xs i j y z h)
+-- the last reply to a client is the one that was put, or the one before
+pub last_put : (replies : Replies) (i client : ℕ) (kept : Kept)
+    → ((last_of (with_reply replies i kept) client ≡ Some kept) × (i ≡ client)) ⊎ (last_of (with_reply replies i kept) client ≡ last_of replies client)
+last_put [] i client kept = inr refl
+last_put (o ∷ replies) zero zero kept = inl (refl, refl)
+last_put (o ∷ replies) zero (suc client) kept = inr refl
+last_put (o ∷ replies) (suc i) zero kept = inr refl
+last_put (o ∷ replies) (suc i) (suc client) kept = go (last_put replies i client kept)
   where
-    go : ((z ≡ y) × (i ≡ j)) ⊎ (slice_get xs j ≡ Some z) → ((z ≡ y) × (suc i ≡ suc j)) ⊎ (slice_get xs j ≡ Some z)
+    go : ((last_of (with_reply replies i kept) client ≡ Some kept) × (i ≡ client)) ⊎ (last_of (with_reply replies i kept) client ≡ last_of replies client)
+        → ((last_of (with_reply replies i kept) client ≡ Some kept) × (suc i ≡ suc client)) ⊎ (last_of (with_reply replies i kept) client ≡ last_of replies client)
     go (inl k) = inl (k.0, ap suc k.1)
     go (inr k) = inr k
 
-pub length_set : {A : Type 0} (xs : List A) (i : ℕ) (y : A) → length (slice_set xs i y) ≡ length xs
-length_set [] i y = refl
-length_set (x ∷ xs) zero y = refl
-length_set (x ∷ xs) (suc i) y = ap suc (length_set xs i y)
-
-abbrev AreKept : List (Option Kept) → Type 0
-AreKept replies = (client : ℕ) (kept : Kept) → option_and_then (λ x. x) (slice_get replies client) ≡ Some kept → IsKept kept
-
-set_kept : (replies : List (Option Kept)) (i : ℕ) (new : Kept) → IsKept new → AreKept replies → AreKept (slice_set replies i (Some new))
-set_kept replies i new is were client kept h =
-    let t = and_then_some (λ (x : Option Kept). x) (slice_get (slice_set replies i (Some new)) client) kept h in
-    go t.0 t.2 (get_set replies i client (Some new) t.0 t.1)
+put_replies : (replies : Replies) (i : ℕ) (kept : Kept) → IsKept kept → AreReplies replies → AreReplies (with_reply replies i kept)
+put_replies replies i kept is are = record { all = length-set replies i (Some kept) ∙ are.all; each = λ client. go client (last_put replies i client kept) }
   where
-    go : (o : Option Kept) → o ≡ Some kept → ((o ≡ Some new) × (i ≡ client)) ⊎ (slice_get replies client ≡ Some o) → IsKept kept
-    go o e (inl k) = subst IsKept (some_injective new kept (sym k.0 ∙ e)) is
-    go o e (inr k) = were client kept (ap (option_and_then (λ (x : Option Kept). x)) k ∙ e)
+    go : (client : ℕ) → ((last_of (with_reply replies i kept) client ≡ Some kept) × (i ≡ client)) ⊎ (last_of (with_reply replies i kept) client ≡ last_of replies client)
+        → IsReply (last_of (with_reply replies i kept) client)
+    go client (inl k) = subst IsReply (sym k.0) is
+    go client (inr k) = subst IsReply (sym k) (are.each client)
+
+-- no client has a reply at first
+pub none_kept : (client : ℕ) → kept_of opening client ≡ None
+unfolding no_replies
+none_kept client = go 256 client
+  where
+    go : (n i : ℕ) → last_of (replicate n None) i ≡ None
+    go zero i = refl
+    go (suc n) zero = refl
+    go (suc n) (suc i) = go n i
 
 -- ---- through a batch
 
@@ -104,8 +110,7 @@ set_kept replies i new is were client kept h =
 record Running (st : State) (most : ℕ) : Type 0 where
   space : IsSpace st.space
   births : st.space.next ≤ most
-  clients : length st.replies ≡ 256
-  replies : AreKept st.replies
+  replies : AreReplies st.replies
 
 call_fits : (c : Configuration) (frame : List ℕ) (call : Call) → call_of c frame ≡ Some call → (call.timestamp < 2 ^ 64) × IsOperation call.op
 call_fits c frame call h =
@@ -137,13 +142,12 @@ call_leaves number small st most call fits r = go (runs st call) refl
         record {
           space = IsState-state_after st.space call.op r.space fits.1;
           births = omega arith;
-          clients = length_set st.replies call.client (Some (kept_by st number call)) ∙ r.clients;
-          replies = set_kept st.replies call.client (kept_by st number call) (kept e) r.replies;
+          replies = put_replies st.replies call.client (kept_by st number call) (kept e) r.replies;
         }
-    go false e = let was = r.births in record { space = r.space; births = omega arith; clients = r.clients; replies = r.replies }
+    go false e = let was = r.births in record { space = r.space; births = omega arith; replies = r.replies }
 
 more_room : (st : State) (a b : ℕ) → a ≤ b → Running st a → Running st b
-more_room st a b l r = let was = r.births in record { space = r.space; births = omega arith; clients = r.clients; replies = r.replies }
+more_room st a b l r = let was = r.births in record { space = r.space; births = omega arith; replies = r.replies }
 
 frames_leave : (c : Configuration) (number : ℕ) → number < 2 ^ 64 → (frames : List (List ℕ)) (st : State) (most : ℕ) → Running st most → Running (fold (run_frame c number) st frames) (most + 256 * length frames)
 frames_leave c number small [] st most r = let l : most ≤ most + 256 * 0 = omega arith in more_room st most (most + 256 * 0) l r
@@ -161,30 +165,19 @@ pub execute_leaves : (c : Configuration) (st : State) (batch : List ℕ) → st.
 unfolding execute
 execute_leaves c st batch below is =
     let small : suc st.number < 2 ^ 64 = omega arith in
-    let first : Running st (4096 * st.number) = record { space = is.space.state; births = is.space.births; clients = is.clients; replies = is.replies } in
+    let first : Running st (4096 * st.number) = record { space = is.space.state; births = is.space.births; replies = is.replies } in
     let r = frames_leave c (suc st.number) small (requests_of batch) st (4096 * st.number) first in
     let few = requests_few batch in
     let births = r.births in
     record {
       space = record { state = r.space; births = omega arith; few = omega arith };
-      clients = r.clients;
       replies = r.replies;
     }
-
-pub none_kept : (n client : ℕ) (kept : Kept) → option_and_then (λ (x : Option Kept). x) (slice_get (replicate n None) client) ≡ Some kept → ⊥
-none_kept zero i kept h = absurd cc
-none_kept (suc n) zero kept h = absurd cc
-none_kept (suc n) (suc i) kept h = none_kept n i kept h
-
-length_replicate : {A : Type 0} (n : ℕ) (x : A) → length (replicate n x) ≡ n
-length_replicate zero x = refl
-length_replicate (suc n) x = ap suc (length_replicate n x)
 
 pub opening_is : IsState opening
 opening_is = record {
   space = record { state = IsState-empty; births = omega arith; few = omega arith };
-  clients = length_replicate {A = Option Kept} 256 None;
-  replies = λ client kept h. absurd (none_kept 256 client kept h);
+  replies = AreReplies-none;
 }
 
 pub leaves_from : (c : Configuration) (batches : List (List ℕ)) (st : State) → st.number + length batches < 2 ^ 48 → IsState st → IsState (after_batches c st batches)

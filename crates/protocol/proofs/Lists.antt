@@ -6,7 +6,7 @@ use Rattle.std.proofs.lemmas.Bool.{and_parts, le-leb, ltb-true}
 use Rattle.quorum.proofs.Counting.{some_more}
 use Rattle.quorum.specs.Quorum.{count_below}
 use Rattle.protocol.specs.Configuration.{Configuration}
-use Rattle.wire.specs.Messages.{ViewChangeData as ViewChange, ClaimData as Claim}
+use Rattle.wire.specs.Messages.{ViewChangeData, ClaimData as Claim}
 use Rattle.std.specs.List.{list_all, list_any}
 use Rattle.protocol.specs.Selection.{change_by, passes_by, largest, largest_of, may_stand, may_all_stand}
 use Rattle.protocol.specs.Trace.{Has}
@@ -30,7 +30,7 @@ some_of_has test (x ∷ xs) h = go (test x) refl h (some_of_has test xs)
     go true e k below = (x, inl refl, e)
     go false e k below = let r = below k in (r.0, inr r.1, r.2)
 
-pub every_change : (test : ViewChange → Bool) (set : List (ℕ × ViewChange)) (s : ℕ) (vc : ViewChange) → list_all (λ x. test x.1) set ≡ true → change_by set s ≡ Some vc → test vc ≡ true
+pub every_change : (test : ViewChangeData → Bool) (set : List (ℕ × ViewChangeData)) (s : ℕ) (vc : ViewChangeData) → list_all (λ x. test x.1) set ≡ true → change_by set s ≡ Some vc → test vc ≡ true
 every_change test [] s vc e h = absurd cc
 every_change test (x ∷ xs) s vc e h =
     let parts = and_parts (test x.1) (list_all (λ x. test x.1) xs) e in
@@ -40,10 +40,10 @@ every_change test (x ∷ xs) s vc e h =
     go true k here below = subst (λ z. test z ≡ true) (let i : x.1 ≡ vc = cc in i) here
     go false k here below = below k
 
-pub passes_change : (test : ViewChange → Bool) (set : List (ℕ × ViewChange)) (s : ℕ) → passes_by test set s ≡ true → (vc : ViewChange) × (change_by set s ≡ Some vc) × (test vc ≡ true)
+pub passes_change : (test : ViewChangeData → Bool) (set : List (ℕ × ViewChangeData)) (s : ℕ) → passes_by test set s ≡ true → (vc : ViewChangeData) × (change_by set s ≡ Some vc) × (test vc ≡ true)
 passes_change test set s h = go (change_by set s) h
   where
-    go : (o : Option ViewChange) → option_map_or test o false ≡ true → (vc : ViewChange) × (o ≡ Some vc) × (test vc ≡ true)
+    go : (o : Option ViewChangeData) → option_map_or test o false ≡ true → (vc : ViewChangeData) × (o ≡ Some vc) × (test vc ≡ true)
     go None k = absurd cc
     go (Some vc) k = (vc, refl, k)
 
@@ -59,7 +59,7 @@ largest_ge limit i (claim ∷ claims) (inr h) l = go (nat_le claim.number limit)
     go true k = omega arith
     go false k = k
 
-pub largest_of-ge : (limit i s : ℕ) (set : List (ℕ × ViewChange)) (vc : ViewChange) → change_by set s ≡ Some vc → Has (λ x. x.number ≡ i) vc.prepared → i ≤ limit → i ≤ largest_of limit set
+pub largest_of-ge : (limit i s : ℕ) (set : List (ℕ × ViewChangeData)) (vc : ViewChangeData) → change_by set s ≡ Some vc → Has (λ x. x.number ≡ i) vc.prepared → i ≤ limit → i ≤ largest_of limit set
 largest_of-ge limit i s [] vc is h l = absurd cc
 largest_of-ge limit i s (x ∷ xs) vc is h l = go (x.0 == s) is (largest_of-ge limit i s xs vc)
   where
@@ -67,17 +67,17 @@ largest_of-ge limit i s (x ∷ xs) vc is h l = go (x.0 == s) is (largest_of-ge l
         → i ≤ max (largest limit x.1.prepared) (largest_of limit xs)
     go true k below =
         let same : x.1 ≡ vc = cc in
-        let r = largest_ge limit i x.1.prepared (subst (λ (z : ViewChange). Has (λ x. x.number ≡ i) z.prepared) (sym same) h) l in omega arith
+        let r = largest_ge limit i x.1.prepared (subst (λ (z : ViewChangeData). Has (λ x. x.number ≡ i) z.prepared) (sym same) h) l in omega arith
     go false k below = let r = below k h l in omega arith
 
 -- the same over each member
-pub largest_of-has : (limit i s : ℕ) (set : List (ℕ × ViewChange)) (vc : ViewChange) → Has (λ x. x ≡ (s, vc)) set → Has (λ x. x.number ≡ i) vc.prepared → i ≤ limit → i ≤ largest_of limit set
+pub largest_of-has : (limit i s : ℕ) (set : List (ℕ × ViewChangeData)) (vc : ViewChangeData) → Has (λ x. x ≡ (s, vc)) set → Has (λ x. x.number ≡ i) vc.prepared → i ≤ limit → i ≤ largest_of limit set
 largest_of-has limit i s [] vc is h l = absurd is
 largest_of-has limit i s (x ∷ xs) vc (inl is) h l =
-    let r = largest_ge limit i x.1.prepared (subst (λ (z : ℕ × ViewChange). Has (λ x. x.number ≡ i) z.1.prepared) (sym is) h) l in omega arith
+    let r = largest_ge limit i x.1.prepared (subst (λ (z : ℕ × ViewChangeData). Has (λ x. x.number ≡ i) z.1.prepared) (sym is) h) l in omega arith
 largest_of-has limit i s (x ∷ xs) vc (inr is) h l = let r = largest_of-has limit i s xs vc is h l in omega arith
 
-pub change_there : (set : List (ℕ × ViewChange)) (s : ℕ) (vc : ViewChange) → change_by set s ≡ Some vc → Has (λ x. x ≡ (s, vc)) set
+pub change_there : (set : List (ℕ × ViewChangeData)) (s : ℕ) (vc : ViewChangeData) → change_by set s ≡ Some vc → Has (λ x. x ≡ (s, vc)) set
 change_there [] s vc h = absurd cc
 change_there (x ∷ xs) s vc h = go (x.0 == s) refl h (change_there xs s vc)
   where
@@ -85,7 +85,7 @@ change_there (x ∷ xs) s vc h = go (x.0 == s) refl h (change_there xs s vc)
     go true own k below =
         let i : x.1 ≡ vc = cc in
         let n : x.0 ≡ s = eqb-true x.0 s own in
-        inl (ap₂ (λ (m : ℕ) (y : ViewChange). let r : ℕ × ViewChange = (m, y) in r) n i)
+        inl (ap₂ (λ (m : ℕ) (y : ViewChangeData). let r : ℕ × ViewChangeData = (m, y) in r) n i)
     go false own k below = inr (below k)
 
 pub has_of_any : {A : Type 0} (P : A → Type 0) (test : A → Bool) → ((x : A) → test x ≡ true → P x) → (xs : List A) → list_any test xs ≡ true → Has P xs
@@ -101,7 +101,7 @@ get_there [] k l = absurd (omega arith)
 get_there (y ∷ ys) zero l = (y, refl)
 get_there (y ∷ ys) (suc k) l = let m : k < length ys = omega arith in get_there ys k m
 
-pub stands_at : (c : Configuration) (view : ℕ) (set : List (ℕ × ViewChange)) (first : ℕ) (batches : List (List ℕ)) (k : ℕ) (batch : List ℕ)
+pub stands_at : (c : Configuration) (view : ℕ) (set : List (ℕ × ViewChangeData)) (first : ℕ) (batches : List (List ℕ)) (k : ℕ) (batch : List ℕ)
     → may_all_stand c view set first batches ≡ true → slice_get batches k ≡ Some batch → (i : ℕ) → i ≡ first + k → may_stand c view set i batch ≡ true
 stands_at c view set first [] k batch h g i is = absurd cc
 stands_at c view set first (x ∷ xs) zero batch h g i is =

@@ -4,7 +4,7 @@ use Rattle.std.proofs.Common.{◌≡◌, ℕ, ◌+◌, ◌^◌, ◌≤◌, ◌<�
 use Rattle.std.specs.Prelude.{option_and_then, ◌==◌, nat_lt, nat_le}
 use Rattle.std.proofs.lemmas.Bool.{and_parts, and_cases, ltb-true, ltb-false, leb-false}
 use Rattle.protocol.specs.Configuration.{Configuration, span, primary, is_number}
-use Rattle.wire.specs.Messages.{BodyData as Body, MessageData as Message, NewViewData as NewView, pre_prepare as PrePrepare, new_view as Begin}
+use Rattle.wire.specs.Messages.{BodyData as Body, MessageData as Message, NewViewData, pre_prepare as PrePrepare, new_view as NewView}
 use Rattle.protocol.specs.Frames.{said, signed_body}
 use Rattle.protocol.specs.Trace.{Entry, Once, Always}
 use Rattle.protocol.specs.Trace.Entry.{Invoke, Got, Tick, Executed, Installed, Sent, Accepted}
@@ -19,7 +19,7 @@ use Rattle.protocol.proofs.Marks.{view_grows, low_grows, takes, begins, few_batc
 
 -- the batch that a body offers for the view and number, and the batch that an entry does
 abbrev pub offer_from : ℕ → ℕ → Body → Option (List ℕ)
-offer_from v i body = elim body.message [ PrePrepare view number batch ↦ give_if ((view == v) && (number == i)) batch | Begin new ↦ batch_begun v i new | _ ↦ None ]
+offer_from v i body = elim body.message [ PrePrepare view number batch ↦ give_if ((view == v) && (number == i)) batch | NewView new ↦ batch_begun v i new | _ ↦ None ]
 
 abbrev pub offer_in : ℕ → ℕ → Entry → Option (List ℕ)
 offer_in v i (Sent p bytes) = option_and_then (offer_from v i) (said bytes)
@@ -46,11 +46,11 @@ batch_offer c me v i batch sender (PrePrepare view number b) h =
     (eqb-true sender (primary c v) q.1, rw q.0 (ap Some g.1))
 batch_offer c me v i batch sender _ h = absurd cc
 
-begun_offer : (v i : ℕ) (new : NewView) (batch : List ℕ) (sender : ℕ) (message : Message) → message ≡ Begin new → batch_begun v i new ≡ Some batch
+begun_offer : (v i : ℕ) (new : NewViewData) (batch : List ℕ) (sender : ℕ) (message : Message) → message ≡ NewView new → batch_begun v i new ≡ Some batch
     → offer_from v i (record { sender = sender; message = message }) ≡ Some batch
 begun_offer v i new batch sender message is h = rw is h
 
-taken_offer : (c : Configuration) (me v i : ℕ) (past : List Entry) (batch : List ℕ) (e : Entry) (new : NewView) → new_view_in c e ≡ Some new → batch_begun v i new ≡ Some batch → Offers c me v i batch past e
+taken_offer : (c : Configuration) (me v i : ℕ) (past : List Entry) (batch : List ℕ) (e : Entry) (new : NewViewData) → new_view_in c e ≡ Some new → batch_begun v i new ≡ Some batch → Offers c me v i batch past e
 taken_offer c me v i past batch (Got p bytes) new h b =
     let r = and_then_some (new_view_from c) (signed_body c bytes) new h in
     let g = begins c r.0 new r.2 in
@@ -118,7 +118,7 @@ marks_outside c h i small m = go (and_cases (nat_lt h i && nat_le i (h + span c)
 -- what an offer is
 data IsOffer (c : Configuration) (me v i : ℕ) (batch : List ℕ) (past : List Entry) (e : Entry) : Type 0 where
   fresh : is_active_in c past v ≡ true → is_in_marks c (low c me past) i ≡ true → logged c me (e ∷ past) v i ≡ Some batch → IsOffer c me v i batch past e
-  begun : (new : NewView) → taken c past e ≡ Some new → batch_begun v i new ≡ Some batch → IsOffer c me v i batch past e
+  begun : (new : NewViewData) → taken c past e ≡ Some new → batch_begun v i new ≡ Some batch → IsOffer c me v i batch past e
   again : Once (λ earlier x. offer_in v i x ≡ Some batch) past → IsOffer c me v i batch past e
 
 same_bytes : (v i : ℕ) (batch bytes : List ℕ) → option_and_then (offer_from v i) (said bytes) ≡ Some batch → (past : List Entry) → SentBefore bytes past → Once (λ earlier x. offer_in v i x ≡ Some batch) past
@@ -146,7 +146,7 @@ offer_by c me v i batch past point p bytes sender (PrePrepare view number b) who
     (subst (λ (x : ℕ). MayPrePrepare c me past (Sent p bytes) view x batch) ei
     (subst (λ (x : List ℕ). MayPrePrepare c me past (Sent p bytes) view number x) g.1 say)) in
     fresh m.active m.in_marks m.one
-offer_by c me v i batch past point p bytes sender (Begin new) whole h say = go say.1
+offer_by c me v i batch past point p bytes sender (NewView new) whole h say = go say.1
   where
     go : (taken c past (Sent p bytes) ≡ Some new) ⊎ ((is_active_in c past new.view ≡ true) × SentBefore bytes past) → IsOffer c me v i batch past (Sent p bytes)
     go (inl t) = begun new t h
@@ -169,7 +169,7 @@ is_offer c me v i batch past (Accepted x y z) r h = absurd cc
 
 -- ---- what is logged is of a view that was reached
 
-begun_view : (c : Configuration) (me v i : ℕ) (batch : List ℕ) (past : List Entry) (e : Entry) (new : NewView) → taken c past e ≡ Some new → batch_begun v i new ≡ Some batch → view c (e ∷ past) ≡ v
+begun_view : (c : Configuration) (me v i : ℕ) (batch : List ℕ) (past : List Entry) (e : Entry) (new : NewViewData) → taken c past e ≡ Some new → batch_begun v i new ≡ Some batch → view c (e ∷ past) ≡ v
 begun_view c me v i batch past e new t b = (takes c me past e new t).view_is ∙ (proposes c v i new batch b).view_is
 
 sent_view : (c : Configuration) (me v i : ℕ) (past : List Entry) (point : Point) (e : Entry) (bytes batch : List ℕ) (sender : ℕ) (message : Message)
@@ -266,7 +266,7 @@ logged_now c me v i batch past e right above h = go (first_given (λ earlier e. 
     go None is = h
     go (Some b) is = let reached = logged_view c me v i b past right is in absurd (omega arith)
 
-pub begun_place : (c : Configuration) (me v i : ℕ) (batch : List ℕ) (past : List Entry) (e : Entry) (new : NewView) → Always (RightAt c me) past
+pub begun_place : (c : Configuration) (me v i : ℕ) (batch : List ℕ) (past : List Entry) (e : Entry) (new : NewViewData) → Always (RightAt c me) past
     → taken c past e ≡ Some new → batch_begun v i new ≡ Some batch → (logged c me (e ∷ past) v i ≡ Some batch) ⊎ (i ≤ low c me (e ∷ past))
 begun_place c me v i batch past e new right t b = go (is_in_marks c (low c me (e ∷ past)) i) refl
   where

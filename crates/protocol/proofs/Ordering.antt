@@ -1,6 +1,6 @@
 -- A number that an ordered call is accepted with was reached by all but f correct replicas.
-use Rattle.std.proofs.Common.{◌≡◌, ℕ, zero, suc, ◌+◌, ◌*◌, ◌≤◌, ◌⊎◌, inl, inr, Bool, true, false, cond, List, [], ◌∷◌, ◌++◌, fold, replicate, refl, sym, ap, ◌∙◌, subst, arith, ◌&&◌, Option, Some, None, eqb-true, bytes_eq}
-use Rattle.std.specs.Prelude.{option_and_then, slice_set, slice_get, ◌==◌}
+use Rattle.std.proofs.Common.{◌≡◌, ℕ, suc, ◌+◌, ◌*◌, ◌≤◌, ◌⊎◌, inl, inr, Bool, true, false, cond, List, [], ◌∷◌, ◌++◌, fold, refl, sym, ap, ◌∙◌, subst, arith, ◌&&◌, Option, Some, None, eqb-true, bytes_eq}
+use Rattle.std.specs.Prelude.{option_and_then, ◌==◌}
 use Rattle.std.specs.Option.{option_map_or}
 use Rattle.std.proofs.lemmas.Bool.{and_parts}
 use Rattle.protocol.specs.RightReplica
@@ -28,7 +28,7 @@ use Rattle.protocol.proofs.Reading.{Runs, correct_client, own_entries}
 use Rattle.protocol.specs.State.{after_batches, ran_call}
 use Rattle.protocol.specs.RightReplica.{executed_point, waiting_after, reply_of}
 use Rattle.protocol.specs.Texts.{NoCollision}
-use Rattle.protocol.proofs.Leaving.{get_set}
+use Rattle.protocol.proofs.Leaving.{last_put, none_kept}
 use Rattle.protocol.specs.Laws.{IsStateOf}
 use Rattle.protocol.proofs.States.{GoodHere, states_agree}
 use Rattle.tuple_codec.specs.Spelling.{outcome_spelling}
@@ -44,12 +44,11 @@ run_at_most k st call most = go (runs st call)
     go : (b : Bool) → (client : ℕ) (kept : Kept) → kept_of (cond b (ran_call st k call) st) client ≡ Some kept → kept.number ≤ k
     go false client kept h = most client kept h
     go true client kept h =
-        let t = and_then_some (λ (x : Option Kept). x) (slice_get (slice_set st.replies call.client (Some (kept_by st k call))) client) kept h in
-        pick t.0 t.2 (get_set st.replies call.client client (Some (kept_by st k call)) t.0 t.1)
+        pick (last_put st.replies call.client client (kept_by st k call))
       where
-        pick : (o : Option Kept) → o ≡ Some kept → ((o ≡ Some (kept_by st k call)) × (call.client ≡ client)) ⊎ (slice_get st.replies client ≡ Some o) → kept.number ≤ k
-        pick o is (inl e) = let same : kept_by st k call ≡ kept = some_injective (kept_by st k call) kept (sym e.0 ∙ is) in let n : k ≡ kept.number = ap (λ (x : Kept). x.number) same in omega arith
-        pick o is (inr e) = most client kept (ap (option_and_then (λ (x : Option Kept). x)) e ∙ is)
+        pick : ((kept_of (ran_call st k call) client ≡ Some (kept_by st k call)) × (call.client ≡ client)) ⊎ (kept_of (ran_call st k call) client ≡ kept_of st client) → kept.number ≤ k
+        pick (inl e) = let same : kept_by st k call ≡ kept = some_injective (kept_by st k call) kept (sym e.0 ∙ h) in let n : k ≡ kept.number = ap (λ (x : Kept). x.number) same in omega arith
+        pick (inr e) = most client kept (sym e ∙ h)
 
 frames_at_most : (c : Configuration) (k : ℕ) (st : State) (frames : List (List ℕ)) → AreAtMost k st → AreAtMost k (fold (run_frame c k) st frames)
 frames_at_most c k st [] most = most
@@ -90,13 +89,8 @@ has_either x (z ∷ xs) ys (inr h) = go (has_either x xs ys h)
     go (inl k) = inl (inr k)
     go (inr k) = inr k
 
-none_kept : AreAtMost 0 opening
-none_kept client kept h = go 256 client h
-  where
-    go : (n i : ℕ) → option_and_then (λ (x : Option Kept). x) (slice_get (replicate n None) i) ≡ Some kept → kept.number ≤ 0
-    go zero i h = absurd cc
-    go (suc n) zero h = absurd cc
-    go (suc n) (suc i) h = go n i h
+none_at_most : AreAtMost 0 opening
+none_at_most client kept h = absurd (let none : None ≡ Some kept = sym (none_kept client) ∙ h in cc)
 
 after_at_most : (c : Configuration) (st : State) (batches : List (List ℕ)) → AreAtMost st.number st → AreAtMost (after_batches c st batches).number (after_batches c st batches)
 after_at_most c st [] most = most
@@ -105,7 +99,7 @@ after_at_most c st (batch ∷ batches) most =
 
 -- in a state of executed batches each kept number is at most the state's
 kept_at_most : (c : Configuration) (trace : List Entry) (st : State) → IsStateOf c trace st → AreAtMost st.number st
-kept_at_most c trace st s = subst (λ (x : State). AreAtMost x.number x) (sym s.is) (after_at_most c opening s.batches none_kept)
+kept_at_most c trace st s = subst (λ (x : State). AreAtMost x.number x) (sym s.is) (after_at_most c opening s.batches none_at_most)
 
 -- what ran in the event has a number that the state has reached
 ran_at_most : (c : Configuration) (r : ℕ) (xs : List Entry) (point : RightReplica.Point) → Leaves c r xs point → (x : Ran) → Has (λ y. y ≡ x) point.ran → x.kept.number ≤ point.state.number

@@ -1,6 +1,6 @@
 -- States are equal where their pages are.
-use Rattle.std.proofs.Common.{◌≡◌, ℕ, suc, ◌+◌, ◌-◌, ◌<◌, Bool, true, false, cond, List, [], ◌∷◌, ◌++◌, length, refl, sym, ap, ap₂, ◌∙◌, arith, Option, Some, None}
-use Rattle.std.specs.Prelude.{◌==◌, nat_lt, option_and_then, slice_get}
+use Rattle.std.proofs.Common.{◌≡◌, ℕ, ◌+◌, ◌-◌, ◌<◌, Bool, true, false, cond, [], ◌++◌, refl, sym, ap, ◌∙◌, arith}
+use Rattle.std.specs.Prelude.{◌==◌, nat_lt}
 use Rattle.std.proofs.lemmas.Bool.{lt-ltb, ltb-true}
 use Rattle.tuple_codec.specs.Operations.{Outcome, IsOutcome}
 use Rattle.tuple_codec.specs.Spelling.{outcome_spelling}
@@ -11,8 +11,8 @@ use Rattle.space.specs.Births.{SpaceState}
 use Rattle.space.specs.Pages.{header_text, page_text as tuple_page}
 use Rattle.space.proofs.Determining.{number_split}
 use Rattle.space.proofs.Determining
-use Rattle.reply_cache.specs.Replies.{Kept, IsKept, IsReply}
-use Rattle.reply_cache.proofs.Determining.{reply_same}
+use Rattle.reply_cache.specs.Replies.{Replies}
+use Rattle.reply_cache.proofs.Determining as Cache
 use Rattle.reply_cache.specs.Pages.{reply_text}
 use Rattle.protocol.specs.State.{State, kept_of, page_text}
 use Rattle.protocol.specs.Laws.{PagesDetermine}
@@ -24,26 +24,6 @@ pub same_outcome : (a b : Outcome) → IsOutcome a → IsOutcome b → outcome_s
 same_outcome a b f g e =
     (one IsOutcome outcome_spelling outcome_at outcome_reads (outcome_spelling a) (outcome_spelling b) [] [] a b
     (record { valid = f; spelled = refl }) (record { valid = g; spelled = refl }) (ap (λ xs. xs ++ []) e)).1
-
-option_same : (a b : Option Kept) → ((k : Kept) → a ≡ Some k → IsKept k) → ((k : Kept) → b ≡ Some k → IsKept k) → reply_text a ≡ reply_text b → a ≡ b
-option_same a b f g e = reply_same a b (valid a f) (valid b g) e
-  where
-    valid : (o : Option Kept) → ((k : Kept) → o ≡ Some k → IsKept k) → IsReply o
-    valid None f = tt
-    valid (Some k) f = f k refl
-
-abbrev kept_at : List (Option Kept) → ℕ → Option Kept
-kept_at xs i = option_and_then (λ x. x) (slice_get xs i)
-
-replies_same : (xs ys : List (Option Kept)) → length xs ≡ length ys → ((i : ℕ) → i < length xs → kept_at xs i ≡ kept_at ys i) → xs ≡ ys
-replies_same [] [] l f = refl
-replies_same [] (y ∷ ys) l f = absurd (omega arith)
-replies_same (x ∷ xs) [] l f = absurd (omega arith)
-replies_same (x ∷ xs) (y ∷ ys) l f =
-    let m : length xs ≡ length ys = omega arith in
-    let z : 0 < suc (length xs) = omega arith in
-    let first : x ≡ y = f 0 z in
-    ap₂ (λ (o : Option Kept) (os : List (Option Kept)). o ∷ os) first (replies_same xs ys m (λ i k. let k' : suc i < suc (length xs) = omega arith in f (suc i) k'))
 
 -- ---- the pages of each sort
 
@@ -62,7 +42,7 @@ tuple_page_at : (st : State) (i : ℕ) → i < 256 → page_text st i ≡ tuple_
 unfolding page_text
 tuple_page_at st i l = rw (lt-ltb i 256 l) refl
 
-header_at : (st : State) → page_text st 512 ≡ header_text st.space st.number
+pub header_at : (st : State) → page_text st 512 ≡ header_text st.space st.number
 unfolding page_text
 header_at st = refl
 
@@ -77,13 +57,9 @@ pages_determine st other s o pages = build st.space other.space st.number other.
 
     replies : st.replies ≡ other.replies
     replies =
-        let l : length st.replies ≡ length other.replies = s.clients ∙ sym o.clients in
-        replies_same st.replies other.replies l (λ i k.
-        let n = s.clients in
-        let small : i < 256 = omega arith in
-        let page : 256 + i < 1024 = omega arith in
-        option_same (kept_of st i) (kept_of other i) (s.replies i) (o.replies i) (sym (reply_page_at st i small) ∙ pages (256 + i) page ∙ reply_page_at other i small))
+        Cache.pages_determine st.replies other.replies s.replies o.replies
+        (λ i small. let page : 256 + i < 1024 = omega arith in sym (reply_page_at st i small) ∙ pages (256 + i) page ∙ reply_page_at other i small)
 
-    build : (a a' : SpaceState) (d d' : ℕ) (r r' : List (Option Kept)) → a ≡ a' → d ≡ d' → r ≡ r'
+    build : (a a' : SpaceState) (d d' : ℕ) (r r' : Replies) → a ≡ a' → d ≡ d' → r ≡ r'
         → ◌≡◌ {A = State} (record { space = a; number = d; replies = r }) (record { space = a'; number = d'; replies = r' })
     build a a' d d' r r' p q t = rw (p, q, t) refl

@@ -16,11 +16,9 @@ use Rattle.protocol.specs.Owed.{Owes, Proceeds, IsInput, IsReplica}
 
 -- ---- clients, by what they react
 
-module _ (c : Configuration) (me : ℕ) (react : List Entry → Reaction) (Accepting : List Entry → ℕ → Outcome → Type 0)
-    (asks_open : (now : List Entry) (read_only : Bool) (call : OpenCall) → react now ≡ asks read_only call → (open_call now ≡ Some call) × (read_only ≡ true → is_read_only call.op ≡ true))
-    (accepts_may : (now : List Entry) (t : ℕ) (a : Outcome) → react now ≡ accepts t a → Accepting now t a) where
+module _ (c : Configuration) (me : ℕ) (react : List Entry → Reaction) where
   -- an event has one output at most
-  one_output : (x y : Entry) (outputs xs : List Entry) → Reacts c me react (x ∷ y ∷ outputs) xs → ⊥
+  pub one_output : (x y : Entry) (outputs xs : List Entry) → Reacts c me react (x ∷ y ∷ outputs) xs → ⊥
   one_output x y outputs [] h = cc
   one_output x y outputs (e ∷ past) h = go (is_output e) h.1 (one_output e x (y ∷ outputs) past)
     where
@@ -34,6 +32,9 @@ module _ (c : Configuration) (me : ℕ) (react : List Entry → Reaction) (Accep
       go true k below = below k
       go false k below = two (react (e ∷ past)) k.1
 
+module _ (c : Configuration) (me : ℕ) (react : List Entry → Reaction) (Accepting : List Entry → ℕ → Outcome → Type 0)
+    (asks_open : (now : List Entry) (read_only : Bool) (call : OpenCall) → react now ≡ asks read_only call → (open_call now ≡ Some call) × (read_only ≡ true → is_read_only call.op ≡ true))
+    (accepts_may : (now : List Entry) (t : ℕ) (a : Outcome) → react now ≡ accepts t a → Accepting now t a) where
   -- it is what the client may do
   output_may : (e : Entry) (outputs now : List Entry) (r : Reaction) → react now ≡ r → IsReaction c me r (e ∷ outputs) → MayClient Accepting me now e
   output_may e outputs now nothing is h = absurd cc
@@ -54,7 +55,7 @@ module _ (c : Configuration) (me : ℕ) (react : List Entry → Reaction) (Accep
   behind e outputs (f ∷ past) h = go (is_output f) h.1
     where
       go : (b : Bool) → either b (Reacts c me react (f ∷ e ∷ outputs) past) (MayInput past f × IsReaction c me (react (f ∷ past)) (e ∷ outputs) × Reacts c me react [] past) → MayClient Accepting me (f ∷ past) e
-      go true k = absurd (one_output f e outputs past k)
+      go true k = absurd (one_output c me react f e outputs past k)
       go false k = output_may e outputs (f ∷ past) (react (f ∷ past)) refl k.1
 
   input_may : (past : List Entry) (e : Entry) → MayInput past e → MayClient Accepting me past e
@@ -109,8 +110,8 @@ not_true false e f X = absurd cc
 got_asks : (c : Configuration) (me : ℕ) (now : List Entry) (call x : OpenCall) (read_only : Bool) → on_got c me now call ≡ asks read_only x → (x ≡ call) × (read_only ≡ false)
 got_asks c me now call x read_only h = go (newest_vote c me now call.timestamp) h
   where
-    go : (o : Option Vote) → option_map_or (on_reply c me now call) o (fallback c me now call) ≡ asks read_only x → (x ≡ call) × (read_only ≡ false)
-    go None h = falls_back c me now call x read_only h
+    go : (o : Option Vote) → option_map_or (on_reply c me now call) o nothing ≡ asks read_only x → (x ≡ call) × (read_only ≡ false)
+    go None h = absurd cc
     go (Some vote) h = test (is_complete c me now call.timestamp vote) h
       where
         test : (b : Bool) → cond b (accepts call.timestamp vote.answer) (fallback c me now call) ≡ asks read_only x → (x ≡ call) × (read_only ≡ false)
@@ -160,8 +161,8 @@ client_accepts c me (Got p bytes ∷ past) t a h = go (open_call past) refl h
     go None is h = absurd cc
     go (Some call) is h = votes (newest_vote c me (Got p bytes ∷ past) call.timestamp) refl h
       where
-        votes : (o : Option Vote) → newest_vote c me (Got p bytes ∷ past) call.timestamp ≡ o → option_map_or (on_reply c me (Got p bytes ∷ past) call) o (fallback c me (Got p bytes ∷ past) call) ≡ accepts t a → MayAccept c me (Got p bytes ∷ past) t a
-        votes None e h = absurd (falls_not c me (Got p bytes ∷ past) call t a h)
+        votes : (o : Option Vote) → newest_vote c me (Got p bytes ∷ past) call.timestamp ≡ o → option_map_or (on_reply c me (Got p bytes ∷ past) call) o nothing ≡ accepts t a → MayAccept c me (Got p bytes ∷ past) t a
+        votes None e h = absurd cc
         votes (Some vote) e h = test (is_complete c me (Got p bytes ∷ past) call.timestamp vote) refl h
           where
             test : (b : Bool) → is_complete c me (Got p bytes ∷ past) call.timestamp vote ≡ b → cond b (accepts call.timestamp vote.answer) (fallback c me (Got p bytes ∷ past) call) ≡ accepts t a → MayAccept c me (Got p bytes ∷ past) t a
@@ -257,11 +258,11 @@ is_weak_right c me xs h = client_right c me (weak_reaction c me) (MayWeaklyAccep
 
 -- ---- a replica
 
-one_of : (b : Bool) (X Y Z : Type 0) → either b X Y → (X → Z) → (Y → Z) → Z
+pub one_of : (b : Bool) (X Y Z : Type 0) → either b X Y → (X → Z) → (Y → Z) → Z
 one_of true X Y Z k f g = f k
 one_of false X Y Z k f g = g k
 
-proceeds_leaves : (c : Configuration) (me : ℕ) (xs outputs : List Entry) (new point : Point) → Proceeds c me xs outputs new point → Leaves c me xs point
+pub proceeds_leaves : (c : Configuration) (me : ℕ) (xs outputs : List Entry) (new point : Point) → Proceeds c me xs outputs new point → Leaves c me xs point
 proceeds_leaves c me [] outputs new point h = h.0
 proceeds_leaves c me (e ∷ past) outputs new point h = (
   h.0,

@@ -1,7 +1,7 @@
 -- The definitions refuse what wrong bodies would do.
 use Rattle.std.specs.List.{list_all, range_with_len}
-use Rattle.std.proofs.Common.{◌≡◌, ℕ, zero, suc, max, not, filter, ◌+◌, ◌-◌, ◌*◌, ◌≤◌, ◌<◌, ◌⊎◌, inl, inr, Bool, true, false, cond, List, [], bytes_eq, None, ◌∷◌, length, slice_get, refl, sym, ap, ◌∙◌, subst, arith, ◌&&◌, ◌||◌, Option, Some, eqb-true, eq-eqb}
-use Rattle.std.specs.Prelude.{◌==◌, nat_le, nat_lt, option_and_then, is_some, ⊤}
+use Rattle.std.proofs.Common.{drop, ◌≢◌, ◌^◌, ◌≡◌, ℕ, zero, suc, max, not, filter, ◌+◌, ◌-◌, ◌*◌, ◌≤◌, ◌<◌, ◌⊎◌, inl, inr, Bool, true, false, cond, List, [], bytes_eq, None, ◌∷◌, length, slice_get, refl, sym, ap, ◌∙◌, subst, arith, ◌&&◌, ◌||◌, Option, Some, eqb-true, eq-eqb}
+use Rattle.std.specs.Prelude.{◌==◌, nat_le, nat_lt, is_some, All, ⊤}
 use Rattle.std.specs.Option.{option_map_or}
 use Rattle.std.proofs.lemmas.Bool.{eqb-false, ltb-false, and_parts, or_cases, leb-true, ltb-true}
 use Rattle.std.proofs.lemmas.Slice.Eq.{bytes_eq-Decides}
@@ -9,19 +9,21 @@ use Rattle.tuple_codec.specs.Operations.{Outcome}
 use Rattle.tuple_codec.specs.Spelling.{outcome_spelling}
 use Rattle.sha2.specs.Sha256.{sha256}
 use Rattle.quorum.specs.Quorum.{count_below}
-use Rattle.protocol.specs.Configuration.{Configuration, replicas, span}
+use Rattle.protocol.specs.Configuration.{Configuration, replicas, span, is_number}
 use Rattle.wire.specs.declared.terms.Mode.TheVariants as modes
-use Rattle.wire.specs.Messages.{BodyData as Body, FrameData as Frame, ProofData as Proof, MacData, macs, ViewChangeData as ViewChange, NewViewData as NewView, ClaimData as Claim, pre_prepare as PrePrepare, prepare as Prepare, commit as Commit, checkpoint as Checkpoint, view_change as Change, reply as Reply, meta as Meta, page as Page}
+use Rattle.wire.specs.Messages.{BodyData as Body, FrameData as Frame, ProofData as Proof, MacData, macs, signature, ViewChangeData, NewViewData, ClaimData as Claim, pre_prepare as PrePrepare, prepare as Prepare, commit as Commit, checkpoint as Checkpoint, view_change as ViewChange, new_view as NewView, reply as Reply, meta as Meta, page as Page}
+use Rattle.authenticator.specs.Authentic.{mac_of}
+use Rattle.signing.specs.Heard.{has_signature}
 use Rattle.protocol.specs.Frames.{frame_of, said, heard, mode_of}
 use Rattle.protocol.specs.Trace.{Entry, party_of, Once, Always, Has, Hears}
 use Rattle.protocol.specs.Trace.Entry.{Invoke, Got, Tick, Executed, Installed, Sent, Accepted}
-use Rattle.protocol.specs.Selection.{is_quorum, is_weak_quorum, passes_by, count_in, vouches, agrees, may_stand_at, may_be_null, is_null, is_within, changes_of, how_many}
+use Rattle.protocol.specs.Selection.{is_quorum, is_weak_quorum, passes_by, count_in, vouches, agrees, may_stand_at, may_be_null, null_batch, is_null, is_within, changes_of, how_many}
 use Rattle.protocol.specs.Certificates.{target, view, is_active_in, is_later, new_view_in, logged, low}
 use Rattle.reply_cache.specs.Replies.{Kept}
-use Rattle.protocol.specs.State.{State, Ran, opening, kept_of, last_time, runs, run_call, ran_call, kept_by, page_text}
-use Rattle.protocol.specs.RightReplica.{IsAddressed, Point, Leaves, SafeReplica, May, Moves, MaySay, MaySend, MayCheckpoint, MayPrepare, MayCommit, MayPrePrepare, MayReply, MayReplyRead, MayChange, SendsBytes, reply_of, GetsPage}
+use Rattle.protocol.specs.State.{State, Ran, opening, kept_of, page_text}
+use Rattle.protocol.specs.RightReplica.{MayNewView, MayMeta, MayPage, kept_states, digests_at, IsAddressed, Point, Leaves, SafeReplica, May, Moves, MaySay, MaySend, MayCheckpoint, MayPrepare, MayCommit, MayPrePrepare, MayReply, MayReplyRead, MayViewChange, SendsBytes, reply_of, GetsPage}
 use Rattle.protocol.specs.RightClient.{SafeClient, Vote, latest, is_alike, count_alike}
-use Rattle.protocol.specs.Refused.{UnaskedDigestsAreDropped, UnaskedPagesAreDropped, ProposesAuthentic, ReadsNewest, NoChangeWhileActive, AnswersReads, DropsReplies, DropsOwnChange, RepliesToItsClient, CommitsToAll, Says, NoExecution, newest_number, HasFrom, SaysNothingAgainst, SaysForIt, SaysNothing, RepliesAfterExecution, NoCommitAfterChange, NoPrepareAfterChange, NoEarlyCheckpoint, OnePrePrepare, NoPrepareByPrimary, ExecutesNext, KeepsPrepared, InstallsWhatItHas, TakesWellSelected, TakesNoLower, RunsOnce, AcceptsAtQuorum}
+use Rattle.protocol.specs.Refused.{SealsWell, SignsWell, PrePreparesAsPrimary, PrePreparesInMarks, NoPrePrepareAfterChange, CheckpointsMultiples, BeginsAsPrimary, ReadsWhatWasAsked, DigestsToWhoAsked, PagesToWhoAsked, IsReplyOf, ExecutesWhatIsCommitted, GivesKeptDigests, GivesKeptPages, GivesAskedDigests, GivesAskedPages, RepliesWhatRan, DropsUnaskedDigests, DropsUnaskedPages, ProposesAuthentic, ReadsNewest, NoChangeWhileActive, DropsReplies, DropsOwnChange, RepliesToItsClient, CommitsToAll, Says, NoExecution, newest_number, HasFrom, SaysNothingAgainst, SaysForIt, SaysNothing, RepliesAfterExecution, NoCommitAfterChange, NoPrepareAfterChange, NoEarlyCheckpoint, OnePrePrepare, NoPrepareByPrimary, ExecutesNext, KeepsPrepared, InstallsWhatItHas, InstallsWithHeader, TakesWellSelected, TakesNoLower, AcceptsAtQuorum}
 use Rattle.wire.specs.Words.{requests_of}
 use Rattle.protocol.specs.Owed.{Owes, Counts, IsReplica, change_taken, latest_change}
 use Rattle.protocol.proofs.Temporal.{once_weaker, once_stays_from}
@@ -36,11 +38,16 @@ use Rattle.protocol.proofs.Changes.{change_target, target_grows}
 use Rattle.protocol.proofs.Offers.{offer_in, offers_kept, marks_above}
 use Rattle.protocol.proofs.Linking.{Speaks}
 use Rattle.protocol.proofs.Leaving.{none_kept}
-use Rattle.protocol.proofs.Keeping.{set_here}
+use Rattle.protocol.proofs.Paging.{header_at}
+use Rattle.space.specs.Pages.{header_text}
+use Rattle.space.specs.Births.{SpaceState}
+use Rattle.space.proofs.Determining.{number_split}
+use Rattle.std.specs.Int.{w64, to_be_bytes}
+use Rattle.protocol.specs.RightReplica.{IsInstalled, IsHeld}
 use Rattle.quorum.specs.Votes.{give_if}
 
 -- what the newest frame says, a right replica may say
-says_may : (c : Configuration) (me : ℕ) (bytes : List ℕ) (body : Body) (past : List Entry) (right : SafeReplica c me (Sent me bytes ∷ past)) → said bytes ≡ Some body
+pub says_may : (c : Configuration) (me : ℕ) (bytes : List ℕ) (body : Body) (past : List Entry) (right : SafeReplica c me (Sent me bytes ∷ past)) → said bytes ≡ Some body
     → MaySay c me past right.1.0 (Sent me bytes) bytes body.message
 says_may c me bytes body past right h =
     let m : MaySend c me past right.1.0 (Sent me bytes) bytes = right.1.2.may in
@@ -74,16 +81,16 @@ replies_after_execution c me client timestamp number answer bytes past says none
 
     go : MayReply c me past right.1.0 client timestamp modes.Ordered number answer → ⊥
     go (inl h) = subst (λ (rans : List Ran). Has (λ (ran : Ran). reply_of ran.call.client ran.kept ≡ Reply client timestamp modes.Ordered number answer) rans) u.ran h
-    go (inr h) = none_kept 256 h.0 h.1 (subst (λ (st : State). kept_of st h.0 ≡ Some h.1) u.state h.2)
+    go (inr h) = absurd (let none : None ≡ Some h.1 = sym (none_kept h.0) ∙ subst (λ (st : State). kept_of st h.0 ≡ Some h.1) u.state h.2 in cc)
 
 -- ---- after a view change
 
-above_target : (me : ℕ) (vc : ViewChange) (past : List Entry) → Once (Says (record { sender = me; message = Change vc })) past → vc.view ≤ target past
+pub above_target : (me : ℕ) (vc : ViewChangeData) (past : List Entry) → Once (Says (record { sender = me; message = ViewChange vc })) past → vc.view ≤ target past
 above_target me vc past h =
     once_stays_from (λ x. vc.view ≤ target x) (λ e x k. let grows = target_grows e x in omega arith) past
-    (once_weaker (Says (record { sender = me; message = Change vc })) (λ x e. vc.view ≤ target (e ∷ x)) (λ x e t. change_target me vc x e (speaks x e t)) past h)
+    (once_weaker (Says (record { sender = me; message = ViewChange vc })) (λ x e. vc.view ≤ target (e ∷ x)) (λ x e t. change_target me vc x e (speaks x e t)) past h)
   where
-    speaks : (x : List Entry) (e : Entry) → Says (record { sender = me; message = Change vc }) x e → Speaks (record { sender = me; message = Change vc }) x e
+    speaks : (x : List Entry) (e : Entry) → Says (record { sender = me; message = ViewChange vc }) x e → Speaks (record { sender = me; message = ViewChange vc }) x e
     speaks x (Sent p bytes) t = t
     speaks x (Invoke a b d) t = absurd t
     speaks x (Got a b) t = absurd t
@@ -92,7 +99,7 @@ above_target me vc past h =
     speaks x (Installed a b d) t = absurd t
     speaks x (Accepted a b d) t = absurd t
 
-inactive : (c : Configuration) (me v : ℕ) (vc : ViewChange) (past : List Entry) → Once (Says (record { sender = me; message = Change vc })) past → v < vc.view → is_active_in c past v ≡ true → ⊥
+inactive : (c : Configuration) (me v : ℕ) (vc : ViewChangeData) (past : List Entry) → Once (Says (record { sender = me; message = ViewChange vc })) past → v < vc.view → is_active_in c past v ≡ true → ⊥
 inactive c me v vc past h above active =
     let a = above_target me vc past h in
     let b : target past ≤ v = leb-true (target past) v (and_parts (view c past == v) (nat_le (target past) v) active).1 in
@@ -141,7 +148,7 @@ no_prepare_by_primary c me v i digest bytes past says is right =
     m.is_backup is
 
 -- the state has the newest number
-newest_state : (c : Configuration) (me : ℕ) (xs : List Entry) (point : Point) → Leaves c me xs point → point.state.number ≡ newest_number xs
+pub newest_state : (c : Configuration) (me : ℕ) (xs : List Entry) (point : Point) → Leaves c me xs point → point.state.number ≡ newest_number xs
 newest_state c me [] point h = ap (λ (p : Point). p.state.number) h
 newest_state c me (e ∷ past) point h = go e h.2.may h.2.moves (newest_state c me past h.0 h.1)
   where
@@ -157,20 +164,57 @@ newest_state c me (e ∷ past) point h = go e h.2.may h.2.moves (newest_state c 
 pub executes_next : ExecutesNext
 executes_next c me k batch past right = right.1.2.may.next ∙ ap suc (newest_state c me past right.1.0 right.1.1)
 
+pub executes_what_is_committed : ExecutesWhatIsCommitted
+executes_what_is_committed c me k batch past none right = none right.1.2.may.in_view right.1.2.may.committed
+
 pub keeps_prepared : KeepsPrepared
 keeps_prepared c me v i batch bytes vc past says new right prepared marks =
-    go (says_may c me bytes (record { sender = me; message = Change vc }) past right says)
+    go (says_may c me bytes (record { sender = me; message = ViewChange vc }) past right says)
   where
-    go : MayChange c me past right.1.0 bytes vc → Has (λ (claim : Claim). claim.number ≡ i) vc.prepared
+    go : MayViewChange c me past right.1.0 bytes vc → Has (λ (claim : Claim). claim.number ≡ i) vc.prepared
     go (inl change) = change.prepared.all v i batch marks prepared
     go (inr again) = absurd (new again.2)
 
 pub installs_what_it_has : InstallsWhatItHas
-installs_what_it_has c me k i root past old new installed within differs = go (installed.pages i within)
+installs_what_it_has c me k root past lacks right = go lack (installed.pages lack.0 lack.1)
   where
-    go : (page_text new.state i ≡ page_text old.state i) ⊎ Once (GetsPage c me i (page_text new.state i)) past → Once (GetsPage c me i (page_text new.state i)) past
-    go (inl same) = absurd (differs same)
-    go (inr got) = got
+    new : State
+    new = right.0.state
+
+    installed : IsInstalled c me past right.1.0 k root right.0
+    installed = right.1.2.moves
+
+    lack : (i : ℕ) × (i < 1024) × (page_text new i ≢ page_text right.1.0.state i) × (Once (GetsPage c me i (page_text new i)) past → ⊥)
+    lack = lacks right.1.0 right.1.1 new installed.number installed.root_is
+
+    go : (x : (i : ℕ) × (i < 1024) × (page_text new i ≢ page_text right.1.0.state i) × (Once (GetsPage c me i (page_text new i)) past → ⊥)) → IsHeld c me past right.1.0.state x.0 (page_text new x.0) → ⊥
+    go x (inl same) = x.2 same
+    go x (inr got) = x.3 got
+
+pub installs_with_header : InstallsWithHeader
+installs_with_header c me k root past right = go (installed.pages 512 within)
+  where
+    old : State
+    old = right.1.0.state
+
+    new : State
+    new = right.0.state
+
+    installed : IsInstalled c me past right.1.0 k root right.0
+    installed = right.1.2.moves
+
+    within : 512 < 1024
+    within = omega arith
+
+    go : IsHeld c me past old 512 (page_text new 512) → (space : SpaceState) × Once (GetsPage c me 512 (header_text space k)) past
+    go (inl same) =
+        let above : old.number < k = right.1.2.may.0 in
+        let few : new.number < 2 ^ 48 = installed.is_state.space.few in
+        let is = installed.number in
+        let heads : header_text new.space new.number ≡ header_text old.space old.number = sym (header_at new) ∙ same ∙ header_at old in
+        let one = number_split new.number old.number (to_be_bytes w64 new.space.next) (to_be_bytes w64 old.space.next) (omega arith) (omega arith) (ap (drop 1) heads) in
+        absurd (let e = one.0 in omega arith)
+    go (inr got) = (new.space, subst (λ (text : List ℕ). Once (GetsPage c me 512 text) past) (header_at new ∙ ap (header_text new.space) installed.number) got)
 
 pub proposes_authentic : ProposesAuthentic
 proposes_authentic c me v i batch bytes request past says right has =
@@ -181,16 +225,48 @@ proposes_authentic c me v i batch bytes request past says right has =
     there None h = absurd cc
     there (Some body) h = (body, refl)
 
+pub pre_prepares_as_primary : PrePreparesAsPrimary
+pre_prepares_as_primary c me v i batch bytes past says right =
+    let m : MayPrePrepare c me past (Sent me bytes) v i batch = says_may c me bytes (record { sender = me; message = PrePrepare v i batch }) past right says in
+    m.is_primary
+
+pub pre_prepares_in_marks : PrePreparesInMarks
+pre_prepares_in_marks c me v i batch bytes past says right =
+    let m : MayPrePrepare c me past (Sent me bytes) v i batch = says_may c me bytes (record { sender = me; message = PrePrepare v i batch }) past right says in
+    let p = and_parts (nat_lt (low c me past) i && nat_le i (low c me past + span c)) (is_number i) m.in_marks in
+    let q = and_parts (nat_lt (low c me past) i) (nat_le i (low c me past + span c)) p.0 in
+    (ltb-true (low c me past) i q.0, leb-true i (low c me past + span c) q.1, ltb-true i (2 ^ 48) p.1)
+
+pub no_pre_prepare_after_change : NoPrePrepareAfterChange
+no_pre_prepare_after_change c me v i batch bytes vc past says changed above right =
+    let m : MayPrePrepare c me past (Sent me bytes) v i batch = says_may c me bytes (record { sender = me; message = PrePrepare v i batch }) past right says in
+    inactive c me v vc past changed above m.active
+
+pub checkpoints_multiples : CheckpointsMultiples
+checkpoints_multiples c me k root bytes past says right =
+    let m : MayCheckpoint c past right.1.0 k root = says_may c me bytes (record { sender = me; message = Checkpoint k root }) past right says in
+    m.multiple
+
+pub begins_as_primary : BeginsAsPrimary
+begins_as_primary c me new bytes past says right =
+    let m : MayNewView c me past (Sent me bytes) bytes new = says_may c me bytes (record { sender = me; message = NewView new }) past right says in
+    m.0
+
+pub reads_what_was_asked : ReadsWhatWasAsked
+reads_what_was_asked c me client timestamp number answer bytes past says right =
+    let m : MayReplyRead c me past right.1.0 client timestamp number answer = says_may c me bytes (record { sender = me; message = Reply client timestamp modes.ReadOnly number answer }) past right says in
+    (m.op, m.is_read, m.heard, right.1.0, right.1.1, m.answer_is)
+
 pub reads_newest : ReadsNewest
 reads_newest c me client timestamp number answer bytes past says right =
     let m : MayReplyRead c me past right.1.0 client timestamp number answer = says_may c me bytes (record { sender = me; message = Reply client timestamp modes.ReadOnly number answer }) past right says in
     m.number_is ∙ newest_state c me past right.1.0 right.1.1
 
 pub no_change_while_active : NoChangeWhileActive
-no_change_while_active c me bytes vc past says before active right = go (says_may c me bytes (record { sender = me; message = Change vc }) past right says)
+no_change_while_active c me bytes vc past says before active right = go (says_may c me bytes (record { sender = me; message = ViewChange vc }) past right says)
   where
-    sends : (x : List Entry) (e : Entry) → SendsBytes bytes x e → Says (record { sender = me; message = Change vc }) x e
-    sends x (Sent p sent) h = subst (λ (ys : List ℕ). said ys ≡ Some (record { sender = me; message = Change vc })) (sym h) says
+    sends : (x : List Entry) (e : Entry) → SendsBytes bytes x e → Says (record { sender = me; message = ViewChange vc }) x e
+    sends x (Sent p sent) h = subst (λ (ys : List ℕ). said ys ≡ Some (record { sender = me; message = ViewChange vc })) (sym h) says
     sends x (Invoke a b d) h = absurd h
     sends x (Got a b) h = absurd h
     sends x (Tick a) h = absurd h
@@ -198,14 +274,56 @@ no_change_while_active c me bytes vc past says before active right = go (says_ma
     sends x (Installed a b d) h = absurd h
     sends x (Accepted a b d) h = absurd h
 
-    go : MayChange c me past right.1.0 bytes vc → ⊥
+    go : MayViewChange c me past right.1.0 bytes vc → ⊥
     go (inl change) =
-        let a = above_target me vc past (once_weaker (SendsBytes bytes) (Says (record { sender = me; message = Change vc })) sends past before) in
+        let a = above_target me vc past (once_weaker (SendsBytes bytes) (Says (record { sender = me; message = ViewChange vc })) sends past before) in
         let b = change.newer in
         omega arith
     go (inr again) = let a = again.0 in omega arith
 
--- ---- what is owed
+-- ---- what is answered with
+
+pub gives_kept_digests : GivesKeptDigests
+gives_kept_digests c me k index level digests bytes past says none right =
+    let m : MayMeta c me past right.1.0 k level index digests = says_may c me bytes (record { sender = me; message = Meta k level index digests }) past right says in
+    let x = has_some (λ (st : State). (st.number ≡ k) × (digests ≡ digests_at st level index)) (kept_states (low c me past) right.1.0.snapshots) m.0 in
+    none right.1.0 right.1.1 x.0 x.1 x.2.0 (sym x.2.1)
+
+pub gives_kept_pages : GivesKeptPages
+gives_kept_pages c me k index text bytes past says none right =
+    let m : MayPage c me past right.1.0 k index text = says_may c me bytes (record { sender = me; message = Page k index text }) past right says in
+    let x = has_some (λ (st : State). (st.number ≡ k) × (text ≡ page_text st index)) (kept_states (low c me past) right.1.0.snapshots) m.0 in
+    none right.1.0 right.1.1 x.0 x.1 x.2.0 (sym x.2.1)
+
+pub gives_asked_digests : GivesAskedDigests
+gives_asked_digests c me k index level digests bytes past says right =
+    let m : MayMeta c me past right.1.0 k level index digests = says_may c me bytes (record { sender = me; message = Meta k level index digests }) past right says in
+    m.1
+
+pub gives_asked_pages : GivesAskedPages
+gives_asked_pages c me k index text bytes past says right =
+    let m : MayPage c me past right.1.0 k index text = says_may c me bytes (record { sender = me; message = Page k index text }) past right says in
+    m.1
+
+pub is_reply : (client timestamp number : ℕ) (answer : Outcome) (k : ℕ) (kept : Kept) → reply_of k kept ≡ Reply client timestamp modes.Ordered number answer → IsReplyOf k kept client timestamp number answer
+is_reply client timestamp number answer k kept h = (cc, cc, cc, cc)
+
+pub replies_what_ran : RepliesWhatRan
+replies_what_ran c me client timestamp number answer bytes past says none right =
+    go (says_may c me bytes (record { sender = me; message = Reply client timestamp modes.Ordered number answer }) past right says)
+  where
+    go : MayReply c me past right.1.0 client timestamp modes.Ordered number answer → ⊥
+    go (inl h) =
+        let x = has_some (λ (ran : Ran). reply_of ran.call.client ran.kept ≡ Reply client timestamp modes.Ordered number answer) right.1.0.ran h in
+        (none right.1.0 right.1.1 x.0.call.client x.0.kept (is_reply client timestamp number answer x.0.call.client x.0.kept x.2)).0 (same x.0 right.1.0.ran x.1)
+      where
+        same : (ran : Ran) (xs : List Ran) → Has (λ y. y ≡ ran) xs → Has (λ y. (y.call.client ≡ ran.call.client) × (y.kept ≡ ran.kept)) xs
+        same ran [] h = h
+        same ran (y ∷ ys) (inl h) = inl (ap (λ (z : Ran). z.call.client) h, ap (λ (z : Ran). z.kept) h)
+        same ran (y ∷ ys) (inr h) = inr (same ran ys h)
+    go (inr h) = (none right.1.0 right.1.1 h.0 h.1 (is_reply client timestamp number answer h.0 h.1 h.3)).1 h.2
+
+-- ---- what is dropped
 
 record Owed (c : Configuration) (me : ℕ) (bytes : List ℕ) (past outputs : List Entry) : Type 0 where
   old : Point
@@ -213,17 +331,9 @@ record Owed (c : Configuration) (me : ℕ) (bytes : List ℕ) (past outputs : Li
   now : List Entry
   owes : Owes c me past (Got me bytes) outputs now old new
 
-owed_later : (c : Configuration) (me : ℕ) (bytes later : List ℕ) (past : List Entry) → IsReplica c me (Sent me later ∷ Tick me ∷ Got me bytes ∷ past) → Owed c me bytes past []
-owed_later c me bytes later past (inl h) = record { old = _; new = _; now = _; owes = h.1.2.2.1.2.0 }
-owed_later c me bytes later past (inr h) = absurd h.1
-
 owed_here : (c : Configuration) (me : ℕ) (bytes later : List ℕ) (past : List Entry) → IsReplica c me (Sent me later ∷ Got me bytes ∷ past) → Owed c me bytes past (Sent me later ∷ [])
 owed_here c me bytes later past (inl h) = record { old = _; new = _; now = _; owes = h.1.2.2.0 }
 owed_here c me bytes later past (inr h) = absurd h.1
-
-pub answers_reads : AnswersReads
-answers_reads c me client timestamp op bytes later past hears is h =
-    let o = owed_later c me bytes later past h in o.owes.reads client timestamp op hears is
 
 -- an output belies that the input is dropped
 not_dropped : (c : Configuration) (me : ℕ) (bytes later : List ℕ) (past : List Entry) (body : Body) → heard c me bytes ≡ Some body → IsReplica c me (Sent me later ∷ Got me bytes ∷ past)
@@ -238,14 +348,22 @@ pub drops_replies : DropsReplies
 drops_replies c me s client timestamp number mode answer bytes later past hears h =
     not_dropped c me bytes later past (record { sender = s; message = Reply client timestamp mode number answer }) hears h (λ point k. k)
 
+pub drops_unasked_digests : DropsUnaskedDigests
+drops_unasked_digests c me s k index level digests bytes later past hears other h =
+    not_dropped c me bytes later past (record { sender = s; message = Meta k level index digests }) hears h (λ point counts. other counts.0)
+
+pub drops_unasked_pages : DropsUnaskedPages
+drops_unasked_pages c me s k index text bytes later past hears other h =
+    not_dropped c me bytes later past (record { sender = s; message = Page k index text }) hears h (λ point counts. other counts.0)
+
 pub drops_own_change : DropsOwnChange
 drops_own_change c me vc bytes later past hears signed before h =
-    not_dropped c me bytes later past (record { sender = me; message = Change vc }) hears h (λ point k. late k.1 k.2 k.3)
+    not_dropped c me bytes later past (record { sender = me; message = ViewChange vc }) hears h (λ point k. late k.0 k.1 k.2)
   where
     taken_or : is_within c vc ≡ true → (v : ℕ) → vc.view ≤ max (change_taken c v me bytes) v
     taken_or within v =
         let is : change_taken c v me bytes ≡ cond ((me == me) && nat_lt v vc.view && is_within c vc) vc.view 0
-        = ap (λ (o : Option (ℕ × ViewChange)). option_map_or (λ (x : ℕ × ViewChange). cond ((x.0 == me) && nat_lt v x.1.view && is_within c x.1) x.1.view 0) o 0) signed in
+        = ap (λ (o : Option (ℕ × ViewChangeData)). option_map_or (λ (x : ℕ × ViewChangeData). cond ((x.0 == me) && nat_lt v x.1.view && is_within c x.1) x.1.view 0) o 0) signed in
         let r = go (me == me) (nat_lt v vc.view) (is_within c vc) (eq-eqb me me refl) within (λ k. ltb-false v vc.view k) in
         subst (λ (n : ℕ). vc.view ≤ max n v) (sym is) r
       where
@@ -275,6 +393,11 @@ drops_own_change c me vc bytes later past hears signed before h =
 
 -- ---- whom a frame is for
 
+-- what makes a frame sealed, of one proof
+abbrev IsSealedBy : Configuration → Frame → Proof → Type 0
+IsSealedBy c frame (macs entries) = All (λ x. x.mac ≡ mac_of c.seed x.receiver frame.body) entries
+IsSealedBy c frame (signature s) = has_signature c.seed frame ≡ true
+
 addressed : (c : Configuration) (me : ℕ) (bytes : List ℕ) (body : Body) (frame : Frame) (entries : List MacData) (past : List Entry) (right : SafeReplica c me (Sent me bytes ∷ past)) → said bytes ≡ Some body
     → frame_of bytes ≡ Some frame → frame.proof ≡ macs entries → IsAddressed c me past body.message (macs entries)
 addressed c me bytes body frame entries past right says is proof =
@@ -283,9 +406,29 @@ addressed c me bytes body frame entries past right says is proof =
     subst (λ (p : Proof). IsAddressed c me past body.message p) proof
     (subst (λ (b : Body). IsAddressed c me past b.message frame.proof) same (m.is_sealed frame is).1)
 
+sealed : (c : Configuration) (me : ℕ) (bytes : List ℕ) (frame : Frame) (proof : Proof) (past : List Entry) → frame_of bytes ≡ Some frame → frame.proof ≡ proof → SafeReplica c me (Sent me bytes ∷ past)
+    → IsSealedBy c frame proof
+sealed c me bytes frame proof past is proof_is right =
+    let m : MaySend c me past right.1.0 (Sent me bytes) bytes = right.1.2.may in
+    subst (λ (p : Proof). IsSealedBy c frame p) proof_is (m.is_sealed frame is).0
+
+pub seals_well : SealsWell
+seals_well c me bytes frame entries past is proof right = sealed c me bytes frame (macs entries) past is proof right
+
+pub signs_well : SignsWell
+signs_well c me bytes s frame past is proof right = sealed c me bytes frame (signature s) past is proof right
+
 pub replies_to_its_client : RepliesToItsClient
 replies_to_its_client c me client timestamp number mode answer bytes frame entries past says is proof right =
     addressed c me bytes (record { sender = me; message = Reply client timestamp mode number answer }) frame entries past right says is proof
+
+pub digests_to_who_asked : DigestsToWhoAsked
+digests_to_who_asked c me k index level digests bytes frame entries past says is proof right =
+    addressed c me bytes (record { sender = me; message = Meta k level index digests }) frame entries past right says is proof
+
+pub pages_to_who_asked : PagesToWhoAsked
+pages_to_who_asked c me k index text bytes frame entries past says is proof right =
+    addressed c me bytes (record { sender = me; message = Page k index text }) frame entries past right says is proof
 
 in_range : (n a s : ℕ) → a ≤ s → s < a + n → Has (λ r. r ≡ s) (range_with_len a n)
 in_range zero a s l h = absurd (omega arith)
@@ -315,23 +458,9 @@ commits_to_all c me v i s digest bytes frame entries past says is proof within o
     differs true e = absurd (other (eqb-true s me e))
     differs false e = refl
 
--- ---- what is dropped
-
-pub unasked_digests_are_dropped : UnaskedDigestsAreDropped
-unasked_digests_are_dropped c me s k index level digests bytes past point h never body is counts =
-    let asked : Body = record { sender = s; message = Meta k level index digests } in
-    let t = subst (λ (b : Body). Counts c me past point bytes b.sender b.message) (some_injective body asked (sym is ∙ h)) counts in
-    never t.0
-
-pub unasked_pages_are_dropped : UnaskedPagesAreDropped
-unasked_pages_are_dropped c me s k index text bytes past point h never body is counts =
-    let asked : Body = record { sender = s; message = Page k index text } in
-    let t = subst (λ (b : Body). Counts c me past point bytes b.sender b.message) (some_injective body asked (sym is ∙ h)) counts in
-    never t.0
-
 -- ---- new views
 
-has_from : (c : Configuration) (new : NewView) (count : ℕ) (test : ViewChange → Bool) (P : ViewChange → Type 0) → ((vc : ViewChange) → test vc ≡ true → P vc)
+pub has_from : (c : Configuration) (new : NewViewData) (count : ℕ) (test : ViewChangeData → Bool) (P : ViewChangeData → Type 0) → ((vc : ViewChangeData) → test vc ≡ true → P vc)
     → count ≤ count_in c test (changes_of c new) → HasFrom count c new P
 has_from c new count test P f enough = (
   passes_by test (changes_of c new),
@@ -341,7 +470,7 @@ has_from c new count test P f enough = (
       (t.0, change_there (changes_of c new) s t.0 t.1, f t.0 t.2),
 )
 
-says_nothing_against : (i w : ℕ) (digest : List ℕ) (vc : ViewChange) → (nat_lt vc.low i && agrees i w digest vc) ≡ true → SaysNothingAgainst i w digest vc
+says_nothing_against : (i w : ℕ) (digest : List ℕ) (vc : ViewChangeData) → (nat_lt vc.low i && agrees i w digest vc) ≡ true → SaysNothingAgainst i w digest vc
 says_nothing_against i w digest vc h =
     let p = and_parts (nat_lt vc.low i) (agrees i w digest vc) h in
     (ltb-true vc.low i p.0, λ claim has number. by claim number (every_has (λ (claim : Claim). not (claim.number == i) || nat_lt claim.view w || ((claim.view == w) && bytes_eq claim.digest digest)) vc.prepared claim p.1 has))
@@ -362,7 +491,7 @@ says_nothing_against i w digest vc h =
         pick (inl k) = inl (early (or_cases (not (claim.number == i)) (nat_lt claim.view w) k))
         pick (inr k) = inr (last claim k)
 
-says_for_it : (i w : ℕ) (digest : List ℕ) (vc : ViewChange) → vouches i w digest vc ≡ true → SaysForIt i w digest vc
+says_for_it : (i w : ℕ) (digest : List ℕ) (vc : ViewChangeData) → vouches i w digest vc ≡ true → SaysForIt i w digest vc
 says_for_it i w digest vc h =
     has_of_any (λ (claim : Claim). (claim.number ≡ i) × (claim.digest ≡ digest) × (w ≤ claim.view)) (λ (claim : Claim). (claim.number == i) && bytes_eq claim.digest digest && nat_le w claim.view)
     each vc.pre_prepared h
@@ -373,7 +502,7 @@ says_for_it i w digest vc h =
         let q = and_parts (claim.number == i) (bytes_eq claim.digest digest) p.0 in
         (eqb-true claim.number i q.0, (bytes_eq-Decides claim.digest digest).0 q.1, leb-true w claim.view p.1)
 
-says_nothing : (i : ℕ) (vc : ViewChange) → (nat_lt vc.low i && list_all (λ (claim : Claim). not (claim.number == i)) vc.prepared) ≡ true → SaysNothing i vc
+says_nothing : (i : ℕ) (vc : ViewChangeData) → (nat_lt vc.low i && list_all (λ (claim : Claim). not (claim.number == i)) vc.prepared) ≡ true → SaysNothing i vc
 says_nothing i vc h =
     let p = and_parts (nat_lt vc.low i) (list_all (λ (claim : Claim). not (claim.number == i)) vc.prepared) h in (
       ltb-true vc.low i p.0,
@@ -388,7 +517,7 @@ pub takes_well_selected : TakesWellSelected
 takes_well_selected c past e new h = record {
   enough = has_from c new (2 * c.faults + 1) (λ vc. true) (λ vc. ⊤) (λ vc t. tt) (leb-true (2 * c.faults + 1) (count_in c (λ vc. true) (changes_of c new)) s.enough);
   of_its_view = λ who vc has.
-      let t = every_has (λ (x : ℕ × ViewChange). (x.1.view == new.view) && is_within c x.1) (changes_of c new) (who, vc) s.each has in
+      let t = every_has (λ (x : ℕ × ViewChangeData). (x.1.view == new.view) && is_within c x.1) (changes_of c new) (who, vc) s.each has in
       eqb-true vc.view new.view (and_parts (vc.view == new.view) (is_within c vc) t).0;
   filled = λ who vc claim has prepared within.
       let n = eqb-true (length new.batches) (how_many c new) s.long in
@@ -400,7 +529,7 @@ takes_well_selected c past e new h = record {
     s : Selects c new
     s = selects c new (selected_in c e new (takes c 0 past e new h).brought)
 
-    has_number : (vc : ViewChange) (claim : Claim) → Has (λ x. x ≡ claim) vc.prepared → Has (λ (x : Claim). x.number ≡ claim.number) vc.prepared
+    has_number : (vc : ViewChangeData) (claim : Claim) → Has (λ x. x ≡ claim) vc.prepared → Has (λ (x : Claim). x.number ≡ claim.number) vc.prepared
     has_number vc claim h = each vc.prepared h
       where
         each : (xs : List Claim) → Has (λ x. x ≡ claim) xs → Has (λ (x : Claim). x.number ≡ claim.number) xs
@@ -410,7 +539,7 @@ takes_well_selected c past e new h = record {
 
     vouched : (i : ℕ) (batch : List ℕ) → slice_get new.batches (i - new.start - 1) ≡ Some batch → new.start < i
         → ((w : ℕ) × (w < new.view) × HasFrom (2 * c.faults + 1) c new (SaysNothingAgainst i w (sha256 batch)) × HasFrom (c.faults + 1) c new (SaysForIt i w (sha256 batch)))
-        ⊎ ((batch ≡ 0 ∷ []) × HasFrom (2 * c.faults + 1) c new (SaysNothing i))
+        ⊎ ((batch ≡ null_batch) × HasFrom (2 * c.faults + 1) c new (SaysNothing i))
     vouched i batch get above =
         let place : i ≡ suc new.start + (i - new.start - 1) = omega arith in
         by (or_cases (nat_lt 0 (count_below (may_stand_at c (changes_of c new) i (sha256 batch)) new.view)) (is_null batch && may_be_null c (changes_of c new) i)
@@ -418,7 +547,7 @@ takes_well_selected c past e new h = record {
       where
         by : (nat_lt 0 (count_below (may_stand_at c (changes_of c new) i (sha256 batch)) new.view) ≡ true) ⊎ ((is_null batch && may_be_null c (changes_of c new) i) ≡ true)
             → ((w : ℕ) × (w < new.view) × HasFrom (2 * c.faults + 1) c new (SaysNothingAgainst i w (sha256 batch)) × HasFrom (c.faults + 1) c new (SaysForIt i w (sha256 batch)))
-            ⊎ ((batch ≡ 0 ∷ []) × HasFrom (2 * c.faults + 1) c new (SaysNothing i))
+            ⊎ ((batch ≡ null_batch) × HasFrom (2 * c.faults + 1) c new (SaysNothing i))
         by (inl k) =
             let x = some_below (may_stand_at c (changes_of c new) i (sha256 batch)) new.view k in
             let rules = and_parts (is_quorum c (count_in c (λ vc. nat_lt vc.low i && agrees i x.0 (sha256 batch) vc) (changes_of c new))) (is_weak_quorum c (count_in c (vouches i x.0 (sha256 batch)) (changes_of c new))) x.2 in
@@ -433,39 +562,20 @@ takes_well_selected c past e new h = record {
         by (inr k) =
             let p = and_parts (is_null batch) (may_be_null c (changes_of c new) i) k in
             inr (
-              (bytes_eq-Decides batch (0 ∷ [])).0 p.0,
+              (bytes_eq-Decides batch null_batch).0 p.0,
               has_from c new (2 * c.faults + 1) (λ vc. nat_lt vc.low i && list_all (λ (claim : Claim). not (claim.number == i)) vc.prepared) (SaysNothing i) (says_nothing i)
                   (leb-true (2 * c.faults + 1) (count_in c (λ vc. nat_lt vc.low i && list_all (λ (claim : Claim). not (claim.number == i)) vc.prepared) (changes_of c new)) p.1),
             )
 
 pub takes_no_lower : TakesNoLower
 takes_no_lower c me past e new vc h changed =
-    let r = and_then_some (λ (x : NewView). give_if (is_later (view c past) (target past) x) x) (new_view_in c e) new h in
+    let r = and_then_some (λ (x : NewViewData). give_if (is_later (view c past) (target past) x) x) (new_view_in c e) new h in
     let g = give_if_some (is_later (view c past) (target past) r.0) r.0 new r.2 in
-    let t : is_later (view c past) (target past) new ≡ true = subst (λ (x : NewView). is_later (view c past) (target past) x ≡ true) g.1 g.0 in
+    let t : is_later (view c past) (target past) new ≡ true = subst (λ (x : NewViewData). is_later (view c past) (target past) x ≡ true) g.1 g.0 in
     let p = and_parts (nat_lt (view c past) new.view) (nat_le (target past) new.view) t in
     let a = leb-true (target past) new.view p.1 in
     let b = above_target me vc past changed in
     omega arith
-
--- ---- requests
-
-pub runs_once : RunsOnce
-runs_once st m n call small new = go (runs st call) new
-  where
-    here : kept_of (ran_call st m call) call.client ≡ Some (kept_by st m call)
-    here = ap (option_and_then (λ (x : Option Kept). x)) (set_here st.replies call.client (Some (kept_by st m call)) small)
-
-    last : last_time (ran_call st m call) call.client ≡ call.timestamp
-    last = ap (λ (o : Option Kept). option_map_or (λ (kept : Kept). kept.timestamp) o 0) here
-
-    not_newer : (b : Bool) → runs (ran_call st m call) call ≡ b → cond b (ran_call (ran_call st m call) n call) (ran_call st m call) ≡ ran_call st m call
-    not_newer false e = refl
-    not_newer true e = let l = ltb-true (last_time (ran_call st m call) call.client) call.timestamp e in let k = last in absurd (omega arith)
-
-    go : (b : Bool) → b ≡ true → run_call (cond b (ran_call st m call) st) n call ≡ cond b (ran_call st m call) st
-    go true e = not_newer (runs (ran_call st m call) call) refl
-    go false e = absurd cc
 
 -- ---- clients
 

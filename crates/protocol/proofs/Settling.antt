@@ -3,7 +3,7 @@ use Rattle.std.proofs.Common.{◌≡◌, ℕ, ◌≤◌, ◌<◌, ◌⊎◌, inl
 use Rattle.std.specs.Prelude.{option_and_then}
 use Rattle.sha2.specs.Sha256.{sha256}
 use Rattle.protocol.specs.Configuration.{Configuration, is_correct_replica}
-use Rattle.wire.specs.Messages.{NewViewData as NewView}
+use Rattle.wire.specs.Messages.{NewViewData}
 use Rattle.protocol.specs.Trace.{Entry, history_of, Once, Always}
 use Rattle.quorum.specs.Votes.{or_else}
 use Rattle.protocol.specs.Certificates.{begun_proposal, entry_proposal, view, view_after, new_view_in, target, low, is_in_marks, logged, proposal, taken, batch_begun, is_later}
@@ -16,19 +16,19 @@ use Rattle.protocol.proofs.Offers.{entry_within, begun_place, marks_above}
 -- ---- how a view is reached
 
 Reaches : Configuration → ℕ → List Entry → Entry → Type 0
-Reaches c u past e = (new : NewView) × (taken c past e ≡ Some new) × (new.view ≡ u)
+Reaches c u past e = (new : NewViewData) × (taken c past e ≡ Some new) × (new.view ≡ u)
 
 reached_by : (c : Configuration) (u : ℕ) (past : List Entry) (e : Entry) → view c (e ∷ past) ≡ u → (view c past ≡ u) ⊎ Reaches c u past e
 unfolding view Reaches
 reached_by c u past e h = go (new_view_in c e) refl h
   where
-    go : (o : Option NewView) → new_view_in c e ≡ o → view_after (view c past) (target past) o ≡ u
-        → (view c past ≡ u) ⊎ ((new : NewView) × (taken c past e ≡ Some new) × (new.view ≡ u))
+    go : (o : Option NewViewData) → new_view_in c e ≡ o → view_after (view c past) (target past) o ≡ u
+        → (view c past ≡ u) ⊎ ((new : NewViewData) × (taken c past e ≡ Some new) × (new.view ≡ u))
     go None is k = inl k
     go (Some new) is k = test (is_later (view c past) (target past) new) refl k
       where
         test : (b : Bool) → (is_later (view c past) (target past) new) ≡ b → cond b new.view (view c past) ≡ u
-            → (view c past ≡ u) ⊎ ((new : NewView) × (taken c past e ≡ Some new) × (new.view ≡ u))
+            → (view c past ≡ u) ⊎ ((new : NewViewData) × (taken c past e ≡ Some new) × (new.view ≡ u))
         test true e k = inr (new, rw is (rw e refl), k)
         test false e k = inl k
 
@@ -45,7 +45,7 @@ reached c u (e ∷ past) h l = go (reached_by c u past e h) (reached c u past)
 
 -- each new view of the view u that a correct replica takes has the digest at i, or starts at or above it
 abbrev pub Settled : Configuration → List Entry → ℕ → List ℕ → ℕ → Type 0
-Settled c trace i d u = (q : ℕ) (new : NewView) → is_correct_replica c q ≡ true → Once (Takes c new) (history_of q trace) → new.view ≡ u → HasOrStartsAbove i d new
+Settled c trace i d u = (q : ℕ) (new : NewViewData) → is_correct_replica c q ≡ true → Once (Takes c new) (history_of q trace) → new.view ≡ u → HasOrStartsAbove i d new
 
 or_else_split : {A : Type 0} (o later : Option A) (x : A) → or_else o later ≡ Some x → (o ≡ Some x) ⊎ ((o ≡ None) × (later ≡ Some x))
 or_else_split None later x e = inr (refl, e)
@@ -98,7 +98,7 @@ logged_settled c trace i d u s settled some correct (e ∷ past) emb right b h =
     begun false k = absurd cc
     begun true k = in_new (settled s t.0 correct (emb (Takes c t.0) (inl t.1)) (proposes c u i t.0 b t.2).view_is)
       where
-        t : (new : NewView) × (taken c past e ≡ Some new) × (batch_begun u i new ≡ Some b)
+        t : (new : NewViewData) × (taken c past e ≡ Some new) × (batch_begun u i new ≡ Some b)
         t = and_then_some (batch_begun u i) (taken c past e) b k
 
         in_new : HasOrStartsAbove i d t.0 → sha256 b ≡ d

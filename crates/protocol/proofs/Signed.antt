@@ -2,7 +2,7 @@
 use Rattle.std.proofs.Common.{◌≡◌, ℕ, inl, inr, Bool, true, false, cond, List, [], ◌∷◌, ◌++◌, map, Option, Some, None, refl, sym, ap, ap₂, ◌∙◌, subst, eqb-true}
 use Rattle.std.specs.Prelude.{◌==◌, ⊤}
 use Rattle.protocol.specs.Configuration.{Configuration, is_correct, is_correct_replica}
-use Rattle.wire.specs.Messages.{BodyData as Body, MessageData as Message, NewViewData as NewView, ViewChangeData as ViewChange, view_change as Change, new_view as Begin}
+use Rattle.wire.specs.Messages.{BodyData as Body, MessageData as Message, NewViewData, ViewChangeData, view_change as ViewChange, new_view as NewView}
 use Rattle.wire.specs.Words.{carried, requests_of_all}
 use Rattle.protocol.specs.Frames.{said, heard, signed_body}
 use Rattle.protocol.specs.Trace.{Entry, party_of, history_of, Once, Always, SendsBody, IsFromSender, IsUnforgedAt, Unforged, frames_in, carried_by, Each, Has}
@@ -84,22 +84,22 @@ seen_was_said c trace q (Accepted x y z ∷ past) emb right gots bytes (inl h) =
 
 -- ---- the view changes of a new view
 
-abbrev pub changing : ℕ → ViewChange → Body
-changing s vc = record { sender = s; message = Change vc }
+abbrev pub changing : ℕ → ViewChangeData → Body
+changing s vc = record { sender = s; message = ViewChange vc }
 
-change_is : (sender : ℕ) (message : Message) (s : ℕ) (vc : ViewChange) → change_in (record { sender = sender; message = message }) ≡ Some (s, vc)
+change_is : (sender : ℕ) (message : Message) (s : ℕ) (vc : ViewChangeData) → change_in (record { sender = sender; message = message }) ≡ Some (s, vc)
     → ◌≡◌ {A = Body} (record { sender = sender; message = message }) (changing s vc)
-change_is sender (Change x) s vc h =
-    let pair : ◌≡◌ {A = ℕ × ViewChange} (sender, x) (s, vc) = some_injective {A = ℕ × ViewChange} (sender, x) (s, vc) h in
-    ap (λ (y : ℕ × ViewChange). changing y.0 y.1) pair
+change_is sender (ViewChange x) s vc h =
+    let pair : ◌≡◌ {A = ℕ × ViewChangeData} (sender, x) (s, vc) = some_injective {A = ℕ × ViewChangeData} (sender, x) (s, vc) h in
+    ap (λ (y : ℕ × ViewChangeData). changing y.0 y.1) pair
 change_is sender _ s vc h = absurd cc
 
-change_frame : (c : Configuration) (frames : List (List ℕ)) (s : ℕ) (vc : ViewChange) → change_by (list_of (map (signed_change c) frames)) s ≡ Some vc
+change_frame : (c : Configuration) (frames : List (List ℕ)) (s : ℕ) (vc : ViewChangeData) → change_by (list_of (map (signed_change c) frames)) s ≡ Some vc
     → (bytes : List ℕ) × Has (λ x. x ≡ bytes) frames × (signed_change c bytes ≡ Some (s, vc))
 change_frame c [] s vc h = absurd cc
 change_frame c (frame ∷ frames) s vc h = go (signed_change c frame) refl h (change_frame c frames s vc)
   where
-    go : (o : Option (ℕ × ViewChange)) → signed_change c frame ≡ o → change_by (list_of (o ∷ map (signed_change c) frames)) s ≡ Some vc
+    go : (o : Option (ℕ × ViewChangeData)) → signed_change c frame ≡ o → change_by (list_of (o ∷ map (signed_change c) frames)) s ≡ Some vc
         → (change_by (list_of (map (signed_change c) frames)) s ≡ Some vc → (bytes : List ℕ) × Has (λ x. x ≡ bytes) frames × (signed_change c bytes ≡ Some (s, vc)))
         → (bytes : List ℕ) × Has (λ x. x ≡ bytes) (frame ∷ frames) × (signed_change c bytes ≡ Some (s, vc))
     go None is h below = let r = below h in (r.0, inr r.1, r.2)
@@ -110,15 +110,15 @@ change_frame c (frame ∷ frames) s vc h = go (signed_change c frame) refl h (ch
         test true e k =
             let es : x.0 ≡ s = eqb-true x.0 s e in
             let ev : x.1 ≡ vc = some_injective x.1 vc k in
-            let both : ◌≡◌ {A = ℕ × ViewChange} x (s, vc) = ap₂ (λ (m : ℕ) (w : ViewChange). (let p : ℕ × ViewChange = (m, w) in p)) es ev in
+            let both : ◌≡◌ {A = ℕ × ViewChangeData} x (s, vc) = ap₂ (λ (m : ℕ) (w : ViewChangeData). (let p : ℕ × ViewChangeData = (m, w) in p)) es ev in
             (frame, inl refl, is ∙ ap Some both)
         test false e k = let r = below k in (r.0, inr r.1, r.2)
 
-begin_seen : (new : NewView) (bytes : List ℕ) (whole : List ℕ) (body : Body) → said whole ≡ Some body → body.message ≡ Begin new → Has (λ x. x ≡ bytes) new.changes
+begin_seen : (new : NewViewData) (bytes : List ℕ) (whole : List ℕ) (body : Body) → said whole ≡ Some body → body.message ≡ NewView new → Has (λ x. x ≡ bytes) new.changes
     → Has (λ x. x ≡ bytes) (carried_by whole)
 begin_seen new bytes whole body is message h = rw is (rw message (has_append new.changes (requests_of_all new.batches) bytes h))
 
-taken_seen : (c : Configuration) (new : NewView) (bytes : List ℕ) → Has (λ x. x ≡ bytes) new.changes → (past : List Entry) (e : Entry) → Takes c new past e → HasSeen bytes past e
+taken_seen : (c : Configuration) (new : NewViewData) (bytes : List ℕ) → Has (λ x. x ≡ bytes) new.changes → (past : List Entry) (e : Entry) → Takes c new past e → HasSeen bytes past e
 taken_seen c new bytes h past e t = go e (takes c 0 past e new t).brought
   where
     go : (e : Entry) → new_view_in c e ≡ Some new → HasSeen bytes past e
@@ -136,7 +136,7 @@ taken_seen c new bytes h past e t = go e (takes c 0 past e new t).brought
     go (Accepted x y z) b = absurd cc
 
 -- the view change of a correct replica that stands in a taken new view was sent by it
-pub change_was_said : (c : Configuration) (trace : List Entry) (q s : ℕ) (new : NewView) (vc : ViewChange) → AreReplicasSafe c trace → Unforged c trace
+pub change_was_said : (c : Configuration) (trace : List Entry) (q s : ℕ) (new : NewViewData) (vc : ViewChangeData) → AreReplicasSafe c trace → Unforged c trace
     → is_correct_replica c q ≡ true → is_correct_replica c s ≡ true → Once (Takes c new) (history_of q trace) → change_by (changes_of c new) s ≡ Some vc
     → Once (Speaks (changing s vc)) (history_of s trace)
 change_was_said c trace q s new vc right unforged correct from taken is =

@@ -7,7 +7,7 @@ use mathlib.Core.List.{reverse_aux}
 use Rattle.quorum.proofs.Counting.{some_more, count_members}
 use Rattle.quorum.specs.Quorum.{count_below}
 use Rattle.protocol.specs.Configuration.{Configuration, IsConfiguration, is_replica, is_faulty_replica, is_correct_replica, is_number}
-use Rattle.wire.specs.Messages.{BodyData as Body, MessageData as Message, MarkData as Mark, NewViewData as NewView, ViewChangeData as ViewChange, checkpoint as Checkpoint, page as Page}
+use Rattle.wire.specs.Messages.{BodyData as Body, MessageData as Message, MarkData as Mark, NewViewData, ViewChangeData, checkpoint as Checkpoint, page as Page}
 use Rattle.protocol.specs.Trace.{Entry, party_of, history_of, Once, Always, Unforged, IsUnforgedAt, Has}
 use Rattle.protocol.specs.Trace.Entry.{Invoke, Got, Tick, Executed, Installed, Sent, Accepted}
 use Rattle.protocol.specs.Certificates.{checkpoint_from, checkpoint_in, insert_checkpoint, with_checkpoint, checkpoints_of, says_checkpoint, count_checkpoints, brought}
@@ -56,7 +56,7 @@ executed_append c trace first (x ∷ batches) batch k is a h =
 abbrev pub checking : ℕ → ℕ → List ℕ → Body
 checking s k root = record { sender = s; message = Checkpoint k root }
 
-has_take : (mark : Mark) (n : ℕ) (marks : List Mark) → says_checkpoint mark (take n marks) ≡ true → says_checkpoint mark marks ≡ true
+pub has_take : (mark : Mark) (n : ℕ) (marks : List Mark) → says_checkpoint mark (take n marks) ≡ true → says_checkpoint mark marks ≡ true
 has_take mark zero [] h = h
 has_take mark zero (m ∷ marks) h = absurd cc
 has_take mark (suc n) [] h = h
@@ -69,7 +69,7 @@ has_take mark (suc n) (m ∷ marks) h = go ((m.number == mark.number) && bytes_e
 abbrev pub is_mark : Mark → Mark → Bool
 is_mark mark m = (m.number == mark.number) && bytes_eq m.digest mark.digest
 
-has_insert : (mark new : Mark) (marks : List Mark) → says_checkpoint mark (insert_checkpoint new marks) ≡ true → (is_mark mark new ≡ true) ⊎ (says_checkpoint mark marks ≡ true)
+pub has_insert : (mark new : Mark) (marks : List Mark) → says_checkpoint mark (insert_checkpoint new marks) ≡ true → (is_mark mark new ≡ true) ⊎ (says_checkpoint mark marks ≡ true)
 has_insert mark new [] h = go (is_mark mark new) h
   where
     go : (b : Bool) → (b || false) ≡ true → (b ≡ true) ⊎ (false ≡ true)
@@ -148,7 +148,7 @@ has_reverse_aux P (x ∷ xs) ys h = go (has_reverse_aux P xs (x ∷ ys) h)
     go (inr (inl k)) = inl (inl k)
     go (inr (inr k)) = inr k
 
-has_reverse : {A : Type 0} (P : A → Type 0) (xs : List A) → Has P (reverse xs) → Has P xs
+pub has_reverse : {A : Type 0} (P : A → Type 0) (xs : List A) → Has P (reverse xs) → Has P xs
 has_reverse P xs h = go (has_reverse_aux P xs [] h)
   where
     go : Has P xs ⊎ ⊥ → Has P xs
@@ -261,7 +261,7 @@ checkpoint_known c trace ys s k root right good h =
     (once_right c s (Speaks (checking s k root)) (history_of s ys) right h)))
 
 -- what a correct replica's view change lists as a checkpoint is known
-change_known : (c : Configuration) (trace ys : List Entry) (s k : ℕ) (root : List ℕ) (vc : ViewChange) → SafeReplica c s (history_of s ys) → GoodAll c trace s (history_of s ys)
+change_known : (c : Configuration) (trace ys : List Entry) (s k : ℕ) (root : List ℕ) (vc : ViewChangeData) → SafeReplica c s (history_of s ys) → GoodAll c trace s (history_of s ys)
     → Once (Speaks (changing s vc)) (history_of s ys) → Has (λ (mark : Mark). (mark.number ≡ k) × (mark.digest ≡ root)) vc.checkpoints → Known c trace k root
 change_known c trace ys s k root vc right good h has =
     once_stays (λ past. Known c trace k root) (λ e past x. x) (history_of s ys)
@@ -325,10 +325,10 @@ module _ (c : Configuration) (setting : IsConfiguration c) (trace ys : List Entr
 
   by_new_view : Once (StartsAt c k root) (history_of r ys) → Known c trace k root
   by_new_view h =
-      let found : Once (λ past e. (new : NewView) × Takes c new past e × ((new.start ≡ k) × (new.root ≡ root))) (history_of r ys) =
-      once_weaker (StartsAt c k root) (λ past e. (new : NewView) × Takes c new past e × ((new.start ≡ k) × (new.root ≡ root)))
+      let found : Once (λ past e. (new : NewViewData) × Takes c new past e × ((new.start ≡ k) × (new.root ≡ root))) (history_of r ys) =
+      once_weaker (StartsAt c k root) (λ past e. (new : NewViewData) × Takes c new past e × ((new.start ≡ k) × (new.root ≡ root)))
       (λ past e t. (t.0, t.1, (t.2, t.3))) (history_of r ys) h in
-      let n = once_some (λ new past e. Takes c new past e) (λ (new : NewView). (new.start ≡ k) × (new.root ≡ root)) (history_of r ys) found in
+      let n = once_some (λ new past e. Takes c new past e) (λ (new : NewViewData). (new.start ≡ k) × (new.root ≡ root)) (history_of r ys) found in
       let sel = selected c n.0 (once_stays (λ past. may_select c n.0 ≡ true) (λ e past x. x) (history_of r ys)
       (once_weaker (Takes c n.0) (λ past e. may_select c n.0 ≡ true) (λ past e t. selected_in c e n.0 (takes c r past e n.0 t).brought) (history_of r ys) n.1)) in
       let enough : c.faults + 1 ≤ count_below (passes_by (λ vc. list_any (λ mark. (mark.number == n.0.start) && bytes_eq mark.digest n.0.root) vc.checkpoints) (changes_of c n.0)) (3 * c.faults + 1) =

@@ -7,7 +7,7 @@ use Rattle.sha2.specs.Sha256.{sha256}
 use Rattle.quorum.proofs.Counting.{quorums_meet, some_more, count_members}
 use Rattle.quorum.specs.Quorum.{count_below}
 use Rattle.protocol.specs.Configuration.{Configuration, IsConfiguration, span, is_replica, is_faulty_replica, is_correct_replica, is_number}
-use Rattle.wire.specs.Messages.{ViewChangeData as ViewChange, NewViewData as NewView, ClaimData as Claim}
+use Rattle.wire.specs.Messages.{ViewChangeData, NewViewData, ClaimData as Claim}
 use Rattle.protocol.specs.Trace.{Entry, history_of, Once, Unforged, Has}
 use Rattle.std.specs.List.{list_all, list_any}
 use Rattle.protocol.specs.Selection.{is_quorum, is_weak_quorum, count_in, passes_by, change_by, changes_of, may_select, may_stand_at, may_be_null, may_all_stand, is_null, is_within, is_claim_within, is_checkpoint_within, agrees, vouches, how_many}
@@ -26,20 +26,20 @@ use Rattle.protocol.proofs.Agreeing.{prepared_agree, has_digest_is}
 
 -- ---- what the rules of a new view give
 
-pub record Selected (c : Configuration) (new : NewView) : Type 0 where
+pub record Selected (c : Configuration) (new : NewViewData) : Type 0 where
   pub each : list_all (λ x. (x.1.view == new.view) && is_within c x.1) (changes_of c new) ≡ true
   pub starts : is_quorum c (count_in c (λ vc. nat_le vc.low new.start) (changes_of c new)) ≡ true
   pub lists : is_weak_quorum c (count_in c (λ vc. list_any (λ mark. (mark.number == new.start) && bytes_eq mark.digest new.root) vc.checkpoints) (changes_of c new)) ≡ true
   pub long : length new.batches ≡ how_many c new
   pub stand : may_all_stand c new.view (changes_of c new) (suc new.start) new.batches ≡ true
 
-pub selected : (c : Configuration) (new : NewView) → may_select c new ≡ true → Selected c new
+pub selected : (c : Configuration) (new : NewViewData) → may_select c new ≡ true → Selected c new
 selected c new h =
     let s = selects c new h in
     let p = and_parts (is_quorum c (count_in c (λ vc. nat_le vc.low new.start) (changes_of c new))) _ s.start in
     record { each = s.each; starts = p.0; lists = p.1; long = eqb-true (length new.batches) (how_many c new) s.long; stand = s.stand }
 
-claim_within : (c : Configuration) (vc : ViewChange) (claim : Claim) → is_claim_within c vc claim ≡ true → (claim.view < vc.view) × (claim.number ≤ vc.low + span c)
+claim_within : (c : Configuration) (vc : ViewChangeData) (claim : Claim) → is_claim_within c vc claim ≡ true → (claim.view < vc.view) × (claim.number ≤ vc.low + span c)
 claim_within c vc claim h =
     let o = and_parts (nat_lt claim.view vc.view && nat_lt vc.low claim.number && nat_le claim.number (vc.low + span c)) (is_number claim.number) h in
     let a = and_parts (nat_lt claim.view vc.view && nat_lt vc.low claim.number) (nat_le claim.number (vc.low + span c)) o.0 in
@@ -47,12 +47,12 @@ claim_within c vc claim h =
     (ltb-true claim.view vc.view b.0, leb-true claim.number (vc.low + span c) a.1)
 
 -- a member of the set: its view, and its claims within bounds
-pub record Member (c : Configuration) (new : NewView) (vc : ViewChange) : Type 0 where
+pub record Member (c : Configuration) (new : NewViewData) (vc : ViewChangeData) : Type 0 where
   pub view_is : vc.view ≡ new.view
   pub prepared : (claim : Claim) → Has (λ x. x ≡ claim) vc.prepared → (claim.view < vc.view) × (claim.number ≤ vc.low + span c)
   pub proposed : (claim : Claim) → Has (λ x. x ≡ claim) vc.pre_prepared → (claim.view < vc.view) × (claim.number ≤ vc.low + span c)
 
-pub member_of : (c : Configuration) (new : NewView) (s : ℕ) (vc : ViewChange) → Selected c new → change_by (changes_of c new) s ≡ Some vc → Member c new vc
+pub member_of : (c : Configuration) (new : NewViewData) (s : ℕ) (vc : ViewChangeData) → Selected c new → change_by (changes_of c new) s ≡ Some vc → Member c new vc
 member_of c new s vc sel is =
     let t = every_change (λ vc. (vc.view == new.view) && is_within c vc) (changes_of c new) s vc sel.each is in
     let p = and_parts (vc.view == new.view) (is_within c vc) t in
@@ -76,15 +76,15 @@ module _ (c : Configuration) (setting : IsConfiguration c) (trace : List Entry) 
   is_correct s l f = and_from (is_replica c s) (not (is_faulty_replica c s)) (lt-ltb s (3 * c.faults + 1) l) (not_from_false (is_faulty_replica c s) f)
 
   -- each quorum of a new view has a correct replica that committed, with what it claims
-  record Witness (new : NewView) (test : ViewChange → Bool) : Type 0 where
+  record Witness (new : NewViewData) (test : ViewChangeData → Bool) : Type 0 where
     who : ℕ
-    vc : ViewChange
+    vc : ViewChangeData
     is_correct : is_correct_replica c who ≡ true
     passes : test vc ≡ true
     change : change_by (changes_of c new) who ≡ Some vc
     pledged : Pledged c who v i vc (history_of who trace)
 
-  witness : (q : ℕ) (new : NewView) (test : ViewChange → Bool) → is_correct_replica c q ≡ true → Once (Takes c new) (history_of q trace) → Selected c new → v < new.view
+  witness : (q : ℕ) (new : NewViewData) (test : ViewChangeData → Bool) → is_correct_replica c q ≡ true → Once (Takes c new) (history_of q trace) → Selected c new → v < new.view
       → is_quorum c (count_in c test (changes_of c new)) ≡ true → Witness new test
   witness q new test correct' takes sel above h =
       let enough : 2 * c.faults + 1 ≤ count_below (passes_by test (changes_of c new)) (3 * c.faults + 1) = leb-true (2 * c.faults + 1) (count_in c test (changes_of c new)) h in
@@ -126,7 +126,7 @@ module _ (c : Configuration) (setting : IsConfiguration c) (trace : List Entry) 
   logged_digest w below s u who l m b h = let some : 0 < u = omega arith in settled_logged c trace i (sha256 a) u s right (below u l m) some who b h
 
   -- f + 1 replicas that vouch for a digest in a view above v
-  vouched : (q : ℕ) (new : NewView) → is_correct_replica c q ≡ true → Once (Takes c new) (history_of q trace) → Selected c new
+  vouched : (q : ℕ) (new : NewViewData) → is_correct_replica c q ≡ true → Once (Takes c new) (history_of q trace) → Selected c new
       → ((u : ℕ) → v < u → u < new.view → Settled c trace i (sha256 a) u) → (x : ℕ) (b : List ℕ) → v < x
       → is_weak_quorum c (count_in c (vouches i x (sha256 b)) (changes_of c new)) ≡ true → sha256 b ≡ sha256 a
   vouched q new correct' takes' sel below x b above h =
@@ -154,7 +154,7 @@ module _ (c : Configuration) (setting : IsConfiguration c) (trace : List Entry) 
       sym {a = sha256 o.batch} (o.digest_is ∙ digest) ∙ logged_digest new.view below s.0 k.0.view who later lower o.batch there
 
   -- a batch that may stand at the number has the digest
-  may_stand_digest : (q : ℕ) (new : NewView) → is_correct_replica c q ≡ true → Once (Takes c new) (history_of q trace) → Selected c new → v < new.view
+  may_stand_digest : (q : ℕ) (new : NewViewData) → is_correct_replica c q ≡ true → Once (Takes c new) (history_of q trace) → Selected c new → v < new.view
       → ((u : ℕ) → v < u → u < new.view → Settled c trace i (sha256 a) u) → (b : List ℕ) (x : ℕ)
       → may_stand_at c (changes_of c new) i (sha256 b) x ≡ true → sha256 b ≡ sha256 a
   may_stand_digest q new correct' takes' sel above below b x h = go (or_cases (not (w.1.0.number == i) || nat_lt w.1.0.view x) ((w.1.0.view == x) && bytes_eq w.1.0.digest (sha256 b)) tests)
@@ -194,7 +194,7 @@ module _ (c : Configuration) (setting : IsConfiguration c) (trace : List Entry) 
           sym e ∙ claim_digest new.view below w.0.who w.0.is_correct w.1.0 bound claimed
 
   -- no null batch may stand at the number
-  not_null : (q : ℕ) (new : NewView) → is_correct_replica c q ≡ true → Once (Takes c new) (history_of q trace) → Selected c new → v < new.view
+  not_null : (q : ℕ) (new : NewViewData) → is_correct_replica c q ≡ true → Once (Takes c new) (history_of q trace) → Selected c new → v < new.view
       → may_be_null c (changes_of c new) i ≡ true → ⊥
   not_null q new correct' takes' sel above h =
       let m = witness q new (λ vc. nat_lt vc.low i && list_all (λ (claim : Claim). not (claim.number == i)) vc.prepared) correct' takes' sel above h in

@@ -29,7 +29,7 @@ use Rattle.protocol.proofs.Legality.{item_of, legal_ran, map_items, ran_items, e
 use Rattle.protocol.proofs.Running.{Run, given_executed, once_run}
 use Rattle.protocol.proofs.Sorting.{AllOf, all_weaker, all_append, all_has}
 use Rattle.protocol.proofs.Ran.{FromFrame, ran_frames, has_map_all}
-use Rattle.protocol.proofs.Keeping.{RanBy, Later, AllDiffer, Full, has_left, has_right, none_twice, frames_differ, executed_full, executed_times}
+use Rattle.protocol.proofs.Keeping.{RanBy, Later, AllDiffer, Full, opening_full, has_left, has_right, none_twice, frames_differ, executed_full, executed_times}
 use Rattle.protocol.proofs.Invoking.{once_split, At, once_within, asked_op, invoked_in_trace, asks_said, asks_request, call_body, executed_asked}
 use Rattle.protocol.proofs.Accepting.{Answers, replied, ordered_replied, accepts_own, heard_answer, newest_answer}
 use Rattle.protocol.proofs.Whole.{has_items, has_at}
@@ -271,7 +271,7 @@ module _ (c : Configuration) (setting : IsConfiguration c) (trace : List Entry) 
       accepted = accepted_ran;
       invoked = λ item h client. (item_facts item h).invoked client;
       asked = λ item h other. (item_facts item h).asked;
-      once = none_twice all_ran (ran_differ c setting trace (length trace) opening 1 (last_executed trace) refl refl).1;
+      once = none_twice all_ran (ran_differ c setting trace (length trace) opening 1 (last_executed trace) refl opening_full).1;
     };
   }
 
@@ -294,4 +294,4 @@ batches_differ c setting st (batch ∷ batches) full =
     (λ x h cl is_cl. let a = h cl is_cl in let b = executed_times c st batch cl in omega arith) (Run.ran_points c (execute c st batch) batches) below.0) below.1
 
 pub none_runs_twice : NoneRunsTwice
-none_runs_twice c setting batches = none_twice (Run.ran_points c opening batches) (batches_differ c setting opening batches refl).1
+none_runs_twice c setting batches = none_twice (Run.ran_points c opening batches) (batches_differ c setting opening batches opening_full).1

@@ -1,5 +1,5 @@
 -- The points of a run are those of one sequential tuple space.
-use Rattle.std.proofs.Common.{◌≡◌, ℕ, ◌+◌, ◌≤◌, ◌<◌, ◌⊎◌, inl, inr, Bool, true, false, not, cond, List, [], ◌∷◌, ◌++◌, length, map, filter, refl, sym, ap, ◌∙◌, subst, arith, ◌&&◌, ◌||◌, eqb-true, eq-eqb}
+use Rattle.std.proofs.Common.{◌≡◌, ℕ, ◌+◌, ◌≤◌, ◌⊎◌, inl, inr, Bool, true, false, not, cond, List, [], ◌∷◌, ◌++◌, length, map, filter, refl, sym, ap, ◌∙◌, subst, arith, ◌&&◌, ◌||◌, eqb-true, eq-eqb}
 use Rattle.std.specs.Prelude.{◌==◌, ⊤}
 use Rattle.std.proofs.lemmas.Bool.{and_parts}
 use Rattle.protocol.proofs.Options
@@ -11,7 +11,7 @@ use Rattle.space.specs.Applying.{tuples_after}
 use Rattle.protocol.specs.State.{opening}
 use Rattle.protocol.specs.RightClient.{OpenCall, Vote, SafeClient, AnyClient, MayClient, MayAccept}
 use Rattle.protocol.specs.Texts.{NoCollision}
-use Rattle.protocol.specs.Linear.{Item, Placing, Legal, IsLinear, Invokes, Accepts, Asks, first_position, read_points, is_double, sorted, insert_point, comes_before, points, is_level}
+use Rattle.protocol.specs.Linear.{Item, Placing, Legal, IsLinear, Invokes, Accepts, Asks, first_position, read_points, is_double, sorted, insert_point, comes_before, points}
 use Rattle.protocol.specs.Laws.{LinearOfSafe, IsSafeTrace}
 use Rattle.protocol.proofs.Temporal.{once_weaker, once_in_history}
 use Rattle.protocol.proofs.Lists.{has_some}
@@ -19,13 +19,13 @@ use Rattle.protocol.proofs.Legality.{legal_ordered}
 use Rattle.protocol.proofs.Running.{Run}
 use Rattle.protocol.proofs.Sorting.{AllOf, all_weaker, all_both, all_append, all_filter, all_has, sorted_all, Changes, IsOrdered, Stands, IsRight, read_same, sorted_legal, sorted_never_fall}
 use Rattle.protocol.proofs.Ran.{Source, ordered_sources, source_ordered, points_ascend, points_from, has_map_all}
-use Rattle.protocol.proofs.Keeping.{IsRanPoint, has_left, has_right, Differ, AllDiffer, differ_filter, differ_append, differ_sorted, differ_same, none_twice, points_differ}
+use Rattle.protocol.proofs.Keeping.{IsRanPoint, has_left, has_right, Differ, AllDiffer, differ_filter, differ_append, differ_sorted, differ_same, none_twice, points_differ, opening_full}
 use Rattle.protocol.proofs.Invoking.{once_split, one_invocation, ran_asked, ran_invoked}
 use Rattle.protocol.proofs.Accepting.{FullRun, full_part, Accepting, accepting, Answers, accepted_place, accepted_level, read_before, full_earlier}
 use Rattle.protocol.proofs.Readings.{read_of, MadeAt, KindAt, reads_made, made_read, made_kind, one_kind, reads_differ, all_ordered, ReadFacts, read_facts, read_bound, ordered_has}
 use Rattle.protocol.specs.Linear.{last_executed}
 use Rattle.tuple_codec.specs.Operations.{Operation, Outcome}
-use Rattle.protocol.specs.Run.{PointsAreLinear, AcceptedAtLevels, AtItsLevel}
+use Rattle.protocol.specs.Run.{PointsAreLinear, RunsAreLinear, AcceptedAtLevels, AtItsLevel}
 use Rattle.protocol.proofs.Reacting.{is_replica_right, is_client_right}
 
 -- ---- lists
@@ -202,7 +202,7 @@ module _ (c : Configuration) (trace : List Entry) (full : FullRun c trace) where
       (all_weaker (ReadFacts c trace) (IsRight [] (all_ordered c trace)) (λ y f. f.right) reads facts)
 
   differ : AllDiffer all_points
-  differ = differ_append kept reads (differ_filter keep (all_ordered c trace) (points_differ c run.setting trace opening 1 (last_executed trace) refl refl).1) (reads_differ c trace trace full)
+  differ = differ_append kept reads (differ_filter keep (all_ordered c trace) (points_differ c run.setting trace opening 1 (last_executed trace) refl opening_full).1) (reads_differ c trace trace full)
       (all_weaker (λ x. keep x ≡ true) (λ x. AllOf (Differ x) reads) (λ x k. not_double reads x (single (is_double reads x) k)) kept (kept_all keep (all_ordered c trace)))
     where
       single : (b : Bool) → not b ≡ true → b ≡ false
@@ -379,6 +379,9 @@ points_are_linear c setting trace run unforged apart =
     })
     unforged apart
 
+pub runs_are_linear : RunsAreLinear
+runs_are_linear c setting trace run unforged apart = (points c trace, points_are_linear c setting trace run unforged apart)
+
 pub accepted_at_levels : AcceptedAtLevels
 accepted_at_levels c setting trace run unforged apart =
     each trace (full_run c setting trace
@@ -390,12 +393,8 @@ accepted_at_levels c setting trace run unforged apart =
     unforged apart)
   where
     at : (past : List Entry) (e : Entry) → FullRun c (e ∷ past) → AtItsLevel c past e
-    at past (Accepted k t a) full = λ vote newest.
-        let x = accepting c past k t a full in
-        let same : x.vote ≡ vote = Options.some_injective x.vote vote (sym x.newest ∙ newest) in (
-          ap (λ (v : Vote). is_level c past v.number) (sym same) ∙ accepted_level c past (256 + k) t a x,
-          λ kind n above. read_before c past (256 + k) t a x (ap (λ (v : Vote). v.read_only) same ∙ kind) n (subst (λ (v : Vote). v.number < n) (sym same) above),
-        )
+    at past (Accepted k t a) full =
+        let x = accepting c past k t a full in (x.vote, x.newest, accepted_level c past (256 + k) t a x, λ kind n above. read_before c past (256 + k) t a x kind n above)
     at past (Invoke x y z) full = tt
     at past (Got x y) full = tt
     at past (Tick x) full = tt

@@ -1,6 +1,7 @@
 -- What a replica's history certifies at one of its points: the view, the low mark, the log, and what is prepared,
--- committed and stable (Castro and Liskov, TOCS 2002, sections 4.1 to 4.5). Each word is a function of the past, the
--- newest entry first. What counts first stays: a later message for the same place adds nothing.
+-- committed and stable (Castro and Liskov, TOCS 2002, on quorums and certificates, garbage collection and view
+-- changes). Each word is a function of the past, the newest entry first. What counts first stays: a later message for
+-- the same place adds nothing.
 use Rattle.std.specs.Prelude.{◌≡◌, ℕ, ◌+◌, ◌-◌, ◌*◌, ◌≤◌, Bool, true, false, ◌&&◌, not, List, [], ◌∷◌, take, max, nat_lt, nat_le, ◌==◌, if◌then◌else◌, Option, Some, None, slice_get, option_and_then, bytes_eq, is_some}
 use Rattle.std.specs.List.{list_all, list_any}
 use Rattle.std.specs.Option.{option_map_or}
@@ -8,7 +9,7 @@ use Rattle.sha2.specs.Sha256.{sha256}
 use Rattle.quorum.specs.Quorum.{count_below}
 use Rattle.quorum.specs.Votes.{or_else, give_if, has_digest}
 use Rattle.protocol.specs.Configuration.{Configuration, replicas, primary, span, is_number}
-use Rattle.wire.specs.Messages.{BodyData as Body, NewViewData as NewView, MarkData as Mark, pre_prepare as PrePrepare, prepare as Prepare, commit as Commit, checkpoint as Checkpoint, view_change as Change, new_view as Begin}
+use Rattle.wire.specs.Messages.{BodyData as Body, NewViewData, MarkData as Mark, pre_prepare as PrePrepare, prepare as Prepare, commit as Commit, checkpoint as Checkpoint, view_change as ViewChange, new_view as NewView}
 use Rattle.wire.specs.Words.{requests_of}
 use Rattle.protocol.specs.Frames.{said, heard, signed_body}
 use Rattle.protocol.specs.Trace.{Entry}
@@ -34,17 +35,17 @@ first_given give (e ∷ past) = or_else (first_given give past) (give past e)
 -- ---- the view
 
 -- a new view by the primary of its view, that meets the rules
-abbrev pub new_view_from : Configuration → Body → Option NewView
-new_view_from c body = elim body.message [ Begin new ↦ give_if ((body.sender == primary c new.view) && may_select c new) new | _ ↦ None ]
+abbrev pub new_view_from : Configuration → Body → Option NewViewData
+new_view_from c body = elim body.message [ NewView new ↦ give_if ((body.sender == primary c new.view) && may_select c new) new | _ ↦ None ]
 
 -- the new view that an entry brings: got, and then signed, or sent
-abbrev pub new_view_in : Configuration → Entry → Option NewView
+abbrev pub new_view_in : Configuration → Entry → Option NewViewData
 new_view_in c (Got p bytes) = option_and_then (new_view_from c) (signed_body c bytes)
 new_view_in c (Sent p bytes) = option_and_then (new_view_from c) (said bytes)
 new_view_in c _ = None
 
 abbrev pub change_from : Body → ℕ
-change_from body = elim body.message [ Change vc ↦ vc.view | _ ↦ 0 ]
+change_from body = elim body.message [ ViewChange vc ↦ vc.view | _ ↦ 0 ]
 
 abbrev pub change_sent : Entry → ℕ
 change_sent (Sent p bytes) = option_map_or change_from (said bytes) 0
@@ -55,10 +56,10 @@ abbrev pub target : List Entry → ℕ
 target past = greatest change_sent past
 
 -- a new view is taken where its view is above the own one, and not below the target
-abbrev pub is_later : ℕ → ℕ → NewView → Bool
+abbrev pub is_later : ℕ → ℕ → NewViewData → Bool
 is_later v t new = nat_lt v new.view && nat_le t new.view
 
-abbrev pub view_after : ℕ → ℕ → Option NewView → ℕ
+abbrev pub view_after : ℕ → ℕ → Option NewViewData → ℕ
 view_after v t None = v
 view_after v t (Some new) = if is_later v t new then new.view else v
 
@@ -72,7 +73,7 @@ abbrev pub is_active_in : Configuration → List Entry → ℕ → Bool
 is_active_in c past v = (view c past == v) && nat_le (target past) v
 
 -- the new view that is taken, or sent, at an entry
-abbrev pub taken : Configuration → List Entry → Entry → Option NewView
+abbrev pub taken : Configuration → List Entry → Entry → Option NewViewData
 taken c past e = option_and_then (λ new. give_if (is_later (view c past) (target past) new) new) (new_view_in c e)
 
 -- ---- checkpoints
@@ -132,8 +133,8 @@ is_in_marks c h number = nat_lt h number && nat_le number (h + span c) && is_num
 
 -- ---- the log
 
--- whether an ordering message for the view and number counts: the own do, others while active in the view and within the
--- marks
+-- whether an ordering message for the view and number counts: the own do, others while active in the view and within
+-- the marks
 abbrev pub counts_at : Configuration → ℕ → List Entry → Entry → ℕ → ℕ → Bool
 counts_at c me past (Got p bytes) v i = is_active_in c past v && is_in_marks c (low c me past) i
 counts_at c me past (Sent p bytes) v i = true
@@ -148,10 +149,11 @@ abbrev pub batch_from : Configuration → ℕ → ℕ → ℕ → Body → Optio
 batch_from c me v i body = elim body.message [ PrePrepare view number batch ↦ give_if ((view == v) && (number == i) && (body.sender == primary c v) && are_genuine c me batch) batch | _ ↦ None ]
 
 -- what a new view proposes for the number
-abbrev pub batch_begun : ℕ → ℕ → NewView → Option (List ℕ)
+abbrev pub batch_begun : ℕ → ℕ → NewViewData → Option (List ℕ)
 batch_begun v i new = if (new.view == v) && nat_lt new.start i then slice_get new.batches (i - new.start - 1) else None
 
--- what the new view that an entry brings pre-prepares in the view v at i, within the marks then, and what a pre-prepare does
+-- what the new view that an entry brings pre-prepares in the view v at i, within the marks then, and what a pre-prepare
+-- does
 abbrev pub begun_proposal : Configuration → ℕ → List Entry → Entry → ℕ → ℕ → Option (List ℕ)
 begun_proposal c me past e v i = if is_in_marks c (low c me (e ∷ past)) i then option_and_then (batch_begun v i) (taken c past e) else None
 

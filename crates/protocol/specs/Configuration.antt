@@ -1,5 +1,5 @@
 -- The configuration: how many replicas may be faulty, which are, and what all are given (Castro and Liskov, TOCS 2002,
--- section 2: 3f + 1 replicas, of which at most f are faulty).
+-- on the system model: 3f + 1 replicas, of which at most f are faulty).
 use Rattle.std.specs.Prelude.{◌≡◌, ◌≢◌, ℕ, ◌+◌, ◌-◌, ◌*◌, ◌%◌, ◌^◌, ◌≤◌, ◌<◌, Bool, ◌&&◌, ◌||◌, not, List, length, nat_lt, nat_le, All, AllPairs}
 use Rattle.quorum.specs.Quorum.{member}
 
@@ -61,6 +61,6 @@ primary c view = view % replicas c
 abbrev pub span : Configuration → ℕ
 span c = 2 * c.period
 
--- Views and numbers end here: what is at or above it is none.
+-- A view or number is below 2^48.
 abbrev pub is_number : ℕ → Bool
 is_number n = nat_lt n (2 ^ 48)

@@ -1,15 +1,15 @@
--- Small histories that the definitions accept, with frames left symbolic: what they spell and that they are authentic is
--- given.
+-- Small histories that the definitions accept, with frames left symbolic: what they spell and that they are authentic
+-- is given.
 use Rattle.std.specs.Prelude.{◌≡◌, ◌≢◌, ℕ, ◌+◌, true, false, List, [], ◌∷◌, Some}
 use Rattle.sha2.specs.Sha256.{sha256}
 use Rattle.tuple_codec.specs.Operations.{Operation, IsOperation}
 use Rattle.space.specs.Applying.{is_read_only}
 use Rattle.protocol.specs.Configuration.{Configuration, IsConfiguration, is_correct_client}
-use Rattle.wire.specs.Messages.{FrameData as Frame, ViewChangeData as ViewChange, pre_prepare as PrePrepare, prepare as Prepare, commit as Commit}
+use Rattle.wire.specs.Messages.{FrameData as Frame, ViewChangeData, pre_prepare as PrePrepare, prepare as Prepare, commit as Commit}
 use Rattle.protocol.specs.Frames.{frame_of, said, heard, IsSealed, receivers_of}
 use Rattle.protocol.specs.Trace.{Entry}
 use Rattle.protocol.specs.Trace.Entry.{Invoke, Got, Executed, Sent}
-use Rattle.protocol.specs.Selection.{signed_change, may_select}
+use Rattle.protocol.specs.Selection.{null_batch, signed_change, may_select}
 use Rattle.protocol.specs.Certificates.{are_genuine, Committed}
 use Rattle.protocol.specs.RightReplica.{SafeReplica, others}
 use Rattle.protocol.specs.RightClient.{IsRequest}
@@ -19,8 +19,8 @@ use Rattle.protocol.specs.Run.{IsRun}
 abbrev pub four : ℕ → List ℕ → Configuration
 four clients seed = record { faults = 1; clients = clients; seed = seed; period = 16; faulty_replicas = []; faulty_clients = [] }
 
--- What replica 1 gets and sends for the first batch in view 0: the primary's pre-prepare, prepares of 1 and 2, and commits
--- of 1, 0 and 2.
+-- What replica 1 gets and sends for the first batch in view 0: the primary's pre-prepare, prepares of 1 and 2, and
+-- commits of 1, 0 and 2.
 pub record IsFirstBatch (c : Configuration) (batch pre_prepare own_prepare other_prepare own_commit first_commit second_commit : List ℕ) : Type 0 where
   pub proposed : heard c 1 pre_prepare ≡ Some (record { sender = 0; message = PrePrepare 0 1 batch })
   pub genuine : are_genuine c 1 batch ≡ true
@@ -33,19 +33,20 @@ pub record IsFirstBatch (c : Configuration) (batch pre_prepare own_prepare other
   pub commit_sealed : (frame : Frame) → frame_of own_commit ≡ Some frame → IsSealed c frame × (receivers_of frame.proof ≡ others c 1)
 
 -- its history, the newest first, up to the quorum of commits
-abbrev pub first_batch : List ℕ → List ℕ → List ℕ → List ℕ → List ℕ → List ℕ → List Entry
+abbrev pub first_batch : (pre_prepare own_prepare other_prepare own_commit first_commit second_commit : List ℕ) → List Entry
 first_batch pre_prepare own_prepare other_prepare own_commit first_commit second_commit =
     Got 1 second_commit ∷ Got 1 first_commit ∷ Sent 1 own_commit ∷ Got 1 other_prepare ∷ Sent 1 own_prepare ∷ Got 1 pre_prepare ∷ []
 
 -- Then the batch is committed, and a right replica executes it.
 abbrev pub FirstBatchExecutes : Type 0
 FirstBatchExecutes =
-    (clients : ℕ) (seed batch a b d e f g : List ℕ) → IsFirstBatch (four clients seed) batch a b d e f g
-    → Committed (four clients seed) 1 (first_batch a b d e f g) 0 1 batch
-    × SafeReplica (four clients seed) 1 (Executed 1 1 batch ∷ first_batch a b d e f g)
+    (clients : ℕ) (seed batch pre_prepare own_prepare other_prepare own_commit first_commit second_commit : List ℕ)
+    → IsFirstBatch (four clients seed) batch pre_prepare own_prepare other_prepare own_commit first_commit second_commit
+    → Committed (four clients seed) 1 (first_batch pre_prepare own_prepare other_prepare own_commit first_commit second_commit) 0 1 batch
+    × SafeReplica (four clients seed) 1 (Executed 1 1 batch ∷ first_batch pre_prepare own_prepare other_prepare own_commit first_commit second_commit)
 
--- A trace in which a correct client has invoked an operation and asked all replicas for it, and nothing has come yet, is a
--- run.
+-- A trace in which a correct client has invoked an operation and asked all replicas for it, and nothing has come yet,
+-- is a run.
 abbrev pub FirstCallIsRun : Type 0
 FirstCallIsRun =
     (c : Configuration) → IsConfiguration c → (k : ℕ) (op : Operation) (request : List ℕ) → is_correct_client c (256 + k) ≡ true → IsOperation op
@@ -55,7 +56,7 @@ FirstCallIsRun =
 -- ---- over a view change
 
 -- what each of three replicas says that holds the first batch prepared in view 0, changing to view 1
-abbrev pub holding : List ℕ → List ℕ → ViewChange
+abbrev pub holding : List ℕ → List ℕ → ViewChangeData
 holding batch root = record {
   view = 1;
   low = 0;
@@ -85,14 +86,14 @@ EmptyIsNotSelected =
 -- Nor with the null batch there, where its digest is another.
 abbrev pub NullIsNotSelected : Type 0
 NullIsNotSelected =
-    (clients : ℕ) (seed batch root a b d : List ℕ) → sha256 batch ≢ sha256 (0 ∷ [])
+    (clients : ℕ) (seed batch root a b d : List ℕ) → sha256 batch ≢ sha256 null_batch
     → signed_change (four clients seed) a ≡ Some (1, holding batch root)
     → signed_change (four clients seed) b ≡ Some (2, holding batch root)
     → signed_change (four clients seed) d ≡ Some (3, holding batch root)
-    → may_select (four clients seed) (record { view = 1; changes = a ∷ b ∷ d ∷ []; start = 0; root = root; batches = (0 ∷ []) ∷ [] }) ≡ false
+    → may_select (four clients seed) (record { view = 1; changes = a ∷ b ∷ d ∷ []; start = 0; root = root; batches = null_batch ∷ [] }) ≡ false
 
--- Replica 3 lies: it claims another batch prepared. Over its view change and those of two that tell the truth neither batch
--- is selected; with a third that tells the truth the prepared one is.
+-- Replica 3 lies: it claims another batch prepared. Over its view change and those of two that tell the truth neither
+-- batch is selected; with a third that tells the truth the prepared one is.
 abbrev pub LieIsNotSelected : Type 0
 LieIsNotSelected =
     (clients : ℕ) (seed batch lie root a b d : List ℕ) → sha256 batch ≢ sha256 lie

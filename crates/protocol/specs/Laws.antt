@@ -1,15 +1,15 @@
--- The laws: what bytes say, and agreement.
+-- The laws over all safe histories: what bytes say, agreement on batches, states and roots, and the first view.
 use Rattle.std.specs.Prelude.{◌≡◌, ◌↔◌, ℕ, ◌^◌, ◌≤◌, ◌<◌, ◌⊎◌, true, List, length, Some}
 use Rattle.sha2.specs.Sha256.{sha256}
 use Rattle.protocol.specs.Configuration.{Configuration, IsConfiguration, is_correct, is_correct_replica, is_correct_client}
 use Rattle.tuple_tree.specs.Values.{AreBytes}
-use Rattle.wire.specs.Messages.{FrameData as Frame, NewViewData as NewView}
+use Rattle.wire.specs.Messages.{FrameData as Frame, NewViewData, ViewChangeData, view_change as ViewChange}
 use Rattle.wire.specs.Spelling.{SpellsFrame}
 use Rattle.signing.specs.Heard.{heard as heard_among, signed_body as signed_among}
 use Rattle.protocol.specs.Frames.{members, frame_of, said, heard, signed_body}
-use Rattle.protocol.specs.Trace.{Entry, party_of, history_of, Once, Always, Has, Unforged}
+use Rattle.protocol.specs.Trace.{Entry, party_of, history_of, Once, Always, Has, SendsBody, Unforged}
 use Rattle.protocol.specs.Trace.Entry.{Installed}
-use Rattle.protocol.specs.Certificates.{Prepared, Committed, taken, batch_begun}
+use Rattle.protocol.specs.Certificates.{Prepared, Committed, view, taken, batch_begun}
 use Rattle.protocol.specs.RightReplica.{SafeReplica, HadQuorum, StartsAt}
 use Rattle.protocol.specs.RightClient.{SafeClient, SafeWeakClient}
 use Rattle.protocol.specs.Linear.{points, IsLinear, Item, Legal, Covers}
@@ -48,10 +48,10 @@ PreparedAgree =
     → Prepared c p (history_of p trace) v i a → Prepared c q (history_of q trace) v i b → sha256 a ≡ sha256 b
 
 -- the new view has a batch of this digest for the number, or starts at or above it
-abbrev pub HasOrStartsAbove : ℕ → List ℕ → NewView → Type 0
+abbrev pub HasOrStartsAbove : ℕ → List ℕ → NewViewData → Type 0
 HasOrStartsAbove i digest new = (i ≤ new.start) ⊎ ((batch : List ℕ) × (batch_begun new.view i new ≡ Some batch) × (sha256 batch ≡ digest))
 
-abbrev pub Takes : Configuration → NewView → List Entry → Entry → Type 0
+abbrev pub Takes : Configuration → NewViewData → List Entry → Entry → Type 0
 Takes c new past e = taken c past e ≡ Some new
 
 -- What is committed for a number, each new view of a later view that a correct replica takes or sends has there, or it
@@ -59,7 +59,7 @@ Takes c new past e = taken c past e ≡ Some new
 abbrev pub CommittedStays : Type 0
 CommittedStays =
     (c : Configuration) → IsConfiguration c → (trace : List Entry) → AreReplicasSafe c trace → Unforged c trace
-    → (p q v i : ℕ) (a : List ℕ) (new : NewView) → is_correct_replica c p ≡ true → is_correct_replica c q ≡ true
+    → (p q v i : ℕ) (a : List ℕ) (new : NewViewData) → is_correct_replica c p ≡ true → is_correct_replica c q ≡ true
     → Committed c p (history_of p trace) v i a → Once (Takes c new) (history_of q trace) → v < new.view
     → HasOrStartsAbove i (sha256 a) new
 
@@ -150,8 +150,8 @@ LinearOfSafe =
     (c : Configuration) → IsConfiguration c → (trace : List Entry) → IsSafeTrace c trace → Unforged c trace → NoCollision c trace
     → IsLinear c (points c trace) trace
 
--- Some list of items is legal and covers the trace, under the client that accepts at f + 1 replies of one answer too: one
--- correct replica stands behind an answer.
+-- Some list of items is legal and covers the trace, under the client that accepts at f + 1 replies of one answer too:
+-- one correct replica stands behind an answer.
 pub record IsOneSpace (c : Configuration) (trace : List Entry) : Type 0 where
   pub items : List Item
   pub legal : Legal items
@@ -164,3 +164,21 @@ abbrev pub WeakIsOneSpace : Type 0
 WeakIsOneSpace =
     (c : Configuration) → IsConfiguration c → (trace : List Entry) → AreReplicasSafe c trace → AreClientsWeak c trace
     → Always (λ past e. is_correct c (party_of e) ≡ true) trace → Unforged c trace → NoCollision c trace → IsOneSpace c trace
+
+-- ---- the first view
+
+-- no correct replica sends a view change
+abbrev pub NoneChanges : Configuration → List Entry → Type 0
+NoneChanges c trace = (p : ℕ) (vc : ViewChangeData) → is_correct_replica c p ≡ true → Once (SendsBody (record { sender = p; message = ViewChange vc })) trace → ⊥
+
+-- Then none takes a new view: of the 2f + 1 signers of its view changes one is correct.
+abbrev pub NoneBegins : Type 0
+NoneBegins =
+    (c : Configuration) → IsConfiguration c → (trace : List Entry) → AreReplicasSafe c trace → Unforged c trace → NoneChanges c trace
+    → (p : ℕ) (new : NewViewData) → is_correct_replica c p ≡ true → Once (Takes c new) (history_of p trace) → ⊥
+
+-- So each stays in the first view.
+abbrev pub FirstViewStays : Type 0
+FirstViewStays =
+    (c : Configuration) → IsConfiguration c → (trace : List Entry) → AreReplicasSafe c trace → Unforged c trace → NoneChanges c trace
+    → (p : ℕ) → is_correct_replica c p ≡ true → view c (history_of p trace) ≡ 0

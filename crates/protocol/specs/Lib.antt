@@ -14,3 +14,10 @@ pub mod Run
 pub mod Refused
 pub mod Examples
 pub mod Schedule
+pub mod RefusedRuns
+pub mod FirstOperation
+pub mod RefusedChanges
+pub mod ExamplesOfAnswers
+pub mod RefusedMarks
+pub mod RefusedKept
+pub mod RefusedSteps

@@ -6,6 +6,7 @@ use Rattle.tuple_codec.specs.Operations.{Operation, Outcome}
 use Rattle.space.specs.Applying.{outcome, tuples_after}
 use Rattle.quorum.specs.Quorum.{count_below}
 use Rattle.quorum.specs.Votes.{give_if}
+use Rattle.protocol.specs.Selection.{null_batch}
 use Rattle.protocol.specs.Configuration.{Configuration, replicas, is_correct_replica, is_correct_client}
 use Rattle.wire.specs.declared.terms.Mode.TheVariants as modes
 use Rattle.wire.specs.Messages.{request as Request}
@@ -57,8 +58,8 @@ abbrev pub NoneTwice : List Item → Type 0
 NoneTwice [] = ⊤
 NoneTwice (item ∷ items) = (Has (λ x. (x.client ≡ item.client) × (x.timestamp ≡ item.timestamp)) items → ⊥) × NoneTwice items
 
--- Covers: what correct clients accepted is there, once; what is there of a correct client it invoked; what is there of a
--- faulty one some correct replica had been asked by then; and nothing is there twice.
+-- Covers: what correct clients accepted is there, once; what is there of a correct client it invoked; what is there of
+-- a faulty one some correct replica had been asked by then; and nothing is there twice.
 pub record Covers (c : Configuration) (items : List Item) (trace : List Entry) : Type 0 where
   pub accepted : (p timestamp : ℕ) (answer : Outcome) → is_correct_client c p ≡ true → Once (Accepts p timestamp answer) trace
       → Has (λ item. (item.client ≡ p) × (item.timestamp ≡ timestamp) × (item.answer ≡ answer) × Once (Invokes p timestamp item.op) trace) items
@@ -123,7 +124,7 @@ batch_at k _ = None
 
 -- the batch of the first execution of the number
 abbrev pub batch_of : List Entry → ℕ → List ℕ
-batch_of trace k = option_map_or (λ batch. batch) (first_given (λ past e. batch_at k e) trace) (0 ∷ [])
+batch_of trace k = option_map_or (λ batch. batch) (first_given (λ past e. batch_at k e) trace) null_batch
 
 abbrev pub executed_at : Entry → ℕ
 executed_at (Executed replica number batch) = number
@@ -185,8 +186,8 @@ read_points c trace (Accepted client timestamp answer ∷ past) =
     ++ read_points c trace past
 read_points c trace (_ ∷ past) = read_points c trace past
 
--- By position, number, ordered before read-only, and then client and timestamp of reads. Of two ordered ones of a batch the
--- one that stands first comes first, so they stay in their order.
+-- By position, number, ordered before read-only, and then client and timestamp of reads. Of two ordered ones of a batch
+-- the one that stands first comes first, so they stay in their order.
 abbrev pub comes_before : Placing → Placing → Bool
 comes_before x y =
     nat_lt x.item.position y.item.position || ((x.item.position == y.item.position)
@@ -205,8 +206,8 @@ abbrev pub is_double : List Placing → Placing → Bool
 is_double [] x = false
 is_double (y ∷ ys) x = ((y.item.client == x.item.client) && (y.item.timestamp == x.item.timestamp)) || is_double ys x
 
--- The points of a trace: the requests that ran, at the first position of their number's level, without the doubles of reads
--- that were accepted read-only; and those reads, at that position or at their invocation, whichever is later.
+-- The points of a trace: the requests that ran, at the first position of their number's level, without the doubles of
+-- reads that were accepted read-only; and those reads, at that position or at their invocation, whichever is later.
 unfoldable pub points : Configuration → List Entry → List Item
 points c trace =
     let reads : List Placing = read_points c trace trace in

@@ -1,28 +1,29 @@
 -- What a correct replica owes in an event: all that the event's input brings about, until nothing more is due, and
--- nothing where the input is dropped (Castro and Liskov, TOCS 2002, sections 4.2 to 4.5). No law of agreement uses it. It
--- speaks of the same states as what the replica may do.
-use Rattle.std.specs.Prelude.{◌≡◌, ◌≢◌, ℕ, suc, ◌+◌, ◌%◌, ◌≤◌, ◌<◌, ◌⊎◌, Bool, true, false, ◌&&◌, List, [], ◌∷◌, ◌++◌, reverse, max, nat_lt, ◌==◌, if◌then◌else◌, Option, Some, None, is_some, option_and_then, ⊤}
+-- nothing where the input is dropped (Castro and Liskov, TOCS 2002, on normal-case operation, garbage collection, view
+-- changes and state transfer). No law of agreement uses it. It speaks of the same states as what the replica may do.
+use Rattle.std.specs.Prelude.{◌≡◌, ◌≢◌, ℕ, suc, ◌+◌, ◌/◌, ◌%◌, ◌≤◌, ◌<◌, ◌⊎◌, Bool, true, false, ◌&&◌, List, [], ◌∷◌, ◌++◌, reverse, max, nat_lt, ◌==◌, if◌then◌else◌, Option, Some, None, slice_get, option_and_then, ⊤}
 use Rattle.std.specs.List.{list_any}
 use Rattle.std.specs.Option.{option_map_or}
 use Rattle.sha2.specs.Sha256.{sha256}
 use Rattle.tuple_codec.specs.Operations.{Operation}
 use Rattle.space.specs.Applying.{outcome, is_read_only}
+use Rattle.partition_tree.specs.Digests.{digest_of_children}
 use Rattle.quorum.specs.Votes.{or_else}
 use Rattle.protocol.specs.Configuration.{Configuration, primary, is_number}
 use Rattle.wire.specs.declared.terms.Mode.TheVariants as modes
 use Rattle.wire.specs.declared.terms.Level.{Level}
 use Rattle.wire.specs.declared.terms.Level.TheVariants as levels
 use Rattle.wire.specs.Spelling.{has_children}
-use Rattle.wire.specs.Messages.{BodyData as Body, MessageData as Message, NewViewData as NewView, MarkData as Mark, request as Request, pre_prepare as PrePrepare, prepare as Prepare, commit as Commit, checkpoint as Checkpoint, view_change as Change, new_view as Begin, reply as Reply, fetch as Fetch, meta as Meta, page as Page}
+use Rattle.wire.specs.Messages.{BodyData as Body, MessageData as Message, NewViewData, MarkData as Mark, request as Request, pre_prepare as PrePrepare, prepare as Prepare, commit as Commit, checkpoint as Checkpoint, view_change as ViewChange, new_view as NewView, reply as Reply, fetch as Fetch, meta as Meta, page as Page}
 use Rattle.wire.specs.Words.{requests_of}
-use Rattle.protocol.specs.Frames.{frame_of, said, heard, signed_body, receivers_of}
+use Rattle.protocol.specs.Frames.{frame_of, said, heard, receivers_of}
 use Rattle.protocol.specs.Trace.{Entry, party_of, is_output, Once, Has, Each, either, Hears}
 use Rattle.protocol.specs.Trace.Entry.{Got, Tick, Sent}
 use Rattle.protocol.specs.Selection.{is_quorum, signed_change, is_within}
 use Rattle.protocol.specs.Certificates.{greatest, view, is_active_in, taken, checkpoints_of, count_checkpoints, low, is_in_marks, entry_proposal, logged, prepare_from, commit_from, vote_in, prepare_of, commit_of, Prepared, Committed}
 use Rattle.reply_cache.specs.Replies.{Kept}
 use Rattle.protocol.specs.State.{State, Call, call_of, Ran, kept_of, last_time, tuples, root_of, page_text}
-use Rattle.protocol.specs.RightReplica.{Point, first_point, reply_of, IsStep, KeptState, Executes, digests_at}
+use Rattle.protocol.specs.RightReplica.{Point, first_point, reply_of, IsStep, KeptState, Executes, HadQuorum, StartsAt, digests_at}
 
 -- ---- words on outputs
 
@@ -67,12 +68,12 @@ asked_last (_ ∷ past) = asked_last past
 
 -- ---- requests that a view has numbered
 
-abbrev pub BeginsWith : Configuration → ℕ → List ℕ → List Entry → Entry → Type 0
-BeginsWith c v batch past e = (new : NewView) × (taken c past e ≡ Some new) × (new.view ≡ v) × Has (λ x. x ≡ batch) new.batches
+abbrev pub BeginsViewWith : Configuration → ℕ → List ℕ → List Entry → Entry → Type 0
+BeginsViewWith c v batch past e = (new : NewViewData) × (taken c past e ≡ Some new) × (new.view ≡ v) × Has (λ x. x ≡ batch) new.batches
 
 -- the batch was pre-prepared in the view, or stands in the new view that began it, at whatever number
 abbrev pub IsOfView : Configuration → ℕ → List Entry → ℕ → List ℕ → Type 0
-IsOfView c me past v batch = ((i : ℕ) × (logged c me past v i ≡ Some batch)) ⊎ Once (BeginsWith c v batch) past
+IsOfView c me past v batch = ((i : ℕ) × (logged c me past v i ≡ Some batch)) ⊎ Once (BeginsViewWith c v batch) past
 
 abbrev pub HasRequest : Configuration → ℕ → ℕ → List ℕ → Type 0
 HasRequest c client timestamp batch = Has (λ frame. (call : Call) × (call_of c frame ≡ Some call) × (call.client ≡ client) × (call.timestamp ≡ timestamp)) (requests_of batch)
@@ -92,12 +93,43 @@ NumbersOnce c me past (Sent p bytes) =
     → (client timestamp : ℕ) → HasRequest c client timestamp batch → IsNumbered c me past v client timestamp → ⊥
 NumbersOnce c me past _ = ⊤
 
--- ---- inputs that count; all others are dropped (whether a part has the digest that was asked for is told by the transfer)
+-- ---- the digests that the parts of a transfer are to have (Castro and Liskov, TOCS 2002, on state transfer)
+
+-- that of the root: a quorum of checkpoints had it, or a new view starts with it
+abbrev pub IsRootWanted : Configuration → List Entry → ℕ → List ℕ → Type 0
+IsRootWanted c past k root = HadQuorum c (record { number = k; digest = root }) past ⊎ Once (StartsAt c k root) past
+
+-- got digests of the parts below a place whose own digest is this one
+abbrev pub GotBelow : Configuration → ℕ → List Entry → Level → ℕ → List ℕ → List (List ℕ) → Type 0
+GotBelow c me past level index digest digests =
+    (digest_of_children digests ≡ digest) × ((s n : ℕ) × Once (Hears c me (record { sender = s; message = Meta n level index digests })) past)
+
+-- that of an inner part is told by the root's, and a page's by its inner part's
+abbrev pub IsInnerWanted : Configuration → ℕ → List Entry → ℕ → ℕ → List ℕ → Type 0
+IsInnerWanted c me past k index digest =
+    (root : List ℕ) × (digests : List (List ℕ)) × IsRootWanted c past k root × GotBelow c me past levels.Root 0 root digests × (slice_get digests index ≡ Some digest)
+
+abbrev pub IsPageWanted : Configuration → ℕ → List Entry → ℕ → ℕ → List ℕ → Type 0
+IsPageWanted c me past k index digest =
+    (inner : List ℕ) × (digests : List (List ℕ)) × IsInnerWanted c me past k (index / 32) inner × GotBelow c me past levels.Inner (index / 32) inner digests
+    × (slice_get digests (index % 32) ≡ Some digest)
+
+abbrev pub IsWanted : Configuration → ℕ → List Entry → ℕ → Level → ℕ → List ℕ → Type 0
+IsWanted c me past k levels.Root index digest = IsRootWanted c past k digest
+IsWanted c me past k levels.Inner index digest = IsInnerWanted c me past k index digest
+IsWanted c me past k levels.Page index digest = IsPageWanted c me past k index digest
+
+-- the place was asked for last, for a number above the state's, and this is the digest that it is to have
+abbrev pub IsAwaited : Configuration → ℕ → List Entry → Point → ℕ → Level → ℕ → List ℕ → Type 0
+IsAwaited c me past point k level index digest = (asked_last past ≡ Some (k, (level, index))) × (point.state.number < k) × IsWanted c me past k level index digest
+
+-- ---- inputs that count; all others are dropped
 
 abbrev pub has_number : ℕ → List Mark → Bool
 has_number k marks = list_any (λ m. m.number == k) marks
 
--- the view of the view change that an entry brings of the replica, where it is above the view then and within its bounds
+-- the view of the view change that an entry brings of the replica, where it is above the view then and within its
+-- bounds
 abbrev pub change_taken : Configuration → ℕ → ℕ → List ℕ → ℕ
 change_taken c v s bytes = option_map_or (λ x. if (x.0 == s) && nat_lt v x.1.view && is_within c x.1 then x.1.view else 0) (signed_change c bytes) 0
 
@@ -127,12 +159,12 @@ Counts c me past point bytes s (Prepare v i digest) = (vote_in c me past (Got me
 Counts c me past point bytes s (Commit v i digest) = (vote_in c me past (Got me bytes) (commit_from s v i) v i ≡ Some digest) × (commit_of c me past v i s ≡ None)
 Counts c me past point bytes s (Checkpoint k root) =
     (low c me past < k) × (is_number k ≡ true) × (has_number k (checkpoints_of c past s) ≡ false) × (has_number k (checkpoints_of c (Got me bytes ∷ past) s) ≡ true)
-Counts c me past point bytes s (Change vc) = (is_some (signed_body c bytes) ≡ true) × (view c past < vc.view) × (is_within c vc ≡ true) × (latest_change c past s < vc.view)
-Counts c me past point bytes s (Begin new) = taken c past (Got me bytes) ≡ Some new
+Counts c me past point bytes s (ViewChange vc) = (view c past < vc.view) × (is_within c vc ≡ true) × (latest_change c past s < vc.view)
+Counts c me past point bytes s (NewView new) = taken c past (Got me bytes) ≡ Some new
 Counts c me past point bytes s (Reply client t kind k answer) = ⊥
 Counts c me past point bytes s (Fetch k level index) = KeptState c me past point k (λ st. ⊤)
-Counts c me past point bytes s (Meta k level index digests) = (asked_last past ≡ Some (k, (level, index))) × (point.state.number < k)
-Counts c me past point bytes s (Page k index text) = (asked_last past ≡ Some (k, (levels.Page, index))) × (point.state.number < k)
+Counts c me past point bytes s (Meta k level index digests) = IsAwaited c me past point k level index (digest_of_children digests)
+Counts c me past point bytes s (Page k index text) = IsAwaited c me past point k levels.Page index (sha256 text)
 
 abbrev pub IsDropped : Configuration → ℕ → List Entry → Point → List ℕ → Type 0
 IsDropped c me past point bytes = (body : Body) → heard c me bytes ≡ Some body → Counts c me past point bytes body.sender body.message → ⊥

@@ -1,7 +1,7 @@
--- What a correct client's history is (Castro and Liskov, TOCS 2002, section 4.2; that it waits for 2f + 1 replies alike in
--- answer and number, for writes and reads alike, is our own). A client has one call at a time, and what it gives in an
--- event is determined by its past.
-use Rattle.std.specs.Prelude.{◌≡◌, ℕ, suc, ◌+◌, ◌⊎◌, Bool, true, false, ◌&&◌, ◌||◌, not, List, [], ◌∷◌, nat_le, ◌==◌, if◌then◌else◌, Option, Some, None, is_some, option_and_then, bytes_eq, ⊤}
+-- What a correct client's history is (Castro and Liskov, TOCS 2002, on the client and on read-only operations; that it
+-- waits for 2f + 1 replies alike in answer and number, for writes and reads alike, is our own). A client has one call
+-- at a time, and what it gives in an event is determined by its past.
+use Rattle.std.specs.Prelude.{◌≡◌, ℕ, suc, ◌⊎◌, Bool, true, false, ◌&&◌, ◌||◌, not, List, [], ◌∷◌, nat_le, ◌==◌, if◌then◌else◌, Option, Some, None, is_some, option_and_then, bytes_eq, ⊤}
 use Rattle.std.specs.List.{range_with_len}
 use Rattle.std.specs.Option.{option_map_or}
 use Rattle.tuple_codec.specs.Operations.{Operation, Outcome, IsOperation}
@@ -14,7 +14,7 @@ use Rattle.wire.specs.Messages.{BodyData as Body, FrameData as Frame, MessageDat
 use Rattle.protocol.specs.Frames.{reads_only, mode_of, frame_of, said, heard, IsSealed, receivers_of}
 use Rattle.protocol.specs.Trace.{Entry, party_of, is_output, Always, either}
 use Rattle.protocol.specs.Trace.Entry.{Invoke, Got, Tick, Sent, Accepted}
-use Rattle.protocol.specs.Selection.{is_quorum}
+use Rattle.protocol.specs.Selection.{is_quorum, is_weak_quorum}
 
 -- ---- the open call
 
@@ -111,15 +111,18 @@ abbrev pub on_reply : Configuration → ℕ → List Entry → OpenCall → Vote
 on_reply c me now call vote = if is_complete c me now call.timestamp vote then accepts call.timestamp vote.answer else fallback c me now call
 
 abbrev pub on_got : Configuration → ℕ → List Entry → OpenCall → Reaction
-on_got c me now call = option_map_or (on_reply c me now call) (newest_vote c me now call.timestamp) (fallback c me now call)
+on_got c me now call = option_map_or (on_reply c me now call) (newest_vote c me now call.timestamp) nothing
 
--- What a client gives in the event of an input, the newest entry. A read is asked read-only first, and at a tick an open
--- call's request goes ordered, again where it did before.
+-- at a tick an open call's request goes ordered, again where it did before
+abbrev pub on_tick : List Entry → Reaction
+on_tick past = option_map_or (asks false) (open_call past) nothing
+
+-- What a client gives in the event of an input, the newest entry. A read is asked read-only first.
 abbrev pub reaction : Configuration → ℕ → List Entry → Reaction
 reaction c me [] = nothing
 reaction c me (Invoke client timestamp op ∷ past) = asks (is_read_only op) (record { timestamp = timestamp; op = op })
 reaction c me (Got p bytes ∷ past) = option_map_or (on_got c me (Got p bytes ∷ past)) (open_call past) nothing
-reaction c me (Tick p ∷ past) = option_map_or (asks false) (open_call past) nothing
+reaction c me (Tick p ∷ past) = on_tick past
 reaction c me (_ ∷ past) = nothing
 
 -- ---- the weak client, which the first one is: every operation is ordered, and f + 1 ordered replies of one answer are
@@ -130,7 +133,7 @@ is_same_answer vote other = option_map_or (λ o. bytes_eq (outcome_spelling o.an
 
 abbrev pub is_weakly_complete : Configuration → ℕ → List Entry → ℕ → Vote → Bool
 is_weakly_complete c me past timestamp vote =
-    not vote.read_only && nat_le (c.faults + 1) (count_below (λ s. is_same_answer vote (latest c me past timestamp false s)) (replicas c))
+    not vote.read_only && is_weak_quorum c (count_below (λ s. is_same_answer vote (latest c me past timestamp false s)) (replicas c))
 
 abbrev pub weakly_on_got : Configuration → ℕ → List Entry → OpenCall → Reaction
 weakly_on_got c me now call =
@@ -140,7 +143,7 @@ abbrev pub weak_reaction : Configuration → ℕ → List Entry → Reaction
 weak_reaction c me [] = nothing
 weak_reaction c me (Invoke client timestamp op ∷ past) = asks false (record { timestamp = timestamp; op = op })
 weak_reaction c me (Got p bytes ∷ past) = option_map_or (weakly_on_got c me (Got p bytes ∷ past)) (open_call past) nothing
-weak_reaction c me (Tick p ∷ past) = option_map_or (asks false) (open_call past) nothing
+weak_reaction c me (Tick p ∷ past) = on_tick past
 weak_reaction c me (_ ∷ past) = nothing
 
 -- ---- histories
@@ -182,7 +185,7 @@ IsClient c me history = IsClientBy c me (reaction c me) history
 abbrev pub IsWeakClient : Configuration → ℕ → List Entry → Type 0
 IsWeakClient c me history = IsClientBy c me (weak_reaction c me) history
 
--- ---- what each entry may be: the part of it that the laws use (a history is safe where it has nothing else)
+-- ---- what each entry may be; the laws over all runs use no more, and a history that has nothing else is safe
 
 abbrev pub MayAccept : Configuration → ℕ → List Entry → ℕ → Outcome → Type 0
 MayAccept c me past timestamp answer =

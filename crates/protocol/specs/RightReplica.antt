@@ -1,19 +1,19 @@
 -- What a correct replica may do: what each entry of its history must be, given its past (Castro and Liskov, TOCS 2002,
--- sections 4.3 to 4.5 and, of checkpoints and transfer, 5.3). What it owes, and the whole of what its history is
--- (IsReplica), stands in Owed.
-use Rattle.std.specs.Prelude.{◌≡◌, ◌≢◌, ℕ, suc, ◌+◌, ◌%◌, ◌^◌, ◌≤◌, ◌<◌, ◌⊎◌, Bool, true, ◌&&◌, ◌||◌, not, List, [], ◌∷◌, ◌++◌, map, reverse, filter, nat_le, nat_lt, ◌==◌, if◌then◌else◌, Some, option_and_then, AllPairs, ⊤}
+-- on normal-case operation, garbage collection, view changes and state transfer). What it owes, and the
+-- whole of what its history is (IsReplica), stands in Owed.
+use Rattle.std.specs.Prelude.{◌≡◌, ◌≢◌, ℕ, suc, ◌+◌, ◌%◌, ◌≤◌, ◌<◌, ◌⊎◌, Bool, true, ◌&&◌, ◌||◌, not, List, [], ◌∷◌, ◌++◌, map, reverse, filter, nat_le, nat_lt, ◌==◌, if◌then◌else◌, Some, option_and_then, AllPairs, ⊤}
 use Rattle.std.specs.List.{list_all, range_with_len}
 use Rattle.std.specs.Option.{option_map_or}
 use Rattle.sha2.specs.Sha256.{sha256}
 use Rattle.tuple_codec.specs.Operations.{Operation, Outcome}
 use Rattle.space.specs.Applying.{outcome, is_read_only}
 use Rattle.partition_tree.specs.Digests.{inner_digests, page_digests}
-use Rattle.protocol.specs.Configuration.{Configuration, replicas, primary}
+use Rattle.protocol.specs.Configuration.{Configuration, replicas, primary, is_number}
 use Rattle.wire.specs.declared.terms.Mode.{Mode}
 use Rattle.wire.specs.declared.terms.Mode.TheVariants as modes
 use Rattle.wire.specs.declared.terms.Level.{Level}
 use Rattle.wire.specs.declared.terms.Level.TheVariants as levels
-use Rattle.wire.specs.Messages.{BodyData as Body, FrameData as Frame, MessageData as Message, ProofData as Proof, macs, signature, ViewChangeData as ViewChange, NewViewData as NewView, MarkData as Mark, ClaimData as Claim, request as Request, pre_prepare as PrePrepare, prepare as Prepare, commit as Commit, checkpoint as Checkpoint, view_change as Change, new_view as Begin, reply as Reply, fetch as Fetch, meta as Meta, page as Page}
+use Rattle.wire.specs.Messages.{BodyData as Body, FrameData as Frame, MessageData as Message, ProofData as Proof, macs, signature, ViewChangeData, NewViewData, MarkData as Mark, ClaimData as Claim, request as Request, pre_prepare as PrePrepare, prepare as Prepare, commit as Commit, checkpoint as Checkpoint, view_change as ViewChange, new_view as NewView, reply as Reply, fetch as Fetch, meta as Meta, page as Page}
 use Rattle.wire.specs.Words.{carried, requests_of}
 use Rattle.protocol.specs.Frames.{frame_of, said, heard, IsSealed, receivers_of}
 use Rattle.protocol.specs.Trace.{Entry, party_of, Once, Has, Each, frames_in, Hears}
@@ -49,12 +49,8 @@ GetsPage c me i text past (Got p bytes) = (sender number : ℕ) × (heard c me b
 GetsPage c me i text past _ = ⊥
 
 -- a part of a checkpoint was asked for by the replica s
-abbrev pub GetsFetch : Configuration → ℕ → ℕ → ℕ → Level → ℕ → List Entry → Entry → Type 0
-GetsFetch c me s k level index past (Got p bytes) = heard c me bytes ≡ Some (record { sender = s; message = Fetch k level index })
-GetsFetch c me s k level index past _ = ⊥
-
 abbrev pub WasAsked : Configuration → ℕ → List Entry → ℕ → ℕ → Level → ℕ → Type 0
-WasAsked c me past s k level index = Once (GetsFetch c me s k level index) past
+WasAsked c me past s k level index = Once (Hears c me (record { sender = s; message = Fetch k level index })) past
 
 -- ---- what stands between entries
 
@@ -89,8 +85,7 @@ still_waiting st waiting = filter (λ call. nat_lt (last_time st call.client) ca
 abbrev pub snapshots_after : Configuration → State → List State → List State
 snapshots_after c st snapshots = if st.number % c.period == 0 then st ∷ snapshots else snapshots
 
--- What an entry does to the point. What is installed is a state of the number and root, each page of which is the state's
--- own or was got for its place.
+-- What is installed is a state of the number and root, each page of which is the state's own or was got for its place.
 abbrev pub IsHeld : Configuration → ℕ → List Entry → State → ℕ → List ℕ → Type 0
 IsHeld c me past st i text = (text ≡ page_text st i) ⊎ Once (GetsPage c me i text) past
 
@@ -111,6 +106,7 @@ executed_point c old k batch = record {
   waiting = still_waiting (execute c old.state batch) old.waiting;
 }
 
+-- what an entry does to the point
 abbrev pub Moves : Configuration → ℕ → List Entry → Point → Entry → Point → Type 0
 Moves c me past old (Got p bytes) new = new ≡ record old { ran = []; waiting = waiting_after c me old bytes }
 Moves c me past old (Tick p) new = new ≡ record old { ran = [] }
@@ -137,7 +133,7 @@ pub record IsPreparedList (c : Configuration) (me : ℕ) (past : List Entry) (cl
   pub ascending : AllPairs (λ x y. x.number < y.number) claims
 
 -- each digest that was pre-prepared for a number in the marks, with its latest view
-pub record IsProposedList (c : Configuration) (me : ℕ) (past : List Entry) (claims : List Claim) : Type 0 where
+pub record IsPrePreparedList (c : Configuration) (me : ℕ) (past : List Entry) (claims : List Claim) : Type 0 where
   pub listed : (claim : Claim) → Has (λ x. x ≡ claim) claims
       → ((batch : List ℕ) × (logged c me past claim.view claim.number ≡ Some batch) × (sha256 batch ≡ claim.digest))
       × (is_in_marks c (low c me past) claim.number ≡ true)
@@ -146,14 +142,14 @@ pub record IsProposedList (c : Configuration) (me : ℕ) (past : List Entry) (cl
   pub differ : AllPairs (λ x y. (x.number ≡ y.number) → x.digest ≢ y.digest) claims
 
 -- a view change for a view above the own one and above those sent before, with what the history says
-pub record IsNewChange (c : Configuration) (me : ℕ) (past : List Entry) (point : Point) (vc : ViewChange) : Type 0 where
+pub record IsNewViewChange (c : Configuration) (me : ℕ) (past : List Entry) (point : Point) (vc : ViewChangeData) : Type 0 where
   pub above : view c past < vc.view
   pub newer : target past < vc.view
-  pub is_view : vc.view < 2 ^ 48
+  pub is_view : is_number vc.view ≡ true
   pub low : vc.low ≡ low c me past
   pub checkpoints : vc.checkpoints ≡ map checkpoint_of (reverse (kept_states vc.low point.snapshots))
   pub prepared : IsPreparedList c me past vc.prepared
-  pub proposed : IsProposedList c me past vc.pre_prepared
+  pub proposed : IsPrePreparedList c me past vc.pre_prepared
 
 -- ---- what may be sent. Each clause covers sending again too.
 
@@ -187,13 +183,13 @@ pub record MayCheckpoint (c : Configuration) (past : List Entry) (point : Point)
   pub state : Has (λ st. (st.number ≡ k) × (root_of st ≡ root)) point.snapshots
 
 -- a view change is new, or the last one goes again while inactive
-abbrev pub MayChange : Configuration → ℕ → List Entry → Point → List ℕ → ViewChange → Type 0
-MayChange c me past point bytes vc =
-    IsNewChange c me past point vc ⊎ ((view c past < target past) × (vc.view ≡ target past) × SentBefore bytes past)
+abbrev pub MayViewChange : Configuration → ℕ → List Entry → Point → List ℕ → ViewChangeData → Type 0
+MayViewChange c me past point bytes vc =
+    IsNewViewChange c me past point vc ⊎ ((view c past < target past) × (vc.view ≡ target past) × SentBefore bytes past)
 
 -- a new view is sent by its primary: where it is taken, or again while active in it
-abbrev pub MayBegin : Configuration → ℕ → List Entry → Entry → List ℕ → NewView → Type 0
-MayBegin c me past e bytes new =
+abbrev pub MayNewView : Configuration → ℕ → List Entry → Entry → List ℕ → NewViewData → Type 0
+MayNewView c me past e bytes new =
     (primary c new.view ≡ me) × ((taken c past e ≡ Some new) ⊎ ((is_active_in c past new.view ≡ true) × SentBefore bytes past))
 
 -- what is kept for the client k, as a reply to it
@@ -242,8 +238,8 @@ MaySay c me past point e bytes (PrePrepare v i batch) = MayPrePrepare c me past 
 MaySay c me past point e bytes (Prepare v i digest) = MayPrepare c me past v i digest
 MaySay c me past point e bytes (Commit v i digest) = MayCommit c me past v i digest
 MaySay c me past point e bytes (Checkpoint k root) = MayCheckpoint c past point k root
-MaySay c me past point e bytes (Change vc) = MayChange c me past point bytes vc
-MaySay c me past point e bytes (Begin new) = MayBegin c me past e bytes new
+MaySay c me past point e bytes (ViewChange vc) = MayViewChange c me past point bytes vc
+MaySay c me past point e bytes (NewView new) = MayNewView c me past e bytes new
 MaySay c me past point e bytes (Reply client timestamp kind number answer) = MayReply c me past point client timestamp kind number answer
 MaySay c me past point e bytes (Fetch k level index) = ⊤
 MaySay c me past point e bytes (Meta k level index digests) = MayMeta c me past point k level index digests
@@ -284,7 +280,7 @@ pub record MayExecute (c : Configuration) (me : ℕ) (past : List Entry) (point 
   pub committed : Committed c me past in_view k batch
 
 abbrev pub StartsAt : Configuration → ℕ → List ℕ → List Entry → Entry → Type 0
-StartsAt c k root past e = (new : NewView) × (taken c past e ≡ Some new) × (new.start ≡ k) × (new.root ≡ root)
+StartsAt c k root past e = (new : NewViewData) × (taken c past e ≡ Some new) × (new.start ≡ k) × (new.root ≡ root)
 
 -- a quorum of checkpoints, counted as for stability, was alike at one point of the past
 abbrev pub HadQuorum : Configuration → Mark → List Entry → Type 0
@@ -315,6 +311,7 @@ abbrev pub Leaves : Configuration → ℕ → List Entry → Point → Type 0
 Leaves c me [] point = point ≡ first_point
 Leaves c me (e ∷ past) point = (old : Point) × Leaves c me past old × IsStep c me past old e point
 
--- The history is safe: it has nothing that a correct replica may not do. The laws use no more of it.
+-- The history is safe: it has nothing that a correct replica may not do. The laws over all runs use no more
+-- of it.
 abbrev pub SafeReplica : Configuration → ℕ → List Entry → Type 0
 SafeReplica c me history = (point : Point) × Leaves c me history point

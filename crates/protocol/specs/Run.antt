@@ -8,7 +8,7 @@ use Rattle.protocol.specs.Owed.{IsReplica}
 use Rattle.protocol.specs.Texts.{NoCollision}
 use Rattle.wire.specs.Words.{requests_of}
 use Rattle.protocol.specs.State.{State, opening, execute, ran_in}
-use Rattle.protocol.specs.Linear.{points, IsLinear, is_level, invoke_past, Placing, ordered_point, NoneTwice}
+use Rattle.protocol.specs.Linear.{points, IsLinear, Linear, is_level, invoke_past, Placing, ordered_point, NoneTwice}
 use Rattle.protocol.specs.Laws.{IsOneSpace}
 
 -- an output follows its input, or an output of the same event
@@ -31,14 +31,18 @@ IsRun c trace = IsRunOf (IsClient c) c trace
 abbrev pub IsWeakRun : Configuration → List Entry → Type 0
 IsWeakRun c trace = IsRunOf (IsWeakClient c) c trace
 
--- Over every run of a valid configuration that is unforged and whose texts do not collide, the points are legal, cover the
--- trace and are placed: the answers that correct clients accept, of reads and writes alike, are those of one sequential
--- tuple space, in which each operation acts at most once, an accepted one exactly once, at a position between its
--- invocation and its acceptance.
+-- Over every run of a valid configuration that is unforged and whose texts do not collide, the points are legal, cover
+-- the trace and are placed: the answers that correct clients accept, of reads and writes alike, are those of one
+-- sequential tuple space, in which each operation acts at most once, an accepted one exactly once, at a position
+-- between its invocation and its acceptance.
 abbrev pub PointsAreLinear : Type 0
 PointsAreLinear =
     (c : Configuration) → IsConfiguration c → (trace : List Entry) → IsRun c trace → Unforged c trace → NoCollision c trace
     → IsLinear c (points c trace) trace
+
+-- So there is such a list of items: the run is linearizable.
+abbrev pub RunsAreLinear : Type 0
+RunsAreLinear = (c : Configuration) → IsConfiguration c → (trace : List Entry) → IsRun c trace → Unforged c trace → NoCollision c trace → Linear c trace
 
 -- Over every run of the first client too, the accepted answers are those of one space: some list of items is legal and
 -- covers the trace. Positions are not promised.
@@ -49,12 +53,12 @@ WeakAnswersAreOneSpace =
 
 -- ---- the levels of what is accepted
 
--- At an acceptance all but f of the correct replicas had reached the replies' number. Of a read they had not reached a
--- greater one when it was invoked.
+-- At an acceptance all but f of the correct replicas had reached the replies' number. When a read was invoked, no
+-- greater number had been reached by all but f.
 abbrev pub AtItsLevel : Configuration → List Entry → Entry → Type 0
 AtItsLevel c past (Accepted k timestamp answer) =
-    (vote : Vote) → newest_vote c (256 + k) (history_of (256 + k) past) timestamp ≡ Some vote
-    → (is_level c past vote.number ≡ true)
+    (vote : Vote) × (newest_vote c (256 + k) (history_of (256 + k) past) timestamp ≡ Some vote)
+    × (is_level c past vote.number ≡ true)
     × (vote.read_only ≡ true → (n : ℕ) → vote.number < n → is_level c (invoke_past (256 + k) past) n ≡ true → ⊥)
 AtItsLevel c past _ = ⊤
 

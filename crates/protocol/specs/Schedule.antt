@@ -1,5 +1,5 @@
--- Which inputs a schedule feeds, over the real bytes of sealed and signed frames, and which of its steps are allowed. Here
--- the entries that are to come stand oldest first.
+-- Which inputs a schedule feeds, over the real bytes of sealed and signed frames, and which of its steps are allowed.
+-- Here the entries that are to come stand oldest first.
 use Rattle.std.specs.Prelude.{◌≡◌, ℕ, suc, ◌-◌, ◌+◌, ◌≤◌, ◌<◌, Bool, true, false, ◌&&◌, ◌||◌, not, List, [], ◌∷◌, ◌++◌, length, map, take, reverse, ◌==◌, if◌then◌else◌, Option, Some, None, slice_get, All, AllPairs, ⊤}
 use Rattle.std.specs.List.{list_any, range_with_len}
 use Rattle.std.specs.Option.{option_map_or}
@@ -16,6 +16,7 @@ use Rattle.protocol.specs.Trace.{Entry, is_output, history_of}
 use Rattle.protocol.specs.Trace.Entry.{Invoke, Got, Tick, Sent, Accepted}
 use Rattle.protocol.specs.RightClient.{open_call}
 use Rattle.protocol.specs.Linear.{Item, points}
+use Rattle.protocol.specs.Run.{IsRun}
 
 -- A client stands with its number in a call, all others with their party.
 pub data Step : Type 0 where
@@ -95,8 +96,8 @@ pub record AreReceivers (c : Configuration) (receivers : List ℕ) : Type 0 wher
   pub ascend : AllPairs (λ p q. p < q) receivers
   pub parties : All (λ p. is_party c p ≡ true) receivers
 
--- A call's timestamp is no part of the step: in a run it is the client's next one. That holds of a client that stopped too,
--- whose call stays open, so that it has no second one.
+-- A call's timestamp is no part of the step: in a run it is the client's next one. That holds of a client that stopped
+-- too, whose call stays open, so that it has no second one.
 abbrev pub IsAllowed : Configuration → World → Step → Type 0
 IsAllowed c w (calls k op) = (is_correct_client c (256 + k) ≡ true) × (open_call (history_of (256 + k) w.past) ≡ None) × IsOperation op
 IsAllowed c w (deliver frame party) = (frame < length w.frames) × (is_correct c party ≡ true)
@@ -146,10 +147,11 @@ pub data Goes (c : Configuration) : World → List Step → List Entry → World
 abbrev pub Feeds : Configuration → List Step → List Entry → Type 0
 Feeds c steps trace = (w : World) × Goes c new_world steps (reverse trace) w
 
--- the step of this index is the first that is not allowed
-abbrev pub StopsAt : Configuration → List Step → ℕ → Type 0
-StopsAt c steps n =
-    (trace : List Entry) × (w : World) × (step : Step) × Goes c new_world (take n steps) (reverse trace) w × (slice_get steps n ≡ Some step) × (IsAllowed c w step → ⊥)
+-- In the world that the run has made, the step of this index is the first that is not allowed.
+abbrev pub StopsAt : Configuration → List Step → ℕ → List Entry → Type 0
+StopsAt c steps n trace =
+    IsRun c trace
+    × ((w : World) × (step : Step) × Goes c new_world (take n steps) (reverse trace) w × (slice_get steps n ≡ Some step) × (IsAllowed c w step → ⊥))
 
 -- ---- the report
 

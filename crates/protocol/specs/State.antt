@@ -1,5 +1,6 @@
--- The state that batches leave, its pages and its root (Castro and Liskov, TOCS 2002, section 4.3 and, of pages and root, 5.3).
-use Rattle.std.specs.Prelude.{◌≡◌, ℕ, suc, ◌-◌, Bool, ◌&&◌, not, List, [], ◌∷◌, ◌++◌, length, map, replicate, nat_lt, ◌==◌, if◌then◌else◌, Option, Some, None, slice_get, slice_set, option_and_then, fold}
+-- The state that batches leave, its pages and its root (Castro and Liskov, TOCS 2002, on normal-case
+-- operation and, of pages and root, on hierarchical state partitions).
+use Rattle.std.specs.Prelude.{ℕ, suc, ◌-◌, Bool, ◌&&◌, not, List, [], ◌∷◌, ◌++◌, map, nat_lt, ◌==◌, if◌then◌else◌, Option, Some, None, option_and_then, fold}
 use Rattle.std.specs.List.{range_with_len}
 use Rattle.std.specs.Option.{option_map_or}
 use Rattle.tuple_tree.specs.Values.{TupleTree}
@@ -12,27 +13,27 @@ use Rattle.protocol.specs.Configuration.{Configuration, is_client}
 use Rattle.wire.specs.Messages.{BodyData as Body, request as Request}
 use Rattle.wire.specs.Words.{requests_of}
 use Rattle.protocol.specs.Frames.{said, reads_only}
-use Rattle.reply_cache.specs.Replies.{Kept, IsKept}
+use Rattle.reply_cache.specs.Replies.{Kept, Replies, no_replies, last_of, seen_of, with_reply, AreReplies}
 use Rattle.reply_cache.specs.Pages.{reply_text}
 
--- The space, the number of the last batch, and for each client, by its number, its last request that ran.
+-- The space, the number of the last batch, and for each client the reply to its last request that ran.
 pub record State : Type 0 where
   pub space : SpaceState
   pub number : ℕ
-  pub replies : List (Option Kept)
+  pub replies : Replies
 
 abbrev pub opening : State
-opening = record { space = empty_state; number = 0; replies = replicate 256 None }
+opening = record { space = empty_state; number = 0; replies = no_replies }
 
 abbrev pub tuples : State → List TupleTree
 tuples st = tuples_of st.space
 
 abbrev pub kept_of : State → ℕ → Option Kept
-kept_of st client = option_and_then (λ x. x) (slice_get st.replies client)
+kept_of st client = last_of st.replies client
 
 -- the last timestamp of a client, first 0
 abbrev pub last_time : State → ℕ → ℕ
-last_time st client = option_map_or (λ kept. kept.timestamp) (kept_of st client) 0
+last_time st client = seen_of st.replies client
 
 -- ---- requests
 
@@ -62,7 +63,7 @@ kept_by st number call = record { timestamp = call.timestamp; number = number; o
 
 abbrev pub ran_call : State → ℕ → Call → State
 ran_call st number call =
-    record { space = state_after st.space call.op; number = st.number; replies = slice_set st.replies call.client (Some (kept_by st number call)) }
+    record { space = state_after st.space call.op; number = st.number; replies = with_reply st.replies call.client (kept_by st number call) }
 
 -- what a request does in the batch of a number
 abbrev pub run_call : State → ℕ → Call → State
@@ -98,8 +99,7 @@ ran_in c number st (frame ∷ frames) = option_map_or (ran_by st number) (call_o
 -- A state: that of a space behind so many batches, and with a reply or none for each of 256 clients.
 pub record IsState (st : State) : Type 0 where
   pub space : IsStateAt st.space st.number
-  pub clients : length st.replies ≡ 256
-  pub replies : (client : ℕ) (kept : Kept) → kept_of st client ≡ Some kept → IsKept kept
+  pub replies : AreReplies st.replies
 
 -- ---- pages: 0 to 255 hold tuples, 256 to 511 replies, 512 the header, all others nothing
 

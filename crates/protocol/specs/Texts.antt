@@ -3,8 +3,9 @@ use Rattle.std.specs.Prelude.{◌≡◌, ℕ, ◌+◌, ◌<◌, true, List, [], 
 use Rattle.std.specs.List.{concat}
 use Rattle.sha2.specs.Sha256.{sha256}
 use Rattle.partition_tree.specs.Digests.{inner_digests, page_digests}
+use Rattle.protocol.specs.Selection.{null_batch}
 use Rattle.protocol.specs.Configuration.{Configuration, is_correct_replica}
-use Rattle.wire.specs.Messages.{BodyData as Body, MessageData as Message, pre_prepare as PrePrepare, new_view as Begin, meta as Meta, page as Page}
+use Rattle.wire.specs.Messages.{BodyData as Body, MessageData as Message, pre_prepare as PrePrepare, new_view as NewView, meta as Meta, page as Page}
 use Rattle.protocol.specs.Frames.{said}
 use Rattle.protocol.specs.Trace.{Entry, history_of, Once, Has}
 use Rattle.protocol.specs.Trace.Entry.{Got, Executed, Sent}
@@ -13,7 +14,7 @@ use Rattle.protocol.specs.RightReplica.{Point, Leaves, IsHeld}
 
 -- the batches, and the texts of pages and of digests, that a message has
 abbrev pub batches_of : Message → List (List ℕ)
-batches_of message = elim message [ PrePrepare view number batch ↦ batch ∷ [] | Begin new ↦ new.batches | _ ↦ [] ]
+batches_of message = elim message [ PrePrepare view number batch ↦ batch ∷ [] | NewView new ↦ new.batches | _ ↦ [] ]
 
 abbrev pub parts_of : Message → List (List ℕ)
 parts_of message = elim message [ Meta number level index digests ↦ concat digests ∷ [] | Page number index text ↦ text ∷ [] | _ ↦ [] ]
@@ -63,11 +64,11 @@ pub record Holds (c : Configuration) (trace : List Entry) (page : ℕ → List �
   pub at : StoodAt c trace
   pub each : (i : ℕ) → i < 1024 → IsHeld c at.replica at.past at.point.state i (page i)
 
--- The null batch; each batch that was got or sent; each page and each text of digests that was got; the texts of digests
--- under the pages that a correct replica holds; and the pages, and the texts of digests under them, of each state of
--- executed batches.
+-- The null batch; each batch that was got or sent; each page and each text of digests that was got; the texts of
+-- digests under the pages that a correct replica holds; and the pages, and the texts of digests under them, of each
+-- state of executed batches.
 pub data IsText (c : Configuration) (trace : List Entry) : List ℕ → Type 0 where
-  null : IsText c trace (0 ∷ [])
+  null : IsText c trace null_batch
   batch : (text : List ℕ) → Once (HasBatch text) trace → IsText c trace text
   part : (text : List ℕ) → Once (HasPart text) trace → IsText c trace text
   held : (page : ℕ → List ℕ) (text : List ℕ) → Holds c trace page → IsUnder page text → IsText c trace text

@@ -91,6 +91,6 @@ IsUnforgedAt c past (Got me bytes) = is_correct c me ≡ true → Each (IsFromSe
 IsUnforgedAt c past _ = ⊤
 
 -- What MACs and signatures are trusted for: each frame that a correct party got, alone or carried in another, and takes
--- as a correct sender's, that sender sent before (Castro and Liskov, TOCS 2002, section 2).
+-- as a correct sender's, that sender sent before (Castro and Liskov, TOCS 2002, on the system model).
 abbrev pub Unforged : Configuration → List Entry → Type 0
 Unforged c trace = Always (IsUnforgedAt c) trace

@@ -3,34 +3,53 @@
 
 pub mod accepted;
 pub mod refused;
+pub mod refused_changes;
+pub mod refused_kept;
+pub mod refused_marks;
+pub mod refused_runs;
+pub mod refused_steps;
 
-ghost use Rattle.protocol.specs.Laws.{FramesAreSpelled, BodiesAreSaid, BytesAreHeard, PreparedAgree, CommittedStays, CommittedAgree, ExecutedAgree, PagesDetermine, BatchesLeaveStates, StatesAreExecuted, StatesAgree, StableAgree, InstalledAgree, StartsAgree, LinearOfSafe, WeakIsOneSpace};
-ghost use Rattle.protocol.specs.Run.{PointsAreLinear, NoneRunsTwice, AcceptedAtLevels, WeakAnswersAreOneSpace};
+ghost use Rattle.protocol.specs.Laws.{FramesAreSpelled, BodiesAreSaid, BytesAreHeard, PreparedAgree, CommittedStays, CommittedAgree, ExecutedAgree, PagesDetermine, BatchesLeaveStates, StatesAreExecuted, StatesAgree, StableAgree, InstalledAgree, StartsAgree, LinearOfSafe, WeakIsOneSpace, NoneBegins, FirstViewStays};
+ghost use Rattle.protocol.specs.FirstOperation.{SealedFramesAreHeard};
+ghost use Rattle.protocol.specs.RefusedSteps.{SignedFramesAreHeard};
+ghost use Rattle.protocol.specs.Run.{PointsAreLinear, NoneRunsTwice, AcceptedAtLevels, WeakAnswersAreOneSpace, RunsAreLinear};
 
-/// What the definitions read from bytes is what the frame's grammar says, and what a party hears as authentic or signed.
+/// What the definitions read from bytes is what the frame's grammar says, and what a party hears as authentic or
+/// signed.
 pub fn bytes_are_read()
     ensures frames { FramesAreSpelled }
     ensures bodies { BodiesAreSaid }
     ensures heard { BytesAreHeard }
 {}
 
-/// Two correct replicas hold batches of one digest prepared in one view for one number (Castro and Liskov, TOCS 2002,
-/// section 4.5).
+/// What a party of the configuration seals for others, each of them hears.
+pub fn sealed_frames_are_heard()
+    ensures heard { SealedFramesAreHeard }
+{}
+
+/// What a replica signs with one of its leaves, each party hears.
+pub fn signed_frames_are_heard()
+    ensures heard { SignedFramesAreHeard }
+{}
+
+/// What two correct replicas hold prepared in one view for one number has one digest (Castro and Liskov, TOCS 2002, on
+/// normal-case operation).
 pub fn prepared_agree()
     ensures agree { PreparedAgree }
 {}
 
-/// Each later new view has what is committed, or starts at or above it (Castro and Liskov, TOCS 2002, section 4.5).
+/// Each later new view has what is committed, or starts at or above it (Castro and Liskov, TOCS 2002, on view
+/// changes).
 pub fn committed_stays()
     ensures stays { CommittedStays }
 {}
 
-/// Two correct replicas hold batches of one digest committed for one number, over all views.
+/// What two correct replicas hold committed for one number has one digest, over all views.
 pub fn committed_agree()
     ensures agree { CommittedAgree }
 {}
 
-/// Two correct replicas execute one batch for one number.
+/// What two correct replicas execute for one number is one batch.
 pub fn executed_agree()
     ensures agree { ExecutedAgree }
 {}
@@ -46,26 +65,28 @@ pub fn batches_leave_states()
 {}
 
 /// Each state that a correct replica ever has, executed, kept or installed, is that of the executed batches up to its
-/// number, so states of one number are one state (Castro and Liskov, TOCS 2002, section 4.3).
+/// number, so states of one number are one state (Castro and Liskov, TOCS 2002, on normal-case operation).
 pub fn states_agree()
     ensures executed { StatesAreExecuted }
     ensures agree { StatesAgree }
 {}
 
-/// Stable roots, installed roots and the roots that new views start with are those of the executed batches (Castro and
-/// Liskov, TOCS 2002, sections 4.4 and 4.5).
+/// The roots that a quorum of checkpoints says, that are installed and that new views start with are those of the
+/// executed batches (Castro and Liskov, TOCS 2002, on garbage collection and view changes).
 pub fn roots_agree()
     ensures stable { StableAgree }
     ensures installed { InstalledAgree }
     ensures starts { StartsAgree }
 {}
 
-/// Over every run of a valid configuration, if no message of a correct party is forged and the texts of the trace do not collide, the
-/// points of the trace are legal, cover it and are placed: the answers that correct clients accept, of reads and writes
-/// alike, are those of one sequential tuple space, in which each operation acts at most once, an accepted one exactly
-/// once, at a position between its invocation and its acceptance (Herlihy and Wing, TOPLAS 1990, section 2).
+/// Over every run of a valid configuration, if no message of a correct party is forged and the texts of the trace do
+/// not collide, the points of the trace are legal, cover it and are placed: the answers that correct clients accept, of
+/// reads and writes alike, are those of one sequential tuple space, in which each operation acts at most once, an
+/// accepted one exactly once, at a position between its invocation and its acceptance (Herlihy and Wing, TOPLAS 1990,
+/// section 2).
 pub fn points_are_linear()
-    ensures linear { PointsAreLinear }
+    ensures points { PointsAreLinear }
+    ensures linear { RunsAreLinear }
 {}
 
 /// The same over a trace whose histories are safe, whether or not the replicas do all that they owe.
@@ -73,13 +94,13 @@ pub fn safe_histories_are_linear()
     ensures linear { LinearOfSafe }
 {}
 
-/// At an acceptance all but `f` of the correct replicas have reached the replies' number; a read finds them at most
-/// there at its invocation.
+/// At an acceptance all but `f` of the correct replicas have reached the replies' number. When a read was invoked, no
+/// greater number had been reached by all but `f`.
 pub fn accepted_at_levels()
     ensures levels { AcceptedAtLevels }
 {}
 
-/// With the first client, which accepts at `f + 1` replies of one answer, the accepted answers are still those of one
+/// With the weak client, which accepts at `f + 1` replies of one answer, the accepted answers are still those of one
 /// space, in which each operation acts at most once. Where they stand in time is not promised.
 pub fn weak_answers_are_one_space()
     ensures weak { WeakAnswersAreOneSpace }
@@ -93,4 +114,11 @@ pub fn weak_histories_are_one_space()
 /// No client and timestamp runs twice over all batches.
 pub fn none_runs_twice()
     ensures once { NoneRunsTwice }
+{}
+
+/// Where no correct replica sends a view change, none takes a new view, and each stays in the first: of the signers of
+/// a new view's view changes one is correct (Castro and Liskov, TOCS 2002, on view changes).
+pub fn first_view_stays()
+    ensures begins { NoneBegins }
+    ensures stays { FirstViewStays }
 {}

@@ -1,60 +1,110 @@
 //! Laws that show what the definitions refuse: each is a small history, or a part of one, that a wrong body would make.
 
-ghost use Rattle.protocol.specs.Refused.{ProposesAuthentic, ReadsNewest, NoChangeWhileActive, AnswersReads, DropsReplies, DropsOwnChange, UnaskedDigestsAreDropped, UnaskedPagesAreDropped, RepliesAfterExecution, NoCommitAfterChange, NoPrepareAfterChange, NoEarlyCheckpoint, OnePrePrepare, NoPrepareByPrimary, ExecutesNext, KeepsPrepared, InstallsWhatItHas, RepliesToItsClient, CommitsToAll, TakesWellSelected, TakesNoLower, RunsOnce, AcceptsAtQuorum};
+ghost use Rattle.protocol.specs.Refused.{SealsWell, SignsWell, PrePreparesAsPrimary, PrePreparesInMarks, NoPrePrepareAfterChange, CheckpointsMultiples, BeginsAsPrimary, ReadsWhatWasAsked, DigestsToWhoAsked, PagesToWhoAsked, NumbersNoneTwice, RepliesOfExecuted, ExecutesWhatIsCommitted, GivesKeptDigests, GivesKeptPages, GivesAskedDigests, GivesAskedPages, RepliesWhatRan, AnswersDigestFetches, AnswersPageFetches, AnswersAgain, AnswersRan, PreparesLogged, CommitsPrepared, ExecutesCommitted, NumbersWaiting, SendsCheckpoints, FetchesAhead, ProposesAuthentic, ReadsNewest, NoChangeWhileActive, AnswersReads, DropsReplies, DropsOwnChange, DropsUnaskedDigests, DropsUnaskedPages, RepliesAfterExecution, NoCommitAfterChange, NoPrepareAfterChange, NoEarlyCheckpoint, OnePrePrepare, NoPrepareByPrimary, ExecutesNext, KeepsPrepared, InstallsWhatItHas, InstallsWithHeader, RepliesToItsClient, CommitsToAll, TakesWellSelected, TakesNoLower, RunsOnce, AcceptsAtQuorum};
 
-/// A right replica sends no ordered reply before anything is executed, no commit or prepare of a view after a view change
-/// above it, no checkpoint of a number that it never executed, no second pre-prepare of a number of a view, and no
-/// prepare as the primary. It proposes no request that is not authentic to it, answers a read with no other number than
-/// its newest, and sends no view change again while it is active.
+/// A right replica sends no ordered reply before anything is executed, no commit or prepare of a view after a view
+/// change above it, no checkpoint of a number that it never executed or that is no multiple of the period, and no
+/// prepare as the primary. It answers a read that was got, with the newest state's answer and number, and sends no view
+/// change again while it is active.
 pub fn right_replicas_do_not_say()
     ensures replies { RepliesAfterExecution }
     ensures commits { NoCommitAfterChange }
     ensures prepares { NoPrepareAfterChange }
     ensures checkpoints { NoEarlyCheckpoint }
-    ensures pre_prepares { OnePrePrepare }
+    ensures multiples { CheckpointsMultiples }
     ensures primaries { NoPrepareByPrimary }
-    ensures requests { ProposesAuthentic }
-    ensures reads { ReadsNewest }
+    ensures numbers_read { ReadsNewest }
+    ensures reads { ReadsWhatWasAsked }
     ensures view_changes { NoChangeWhileActive }
 {}
 
-/// A right replica skips no number, leaves no prepared batch out of a view change, and installs no page that it neither
-/// held nor got.
-pub fn right_replicas_do_not_skip()
-    ensures executes { ExecutesNext }
-    ensures changes { KeepsPrepared }
-    ensures installs { InstallsWhatItHas }
+/// A right replica proposes only as the view's primary, and a view only as its primary; no number outside the marks,
+/// none after a view change above the view, none twice in a view, and no request that is not authentic to it.
+pub fn right_primaries_propose()
+    ensures primaries { PrePreparesAsPrimary }
+    ensures marks { PrePreparesInMarks }
+    ensures active { NoPrePrepareAfterChange }
+    ensures once { OnePrePrepare }
+    ensures requests { ProposesAuthentic }
+    ensures new_views { BeginsAsPrimary }
 {}
 
-/// A correct replica that goes on leaves no read unanswered, and answers neither a reply nor its own view change that
-/// comes back.
+/// A right replica skips no number, executes nothing that is not committed, leaves no prepared batch out of a view
+/// change, and installs no state one of whose pages it neither held nor got, so none without a header page of its
+/// number.
+pub fn right_replicas_do_not_skip()
+    ensures executes { ExecutesNext }
+    ensures committed { ExecutesWhatIsCommitted }
+    ensures changes { KeepsPrepared }
+    ensures installs { InstallsWhatItHas }
+    ensures headers { InstallsWithHeader }
+{}
+
+/// A right replica gives no digests and no page of a state that is not kept, nor any that nobody asked for, and sends
+/// no ordered reply but of a request that ran in the event or of what is kept; so where it installed nothing, the batch
+/// of the reply's number was executed and has the request.
+pub fn right_replicas_give_what_they_have()
+    ensures digests { GivesKeptDigests }
+    ensures pages { GivesKeptPages }
+    ensures asked_digests { GivesAskedDigests }
+    ensures asked_pages { GivesAskedPages }
+    ensures replies { RepliesWhatRan }
+    ensures replies_executed { RepliesOfExecuted }
+{}
+
+/// A correct replica that goes on has answered, in the event of each input, a read from its executed state, a fetch of
+/// a part of a kept state, and the requests that ran in it or that come again with the last timestamp.
 pub fn correct_replicas_answer()
     ensures reads { AnswersReads }
+    ensures digests { AnswersDigestFetches }
+    ensures pages { AnswersPageFetches }
+    ensures again { AnswersAgain }
+    ensures ran { AnswersRan }
+{}
+
+/// A correct replica that goes on has prepared, as an active backup, what it logged in the event, committed what became
+/// prepared, executed what is committed and next, and numbered, as the active primary, the requests that wait, none of
+/// them twice in a view; it has sent a checkpoint of each multiple of the period that it executed, and begun a transfer
+/// where a quorum of checkpoints is ahead.
+pub fn correct_replicas_go_on()
+    ensures prepares { PreparesLogged }
+    ensures commits { CommitsPrepared }
+    ensures executes { ExecutesCommitted }
+    ensures numbers { NumbersWaiting }
+    ensures numbers_once { NumbersNoneTwice }
+    ensures checkpoints { SendsCheckpoints }
+    ensures fetches { FetchesAhead }
+{}
+
+/// A right replica seals a reply for its client alone, a part of a state for one replica that asked for it, and a
+/// commit for each other replica; each MAC is that of the body for its receiver, and a signature is its own.
+pub fn right_replicas_address_all()
+    ensures replies { RepliesToItsClient }
+    ensures digests { DigestsToWhoAsked }
+    ensures pages { PagesToWhoAsked }
+    ensures commits { CommitsToAll }
+    ensures macs { SealsWell }
+    ensures signatures { SignsWell }
+{}
+
+/// A correct replica answers no part of a state that it did not ask for last, no reply, and not its own view change
+/// that comes back.
+pub fn correct_replicas_drop()
+    ensures digests { DropsUnaskedDigests }
+    ensures pages { DropsUnaskedPages }
     ensures replies { DropsReplies }
     ensures view_changes { DropsOwnChange }
 {}
 
-/// A right replica seals a reply for its client alone, and a commit for each other replica.
-pub fn right_replicas_address_all()
-    ensures replies { RepliesToItsClient }
-    ensures commits { CommitsToAll }
-{}
-
-/// A prompt replica drops a part of a state that it did not ask for last, and so gives nothing for it.
-pub fn unasked_parts_are_dropped()
-    ensures digests { UnaskedDigestsAreDropped }
-    ensures pages { UnaskedPagesAreDropped }
-{}
-
 /// A new view is not taken over too few view changes, over some for another view, if it leaves out a number prepared in
-/// one of them, with a batch against which a quorum is not silent or for which no `f + 1` replicas vouch, or below a view
-/// change that was sent.
+/// one of them, with a batch that fewer than `2f + 1` have nothing against or that fewer than `f + 1` vouch for, or
+/// below a view change that was sent.
 pub fn new_views_meet_rules()
     ensures selected { TakesWellSelected }
     ensures lower { TakesNoLower }
 {}
 
-/// A request that ran does nothing when it comes again.
+/// A request that ran in a batch does nothing in a later one.
 pub fn requests_run_once()
     ensures once { RunsOnce }
 {}

@@ -1,5 +1,5 @@
 -- Quorums: how many replicas pass a test, and that any two quorums share a correct one (Castro and Liskov, Practical
--- Byzantine fault tolerance and proactive recovery, TOCS 2002, section 4.1).
+-- Byzantine fault tolerance and proactive recovery, TOCS 2002, on quorums and certificates).
 use Rattle.std.specs.Prelude.{◌≡◌, ℕ, zero, suc, ◌+◌, ◌*◌, ◌≤◌, ◌<◌, Bool, true, false, cond, ◌||◌, ◌==◌, List, [], ◌∷◌}
 
 -- How many of the numbers below n pass the test. Replicas are told apart by their numbers, so what is counted is

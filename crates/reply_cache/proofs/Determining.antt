@@ -28,7 +28,9 @@ outcome_same r s h k e =
 pub kept_same : (j k : Kept) → IsKept j → IsKept k → kept_text j ≡ kept_text k → j ≡ k
 kept_same j k f g e =
     let s = number_split j.timestamp k.timestamp _ _ f.timestamp_fits g.timestamp_fits e in
-    let t = number_split j.number k.number _ _ f.number_fits g.number_fits s.1 in
+    let rest = s.1 in
+    let numbers : to_be_bytes w64 j.number ++ outcome_spelling j.outcome ≡ to_be_bytes w64 k.number ++ outcome_spelling k.outcome = cc in
+    let t = number_split j.number k.number _ _ f.number_fits g.number_fits numbers in
     build j.timestamp k.timestamp j.number k.number j.outcome k.outcome s.0 t.0 (outcome_same j.outcome k.outcome f.answer g.answer t.1)
   where
     build : (t u n m : ℕ) (r s : Outcome) → t ≡ u → n ≡ m → r ≡ s → ◌≡◌ {A = Kept} (record { timestamp = t; number = n; outcome = r }) (record { timestamp = u; number = m; outcome = s })

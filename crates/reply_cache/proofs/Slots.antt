@@ -59,6 +59,15 @@ AreSlots_push slots l h = record {
   each = λ client. subst (λ o. IsReply (reply_of o)) (sym (get_or_push_none slots client)) (h.each client);
 }
 
+pub AreReplies-with : (rs : Replies) (client : ℕ) (k : Kept) → AreReplies rs → IsKept k → client < 256 → AreReplies (with_reply rs client k)
+AreReplies-with rs client k h valid l = record {
+  all = omega (arith, length-set rs client (Some k), h.all);
+  each = λ i. elim (cases_eq i client) [
+    | inl same ↦ subst IsReply (sym (ap (λ j. get_or (with_reply rs client k) j None) same ∙ get_or-set_same rs client (Some k) None (omega (arith, h.all)))) valid
+    | inr other ↦ subst IsReply (sym (get_or-set_other rs client i (Some k) None other)) (h.each i)
+  ];
+}
+
 pub padded-set : (slots : List (Option Reply)) (client : ℕ) (r : Reply) → client < length slots → length slots ≤ 256 → padded (set slots client (Some r)) ≡ with_reply (padded slots) client (kept_of r)
 padded-set slots client r within few =
     same_replies (padded (set slots client (Some r))) (with_reply (padded slots) client (kept_of r))
@@ -89,15 +98,6 @@ AreReplies-padded slots h = record {
 pub AreReplies-none : AreReplies no_replies
 unfolding no_replies
 AreReplies-none = record { all = length-replicate {A = Option Kept} 256 None; each = λ client. subst IsReply (sym (get_or-empty 256 client)) tt }
-
-pub AreReplies-with : (rs : Replies) (client : ℕ) (k : Kept) → AreReplies rs → IsKept k → client < 256 → AreReplies (with_reply rs client k)
-AreReplies-with rs client k h valid l = record {
-  all = length-set rs client (Some k) ∙ h.all;
-  each = λ i. elim (cases_eq i client) [
-    | inl same ↦ subst IsReply (sym (ap (λ j. get_or (with_reply rs client k) j None) same ∙ get_or-set_same rs client (Some k) None (omega (arith, h.all)))) valid
-    | inr other ↦ subst IsReply (sym (get_or-set_other rs client i (Some k) None other)) (h.each i)
-  ];
-}
 
 pub AreTuples-from_All : (ts : List TupleTree) → All IsTuple ts → AreTuples ts
 AreTuples-from_All [] h = tt

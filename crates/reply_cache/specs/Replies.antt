@@ -1,6 +1,6 @@
 -- The last reply to each client. Of each client's requests those run whose timestamp is above that of its last reply
--- (Castro and Liskov, Practical Byzantine fault tolerance and proactive recovery, TOCS 2002, on the timestamps of
--- clients).
+-- (Castro and Liskov, Practical Byzantine fault tolerance and proactive recovery, TOCS 2002, on the client and on
+-- normal-case operation).
 use Rattle.std.specs.Prelude.{◌≡◌, ℕ, ◌^◌, ◌≤◌, ◌<◌, List, length, replicate, slice_index_or, slice_set, Option, Some, None}
 use Rattle.std.specs.Option.{option_map_or}
 use Rattle.tuple_codec.specs.Operations.{Outcome, IsOutcome}

@@ -104,7 +104,7 @@ impl ReplyCache {
     }
 
     /// The text of the client's page: empty without a reply, else the timestamp and the number in 8 bytes each, high
-    /// byte first, and the spelling of the answer.
+    /// byte first, and the spelling of the answer. NoMemory where memory runs out.
     pub fn page_text(&self, client: u8) -> Result<Vec<u8>, NoMemory>
         ensures { IfOk result (λ text. text.items ≡ page_text self.now client) }
     {
@@ -119,8 +119,8 @@ impl ReplyCache {
     ///
     /// # Errors
     ///
-    /// Malformed where these are the pages of no replies: a timestamp is 0, an answer isn't spelled, or there are not 256
-    /// texts. Else NoMemory where memory runs out.
+    /// Malformed where these are the pages of no replies: a timestamp is 0, an answer isn't spelled, or there are not
+    /// 256 texts. NoMemory where memory runs out before that is seen.
     pub fn from_pages(alloc: Global, pages: &[&[u8]]) -> Result<ReplyCache, Bad>
         // What is read has these pages.
         ensures found { IfOk result (λ c. ArePages (map (λ page. page.now) pages.now) c) }

@@ -1,6 +1,6 @@
 //! The last reply to each client, by which a replica runs each request at most once and answers one that comes again
-//! (Castro and Liskov, Practical Byzantine fault tolerance and proactive recovery, TOCS 2002, on the timestamps of
-//! clients).
+//! (Castro and Liskov, Practical Byzantine fault tolerance and proactive recovery, TOCS 2002, on the client and on
+//! normal-case operation).
 #![tactic(auto)]
 
 mod cache;

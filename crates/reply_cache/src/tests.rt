@@ -112,7 +112,7 @@ fn too_few_pages(rt: HostRuntime) {
     assert_eq!(rt; is_read(rt.alloc(), &[]), Err(Bad::Malformed));
 }
 
-// Passes whichever allocation is refused, as by `rt try --test --fail-alloc 1..`.
+// Passes whichever allocation is refused, as by `rt try --test --fail-alloc N`.
 #[test]
 fn refusals_change_nothing(rt: HostRuntime) {
     let mut cache = ReplyCache::new(rt.alloc());

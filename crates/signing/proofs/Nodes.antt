@@ -1,10 +1,10 @@
 -- Nodes over their two children, and climbing by one level.
-use Rattle.std.proofs.Common.{◌≡◌, ℕ, zero, suc, ◌/◌, length, ◌+◌, ◌-◌, ◌*◌, ◌^◌, ◌<◌, ◌≢◌, List, ◌++◌, refl, ap, sym, inl, inr, arith, add-one, le_refl, ◌%◌, ◌≤◌}
+use Rattle.std.proofs.Common.{◌≡◌, ℕ, zero, suc, ◌/◌, length, ◌+◌, ◌-◌, ◌*◌, ◌^◌, ◌<◌, List, ◌++◌, refl, ap, sym, inl, inr, arith, add-one, ◌%◌, ◌≤◌, ◌≢◌, ◌∙◌, get_or, set, [], inl, inr, get_or-set_same, get_or-set_other}
 use Rattle.std.specs.Prelude.{◌==◌, if◌then◌else◌}
 use Rattle.std.specs.Int.{bit_at}
 use Rattle.std.proofs.lemmas.Bool.{cases_eq, eq-eqb, ne_eqb}
-use Rattle.std.proofs.lemmas.Nat.{pow-add, shr-shr, shr_below, mul-le}
-use Rattle.std.proofs.Math.Nat.{div-one}
+use Rattle.std.proofs.lemmas.Nat.{pow-add, shr-shr, shr_below}
+use Rattle.std.proofs.Math.Nat.{div-one, pow-le-pow_right}
 use Rattle.sha2.specs.Sha256.{sha256}
 use Rattle.sha2.proofs.Facts256.{length-sha256}
 use Rattle.signing.specs.Merkle.{node, sibling, climbed}
@@ -16,10 +16,6 @@ node-leaf leaves place = refl
 pub node-inner : (leaves : ℕ → List ℕ) (level place : ℕ) → node leaves (level + 1) place ≡ sha256 (node leaves level (2 * place) ++ node leaves level (2 * place + 1))
 unfolding node
 node-inner leaves level place = rw add-one refl
-
--- the leaves below a node are those below its two children
-pub room_below : (level below place : ℕ) → level ≡ below + 1 → (place + 1) * 2 ^ level ≡ (2 * place + 1 + 1) * 2 ^ below
-room_below level below place above = rw (above, pow-add 2 below 1) (omega arith)
 
 module _ (siblings : ℕ → List ℕ) (leaf : ℕ) (digest : List ℕ) where
   pub climbed-leaf : climbed siblings leaf digest 0 ≡ digest
@@ -73,13 +69,65 @@ sibling-lt place half below =
       | inr odd ↦ rw (ne_eqb (place % 2) 0 odd) (omega arith)
     ]
 
--- The leaves below the node beside a leaf's path are among the 64.
-pub sibling_room : (leaf level : ℕ) → leaf < 64 → level < 6 → (sibling (leaf / 2 ^ level) + 1) * 2 ^ level ≤ 64
+-- The place of the node beside a leaf's path is one of its level.
+pub sibling_room : (leaf level : ℕ) → leaf < 64 → level < 6 → sibling (leaf / 2 ^ level) < 2 ^ (6 - level)
 sibling_room leaf level leaf_below level_below =
     let up : 5 - level + 1 + level ≡ 6 = omega arith in
-    let all : 2 ^ (5 - level) * 2 * 2 ^ level ≡ 64 =
-    rw (← pow-add 2 (5 - level) 1, ← pow-add 2 (5 - level + 1) level, up) refl in
+    let here : 6 - level ≡ 5 - level + 1 = omega arith in
     let whole : leaf < 2 ^ (5 - level + 1 + level) = rw up leaf_below in
     let place = rw (pow-add 2 (5 - level) 1) at (shr_below leaf (5 - level + 1) level whole) in
-    let beside : sibling (leaf / 2 ^ level) + 1 ≤ 2 ^ (5 - level) * 2 = omega (arith, sibling-lt (leaf / 2 ^ level) (2 ^ (5 - level)) place) in
-    rw (← all) (mul-le _ _ _ _ beside (le_refl _))
+    rw (here, pow-add 2 (5 - level) 1) (sibling-lt (leaf / 2 ^ level) (2 ^ (5 - level)) place)
+
+-- ---- all nodes, each at its index
+
+-- from 64 on there are leaves alone
+pub leaf_index : (level place : ℕ) → level ≤ 6 → place < 2 ^ (6 - level) → 64 ≤ 2 ^ (6 - level) + place → level ≡ 0
+leaf_index zero place few within high = refl
+leaf_index (suc level) place few within high =
+    let less : 2 ^ (6 - suc level) ≤ 2 ^ 5 = pow-le-pow_right {n = 2} (omega arith) {i = 6 - suc level} {j = 5} (omega arith) in
+    omega (arith, less)
+
+-- so many are a level's nodes
+pub level_width : (level : ℕ) → level ≤ 6 → 64 / 2 ^ level ≡ 2 ^ (6 - level)
+level_width zero few = refl
+level_width (suc zero) few = refl
+level_width (suc (suc zero)) few = refl
+level_width (suc (suc (suc zero))) few = refl
+level_width (suc (suc (suc (suc zero)))) few = refl
+level_width (suc (suc (suc (suc (suc zero))))) few = refl
+level_width (suc (suc (suc (suc (suc (suc zero)))))) few = refl
+level_width (suc (suc (suc (suc (suc (suc (suc level))))))) few = absurd (omega arith)
+
+pub level_narrow : (level : ℕ) → 2 ^ (6 - level) ≤ 64
+level_narrow level = pow-le-pow_right {n = 2} (omega arith) {i = 6 - level} {j = 6} (omega arith)
+
+-- twice as many nodes are a level below
+twice_below : (level : ℕ) → level < 6 → 2 ^ (6 - level) ≡ 2 * 2 ^ (6 - suc level)
+twice_below level few =
+    let up : 6 - level ≡ 6 - suc level + 1 = omega arith in
+    rw (up, pow-add 2 (6 - suc level) 1) (omega arith)
+
+-- One more node over its two children.
+pub nodes_more : (leaves : ℕ → List ℕ) (nodes : List (List ℕ)) (i : ℕ) (digest : List ℕ) → length nodes ≡ 128 → 1 < i → i ≤ 64
+    → digest ≡ sha256 (get_or nodes (2 * (i - 1)) [] ++ get_or nodes (2 * (i - 1) + 1) [])
+    → ((level place : ℕ) → level ≤ 6 → place < 2 ^ (6 - level) → i ≤ 2 ^ (6 - level) + place → get_or nodes (2 ^ (6 - level) + place) [] ≡ node leaves level place)
+    → (level place : ℕ) → level ≤ 6 → place < 2 ^ (6 - level) → i - 1 ≤ 2 ^ (6 - level) + place → get_or (set nodes (i - 1) digest) (2 ^ (6 - level) + place) [] ≡ node leaves level place
+nodes_more leaves nodes i digest whole some most is done level place few within from =
+    elim (cases_eq (2 ^ (6 - level) + place) (i - 1)) [
+      | inl here ↦ rw here (get_or-set_same nodes (i - 1) digest [] (omega (arith, whole)) ∙ is ∙ new level few within here)
+      | inr other ↦ rw (get_or-set_other nodes (i - 1) (2 ^ (6 - level) + place) digest [] other) (done level place few within (omega arith))
+    ]
+  where
+    new : (level : ℕ) → level ≤ 6 → place < 2 ^ (6 - level) → 2 ^ (6 - level) + place ≡ i - 1
+        → sha256 (get_or nodes (2 * (i - 1)) [] ++ get_or nodes (2 * (i - 1) + 1) []) ≡ node leaves level place
+    new zero few within here = absurd (omega arith)
+    new (suc level) few within here =
+        let twice = twice_below level few in
+        let low : 2 * (i - 1) ≡ 2 ^ (6 - level) + 2 * place = omega (arith, twice, here) in
+        let high : 2 * (i - 1) + 1 ≡ 2 ^ (6 - level) + (2 * place + 1) = omega (arith, twice, here) in
+        let left : get_or nodes (2 * (i - 1)) [] ≡ node leaves level (2 * place) =
+        rw low (done level (2 * place) (omega arith) (omega (arith, twice, within)) (omega (arith, low, some))) in
+        let right : get_or nodes (2 * (i - 1) + 1) [] ≡ node leaves level (2 * place + 1) =
+        rw high (done level (2 * place + 1) (omega arith) (omega (arith, twice, within)) (omega (arith, high, some))) in
+        let up : suc level ≡ level + 1 = omega arith in
+        rw (up, node-inner, left, right) refl

@@ -1,4 +1,6 @@
--- What a party hears: the bodies of frames that their senders made, as it can tell (Castro and Liskov, TOCS 2002). View changes and new views count only with a signature that verifies, since others carry them on.
+-- What a party hears: the bodies of frames that their senders made, as it can tell (Castro and Liskov, Practical
+-- Byzantine fault tolerance and proactive recovery, TOCS 2002, on the authentication of messages). View changes and new
+-- views count only with a signature that verifies, since others carry them on.
 use Rattle.std.specs.Prelude.{ℕ, Bool, false, ◌&&◌, if◌then◌else◌, List, Option, Some, None, option_and_then}
 use Rattle.wire.specs.Messages.{BodyData, ProofData, macs, signature, FrameData}
 use Rattle.wire.specs.Spelling.{body_spelling, is_signed}

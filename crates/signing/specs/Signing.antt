@@ -1,14 +1,13 @@
 -- What a signer and a tree of keys keep, apart from where it lies in memory.
-use Rattle.std.specs.Prelude.{◌≡◌, ℕ, ◌<◌, List, [], slice_index_or}
-use Rattle.signing.specs.Lamport.{leaf_digest}
-use Rattle.signing.specs.Signatures.{public_key}
+use Rattle.std.specs.Prelude.{◌≡◌, ℕ, ◌+◌, ◌-◌, ◌^◌, ◌<◌, ◌≤◌, List, [], slice_index_or}
+use Rattle.signing.specs.Merkle.{node}
 
 -- a seed, and how many of its 64 leaves have signed
 pub record SigningState : Type 0 where
   pub seed : List ℕ
   pub used : ℕ
 
--- the digests of the 64 leaves of a seed, and the root over them
-pub record IsTree (seed : List ℕ) (digests : List (List ℕ)) (top : List ℕ) : Type 0 where
-  pub leaves : (leaf : ℕ) → leaf < 64 → slice_index_or digests leaf [] ≡ leaf_digest seed leaf
-  pub root : top ≡ public_key seed
+-- the nodes of all levels over 64 leaves: that of a level and a place is at 2 ^ (6 - level) + place
+abbrev pub HasNodes : (ℕ → List ℕ) → List (List ℕ) → Type 0
+HasNodes leaves nodes =
+    (level place : ℕ) → level ≤ 6 → place < 2 ^ (6 - level) → slice_index_or nodes (2 ^ (6 - level) + place) [] ≡ node leaves level place

@@ -7,7 +7,7 @@ ghost use Rattle.signing.specs.Signatures.{public_key, Verifies};
 ghost use Rattle.wire.specs.Spelling.{SpellsFrame};
 ghost use Rattle.wire.specs.Views.{frame_data, party_number};
 
-use crate::signature::verify_bytes;
+use crate::signature::{is_signature, verify_bytes};
 use crate::tree::KeyTree;
 use authenticator::signing_seed;
 use std::alloc::Global;
@@ -60,12 +60,12 @@ impl PublicKeys {
         key
     }
 
-    /// Whether the bytes are a signature of the text by a replica.
+    /// Whether the bytes are a signature of the text by a replica. For bytes of another form no key is derived.
     pub fn verify(&mut self, signer: Party, text: &[u8], signature: &[u8]) -> bool
         ensures verified { IsTrue result ↔ Verifies (public_key (signing_seed self.old (party_number signer))) text.now signature.now }
         ensures same { self.new ≡ self.old }
     {
-        verify_bytes(&self.public(signer), text, signature)
+        is_signature(signature) && verify_bytes(&self.public(signer), text, signature)
     }
 
     /// Whether the frame, which the bytes spell, has a signature of its body by its sender.

@@ -1,6 +1,6 @@
 //! Signatures, and whether they verify.
 
-ghost use Rattle.std.specs.Prelude.{◌≡◌, ◌↔◌, ◌+◌, ◌<◌, ◌≤◌, ℕ, List, ◌++◌, IfOk, IsTrue, MatchOption, length, slice_index};
+ghost use Rattle.std.specs.Prelude.{◌≡◌, ◌↔◌, ◌+◌, ◌<◌, ◌≤◌, ℕ, List, ◌++◌, IfOk, OnErr, IsTrue, MatchOption, length, slice_index};
 ghost use Rattle.sha2.specs.Hashers.{Holds256};
 ghost use Rattle.sha2.specs.Sha256.{sha256};
 ghost use Rattle.signing.specs.Signatures.{IsSignature, shown_digest, shown_pair, shown_root, Verifies};
@@ -36,9 +36,11 @@ impl Model for Signature {
 }
 
 impl Signature {
-    /// The signature of these bytes, in memory of its own, where they have the length and a leaf from 0 to 63.
+    /// The signature of these bytes, in memory of its own, where they have the length and a leaf from 0 to 63, else
+    /// none. The error is want of memory, which comes only where they are a signature.
     pub fn from_bytes(alloc: Global, bytes: &[u8]) -> Result<Option<Signature>, AllocError>
-        ensures { IfOk result (λ found. MatchOption found (¬ IsSignature bytes.now) (λ s. (s ≡ bytes.now) × IsSignature bytes.now)) }
+        ensures found { IfOk result (λ found. MatchOption found (¬ IsSignature bytes.now) (λ s. (s ≡ bytes.now) × IsSignature bytes.now)) }
+        ensures memory { OnErr result (IsSignature bytes.now) }
     {
         if !is_signature(bytes) {
             return Ok(None);
@@ -85,7 +87,8 @@ pub fn verify_bytes(public: &[u8; 32], text: &[u8], signature: &[u8]) -> bool
     is_signature(signature) && same(&root_shown(signature, text), public)
 }
 
-fn is_signature(bytes: &[u8]) -> bool
+/// Whether the bytes have the length of a signature and a leaf from 0 to 63.
+pub(crate) fn is_signature(bytes: &[u8]) -> bool
     ensures { IsTrue result ↔ IsSignature bytes.now }
 {
     bytes.len() == SIGNATURE_LEN && bytes[0] < LEAVES

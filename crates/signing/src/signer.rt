@@ -13,8 +13,10 @@ use thiserror::Error;
 /// Why nothing was signed.
 #[derive(Clone, Copy, Debug, PartialEq, Eq, Error)]
 pub enum SignFault {
+    /// Each of the 64 leaves has signed once.
     #[error("all 64 keys are spent")]
     KeysSpent,
+    /// There was no room for the signature; no leaf is spent.
     #[error("out of memory")]
     NoMemory,
 }

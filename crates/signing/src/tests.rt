@@ -73,12 +73,17 @@ fn keys_are_spent(rt: HostRuntime) -> Result<(), Fail> {
 // The public key of replica 2 under the seed 00 01 .. 1f, by the same program.
 const PUBLIC_OF_2: &str = "dcff933adeb0d86920aaf05cc53c0b3533f358a52eececea5f9df5aa8b305905";
 
-#[test]
-fn public_keys_of_replicas(rt: HostRuntime) -> Result<(), Fail> {
+fn seed_of_replicas() -> [u8; 32] {
     let mut seed = [0; 32];
     for i in 0..32 {
         seed[i] = i as u8;
     }
+    seed
+}
+
+#[test]
+fn public_keys_of_replicas(rt: HostRuntime) -> Result<(), Fail> {
+    let seed = seed_of_replicas();
     let mut keys = PublicKeys::new(rt.alloc(), &seed);
     assert!(rt; <[u8; 32]>::from_hex(PUBLIC_OF_2).ok() == Some(keys.public(Party::Replica(2))));
     let mut signer = Signer::from_seed(&signing_seed(&seed, Party::Replica(2)));
@@ -101,4 +106,42 @@ fn forms(rt: HostRuntime) -> Result<(), Fail> {
         None => assert!(rt; false),
     }
     Ok(())
+}
+
+// Passes whichever allocation is refused, as by `rt try --test --fail-alloc N`: a second try gives what the first one
+// gives where nothing is refused, by the same leaf.
+#[test]
+fn refusals_change_nothing(rt: HostRuntime) -> Result<(), Fail> {
+    let mut signer = Signer::from_seed(&[0; 32]);
+    let signed = match signer.sign(rt.alloc(), b"a text") {
+        Err(SignFault::NoMemory) => {
+            assert_eq!(rt; signer.used(), 0);
+            signer.sign(rt.alloc(), b"a text")
+        },
+        first => first,
+    };
+    let by_leaf_0 = signed?;
+    assert!(rt; is_digest(&by_leaf_0, BY_LEAF_0));
+    assert_eq!(rt; signer.used(), 1);
+    let tree = KeyTree::new(&[0; 32]);
+    let by_leaf_37 = match tree.sign_with(rt.alloc(), 37, b"a text") {
+        Ok(signature) => signature,
+        Err(_) => tree.sign_with(rt.alloc(), 37, b"a text")?,
+    };
+    assert!(rt; is_digest(&by_leaf_37, BY_LEAF_37));
+    let copied = match Signature::from_bytes(rt.alloc(), by_leaf_37.as_slice()) {
+        Ok(copied) => copied,
+        Err(_) => Signature::from_bytes(rt.alloc(), by_leaf_37.as_slice())?,
+    };
+    assert!(rt; copied.is_some_and(|copy| is_digest(&copy, BY_LEAF_37)));
+    Ok(())
+}
+
+// The same of the public keys: one for which there is no room is derived again.
+#[test]
+fn keys_without_room(rt: HostRuntime) {
+    let mut keys = PublicKeys::new(rt.alloc(), &seed_of_replicas());
+    let expected = <[u8; 32]>::from_hex(PUBLIC_OF_2).ok();
+    assert!(rt; expected == Some(keys.public(Party::Replica(2))));
+    assert!(rt; expected == Some(keys.public(Party::Replica(2))));
 }

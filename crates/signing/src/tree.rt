@@ -1,11 +1,12 @@
 //! The tree of hashes over the leaves of a seed.
 
-ghost use Rattle.std.specs.Prelude.{◌≡◌, ◌+◌, ◌*◌, ◌^◌, ◌<◌, ◌≤◌, ℕ, List, [], ◌++◌, IfOk, OnOk, slice_index_or};
+ghost use Rattle.std.specs.Prelude.{◌≡◌, ◌+◌, ◌-◌, ◌*◌, ◌^◌, ◌<◌, ◌≤◌, ℕ, List, [], ◌++◌, IfOk, OnOk, slice_index_or};
 ghost use Rattle.sha2.specs.Sha256.{sha256};
 ghost use Rattle.signing.specs.Joined.{joined};
 ghost use Rattle.signing.specs.Lamport.{leaf_digest};
-ghost use Rattle.signing.specs.Merkle.{node, sibling};
+ghost use Rattle.signing.specs.Merkle.{sibling};
 ghost use Rattle.signing.specs.Signatures.{public_key, sibling_digest, signature_of, Verifies};
+ghost use Rattle.signing.specs.Signing.{HasNodes};
 
 use crate::secrets::Secrets;
 use crate::signature::{SIGNATURE_LEN, Signature};
@@ -19,23 +20,27 @@ pub const LEAVES: u8 = 64;
 /// The level of the root.
 pub(crate) const LEVELS: u8 = 6;
 
-/// The leaves and the root of a seed. To make it takes some 115,000 blocks of SHA-256.
+/// The place of the first leaf among the nodes.
+const FIRST_LEAF: usize = 64;
+
+/// The nodes over the leaves of a seed. To make them takes some 115,000 blocks of SHA-256.
 #[derive(Drop)]
 pub struct KeyTree {
     secrets: Secrets,
-    digests: [[u8; 32]; 64],
-    root: [u8; 32],
+    // The root is at 1, and the children of the node at `i` are at `2 * i` and `2 * i + 1`. At 0 is none.
+    nodes: [[u8; 32]; 128],
 }
 
 impl Model for KeyTree {
     ghost use Rattle.std.specs.Prelude.{ℕ, List};
-    ghost use Rattle.signing.specs.Signing.{IsTree};
+    ghost use Rattle.signing.specs.Lamport.{leaf_digest};
+    ghost use Rattle.signing.specs.Signing.{HasNodes};
 
     ghost Value = { List ℕ };
 
     ghost view = { λ t. t.secrets };
 
-    ghost invariant = { λ t. IsTree t.secrets t.digests t.root };
+    ghost invariant = { λ t. HasNodes (leaf_digest t.secrets) t.nodes };
 }
 
 impl KeyTree {
@@ -44,24 +49,21 @@ impl KeyTree {
         ensures { result ≡ seed.now }
     {
         let secrets = Secrets::new(seed);
-        let digests = leaf_digests(&secrets);
-        let root = node_at(&digests, LEVELS, 0);
-        KeyTree {
-            secrets,
-            digests,
-            root,
-        }
+        let mut nodes = leaf_nodes(&secrets);
+        join_pairs(&mut nodes);
+        KeyTree { secrets, nodes }
     }
 
     /// The public key, of 32 bytes.
     pub fn public(&self) -> [u8; 32]
         ensures { result ≡ public_key self.now }
     {
-        self.root
+        self.nodes[1]
     }
 
     /// The signature of a text by one leaf, 0 to 63. A leaf that signs two texts gives secrets of both values away: to
-    /// use each once is left to the caller, and a [`Signer`](crate::Signer) does.
+    /// use each once is left to the caller, and a [`Signer`](crate::Signer) does. The error is want of memory for the
+    /// signature's bytes, and then no secret is given away.
     pub fn sign_with(&self, alloc: Global, leaf: u8, text: &[u8]) -> Result<Signature, AllocError>
         requires { leaf < 64 }
         ensures value { IfOk result (λ s. s ≡ signature_of self.now leaf text.now) }
@@ -71,32 +73,37 @@ impl KeyTree {
         let mut bytes = Vec::with_capacity(alloc, SIGNATURE_LEN)?;
         bytes.push(leaf)?;
         self.secrets.push_signed(leaf, &hash, &mut bytes)?;
-        push_path(&self.digests, leaf, &mut bytes)?;
+        push_path(&self.nodes, leaf, &mut bytes)?;
         Ok(Signature::from_vec(bytes))
     }
 }
 
-fn leaf_digests(secrets: &Secrets) -> [[u8; 32]; 64]
-    ensures { (leaf : ℕ) → leaf < 64 → slice_index_or result leaf [] ≡ leaf_digest secrets.now leaf }
+// The leaves at their places, and nothing above them yet.
+fn leaf_nodes(secrets: &Secrets) -> [[u8; 32]; 128]
+    ensures { (leaf : ℕ) → leaf < 64 → slice_index_or result (64 + leaf) [] ≡ leaf_digest secrets.now leaf }
 {
-    let mut digests = [[0; 32]; 64];
+    let mut nodes = [[0; 32]; 128];
     for leaf in 0..LEAVES {
-        digests[leaf as usize] = secrets.leaf_digest(leaf);
+        nodes[FIRST_LEAF + leaf as usize] = secrets.leaf_digest(leaf);
     }
-    digests
+    nodes
 }
 
-// The node at a level and a place, by the leaves below it.
-fn node_at(digests: &[[u8; 32]; 64], level: u8, place: u8) -> [u8; 32]
-    requires { (place + 1) * 2 ^ level ≤ 64 }
-    ensures { (leaves : ℕ → List ℕ) → ((leaf : ℕ) → leaf < 64 → slice_index_or digests.now leaf [] ≡ leaves leaf) → result ≡ node leaves level place }
+// Puts the digests over the leaves in, upwards.
+fn join_pairs(nodes: &mut [[u8; 32]; 128])
+    ensures { (leaves : ℕ → List ℕ) → ((leaf : ℕ) → leaf < 64 → slice_index_or nodes.old (64 + leaf) [] ≡ leaves leaf) → HasNodes leaves nodes.new }
 {
-    if level == 0 {
-        return digests[place as usize];
+    for i in (1..FIRST_LEAF).rev() {
+        nodes[i] = over_children(nodes, i);
     }
-    let left = node_at(digests, level - 1, 2 * place);
-    let right = node_at(digests, level - 1, 2 * place + 1);
-    parent(&left, &right)
+}
+
+// The digest over the children of the node at `i`.
+fn over_children(nodes: &[[u8; 32]; 128], i: usize) -> [u8; 32]
+    requires { i < 64 }
+    ensures { result ≡ sha256 (slice_index_or nodes.now (2 * i) [] ++ slice_index_or nodes.now (2 * i + 1) []) }
+{
+    parent(&nodes[2 * i], &nodes[2 * i + 1])
 }
 
 /// The digest over two nodes.
@@ -110,15 +117,25 @@ pub(crate) fn parent(left: &[u8], right: &[u8]) -> [u8; 32]
 }
 
 // Appends the digests beside a leaf's path, upwards.
-fn push_path(digests: &[[u8; 32]; 64], leaf: u8, bytes: &mut Vec<u8>) -> Result<(), AllocError>
+fn push_path(nodes: &[[u8; 32]; 128], leaf: u8, bytes: &mut Vec<u8>) -> Result<(), AllocError>
     requires { leaf < 64 }
-    ensures { (leaves : ℕ → List ℕ) → ((i : ℕ) → i < 64 → slice_index_or digests.now i [] ≡ leaves i) → OnOk result (bytes.new.items ≡ bytes.old.items ++ joined 6 (sibling_digest leaves leaf)) }
+    ensures { (leaves : ℕ → List ℕ) → HasNodes leaves nodes.now → OnOk result (bytes.new.items ≡ bytes.old.items ++ joined 6 (sibling_digest leaves leaf)) }
 {
     for level in 0..LEVELS {
-        let beside = node_at(digests, level, sibling_of(leaf >> level));
-        bytes.extend_from_slice(&beside)?;
+        let beside = &nodes[node_index(level, sibling_of(leaf >> level))];
+        bytes.extend_from_slice(beside)?;
     }
     Ok(())
+}
+
+// Where the node of a level and a place is among the nodes.
+fn node_index(level: u8, place: u8) -> usize
+    requires level { level ≤ 6 }
+    requires place { place < 2 ^ (6 - level) }
+    ensures value { result ≡ 2 ^ (6 - level) + place }
+    ensures range { result < 128 }
+{
+    (FIRST_LEAF >> level) + place as usize
 }
 
 // The place of the other child of the parent.

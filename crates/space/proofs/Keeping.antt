@@ -30,9 +30,11 @@ IsState-empty = record {
 pub IsNextBirth-birth_of : (s : SpaceState) → length s.entries < 8192 → IsNextBirth s (birth_of s)
 IsNextBirth-birth_of s l =
     let h = paging.has_room s.entries 256 s.next (omega arith) (omega arith) in
+    let not_below = h.not_below in
+    let soon = h.soon in
     record {
-      not_below = h.not_below;
-      soon = h.soon;
+      not_below = omega arith;
+      soon = omega arith;
       room = h.room;
       least = λ n from below. ltb-false (page_count s.entries (n % 256)) 64 (first_passing-least (has_page_room s.entries) 256 s.next n from below);
     }

@@ -1,5 +1,5 @@
--- Birth numbers. Each stored tuple has one, by which it lies on one of 256 pages of at most 64 tuples. A new tuple takes
--- the least number not below the next one whose page has room, so that the order of births is the order of age.
+-- Birth numbers. Each stored tuple has one, by which it lies on one of 256 pages of at most 64 tuples. A new tuple
+-- takes the least number not below the next one whose page has room, so that the order of births is the order of age.
 use Rattle.std.specs.Prelude.{ℕ, zero, suc, ◌+◌, ◌%◌, ◌<◌, ◌≤◌, Bool, List, [], ◌∷◌, ◌++◌, length, map, count_by, All, AllPairs, nat_lt, ◌==◌, is_some, if◌then◌else◌, refl}
 use Rattle.std.specs.Coded.{Coded, code_by, coded×, coded_list, coded_ℕ}
 use Rattle.tuple_tree.specs.Values.{TupleTree, TemplateTree, IsTuple}

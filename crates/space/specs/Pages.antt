@@ -1,6 +1,6 @@
 -- The pages of a space. Page i, 0 to 255, has the tuples whose birth number has the remainder i by 256, in the order of
--- births: each as its birth number in 8 bytes, high byte first, and its spelling. What else a state has stands in a header:
--- a version byte, the number of executed batches and the next birth number, both in 8 bytes.
+-- births: each as its birth number in 8 bytes, high byte first, and its spelling. What else a state has stands in a
+-- header: a version byte, the number of executed batches and the next birth number, both in 8 bytes.
 use Rattle.std.specs.Prelude.{◌≡◌, ℕ, ◌*◌, ◌^◌, ◌≤◌, ◌<◌, ◌%◌, List, [], ◌∷◌, ◌++◌, length, filter, flat_map, slice_index_or, ◌==◌}
 use Rattle.std.specs.Int.{w64, to_be_bytes}
 use Rattle.tuple_codec.specs.Spelling.{tuple_spelling}
@@ -23,7 +23,8 @@ page_text s page = entries_text (on_page page s.entries)
 abbrev pub header_text : SpaceState → ℕ → List ℕ
 header_text s number = 1 ∷ to_be_bytes w64 number ++ to_be_bytes w64 s.next
 
--- A state after so many executed batches: each batch has at most 16 requests, and each request takes at most 256 births.
+-- A state after so many executed batches: each batch has at most 16 requests, and each request takes at most 256
+-- births.
 pub record IsStateAt (s : SpaceState) (number : ℕ) : Type 0 where
   pub state : IsState s
   pub births : s.next ≤ 4096 * number

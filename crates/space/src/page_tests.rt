@@ -57,7 +57,7 @@ fn has_page(space: &Space, page: usize, text: &[u8]) -> bool {
     }
 }
 
-// Passes whichever allocation is refused, as by `rt try --test --fail-alloc 1..`.
+// Passes whichever allocation is refused, as by `rt try --test --fail-alloc N`.
 #[test]
 fn pages_of_a_space(rt: HostRuntime) {
     let mut space = Space::new(rt.alloc());
@@ -68,7 +68,7 @@ fn pages_of_a_space(rt: HostRuntime) {
     assert_eq!(rt; space.header_text(1), *HEADER);
 }
 
-// Page 0 has the births 0 and 256 in their order.
+// Page 1 has the births 1 and 257 in their order.
 #[test]
 fn births_in_order(rt: HostRuntime) {
     let mut space = Space::new(rt.alloc());

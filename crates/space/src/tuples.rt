@@ -83,14 +83,14 @@ impl Space {
         }
     }
 
-    /// The space of a state by the texts of its pages 0 to 255 and its header, and how many batches were executed by the
-    /// header.
+    /// The space of a state by the texts of its pages 0 to 255 and its header, and how many batches were executed by
+    /// the header.
     ///
     /// # Errors
     ///
     /// Malformed where these are those of no state within the limits: births that rise on their page and are below the
-    /// next one, at most 64 tuples on a page and 8,192 in all, each tuple spelled, at most 4,096 births for each executed
-    /// batch, and fewer than 2 to the power of 48 batches. Else NoMemory where memory runs out.
+    /// next one, at most 64 tuples on a page and 8,192 in all, each tuple spelled, at most 4,096 births for each
+    /// executed batch, and fewer than 2 to the power of 48 batches. NoMemory where memory runs out before that is seen.
     pub fn from_pages(alloc: Global, pages: &[&[u8]], header: &[u8]) -> Result<(Space, u64), Bad>
         // What is read has these pages.
         ensures found { IfOk result (λ x. ArePages (map (λ page. page.now) pages.now) header.now x.0 x.1) }
@@ -148,7 +148,7 @@ impl Space {
     }
 
     /// The text of page `page`, 0 to 255: its tuples in the order of births, each as 8 bytes of birth number, high byte
-    /// first, and its spelling. At most 64 * 1,032 bytes.
+    /// first, and its spelling. At most 64 * 1,032 bytes. NoMemory where memory runs out.
     pub fn page_text(&self, page: usize) -> Result<Vec<u8>, NoMemory>
         requires { page < PAGES }
         ensures { IfOk result (λ text. text.items ≡ page_text self.now page) }

@@ -260,7 +260,7 @@ read_whole bs o rest e =
 pub read_is_line : (bs : List ℕ) (o : Operation) (rest : List ℕ) → length bs ≤ 65536 → line (front bs) ≡ got o rest → IsLine o bs
 read_is_line bs o rest p e =
     let w = read_whole bs o rest (ap line (sym (take_all 65536 bs p)) ∙ e) in
-    record { text = w.0; within = w.1; size = p }
+    record { text = w.0; within = w.1; size = omega arith }
 
 keeps_tree : {L : Type 0} → (IsLeaf : L → Type 0) (length_of : L → ℕ) (t : Items L) → IsWithin IsLeaf length_of t → (levels_of t ≤ 8) × KeepsCount t
 keeps_tree IsLeaf length_of t w = (w.levels, (w.fields, are_counted IsLeaf t w.each))
@@ -291,7 +291,7 @@ again_is o (got p rest) w h = ap (λ q. got q rest) h.0 ∙ ap (got o) h.1
 again_is o (stop s rest) w h = absurd (within_exceeds o s w h.0)
 
 pub line_is_read : (bs : List ℕ) (o : Operation) → IsLine o bs → line (front bs) ≡ got o []
-line_is_read bs o h = ap line (take_all 65536 bs h.size) ∙ again_is o (line bs) h.within (line_again o bs h.text)
+line_is_read bs o h = ap line (take_all 65536 bs (let size = h.size in omega arith)) ∙ again_is o (line bs) h.within (line_again o bs h.text)
 
 pub line_reads_only : (bs : List ℕ) (o p : Operation) (rest : List ℕ) → IsLine o bs → line (front bs) ≡ got p rest → p ≡ o
 line_reads_only bs o p rest h e = let g : got p rest ≡ got o [] = sym e ∙ line_is_read bs o h in cc

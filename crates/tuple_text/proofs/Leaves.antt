@@ -38,10 +38,10 @@ given : {V : Type 0} → (x : V) (rest : List ℕ) → Found (Gives x) x rest re
 given x rest = record { passed = []; whole = refl; is = (refl, refl) }
 
 -- what is read as F, and then taken for another value
-pub mapped_right : {V W : Type 0} → (F1 : V → List ℕ → Type 0) (B1 : Limits → List ℕ → Type 0) (F : W → List ℕ → Type 0) (B : Limits → List ℕ → Type 0) (g : V → W) (bs : List ℕ) (x : Read V)
-    → ((c : Limits) (w : List ℕ) → B1 c w → B c w) → ((v : V) (w : List ℕ) → F1 v w → F (g v) w) → RightAs F1 B1 bs x → RightAs F B bs (x >>= λ v rest. got (g v) rest)
-mapped_right F1 B1 F B g bs x k f h =
-    then_right F1 B1 (λ v. Gives (g v)) (λ v c w. ⊥) F B bs x (λ v rest. got (g v) rest) k
+pub mapped_right : {V W : Type 0} → (FirstFound : V → List ℕ → Type 0) (FirstBegins : Limits → List ℕ → Type 0) (F : W → List ℕ → Type 0) (B : Limits → List ℕ → Type 0) (g : V → W) (bs : List ℕ) (x : Read V)
+    → ((c : Limits) (w : List ℕ) → FirstBegins c w → B c w) → ((v : V) (w : List ℕ) → FirstFound v w → F (g v) w) → RightAs FirstFound FirstBegins bs x → RightAs F B bs (x >>= λ v rest. got (g v) rest)
+mapped_right FirstFound FirstBegins F B g bs x k f h =
+    then_right FirstFound FirstBegins (λ v. Gives (g v)) (λ v c w. ⊥) F B bs x (λ v rest. got (g v) rest) k
     (λ v front i w t e. ends_there F (g v) w front t e.0 e.1 (f v front i))
     (λ v front i c t e. absurd e)
     h (λ v rest. given (g v) rest)

@@ -64,35 +64,35 @@ stuck_on B C D E s front bs rest k l h = record {
   decides = decides_on B C D E front k l s h.passed rest h.decides;
 }
 
-pub right_to : {W : Type 0} → (F2 : W → List ℕ → Type 0) (B2 : Limits → List ℕ → Type 0) (D2 : List ℕ → Type 0) (F : W → List ℕ → Type 0) (B : Limits → List ℕ → Type 0) (D : List ℕ → Type 0) (front bs : List ℕ) (y : Read W)
-    → ((w : W) (t : List ℕ) → F2 w t → F w (front ++ t)) → ((c : Limits) (t : List ℕ) → B2 c t → B c (front ++ t)) → ((t : List ℕ) → D2 t → D (front ++ t)) → RightTo F2 B2 D2 bs y → RightTo F B D (front ++ bs) y
-right_to F2 B2 D2 F B D front bs (got v rest) f k l h = record { passed = front ++ h.passed; whole = ap (λ t. front ++ t) h.whole ∙ sym (append_assoc front h.passed rest); is = f v h.passed h.is }
-right_to F2 B2 D2 F B D front bs (stop s rest) f k l h = stuck_on B2 B D2 D s front bs rest k l h
+pub right_to : {W : Type 0} → (NextFound : W → List ℕ → Type 0) (NextBegins : Limits → List ℕ → Type 0) (NextEnds : List ℕ → Type 0) (F : W → List ℕ → Type 0) (B : Limits → List ℕ → Type 0) (D : List ℕ → Type 0) (front bs : List ℕ) (y : Read W)
+    → ((w : W) (t : List ℕ) → NextFound w t → F w (front ++ t)) → ((c : Limits) (t : List ℕ) → NextBegins c t → B c (front ++ t)) → ((t : List ℕ) → NextEnds t → D (front ++ t)) → RightTo NextFound NextBegins NextEnds bs y → RightTo F B D (front ++ bs) y
+right_to NextFound NextBegins NextEnds F B D front bs (got v rest) f k l h = record { passed = front ++ h.passed; whole = ap (λ t. front ++ t) h.whole ∙ sym (append_assoc front h.passed rest); is = f v h.passed h.is }
+right_to NextFound NextBegins NextEnds F B D front bs (stop s rest) f k l h = stuck_on NextBegins B NextEnds D s front bs rest k l h
 
-pub right_on : {W : Type 0} → (F2 : W → List ℕ → Type 0) (B2 : Limits → List ℕ → Type 0) (F : W → List ℕ → Type 0) (B : Limits → List ℕ → Type 0) (front bs : List ℕ) (y : Read W)
-    → ((w : W) (t : List ℕ) → F2 w t → F w (front ++ t)) → ((c : Limits) (t : List ℕ) → B2 c t → B c (front ++ t)) → RightAs F2 B2 bs y → RightAs F B (front ++ bs) y
-right_on F2 B2 F B front bs y f k h = right_to F2 B2 Never F B Never front bs y f k (λ t d. d) h
+pub right_on : {W : Type 0} → (NextFound : W → List ℕ → Type 0) (NextBegins : Limits → List ℕ → Type 0) (F : W → List ℕ → Type 0) (B : Limits → List ℕ → Type 0) (front bs : List ℕ) (y : Read W)
+    → ((w : W) (t : List ℕ) → NextFound w t → F w (front ++ t)) → ((c : Limits) (t : List ℕ) → NextBegins c t → B c (front ++ t)) → RightAs NextFound NextBegins bs y → RightAs F B (front ++ bs) y
+right_on NextFound NextBegins F B front bs y f k h = right_to NextFound NextBegins Never F B Never front bs y f k (λ t d. d) h
 
 -- First r and then f v, of what r gives.
-pub then_to : {V W : Type 0} → (F1 : V → List ℕ → Type 0) (B1 : Limits → List ℕ → Type 0) (D1 : List ℕ → Type 0) (F2 : V → W → List ℕ → Type 0) (B2 : V → Limits → List ℕ → Type 0) (D2 : V → List ℕ → Type 0) (F : W → List ℕ → Type 0) (B : Limits → List ℕ → Type 0) (D : List ℕ → Type 0)
+pub then_to : {V W : Type 0} → (FirstFound : V → List ℕ → Type 0) (FirstBegins : Limits → List ℕ → Type 0) (FirstEnds : List ℕ → Type 0) (NextFound : V → W → List ℕ → Type 0) (NextBegins : V → Limits → List ℕ → Type 0) (NextEnds : V → List ℕ → Type 0) (F : W → List ℕ → Type 0) (B : Limits → List ℕ → Type 0) (D : List ℕ → Type 0)
     → (bs : List ℕ) (x : Read V) (f : V → Reading W)
-    → ((c : Limits) (t : List ℕ) → B1 c t → B c t)
-    → ((t : List ℕ) → D1 t → D t)
-    → ((v : V) (front : List ℕ) → F1 v front → (w : W) (t : List ℕ) → F2 v w t → F w (front ++ t))
-    → ((v : V) (front : List ℕ) → F1 v front → (c : Limits) (t : List ℕ) → B2 v c t → B c (front ++ t))
-    → ((v : V) (front : List ℕ) → F1 v front → (t : List ℕ) → D2 v t → D (front ++ t))
-    → RightTo F1 B1 D1 bs x → ((v : V) (rest : List ℕ) → RightTo (F2 v) (B2 v) (D2 v) rest (f v rest)) → RightTo F B D bs (x >>= f)
-then_to F1 B1 D1 F2 B2 D2 F B D bs (stop s rest) f k1 d1 k2 k3 d2 h r = stuck_on B1 B D1 D s [] bs rest k1 d1 h
-then_to F1 B1 D1 F2 B2 D2 F B D bs (got v rest) f k1 d1 k2 k3 d2 h r =
-    subst (λ t. RightTo F B D t (f v rest)) (sym h.whole) (right_to (F2 v) (B2 v) (D2 v) F B D h.passed rest (f v rest) (k2 v h.passed h.is) (k3 v h.passed h.is) (d2 v h.passed h.is) (r v rest))
+    → ((c : Limits) (t : List ℕ) → FirstBegins c t → B c t)
+    → ((t : List ℕ) → FirstEnds t → D t)
+    → ((v : V) (front : List ℕ) → FirstFound v front → (w : W) (t : List ℕ) → NextFound v w t → F w (front ++ t))
+    → ((v : V) (front : List ℕ) → FirstFound v front → (c : Limits) (t : List ℕ) → NextBegins v c t → B c (front ++ t))
+    → ((v : V) (front : List ℕ) → FirstFound v front → (t : List ℕ) → NextEnds v t → D (front ++ t))
+    → RightTo FirstFound FirstBegins FirstEnds bs x → ((v : V) (rest : List ℕ) → RightTo (NextFound v) (NextBegins v) (NextEnds v) rest (f v rest)) → RightTo F B D bs (x >>= f)
+then_to FirstFound FirstBegins FirstEnds NextFound NextBegins NextEnds F B D bs (stop s rest) f begins_first ends_first found_next begins_next ends_next h r = stuck_on FirstBegins B FirstEnds D s [] bs rest begins_first ends_first h
+then_to FirstFound FirstBegins FirstEnds NextFound NextBegins NextEnds F B D bs (got v rest) f begins_first ends_first found_next begins_next ends_next h r =
+    subst (λ t. RightTo F B D t (f v rest)) (sym h.whole) (right_to (NextFound v) (NextBegins v) (NextEnds v) F B D h.passed rest (f v rest) (found_next v h.passed h.is) (begins_next v h.passed h.is) (ends_next v h.passed h.is) (r v rest))
 
-pub then_right : {V W : Type 0} → (F1 : V → List ℕ → Type 0) (B1 : Limits → List ℕ → Type 0) (F2 : V → W → List ℕ → Type 0) (B2 : V → Limits → List ℕ → Type 0) (F : W → List ℕ → Type 0) (B : Limits → List ℕ → Type 0)
+pub then_right : {V W : Type 0} → (FirstFound : V → List ℕ → Type 0) (FirstBegins : Limits → List ℕ → Type 0) (NextFound : V → W → List ℕ → Type 0) (NextBegins : V → Limits → List ℕ → Type 0) (F : W → List ℕ → Type 0) (B : Limits → List ℕ → Type 0)
     → (bs : List ℕ) (x : Read V) (f : V → Reading W)
-    → ((c : Limits) (t : List ℕ) → B1 c t → B c t)
-    → ((v : V) (front : List ℕ) → F1 v front → (w : W) (t : List ℕ) → F2 v w t → F w (front ++ t))
-    → ((v : V) (front : List ℕ) → F1 v front → (c : Limits) (t : List ℕ) → B2 v c t → B c (front ++ t))
-    → RightAs F1 B1 bs x → ((v : V) (rest : List ℕ) → RightAs (F2 v) (B2 v) rest (f v rest)) → RightAs F B bs (x >>= f)
-then_right F1 B1 F2 B2 F B bs x f k1 k2 k3 h r = then_to F1 B1 Never F2 B2 (λ v. Never) F B Never bs x f k1 (λ t d. d) k2 k3 (λ v front i t d. d) h r
+    → ((c : Limits) (t : List ℕ) → FirstBegins c t → B c t)
+    → ((v : V) (front : List ℕ) → FirstFound v front → (w : W) (t : List ℕ) → NextFound v w t → F w (front ++ t))
+    → ((v : V) (front : List ℕ) → FirstFound v front → (c : Limits) (t : List ℕ) → NextBegins v c t → B c (front ++ t))
+    → RightAs FirstFound FirstBegins bs x → ((v : V) (rest : List ℕ) → RightAs (NextFound v) (NextBegins v) rest (f v rest)) → RightAs F B bs (x >>= f)
+then_right FirstFound FirstBegins NextFound NextBegins F B bs x f begins_first found_next begins_next h r = then_to FirstFound FirstBegins Never NextFound NextBegins (λ v. Never) F B Never bs x f begins_first (λ t d. d) found_next begins_next (λ v front i t d. d) h r
 
 pub nothing_passed : (B : Limits → List ℕ → Type 0) (D : List ℕ → Type 0) (bs : List ℕ) → B both [] → StuckAt B D BadByte bs bs
 nothing_passed B D bs b = record { passed = []; whole = refl; begins = b; decides = tt }

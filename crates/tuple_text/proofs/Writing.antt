@@ -19,7 +19,7 @@ module _ {L : Type 0} (leaf_text : L → List ℕ) where
     pub more_is_text : (xs : Items L) → MoreText leaf_text xs (more_written leaf_text xs)
     more_is_text none = tt
     more_is_text (item x xs) =
-        (32 ∷ [], item_written leaf_text x, more_written leaf_text xs, refl, (omega arith, (refl, tt)), item_is_text x, more_is_text xs)
+        (32 ∷ [], item_written leaf_text x, more_written leaf_text xs, cc, (omega arith, (refl, tt)), item_is_text x, more_is_text xs)
 
 -- What was kept before a blank and one more item is kept behind them.
 pub kept_behind : (n m : ℕ) (a b c d : List ℕ) (x : ℕ) → n ≡ length a → take n b ≡ a → c ≡ b ++ x ∷ [] → m ≡ length c → take m d ≡ c → take n d ≡ a

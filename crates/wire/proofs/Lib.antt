@@ -5,6 +5,7 @@ pub mod Plain
 pub mod Carriers
 pub mod Limits
 pub mod Steps
+pub mod Skipping
 pub mod Appending
 pub mod Lengths
 pub mod Carrying

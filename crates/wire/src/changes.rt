@@ -2,7 +2,9 @@
 
 ghost use Rattle.std.specs.Prelude.{◌≡◌, ◌+◌, ◌-◌, ◌<◌, ◌≤◌, length, map, []};
 ghost use Rattle.tuple_codec.specs.Gives.{Yields};
+ghost use Rattle.tuple_codec.specs.Reading.{rest_of};
 ghost use Rattle.wire.specs.Gives.{Gives};
+ghost use Rattle.wire.specs.Lists.{listed};
 ghost use Rattle.wire.specs.Orders.{order_of};
 ghost use Rattle.wire.specs.Views.{mark_data, claim_data, view_change_data};
 ghost use Rattle.wire.specs.Spelling.{mark_before, bytes_before};
@@ -17,6 +19,9 @@ use std::alloc::Global;
 /// The most checkpoints of a view change.
 const MAX_MARKS: u8 = 3;
 
+/// The length of a claim, in bytes.
+const CLAIM_LEN: usize = 48;
+
 /// How the batches of a list ascend.
 #[derive(Clone, Copy)]
 enum ClaimOrder {
@@ -24,6 +29,7 @@ enum ClaimOrder {
     NumberAndDigest,
 }
 
+/// The view change whose fields are at the front, and the rest.
 #[tactic(auto, unfolding(crate::specs::Reading::view_change_at))]
 pub fn read_view_change(alloc: Global, bytes: &[u8]) -> Result<(ViewChange, &[u8]), WireFault>
     ensures { Gives (λ x. (view_change_data x.0, x.1.now)) result (view_change_at bytes.now) }
@@ -82,7 +88,7 @@ fn read_marks(alloc: Global, bytes: &[u8]) -> Result<(Vec<Mark>, &[u8]), WireFau
     if count > MAX_MARKS {
         return Err(WireFault::Malformed);
     }
-    let mut marks = Vec::new(alloc);
+    let mut marks = Vec::with_capacity(alloc, count as usize)?;
     let mut rest = front;
     for _i in 0..count {
         let Some((mark, after)) = read_mark(rest) else {
@@ -108,7 +114,11 @@ fn read_claims(
     let Some((count, front)) = read_u16(bytes) else {
         return Err(WireFault::Malformed);
     };
-    let mut claims = Vec::new(alloc);
+    // So a count without its claims takes no memory.
+    if front.len() < CLAIM_LEN * count as usize {
+        return Err(WireFault::Malformed);
+    }
+    let mut claims = Vec::with_capacity(alloc, count as usize)?;
     let mut rest = front;
     for _i in 0..count {
         let Some((claim, after)) = read_claim(rest) else {
@@ -142,6 +152,74 @@ fn is_next_claim(claims: &[Claim], claim: &Claim, order: ClaimOrder) -> bool
         return true;
     }
     comes_before(&claims[claims.len() - 1], claim, order)
+}
+
+/// What follows a view change at the front. Takes no memory.
+pub fn skip_view_change(bytes: &[u8]) -> Option<&[u8]>
+    ensures { Yields (λ rest. rest.now) result (rest_of (view_change_at bytes.now)) }
+{
+    let (_view, rest) = read_u64(bytes)?;
+    let (_low, rest) = read_u64(rest)?;
+    let rest = skip_marks(rest)?;
+    let rest = skip_claims(rest, ClaimOrder::Number)?;
+    skip_claims(rest, ClaimOrder::NumberAndDigest)
+}
+
+fn skip_marks(bytes: &[u8]) -> Option<&[u8]>
+    ensures { Yields (λ rest. rest.now) result (rest_of (marks_at bytes.now)) }
+{
+    let (count, front) = read_byte(bytes)?;
+    if count > MAX_MARKS {
+        return None;
+    }
+    let mut last = None;
+    let mut rest = front;
+    for _i in 0..count {
+        let (mark, after) = read_mark(rest)?;
+        if !mark_comes_next(last, &mark) {
+            return None;
+        }
+        last = Some(mark);
+        rest = after;
+    }
+    Some(rest)
+}
+
+fn skip_claims(bytes: &[u8], order: ClaimOrder) -> Option<&[u8]>
+    ensures { Yields (λ rest. rest.now) result (rest_of (claims_at (order_of order) bytes.now)) }
+{
+    let (count, front) = read_u16(bytes)?;
+    let mut last = None;
+    let mut rest = front;
+    for _i in 0..count {
+        let (claim, after) = read_claim(rest)?;
+        if !claim_comes_next(last, &claim, order) {
+            return None;
+        }
+        last = Some(claim);
+        rest = after;
+    }
+    Some(rest)
+}
+
+// Whether the mark comes after the last one.
+fn mark_comes_next(last: Option<Mark>, mark: &Mark) -> bool
+    ensures { result ≡ follows mark_before (listed mark_data last) (mark_data mark.now) }
+{
+    match last {
+        Some(last) => last.number.0 < mark.number.0,
+        None => true,
+    }
+}
+
+// Whether the claim comes after the last one.
+fn claim_comes_next(last: Option<Claim>, claim: &Claim, order: ClaimOrder) -> bool
+    ensures { result ≡ follows (order_of order) (listed claim_data last) (claim_data claim.now) }
+{
+    match last {
+        Some(last) => comes_before(&last, claim, order),
+        None => true,
+    }
 }
 
 fn comes_before(a: &Claim, b: &Claim, order: ClaimOrder) -> bool

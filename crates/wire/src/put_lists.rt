@@ -10,6 +10,7 @@ use crate::messages::{Batch, Claim, Mark, NewView, ViewChange};
 use crate::put::{put_piece, put_u16, put_u64};
 use tuple_tree::NoMemory;
 
+/// Appends the fields of the view change.
 pub fn put_view_change(change: &ViewChange, out: &mut Vec<u8>) -> Result<(), NoMemory>
     requires { ViewChangeFits (view_change_data change.now) }
     ensures { OnOk result (out.new.items ≡ out.old.items ++ view_change_spelling (view_change_data change.now)) }
@@ -58,6 +59,7 @@ fn put_claims(claims: &[Claim], out: &mut Vec<u8>) -> Result<(), NoMemory>
     Ok(())
 }
 
+/// Appends the fields of the new view.
 pub fn put_new_view(new_view: &NewView, out: &mut Vec<u8>) -> Result<(), NoMemory>
     requires { NewViewFits (new_view_data new_view.now) }
     ensures { OnOk result (out.new.items ≡ out.old.items ++ new_view_spelling (new_view_data new_view.now)) }

@@ -4,13 +4,14 @@ ghost use Rattle.std.specs.Prelude.{◌≡◌, ◌≤◌, false, IfOk};
 ghost use Rattle.wire.specs.Spelling.{IsBody, is_signed};
 ghost use Rattle.wire.specs.Views.{body_data, message_data};
 
-use super::{OpenFault, Ring};
+use super::{OpenFault, Ring, SealFault};
 use hex::FromHex;
 use sha2::{Digest, Sha256};
 use std::alloc::Global;
 use std::test::Fail;
-use tuple_codec::decode_op;
-use wire::{Body, ClientId, Message, Mode, Party, Request, Timestamp};
+use tuple_codec::{Bad, Op, decode_op};
+use tuple_tree::{Atom, Value};
+use wire::{Body, ClientId, Frame, Message, Mode, Party, Proof, ReceiverMac, Request, Timestamp};
 
 const REPLICAS: [Party; 4] = [
     Party::Replica(0),
@@ -29,7 +30,7 @@ fn client(number: u16) -> Party
 }
 
 // out (1), with timestamp 1
-fn request(alloc: Global, sender: Party) -> Result<Body, Fail>
+fn request(alloc: Global, sender: Party) -> Result<Body, Bad>
     ensures { IfOk result (λ b. IsBody (body_data b) × (is_signed (message_data b.message) ≡ false)) }
 {
     let (op, _) = decode_op(alloc, b"\x21\x01\x01\0\0\0\0\0\0\0\x01")?;
@@ -128,5 +129,77 @@ fn signed_frames_open(rt: HostRuntime) -> Result<(), Fail> {
     frame[6] = 4;
     let fault = refusal(&mut ring, rt.alloc(), &frame, Party::Replica(0));
     assert!(rt; fault == Some(OpenFault::UnknownSender));
+    Ok(())
+}
+
+// Whether they are those of replicas 0 to 3, and the bytes have the same MACs.
+fn has_entries(bytes: &[u8], entries: &[ReceiverMac]) -> bool {
+    for (i, entry) in entries.iter().enumerate() {
+        if i >= 4 || entry.receiver.number() != i as u16 {
+            return false;
+        }
+        if bytes.get(31 + 34 * i..63 + 34 * i) != Some(entry.mac.as_slice()) {
+            return false;
+        }
+    }
+    entries.len() == 4
+}
+
+// Whether it is out (1) by client 0, with timestamp 1, and has the MACs of the bytes.
+fn is_request(bytes: &[u8], frame: &Frame) -> bool {
+    let asked = match &frame.body.message {
+        Message::Request(request) => {
+            request.timestamp.0 == 1
+                && matches!(&request.mode, Mode::Ordered)
+                && matches!(&request.op, Op::Out(tuple)
+                    if tuple.len() == 1 && matches!(tuple.get(0), Some(Value::Atom(Atom::Number(1)))))
+        },
+        _ => false,
+    };
+    let proved = match &frame.proof {
+        Proof::Macs(entries) => has_entries(bytes, entries),
+        Proof::Signature(_) => false,
+    };
+    asked && proved && frame.body.sender.number() == 256
+}
+
+// Python's hmac, as in the tests of rings.
+const FROM_0_TO_1: &str = "bb385012ad7460aca8e6ee6dd2385cbd6c73b00b475e505f35d617983dd55e1e";
+
+// Whether the ring still has its seed and its parties.
+fn is_as_before(ring: &mut Ring, body: &Body) -> bool {
+    let code = ring.mac(0, 1, b"a body");
+    ring.has_sender(body) && <[u8; 32]>::from_hex(FROM_0_TO_1).ok() == Some(code)
+}
+
+// Passes whichever allocation is refused, as by `rt try --test --fail-alloc N`: a second try gives what the first one
+// gives where nothing is refused.
+#[test]
+fn refusals_change_nothing(rt: HostRuntime) -> Result<(), Fail> {
+    let mut ring = ring(rt.alloc());
+    let body = match request(rt.alloc(), client(0)) {
+        Ok(body) => body,
+        Err(_) => request(rt.alloc(), client(0))?,
+    };
+    let sealed = match ring.seal(rt.alloc(), &body, &REPLICAS) {
+        Err(SealFault::NoMemory) => {
+            assert!(rt; is_as_before(&mut ring, &body));
+            ring.seal(rt.alloc(), &body, &REPLICAS)
+        },
+        first => first,
+    };
+    let frame = sealed?;
+    assert!(rt; <[u8; 32]>::from_hex(SEALED).ok() == Some(Sha256::digest(frame.as_slice())));
+    for replica in REPLICAS {
+        let opened = match ring.open(rt.alloc(), &frame, replica) {
+            Err(OpenFault::NoMemory) => {
+                assert!(rt; is_as_before(&mut ring, &body));
+                ring.open(rt.alloc(), &frame, replica)
+            },
+            first => first,
+        };
+        assert!(rt; is_request(&frame, &opened?.frame));
+    }
+    assert!(rt; is_as_before(&mut ring, &body));
     Ok(())
 }

@@ -2,4 +2,4 @@ use Rattle.protocol.proofs.Whole
 use Rattle.protocol.proofs.points_are_linear.Goals as goal
 
 pub returns : goal.returns
-returns c = record { linear = Whole.points_are_linear }
+returns c = record { points = Whole.points_are_linear; linear = Whole.runs_are_linear }

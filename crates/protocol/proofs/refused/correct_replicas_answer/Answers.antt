@@ -1,5 +1,5 @@
-use Rattle.protocol.proofs.Refusing
+use Rattle.protocol.proofs.RefusingOwed
 use Rattle.protocol.proofs.refused.correct_replicas_answer.Goals as goal
 
 pub returns : goal.returns
-returns c = record { reads = Refusing.answers_reads; replies = Refusing.drops_replies; view_changes = Refusing.drops_own_change }
+returns c = record { reads = RefusingOwed.answers_reads; digests = RefusingOwed.answers_digest_fetches; pages = RefusingOwed.answers_page_fetches; again = RefusingOwed.answers_again; ran = RefusingOwed.answers_ran }

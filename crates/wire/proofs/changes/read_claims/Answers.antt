@@ -3,7 +3,11 @@ use Rattle.wire.specs.Orders.{order_of}
 use Rattle.wire.specs.Views.{claim_data}
 use Rattle.wire.specs.Reading.{follows, claim_at}
 use Rattle.wire.proofs.Steps.{goes_on, none_comes, out_of_order, claims_from}
+use Rattle.wire.proofs.Skipping.{claims_short}
 use Rattle.wire.proofs.changes.read_claims.Goals as goal
+
+pub returns-then-front-count : goal.returns-then-front-count
+returns-then-front-count c = claims_short (order_of c.args.order) c.args.bytes.now c.in-Some.front.now c.in-Some.count (λ i. omega (arith, c.type_inv.bytes i)) c.in-Some.ensures (omega arith)
 
 pub returns-in_default-read_claim : goal.returns-in_default-read_claim
 returns-in_default-read_claim c =

@@ -9,7 +9,7 @@ pub returns-in-Macs-clause-value : goal.returns-in-Macs-clause-value
 returns-in-Macs-clause-value c =
     let body = body_data c.args.frame.now.body in
     let text : c.body_bytes.result.now ≡ body_spelling body =
-    c.body_bytes.ensures (body_spelling body) (proof_spelling (proof_data c.args.frame.now.proof)) (body-short c.args.bytes.now (frame_data c.args.frame.now) c.requires) c.requires.spelled in
+    c.body_bytes.ensures.text (body_spelling body) (proof_spelling (proof_data c.args.frame.now.proof)) (body-short c.args.bytes.now (frame_data c.args.frame.now) c.requires) c.requires.spelled in
     let mac : c.mac-mac.result ≡ mac_of c.args.self.now.seed c.args.party body = rw (c.mac-mac.ensures.code, text, c.number-sender.ensures) in
     c.has_mac.ensures
     ∙ ap (λ es. has_mac c.args.party c.mac-mac.result (map mac_data es)) c.deref.ensures.0

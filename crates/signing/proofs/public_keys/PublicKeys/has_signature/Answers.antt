@@ -13,7 +13,7 @@ returns-in-Signature-clause-signed c =
     let body = body_data c.args.frame.now.body in
     let public = public_key (signing_seed c.args.self.now (party_number c.args.frame.now.body.sender)) in
     let text : c.body_bytes.result.now ≡ body_spelling body =
-    c.body_bytes.ensures (body_spelling body) (proof_spelling (proof_data c.args.frame.now.proof)) (body-short c.args.bytes.now (frame_data c.args.frame.now) c.requires) c.requires.spelled in
+    c.body_bytes.ensures.text (body_spelling body) (proof_spelling (proof_data c.args.frame.now.proof)) (body-short c.args.bytes.now (frame_data c.args.frame.now) c.requires) c.requires.spelled in
     let tested : c.verify.result ≡ verifies public c.body_bytes.result.now c.deref.result.now =
     same_from_decides c.verify.result (verifies public c.body_bytes.result.now c.deref.result.now) c.verify.ensures.verified (verifies-Decides public c.body_bytes.result.now c.deref.result.now) in
     tested

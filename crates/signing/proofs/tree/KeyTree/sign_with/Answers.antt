@@ -8,7 +8,7 @@ use Rattle.signing.proofs.tree.KeyTree.sign_with.Goals as goal
 pub from_vec-requires : goal.from_vec-requires
 from_vec-requires c =
     let first = pushed _ c.in_ok-bytes.ensures.items c.in_ok-push.was c.push.ensures.items in
-    let third = c.in_ok-push_path.ensures (leaf_digest c.self.inside.secrets) c.self.invariant.leaves in
+    let third = c.in_ok-push_path.ensures (leaf_digest c.self.inside.secrets) c.self.invariant in
     let made : c.push_path.new.bytes.items ≡ signature_of c.self.inside.secrets c.args.leaf c.args.text.now =
     signature_of-appended _ _ _ _ _ _ _ c.digest-hash.ensures first c.in_ok-push_signed.ensures third in
     rw made (signature_of-verifies c.self.inside.secrets c.args.text.now c.args.leaf c.requires).formed
@@ -16,7 +16,7 @@ from_vec-requires c =
 pub returns-clause-value : goal.returns-clause-value
 returns-clause-value c =
     let first = pushed _ c.in_ok-bytes.ensures.items c.in_ok-push.was c.push.ensures.items in
-    let third = c.in_ok-push_path.ensures (leaf_digest c.self.inside.secrets) c.self.invariant.leaves in
+    let third = c.in_ok-push_path.ensures (leaf_digest c.self.inside.secrets) c.self.invariant in
     let made : c.push_path.new.bytes.items ≡ signature_of c.self.inside.secrets c.args.leaf c.args.text.now =
     signature_of-appended _ _ _ _ _ _ _ c.digest-hash.ensures first c.in_ok-push_signed.ensures third in
     rw (← c.self.view_is) (c.from_vec.ensures ∙ made)

@@ -1,0 +1,5 @@
+use Rattle.protocol.proofs.Refusing
+use Rattle.protocol.proofs.refused.right_primaries_propose.Goals as goal
+
+pub returns : goal.returns
+returns c = record { primaries = Refusing.pre_prepares_as_primary; marks = Refusing.pre_prepares_in_marks; active = Refusing.no_pre_prepare_after_change; once = Refusing.one_pre_prepare; requests = Refusing.proposes_authentic; new_views = Refusing.begins_as_primary }

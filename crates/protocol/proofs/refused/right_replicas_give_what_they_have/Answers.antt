@@ -1,0 +1,6 @@
+use Rattle.protocol.proofs.Refusing
+use Rattle.protocol.proofs.RefusingReplies
+use Rattle.protocol.proofs.refused.right_replicas_give_what_they_have.Goals as goal
+
+pub returns : goal.returns
+returns c = record { digests = Refusing.gives_kept_digests; pages = Refusing.gives_kept_pages; asked_digests = Refusing.gives_asked_digests; asked_pages = Refusing.gives_asked_pages; replies = Refusing.replies_what_ran; replies_executed = RefusingReplies.replies_of_executed }

@@ -1,0 +1,5 @@
+use Rattle.protocol.proofs.RefusingChanges
+use Rattle.protocol.proofs.refused_changes.right_replicas_change_upwards.Goals as goal
+
+pub returns : goal.returns
+returns c = record { views = RefusingChanges.changes_above_view; earlier = RefusingChanges.changes_above_earlier; numbers = RefusingChanges.changes_to_numbers; prepared_marks = RefusingChanges.claims_prepared_in_marks; proposed_marks = RefusingChanges.claims_proposed_in_marks; ascending = RefusingChanges.claims_ascend; differing = RefusingChanges.claims_differ; again = RefusingChanges.changes_again_last }

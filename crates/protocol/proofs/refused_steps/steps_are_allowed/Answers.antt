@@ -1,0 +1,5 @@
+use Rattle.protocol.proofs.RefusingStepsAllowed
+use Rattle.protocol.proofs.refused_steps.steps_are_allowed.Goals as goal
+
+pub returns : goal.returns
+returns c = record { inputs = RefusingStepsAllowed.feeds_what_may_be_fed; frames = RefusingStepsAllowed.feeds_what_may_be_made }

@@ -1,9 +1,0 @@
-use Rattle.std.proofs.Common.{◌≡◌, ◌<◌, ℕ, [], get_or, length}
-use Rattle.signing.specs.Lamport.{leaf_digest}
-use Rattle.signing.proofs.tree.leaf_digests.Given as goal
-
-abbrev pub invariant-loop-leaf : goal.invariant-loop-leaf
-invariant-loop-leaf l = record {
-  whole : length l.digests ≡ 64;
-  done : (leaf : ℕ) → leaf < l.leaf → get_or l.digests leaf [] ≡ leaf_digest l.secrets leaf;
-}
