@@ -21,3 +21,5 @@ pub mod ExamplesOfAnswers
 pub mod RefusedMarks
 pub mod RefusedKept
 pub mod RefusedSteps
+pub mod Clients
+pub mod Stopping

@@ -1,0 +1,36 @@
+-- What counts at a client, and where a client that goes on gives nothing.
+use Rattle.std.specs.Prelude.{◌≡◌, ◌≢◌, ℕ, ◌+◌, ◌*◌, ◌≤◌, ◌<◌, ◌⊎◌, Bool, true, false, List, [], ◌∷◌, Some, None}
+use Rattle.tuple_codec.specs.Operations.{Operation, Outcome}
+use Rattle.quorum.specs.Quorum.{count_below}
+use Rattle.protocol.specs.Configuration.{Configuration, replicas}
+use Rattle.wire.specs.declared.terms.Mode.{Mode}
+use Rattle.wire.specs.declared.terms.Mode.TheVariants as modes
+use Rattle.wire.specs.Messages.{reply as Reply}
+use Rattle.protocol.specs.Frames.{heard, reads_only}
+use Rattle.protocol.specs.Trace.{Entry, Once, Hears}
+use Rattle.protocol.specs.Trace.Entry.{Invoke, Got, Tick}
+use Rattle.protocol.specs.RightClient.{OpenCall, open_call, latest, is_same_answer, count_alike, IsClient, IsWeakClient}
+use Rattle.protocol.specs.RefusedRuns.{going_on, AreOutputs, AsksOrdered, IsAnyClient}
+
+-- ---- the replies that count
+
+-- A reply that is heard, of either mode, and is not its sender's latest of that mode, as one behind an earlier reply.
+abbrev pub HeardIsLatest : Type 0
+HeardIsLatest =
+    (c : Configuration) (me s timestamp number : ℕ) (mode : Mode) (answer : Outcome) (bytes : List ℕ) (past : List Entry)
+    → heard c me bytes ≡ Some (record { sender = s; message = Reply me timestamp mode number answer })
+    → latest c me (Got me bytes ∷ past) timestamp (reads_only mode) s ≡ Some (record { read_only = reads_only mode; number = number; answer = answer })
+
+-- An entry that is no call and brings no reply of a replica in a mode, behind which its latest of that mode is another.
+abbrev pub LatestStays : Type 0
+LatestStays =
+    (c : Configuration) (me s timestamp : ℕ) (mode : Mode) (e : Entry) (past : List Entry)
+    → ((k t : ℕ) (op : Operation) → e ≢ Invoke k t op)
+    → ((number : ℕ) (answer : Outcome) → Hears c me (record { sender = s; message = Reply me timestamp mode number answer }) past e → ⊥)
+    → latest c me (e ∷ past) timestamp (reads_only mode) s ≡ latest c me past timestamp (reads_only mode) s
+
+-- A reply that was got before the call, and counts for it.
+abbrev pub CallsForget : Type 0
+CallsForget =
+    (c : Configuration) (me s k timestamp : ℕ) (read_only : Bool) (op : Operation) (past : List Entry)
+    → latest c me (Invoke k timestamp op ∷ past) timestamp read_only s ≡ None

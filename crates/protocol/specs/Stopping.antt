@@ -1,0 +1,36 @@
+-- A party may stop: behind any history of a correct one, it takes inputs and gives no output.
+use Rattle.std.specs.Prelude.{◌≡◌, ℕ, suc, ◌+◌, List, ◌∷◌, None}
+use Rattle.tuple_codec.specs.Operations.{Operation, IsOperation}
+use Rattle.protocol.specs.Configuration.{Configuration}
+use Rattle.protocol.specs.Trace.{Entry}
+use Rattle.protocol.specs.Trace.Entry.{Invoke, Got, Tick}
+use Rattle.protocol.specs.RightReplica.{SafeReplica}
+use Rattle.protocol.specs.RightClient.{last_call, open_call, IsClient, IsWeakClient}
+use Rattle.protocol.specs.Owed.{IsReplica}
+
+-- the party gets a frame, or has a tick
+abbrev pub TakesInputs : ℕ → (List Entry → Type 0) → List Entry → Type 0
+TakesInputs me Is past = ((bytes : List ℕ) → Is (Got me bytes ∷ past)) × Is (Tick me ∷ past)
+
+-- the client calls, where no call is open
+abbrev pub TakesCalls : ℕ → (List Entry → Type 0) → List Entry → Type 0
+TakesCalls me Is past =
+    (k : ℕ) (op : Operation) → me ≡ 256 + k → open_call past ≡ None → IsOperation op → Is (Invoke k (suc (last_call past)) op ∷ past)
+
+-- A replica that is no longer correct, or safe, once it gives nothing at an input.
+abbrev pub ReplicasMayStop : Type 0
+ReplicasMayStop = (c : Configuration) (me : ℕ) (past : List Entry) → IsReplica c me past → TakesInputs me (IsReplica c me) past
+
+abbrev pub SafeReplicasMayStop : Type 0
+SafeReplicasMayStop = (c : Configuration) (me : ℕ) (past : List Entry) → SafeReplica c me past → TakesInputs me (SafeReplica c me) past
+
+-- The same of a client, at a call too.
+abbrev pub ClientsMayStop : Type 0
+ClientsMayStop =
+    (c : Configuration) (me : ℕ) (past : List Entry)
+    → IsClient c me past → TakesInputs me (IsClient c me) past × TakesCalls me (IsClient c me) past
+
+abbrev pub WeakClientsMayStop : Type 0
+WeakClientsMayStop =
+    (c : Configuration) (me : ℕ) (past : List Entry)
+    → IsWeakClient c me past → TakesInputs me (IsWeakClient c me) past × TakesCalls me (IsWeakClient c me) past
