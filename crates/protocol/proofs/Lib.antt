@@ -74,3 +74,4 @@ pub mod RefusingStepsAllowed
 pub mod RefusingStepsSigned
 pub mod Stopping
 pub mod Counted
+pub mod Waiting

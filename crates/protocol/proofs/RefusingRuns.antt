@@ -51,7 +51,7 @@ collect c me react (e ∷ outputs) given rest are h =
     (when_true (is_output e) (Reacts c me react (e ∷ given) (outputs ++ rest)) (MayInput (outputs ++ rest) e × IsReaction c me (react (e ∷ outputs ++ rest)) given × Reacts c me react [] (outputs ++ rest)) are.0 h.1)
 
 -- what a client that goes on gave in an event is what it was to give
-gave : (c : Configuration) (me : ℕ) (react : List Entry → Reaction) (later : List ℕ) (outputs : List Entry) (input : Entry) (past : List Entry) → is_output input ≡ false → AreOutputs outputs
+pub gave : (c : Configuration) (me : ℕ) (react : List Entry → Reaction) (later : List ℕ) (outputs : List Entry) (input : Entry) (past : List Entry) → is_output input ≡ false → AreOutputs outputs
     → IsClientBy c me react (going_on me later outputs input past) → IsReaction c me (react (input ∷ past)) (reverse outputs)
 gave c me react later outputs input past is are (inl h) =
     let event = collect c me react outputs [] (input ∷ past) are h.1.1.2 in
@@ -68,10 +68,10 @@ asks_only c me call r outputs is h =
     let k = subst (λ (x : Reaction). IsReaction c me x (reverse outputs)) is h in
     (k.0, sym (reverse-reverse outputs) ∙ ap reverse k.1, k.2.says)
 
-abbrev vote_in : Mode → ℕ → Outcome → Vote
+abbrev pub vote_in : Mode → ℕ → Outcome → Vote
 vote_in mode number answer = record { read_only = reads_only mode; number = number; answer = answer }
 
-brings : (c : Configuration) (me s t number : ℕ) (mode : Mode) (answer : Outcome) (bytes : List ℕ) (past : List Entry) → heard c me bytes ≡ Some (record { sender = s; message = Reply me t mode number answer })
+pub brings : (c : Configuration) (me s t number : ℕ) (mode : Mode) (answer : Outcome) (bytes : List ℕ) (past : List Entry) → heard c me bytes ≡ Some (record { sender = s; message = Reply me t mode number answer })
     → newest_vote c me (Got me bytes ∷ past) t ≡ Some (vote_in mode number answer)
 brings c me s t number mode answer bytes past hears = rw hears (rw (eq-eqb s s refl, eq-eqb me me refl, eq-eqb t t refl) refl)
 
@@ -302,7 +302,7 @@ weakly_asks_ordered c me timestamp mode op bytes past says h =
 
 -- ---- runs
 
-always_behind : (P : List Entry → Entry → Type 0) (later xs : List Entry) → Always P (later ++ xs) → Always P xs
+pub always_behind : (P : List Entry → Entry → Type 0) (later xs : List Entry) → Always P (later ++ xs) → Always P xs
 always_behind P [] xs a = a
 always_behind P (e ∷ later) xs a = always_behind P later xs a.1
 

@@ -34,3 +34,48 @@ abbrev pub CallsForget : Type 0
 CallsForget =
     (c : Configuration) (me s k timestamp : ℕ) (read_only : Bool) (op : Operation) (past : List Entry)
     → latest c me (Invoke k timestamp op ∷ past) timestamp read_only s ≡ None
+
+-- ---- events in which a client gives nothing
+
+-- A reply with fewer than 2f + 1 replicas' latest ones like it, while a replica has not answered read-only, and any
+-- output: falling back before all have answered.
+abbrev pub WaitsForAnswers : Type 0
+WaitsForAnswers =
+    (c : Configuration) (me s r number : ℕ) (call : OpenCall) (mode : Mode) (answer : Outcome) (bytes later : List ℕ) (outputs past : List Entry)
+    → open_call past ≡ Some call → heard c me bytes ≡ Some (record { sender = s; message = Reply me call.timestamp mode number answer })
+    → count_alike c me (Got me bytes ∷ past) call.timestamp (record { read_only = reads_only mode; number = number; answer = answer }) ≤ 2 * c.faults
+    → r < replicas c → latest c me (Got me bytes ∷ past) call.timestamp true r ≡ None
+    → AreOutputs outputs → IsClient c me (going_on me later outputs (Got me bytes) past) → outputs ≡ []
+
+-- Such a reply, where the call's request went ordered before, and any output: falling back twice.
+abbrev pub FallsBackOnce : Type 0
+FallsBackOnce =
+    (c : Configuration) (me s number : ℕ) (call : OpenCall) (mode : Mode) (answer : Outcome) (bytes later : List ℕ) (outputs past : List Entry)
+    → open_call past ≡ Some call → heard c me bytes ≡ Some (record { sender = s; message = Reply me call.timestamp mode number answer })
+    → count_alike c me (Got me bytes ∷ past) call.timestamp (record { read_only = reads_only mode; number = number; answer = answer }) ≤ 2 * c.faults
+    → Once (AsksOrdered call.timestamp) past
+    → AreOutputs outputs → IsClient c me (going_on me later outputs (Got me bytes) past) → outputs ≡ []
+
+-- Of the weak client: a read-only reply, or an ordered one with f or fewer replicas' latest of its answer, and any
+-- output.
+abbrev pub WeaklyWaits : Type 0
+WeaklyWaits =
+    (c : Configuration) (me s number : ℕ) (call : OpenCall) (mode : Mode) (answer : Outcome) (bytes later : List ℕ) (outputs past : List Entry)
+    → open_call past ≡ Some call → heard c me bytes ≡ Some (record { sender = s; message = Reply me call.timestamp mode number answer })
+    → (mode ≡ modes.ReadOnly) ⊎ (count_below (λ r. is_same_answer (record { read_only = false; number = number; answer = answer }) (latest c me (Got me bytes ∷ past) call.timestamp false r)) (replicas c) ≤ c.faults)
+    → AreOutputs outputs → IsWeakClient c me (going_on me later outputs (Got me bytes) past) → outputs ≡ []
+
+-- A frame that is no reply to the open call, and any output.
+abbrev pub IgnoresOthers : Type 0
+IgnoresOthers =
+    (c : Configuration) (me : ℕ) (call : OpenCall) (bytes later : List ℕ) (outputs past : List Entry)
+    → open_call past ≡ Some call
+    → ((s number : ℕ) (mode : Mode) (answer : Outcome) → heard c me bytes ≢ Some (record { sender = s; message = Reply me call.timestamp mode number answer }))
+    → AreOutputs outputs → IsAnyClient c me (going_on me later outputs (Got me bytes) past) → outputs ≡ []
+
+-- A frame or a tick while no call is open, and any output.
+abbrev pub RestsWithoutCall : Type 0
+RestsWithoutCall =
+    (c : Configuration) (me : ℕ) (input : Entry) (later : List ℕ) (outputs past : List Entry)
+    → open_call past ≡ None → (input ≡ Tick me) ⊎ ((bytes : List ℕ) × (input ≡ Got me bytes))
+    → AreOutputs outputs → IsAnyClient c me (going_on me later outputs input past) → outputs ≡ []

@@ -1,7 +1,7 @@
 //! Laws of the definitions of clients, and of parties that stop: which replies count, and that behind any history a party
 //! may give nothing more.
 
-ghost use Rattle.protocol.specs.Clients.{HeardIsLatest, LatestStays, CallsForget};
+ghost use Rattle.protocol.specs.Clients.{HeardIsLatest, LatestStays, CallsForget, WaitsForAnswers, FallsBackOnce, WeaklyWaits, IgnoresOthers, RestsWithoutCall};
 ghost use Rattle.protocol.specs.Stopping.{ReplicasMayStop, SafeReplicasMayStop, ClientsMayStop, WeakClientsMayStop};
 
 /// A reply that is heard is its sender's latest of its mode, whatever was heard before, until the sender's next of that mode.
@@ -10,6 +10,16 @@ pub fn latest_replies_count()
     ensures heard { HeardIsLatest }
     ensures stays { LatestStays }
     ensures call { CallsForget }
+{}
+
+/// A correct client that goes on gives nothing at a reply that completes nothing, if a replica has not answered read-only
+/// or the call's request went ordered before, at a frame that is no reply to its call, and while it has no call.
+pub fn clients_wait()
+    ensures answers { WaitsForAnswers }
+    ensures once { FallsBackOnce }
+    ensures weakly { WeaklyWaits }
+    ensures others { IgnoresOthers }
+    ensures calls { RestsWithoutCall }
 {}
 
 /// A correct replica or client may stop: behind any history of it, an input may come and no output.
