@@ -75,3 +75,4 @@ pub mod RefusingStepsSigned
 pub mod Stopping
 pub mod Counted
 pub mod Waiting
+pub mod FirstRead

@@ -75,7 +75,7 @@ pub brings : (c : Configuration) (me s t number : ℕ) (mode : Mode) (answer : O
     → newest_vote c me (Got me bytes ∷ past) t ≡ Some (vote_in mode number answer)
 brings c me s t number mode answer bytes past hears = rw hears (rw (eq-eqb s s refl, eq-eqb me me refl, eq-eqb t t refl) refl)
 
-alike : (vote : Vote) → is_alike vote (Some vote) ≡ true
+pub alike : (vote : Vote) → is_alike vote (Some vote) ≡ true
 alike vote = and_from (vote.number == vote.number) (bytes_eq (outcome_spelling vote.answer) (outcome_spelling vote.answer)) (eq-eqb vote.number vote.number refl) ((bytes_eq-Decides (outcome_spelling vote.answer) (outcome_spelling vote.answer)).1 refl)
 
 pub accepts_alike : AcceptsAlike

@@ -23,3 +23,4 @@ pub mod RefusedKept
 pub mod RefusedSteps
 pub mod Clients
 pub mod Stopping
+pub mod ExamplesOfClients

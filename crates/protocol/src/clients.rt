@@ -2,6 +2,7 @@
 //! may give nothing more.
 
 ghost use Rattle.protocol.specs.Clients.{HeardIsLatest, LatestStays, CallsForget, WaitsForAnswers, FallsBackOnce, WeaklyWaits, IgnoresOthers, RestsWithoutCall};
+ghost use Rattle.protocol.specs.ExamplesOfClients.{FirstReadIsAccepted};
 ghost use Rattle.protocol.specs.Stopping.{ReplicasMayStop, SafeReplicasMayStop, ClientsMayStop, WeakClientsMayStop};
 
 /// A reply that is heard is its sender's latest of its mode, whatever was heard before, until the sender's next of that mode.
@@ -28,4 +29,9 @@ pub fn parties_may_stop()
     ensures safe { SafeReplicasMayStop }
     ensures clients { ClientsMayStop }
     ensures weak_clients { WeakClientsMayStop }
+{}
+
+/// A client that accepts its first read at the third of three read-only replies alike is a correct one.
+pub fn a_first_read_is_accepted()
+    ensures read { FirstReadIsAccepted }
 {}

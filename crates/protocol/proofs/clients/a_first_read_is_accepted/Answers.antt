@@ -1,0 +1,5 @@
+use Rattle.protocol.proofs.FirstRead
+use Rattle.protocol.proofs.clients.a_first_read_is_accepted.Goals as goal
+
+pub returns : goal.returns
+returns c = record { read = FirstRead.first_read_is_accepted }
