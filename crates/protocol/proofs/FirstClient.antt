@@ -76,10 +76,10 @@ module _ (clients : ℕ) (seed : List ℕ) (op : Operation) (batch : List ℕ) (
       go true = refl
       go false = refl
 
-  latest_one : (s : ℕ) → latest c 256 one 1 false s ≡ cond (is_of 0 s) (Some vote) None
+  pub latest_one : (s : ℕ) → latest c 256 one 1 false s ≡ cond (is_of 0 s) (Some vote) None
   latest_one s = latest_next 0 (omega arith) s asked None (latest_asked s)
 
-  latest_two : (s : ℕ) → latest c 256 two 1 false s ≡ cond (is_of 1 s) (Some vote) (cond (is_of 0 s) (Some vote) None)
+  pub latest_two : (s : ℕ) → latest c 256 two 1 false s ≡ cond (is_of 1 s) (Some vote) (cond (is_of 0 s) (Some vote) None)
   latest_two s = latest_next 1 (omega arith) s one (cond (is_of 0 s) (Some vote) None) (latest_one s)
 
   latest_three : (s : ℕ) → latest c 256 three 1 false s ≡ cond (is_of 2 s) (Some vote) (cond (is_of 1 s) (Some vote) (cond (is_of 0 s) (Some vote) None))
@@ -108,7 +108,7 @@ module _ (clients : ℕ) (seed : List ℕ) (op : Operation) (batch : List ℕ) (
 
   -- ---- what the client gives
 
-  newest : (r : ℕ) → r < 4 → (past : List Entry) → newest_vote c 256 (Got 256 (w.reply r) ∷ past) 1 ≡ Some vote
+  pub newest : (r : ℕ) → r < 4 → (past : List Entry) → newest_vote c 256 (Got 256 (w.reply r) ∷ past) 1 ≡ Some vote
   newest r l past =
       ap (option_and_then (λ (body : Body). vote_of 256 1 body.sender body)) (hears r l) ∙ ap (λ (b : Bool). give_if ((b && true) && true) vote) (eq-eqb r r refl)
 
@@ -123,7 +123,7 @@ module _ (clients : ℕ) (seed : List ℕ) (op : Operation) (batch : List ℕ) (
       go true = refl
       go false = falls
 
-  is_request : IsRequest c 256 false call w.request
+  pub is_request : IsRequest c 256 false call w.request
   is_request = record {
     says = x.asks.says;
     is_sealed = λ frame is.

@@ -25,7 +25,7 @@ use Rattle.protocol.proofs.FirstClient
 -- ---- parties
 
 -- who is not among them has no entries
-none_of : (p : ℕ) → is_known p ≡ false → (xs : List Entry) → list_all (λ e. is_known (party_of e)) xs ≡ true → history_of p xs ≡ []
+pub none_of : (p : ℕ) → is_known p ≡ false → (xs : List Entry) → list_all (λ e. is_known (party_of e)) xs ≡ true → history_of p xs ≡ []
 none_of p other [] h = refl
 none_of p other (e ∷ xs) h =
     let k = and_parts (is_known (party_of e)) (list_all (λ e. is_known (party_of e)) xs) h in
@@ -35,20 +35,30 @@ none_of p other (e ∷ xs) h =
     go true is known = let bad : true ≡ false = sym known ∙ ap is_known (eqb-true (party_of e) p is) ∙ other in absurd cc
     go false is known = refl
 
-all_correct : (clients : ℕ) (seed : List ℕ) → 1 ≤ clients → (xs : List Entry) → list_all (λ e. is_known (party_of e)) xs ≡ true
+pub all_correct : (clients : ℕ) (seed : List ℕ) → 1 ≤ clients → (xs : List Entry) → list_all (λ e. is_known (party_of e)) xs ≡ true
     → Always (λ past e. is_correct (four clients seed) (party_of e) ≡ true) xs
 all_correct clients seed some [] h = tt
 all_correct clients seed some (e ∷ xs) h =
     let k = and_parts (is_known (party_of e)) (list_all (λ e. is_known (party_of e)) xs) h in
     (known_correct clients seed some (party_of e) k.0, all_correct clients seed some xs k.1)
 
+-- another client than 0 is not among them
+pub other_client : (clients : ℕ) (seed : List ℕ) (p : ℕ) → is_correct_client (four clients seed) p ≡ true → (256 == p) ≡ false → is_known p ≡ false
+other_client clients seed p h e =
+    rw (ne_eqb 0 p (λ z. omega (arith, high, z)), ne_eqb 1 p (λ z. omega (arith, high, z)), ne_eqb 2 p (λ z. omega (arith, high, z)), ne_eqb 3 p (λ z. omega (arith, high, z)), e) refl
+  where
+    high : 256 ≤ p
+    high =
+        let k = and_parts (is_client (four clients seed) p) true h in
+        leb-true 256 p (and_parts (nat_le 256 p) (nat_lt p (256 + clients)) k.0).0
+
 -- ---- outputs follow
 
-abbrev follows : List Entry → Entry → Bool
+abbrev pub follows : List Entry → Entry → Bool
 follows [] e = not (is_output e)
 follows (before ∷ past) e = not (is_output e) || (party_of before == party_of e)
 
-abbrev all_follow : List Entry → Bool
+abbrev pub all_follow : List Entry → Bool
 all_follow [] = true
 all_follow (e ∷ past) = follows past e && all_follow past
 
@@ -64,7 +74,7 @@ it_follows (before ∷ past) e h = λ o. eqb-true (party_of before) (party_of e)
     go true o h = h
     go false o h = absurd cc
 
-they_follow : (xs : List Entry) → all_follow xs ≡ true → Always Follows xs
+pub they_follow : (xs : List Entry) → all_follow xs ≡ true → Always Follows xs
 they_follow [] h = tt
 they_follow (e ∷ past) h = let k = and_parts (follows past e) (all_follow past) h in (it_follows past e k.0, they_follow past k.1)
 
@@ -82,18 +92,9 @@ module _ (clients : ℕ) (seed : List ℕ) (op : Operation) (batch : List ℕ) (
   known : list_all (λ e. is_known (party_of e)) trace ≡ true
   known = refl
 
-  high : (p : ℕ) → is_correct_client c p ≡ true → 256 ≤ p
-  high p h =
-      let k = and_parts (is_client c p) true h in
-      leb-true 256 p (and_parts (nat_le 256 p) (nat_lt p (256 + clients)) k.0).0
-
-  not_known : (p : ℕ) → 256 ≤ p → (256 == p) ≡ false → is_known p ≡ false
-  not_known p l e =
-      rw (ne_eqb 0 p (λ z. omega (arith, l, z)), ne_eqb 1 p (λ z. omega (arith, l, z)), ne_eqb 2 p (λ z. omega (arith, l, z)), ne_eqb 3 p (λ z. omega (arith, l, z)), e) refl
-
   client : (p : ℕ) → is_correct_client c p ≡ true → (b : Bool) → (256 == p) ≡ b → IsClient c p (history_of p trace)
   client p h true e = subst (λ (q : ℕ). IsClient c q (history_of q trace)) (eqb-true 256 p e) (FirstClient.is_client clients seed op batch w x)
-  client p h false e = subst (IsClient c p) (sym (none_of p (not_known p (high p h) e) trace known)) tt
+  client p h false e = subst (IsClient c p) (sym (none_of p (other_client clients seed p h e) trace known)) tt
 
   pub is_run : IsRun c trace
   is_run = record {
@@ -160,7 +161,7 @@ module _ (clients : ℕ) (seed : List ℕ) (op : Operation) (batch : List ℕ) (
   is_after past (gets p n) = was_sent past n && list_all (was_sent past) (the n).carries
   is_after past _ = true
 
-  abbrev all_after : List Move → Bool
+  abbrev pub all_after : List Move → Bool
   all_after [] = true
   all_after (m ∷ past) = is_after past m && all_after past
 
@@ -176,7 +177,7 @@ module _ (clients : ℕ) (seed : List ℕ) (op : Operation) (batch : List ℕ) (
   unforged_at past (runs r) h = tt
   unforged_at past accepts h = tt
 
-  are_unforged : (ms : List Move) → all_after ms ≡ true → Unforged configuration (map entry ms)
+  pub are_unforged : (ms : List Move) → all_after ms ≡ true → Unforged configuration (map entry ms)
   are_unforged [] h = tt
   are_unforged (m ∷ past) h = let k = and_parts (is_after past m) (all_after past) h in (unforged_at past m k.0, are_unforged past k.1)
 

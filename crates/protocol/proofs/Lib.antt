@@ -76,3 +76,4 @@ pub mod Stopping
 pub mod Counted
 pub mod Waiting
 pub mod FirstRead
+pub mod FirstWeak

@@ -2,7 +2,7 @@
 //! may give nothing more.
 
 ghost use Rattle.protocol.specs.Clients.{HeardIsLatest, LatestStays, CallsForget, WaitsForAnswers, FallsBackOnce, WeaklyWaits, IgnoresOthers, RestsWithoutCall};
-ghost use Rattle.protocol.specs.ExamplesOfClients.{FirstReadIsAccepted};
+ghost use Rattle.protocol.specs.ExamplesOfClients.{FirstReadIsAccepted, FirstWeakOperationIsRun, FirstWeakOperationIsUnforged};
 ghost use Rattle.protocol.specs.Stopping.{ReplicasMayStop, SafeReplicasMayStop, ClientsMayStop, WeakClientsMayStop};
 
 /// A reply that is heard is its sender's latest of its mode, whatever was heard before, until the sender's next of that mode.
@@ -34,4 +34,11 @@ pub fn parties_may_stop()
 /// A client that accepts its first read at the third of three read-only replies alike is a correct one.
 pub fn a_first_read_is_accepted()
     ensures read { FirstReadIsAccepted }
+{}
+
+/// A weak client's first operation at four replicas, whole, is a weak client's run, accepted at the second of its replies,
+/// and no message of it is forged.
+pub fn a_first_weak_operation_is_a_run()
+    ensures run { FirstWeakOperationIsRun }
+    ensures unforged { FirstWeakOperationIsUnforged }
 {}
