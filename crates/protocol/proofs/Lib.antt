@@ -77,3 +77,4 @@ pub mod Counted
 pub mod Waiting
 pub mod FirstRead
 pub mod FirstWeak
+pub mod Correctness

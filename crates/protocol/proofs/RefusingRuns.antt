@@ -173,12 +173,12 @@ same_request : (me : ℕ) (x y : List ℕ) → Sent me x ∷ [] ≡ Sent me y �
 same_request me x y e = cc
 
 -- a frame that a client sends is a request that it was to give
-record Asked (c : Configuration) (me : ℕ) (react : List Entry → Reaction) (bytes : List ℕ) : Type 0 where
-  now : List Entry
-  read_only : Bool
-  call : OpenCall
-  given : react now ≡ asks read_only call
-  request : IsRequest c me read_only call bytes
+pub record Asked (c : Configuration) (me : ℕ) (react : List Entry → Reaction) (bytes : List ℕ) : Type 0 where
+  pub now : List Entry
+  pub read_only : Bool
+  pub call : OpenCall
+  pub given : react now ≡ asks read_only call
+  pub request : IsRequest c me read_only call bytes
 
 asked_here : (c : Configuration) (me : ℕ) (react : List Entry → Reaction) (bytes : List ℕ) (past : List Entry) → Reacts c me react (Sent me bytes ∷ []) past → Asked c me react bytes
 asked_here c me react bytes [] h = absurd cc
@@ -193,7 +193,7 @@ asked_here c me react bytes (e ∷ past) h = go (is_output e) h.1
     go true k = absurd (one_output c me react e (Sent me bytes) [] past k)
     go false k = by (react (e ∷ past)) refl k.1
 
-asked_by : (c : Configuration) (me : ℕ) (react : List Entry → Reaction) (bytes : List ℕ) (past : List Entry) → IsClientBy c me react (Sent me bytes ∷ past) → Asked c me react bytes
+pub asked_by : (c : Configuration) (me : ℕ) (react : List Entry → Reaction) (bytes : List ℕ) (past : List Entry) → IsClientBy c me react (Sent me bytes ∷ past) → Asked c me react bytes
 asked_by c me react bytes past (inl h) = asked_here c me react bytes past h.1
 asked_by c me react bytes past (inr h) = absurd h.1
 

@@ -24,3 +24,4 @@ pub mod RefusedSteps
 pub mod Clients
 pub mod Stopping
 pub mod ExamplesOfClients
+pub mod Correct

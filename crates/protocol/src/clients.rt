@@ -2,6 +2,7 @@
 //! may give nothing more.
 
 ghost use Rattle.protocol.specs.Clients.{HeardIsLatest, LatestStays, CallsForget, WaitsForAnswers, FallsBackOnce, WeaklyWaits, IgnoresOthers, RestsWithoutCall};
+ghost use Rattle.protocol.specs.Correct.{ReplicasHaveOwn, ClientsHaveOwn, SealsRequests, ReplicasAreSafe, ClientsAreSafe, WeakClientsAreSafe};
 ghost use Rattle.protocol.specs.ExamplesOfClients.{FirstReadIsAccepted, FirstWeakOperationIsRun, FirstWeakOperationIsUnforged};
 ghost use Rattle.protocol.specs.Stopping.{ReplicasMayStop, SafeReplicasMayStop, ClientsMayStop, WeakClientsMayStop};
 
@@ -21,6 +22,17 @@ pub fn clients_wait()
     ensures weakly { WeaklyWaits }
     ensures others { IgnoresOthers }
     ensures calls { RestsWithoutCall }
+{}
+
+/// Each entry of a correct party's history is its own, each request that a client sends has the MACs of its body, and what
+/// is correct is safe.
+pub fn correct_histories_are_safe()
+    ensures replicas_have_own { ReplicasHaveOwn }
+    ensures clients_have_own { ClientsHaveOwn }
+    ensures requests { SealsRequests }
+    ensures replicas { ReplicasAreSafe }
+    ensures clients { ClientsAreSafe }
+    ensures weak_clients { WeakClientsAreSafe }
 {}
 
 /// A correct replica or client may stop: behind any history of it, an input may come and no output.

@@ -1,0 +1,54 @@
+-- What holds of each history of a correct party.
+use Rattle.std.proofs.Common.{◌≡◌, ℕ, inl, inr, true, List, [], ◌∷◌, subst, Some}
+use Rattle.std.specs.Prelude.{All}
+use Rattle.wire.specs.Messages.{FrameData as Frame, ProofData as Proof, MacData, macs, signature}
+use Rattle.authenticator.specs.Authentic.{mac_of}
+use Rattle.signing.specs.Heard.{has_signature}
+use Rattle.tuple_codec.specs.Operations.{Outcome}
+use Rattle.protocol.specs.Configuration.{Configuration}
+use Rattle.protocol.specs.Frames.{frame_of}
+use Rattle.protocol.specs.Trace.{Entry, party_of, Always}
+use Rattle.protocol.specs.RightReplica.{Point, Leaves}
+use Rattle.protocol.specs.RightClient.{Reaction, reaction, weak_reaction, RightBy}
+use Rattle.protocol.specs.Correct.{ReplicasHaveOwn, ClientsHaveOwn, SealsRequests, ReplicasAreSafe, ClientsAreSafe, WeakClientsAreSafe}
+use Rattle.protocol.proofs.Reacting.{is_replica_right, is_client_right, is_weak_right}
+use Rattle.protocol.proofs.RefusingRuns.{Asked, asked_by}
+
+pub replicas_are_safe : ReplicasAreSafe
+replicas_are_safe c me history right = is_replica_right c me history right
+
+pub clients_are_safe : ClientsAreSafe
+clients_are_safe c me history right = is_client_right c me history right
+
+pub weak_clients_are_safe : WeakClientsAreSafe
+weak_clients_are_safe c me history right = is_weak_right c me history right
+
+-- ---- own entries
+
+leaves_own : (c : Configuration) (me : ℕ) (xs : List Entry) (point : Point) → Leaves c me xs point → Always (λ past e. party_of e ≡ me) xs
+leaves_own c me [] point h = tt
+leaves_own c me (e ∷ past) point h = (h.2.own, leaves_own c me past h.0 h.1)
+
+pub replicas_have_own : ReplicasHaveOwn
+replicas_have_own c me history right = let safe = is_replica_right c me history right in leaves_own c me history safe.0 safe.1
+
+right_own : (Accepting : List Entry → ℕ → Outcome → Type 0) (me : ℕ) (xs : List Entry) → RightBy Accepting me xs → Always (λ past e. party_of e ≡ me) xs
+right_own Accepting me [] h = tt
+right_own Accepting me (e ∷ past) h = (h.0.0, right_own Accepting me past h.1)
+
+pub clients_have_own : ClientsHaveOwn
+clients_have_own c me history (inl right) = right_own _ me history (is_client_right c me history right)
+clients_have_own c me history (inr right) = right_own _ me history (is_weak_right c me history right)
+
+-- ---- what a client sends is sealed
+
+abbrev IsSealedBy : Configuration → Frame → Proof → Type 0
+IsSealedBy c frame proof = elim proof [ macs entries ↦ All (λ x. x.mac ≡ mac_of c.seed x.receiver frame.body) entries | signature s ↦ has_signature c.seed frame ≡ true ]
+
+sealed : (c : Configuration) (me : ℕ) (react : List Entry → Reaction) (bytes : List ℕ) (frame : Frame) (entries : List MacData) → Asked c me react bytes → frame_of bytes ≡ Some frame → frame.proof ≡ macs entries
+    → All (λ x. x.mac ≡ mac_of c.seed x.receiver frame.body) entries
+sealed c me react bytes frame entries asked is proof = subst (λ (p : Proof). IsSealedBy c frame p) proof (asked.request.is_sealed frame is).0
+
+pub seals_requests : SealsRequests
+seals_requests c me bytes frame entries past is proof (inl right) = sealed c me (reaction c me) bytes frame entries (asked_by c me (reaction c me) bytes past right) is proof
+seals_requests c me bytes frame entries past is proof (inr right) = sealed c me (weak_reaction c me) bytes frame entries (asked_by c me (weak_reaction c me) bytes past right) is proof
