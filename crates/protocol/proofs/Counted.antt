@@ -1,9 +1,9 @@
 -- Which replies count at a client.
-use Rattle.std.proofs.Common.{◌≡◌, ℕ, Bool, true, false, cond, List, ◌∷◌, refl, sym, ap, ◌∙◌, ◌&&◌, Option, Some, None, eqb-true, eq-eqb}
+use Rattle.std.proofs.Common.{◌≡◌, ℕ, Bool, true, false, List, refl, sym, ap, ◌∙◌, ◌&&◌, Option, Some, None, eqb-true, eq-eqb}
 use Rattle.std.specs.Prelude.{◌==◌, option_and_then}
 use Rattle.std.proofs.lemmas.Bool.{and_parts}
 use Rattle.quorum.specs.Votes.{give_if}
-use Rattle.tuple_codec.specs.Operations.{Operation, Outcome}
+use Rattle.tuple_codec.specs.Operations.{Outcome}
 use Rattle.protocol.specs.Configuration.{Configuration}
 use Rattle.wire.specs.declared.terms.Mode.{Mode}
 use Rattle.wire.specs.declared.terms.Mode.TheVariants as modes

@@ -1,7 +1,6 @@
 -- The first operation of a weak client is a weak client's run, and no message of it is forged.
-use Rattle.std.proofs.Common.{◌≡◌, ℕ, zero, suc, ◌<◌, Bool, true, false, not, cond, List, [], ◌∷◌, ◌++◌, inl, refl, sym, ap, subst, ◌∙◌, arith, ◌&&◌, Option, Some, None, take, reverse, eqb-true}
+use Rattle.std.proofs.Common.{◌≡◌, ℕ, zero, suc, ◌<◌, Bool, true, false, cond, List, [], ◌∷◌, ◌++◌, inl, refl, sym, ap, subst, ◌∙◌, arith, ◌&&◌, Some, None, take, reverse, eqb-true}
 use Rattle.std.specs.Prelude.{◌==◌, nat_le}
-use Rattle.std.specs.Option.{option_map_or}
 use Rattle.std.specs.List.{list_all}
 use Rattle.std.proofs.lemmas.Bool.{and_parts, ltb-true}
 use Rattle.std.proofs.lemmas.Slice.Eq.{bytes_eq-Decides}
@@ -17,7 +16,7 @@ use Rattle.protocol.specs.Run.{IsWeakRun}
 use Rattle.protocol.specs.Examples.{four}
 use Rattle.protocol.specs.FirstOperation.{FirstFrames, AreFirstFrames, first_answer}
 use Rattle.protocol.specs.ExamplesOfClients.{first_weak_trace, FirstWeakOperationIsRun, FirstWeakOperationIsUnforged}
-use Rattle.protocol.proofs.FirstScheduleMoves.{is_known, Move, moves, entry_of}
+use Rattle.protocol.proofs.FirstScheduleMoves.{is_known, Move, moves}
 use Rattle.protocol.proofs.FirstScheduleMoves.Move.{gets, accepts as ends}
 use Rattle.protocol.proofs.FirstClient as client
 use Rattle.protocol.proofs.FirstReplicas as replicas

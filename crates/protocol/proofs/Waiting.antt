@@ -1,10 +1,10 @@
 -- Where a client that goes on gives nothing.
-use Rattle.std.proofs.Common.{◌≡◌, ℕ, zero, suc, not, ◌+◌, ◌*◌, ◌≤◌, ◌<◌, ◌⊎◌, inl, inr, Bool, true, false, cond, List, [], ◌∷◌, ◌++◌, refl, sym, ap, ◌∙◌, subst, arith, ◌&&◌, ◌||◌, Option, Some, None, eqb-true, eq-eqb, reverse}
+use Rattle.std.proofs.Common.{◌≡◌, ℕ, zero, suc, not, ◌+◌, ◌*◌, ◌≤◌, ◌<◌, ◌⊎◌, inl, inr, Bool, true, false, cond, List, [], ◌∷◌, refl, sym, ap, ◌∙◌, subst, arith, ◌&&◌, ◌||◌, Option, Some, None, eqb-true, eq-eqb, reverse}
 use Rattle.std.proofs.lemmas.List.{reverse-reverse}
 use Rattle.std.specs.Prelude.{◌==◌, nat_le, is_some, option_and_then}
 use Rattle.std.specs.Option.{option_map_or}
 use Rattle.std.proofs.lemmas.Bool.{eqb-false, and_parts, leb-true}
-use Rattle.tuple_codec.specs.Operations.{Operation, Outcome}
+use Rattle.tuple_codec.specs.Operations.{Outcome}
 use Rattle.quorum.specs.Quorum.{count_below}
 use Rattle.quorum.specs.Votes.{give_if}
 use Rattle.quorum.proofs.Counting.{count_not}
@@ -12,7 +12,7 @@ use Rattle.protocol.specs.Configuration.{Configuration, replicas}
 use Rattle.wire.specs.declared.terms.Mode.{Mode}
 use Rattle.wire.specs.declared.terms.Mode.TheVariants as modes
 use Rattle.wire.specs.Messages.{BodyData as Body, MessageData as Message, request as Request, reply as Reply}
-use Rattle.protocol.specs.Frames.{said, heard, reads_only}
+use Rattle.protocol.specs.Frames.{said, heard}
 use Rattle.protocol.specs.Trace.{Entry, party_of, Once}
 use Rattle.protocol.specs.Trace.Entry.{Invoke, Got, Tick, Executed, Installed, Sent, Accepted}
 use Rattle.protocol.specs.RightClient.{OpenCall, last_call, open_call, Vote, vote_of, newest_vote, latest, count_alike, is_complete, is_ordered_request, went_ordered, is_answered, Reaction, fallback, on_reply, on_got, reaction, is_same_answer, is_weakly_complete, weakly_on_got, weak_reaction, IsReaction, IsClient, IsWeakClient, MayAccept, MayAsk, MayRequest, MayClient, SafeClient}

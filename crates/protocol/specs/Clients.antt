@@ -1,5 +1,5 @@
 -- What counts at a client, and where a client that goes on gives nothing.
-use Rattle.std.specs.Prelude.{◌≡◌, ◌≢◌, ℕ, ◌+◌, ◌*◌, ◌≤◌, ◌<◌, ◌⊎◌, Bool, true, false, List, [], ◌∷◌, Some, None}
+use Rattle.std.specs.Prelude.{◌≡◌, ◌≢◌, ℕ, ◌*◌, ◌≤◌, ◌<◌, ◌⊎◌, Bool, true, false, List, [], ◌∷◌, Some, None}
 use Rattle.tuple_codec.specs.Operations.{Operation, Outcome}
 use Rattle.quorum.specs.Quorum.{count_below}
 use Rattle.protocol.specs.Configuration.{Configuration, replicas}
