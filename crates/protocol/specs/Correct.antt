@@ -1,13 +1,16 @@
 -- What holds of each history of a correct party.
-use Rattle.std.specs.Prelude.{◌≡◌, ℕ, List, ◌∷◌, Some, All}
-use Rattle.wire.specs.Messages.{FrameData as Frame, MacData, macs}
+use Rattle.std.specs.Prelude.{◌≡◌, ℕ, ◌⊎◌, true, List, ◌∷◌, Some, All}
+use Rattle.space.specs.Applying.{is_read_only}
+use Rattle.wire.specs.declared.terms.Mode.{Mode}
+use Rattle.wire.specs.declared.terms.Mode.TheVariants as modes
+use Rattle.wire.specs.Messages.{FrameData as Frame, MacData, macs, request as Request}
 use Rattle.authenticator.specs.Authentic.{mac_of}
 use Rattle.protocol.specs.Configuration.{Configuration}
-use Rattle.protocol.specs.Frames.{frame_of}
+use Rattle.protocol.specs.Frames.{frame_of, said}
 use Rattle.protocol.specs.Trace.{Entry, party_of, Always}
 use Rattle.protocol.specs.Trace.Entry.{Sent}
 use Rattle.protocol.specs.RightReplica.{SafeReplica}
-use Rattle.protocol.specs.RightClient.{IsClient, IsWeakClient, SafeClient, SafeWeakClient}
+use Rattle.protocol.specs.RightClient.{OpenCall, open_call, IsClient, IsWeakClient, SafeClient, SafeWeakClient}
 use Rattle.protocol.specs.Owed.{IsReplica}
 use Rattle.protocol.specs.RefusedRuns.{IsAnyClient}
 
@@ -24,6 +27,14 @@ SealsRequests =
     (c : Configuration) (me : ℕ) (bytes : List ℕ) (frame : Frame) (entries : List MacData) (past : List Entry)
     → frame_of bytes ≡ Some frame → frame.proof ≡ macs entries → IsAnyClient c me (Sent me bytes ∷ past)
     → All (λ x. x.mac ≡ mac_of c.seed x.receiver frame.body) entries
+
+-- A safe client's frame that is no request of its own for the open call, or a read-only one of what is no read.
+abbrev pub AsksItsCall : Type 0
+AsksItsCall =
+    (c : Configuration) (me : ℕ) (bytes : List ℕ) (past : List Entry)
+    → SafeClient c me (Sent me bytes ∷ past) ⊎ SafeWeakClient c me (Sent me bytes ∷ past)
+    → (mode : Mode) × (call : OpenCall) × (said bytes ≡ Some (record { sender = me; message = Request call.timestamp mode call.op }))
+    × (open_call past ≡ Some call) × (mode ≡ modes.ReadOnly → is_read_only call.op ≡ true)
 
 -- A correct party's history that is not safe.
 abbrev pub ReplicasAreSafe : Type 0

@@ -1,8 +1,8 @@
-//! Laws of the definitions of clients, and of parties that stop: which replies count, and that behind any history a party
-//! may give nothing more.
+//! Laws of the definitions of clients and of parties that stop: which replies count, when a client gives nothing, what all
+//! that is correct keeps, and histories of clients that are accepted.
 
 ghost use Rattle.protocol.specs.Clients.{HeardIsLatest, LatestStays, CallsForget, WaitsForAnswers, FallsBackOnce, WeaklyWaits, IgnoresOthers, RestsWithoutCall};
-ghost use Rattle.protocol.specs.Correct.{ReplicasHaveOwn, ClientsHaveOwn, SealsRequests, ReplicasAreSafe, ClientsAreSafe, WeakClientsAreSafe};
+ghost use Rattle.protocol.specs.Correct.{ReplicasHaveOwn, ClientsHaveOwn, SealsRequests, AsksItsCall, ReplicasAreSafe, ClientsAreSafe, WeakClientsAreSafe};
 ghost use Rattle.protocol.specs.ExamplesOfClients.{FirstReadIsAccepted, FirstWeakOperationIsRun, FirstWeakOperationIsUnforged};
 ghost use Rattle.protocol.specs.Stopping.{ReplicasMayStop, SafeReplicasMayStop, ClientsMayStop, WeakClientsMayStop};
 
@@ -24,12 +24,13 @@ pub fn clients_wait()
     ensures calls { RestsWithoutCall }
 {}
 
-/// Each entry of a correct party's history is its own, each request that a client sends has the MACs of its body, and what
-/// is correct is safe.
+/// Each entry of a correct party's history is its own. All that a client sends are requests of its open call, read-only ones
+/// for reads alone, with the MACs of their bodies. And what is correct is safe.
 pub fn correct_histories_are_safe()
     ensures replicas_have_own { ReplicasHaveOwn }
     ensures clients_have_own { ClientsHaveOwn }
-    ensures requests { SealsRequests }
+    ensures macs { SealsRequests }
+    ensures requests { AsksItsCall }
     ensures replicas { ReplicasAreSafe }
     ensures clients { ClientsAreSafe }
     ensures weak_clients { WeakClientsAreSafe }
