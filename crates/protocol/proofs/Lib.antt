@@ -72,3 +72,5 @@ pub mod RefusingMarksCheckpoints
 pub mod RefusingSteps
 pub mod RefusingStepsAllowed
 pub mod RefusingStepsSigned
+pub mod TransferringStages
+pub mod Transferring
