@@ -73,4 +73,5 @@ pub mod RefusingSteps
 pub mod RefusingStepsAllowed
 pub mod RefusingStepsSigned
 pub mod TransferringStages
+pub mod TransferringEvents
 pub mod Transferring
