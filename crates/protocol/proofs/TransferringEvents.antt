@@ -17,7 +17,6 @@ use Rattle.protocol.specs.State.{Call, opening, call_in}
 use Rattle.protocol.specs.RightReplica.{Point, first_point, with_waiting, waiting_after, others, Executes, IsAddressed, IsStep, MaySend}
 use Rattle.protocol.specs.Owed.{Gives, AtOutputs, NumbersOnce, fetching, Counts, IsDropped, Owes, Proceeds}
 use Rattle.protocol.specs.Examples.{four}
-use Rattle.protocol.specs.ExamplesOfTransfer.{transfer}
 use Rattle.protocol.specs.FirstOperation.{IsFrom}
 use Rattle.protocol.proofs.Options.{some_injective}
 use Rattle.protocol.proofs.TransferringStages.{Stage, agreed}
