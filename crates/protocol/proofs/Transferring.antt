@@ -4,14 +4,14 @@ use Rattle.partition_tree.specs.Digests.{digest_of_children}
 use Rattle.protocol.specs.Configuration.{Configuration}
 use Rattle.wire.specs.declared.terms.Level.{Level}
 use Rattle.wire.specs.declared.terms.Level.TheVariants as levels
-use Rattle.wire.specs.Messages.{BodyData as Body, MarkData as Mark, checkpoint as Checkpoint, meta as Meta, page as Page}
+use Rattle.wire.specs.Messages.{BodyData as Body, checkpoint as Checkpoint, meta as Meta, page as Page}
 use Rattle.protocol.specs.Frames.{heard}
 use Rattle.protocol.specs.Trace.{Entry, Once, Hears}
 use Rattle.protocol.specs.Trace.Entry.{Got, Sent}
 use Rattle.protocol.specs.RightReplica.{first_point}
 use Rattle.protocol.specs.Owed.{has_number, Counts, IsRootWanted, IsInnerWanted, Proceeds, IsReplica}
 use Rattle.protocol.specs.Examples.{four}
-use Rattle.protocol.specs.ExamplesOfTransfer.{Parts, pages_of_first, inner_of_root, root_of_parts, TransferFrames, AreTransferFrames, transfer, TransferBegins}
+use Rattle.protocol.specs.ExamplesOfTransfer.{Parts, digests_of_pages, digests_of_inner_parts, root_of_parts, TransferFrames, AreTransferFrames, transfer, TransferBegins}
 use Rattle.protocol.proofs.TransferringStages.{and_one, Stage, first_stage, stage_checkpoint, stage_meta, stage_page, stage_fetch, quorum_here}
 use Rattle.protocol.proofs.TransferringEvents.{goes_quiet, goes_on}
 
@@ -21,9 +21,6 @@ module _ (clients : ℕ) (seed : List ℕ) (x : Parts) (w : TransferFrames) (f :
 
   abbrev root : List ℕ
   root = root_of_parts x
-
-  abbrev mark : Mark
-  mark = record { number = 16; digest = root }
 
   abbrev h1 : List Entry
   h1 = Got 0 (w.checkpoint 1) ∷ []
@@ -38,13 +35,13 @@ module _ (clients : ℕ) (seed : List ℕ) (x : Parts) (w : TransferFrames) (f :
   h4 = Sent 0 w.fetch_root ∷ h3
 
   abbrev h5 : List Entry
-  h5 = Got 0 w.root_digests ∷ h4
+  h5 = Got 0 w.below_root ∷ h4
 
   abbrev h6 : List Entry
   h6 = Sent 0 w.fetch_inner ∷ h5
 
   abbrev h7 : List Entry
-  h7 = Got 0 w.inner_digests ∷ h6
+  h7 = Got 0 w.below_inner ∷ h6
 
   abbrev h8 : List Entry
   h8 = Sent 0 w.fetch_page ∷ h7
@@ -58,10 +55,10 @@ module _ (clients : ℕ) (seed : List ℕ) (x : Parts) (w : TransferFrames) (f :
   checkpoint_of r = record { sender = r; message = Checkpoint 16 root }
 
   abbrev root_given : Body
-  root_given = record { sender = 1; message = Meta 16 levels.Root 0 (inner_of_root x) }
+  root_given = record { sender = 1; message = Meta 16 levels.Root 0 (digests_of_inner_parts x) }
 
   abbrev inner_given : Body
-  inner_given = record { sender = 1; message = Meta 16 levels.Inner 0 (pages_of_first x) }
+  inner_given = record { sender = 1; message = Meta 16 levels.Inner 0 (digests_of_pages x) }
 
   abbrev page_given : Body
   page_given = record { sender = 1; message = Page 16 0 x.text }
@@ -75,10 +72,10 @@ module _ (clients : ℕ) (seed : List ℕ) (x : Parts) (w : TransferFrames) (f :
   hears3 : heard c 0 (w.checkpoint 3) ≡ Some (checkpoint_of 3)
   hears3 = (f.checkpoints 3 (omega arith) (omega arith)).is_heard 0 (inl refl)
 
-  hears_root : heard c 0 w.root_digests ≡ Some root_given
+  hears_root : heard c 0 w.below_root ≡ Some root_given
   hears_root = f.gives_root.is_heard 0 (inl refl)
 
-  hears_inner : heard c 0 w.inner_digests ≡ Some inner_given
+  hears_inner : heard c 0 w.below_inner ≡ Some inner_given
   hears_inner = f.gives_inner.is_heard 0 (inl refl)
 
   hears_page : heard c 0 w.page ≡ Some page_given
@@ -117,13 +114,13 @@ module _ (clients : ℕ) (seed : List ℕ) (x : Parts) (w : TransferFrames) (f :
   s4 = stage_fetch clients seed root h3 w.fetch_root 0 levels.Root p3 None 0 s3 refl (omega arith) f.asks_root.says
 
   s5 : At h5 p3 (asked levels.Root 0) 16
-  s5 = stage_meta clients seed root h4 w.root_digests 1 16 0 levels.Root (inner_of_root x) p3 (asked levels.Root 0) 16 s4 refl hears_root
+  s5 = stage_meta clients seed root h4 w.below_root 1 16 0 levels.Root (digests_of_inner_parts x) p3 (asked levels.Root 0) 16 s4 refl hears_root
 
   s6 : At h6 p3 (asked levels.Inner 0) 16
   s6 = stage_fetch clients seed root h5 w.fetch_inner 0 levels.Inner p3 (asked levels.Root 0) 16 s5 refl (omega arith) f.asks_inner.says
 
   s7 : At h7 p3 (asked levels.Inner 0) 16
-  s7 = stage_meta clients seed root h6 w.inner_digests 1 16 0 levels.Inner (pages_of_first x) p3 (asked levels.Inner 0) 16 s6 refl hears_inner
+  s7 = stage_meta clients seed root h6 w.below_inner 1 16 0 levels.Inner (digests_of_pages x) p3 (asked levels.Inner 0) 16 s6 refl hears_inner
 
   s8 : At h8 p3 (asked levels.Page 0) 16
   s8 = stage_fetch clients seed root h7 w.fetch_page 0 levels.Page p3 (asked levels.Inner 0) 16 s7 refl (omega arith) f.asks_page.says
@@ -139,14 +136,14 @@ module _ (clients : ℕ) (seed : List ℕ) (x : Parts) (w : TransferFrames) (f :
   counts_checkpoint : Counts c 0 h2 first_point (w.checkpoint 3) 3 (Checkpoint 16 root)
   counts_checkpoint = (let was = s2.low_is in omega arith, refl, ap (has_number 16) (s2.checkpoints_are 3), ap (has_number 16) (s3.checkpoints_are 3))
 
-  counts_root : Counts c 0 h4 first_point w.root_digests 1 (Meta 16 levels.Root 0 (inner_of_root x))
+  counts_root : Counts c 0 h4 first_point w.below_root 1 (Meta 16 levels.Root 0 (digests_of_inner_parts x))
   counts_root = (s4.asked_is, omega arith, inl (inl (quorum_here clients seed root h4 p3 (asked levels.Root 0) 16 s4 refl)))
 
   -- the digests that were got of the root tell that of inner part 0
-  wanted_inner : (past : List Entry) → IsRootWanted c past 16 root → Once (Hears c 0 root_given) past → IsInnerWanted c 0 past 16 0 (digest_of_children (pages_of_first x))
-  wanted_inner past is got = (root, inner_of_root x, is, (refl, (1, 16, got)), refl)
+  wanted_inner : (past : List Entry) → IsRootWanted c past 16 root → Once (Hears c 0 root_given) past → IsInnerWanted c 0 past 16 0 (digest_of_children (digests_of_pages x))
+  wanted_inner past is got = (root, digests_of_inner_parts x, is, (refl, (1, 16, got)), refl)
 
-  counts_inner : Counts c 0 h6 first_point w.inner_digests 1 (Meta 16 levels.Inner 0 (pages_of_first x))
+  counts_inner : Counts c 0 h6 first_point w.below_inner 1 (Meta 16 levels.Inner 0 (digests_of_pages x))
   counts_inner = (s6.asked_is, omega arith, wanted_inner h6 (inl (inl (quorum_here clients seed root h6 p3 (asked levels.Inner 0) 16 s6 refl))) (inr (inl hears_root)))
 
   -- and those that were got of it that of page 0
@@ -155,8 +152,8 @@ module _ (clients : ℕ) (seed : List ℕ) (x : Parts) (w : TransferFrames) (f :
     s8.asked_is,
     omega arith,
     (
-      digest_of_children (pages_of_first x),
-      pages_of_first x,
+      digest_of_children (digests_of_pages x),
+      digests_of_pages x,
       wanted_inner h8 (inl (inl (quorum_here clients seed root h8 p3 (asked levels.Page 0) 16 s8 refl))) (inr (inr (inr (inl hears_root)))),
       (refl, (1, 16, inr (inl hears_inner))),
       refl,
@@ -172,10 +169,10 @@ module _ (clients : ℕ) (seed : List ℕ) (x : Parts) (w : TransferFrames) (f :
   to_root = goes_on clients seed root h2 (w.checkpoint 3) w.fetch_root (checkpoint_of 3) 0 levels.Root p3 hears3 tt f.asks_root s4 (inr (refl, refl)) counts_checkpoint to_second
 
   to_inner : Proceeds c 0 h6 [] first_point first_point
-  to_inner = goes_on clients seed root h4 w.root_digests w.fetch_inner root_given 0 levels.Inner p3 hears_root tt f.asks_inner s6 (inl s4.fetching_is) counts_root to_root
+  to_inner = goes_on clients seed root h4 w.below_root w.fetch_inner root_given 0 levels.Inner p3 hears_root tt f.asks_inner s6 (inl s4.fetching_is) counts_root to_root
 
   to_page : Proceeds c 0 h8 [] first_point first_point
-  to_page = goes_on clients seed root h6 w.inner_digests w.fetch_page inner_given 0 levels.Page p3 hears_inner tt f.asks_page s8 (inl s6.fetching_is) counts_inner to_inner
+  to_page = goes_on clients seed root h6 w.below_inner w.fetch_page inner_given 0 levels.Page p3 hears_inner tt f.asks_page s8 (inl s6.fetching_is) counts_inner to_inner
 
   begins : IsReplica c 0 (transfer w)
   begins = inl (first_point, goes_on clients seed root h8 w.page w.fetch_next page_given 1 levels.Page p3 hears_page tt f.asks_next s10 (inl s8.fetching_is) counts_page to_page)

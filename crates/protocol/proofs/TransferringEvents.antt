@@ -21,8 +21,6 @@ use Rattle.protocol.specs.FirstOperation.{IsFrom}
 use Rattle.protocol.proofs.Options.{some_injective}
 use Rattle.protocol.proofs.TransferringStages.{Stage, agreed}
 
--- ---- an event of a transfer
-
 -- checkpoints and parts, to which no answer is owed
 abbrev pub IsGiven : Message → Type 0
 IsGiven message = elim message [ Checkpoint k root ↦ ⊤ | Meta k level index digests ↦ ⊤ | Page k index text ↦ ⊤ | _ ↦ ⊥ ]
@@ -112,11 +110,8 @@ module _ (clients : ℕ) (seed root : List ℕ) where
   -- a checkpoint of no quorum, after which nothing is sent
   pub goes_quiet : (before : List Entry) (bytes : List ℕ) (body : Body) (p : ℕ → Bool) (asked : Option (ℕ × (Level × ℕ))) (k : ℕ) → heard c 0 bytes ≡ Some body → IsGiven body.message
       → At (Got 0 bytes ∷ before) p asked k → nat_le 3 (count_below p 4) ≡ false → Proceeding before → Proceeding (Got 0 bytes ∷ before)
-  goes_quiet before bytes body p asked k h given st few was = (first_point, gets before bytes body h given, (owes before bytes [] now p asked k st due, was))
+  goes_quiet before bytes body p asked k h given st few was = (first_point, gets before bytes body h given, (owes before bytes [] (Got 0 bytes ∷ before) p asked k st due, was))
     where
-      now : List Entry
-      now = Got 0 bytes ∷ before
-
       due : Due before bytes [] (Got 0 bytes ∷ before)
       due = record {
         body = body;

@@ -13,32 +13,33 @@ use Rattle.protocol.specs.Owed.{IsReplica}
 use Rattle.protocol.specs.Examples.{four}
 use Rattle.protocol.specs.FirstOperation.{IsFrom}
 
--- What there is to fetch: the text of page 0, the digests of the other pages of its inner part, and those of the other
+-- What there is to fetch: the text of page 0, the digests of the other pages of inner part 0, and those of the other
 -- inner parts.
 pub record Parts : Type 0 where
   pub text : List ℕ
-  pub other_pages : List (List ℕ)
-  pub other_inner : List (List ℕ)
+  pub other_page_digests : List (List ℕ)
+  pub other_inner_digests : List (List ℕ)
 
 -- the digests of the pages of inner part 0
-abbrev pub pages_of_first : Parts → List (List ℕ)
-pages_of_first x = sha256 x.text ∷ x.other_pages
+abbrev pub digests_of_pages : Parts → List (List ℕ)
+digests_of_pages x = sha256 x.text ∷ x.other_page_digests
 
 -- the digests of the inner parts
-abbrev pub inner_of_root : Parts → List (List ℕ)
-inner_of_root x = digest_of_children (pages_of_first x) ∷ x.other_inner
+abbrev pub digests_of_inner_parts : Parts → List (List ℕ)
+digests_of_inner_parts x = digest_of_children (digests_of_pages x) ∷ x.other_inner_digests
 
+-- the digest of the whole
 abbrev pub root_of_parts : Parts → List ℕ
-root_of_parts x = digest_of_children (inner_of_root x)
+root_of_parts x = digest_of_children (digests_of_inner_parts x)
 
--- The frames: by their replica the checkpoints; the fetches of the root, of inner part 0, and of pages 0 and 1; and the
--- answers to the first three of them.
+-- The frames: by their replica the checkpoints; the fetches of the root, of inner part 0, of page 0 and of page 1; and
+-- what answers the first three of them.
 pub record TransferFrames : Type 0 where
   pub checkpoint : ℕ → List ℕ
   pub fetch_root : List ℕ
-  pub root_digests : List ℕ
+  pub below_root : List ℕ
   pub fetch_inner : List ℕ
-  pub inner_digests : List ℕ
+  pub below_inner : List ℕ
   pub fetch_page : List ℕ
   pub page : List ℕ
   pub fetch_next : List ℕ
@@ -47,9 +48,9 @@ pub record TransferFrames : Type 0 where
 pub record AreTransferFrames (c : Configuration) (x : Parts) (w : TransferFrames) : Type 0 where
   pub checkpoints : (r : ℕ) → 0 < r → r < replicas c → IsFrom c r (Checkpoint 16 (root_of_parts x)) (others c r) (w.checkpoint r)
   pub asks_root : IsFrom c 0 (Fetch 16 levels.Root 0) (others c 0) w.fetch_root
-  pub gives_root : IsFrom c 1 (Meta 16 levels.Root 0 (inner_of_root x)) (0 ∷ []) w.root_digests
+  pub gives_root : IsFrom c 1 (Meta 16 levels.Root 0 (digests_of_inner_parts x)) (0 ∷ []) w.below_root
   pub asks_inner : IsFrom c 0 (Fetch 16 levels.Inner 0) (others c 0) w.fetch_inner
-  pub gives_inner : IsFrom c 1 (Meta 16 levels.Inner 0 (pages_of_first x)) (0 ∷ []) w.inner_digests
+  pub gives_inner : IsFrom c 1 (Meta 16 levels.Inner 0 (digests_of_pages x)) (0 ∷ []) w.below_inner
   pub asks_page : IsFrom c 0 (Fetch 16 levels.Page 0) (others c 0) w.fetch_page
   pub gives_page : IsFrom c 1 (Page 16 0 x.text) (0 ∷ []) w.page
   pub asks_next : IsFrom c 0 (Fetch 16 levels.Page 1) (others c 0) w.fetch_next
@@ -58,10 +59,11 @@ pub record AreTransferFrames (c : Configuration) (x : Parts) (w : TransferFrames
 -- next.
 abbrev pub transfer : TransferFrames → List Entry
 transfer w =
-    Sent 0 w.fetch_next ∷ Got 0 w.page ∷ Sent 0 w.fetch_page ∷ Got 0 w.inner_digests ∷ Sent 0 w.fetch_inner ∷ Got 0 w.root_digests ∷ Sent 0 w.fetch_root
+    Sent 0 w.fetch_next ∷ Got 0 w.page ∷ Sent 0 w.fetch_page ∷ Got 0 w.below_inner ∷ Sent 0 w.fetch_inner ∷ Got 0 w.below_root ∷ Sent 0 w.fetch_root
     ∷ Got 0 (w.checkpoint 3) ∷ Got 0 (w.checkpoint 2) ∷ Got 0 (w.checkpoint 1) ∷ []
 
--- So a right replica begins: each checkpoint, the digests and the page count, and all that it owes it does.
+-- Such a replica is a right one, with all that it owes. So the third checkpoint, the digests and the page count, since
+-- to what does not count nothing is sent.
 abbrev pub TransferBegins : Type 0
 TransferBegins =
     (clients : ℕ) (seed : List ℕ) (x : Parts) (w : TransferFrames) → AreTransferFrames (four clients seed) x w → IsReplica (four clients seed) 0 (transfer w)
