@@ -72,3 +72,6 @@ pub mod RefusingMarksCheckpoints
 pub mod RefusingSteps
 pub mod RefusingStepsAllowed
 pub mod RefusingStepsSigned
+pub mod TransferringStages
+pub mod TransferringEvents
+pub mod Transferring
