@@ -72,3 +72,4 @@ pub mod RefusingMarksCheckpoints
 pub mod RefusingSteps
 pub mod RefusingStepsAllowed
 pub mod RefusingStepsSigned
+pub mod AnsweringAgain
