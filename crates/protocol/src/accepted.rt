@@ -3,6 +3,7 @@
 ghost use Rattle.protocol.specs.Examples.{FirstBatchExecutes, FirstCallIsRun, PreparedIsSelected, EmptyIsNotSelected, NullIsNotSelected, LieIsNotSelected, TruthWaits, TruthIsSelected};
 ghost use Rattle.protocol.specs.ExamplesOfAnswers.{FirstReadIsAnswered, FirstFetchIsAnswered};
 ghost use Rattle.protocol.specs.ExamplesOfTransfer.{TransferBegins};
+ghost use Rattle.protocol.specs.ExamplesOfKept.{KeptReplyGoesAgain};
 ghost use Rattle.protocol.specs.FirstOperation.{FirstOperationIsRun, FirstOperationIsCommitted, FirstOperationIsUnforged, FirstOperationIsFed, FirstFramesExist};
 
 /// Of four replicas a backup that gets the primary's pre-prepare of the first batch, one more prepare and two more
@@ -72,4 +73,9 @@ pub fn a_first_fetch_is_answered()
 /// the next, is a right one.
 pub fn a_transfer_begins()
     ensures begins { TransferBegins }
+{}
+
+/// A replica that gets a request again that ran, and sends its client's kept reply again, is a right one.
+pub fn a_kept_reply_goes_again()
+    ensures again { KeptReplyGoesAgain }
 {}
