@@ -72,3 +72,6 @@ pub mod RefusingMarksCheckpoints
 pub mod RefusingSteps
 pub mod RefusingStepsAllowed
 pub mod RefusingStepsSigned
+pub mod JoiningChangesOwing
+pub mod JoiningChanges
+pub mod TakingViews

@@ -21,3 +21,4 @@ pub mod ExamplesOfAnswers
 pub mod RefusedMarks
 pub mod RefusedKept
 pub mod RefusedSteps
+pub mod ExamplesOfChanges
