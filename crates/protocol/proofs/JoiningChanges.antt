@@ -1,11 +1,11 @@
 -- The definitions accept a replica that joins the view changes of two others in the beginning.
-use Rattle.std.proofs.Common.{◌≡◌, ◌≢◌, ℕ, ◌<◌, max, inl, inr, Bool, true, false, cond, ◌&&◌, List, [], ◌∷◌, refl, sym, ap, ◌∙◌, subst, arith, Option, Some, None}
+use Rattle.std.proofs.Common.{◌≡◌, ◌≢◌, ℕ, ◌<◌, max, inl, inr, Bool, true, cond, ◌&&◌, List, [], ◌∷◌, refl, sym, ap, ◌∙◌, subst, arith, Option, Some, None}
 use Rattle.std.specs.Prelude.{◌==◌, nat_lt, option_and_then, All}
 use Rattle.std.specs.List.{list_all}
 use Rattle.std.specs.Option.{option_map_or}
 use Rattle.std.proofs.lemmas.Bool.{and_parts, ne_eqb}
 use Rattle.tuple_codec.proofs.Readers.{guard_holds}
-use Rattle.wire.specs.Messages.{BodyData as Body, MessageData as Message, FrameData as Frame, ProofData as Proof, ViewChangeData, NewViewData, ClaimData as Claim, macs, signature, pre_prepare as PrePrepare, view_change as ViewChange}
+use Rattle.wire.specs.Messages.{BodyData as Body, FrameData as Frame, ProofData as Proof, ViewChangeData, NewViewData, macs, signature, pre_prepare as PrePrepare, view_change as ViewChange}
 use Rattle.wire.specs.Spelling.{is_signed, body_spelling}
 use Rattle.wire.specs.Reading.{frame_of as frame_spelled}
 use Rattle.authenticator.specs.Keys.{signing_seed}
@@ -17,13 +17,13 @@ use Rattle.protocol.specs.Configuration.{Configuration}
 use Rattle.protocol.specs.Frames.{frame_of, said, heard, members, signed_body, IsSealed}
 use Rattle.protocol.specs.Trace.{Entry, Has}
 use Rattle.protocol.specs.Trace.Entry.{Got, Sent}
-use Rattle.protocol.specs.Selection.{is_within, signed_change, change_in}
-use Rattle.protocol.specs.Certificates.{view, target, taken, is_later, new_view_from, checkpoint_from, checkpoints_of, logged, low, is_in_marks, Prepared}
+use Rattle.protocol.specs.Selection.{is_within, change_in}
+use Rattle.protocol.specs.Certificates.{view, target, taken, is_later, new_view_from, checkpoint_from, checkpoints_of, logged, Prepared}
 use Rattle.protocol.specs.RightReplica.{first_point, IsPreparedList, IsPrePreparedList, IsNewViewChange, IsAddressed, Executes, MaySend, IsStep}
 use Rattle.protocol.specs.Owed.{Owes, IsReplica, NumbersOnce, change_taken, latest_change}
 use Rattle.protocol.specs.Examples.{four}
 use Rattle.protocol.specs.ExamplesOfChanges.{beginning_change, ChangesInBeginning, ViewChangesAreJoined}
-use Rattle.protocol.proofs.FirstBatch.{Plain, AllPlain, Still, still}
+use Rattle.protocol.proofs.FirstBatch.{Plain, Still, still}
 use Rattle.protocol.proofs.FirstReplicasStages.{takes_none}
 use Rattle.protocol.proofs.Linking.{heard_said, signed_heard}
 use Rattle.protocol.proofs.Options.{some_injective}

@@ -3,13 +3,12 @@ use Rattle.std.proofs.Common.{◌≡◌, ◌≢◌, ℕ, ◌+◌, Bool, true, fa
 use Rattle.std.specs.Prelude.{option_and_then, ⊤}
 use Rattle.std.specs.Option.{option_map_or}
 use Rattle.sha2.specs.Sha256.{sha256}
-use Rattle.quorum.specs.Quorum.{count_below}
-use Rattle.quorum.specs.Votes.{or_else, give_if}
+use Rattle.quorum.specs.Votes.{or_else}
 use Rattle.quorum.proofs.Counting.{count_none}
 use Rattle.protocol.specs.Configuration.{Configuration, primary}
 use Rattle.wire.specs.declared.terms.Mode.TheVariants as modes
 use Rattle.wire.specs.declared.terms.Level.TheVariants as levels
-use Rattle.wire.specs.Messages.{BodyData as Body, MessageData as Message, NewViewData, MarkData as Mark, request as Request, prepare as Prepare, view_change as ViewChange, new_view as NewView, fetch as Fetch}
+use Rattle.wire.specs.Messages.{BodyData as Body, MessageData as Message, MarkData as Mark, request as Request, prepare as Prepare, view_change as ViewChange, new_view as NewView, fetch as Fetch}
 use Rattle.protocol.specs.Frames.{heard}
 use Rattle.protocol.specs.Trace.{Entry, Has}
 use Rattle.protocol.specs.Trace.Entry.{Got}

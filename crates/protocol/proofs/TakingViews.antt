@@ -10,11 +10,11 @@ use Rattle.quorum.specs.Votes.{or_else, give_if, has_digest}
 use Rattle.quorum.proofs.Counting.{count_mono, count_members}
 use Rattle.wire.specs.Messages.{BodyData as Body, ProofData as Proof, NewViewData, MarkData as Mark, macs, signature, pre_prepare as PrePrepare, prepare as Prepare, new_view as NewView}
 use Rattle.protocol.specs.Configuration.{Configuration, primary}
-use Rattle.protocol.specs.Frames.{said, heard, signed_body, receivers_of}
+use Rattle.protocol.specs.Frames.{heard, signed_body, receivers_of}
 use Rattle.protocol.specs.Trace.{Entry, Has}
 use Rattle.protocol.specs.Trace.Entry.{Got, Sent}
 use Rattle.protocol.specs.Selection.{may_select}
-use Rattle.protocol.specs.Certificates.{view, view_after, target, is_later, new_view_in, new_view_from, taken, is_active_in, checkpoint_in, checkpoints_of, is_stable, stable_at, started_at, low, is_in_marks, counts_at, logged, begun_proposal, batch_begun, prepare_of, prepare_from, vote_in, Prepared}
+use Rattle.protocol.specs.Certificates.{view, view_after, target, is_later, new_view_in, new_view_from, taken, is_active_in, checkpoints_of, is_stable, stable_at, started_at, low, is_in_marks, counts_at, logged, begun_proposal, batch_begun, prepare_of, prepare_from, vote_in, Prepared}
 use Rattle.protocol.specs.RightReplica.{first_point, others, IsAddressed, Executes, MayPrepare, MaySend, IsStep}
 use Rattle.protocol.specs.Owed.{Owes, IsReplica, NumbersOnce, Gives}
 use Rattle.protocol.specs.Examples.{four}
