@@ -287,7 +287,7 @@ got_counts c s vc x (Accepted a b d) t = absurd t
 
 pub drops_passed_changes : DropsPassedChanges
 drops_passed_changes c me s vc earlier bytes past got below a =
-    answered c me s (ViewChange vc) bytes past a (λ point leaves counts. let above = counts.0 in let newer = counts.2 in late (omega arith) (omega arith))
+    answered c me s (ViewChange vc) bytes past a (λ point leaves counts. let newer = counts.2 in late counts.0 (omega arith))
   where
     late : view c past < vc.view → latest_change c past s < vc.view → ⊥
     late above newer =
