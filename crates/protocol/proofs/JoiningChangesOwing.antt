@@ -46,7 +46,7 @@ pub none_checked : (c : Configuration) (s : ℕ) → checkpoints_of c [] s ≡ [
 unfolding checkpoints_of
 none_checked c s = refl
 
-none_if : (b : Bool) (o : Option (List ℕ)) → o ≡ None → cond b o None ≡ None
+pub none_if : (b : Bool) (o : Option (List ℕ)) → o ≡ None → cond b o None ≡ None
 none_if true o h = h
 none_if false o h = refl
 

@@ -22,7 +22,7 @@ use Rattle.protocol.specs.ExamplesOfChanges.{holding_view, IsForOthers, NewViews
 use Rattle.protocol.proofs.Linking.{signed_heard}
 use Rattle.protocol.proofs.Options.{some_injective}
 use Rattle.protocol.proofs.Selecting.{prepared_is_selected}
-use Rattle.protocol.proofs.JoiningChangesOwing.{Due, owes, none_logged, none_checked, brings_no_mark, same_checkpoints, logs_begun, logs_nothing, moves_nothing}
+use Rattle.protocol.proofs.JoiningChangesOwing.{Due, owes, none_if, none_logged, none_checked, brings_no_mark, same_checkpoints, logs_begun, logs_nothing, moves_nothing}
 
 prepare_next : (c : Configuration) (me : ℕ) (past : List Entry) (e : Entry) (v i s : ℕ) → prepare_of c me (e ∷ past) v i s ≡ or_else (prepare_of c me past v i s) (vote_in c me past e (prepare_from c s v i) v i)
 unfolding prepare_of
@@ -31,10 +31,6 @@ prepare_next c me past e v i s = refl
 none_prepared : (c : Configuration) (me v i s : ℕ) → prepare_of c me [] v i s ≡ None
 unfolding prepare_of
 none_prepared c me v i s = refl
-
-none_if : (b : Bool) (o : Option (List ℕ)) → o ≡ None → cond b o None ≡ None
-none_if true o h = h
-none_if false o h = refl
 
 if_digest : (b : Bool) (digest given : List ℕ) → has_digest digest (give_if b given) ≡ true → b ≡ true
 if_digest true digest given h = refl
