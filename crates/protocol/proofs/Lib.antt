@@ -76,3 +76,6 @@ pub mod TransferringStages
 pub mod TransferringEvents
 pub mod Transferring
 pub mod AnsweringAgain
+pub mod JoiningChangesOwing
+pub mod JoiningChanges
+pub mod TakingViews

@@ -358,7 +358,7 @@ drops_unasked_pages c me s k index text bytes later past hears other h =
 
 pub drops_own_change : DropsOwnChange
 drops_own_change c me vc bytes later past hears signed before h =
-    not_dropped c me bytes later past (record { sender = me; message = ViewChange vc }) hears h (λ point k. late k.0 k.1 k.2)
+    not_dropped c me bytes later past (record { sender = me; message = ViewChange vc }) hears h (λ point k. let newer = k.2 in late k.0 k.1 (omega arith))
   where
     taken_or : is_within c vc ≡ true → (v : ℕ) → vc.view ≤ max (change_taken c v me bytes) v
     taken_or within v =

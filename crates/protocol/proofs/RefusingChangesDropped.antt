@@ -285,7 +285,7 @@ got_counts c s vc x (Accepted a b d) t = absurd t
 
 pub drops_passed_changes : DropsPassedChanges
 drops_passed_changes c me s vc earlier bytes past got below a =
-    answered c me s (ViewChange vc) bytes past a (λ point leaves counts. late counts.0 counts.2)
+    answered c me s (ViewChange vc) bytes past a (λ point leaves counts. let newer = counts.2 in late counts.0 (omega arith))
   where
     late : view c past < vc.view → latest_change c past s < vc.view → ⊥
     late above newer =
@@ -295,7 +295,7 @@ drops_passed_changes c me s vc earlier bytes past got below a =
 
 pub drops_new_views : DropsNewViews
 drops_new_views c me s new bytes past none a =
-    answered c me s (NewView new) bytes past a (λ point leaves counts. absurd (let bad : None ≡ Some new = sym none ∙ counts in cc))
+    answered c me s (NewView new) bytes past a (λ point leaves counts. absurd (let bad = sym none ∙ counts in cc))
 
 -- ---- parts of states
 
