@@ -33,11 +33,13 @@ abbrev pub Says : Body → List Entry → Entry → Type 0
 Says body past (Sent p bytes) = said bytes ≡ Some body
 Says body past _ = ⊥
 
+-- nothing is executed here, nor installed
 abbrev pub NoExecution : List Entry → Entry → Type 0
 NoExecution past (Executed r k batch) = ⊥
 NoExecution past (Installed r k root) = ⊥
 NoExecution past _ = ⊤
 
+-- nothing is installed here
 abbrev pub NoInstallation : List Entry → Entry → Type 0
 NoInstallation past (Installed r k root) = ⊥
 NoInstallation past _ = ⊤
@@ -464,6 +466,7 @@ pub record IsWellSelected (c : Configuration) (new : NewViewData) : Type 0 where
       → ((w : ℕ) × (w < new.view) × HasFrom (2 * c.faults + 1) c new (SaysNothingAgainst i w (sha256 batch)) × HasFrom (c.faults + 1) c new (SaysForIt i w (sha256 batch)))
       ⊎ ((batch ≡ null_batch) × HasFrom (2 * c.faults + 1) c new (SaysNothing i))
 
+-- Each new view that is taken is well selected.
 abbrev pub TakesWellSelected : Type 0
 TakesWellSelected = (c : Configuration) (past : List Entry) (e : Entry) (new : NewViewData) → taken c past e ≡ Some new → IsWellSelected c new
 

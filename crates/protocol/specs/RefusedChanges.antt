@@ -195,8 +195,7 @@ DropsPassedCheckpoints =
     (c : Configuration) (me s k : ℕ) (root bytes : List ℕ) (a b d : Mark) (past : List Entry)
     → checkpoints_of c past s ≡ a ∷ b ∷ d ∷ [] → k < d.number → d.number < b.number → b.number < a.number → Answers c me s (Checkpoint k root) bytes past → ⊥
 
--- A view change not above the view, one beyond its bounds, and one not above another that its sender's signature was
--- on.
+-- A view change not above the view, and one beyond its bounds.
 abbrev pub DropsLowChanges : Type 0
 DropsLowChanges =
     (c : Configuration) (me s : ℕ) (vc : ViewChangeData) (bytes : List ℕ) (past : List Entry)
@@ -212,6 +211,7 @@ abbrev pub GotChange : Configuration → ℕ → ViewChangeData → List Entry �
 GotChange c s vc past (Got p bytes) = (signed_change c bytes ≡ Some (s, vc)) × (is_within c vc ≡ true)
 GotChange c s vc past _ = ⊥
 
+-- A view change not above another that its sender signed.
 abbrev pub DropsPassedChanges : Type 0
 DropsPassedChanges =
     (c : Configuration) (me s : ℕ) (vc earlier : ViewChangeData) (bytes : List ℕ) (past : List Entry)

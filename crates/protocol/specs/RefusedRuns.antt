@@ -25,6 +25,7 @@ use Rattle.protocol.specs.Schedule.{Step, calls, deliver, feed, ticks, flush, Ma
 abbrev pub going_on : ℕ → List ℕ → List Entry → Entry → List Entry → List Entry
 going_on me later outputs input past = Sent me later ∷ Tick me ∷ outputs ++ input ∷ past
 
+-- there is no input among the entries
 abbrev pub AreOutputs : List Entry → Type 0
 AreOutputs entries = Each (λ e. is_output e ≡ true) entries
 
@@ -120,6 +121,7 @@ IsInputOf (feed party text) (Got p bytes) = (p ≡ party) × (bytes ≡ text)
 IsInputOf (ticks party) (Tick p) = p ≡ party
 IsInputOf _ _ = ⊥
 
+-- the step brings an input of its own into the trace
 abbrev pub feeds_input : Step → Bool
 feeds_input step = elim step [ calls k op ↦ true | deliver frame party ↦ true | feed party text ↦ true | ticks party ↦ true | _ ↦ false ]
 
@@ -129,6 +131,7 @@ FeedsEachStep =
     (c : Configuration) (steps : List Step) (step : Step) (trace : List Entry)
     → Has (λ x. x ≡ step) steps → feeds_input step ≡ true → Feeds c steps trace → Has (IsInputOf step) trace
 
+-- steps and entries that are calls of the client k, and those that are ticks of the party p
 abbrev pub calls_for : ℕ → Step → Bool
 calls_for k step = elim step [ calls client op ↦ client == k | _ ↦ false ]
 
@@ -157,6 +160,7 @@ FeedsEachTick =
 abbrev pub StopsInRuns : Type 0
 StopsInRuns = (c : Configuration) (steps : List Step) (n : ℕ) (trace : List Entry) → StopsAt c steps n trace → IsRun c trace
 
+-- a frame is sent here
 abbrev pub is_sent : Entry → Bool
 is_sent e = elim e [ Sent p bytes ↦ true | _ ↦ false ]
 

@@ -18,6 +18,7 @@ pub data Entry : Type 0 where
   Sent : (party : ℕ) (bytes : List ℕ) → Entry
   Accepted : (client timestamp : ℕ) (answer : Outcome) → Entry
 
+-- the party at which the entry stands
 abbrev pub party_of : Entry → ℕ
 party_of (Invoke client timestamp op) = 256 + client
 party_of (Got party bytes) = party
@@ -86,6 +87,7 @@ Hears c me body past _ = ⊥
 abbrev pub IsFromSender : Configuration → ℕ → List Entry → List ℕ → Type 0
 IsFromSender c me past bytes = (body : Body) → heard c me bytes ≡ Some body → is_correct c body.sender ≡ true → Once (SendsBody body) past
 
+-- each frame that a correct party gets, alone or carried, is from its sender
 abbrev pub IsUnforgedAt : Configuration → List Entry → Entry → Type 0
 IsUnforgedAt c past (Got me bytes) = is_correct c me ≡ true → Each (IsFromSender c me past) (frames_in bytes)
 IsUnforgedAt c past _ = ⊤
