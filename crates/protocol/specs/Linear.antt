@@ -88,7 +88,7 @@ pub record Placed (c : Configuration) (items : List Item) (trace : List Entry) :
   pub before : (item : Item) (answer : Outcome) → Has (λ x. x ≡ item) items → is_correct_client c item.client ≡ true
       → Always (λ past e. Accepts item.client item.timestamp answer past e → item.position ≤ length past) trace
 
--- the items are a linearization of the trace: legal, over all that it accepted, and placed in it
+-- The items linearize the trace: they are legal, cover it and are placed in it.
 pub record IsLinear (c : Configuration) (items : List Item) (trace : List Entry) : Type 0 where
   pub legal : Legal items
   pub covers : Covers c items trace

@@ -17,8 +17,8 @@ use Rattle.protocol.specs.Certificates.{low, view, is_active_in, is_in_marks, lo
 use Rattle.protocol.specs.State.{Call, last_time}
 use Rattle.protocol.specs.RightReplica.{SafeReplica, SentBefore, HadQuorum, StartsAt}
 use Rattle.protocol.specs.RightClient.{OpenCall, open_call}
-use Rattle.protocol.specs.Owed.{IsReplica}
-use Rattle.protocol.specs.Refused.{Says, AtEachPoint, EachKept, newest_number}
+use Rattle.protocol.specs.Owed.{IsSaying, IsReplica}
+use Rattle.protocol.specs.Refused.{AtEachPoint, EachKept, newest_number}
 use Rattle.protocol.specs.RefusedRuns.{IsAnyClient}
 
 -- ---- view changes
@@ -37,7 +37,7 @@ ChangesAboveView = (c : Configuration) (me : ℕ) (vc : ViewChangeData) (bytes :
 abbrev pub ChangesAboveEarlier : Type 0
 ChangesAboveEarlier =
     (c : Configuration) (me : ℕ) (vc earlier : ViewChangeData) (bytes : List ℕ) (past : List Entry) → SendsNewChange c me vc bytes past
-    → Once (Says (record { sender = me; message = ViewChange earlier })) past → earlier.view < vc.view
+    → Once (λ before. IsSaying me (ViewChange earlier)) past → earlier.view < vc.view
 
 -- A new view change for a view at or above 2^48.
 abbrev pub ChangesToNumbers : Type 0
@@ -75,7 +75,7 @@ abbrev pub ChangesAgainLast : Type 0
 ChangesAgainLast =
     (c : Configuration) (me : ℕ) (vc earlier : ViewChangeData) (bytes : List ℕ) (past : List Entry)
     → said bytes ≡ Some (record { sender = me; message = ViewChange vc }) → SentBefore bytes past → SafeReplica c me (Sent me bytes ∷ past)
-    → Once (Says (record { sender = me; message = ViewChange earlier })) past → earlier.view ≤ vc.view
+    → Once (λ before. IsSaying me (ViewChange earlier)) past → earlier.view ≤ vc.view
 
 -- ---- calls, of a client of either kind
 

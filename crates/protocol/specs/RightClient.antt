@@ -148,7 +148,7 @@ abbrev pub weakly_on_got : Configuration → ℕ → List Entry → OpenCall →
 weakly_on_got c me now call =
     option_map_or (λ vote. if is_weakly_complete c me now call.timestamp vote then accepts call.timestamp vote.answer else nothing) (newest_vote c me now call.timestamp) nothing
 
--- What the weak client gives in the event of an input, the newest entry. It asks for all in order.
+-- What the weak client gives in the event of an input, the newest entry. It asks for every operation ordered.
 abbrev pub weak_reaction : Configuration → ℕ → List Entry → Reaction
 weak_reaction c me [] = nothing
 weak_reaction c me (Invoke client timestamp op ∷ past) = asks false (record { timestamp = timestamp; op = op })

@@ -28,7 +28,7 @@ pub record IsRunOf (IsIts : ℕ → List Entry → Type 0) (c : Configuration) (
 abbrev pub IsRun : Configuration → List Entry → Type 0
 IsRun c trace = IsRunOf (IsClient c) c trace
 
--- a run of the first client, which accepts at f + 1 replies of one answer
+-- a run of the weak client, which accepts at f + 1 replies of one answer
 abbrev pub IsWeakRun : Configuration → List Entry → Type 0
 IsWeakRun c trace = IsRunOf (IsWeakClient c) c trace
 
@@ -45,7 +45,7 @@ PointsAreLinear =
 abbrev pub RunsAreLinear : Type 0
 RunsAreLinear = (c : Configuration) → IsConfiguration c → (trace : List Entry) → IsRun c trace → Unforged c trace → NoCollision c trace → Linear c trace
 
--- Over every run of the first client too, the accepted answers are those of one space: some list of items is legal and
+-- Over every run of the weak client too, the accepted answers are those of one space: some list of items is legal and
 -- covers the trace. Positions are not promised.
 abbrev pub WeakAnswersAreOneSpace : Type 0
 WeakAnswersAreOneSpace =

@@ -150,7 +150,7 @@ pub data Goes (c : Configuration) : World → List Step → List Entry → World
       → IsAllowed c w (sign replica leaf receivers body) → AtInput entries → Goes c (with_frame w (signed_bytes c replica leaf body) receivers) steps entries v
       → Goes c w (sign replica leaf receivers body ∷ steps) entries v
   flushes : {w v : World} {steps : List Step} {entries : List Entry} {frame party : ℕ}
-      → AtInput entries → pending c w ≡ Some (frame, party) → Goes c w (deliver frame party ∷ flush ∷ steps) entries v
+      → pending c w ≡ Some (frame, party) → Goes c w (deliver frame party ∷ flush ∷ steps) entries v
       → Goes c w (flush ∷ steps) entries v
   flushed : {w v : World} {steps : List Step} {entries : List Entry}
       → AtInput entries → pending c w ≡ None → Goes c w steps entries v → Goes c w (flush ∷ steps) entries v

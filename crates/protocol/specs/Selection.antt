@@ -26,7 +26,7 @@ change_in body = elim body.message [ ViewChange vc ↦ Some (body.sender, vc) | 
 abbrev pub signed_change : Configuration → List ℕ → Option (ℕ × ViewChangeData)
 signed_change c bytes = option_and_then change_in (signed_body c bytes)
 
--- those of a list that are given
+-- those of the options that are given
 abbrev pub list_of : {A : Type 0} → List (Option A) → List A
 list_of [] = []
 list_of (None ∷ xs) = list_of xs
@@ -145,7 +145,7 @@ are_enough c new = is_quorum c (count_in c (λ vc. true) (changes_of c new))
 abbrev pub all_within : Configuration → NewViewData → Bool
 all_within c new = list_all (λ x. (x.1.view == new.view) && is_within c x.1) (changes_of c new)
 
--- it has just so many
+-- it has as many batches as it is to have
 abbrev pub has_length : Configuration → NewViewData → Bool
 has_length c new = length new.batches == how_many c new
 

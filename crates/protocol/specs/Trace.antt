@@ -56,6 +56,10 @@ abbrev pub Each : {A : Type 0} → (A → Type 0) → List A → Type 0
 Each P [] = ⊤
 Each P (x ∷ xs) = P x × Each P xs
 
+-- there is no input among the entries
+abbrev pub AreOutputs : List Entry → Type 0
+AreOutputs entries = Each (λ e. is_output e ≡ true) entries
+
 -- the one or the other
 abbrev pub either : Bool → Type 0 → Type 0 → Type 0
 either true one other = one
