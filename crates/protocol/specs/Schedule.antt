@@ -18,9 +18,9 @@ use Rattle.protocol.specs.RightClient.{open_call}
 use Rattle.protocol.specs.Linear.{Item, points}
 use Rattle.protocol.specs.Run.{IsRun}
 
--- A step of a schedule: a call; a frame that was made, to a party; bytes to a party; a frame of a faulty party, with MACs
--- or signed; a tick; or the delivery of all that is left. A client stands with its number in a call, all others with
--- their party.
+-- A step of a schedule: a call; a frame that was made, to a party; bytes to a party; a frame of a faulty party, with
+-- MACs or signed; a tick; or the delivery of all that is left. A client stands with its number in a call, all others
+-- with their party.
 pub data Step : Type 0 where
   calls : (client : ℕ) (op : Operation) → Step
   deliver : (frame party : ℕ) → Step
