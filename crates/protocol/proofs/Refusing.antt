@@ -470,7 +470,7 @@ has_from c new count test P f enough = (
       (t.0, change_there (changes_of c new) s t.0 t.1, f t.0 t.2),
 )
 
-says_nothing_against : (i w : ℕ) (digest : List ℕ) (vc : ViewChangeData) → (nat_lt vc.low i && agrees i w digest vc) ≡ true → SaysNothingAgainst i w digest vc
+pub says_nothing_against : (i w : ℕ) (digest : List ℕ) (vc : ViewChangeData) → (nat_lt vc.low i && agrees i w digest vc) ≡ true → SaysNothingAgainst i w digest vc
 says_nothing_against i w digest vc h =
     let p = and_parts (nat_lt vc.low i) (agrees i w digest vc) h in
     (ltb-true vc.low i p.0, λ claim has number. by claim number (every_has (λ (claim : Claim). not (claim.number == i) || nat_lt claim.view w || ((claim.view == w) && bytes_eq claim.digest digest)) vc.prepared claim p.1 has))
@@ -491,7 +491,7 @@ says_nothing_against i w digest vc h =
         pick (inl k) = inl (early (or_cases (not (claim.number == i)) (nat_lt claim.view w) k))
         pick (inr k) = inr (last claim k)
 
-says_for_it : (i w : ℕ) (digest : List ℕ) (vc : ViewChangeData) → vouches i w digest vc ≡ true → SaysForIt i w digest vc
+pub says_for_it : (i w : ℕ) (digest : List ℕ) (vc : ViewChangeData) → vouches i w digest vc ≡ true → SaysForIt i w digest vc
 says_for_it i w digest vc h =
     has_of_any (λ (claim : Claim). (claim.number ≡ i) × (claim.digest ≡ digest) × (w ≤ claim.view)) (λ (claim : Claim). (claim.number == i) && bytes_eq claim.digest digest && nat_le w claim.view)
     each vc.pre_prepared h
@@ -502,7 +502,7 @@ says_for_it i w digest vc h =
         let q = and_parts (claim.number == i) (bytes_eq claim.digest digest) p.0 in
         (eqb-true claim.number i q.0, (bytes_eq-Decides claim.digest digest).0 q.1, leb-true w claim.view p.1)
 
-says_nothing : (i : ℕ) (vc : ViewChangeData) → (nat_lt vc.low i && list_all (λ (claim : Claim). not (claim.number == i)) vc.prepared) ≡ true → SaysNothing i vc
+pub says_nothing : (i : ℕ) (vc : ViewChangeData) → (nat_lt vc.low i && list_all (λ (claim : Claim). not (claim.number == i)) vc.prepared) ≡ true → SaysNothing i vc
 says_nothing i vc h =
     let p = and_parts (nat_lt vc.low i) (list_all (λ (claim : Claim). not (claim.number == i)) vc.prepared) h in (
       ltb-true vc.low i p.0,
