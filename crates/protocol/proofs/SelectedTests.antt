@@ -3,7 +3,7 @@ use Rattle.std.specs.List.{list_all, list_any, AllPairs, All, slice_index_or}
 use Rattle.std.proofs.Common.{◌≡◌, ◌^◌, ℕ, zero, suc, not, ◌+◌, ◌*◌, ◌%◌, ◌≤◌, ◌<◌, ◌⊎◌, inl, inr, Bool, true, false, cond, List, [], ◌∷◌, length, bytes_eq, Option, Some, None, refl, sym, ap, ◌∙◌, subst, arith, ◌&&◌, ◌||◌, eqb-true, eq-eqb}
 use Rattle.std.specs.Prelude.{◌==◌, nat_le, nat_lt}
 use Rattle.std.specs.Option.{option_map_or}
-use Rattle.std.proofs.lemmas.Bool.{and_parts, and_from, or_left, or_right, le-leb, lt-ltb, eqb-false, ltb-true, ne_eqb}
+use Rattle.std.proofs.lemmas.Bool.{and_parts, and_from, or_left, or_right, le-leb, lt-ltb, ne_eqb, ltb-true}
 use Rattle.std.proofs.lemmas.Slice.Eq.{bytes_eq-Decides}
 use Rattle.std.proofs.lemmas.List.Kept.{AllPairs-cons}
 use Rattle.quorum.specs.Quorum.{count_below}
