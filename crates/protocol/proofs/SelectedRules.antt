@@ -7,11 +7,11 @@ use Rattle.std.proofs.lemmas.Slice.Eq.{bytes_eq-Decides}
 use Rattle.sha2.specs.Sha256.{sha256}
 use Rattle.quorum.specs.Quorum.{count_below}
 use Rattle.protocol.specs.Configuration.{Configuration, span}
-use Rattle.wire.specs.Messages.{BodyData as Body, NewViewData, ViewChangeData, MarkData as Mark, ClaimData as Claim, view_change as ViewChange}
-use Rattle.protocol.specs.Trace.{Has, Each}
+use Rattle.wire.specs.Messages.{NewViewData, ViewChangeData, MarkData as Mark, ClaimData as Claim}
+use Rattle.protocol.specs.Trace.{Has}
 use Rattle.protocol.specs.Selection.{is_quorum, is_weak_quorum, signed_change, changes_of, list_of, count_in, ascending, is_within, is_start, agrees, vouches, may_stand_at, may_be_null, null_batch, is_null, may_stand, may_all_stand, largest, largest_of, how_many, may_select}
 use Rattle.protocol.specs.Refused.{SaysNothingAgainst, SaysForIt, SaysNothing}
-use Rattle.protocol.specs.RefusedMarks.{SpellsChange, IsBounded}
+use Rattle.protocol.specs.RefusedMarks.{IsBounded}
 use Rattle.protocol.specs.Selected.{AreSigned, SomePrepared, MayStand, IsSelected, NewViewsMeetTheRules}
 use Rattle.protocol.proofs.Lists.{largest_ge, stands_at, some_below}
 use Rattle.protocol.proofs.Marks.{Selects, selects, largest_of-le}
@@ -183,8 +183,8 @@ all_stand c view set first (batch ∷ batches) h =
     (let place : first + 0 ≡ first = omega arith in
     subst (λ i. may_stand c view set i batch ≡ true) place (h 0 batch refl))
     (all_stand c view set (suc first) batches (λ k other get.
-        let place : first + suc k ≡ suc first + k = omega arith in
-        subst (λ i. may_stand c view set i other ≡ true) place (h (suc k) other get)))
+    let place : first + suc k ≡ suc first + k = omega arith in
+    subst (λ i. may_stand c view set i other ≡ true) place (h (suc k) other get)))
 
 -- ---- the rules, together
 

@@ -1,12 +1,10 @@
 -- The tests of the rules of a new view hold exactly where their relations do.
-use Rattle.std.specs.List.{list_all, list_any, AllPairs, All, slice_index_or}
-use Rattle.std.proofs.Common.{◌≡◌, ◌^◌, ℕ, zero, suc, not, ◌+◌, ◌*◌, ◌%◌, ◌≤◌, ◌<◌, ◌⊎◌, inl, inr, Bool, true, false, cond, List, [], ◌∷◌, length, bytes_eq, Option, Some, None, refl, sym, ap, ◌∙◌, subst, arith, ◌&&◌, ◌||◌, eqb-true, eq-eqb}
+use Rattle.std.specs.List.{list_all, list_any, AllPairs, All}
+use Rattle.std.proofs.Common.{◌≡◌, ◌^◌, ℕ, zero, suc, not, ◌+◌, ◌%◌, ◌≤◌, ◌<◌, ◌⊎◌, inl, inr, Bool, true, false, List, [], ◌∷◌, bytes_eq, Some, refl, ap, ◌∙◌, subst, arith, ◌&&◌, ◌||◌, eqb-true, eq-eqb}
 use Rattle.std.specs.Prelude.{◌==◌, nat_le, nat_lt}
-use Rattle.std.specs.Option.{option_map_or}
 use Rattle.std.proofs.lemmas.Bool.{and_parts, and_from, or_left, or_right, le-leb, lt-ltb, ne_eqb, ltb-true}
 use Rattle.std.proofs.lemmas.Slice.Eq.{bytes_eq-Decides}
 use Rattle.std.proofs.lemmas.List.Kept.{AllPairs-cons}
-use Rattle.quorum.specs.Quorum.{count_below}
 use Rattle.quorum.proofs.Counting.{count_mono}
 use Rattle.protocol.specs.Configuration.{Configuration, replicas, span, is_number}
 use Rattle.wire.specs.Messages.{ViewChangeData, MarkData as Mark, ClaimData as Claim}
@@ -167,9 +165,9 @@ pub vouches_of : (i w : ℕ) (digest : List ℕ) (vc : ViewChangeData) → SaysF
 vouches_of i w digest vc h =
     any_of_has (λ (claim : Claim). (claim.number ≡ i) × (claim.digest ≡ digest) × (w ≤ claim.view)) (λ (claim : Claim). (claim.number == i) && bytes_eq claim.digest digest && nat_le w claim.view)
     (λ claim t.
-        and_from ((claim.number == i) && bytes_eq claim.digest digest) (nat_le w claim.view)
-        (and_from (claim.number == i) (bytes_eq claim.digest digest) (eq-eqb claim.number i t.0) ((bytes_eq-Decides claim.digest digest).1 t.1))
-        (le-leb w claim.view t.2))
+    and_from ((claim.number == i) && bytes_eq claim.digest digest) (nat_le w claim.view)
+    (and_from (claim.number == i) (bytes_eq claim.digest digest) (eq-eqb claim.number i t.0) ((bytes_eq-Decides claim.digest digest).1 t.1))
+    (le-leb w claim.view t.2))
     vc.pre_prepared h
 
 pub nothing_of : (i : ℕ) (vc : ViewChangeData) → SaysNothing i vc → (nat_lt vc.low i && list_all (λ (claim : Claim). not (claim.number == i)) vc.prepared) ≡ true
