@@ -77,3 +77,7 @@ pub mod TransferringEvents
 pub mod Transferring
 pub mod SelectedTests
 pub mod SelectedRules
+pub mod AnsweringAgain
+pub mod JoiningChangesOwing
+pub mod JoiningChanges
+pub mod TakingViews

@@ -23,3 +23,5 @@ pub mod RefusedKept
 pub mod RefusedSteps
 pub mod ExamplesOfTransfer
 pub mod Selected
+pub mod ExamplesOfKept
+pub mod ExamplesOfChanges
