@@ -15,9 +15,9 @@ use Rattle.protocol.specs.RefusedMarks.{IsBounded}
 use Rattle.protocol.specs.Selected.{AreSigned, SomePrepared, MayStand, IsSelected, NewViewsMeetTheRules}
 use Rattle.protocol.proofs.Lists.{largest_ge, stands_at, some_below}
 use Rattle.protocol.proofs.Marks.{Selects, selects, largest_of-le}
-use Rattle.protocol.proofs.Refusing.{says_nothing_against, says_for_it, says_nothing}
+use Rattle.protocol.proofs.Refusing.{have_of_count, says_nothing_against, says_for_it, says_nothing}
 use Rattle.protocol.proofs.RefusingMarksSelected.{spelled, no_longer, length_map, bounded, lists}
-use Rattle.protocol.proofs.SelectedTests.{each_of_all, all_of_each, pairs_of_ascending, ascending_of_pairs, have_of_count, count_of_have, within_of_bounded, agrees_of, vouches_of, nothing_of, listed_of}
+use Rattle.protocol.proofs.SelectedTests.{each_of_all, all_of_each, pairs_of_ascending, ascending_of_pairs, count_of_have, within_of_bounded, agrees_of, vouches_of, nothing_of, listed_of}
 
 -- ---- what is carried
 

@@ -10,10 +10,8 @@ use Rattle.protocol.specs.Configuration.{Configuration, replicas, span, is_numbe
 use Rattle.wire.specs.Messages.{ViewChangeData, MarkData as Mark, ClaimData as Claim}
 use Rattle.protocol.specs.Trace.{Has, Each}
 use Rattle.protocol.specs.Selection.{change_by, passes_by, count_in, agrees, vouches, ascending, is_claim_within, is_checkpoint_within, is_within}
-use Rattle.protocol.specs.Refused.{SaysNothingAgainst, SaysForIt, SaysNothing}
+use Rattle.protocol.specs.Refused.{SoManyHave, SaysNothingAgainst, SaysForIt, SaysNothing}
 use Rattle.protocol.specs.RefusedMarks.{IsClaimBounded, IsCheckpointBounded, IsBounded}
-use Rattle.protocol.specs.Selected.{SoManyHave}
-use Rattle.protocol.proofs.Lists.{passes_change, change_there}
 
 -- ---- lists
 
@@ -89,16 +87,6 @@ change_of (x ∷ xs) s vc h (inr rest) =
     rw other (change_of xs s vc (later x xs h) rest)
 
 -- ---- how many replicas
-
-pub have_of_count : (c : Configuration) (set : List (ℕ × ViewChangeData)) (count : ℕ) (test : ViewChangeData → Bool) (P : ViewChangeData → Type 0) → ((vc : ViewChangeData) → test vc ≡ true → P vc)
-    → count ≤ count_in c test set → SoManyHave count c set P
-have_of_count c set count test P f enough = (
-  passes_by test set,
-  enough,
-  λ s h.
-      let t = passes_change test set s h in
-      (t.0, change_there set s t.0 t.1, f t.0 t.2),
-)
 
 pub count_of_have : (c : Configuration) (set : List (ℕ × ViewChangeData)) (count : ℕ) (test : ViewChangeData → Bool) (P : ViewChangeData → Type 0) → ((vc : ViewChangeData) → P vc → test vc ≡ true)
     → ascending set ≡ true → SoManyHave count c set P → count ≤ count_in c test set

@@ -1,12 +1,11 @@
 -- The rules of a new view, said of the view changes that it carries (Castro and Liskov, TOCS 2002, on view changes).
-use Rattle.std.specs.Prelude.{◌≡◌, ◌↔◌, ℕ, suc, ◌+◌, ◌*◌, ◌≤◌, ◌<◌, ◌⊎◌, true, Bool, List, [], ◌∷◌, length, slice_get, Some, AllPairs, ⊤}
+use Rattle.std.specs.Prelude.{◌≡◌, ◌↔◌, ℕ, suc, ◌+◌, ◌*◌, ◌≤◌, ◌<◌, ◌⊎◌, true, List, [], ◌∷◌, length, slice_get, Some, AllPairs, ⊤}
 use Rattle.sha2.specs.Sha256.{sha256}
-use Rattle.quorum.specs.Quorum.{count_below}
-use Rattle.protocol.specs.Configuration.{Configuration, replicas}
+use Rattle.protocol.specs.Configuration.{Configuration}
 use Rattle.wire.specs.Messages.{NewViewData, ViewChangeData, MarkData as Mark, ClaimData as Claim}
 use Rattle.protocol.specs.Trace.{Has, Each}
 use Rattle.protocol.specs.Selection.{may_select}
-use Rattle.protocol.specs.Refused.{SaysNothingAgainst, SaysForIt, SaysNothing}
+use Rattle.protocol.specs.Refused.{SoManyHave, SaysNothingAgainst, SaysForIt, SaysNothing}
 use Rattle.protocol.specs.RefusedMarks.{SpellsChange, IsBounded}
 
 -- the frames spell these view changes, each signed by its sender
@@ -16,16 +15,11 @@ AreSigned c (frame ∷ frames) (x ∷ xs) = SpellsChange c frame x.0 x.1 × AreS
 AreSigned c [] (x ∷ xs) = ⊥
 AreSigned c (frame ∷ frames) [] = ⊥
 
--- at least so many different replicas have a view change in the set of which this holds
-abbrev pub SoManyHave : ℕ → Configuration → List (ℕ × ViewChangeData) → (ViewChangeData → Type 0) → Type 0
-SoManyHave count c set P =
-    (from : ℕ → Bool) × (count ≤ count_below from (replicas c)) × ((s : ℕ) → from s ≡ true → (vc : ViewChangeData) × Has (λ x. x ≡ (s, vc)) set × P vc)
-
--- a quorum of different replicas has
+-- a quorum of different replicas has a view change in the set of which this holds
 abbrev pub QuorumHas : Configuration → List (ℕ × ViewChangeData) → (ViewChangeData → Type 0) → Type 0
 QuorumHas c set P = SoManyHave (2 * c.faults + 1) c set P
 
--- f + 1 different replicas have
+-- f + 1 different replicas have one
 abbrev pub WeakQuorumHas : Configuration → List (ℕ × ViewChangeData) → (ViewChangeData → Type 0) → Type 0
 WeakQuorumHas c set P = SoManyHave (c.faults + 1) c set P
 
