@@ -22,5 +22,6 @@ pub mod RefusedMarks
 pub mod RefusedKept
 pub mod RefusedSteps
 pub mod ExamplesOfTransfer
+pub mod Selected
 pub mod ExamplesOfKept
 pub mod ExamplesOfChanges
