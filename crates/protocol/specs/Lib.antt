@@ -20,4 +20,5 @@ pub mod RefusedChanges
 pub mod ExamplesOfAnswers
 pub mod RefusedMarks
 pub mod RefusedKept
+pub mod RefusedItems
 pub mod RefusedSteps
