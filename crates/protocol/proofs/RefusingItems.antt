@@ -47,8 +47,8 @@ answers_as_one_space before after item h = answers [] before after item h
 is_call : (client timestamp : ℕ) (op : Operation) (past : List Entry) (e : Entry) → Invokes (256 + client) timestamp op past e → e ≡ Invoke client timestamp op
 is_call client timestamp op past (Invoke k t o) h =
     let same : k ≡ client = omega (arith, h.0) in
-    let time : t ≡ timestamp = h.1.0 in
-    let does : o ≡ op = h.1.1 in
+    let time : t ≡ timestamp = h.1 in
+    let does : o ≡ op = h.2 in
     cc
 is_call client timestamp op past (Got p bytes) h = absurd h
 is_call client timestamp op past (Tick p) h = absurd h
@@ -69,7 +69,7 @@ pub lists_what_is_accepted : ListsWhatIsAccepted
 lists_what_is_accepted c items trace client timestamp answer covers correct has =
     has_weaker (λ (item : Item). (item.client ≡ 256 + client) × (item.timestamp ≡ timestamp) × (item.answer ≡ answer) × Once (Invokes (256 + client) timestamp item.op) trace)
     (λ (item : Item). (item.client ≡ 256 + client) × (item.timestamp ≡ timestamp) × (item.answer ≡ answer) × Has (λ e. e ≡ Invoke client timestamp item.op) trace)
-    (λ item h. (h.0, h.1.0, h.1.1.0, called client timestamp item.op trace h.1.1.1)) items
+    (λ item h. (h.0, h.1, h.2, called client timestamp item.op trace h.3)) items
     (covers.accepted (256 + client) timestamp answer correct (accepts_there client timestamp answer trace has))
 
 pub lists_what_is_called : ListsWhatIsCalled
