@@ -107,7 +107,7 @@ module _ (c : Configuration) (writer reader : ℕ) (t : TupleTree) (p : Template
                 by (inr (inl h)) = inr ((sym h.0.0, sym h.0.1, sym h.0.2), h.1)
                 by (inr (inr (inl h))) = absurd h.0
                 by (inr (inr (inr (inl h)))) =
-                    inl ((sym h.0.0, sym h.0.1, sym h.0.2), (linear.placed.before x done has right).2.0 (h.0.0, h.0.1, refl))
+                    inl ((sym h.0.0, sym h.0.1, sym h.0.2), (linear.placed.before x done has right).1.1.0 (h.0.0, h.0.1, refl))
                 by (inr (inr (inr (inr h)))) = absurd h
             go false wrong = by (linear.covers.asked x has wrong)
               where
@@ -132,19 +132,24 @@ module _ (c : Configuration) (writer reader : ℕ) (t : TupleTree) (p : Template
   abbrev Finds : Item → Type 0
   Finds x = (x.client ≡ 256 + reader) × (x.answer ≡ found t) × (x.position ≤ 1)
 
+  abbrev IsAccepted : Item → Type 0
+  IsAccepted x = (x.client ≡ 256 + reader) × (x.timestamp ≡ 1) × (x.answer ≡ found t) × Once (Invokes (256 + reader) 1 x.op) early
+
   -- of what is read from the empty space nothing is found, and no write is before it
   finds_none : (items : List Item) → ((x : Item) → Has (λ y. y ≡ x) items → Writes x ⊎ Reads x) → NeverFall items → LegalFrom [] items → Has Finds items → ⊥
   finds_none [] each order legal has = has
-  finds_none (x ∷ items) each order legal has = go (each x (inl refl)) has
+  finds_none (x ∷ items) each order legal has =
+      go (each x (inl refl)) has
+      (λ r f. finds_none items (λ y h. each y (inr h)) (behind x items order) (subst (λ (o : Operation). LegalFrom (tuples_after [] o) items) r.0.2 legal.1) f)
     where
-      go : Writes x ⊎ Reads x → Finds x ⊎ Has Finds items → ⊥
-      go (inl w) (inl f) = not_both x w.0.0 f.0
-      go (inl w) (inr f) =
+      go : Writes x ⊎ Reads x → Finds x ⊎ Has Finds items → (Reads x → Has Finds items → ⊥) → ⊥
+      go (inl w) (inl f) below = not_both x w.0.0 f.0
+      go (inl w) (inr f) below =
           let high = w.1 in
           let low = lowest Finds 1 x items (λ y h. h.2) order f in
           absurd (omega arith)
-      go (inr r) (inl f) = let bad : found t ≡ absent = sym f.1 ∙ legal.0 ∙ ap (outcome []) r.0.2 in absurd cc
-      go (inr r) (inr f) = finds_none items (λ y h. each y (inr h)) (behind x items order) (subst (λ (o : Operation). LegalFrom (tuples_after [] o) items) r.0.2 legal.1) f
+      go (inr r) (inl f) below = let bad : found t ≡ absent = sym f.1 ∙ legal.0 ∙ ap (outcome []) r.0.2 in absurd cc
+      go (inr r) (inr f) below = below r f
 
   early_has_none : (items : List Item) → IsLinear c items early → ⊥
   early_has_none items linear =
@@ -152,14 +157,11 @@ module _ (c : Configuration) (writer reader : ℕ) (t : TupleTree) (p : Template
       (has_with items (λ x h. h)
       (linear.covers.accepted (256 + reader) 1 (found t) right_reader (inr (inr (inl (refl, refl, refl))))))
     where
-      abbrev IsIt : Item → Type 0
-      IsIt x = (x.client ≡ 256 + reader) × (x.timestamp ≡ 1) × (x.answer ≡ found t) × Once (Invokes (256 + reader) 1 x.op) early
-
-      has_with : (ys : List Item) → ((x : Item) → Has (λ y. y ≡ x) ys → Has (λ y. y ≡ x) items) → Has IsIt ys → Has Finds ys
+      has_with : (ys : List Item) → ((x : Item) → Has (λ y. y ≡ x) ys → Has (λ y. y ≡ x) items) → Has IsAccepted ys → Has Finds ys
       has_with [] emb h = h
       has_with (y ∷ ys) emb (inl h) =
           let right : is_correct_client c y.client ≡ true = subst (λ (q : ℕ). is_correct_client c q ≡ true) (sym h.0) right_reader in
-          inl (h.0, h.2, (linear.placed.before y (found t) (emb y (inl refl)) right).2.0 (sym h.0, sym h.1, refl))
+          inl (h.0, h.2, (linear.placed.before y (found t) (emb y (inl refl)) right).1.1.0 (sym h.0, sym h.1, refl))
       has_with (y ∷ ys) emb (inr h) = inr (has_with ys (λ x k. emb x (inr k)) h)
 
       each : (x : Item) → Has (λ y. y ≡ x) items → Writes x ⊎ Reads x
@@ -173,7 +175,7 @@ module _ (c : Configuration) (writer reader : ℕ) (t : TupleTree) (p : Template
               by (inr (inl h)) = inl ((sym h.0.0, sym h.0.1, sym h.0.2), h.1)
               by (inr (inr (inl h))) = absurd h.0
               by (inr (inr (inr (inl h)))) =
-                  inr ((sym h.0.0, sym h.0.1, sym h.0.2), (linear.placed.before x (found t) has right).2.0 (h.0.0, h.0.1, refl))
+                  inr ((sym h.0.0, sym h.0.1, sym h.0.2), (linear.placed.before x (found t) has right).1.1.0 (h.0.0, h.0.1, refl))
               by (inr (inr (inr (inr h)))) = absurd h
           go false wrong = by (linear.covers.asked x has wrong)
             where
