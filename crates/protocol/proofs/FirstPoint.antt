@@ -1,5 +1,5 @@
 -- The points of the first operation.
-use Rattle.std.proofs.Common.{◌≡◌, ℕ, Bool, true, false, not, filter, List, [], ◌∷◌, ◌++◌, map, refl, sym, ap, ◌∙◌, arith, Option, Some, None}
+use Rattle.std.proofs.Common.{◌≡◌, ℕ, false, not, filter, List, [], ◌∷◌, ◌++◌, map, refl, ap, ◌∙◌, arith, Option, Some}
 use Rattle.std.specs.Prelude.{option_and_then}
 use Rattle.std.specs.Option.{option_map_or}
 use Rattle.tuple_codec.specs.Operations.{Operation}
@@ -9,8 +9,8 @@ use Rattle.protocol.specs.Configuration.{Configuration, IsConfiguration}
 use Rattle.protocol.specs.Trace.{Entry}
 use Rattle.protocol.specs.Trace.Entry.{Invoke, Got, Sent}
 use Rattle.protocol.specs.State.{Call, Ran, opening, ran_in, ran_by}
-use Rattle.protocol.specs.RightClient.{OpenCall, Vote, newest_vote}
-use Rattle.protocol.specs.Linear.{Item, Placing, first_position, batch_of, last_executed, ordered_point, ordered_points, read_point, read_points, is_double, sorted, points}
+use Rattle.protocol.specs.RightClient.{Vote}
+use Rattle.protocol.specs.Linear.{Placing, first_position, batch_of, last_executed, ordered_point, ordered_points, read_point, read_points, is_double, sorted, points}
 use Rattle.protocol.specs.Examples.{four}
 use Rattle.protocol.specs.FirstOperation.{FirstFrames, AreFirstFrames, first_answer, first_trace, first_item, FirstOperationHasItsPoint}
 use Rattle.protocol.proofs.FirstReplicasSteps.{Part, the_ran, called}

@@ -1,8 +1,8 @@
 -- Two traces of a write and a read that are not linearizable.
 use Rattle.std.proofs.Common.{◌≡◌, ◌≢◌, ℕ, ◌+◌, ◌≤◌, ◌⊎◌, inl, inr, Bool, true, false, List, [], ◌∷◌, refl, sym, ap, ◌∙◌, subst, arith, length}
-use Rattle.std.specs.Prelude.{if◌then◌else◌, Option, Some, None}
+use Rattle.std.specs.Prelude.{if◌then◌else◌, Some, None}
 use Rattle.tuple_tree.specs.Values.{TupleTree, TemplateTree}
-use Rattle.tuple_codec.specs.Operations.{Operation, out, rdp, Outcome, done, found, absent}
+use Rattle.tuple_codec.specs.Operations.{Operation, out, rdp, done, found, absent}
 use Rattle.template_match.specs.Tests.{is_match}
 use Rattle.space.specs.Applying.{outcome, tuples_after, found_or_absent}
 use Rattle.protocol.specs.Configuration.{Configuration, is_correct_client}
@@ -14,7 +14,6 @@ use Rattle.protocol.proofs.RefusingItems.{has_weaker, behind, lowest}
 
 module _ (c : Configuration) (writer reader : ℕ) (t : TupleTree) (p : TemplateTree) (differ : writer ≢ reader)
     (right_writer : is_correct_client c (256 + writer) ≡ true) (right_reader : is_correct_client c (256 + reader) ≡ true) where
-
   abbrev IsWrite : Item → Type 0
   IsWrite x = (x.client ≡ 256 + writer) × (x.timestamp ≡ 1) × (x.op ≡ out t)
 

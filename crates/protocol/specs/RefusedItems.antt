@@ -1,7 +1,7 @@
 -- What the definitions of a linear list of items refuse, clause by clause, and two traces that are not linearizable.
 use Rattle.std.specs.Prelude.{◌≡◌, ◌≢◌, ℕ, ◌+◌, ◌≤◌, ◌<◌, true, false, List, [], ◌∷◌, ◌++◌, length, slice_get, Some}
 use Rattle.tuple_tree.specs.Values.{TupleTree, TemplateTree}
-use Rattle.tuple_codec.specs.Operations.{Operation, out, rdp, Outcome, done, found, absent}
+use Rattle.tuple_codec.specs.Operations.{out, rdp, Outcome, done, found, absent}
 use Rattle.template_match.specs.Tests.{is_match}
 use Rattle.space.specs.Applying.{outcome, tuples_after}
 use Rattle.wire.specs.declared.terms.Mode.TheVariants as modes
