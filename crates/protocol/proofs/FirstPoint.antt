@@ -39,7 +39,7 @@ module _ (clients : ℕ) (seed : List ℕ) (op : Operation) (batch : List ℕ) (
   abbrev part : Part
   part = record { clients = clients; seed = seed; op = op; batch = batch; frames = w; setting = setting; are_frames = x; me = 0; member = refl; within = omega arith }
 
-  ran_one : ran_in c 1 opening (requests_of batch) ≡ the_ran op ∷ []
+  pub ran_one : ran_in c 1 opening (requests_of batch) ≡ the_ran op ∷ []
   unfolding no_replies
   ran_one = ap (ran_in c 1 opening) x.requests ∙ ap (λ (call : Option Call). option_map_or (ran_by opening 1) call [] ++ []) (called part)
 

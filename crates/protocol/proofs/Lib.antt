@@ -67,6 +67,7 @@ pub mod RefusingKept
 pub mod RefusingItems
 pub mod RefusingItemsTraces
 pub mod FirstPoint
+pub mod FirstReadsPoints
 pub mod AnsweringFirst
 pub mod AnsweringFetch
 pub mod RefusingMarksSelected

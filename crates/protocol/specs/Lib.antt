@@ -21,4 +21,5 @@ pub mod ExamplesOfAnswers
 pub mod RefusedMarks
 pub mod RefusedKept
 pub mod RefusedItems
+pub mod FirstReads
 pub mod RefusedSteps

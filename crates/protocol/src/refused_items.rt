@@ -2,6 +2,7 @@
 
 ghost use Rattle.protocol.specs.RefusedItems.{AnswersAsOneSpace, ListsWhatIsAccepted, ListsWhatIsCalled, ListsWhatIsAsked, ListsNoneTwice, PlacesInOrder, PlacesBehindCalls, PlacesBeforeAcceptances, LinearIsAllThree, OneSpaceIsBoth, WritesAreSeen, ReadsAreNotEarly};
 ghost use Rattle.protocol.specs.FirstOperation.{FirstOperationHasItsPoint};
+ghost use Rattle.protocol.specs.FirstReads.{ReadsHaveTheirPoints};
 
 /// Each answer of a legal list is that of one space. What covers a trace lists what correct clients accepted, with that
 /// answer, nothing of a correct client that it did not call, nothing of a faulty one that no correct replica was asked for
@@ -30,4 +31,10 @@ pub fn traces_are_refused()
 /// position at which the third replica executes it.
 pub fn a_first_operation_has_its_point()
     ensures point { FirstOperationHasItsPoint }
+{}
+
+/// Beside it, the points of reads: those that were called before it stand where the third replica executes it, behind it
+/// and by client, and one that is called behind it stands where it is called.
+pub fn first_reads_have_their_points()
+    ensures points { ReadsHaveTheirPoints }
 {}
