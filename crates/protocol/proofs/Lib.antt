@@ -76,3 +76,10 @@ pub mod RefusingMarksCheckpoints
 pub mod RefusingSteps
 pub mod RefusingStepsAllowed
 pub mod RefusingStepsSigned
+pub mod TransferringStages
+pub mod TransferringEvents
+pub mod Transferring
+pub mod AnsweringAgain
+pub mod JoiningChangesOwing
+pub mod JoiningChanges
+pub mod TakingViews

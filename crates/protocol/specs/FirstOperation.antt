@@ -75,6 +75,7 @@ first_operation op batch w =
     ∷ Got 256 (w.reply 0) ∷ Got 256 (w.reply 1) ∷ Got 256 (w.reply 2) ∷ Accepted 0 1 (first_answer op) ∷ Got 256 (w.reply 3)
     ∷ []
 
+-- the same with the newest entry first, as traces are
 abbrev pub first_trace : Operation → List ℕ → FirstFrames → List Entry
 first_trace op batch w = reverse (first_operation op batch w)
 

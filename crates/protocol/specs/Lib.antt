@@ -23,3 +23,6 @@ pub mod RefusedKept
 pub mod RefusedItems
 pub mod FirstReads
 pub mod RefusedSteps
+pub mod ExamplesOfTransfer
+pub mod ExamplesOfKept
+pub mod ExamplesOfChanges

@@ -78,6 +78,7 @@ MayBeFed c past _ = ⊤
 abbrev pub FeedsWhatMayBeFed : Type 0
 FeedsWhatMayBeFed = (c : Configuration) (steps : List Step) (trace : List Entry) → Feeds c steps trace → Always (MayBeFed c) trace
 
+-- the party is one of the configuration
 abbrev pub IsParty : Configuration → ℕ → Type 0
 IsParty c p = (is_replica c p ≡ true) ⊎ (is_client c p ≡ true)
 
