@@ -1,4 +1,5 @@
--- Three reads beside the first operation of client 0: clients 1 and 2 call theirs before it, client 3 behind it.
+-- Three reads beside the first operation of client 0: clients 1 and 2 call theirs before it, client 3 behind it. What they
+-- read, and what is answered, is left open.
 use Rattle.std.specs.Prelude.{◌≡◌, ℕ, ◌+◌, ◌<◌, List, [], ◌∷◌, ◌++◌, reverse, Some}
 use Rattle.tuple_codec.specs.Operations.{Operation, Outcome}
 use Rattle.wire.specs.declared.terms.Mode.TheVariants as modes
@@ -11,7 +12,7 @@ use Rattle.protocol.specs.Linear.{Item, points}
 use Rattle.protocol.specs.Examples.{four}
 use Rattle.protocol.specs.FirstOperation.{FirstFrames, AreFirstFrames, first_answer, first_operation}
 
--- what a client reads, its request, each replica's reply and the answer
+-- a read: what is read, the client's request, each replica's reply, and the answer
 pub record Read : Type 0 where
   pub op : Operation
   pub request : List ℕ
@@ -22,6 +23,7 @@ pub record Read : Type 0 where
 abbrev pub IsReadOf : Configuration → ℕ → Read → Type 0
 IsReadOf c k read = (r : ℕ) → r < 4 → heard c (256 + k) (read.reply r) ≡ Some (record { sender = r; message = Reply (256 + k) 1 modes.ReadOnly 1 read.answer })
 
+-- the client calls its read and asks for it
 abbrev pub called : ℕ → Read → List Entry
 called k read = Invoke k 1 read.op ∷ Sent (256 + k) read.request ∷ []
 
@@ -37,6 +39,7 @@ abbrev pub reads_trace : Operation → List ℕ → FirstFrames → (ℕ → Rea
 reads_trace op batch w read =
     reverse (called 1 (read 1) ++ called 2 (read 2) ++ first_operation op batch w ++ called 3 (read 3) ++ answered 3 (read 3) ++ answered 1 (read 1) ++ answered 2 (read 2))
 
+-- a client's read as an item at a position
 abbrev pub read_item : ℕ → Read → ℕ → Item
 read_item k read position = record { client = 256 + k; timestamp = 1; op = read.op; answer = read.answer; position = position }
 
