@@ -108,7 +108,7 @@ module _ (clients : ℕ) (seed : List ℕ) (op : Operation) (batch : List ℕ) (
 
   -- ---- what the client gives
 
-  newest : (r : ℕ) → r < 4 → (past : List Entry) → newest_vote c 256 (Got 256 (w.reply r) ∷ past) 1 ≡ Some vote
+  pub newest : (r : ℕ) → r < 4 → (past : List Entry) → newest_vote c 256 (Got 256 (w.reply r) ∷ past) 1 ≡ Some vote
   newest r l past =
       ap (option_and_then (λ (body : Body). vote_of 256 1 body.sender body)) (hears r l) ∙ ap (λ (b : Bool). give_if ((b && true) && true) vote) (eq-eqb r r refl)
 

@@ -64,6 +64,10 @@ pub mod RefusingChanges
 pub mod RefusingChangesDropped
 pub mod RefusingChangesWaiting
 pub mod RefusingKept
+pub mod RefusingItems
+pub mod RefusingItemsTraces
+pub mod FirstPoint
+pub mod FirstReadsPoints
 pub mod AnsweringFirst
 pub mod AnsweringFetch
 pub mod RefusingMarksSelected

@@ -20,6 +20,8 @@ pub mod RefusedChanges
 pub mod ExamplesOfAnswers
 pub mod RefusedMarks
 pub mod RefusedKept
+pub mod RefusedItems
+pub mod FirstReads
 pub mod RefusedSteps
 pub mod ExamplesOfTransfer
 pub mod Selected

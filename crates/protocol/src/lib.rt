@@ -4,6 +4,7 @@
 pub mod accepted;
 pub mod refused;
 pub mod refused_changes;
+pub mod refused_items;
 pub mod refused_kept;
 pub mod refused_marks;
 pub mod refused_runs;
