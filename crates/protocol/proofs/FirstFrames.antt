@@ -62,7 +62,7 @@ unfolding digest_bytes
 digest_is_bytes h zero = no_bytes
 digest_is_bytes h (suc n) = bytes_append _ _ (digest_is_bytes h n) (bytes_4 (slice_index h n))
 
-is_digest : (text : List ℕ) → IsDigest (sha256 text)
+pub is_digest : (text : List ℕ) → IsDigest (sha256 text)
 unfolding sha256
 is_digest text = record { whole = length-sha256 text; bytes = digest_is_bytes _ 8 }
 

@@ -12,7 +12,7 @@ use Rattle.protocol.proofs.FirstReplicasPrimary as primary
 
 -- ---- in which order each backup hears the others
 
-first : IsOrder 1 2 3 2 3 0
+pub first : IsOrder 1 2 3 2 3 0
 first = record {
   member = refl;
   within = omega arith;
@@ -37,7 +37,7 @@ first = record {
   new_commit = refl;
 }
 
-second : IsOrder 2 1 3 3 0 1
+pub second : IsOrder 2 1 3 3 0 1
 second = record {
   member = refl;
   within = omega arith;
@@ -62,7 +62,7 @@ second = record {
   new_commit = refl;
 }
 
-third : IsOrder 3 1 2 2 0 1
+pub third : IsOrder 3 1 2 2 0 1
 third = record {
   member = refl;
   within = omega arith;

@@ -53,7 +53,7 @@ module _ (clients : ℕ) (seed : List ℕ) (op : Operation) (batch : List ℕ) (
   abbrev c : Configuration
   c = four clients seed
 
-  abbrev self : Part
+  abbrev pub self : Part
   self = record { clients = clients; seed = seed; op = op; batch = batch; frames = w; setting = setting; are_frames = x; me = me; member = order.member; within = order.within }
 
   -- ---- the history, as it grows
@@ -155,11 +155,11 @@ module _ (clients : ℕ) (seed : List ℕ) (op : Operation) (batch : List ℕ) (
   s10 : At h10 true p3 k3
   s10 = events.behind_reply self h8 p3 k3 s8
 
-  s11 : At backup_history true p3 k4
-  s11 = events.behind_commit self h10 f p3 k3 order.sender_f s10
+  pub behind : At backup_history true p3 k4
+  behind = events.behind_commit self h10 f p3 k3 order.sender_f s10
 
   pub is_committed : Committed c me backup_history 0 1 batch
-  is_committed = committed_full clients seed batch me backup_history true p3 k4 s11 order.three_prepares order.four_commits (ap (λ (y : Bool). y || (me == f)) order.own_commit)
+  is_committed = committed_full clients seed batch me backup_history true p3 k4 behind order.three_prepares order.four_commits (ap (λ (y : Bool). y || (me == f)) order.own_commit)
 
   -- ---- the request and the proposal
 
@@ -284,17 +284,17 @@ module _ (clients : ℕ) (seed : List ℕ) (op : Operation) (batch : List ℕ) (
     ),
   )
 
-  pub is_replica : IsReplica c me backup_history
-  is_replica = inl (
-    done c batch,
+  pub proceeds : Proceeds c me backup_history [] (done c batch) (done c batch)
+  proceeds = (
+    ran c op batch,
+    events.step_last self h10 f order.sender_f,
     (
-      ran c op batch,
-      events.step_last self h10 f order.sender_f,
-      (
-        events.owing self h10 (w.commit f) [] backup_history (ran c op batch) (done c batch) true true p3 p3 k3 k4 s10 s11
-            (events.due_nothing self h10 backup_history (w.commit f) (commits batch f) (ran c op batch) (done c batch) p3 p3 k4 (events.hears_commit self f order.sender_f) tt (no_numbers backup_history (done c batch)) refl (inl order.three_prepares)
-            (inl (steps.after_number self))),
-        to_reply,
-      ),
+      events.owing self h10 (w.commit f) [] backup_history (ran c op batch) (done c batch) true true p3 p3 k3 k4 s10 behind
+          (events.due_nothing self h10 backup_history (w.commit f) (commits batch f) (ran c op batch) (done c batch) p3 p3 k4 (events.hears_commit self f order.sender_f) tt (no_numbers backup_history (done c batch)) refl (inl order.three_prepares)
+          (inl (steps.after_number self))),
+      to_reply,
     ),
   )
+
+  pub is_replica : IsReplica c me backup_history
+  is_replica = inl (done c batch, proceeds)

@@ -35,7 +35,7 @@ module _ (clients : ℕ) (seed : List ℕ) (op : Operation) (batch : List ℕ) (
   abbrev c : Configuration
   c = four clients seed
 
-  abbrev self : Part
+  abbrev pub self : Part
   self = record { clients = clients; seed = seed; op = op; batch = batch; frames = w; setting = setting; are_frames = x; me = 0; member = refl; within = omega arith }
 
   -- ---- the history, as it grows
@@ -134,11 +134,11 @@ module _ (clients : ℕ) (seed : List ℕ) (op : Operation) (batch : List ℕ) (
   s10 : At h10 true p3 k3
   s10 = events.behind_reply self h8 p3 k3 s8
 
-  s11 : At primary_history true p3 k4
-  s11 = events.behind_commit self h10 1 p3 k3 first_sender s10
+  pub behind : At primary_history true p3 k4
+  behind = events.behind_commit self h10 1 p3 k3 first_sender s10
 
   pub is_committed : Committed c 0 primary_history 0 1 batch
-  is_committed = committed_full clients seed batch 0 primary_history true p3 k4 s11 refl refl refl
+  is_committed = committed_full clients seed batch 0 primary_history true p3 k4 behind refl refl refl
 
   -- ---- the request is numbered, and once
 
@@ -277,17 +277,17 @@ module _ (clients : ℕ) (seed : List ℕ) (op : Operation) (batch : List ℕ) (
   nothing_waits : events.Numbers self primary_history (done c batch)
   nothing_waits own call has = absurd has
 
-  pub is_replica : IsReplica c 0 primary_history
-  is_replica = inl (
-    done c batch,
+  pub proceeds : Proceeds c 0 primary_history [] (done c batch) (done c batch)
+  proceeds = (
+    ran c op batch,
+    events.step_last self h10 1 first_sender,
     (
-      ran c op batch,
-      events.step_last self h10 1 first_sender,
-      (
-        events.owing self h10 (w.commit 1) [] primary_history (ran c op batch) (done c batch) true true p3 p3 k3 k4 s10 s11
-            (events.due_nothing self h10 primary_history (w.commit 1) (commits batch 1) (ran c op batch) (done c batch) p3 p3 k4 (events.hears_commit self 1 first_sender) tt nothing_waits refl (inl refl)
-            (inl (steps.after_number self))),
-        to_reply,
-      ),
+      events.owing self h10 (w.commit 1) [] primary_history (ran c op batch) (done c batch) true true p3 p3 k3 k4 s10 behind
+          (events.due_nothing self h10 primary_history (w.commit 1) (commits batch 1) (ran c op batch) (done c batch) p3 p3 k4 (events.hears_commit self 1 first_sender) tt nothing_waits refl (inl refl)
+          (inl (steps.after_number self))),
+      to_reply,
     ),
   )
+
+  pub is_replica : IsReplica c 0 primary_history
+  is_replica = inl (done c batch, proceeds)

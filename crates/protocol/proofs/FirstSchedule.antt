@@ -143,7 +143,7 @@ module _ (clients : ℕ) (seed : List ℕ) (op : Operation) (batch : List ℕ) (
       let next : pending c u ≡ Some (n, p) = pending_is ns delivered u f d ∙ delivery_is n p (next_of delivered 0 (map made ns)) b.0 in
       let after : World = record (with_entry c u (Got p (the n).bytes)) { delivered = (n, p) ∷ u.delivered } in
       let g = follow ms ns ((n, p) ∷ delivered) a.1 after (append-nil u.frames ∙ f) (ap (λ xs. (n, p) ∷ xs) d) in
-      (g.0, flushes refl next (delivers {made = made n} (slice_get_within u.frames n (made n) there, correct p k.1) there g.1))
+      (g.0, flushes next (delivers {made = made n} (slice_get_within u.frames n (made n) there, correct p k.1) there g.1))
   follow (runs r ∷ ms) ns delivered h u f d =
       let g = follow ms ns delivered h (with_entry c u (Executed r 1 batch)) (append-nil u.frames ∙ f) d in
       (g.0, gives refl g.1)

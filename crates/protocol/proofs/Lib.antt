@@ -64,6 +64,10 @@ pub mod RefusingChanges
 pub mod RefusingChangesDropped
 pub mod RefusingChangesWaiting
 pub mod RefusingKept
+pub mod RefusingItems
+pub mod RefusingItemsTraces
+pub mod FirstPoint
+pub mod FirstReadsPoints
 pub mod AnsweringFirst
 pub mod AnsweringFetch
 pub mod RefusingMarksSelected
@@ -78,3 +82,12 @@ pub mod Waiting
 pub mod FirstRead
 pub mod FirstWeak
 pub mod Correctness
+pub mod TransferringStages
+pub mod TransferringEvents
+pub mod Transferring
+pub mod SelectedTests
+pub mod SelectedRules
+pub mod AnsweringAgain
+pub mod JoiningChangesOwing
+pub mod JoiningChanges
+pub mod TakingViews

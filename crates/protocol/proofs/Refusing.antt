@@ -23,9 +23,9 @@ use Rattle.reply_cache.specs.Replies.{Kept}
 use Rattle.protocol.specs.State.{State, Ran, opening, kept_of, page_text}
 use Rattle.protocol.specs.RightReplica.{MayNewView, MayMeta, MayPage, kept_states, digests_at, IsAddressed, Point, Leaves, SafeReplica, May, Moves, MaySay, MaySend, MayCheckpoint, MayPrepare, MayCommit, MayPrePrepare, MayReply, MayReplyRead, MayViewChange, SendsBytes, reply_of, GetsPage}
 use Rattle.protocol.specs.RightClient.{SafeClient, Vote, latest, is_alike, count_alike}
-use Rattle.protocol.specs.Refused.{SealsWell, SignsWell, PrePreparesAsPrimary, PrePreparesInMarks, NoPrePrepareAfterChange, CheckpointsMultiples, BeginsAsPrimary, ReadsWhatWasAsked, DigestsToWhoAsked, PagesToWhoAsked, IsReplyOf, ExecutesWhatIsCommitted, GivesKeptDigests, GivesKeptPages, GivesAskedDigests, GivesAskedPages, RepliesWhatRan, DropsUnaskedDigests, DropsUnaskedPages, ProposesAuthentic, ReadsNewest, NoChangeWhileActive, DropsReplies, DropsOwnChange, RepliesToItsClient, CommitsToAll, Says, NoExecution, newest_number, HasFrom, SaysNothingAgainst, SaysForIt, SaysNothing, RepliesAfterExecution, NoCommitAfterChange, NoPrepareAfterChange, NoEarlyCheckpoint, OnePrePrepare, NoPrepareByPrimary, ExecutesNext, KeepsPrepared, InstallsWhatItHas, InstallsWithHeader, TakesWellSelected, TakesNoLower, AcceptsAtQuorum}
+use Rattle.protocol.specs.Refused.{SealsWell, SignsWell, PrePreparesAsPrimary, PrePreparesInMarks, NoPrePrepareAfterChange, CheckpointsMultiples, BeginsAsPrimary, ReadsWhatWasAsked, DigestsToWhoAsked, PagesToWhoAsked, IsReplyOf, ExecutesWhatIsCommitted, GivesKeptDigests, GivesKeptPages, GivesAskedDigests, GivesAskedPages, RepliesWhatRan, DropsUnaskedDigests, DropsUnaskedPages, ProposesAuthentic, ReadsNewest, NoChangeWhileActive, DropsReplies, DropsOwnChange, RepliesToItsClient, CommitsToAll, NoExecution, newest_number, SoManyHave, HasFrom, SaysNothingAgainst, SaysForIt, SaysNothing, RepliesAfterExecution, NoCommitAfterChange, NoPrepareAfterChange, NoEarlyCheckpoint, OnePrePrepare, NoPrepareByPrimary, ExecutesNext, KeepsPrepared, InstallsWhatItHas, InstallsWithHeader, TakesWellSelected, TakesNoLower, AcceptsAtQuorum}
 use Rattle.wire.specs.Words.{requests_of}
-use Rattle.protocol.specs.Owed.{Owes, Counts, IsReplica, change_taken, latest_change}
+use Rattle.protocol.specs.Owed.{IsSaying, Owes, Counts, IsReplica, change_taken, latest_change}
 use Rattle.protocol.proofs.Temporal.{once_weaker, once_stays_from}
 use Rattle.protocol.proofs.Options.{and_then_some, give_if_some, some_injective}
 use Rattle.protocol.proofs.Voting.{right_always, logged_stays}
@@ -85,12 +85,12 @@ replies_after_execution c me client timestamp number answer bytes past says none
 
 -- ---- after a view change
 
-pub above_target : (me : ℕ) (vc : ViewChangeData) (past : List Entry) → Once (Says (record { sender = me; message = ViewChange vc })) past → vc.view ≤ target past
+pub above_target : (me : ℕ) (vc : ViewChangeData) (past : List Entry) → Once (λ earlier. IsSaying me (ViewChange vc)) past → vc.view ≤ target past
 above_target me vc past h =
     once_stays_from (λ x. vc.view ≤ target x) (λ e x k. let grows = target_grows e x in omega arith) past
-    (once_weaker (Says (record { sender = me; message = ViewChange vc })) (λ x e. vc.view ≤ target (e ∷ x)) (λ x e t. change_target me vc x e (speaks x e t)) past h)
+    (once_weaker (λ earlier. IsSaying me (ViewChange vc)) (λ x e. vc.view ≤ target (e ∷ x)) (λ x e t. change_target me vc x e (speaks x e t)) past h)
   where
-    speaks : (x : List Entry) (e : Entry) → Says (record { sender = me; message = ViewChange vc }) x e → Speaks (record { sender = me; message = ViewChange vc }) x e
+    speaks : (x : List Entry) (e : Entry) → IsSaying me (ViewChange vc) e → Speaks (record { sender = me; message = ViewChange vc }) x e
     speaks x (Sent p bytes) t = t
     speaks x (Invoke a b d) t = absurd t
     speaks x (Got a b) t = absurd t
@@ -99,7 +99,7 @@ above_target me vc past h =
     speaks x (Installed a b d) t = absurd t
     speaks x (Accepted a b d) t = absurd t
 
-inactive : (c : Configuration) (me v : ℕ) (vc : ViewChangeData) (past : List Entry) → Once (Says (record { sender = me; message = ViewChange vc })) past → v < vc.view → is_active_in c past v ≡ true → ⊥
+inactive : (c : Configuration) (me v : ℕ) (vc : ViewChangeData) (past : List Entry) → Once (λ earlier. IsSaying me (ViewChange vc)) past → v < vc.view → is_active_in c past v ≡ true → ⊥
 inactive c me v vc past h above active =
     let a = above_target me vc past h in
     let b : target past ≤ v = leb-true (target past) v (and_parts (view c past == v) (nat_le (target past) v) active).1 in
@@ -126,10 +126,10 @@ pub one_pre_prepare : OnePrePrepare
 one_pre_prepare c me v i a b bytes past says earlier right =
     let m : MayPrePrepare c me past (Sent me bytes) v i b = says_may c me bytes (record { sender = me; message = PrePrepare v i b }) past right says in
     let kept = offers_kept c me v i a past (right_always c me past right.1.0 right.1.1)
-    (once_weaker (Says (record { sender = me; message = PrePrepare v i a })) (λ x e. offer_in v i e ≡ Some a) offers past earlier) in
+    (once_weaker (λ earlier. IsSaying me (PrePrepare v i a)) (λ x e. offer_in v i e ≡ Some a) offers past earlier) in
     go m kept.place
   where
-    offers : (x : List Entry) (e : Entry) → Says (record { sender = me; message = PrePrepare v i a }) x e → offer_in v i e ≡ Some a
+    offers : (x : List Entry) (e : Entry) → IsSaying me (PrePrepare v i a) e → offer_in v i e ≡ Some a
     offers x (Sent p sent) t = rw t (rw (eq-eqb v v refl, eq-eqb i i refl) refl)
     offers x (Invoke y z w) t = absurd t
     offers x (Got y z) t = absurd t
@@ -265,7 +265,7 @@ reads_newest c me client timestamp number answer bytes past says right =
 pub no_change_while_active : NoChangeWhileActive
 no_change_while_active c me bytes vc past says before active right = go (says_may c me bytes (record { sender = me; message = ViewChange vc }) past right says)
   where
-    sends : (x : List Entry) (e : Entry) → SendsBytes bytes x e → Says (record { sender = me; message = ViewChange vc }) x e
+    sends : (x : List Entry) (e : Entry) → SendsBytes bytes x e → IsSaying me (ViewChange vc) e
     sends x (Sent p sent) h = subst (λ (ys : List ℕ). said ys ≡ Some (record { sender = me; message = ViewChange vc })) (sym h) says
     sends x (Invoke a b d) h = absurd h
     sends x (Got a b) h = absurd h
@@ -276,7 +276,7 @@ no_change_while_active c me bytes vc past says before active right = go (says_ma
 
     go : MayViewChange c me past right.1.0 bytes vc → ⊥
     go (inl change) =
-        let a = above_target me vc past (once_weaker (SendsBytes bytes) (Says (record { sender = me; message = ViewChange vc })) sends past before) in
+        let a = above_target me vc past (once_weaker (SendsBytes bytes) (λ earlier. IsSaying me (ViewChange vc)) sends past before) in
         let b = change.newer in
         omega arith
     go (inr again) = let a = again.0 in omega arith
@@ -358,7 +358,7 @@ drops_unasked_pages c me s k index text bytes later past hears other h =
 
 pub drops_own_change : DropsOwnChange
 drops_own_change c me vc bytes later past hears signed before h =
-    not_dropped c me bytes later past (record { sender = me; message = ViewChange vc }) hears h (λ point k. late k.0 k.1 k.2)
+    not_dropped c me bytes later past (record { sender = me; message = ViewChange vc }) hears h (λ point k. let newer = k.2 in late k.0 k.1 (omega arith))
   where
     taken_or : is_within c vc ≡ true → (v : ℕ) → vc.view ≤ max (change_taken c v me bytes) v
     taken_or within v =
@@ -460,17 +460,21 @@ commits_to_all c me v i s digest bytes frame entries past says is proof within o
 
 -- ---- new views
 
-pub has_from : (c : Configuration) (new : NewViewData) (count : ℕ) (test : ViewChangeData → Bool) (P : ViewChangeData → Type 0) → ((vc : ViewChangeData) → test vc ≡ true → P vc)
-    → count ≤ count_in c test (changes_of c new) → HasFrom count c new P
-has_from c new count test P f enough = (
-  passes_by test (changes_of c new),
+pub have_of_count : (c : Configuration) (set : List (ℕ × ViewChangeData)) (count : ℕ) (test : ViewChangeData → Bool) (P : ViewChangeData → Type 0) → ((vc : ViewChangeData) → test vc ≡ true → P vc)
+    → count ≤ count_in c test set → SoManyHave count c set P
+have_of_count c set count test P f enough = (
+  passes_by test set,
   enough,
   λ s h.
-      let t = passes_change test (changes_of c new) s h in
-      (t.0, change_there (changes_of c new) s t.0 t.1, f t.0 t.2),
+      let t = passes_change test set s h in
+      (t.0, change_there set s t.0 t.1, f t.0 t.2),
 )
 
-says_nothing_against : (i w : ℕ) (digest : List ℕ) (vc : ViewChangeData) → (nat_lt vc.low i && agrees i w digest vc) ≡ true → SaysNothingAgainst i w digest vc
+pub has_from : (c : Configuration) (new : NewViewData) (count : ℕ) (test : ViewChangeData → Bool) (P : ViewChangeData → Type 0) → ((vc : ViewChangeData) → test vc ≡ true → P vc)
+    → count ≤ count_in c test (changes_of c new) → HasFrom count c new P
+has_from c new = have_of_count c (changes_of c new)
+
+pub says_nothing_against : (i w : ℕ) (digest : List ℕ) (vc : ViewChangeData) → (nat_lt vc.low i && agrees i w digest vc) ≡ true → SaysNothingAgainst i w digest vc
 says_nothing_against i w digest vc h =
     let p = and_parts (nat_lt vc.low i) (agrees i w digest vc) h in
     (ltb-true vc.low i p.0, λ claim has number. by claim number (every_has (λ (claim : Claim). not (claim.number == i) || nat_lt claim.view w || ((claim.view == w) && bytes_eq claim.digest digest)) vc.prepared claim p.1 has))
@@ -491,7 +495,7 @@ says_nothing_against i w digest vc h =
         pick (inl k) = inl (early (or_cases (not (claim.number == i)) (nat_lt claim.view w) k))
         pick (inr k) = inr (last claim k)
 
-says_for_it : (i w : ℕ) (digest : List ℕ) (vc : ViewChangeData) → vouches i w digest vc ≡ true → SaysForIt i w digest vc
+pub says_for_it : (i w : ℕ) (digest : List ℕ) (vc : ViewChangeData) → vouches i w digest vc ≡ true → SaysForIt i w digest vc
 says_for_it i w digest vc h =
     has_of_any (λ (claim : Claim). (claim.number ≡ i) × (claim.digest ≡ digest) × (w ≤ claim.view)) (λ (claim : Claim). (claim.number == i) && bytes_eq claim.digest digest && nat_le w claim.view)
     each vc.pre_prepared h
@@ -502,7 +506,7 @@ says_for_it i w digest vc h =
         let q = and_parts (claim.number == i) (bytes_eq claim.digest digest) p.0 in
         (eqb-true claim.number i q.0, (bytes_eq-Decides claim.digest digest).0 q.1, leb-true w claim.view p.1)
 
-says_nothing : (i : ℕ) (vc : ViewChangeData) → (nat_lt vc.low i && list_all (λ (claim : Claim). not (claim.number == i)) vc.prepared) ≡ true → SaysNothing i vc
+pub says_nothing : (i : ℕ) (vc : ViewChangeData) → (nat_lt vc.low i && list_all (λ (claim : Claim). not (claim.number == i)) vc.prepared) ≡ true → SaysNothing i vc
 says_nothing i vc h =
     let p = and_parts (nat_lt vc.low i) (list_all (λ (claim : Claim). not (claim.number == i)) vc.prepared) h in (
       ltb-true vc.low i p.0,

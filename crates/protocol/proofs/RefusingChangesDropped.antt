@@ -67,14 +67,12 @@ last_of_kept st k kept h = ap (λ (o : Option Kept). option_map_or (λ (x : Kept
 ordered_counts : (c : Configuration) (me k timestamp : ℕ) (op : Operation) (bytes : List ℕ) (past : List Entry) (point : Point)
     → Counts c me past point bytes (256 + k) (Request timestamp modes.Ordered op)
     → (last_time point.state k ≡ timestamp) ⊎ ((last_time point.state k < timestamp) × IsNoOlder point.waiting k timestamp op)
-ordered_counts c me k timestamp op bytes past point h =
-    let same : k ≡ h.0 = (let e : 256 + k ≡ 256 + h.0 = h.1 in omega arith) in
-    subst (λ (n : ℕ). (last_time point.state n ≡ timestamp) ⊎ ((last_time point.state n < timestamp) × IsNoOlder point.waiting n timestamp op)) (sym same) (go h.0 h.2)
-  where
-    go : (n : ℕ) → ((kept : Kept) × (kept_of point.state n ≡ Some kept) × (kept.timestamp ≡ timestamp)) ⊎ ((last_time point.state n < timestamp) × IsNoOlder point.waiting n timestamp op)
-        → (last_time point.state n ≡ timestamp) ⊎ ((last_time point.state n < timestamp) × IsNoOlder point.waiting n timestamp op)
-    go n (inl x) = inl (last_of_kept point.state n x.0 x.1 ∙ x.2)
-    go n (inr x) = inr x
+ordered_counts c me k timestamp op bytes past point (n, is, inl x) =
+    let same : k ≡ n = (let e : 256 + k ≡ 256 + n = is in omega arith) in
+    inl (ap (last_time point.state) same ∙ last_of_kept point.state n x.0 x.1 ∙ x.2)
+ordered_counts c me k timestamp op bytes past point (n, is, inr x) =
+    let same : k ≡ n = (let e : 256 + k ≡ 256 + n = is in omega arith) in
+    inr (subst (λ (m : ℕ). (last_time point.state m < timestamp) × IsNoOlder point.waiting m timestamp op) (sym same) x)
 
 pub drops_old_requests : DropsOldRequests
 drops_old_requests c me k timestamp op bytes past old a =
@@ -287,7 +285,7 @@ got_counts c s vc x (Accepted a b d) t = absurd t
 
 pub drops_passed_changes : DropsPassedChanges
 drops_passed_changes c me s vc earlier bytes past got below a =
-    answered c me s (ViewChange vc) bytes past a (λ point leaves counts. late counts.0 counts.2)
+    answered c me s (ViewChange vc) bytes past a (λ point leaves counts. let newer = counts.2 in late counts.0 (omega arith))
   where
     late : view c past < vc.view → latest_change c past s < vc.view → ⊥
     late above newer =
@@ -297,7 +295,7 @@ drops_passed_changes c me s vc earlier bytes past got below a =
 
 pub drops_new_views : DropsNewViews
 drops_new_views c me s new bytes past none a =
-    answered c me s (NewView new) bytes past a (λ point leaves counts. absurd (let bad : None ≡ Some new = sym none ∙ counts in cc))
+    answered c me s (NewView new) bytes past a (λ point leaves counts. absurd (let bad = sym none ∙ counts in cc))
 
 -- ---- parts of states
 

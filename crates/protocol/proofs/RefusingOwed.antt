@@ -3,7 +3,7 @@ use Rattle.std.proofs.Common.{◌≡◌, ℕ, suc, ◌+◌, ◌≤◌, arith, �
 use Rattle.std.proofs.lemmas.List.{reverse-reverse}
 use mathlib.Core.List.{reverse_aux}
 use Rattle.protocol.specs.Configuration.{Configuration}
-use Rattle.protocol.specs.Trace.{Entry, is_output, Once, Has, Each, either}
+use Rattle.protocol.specs.Trace.{Entry, is_output, Once, Has, AreOutputs, either}
 use Rattle.protocol.specs.Trace.Entry.{Invoke, Got, Tick, Executed, Installed, Sent, Accepted}
 use Rattle.protocol.specs.State.{State, root_of}
 use Rattle.protocol.specs.RightReplica.{Point, Leaves, Executes}
@@ -46,7 +46,7 @@ part_of c me [] xs outputs new point h = record { outputs = outputs; new = new; 
 part_of c me (e ∷ ys) xs outputs new point h = one_of (is_output e) _ _ (Part c me xs) h.2 (part_of c me ys xs (e ∷ outputs) new h.0) (λ k. part_of c me ys xs [] h.0 h.0 k.1)
 
 -- from the end of an event back to its input
-input_of : (c : Configuration) (me : ℕ) (outputs : List Entry) (input : Entry) (past said : List Entry) (new point : Point) → Each (λ e. is_output e ≡ true) outputs → is_output input ≡ false
+input_of : (c : Configuration) (me : ℕ) (outputs : List Entry) (input : Entry) (past said : List Entry) (new point : Point) → AreOutputs outputs → is_output input ≡ false
     → Proceeds c me (outputs ++ input ∷ past) said new point
     → (old : Point) × Leaves c me past old × Owes c me past input (reverse_aux outputs said) (reverse (reverse_aux outputs said) ++ input ∷ past) old new
 input_of c me [] input past said new point are is h =

@@ -17,14 +17,14 @@ use Rattle.wire.specs.declared.terms.Mode.{Mode}
 use Rattle.wire.specs.declared.terms.Mode.TheVariants as modes
 use Rattle.wire.specs.Messages.{BodyData as Body, FrameData as Frame, MacData, macs, MessageData as Message, ClaimData as Claim, request as Request, view_change as ViewChange, new_view as NewView, reply as Reply}
 use Rattle.protocol.specs.Frames.{frame_of, said, heard, reads_only, mode_of, receivers_of}
-use Rattle.protocol.specs.Trace.{Entry, party_of, is_output, Once, Always, Has, Hears, either}
+use Rattle.protocol.specs.Trace.{Entry, party_of, is_output, Once, Always, Has, AreOutputs, Hears, either}
 use Rattle.protocol.specs.Trace.Entry.{Invoke, Got, Tick, Executed, Installed, Sent, Accepted}
 use Rattle.protocol.specs.Certificates.{view, target, is_active_in, taken}
 use Rattle.protocol.specs.RightReplica.{SafeReplica, MaySay, MaySend, MayViewChange, MayNewView, SendsBytes}
 use Rattle.protocol.specs.RightClient.{OpenCall, open_call, Vote, newest_vote, latest, is_alike, count_alike, is_complete, is_ordered_request, went_ordered, is_answered, Reaction, fallback, on_reply, on_got, reaction, is_same_answer, is_weakly_complete, weakly_on_got, weak_reaction, IsRequest, IsReaction, MayInput, Reacts, IsClientBy, SafeWeakClient}
 use Rattle.protocol.specs.RightClient.Reaction.{nothing, asks, accepts}
 use Rattle.protocol.specs.Run.{Follows}
-use Rattle.protocol.specs.RefusedRuns.{going_on, AreOutputs, IsOrderedRequest, AcceptsAlike, AsksOrdered, FallsBack, AsksAtTicks, AsksAll, WeaklyAcceptsAlike, WeaklyAcceptsAtWeakQuorum, WeaklyAsksOrdered, OutputsFollow, LogsNumbers, NoBeginWhileInactive, KeepsProposed, NoRequestByReplica, InstallsItsRoot}
+use Rattle.protocol.specs.RefusedRuns.{going_on, IsOrderedRequest, AcceptsAlike, AsksOrdered, FallsBack, AsksAtTicks, AsksAll, WeaklyAcceptsAlike, WeaklyAcceptsAtWeakQuorum, WeaklyAsksOrdered, OutputsFollow, LogsNumbers, NoBeginWhileInactive, KeepsProposed, NoRequestByReplica, InstallsItsRoot}
 use Rattle.protocol.proofs.Temporal.{once_weaker, once_always, once_stays_from}
 use Rattle.protocol.proofs.Options.{some_injective}
 use Rattle.protocol.proofs.Voting.{RightAt, right_always}
@@ -214,7 +214,7 @@ pub asks_all : AsksAll
 asks_all c me s bytes frame entries past is proof within (inl h) = for_all c me s (reaction c me) bytes frame entries (asked_by c me (reaction c me) bytes past h) is proof within
 asks_all c me s bytes frame entries past is proof within (inr h) = for_all c me s (weak_reaction c me) bytes frame entries (asked_by c me (weak_reaction c me) bytes past h) is proof within
 
--- ---- the first client
+-- ---- the weak client
 
 same_answer : (vote other : Vote) → other.answer ≡ vote.answer → is_same_answer vote (Some other) ≡ true
 same_answer vote other e = (bytes_eq-Decides (outcome_spelling other.answer) (outcome_spelling vote.answer)).1 (ap outcome_spelling e)

@@ -41,8 +41,8 @@ fed c w v _ _ (seals {sender = sender} {receivers = receivers} {body = body} a i
 fed c w v _ _ (seals a i g) step (inr h) k = fed c _ _ _ _ g step h k
 fed c w v _ _ (signs {replica = replica} {leaf = leaf} {receivers = receivers} {body = body} a i g) step (inl h) k = no_input step (sign replica leaf receivers body) refl h k (Has (IsInputOf step) _)
 fed c w v _ _ (signs a i g) step (inr h) k = fed c _ _ _ _ g step h k
-fed c w v _ _ (flushes i p g) step (inl h) k = no_input step flush refl h k (Has (IsInputOf step) _)
-fed c w v _ _ (flushes i p g) step (inr h) k = fed c _ _ _ _ g step (inr (inr h)) k
+fed c w v _ _ (flushes p g) step (inl h) k = no_input step flush refl h k (Has (IsInputOf step) _)
+fed c w v _ _ (flushes p g) step (inr h) k = fed c _ _ _ _ g step (inr (inr h)) k
 fed c w v _ _ (flushed i p g) step (inl h) k = no_input step flush refl h k (Has (IsInputOf step) _)
 fed c w v _ _ (flushed i p g) step (inr h) k = fed c _ _ _ _ g step h k
 
@@ -61,10 +61,10 @@ past_is c w v _ _ (gets a g) = past_is c _ _ _ _ g
 past_is c w v _ _ (ticked a g) = past_is c _ _ _ _ g
 past_is c w v _ _ (seals a i g) = past_is c _ _ _ _ g
 past_is c w v _ _ (signs a i g) = past_is c _ _ _ _ g
-past_is c w v _ _ (flushes i p g) = past_is c _ _ _ _ g
+past_is c w v _ _ (flushes p g) = past_is c _ _ _ _ g
 past_is c w v _ _ (flushed i p g) = past_is c _ _ _ _ g
 
-past_of : (c : Configuration) (v : World) (steps : List Step) (trace : List Entry) → Goes c new_world steps (reverse trace) v → v.past ≡ trace
+pub past_of : (c : Configuration) (v : World) (steps : List Step) (trace : List Entry) → Goes c new_world steps (reverse trace) v → v.past ≡ trace
 past_of c v steps trace g = past_is c new_world v steps (reverse trace) g ∙ reverse-reverse trace
 
 -- ---- no more calls and ticks than the steps have
@@ -128,7 +128,7 @@ counted c s t a w v _ _ (signs {steps = steps} {replica = replica} {leaf = leaf}
     let below = counted c s t a _ _ _ _ g in
     let there = count_same s (sign replica leaf receivers body) steps (a.signs_not replica leaf receivers body) in
     omega arith
-counted c s t a w v _ _ (flushes {steps = steps} {frame = frame} {party = party} i p g) =
+counted c s t a w v _ _ (flushes {steps = steps} {frame = frame} {party = party} p g) =
     let below = counted c s t a _ _ _ _ g in
     let there = count_same s (deliver frame party) (flush ∷ steps) (a.delivers_not frame party) in
     omega arith
@@ -221,7 +221,7 @@ sent_made c w v _ _ (gets {party = party} {text = text} a g) h = sent_made c _ _
 sent_made c w v _ _ (ticked {party = party} a g) h = sent_made c _ _ _ _ g (made_there c w (Tick party) h)
 sent_made c w v _ _ (seals a i g) h = sent_made c _ _ _ _ g (more_there w.frames _ _ h)
 sent_made c w v _ _ (signs a i g) h = sent_made c _ _ _ _ g (more_there w.frames _ _ h)
-sent_made c w v _ _ (flushes i p g) h = sent_made c _ _ _ _ g h
+sent_made c w v _ _ (flushes p g) h = sent_made c _ _ _ _ g h
 sent_made c w v _ _ (flushed i p g) h = sent_made c _ _ _ _ g h
 
 pub stops_at_no_sent : StopsAtNoSent
@@ -267,7 +267,7 @@ all_done c w v _ _ (gets {party = party} {text = text} a g) h = all_done c _ _ _
 all_done c w v _ _ (ticked {party = party} a g) h = all_done c _ _ _ _ g (done_later w.frames [] w.past (Tick party) w.delivered h)
 all_done c w v _ _ (seals a i g) h = all_done c _ _ _ _ g (done_more w.frames _ w.past w.delivered h)
 all_done c w v _ _ (signs a i g) h = all_done c _ _ _ _ g (done_more w.frames _ w.past w.delivered h)
-all_done c w v _ _ (flushes i p g) h = all_done c _ _ _ _ g h
+all_done c w v _ _ (flushes p g) h = all_done c _ _ _ _ g h
 all_done c w v _ _ (flushed i p g) h = all_done c _ _ _ _ g h
 
 -- nothing is to be delivered behind a last flush
@@ -280,7 +280,7 @@ no_more c w v _ _ (gets a g) is i h = absurd cc
 no_more c w v _ _ (ticked a g) is i h = absurd cc
 no_more c w v _ _ (seals a j g) is i h = absurd cc
 no_more c w v _ _ (signs a j g) is i h = absurd cc
-no_more c w v _ _ (flushes j p g) is i h = absurd cc
+no_more c w v _ _ (flushes p g) is i h = absurd cc
 no_more c w v _ _ (flushed j p g) is i h = absurd cc
 
 -- the last step is a flush
@@ -307,7 +307,7 @@ nothing_left c w v _ _ (gets a g) h = nothing_left c _ _ _ _ g (rest_flushes _ _
 nothing_left c w v _ _ (ticked a g) h = nothing_left c _ _ _ _ g (rest_flushes _ _ (λ e. cc) h)
 nothing_left c w v _ _ (seals a i g) h = nothing_left c _ _ _ _ g (rest_flushes _ _ (λ e. cc) h)
 nothing_left c w v _ _ (signs a i g) h = nothing_left c _ _ _ _ g (rest_flushes _ _ (λ e. cc) h)
-nothing_left c w v _ _ (flushes {frame = frame} {party = party} i p g) h = nothing_left c _ _ _ _ g (deliver frame party ∷ h.0, ap (λ (xs : List Step). deliver frame party ∷ xs) h.1)
+nothing_left c w v _ _ (flushes {frame = frame} {party = party} p g) h = nothing_left c _ _ _ _ g (deliver frame party ∷ h.0, ap (λ (xs : List Step). deliver frame party ∷ xs) h.1)
 nothing_left c w v _ _ (flushed {steps = steps} i p g) h = go h.0 h.1 (nothing_left c _ _ _ _ g)
   where
     go : (before : List Step) → flush ∷ steps ≡ before ++ flush ∷ [] → (Flushes steps → pending c v ≡ None) → pending c v ≡ None
@@ -398,7 +398,7 @@ module _ (c : Configuration) (sender : ℕ) (bytes : List ℕ) where
   sent_is_made w v _ _ (ticked {party = party} a g) h = sent_is_made _ _ _ _ g (made_here w.frames w.past (Tick party) h)
   sent_is_made w v _ _ (seals a i g) h = sent_is_made _ _ _ _ g (λ k. made_before w.frames _ (h k))
   sent_is_made w v _ _ (signs a i g) h = sent_is_made _ _ _ _ g (λ k. made_before w.frames _ (h k))
-  sent_is_made w v _ _ (flushes i p g) h = sent_is_made _ _ _ _ g h
+  sent_is_made w v _ _ (flushes p g) h = sent_is_made _ _ _ _ g h
   sent_is_made w v _ _ (flushed i p g) h = sent_is_made _ _ _ _ g h
 
 pub flush_delivers_sent : FlushDeliversSent

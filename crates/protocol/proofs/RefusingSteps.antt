@@ -1,5 +1,5 @@
 -- Reports are of a trace's acceptances and of its points.
-use Rattle.std.proofs.Common.{◌≡◌, ℕ, suc, ◌≤◌, ◌<◌, inl, inr, List, [], ◌∷◌, length, refl, sym, subst, arith, reverse}
+use Rattle.std.proofs.Common.{◌≡◌, ℕ, suc, ◌≤◌, ◌<◌, inl, inr, List, [], ◌∷◌, length, refl, sym, subst, ◌∙◌, arith, reverse}
 use Rattle.std.proofs.lemmas.List.{reverse-reverse}
 use mathlib.Core.List.{reverse_aux}
 use Rattle.protocol.specs.Trace.{Entry, Once, Has, Each}
@@ -9,6 +9,7 @@ use Rattle.protocol.specs.Schedule.{Acceptance, acceptances}
 use Rattle.protocol.specs.RefusedSteps.{ReportsExist, IsAcceptance, ReportsAll, ReportsNoOther, Rise, ReportsInOrder, ReportsAreLinear, FirstOperationIsReported}
 use Rattle.protocol.proofs.States.{has_reverse}
 use Rattle.protocol.proofs.Whole.{points_are_linear}
+use Rattle.protocol.proofs.FirstPoint.{first_operation_has_its_point}
 
 pub reports_exist : ReportsExist
 reports_exist c trace = (reverse (acceptances trace), points c trace, record { accepted_are = refl; points_are = refl })
@@ -85,4 +86,4 @@ pub reports_are_linear : ReportsAreLinear
 reports_are_linear c valid trace accepted items run unforged differ report = rw report.points_are (points_are_linear c valid trace run unforged differ)
 
 pub first_operation_is_reported : FirstOperationIsReported
-first_operation_is_reported clients seed op batch w accepted items report = report.accepted_are
+first_operation_is_reported clients seed op batch w accepted items report = (report.accepted_are, λ valid frames. report.points_are ∙ first_operation_has_its_point clients seed op batch w valid frames)

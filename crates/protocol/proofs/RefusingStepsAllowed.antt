@@ -1,8 +1,6 @@
 -- The definition of schedules refuses inputs of faulty parties, frames of correct ones and for none, and a flush that leaves
 -- such a frame undelivered.
 use Rattle.std.proofs.Common.{◌≡◌, ℕ, zero, suc, ◌⊎◌, inl, inr, Bool, true, false, List, [], ◌∷◌, ◌++◌, length, take, slice_get, refl, sym, ap, ◌∙◌, subst, ◌||◌, Some, reverse}
-use Rattle.std.proofs.lemmas.List.{reverse-reverse}
-use mathlib.Core.List.{reverse_aux}
 use Rattle.protocol.specs.Configuration.{Configuration, is_replica, is_client}
 use Rattle.protocol.specs.Trace.{Entry, Always, Has, Each, is_output}
 use Rattle.protocol.specs.Trace.Entry.{Invoke, Got, Tick, Executed, Installed, Sent, Accepted}
@@ -11,24 +9,7 @@ use Rattle.protocol.specs.Schedule.Step.{calls, deliver, feed, seal, sign, ticks
 use Rattle.protocol.specs.Schedule.Goes.{ends, gives, called, delivers, gets, ticked, seals, signs, flushes, flushed}
 use Rattle.protocol.specs.RefusedSteps.{MayBeFed, FeedsWhatMayBeFed, ArePartiesInOrder, MayMake, FeedsWhatMayBeMade, FlushDeliversSealed, FlushDeliversSigned, SealedIsNewest, SignedIsNewest, MayCome, StopsAtNone, StopsAtEach}
 use Rattle.protocol.proofs.Options.{some_injective}
-use Rattle.protocol.proofs.RefusingRunsSchedules.{flush_delivers_all}
-
--- ---- the past
-
-past_is : (c : Configuration) (w v : World) (steps : List Step) (entries : List Entry) → Goes c w steps entries v → v.past ≡ reverse_aux entries w.past
-past_is c w v _ _ ends = refl
-past_is c w v _ _ (gives o g) = past_is c _ _ _ _ g
-past_is c w v _ _ (called a g) = past_is c _ _ _ _ g
-past_is c w v _ _ (delivers a s g) = past_is c _ _ _ _ g
-past_is c w v _ _ (gets a g) = past_is c _ _ _ _ g
-past_is c w v _ _ (ticked a g) = past_is c _ _ _ _ g
-past_is c w v _ _ (seals a i g) = past_is c _ _ _ _ g
-past_is c w v _ _ (signs a i g) = past_is c _ _ _ _ g
-past_is c w v _ _ (flushes i p g) = past_is c _ _ _ _ g
-past_is c w v _ _ (flushed i p g) = past_is c _ _ _ _ g
-
-past_of : (c : Configuration) (v : World) (steps : List Step) (trace : List Entry) → Goes c new_world steps (reverse trace) v → v.past ≡ trace
-past_of c v steps trace g = past_is c new_world v steps (reverse trace) g ∙ reverse-reverse trace
+use Rattle.protocol.proofs.RefusingRunsSchedules.{past_of, flush_delivers_all}
 
 -- ---- what is fed
 
@@ -50,7 +31,7 @@ fed c w v _ _ (gets a g) h = fed c _ _ _ _ g (a, h)
 fed c w v _ _ (ticked a g) h = fed c _ _ _ _ g (a, h)
 fed c w v _ _ (seals a i g) h = fed c _ _ _ _ g h
 fed c w v _ _ (signs a i g) h = fed c _ _ _ _ g h
-fed c w v _ _ (flushes i p g) h = fed c _ _ _ _ g h
+fed c w v _ _ (flushes p g) h = fed c _ _ _ _ g h
 fed c w v _ _ (flushed i p g) h = fed c _ _ _ _ g h
 
 pub feeds_what_may_be_fed : FeedsWhatMayBeFed
@@ -83,7 +64,7 @@ made c w v _ _ (gets a g) = (tt, made c _ _ _ _ g)
 made c w v _ _ (ticked a g) = (tt, made c _ _ _ _ g)
 made c w v _ _ (seals {sender = sender} {receivers = rs} a i g) = ((party_of_test (is_replica c sender) (is_client c sender) a.0, a.1, in_order c rs a.2), made c _ _ _ _ g)
 made c w v _ _ (signs {receivers = rs} a i g) = ((a.0, a.1, a.2, in_order c rs a.3), made c _ _ _ _ g)
-made c w v _ _ (flushes i p g) = let below = made c _ _ _ _ g in below.1
+made c w v _ _ (flushes p g) = let below = made c _ _ _ _ g in below.1
 made c w v _ _ (flushed i p g) = (tt, made c _ _ _ _ g)
 
 pub feeds_what_may_be_made : FeedsWhatMayBeMade
@@ -172,9 +153,9 @@ module _ (c : Configuration) (x : Made) where
   stays w v _ _ (signs a i g) (inl h) = stays _ _ _ _ g (inl (there_before w.frames _ x h))
   stays w v _ _ (signs a i g) (inr (inl h)) = stays _ _ _ _ g (inl (subst (λ (y : Made). IsThere x (w.frames ++ y ∷ [])) h (there_last w.frames x)))
   stays w v _ _ (signs a i g) (inr (inr h)) = stays _ _ _ _ g (inr h)
-  stays w v _ _ (flushes i p g) (inl h) = stays _ _ _ _ g (inl h)
-  stays w v _ _ (flushes i p g) (inr (inl h)) = absurd h
-  stays w v _ _ (flushes i p g) (inr (inr h)) = stays _ _ _ _ g (inr (inr (inr h)))
+  stays w v _ _ (flushes p g) (inl h) = stays _ _ _ _ g (inl h)
+  stays w v _ _ (flushes p g) (inr (inl h)) = absurd h
+  stays w v _ _ (flushes p g) (inr (inr h)) = stays _ _ _ _ g (inr (inr (inr h)))
   stays w v _ _ (flushed i p g) (inl h) = stays _ _ _ _ g (inl h)
   stays w v _ _ (flushed i p g) (inr (inl h)) = absurd h
   stays w v _ _ (flushed i p g) (inr (inr h)) = stays _ _ _ _ g (inr h)
@@ -208,7 +189,7 @@ nothing_more c w v _ _ (gets a g) is i = absurd cc
 nothing_more c w v _ _ (ticked a g) is i = absurd cc
 nothing_more c w v _ _ (seals a j g) is i = absurd cc
 nothing_more c w v _ _ (signs a j g) is i = absurd cc
-nothing_more c w v _ _ (flushes j p g) is i = absurd cc
+nothing_more c w v _ _ (flushes p g) is i = absurd cc
 nothing_more c w v _ _ (flushed j p g) is i = absurd cc
 
 abbrev IsNewest : Made → List Made → Type 0
@@ -250,7 +231,7 @@ module _ (c : Configuration) (x : Made) where
       here_or_later _ steps h (IsNewest x v.frames) (λ m none. (w.frames, nothing_more c _ v steps _ g none i ∙ ap (λ (y : Made). w.frames ++ y ∷ []) (sym m))) (λ l. newest _ _ _ _ g l)
   newest w v _ _ (signs {steps = steps} a i g) h =
       here_or_later _ steps h (IsNewest x v.frames) (λ m none. (w.frames, nothing_more c _ v steps _ g none i ∙ ap (λ (y : Made). w.frames ++ y ∷ []) (sym m))) (λ l. newest _ _ _ _ g l)
-  newest w v _ _ (flushes {frame = frame} {party = party} i p g) h = newest _ _ _ _ g (deliver frame party ∷ h.0, h.1, ap (λ (xs : List Step). deliver frame party ∷ xs) h.2, h.3)
+  newest w v _ _ (flushes {frame = frame} {party = party} p g) h = newest _ _ _ _ g (deliver frame party ∷ h.0, h.1, ap (λ (xs : List Step). deliver frame party ∷ xs) h.2, h.3)
   newest w v _ _ (flushed i p g) h = newest _ _ _ _ g (later _ _ (λ m. m) h)
 
 pub sealed_is_newest : SealedIsNewest

@@ -1,9 +1,9 @@
 -- What is signed is heard.
 use Rattle.std.proofs.Common.{◌≡◌, ◌≢◌, ℕ, zero, suc, ◌+◌, ◌-◌, ◌<◌, Bool, true, not, cond, List, ◌∷◌, ◌++◌, filter, Some, refl, sym, ap, ◌∙◌, arith}
-use Rattle.std.specs.Prelude.{◌==◌, slice_index}
+use Rattle.std.specs.Prelude.{◌==◌}
 use Rattle.std.specs.List.{range_with_len}
 use Rattle.std.proofs.lemmas.Bool.{ltb-true, eq-eqb, ne_eqb}
-use Rattle.sha2.specs.Sha256.{sha256, digest_bytes}
+use Rattle.sha2.specs.Sha256.{sha256}
 use Rattle.tuple_tree.specs.Values.{AreBytes}
 use Rattle.tuple_codec.proofs.Readers.{bytes_append}
 use Rattle.wire.specs.Messages.{BodyData as Body, MessageData as Message, FrameData as Frame, signature, view_change as ViewChange, new_view as NewView, request as Request, pre_prepare as PrePrepare, prepare as Prepare, commit as Commit, checkpoint as Checkpoint, reply as Reply, fetch as Fetch, meta as Meta, page as Page}
@@ -24,19 +24,11 @@ use Rattle.protocol.specs.Schedule.{meant_for, signed_bytes}
 use Rattle.protocol.specs.RightReplica.{others}
 use Rattle.protocol.specs.RefusedSteps.{SignedFramesAreHeard}
 use Rattle.protocol.proofs.Spelled.{frames_are_spelled, bodies_are_said, bytes_are_heard}
-use Rattle.protocol.proofs.FirstFramesBytes.{no_bytes, bytes_more, bytes_4}
+use Rattle.protocol.proofs.FirstFramesBytes.{no_bytes, bytes_more}
 use Rattle.protocol.proofs.FirstFramesSpelled.{spelled_bytes}
+use Rattle.protocol.proofs.FirstFrames.{is_digest}
 
 -- ---- a signature is of bytes
-
-digest_are_bytes : (h : List ℕ) (n : ℕ) → AreBytes (digest_bytes h n)
-unfolding digest_bytes
-digest_are_bytes h zero = no_bytes
-digest_are_bytes h (suc n) = bytes_append _ _ (digest_are_bytes h n) (bytes_4 (slice_index h n))
-
-hash_bytes : (text : List ℕ) → AreBytes (sha256 text)
-unfolding sha256
-hash_bytes text = digest_are_bytes _ 8
 
 joined_bytes : (n : ℕ) (f : ℕ → List ℕ) → ((k : ℕ) → AreBytes (f k)) → AreBytes (joined n f)
 unfolding joined
@@ -49,16 +41,16 @@ secret_bytes seed leaf bit value = (hmac_of-digest _ _).bytes
 
 public_bytes : (seed : List ℕ) (leaf bit value : ℕ) → AreBytes (public_hash seed leaf bit value)
 unfolding public_hash
-public_bytes seed leaf bit value = hash_bytes _
+public_bytes seed leaf bit value = (is_digest _).bytes
 
 leaf_bytes : (seed : List ℕ) (leaf : ℕ) → AreBytes (leaf_digest seed leaf)
 unfolding leaf_digest
-leaf_bytes seed leaf = hash_bytes _
+leaf_bytes seed leaf = (is_digest _).bytes
 
 node_bytes : (leaves : ℕ → List ℕ) → ((leaf : ℕ) → AreBytes (leaves leaf)) → (level place : ℕ) → AreBytes (node leaves level place)
 unfolding node
 node_bytes leaves each zero place = each place
-node_bytes leaves each (suc level) place = hash_bytes _
+node_bytes leaves each (suc level) place = (is_digest _).bytes
 
 signature_bytes : (seed : List ℕ) (leaf : ℕ) (text : List ℕ) → leaf < 64 → AreBytes (signature_of seed leaf text)
 unfolding signature_of

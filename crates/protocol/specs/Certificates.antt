@@ -44,9 +44,11 @@ new_view_in c (Got p bytes) = option_and_then (new_view_from c) (signed_body c b
 new_view_in c (Sent p bytes) = option_and_then (new_view_from c) (said bytes)
 new_view_in c _ = None
 
+-- the view of a view change, else 0
 abbrev pub change_from : Body → ℕ
 change_from body = elim body.message [ ViewChange vc ↦ vc.view | _ ↦ 0 ]
 
+-- that of a view change that is sent here
 abbrev pub change_sent : Entry → ℕ
 change_sent (Sent p bytes) = option_map_or change_from (said bytes) 0
 change_sent _ = 0
@@ -59,6 +61,7 @@ target past = greatest change_sent past
 abbrev pub is_later : ℕ → ℕ → NewViewData → Bool
 is_later v t new = nat_lt v new.view && nat_le t new.view
 
+-- the view behind an entry that brings this new view, or none
 abbrev pub view_after : ℕ → ℕ → Option NewViewData → ℕ
 view_after v t None = v
 view_after v t (Some new) = if is_later v t new then new.view else v
@@ -78,6 +81,7 @@ taken c past e = option_and_then (λ new. give_if (is_later (view c past) (targe
 
 -- ---- checkpoints
 
+-- the checkpoint that a message is, with its sender, where its number is one
 abbrev pub checkpoint_from : Body → Option (ℕ × Mark)
 checkpoint_from body = elim body.message [ Checkpoint number root ↦ give_if (is_number number) (body.sender, record { number = number; digest = root }) | _ ↦ None ]
 
@@ -85,10 +89,12 @@ checkpoint_from body = elim body.message [ Checkpoint number root ↦ give_if (i
 abbrev pub checkpoint_in : Configuration → Entry → Option (ℕ × Mark)
 checkpoint_in c e = option_and_then checkpoint_from (brought c e)
 
+-- one more among a sender's checkpoints, the largest number first; of one number the earlier stays
 abbrev pub insert_checkpoint : Mark → List Mark → List Mark
 insert_checkpoint mark [] = mark ∷ []
 insert_checkpoint mark (m ∷ ms) = if m.number == mark.number then m ∷ ms else if nat_lt m.number mark.number then mark ∷ m ∷ ms else m ∷ insert_checkpoint mark ms
 
+-- a sender's checkpoints behind an entry that brings this one: another's changes nothing, and three stay
 abbrev pub with_checkpoint : ℕ → Option (ℕ × Mark) → List Mark → List Mark
 with_checkpoint s None marks = marks
 with_checkpoint s (Some x) marks = if x.0 == s then take 3 (insert_checkpoint x.1 marks) else marks
@@ -98,6 +104,7 @@ unfoldable pub checkpoints_of : Configuration → List Entry → ℕ → List Ma
 checkpoints_of c [] s = []
 checkpoints_of c (e ∷ past) s = with_checkpoint s (checkpoint_in c e) (checkpoints_of c past s)
 
+-- one of these checkpoints has this number and digest
 abbrev pub says_checkpoint : Mark → List Mark → Bool
 says_checkpoint mark marks = list_any (λ m. (m.number == mark.number) && bytes_eq m.digest mark.digest) marks
 
@@ -160,6 +167,7 @@ begun_proposal c me past e v i = if is_in_marks c (low c me (e ∷ past)) i then
 abbrev pub entry_proposal : Configuration → ℕ → List Entry → Entry → ℕ → ℕ → Option (List ℕ)
 entry_proposal c me past e v i = if counts_at c me past e v i then option_and_then (batch_from c me v i) (brought c e) else None
 
+-- what an entry pre-prepares, by a new view or by a pre-prepare
 abbrev pub proposal : Configuration → ℕ → List Entry → Entry → ℕ → ℕ → Option (List ℕ)
 proposal c me past e v i = or_else (begun_proposal c me past e v i) (entry_proposal c me past e v i)
 

@@ -7,10 +7,10 @@ use Rattle.wire.specs.declared.terms.Mode.{Mode}
 use Rattle.wire.specs.declared.terms.Mode.TheVariants as modes
 use Rattle.wire.specs.Messages.{reply as Reply}
 use Rattle.protocol.specs.Frames.{heard, reads_only}
-use Rattle.protocol.specs.Trace.{Entry, Once, Hears}
+use Rattle.protocol.specs.Trace.{Entry, Once, AreOutputs, Hears}
 use Rattle.protocol.specs.Trace.Entry.{Invoke, Got, Tick}
 use Rattle.protocol.specs.RightClient.{OpenCall, open_call, latest, is_same_answer, count_alike, IsClient, IsWeakClient}
-use Rattle.protocol.specs.RefusedRuns.{going_on, AreOutputs, AsksOrdered, IsAnyClient}
+use Rattle.protocol.specs.RefusedRuns.{going_on, AsksOrdered, IsAnyClient}
 
 -- ---- the replies that count
 

@@ -13,6 +13,7 @@ pub record Configuration : Type 0 where
   pub faulty_replicas : List ℕ
   pub faulty_clients : List ℕ
 
+-- how many replicas there are
 abbrev pub replicas : Configuration → ℕ
 replicas c = 3 * c.faults + 1
 
@@ -33,6 +34,7 @@ pub record IsConfiguration (c : Configuration) : Type 0 where
 
 -- ---- parties: replica r is the party r, client k the party 256 + k
 
+-- whether a party is a replica, or a client; a faulty replica, or a correct one; a correct client; or correct at all
 abbrev pub is_replica : Configuration → ℕ → Bool
 is_replica c p = nat_lt p (replicas c)
 

@@ -17,6 +17,7 @@ use Rattle.protocol.specs.Certificates.{Committed}
 use Rattle.protocol.specs.State.{opening, tuples}
 use Rattle.protocol.specs.RightReplica.{others}
 use Rattle.protocol.specs.Run.{IsRun}
+use Rattle.protocol.specs.Linear.{Item, points}
 use Rattle.protocol.specs.Schedule.{Feeds, AreReceivers, sealed_bytes, calls, flush}
 use Rattle.protocol.specs.Examples.{four}
 use Rattle.std.specs.List.{range_with_len}
@@ -74,6 +75,7 @@ first_operation op batch w =
     ∷ Got 256 (w.reply 0) ∷ Got 256 (w.reply 1) ∷ Got 256 (w.reply 2) ∷ Accepted 0 1 (first_answer op) ∷ Got 256 (w.reply 3)
     ∷ []
 
+-- the same with the newest entry first, as traces are
 abbrev pub first_trace : Operation → List ℕ → FirstFrames → List Entry
 first_trace op batch w = reverse (first_operation op batch w)
 
@@ -101,6 +103,16 @@ abbrev pub FirstOperationIsFed : Type 0
 FirstOperationIsFed =
     (clients : ℕ) (seed : List ℕ) (op : Operation) (batch : List ℕ) (w : FirstFrames) → IsConfiguration (four clients seed)
     → AreFirstFrames (four clients seed) op batch w → Feeds (four clients seed) (calls 0 op ∷ flush ∷ []) (first_trace op batch w)
+
+-- its item, at the position at which all but one of the replicas, of whom none is faulty, have executed the number 1
+abbrev pub first_item : Operation → Item
+first_item op = record { client = 256; timestamp = 1; op = op; answer = first_answer op; position = 38 }
+
+-- The points of the trace are that item.
+abbrev pub FirstOperationHasItsPoint : Type 0
+FirstOperationHasItsPoint =
+    (clients : ℕ) (seed : List ℕ) (op : Operation) (batch : List ℕ) (w : FirstFrames) → IsConfiguration (four clients seed)
+    → AreFirstFrames (four clients seed) op batch w → points (four clients seed) (first_trace op batch w) ≡ first_item op ∷ []
 
 -- There are such frames, whatever is written.
 abbrev pub FirstFramesExist : Type 0

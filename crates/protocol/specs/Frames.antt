@@ -39,12 +39,14 @@ signed_body c bytes = of_bytes (signed_among (members c)) bytes
 abbrev pub IsSealed : Configuration → Frame → Type 0
 IsSealed c frame = elim frame.proof [ macs entries ↦ All (λ x. x.mac ≡ mac_of c.seed x.receiver frame.body) entries | signature s ↦ has_signature c.seed frame ≡ true ]
 
+-- for whom a frame has MACs; a signature names nobody
 abbrev pub receivers_of : Proof → List ℕ
 receivers_of (macs entries) = map (λ x. x.receiver) entries
 receivers_of (signature s) = []
 
 -- ---- the two modes of a request as a truth value: whether it is read-only
 
+-- whether a mode is read-only, and back
 abbrev pub reads_only : Mode → Bool
 reads_only modes.Ordered = false
 reads_only modes.ReadOnly = true

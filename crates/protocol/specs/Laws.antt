@@ -31,6 +31,7 @@ pub record IsAsHeard (c : Configuration) (bytes : List ℕ) : Type 0 where
   pub heard : (me : ℕ) → heard c me bytes ≡ heard_among (members c) me bytes
   pub signed : signed_body c bytes ≡ signed_among (members c) bytes
 
+-- It is so on any bytes.
 abbrev pub BytesAreHeard : Type 0
 BytesAreHeard = (c : Configuration) (bytes : List ℕ) → AreBytes bytes → IsAsHeard c bytes
 
@@ -51,6 +52,7 @@ PreparedAgree =
 abbrev pub HasOrStartsAbove : ℕ → List ℕ → NewViewData → Type 0
 HasOrStartsAbove i digest new = (i ≤ new.start) ⊎ ((batch : List ℕ) × (batch_begun new.view i new ≡ Some batch) × (sha256 batch ≡ digest))
 
+-- the new view is taken here, or sent
 abbrev pub Takes : Configuration → NewViewData → List Entry → Entry → Type 0
 Takes c new past e = taken c past e ≡ Some new
 
@@ -116,6 +118,7 @@ pub record IsRootOf (c : Configuration) (trace : List Entry) (k : ℕ) (root : L
   pub executed : AreExecuted c trace 1 batches
   pub root_is : root ≡ root_of (after_batches c opening batches)
 
+-- a state of this number and root is installed here
 abbrev pub Installs : ℕ → List ℕ → List Entry → Entry → Type 0
 Installs k root past (Installed r number digest) = (number ≡ k) × (digest ≡ root)
 Installs k root past _ = ⊥
@@ -145,6 +148,7 @@ pub record IsSafeTrace (c : Configuration) (trace : List Entry) : Type 0 where
   pub clients : (p : ℕ) → is_correct_client c p ≡ true → SafeClient c p (history_of p trace)
   pub parties : Always (λ past e. is_correct c (party_of e) ≡ true) trace
 
+-- The headline, over all such traces: no party needs to be prompt.
 abbrev pub LinearOfSafe : Type 0
 LinearOfSafe =
     (c : Configuration) → IsConfiguration c → (trace : List Entry) → IsSafeTrace c trace → Unforged c trace → NoCollision c trace
@@ -157,9 +161,11 @@ pub record IsOneSpace (c : Configuration) (trace : List Entry) : Type 0 where
   pub legal : Legal items
   pub covers : Covers c items trace
 
+-- each correct client's history is safe, by the rule that accepts at f + 1
 abbrev pub AreClientsWeak : Configuration → List Entry → Type 0
 AreClientsWeak c trace = (p : ℕ) → is_correct_client c p ≡ true → SafeWeakClient c p (history_of p trace)
 
+-- It is so in each trace of safe parties.
 abbrev pub WeakIsOneSpace : Type 0
 WeakIsOneSpace =
     (c : Configuration) → IsConfiguration c → (trace : List Entry) → AreReplicasSafe c trace → AreClientsWeak c trace

@@ -20,8 +20,14 @@ pub mod RefusedChanges
 pub mod ExamplesOfAnswers
 pub mod RefusedMarks
 pub mod RefusedKept
+pub mod RefusedItems
+pub mod FirstReads
 pub mod RefusedSteps
 pub mod Clients
 pub mod Stopping
 pub mod ExamplesOfClients
 pub mod Correct
+pub mod ExamplesOfTransfer
+pub mod Selected
+pub mod ExamplesOfKept
+pub mod ExamplesOfChanges

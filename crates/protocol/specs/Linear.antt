@@ -39,10 +39,12 @@ Legal items = LegalFrom [] items
 
 -- ---- covers
 
+-- the party p, a client, calls the operation here, with this timestamp
 abbrev pub Invokes : ℕ → ℕ → Operation → List Entry → Entry → Type 0
 Invokes p timestamp op past (Invoke client t o) = (256 + client ≡ p) × (t ≡ timestamp) × (o ≡ op)
 Invokes p timestamp op past _ = ⊥
 
+-- it accepts this answer here, to its call of this timestamp
 abbrev pub Accepts : ℕ → ℕ → Outcome → List Entry → Entry → Type 0
 Accepts p timestamp answer past (Accepted client t a) = (256 + client ≡ p) × (t ≡ timestamp) × (a ≡ answer)
 Accepts p timestamp answer past _ = ⊥
@@ -54,6 +56,7 @@ Asks c client timestamp op past (Got p bytes) =
     × Has (λ frame. heard c p frame ≡ Some (record { sender = client; message = Request timestamp modes.Ordered op })) (frames_in bytes)
 Asks c client timestamp op past _ = ⊥
 
+-- no two items are of one client and timestamp
 abbrev pub NoneTwice : List Item → Type 0
 NoneTwice [] = ⊤
 NoneTwice (item ∷ items) = (Has (λ x. (x.client ≡ item.client) × (x.timestamp ≡ item.timestamp)) items → ⊥) × NoneTwice items
@@ -70,6 +73,7 @@ pub record Covers (c : Configuration) (items : List Item) (trace : List Entry) :
 
 -- ---- placed
 
+-- no position is below the one before it
 abbrev pub NeverFall : List Item → Type 0
 NeverFall [] = ⊤
 NeverFall (x ∷ []) = ⊤
@@ -84,6 +88,7 @@ pub record Placed (c : Configuration) (items : List Item) (trace : List Entry) :
   pub before : (item : Item) (answer : Outcome) → Has (λ x. x ≡ item) items → is_correct_client c item.client ≡ true
       → Always (λ past e. Accepts item.client item.timestamp answer past e → item.position ≤ length past) trace
 
+-- The items linearize the trace: they are legal, cover it and are placed in it.
 pub record IsLinear (c : Configuration) (items : List Item) (trace : List Entry) : Type 0 where
   pub legal : Legal items
   pub covers : Covers c items trace
@@ -95,6 +100,7 @@ Linear c trace = (items : List Item) × IsLinear c items trace
 
 -- ---- the level, and the points
 
+-- the number that the replica executes or installs here, else 0
 abbrev pub reached_at : ℕ → Entry → ℕ
 reached_at r (Executed replica number batch) = if replica == r then number else 0
 reached_at r (Installed replica number root) = if replica == r then number else 0
@@ -104,9 +110,11 @@ reached_at r _ = 0
 abbrev pub reached : List Entry → ℕ → ℕ
 reached past r = greatest (reached_at r) past
 
+-- how many replicas are correct
 abbrev pub count_correct : Configuration → ℕ
 count_correct c = count_below (is_correct_replica c) (replicas c)
 
+-- a correct replica has executed or installed the number k, or a greater one
 abbrev pub has_reached : Configuration → List Entry → ℕ → ℕ → Bool
 has_reached c past k r = is_correct_replica c r && nat_le k (reached past r)
 
@@ -118,6 +126,7 @@ is_level c past k = nat_le (count_correct c) (count_below (has_reached c past k)
 abbrev pub first_position : Configuration → List Entry → ℕ → Option ℕ
 first_position c trace k = first_given (λ past e. give_if (is_level c (e ∷ past) k) (length past)) trace
 
+-- the batch that some replica executes here for the number k
 abbrev pub batch_at : ℕ → Entry → Option (List ℕ)
 batch_at k (Executed replica number batch) = give_if (number == k) batch
 batch_at k _ = None
@@ -126,10 +135,12 @@ batch_at k _ = None
 abbrev pub batch_of : List Entry → ℕ → List ℕ
 batch_of trace k = option_map_or (λ batch. batch) (first_given (λ past e. batch_at k e) trace) null_batch
 
+-- the number that is executed here, else 0
 abbrev pub executed_at : Entry → ℕ
 executed_at (Executed replica number batch) = number
 executed_at _ = 0
 
+-- the greatest number that any replica has executed
 abbrev pub last_executed : List Entry → ℕ
 last_executed past = greatest executed_at past
 
@@ -139,6 +150,7 @@ pub record Placing : Type 0 where
   pub number : ℕ
   pub read_only : Bool
 
+-- the item of a request that ran in the batch of this number, at the position of its level
 abbrev pub ordered_point : ℕ → ℕ → Ran → Placing
 ordered_point position number ran = record {
   item = record { client = 256 + ran.call.client; timestamp = ran.call.timestamp; op = ran.call.op; answer = ran.kept.outcome; position = position };
@@ -177,6 +189,7 @@ read_point c trace p call answer past vote = give_if vote.read_only (record {
   read_only = true;
 })
 
+-- those reads of the entries given; levels are those of the whole trace
 abbrev pub read_points : Configuration → List Entry → List Entry → List Placing
 read_points c trace [] = []
 read_points c trace (Accepted client timestamp answer ∷ past) =
@@ -194,6 +207,7 @@ comes_before x y =
     && (nat_lt x.number y.number || ((x.number == y.number)
     && (not x.read_only || (y.read_only && (nat_lt x.item.client y.item.client || ((x.item.client == y.item.client) && nat_le x.item.timestamp y.item.timestamp)))))))
 
+-- one more in a sorted list, and a list sorted so; equals keep their order
 abbrev pub insert_point : Placing → List Placing → List Placing
 insert_point x [] = x ∷ []
 insert_point x (y ∷ ys) = if comes_before x y then x ∷ y ∷ ys else y ∷ insert_point x ys
@@ -202,6 +216,7 @@ abbrev pub sorted : List Placing → List Placing
 sorted [] = []
 sorted (x ∷ xs) = insert_point x (sorted xs)
 
+-- one of the list is of the same client and timestamp
 abbrev pub is_double : List Placing → Placing → Bool
 is_double [] x = false
 is_double (y ∷ ys) x = ((y.item.client == x.item.client) && (y.item.timestamp == x.item.timestamp)) || is_double ys x

@@ -27,6 +27,7 @@ use Rattle.protocol.specs.RightReplica.{Point, first_point, reply_of, IsStep, Ke
 
 -- ---- words on outputs
 
+-- a frame of this message is sent here
 abbrev pub IsSaying : ℕ → Message → Entry → Type 0
 IsSaying me message (Sent p bytes) = said bytes ≡ Some (record { sender = me; message = message })
 IsSaying me message _ = ⊥
@@ -35,12 +36,13 @@ IsSaying me message _ = ⊥
 abbrev pub Gives : ℕ → Message → List Entry → Type 0
 Gives me message outputs = Has (IsSaying me message) outputs
 
--- one of them is a frame of this message for the replica s
+-- a frame of this message is sent here, for the replica s alone
 abbrev pub IsSayingTo : ℕ → ℕ → Message → Entry → Type 0
 IsSayingTo me s message (Sent p bytes) =
     (said bytes ≡ Some (record { sender = me; message = message })) × (option_map_or (λ frame. receivers_of frame.proof) (frame_of bytes) [] ≡ s ∷ [])
 IsSayingTo me s message _ = ⊥
 
+-- one of the outputs is such a frame
 abbrev pub GivesTo : ℕ → ℕ → Message → List Entry → Type 0
 GivesTo me s message outputs = Has (IsSayingTo me s message) outputs
 
@@ -49,6 +51,7 @@ abbrev pub AtOutputs : (List Entry → Entry → Type 0) → List Entry → List
 AtOutputs P past [] = ⊤
 AtOutputs P past (e ∷ outputs) = P past e × AtOutputs P (e ∷ past) outputs
 
+-- the number of a fetch that is sent here, else 0
 abbrev pub fetch_sent : Entry → ℕ
 fetch_sent (Sent p bytes) = option_map_or (λ body. elim body.message [ Fetch k level index ↦ k | _ ↦ 0 ]) (said bytes) 0
 fetch_sent _ = 0
@@ -57,6 +60,7 @@ fetch_sent _ = 0
 abbrev pub fetching : List Entry → ℕ
 fetching past = greatest fetch_sent past
 
+-- the number and the place that a fetch asks for
 abbrev pub place_from : Body → Option (ℕ × (Level × ℕ))
 place_from body = elim body.message [ Fetch k level index ↦ Some (k, (level, index)) | _ ↦ None ]
 
@@ -68,6 +72,7 @@ asked_last (_ ∷ past) = asked_last past
 
 -- ---- requests that a view has numbered
 
+-- a new view is taken here, or sent, that begins the view with the batch
 abbrev pub BeginsViewWith : Configuration → ℕ → List ℕ → List Entry → Entry → Type 0
 BeginsViewWith c v batch past e = (new : NewViewData) × (taken c past e ≡ Some new) × (new.view ≡ v) × Has (λ x. x ≡ batch) new.batches
 
@@ -75,6 +80,7 @@ BeginsViewWith c v batch past e = (new : NewViewData) × (taken c past e ≡ Som
 abbrev pub IsOfView : Configuration → ℕ → List Entry → ℕ → List ℕ → Type 0
 IsOfView c me past v batch = ((i : ℕ) × (logged c me past v i ≡ Some batch)) ⊎ Once (BeginsViewWith c v batch) past
 
+-- the client's request of this timestamp stands in the batch
 abbrev pub HasRequest : Configuration → ℕ → ℕ → List ℕ → Type 0
 HasRequest c client timestamp batch = Has (λ frame. (call : Call) × (call_of c frame ≡ Some call) × (call.client ≡ client) × (call.timestamp ≡ timestamp)) (requests_of batch)
 
@@ -114,6 +120,7 @@ IsPageWanted c me past k index digest =
     (inner : List ℕ) × (digests : List (List ℕ)) × IsInnerWanted c me past k (index / 32) inner × GotBelow c me past levels.Inner (index / 32) inner digests
     × (slice_get digests (index % 32) ≡ Some digest)
 
+-- the digest that a part of the state of number k is to have
 abbrev pub IsWanted : Configuration → ℕ → List Entry → ℕ → Level → ℕ → List ℕ → Type 0
 IsWanted c me past k levels.Root index digest = IsRootWanted c past k digest
 IsWanted c me past k levels.Inner index digest = IsInnerWanted c me past k index digest
@@ -125,6 +132,7 @@ IsAwaited c me past point k level index digest = (asked_last past ≡ Some (k, (
 
 -- ---- inputs that count; all others are dropped
 
+-- one of the checkpoints has the number
 abbrev pub has_number : ℕ → List Mark → Bool
 has_number k marks = list_any (λ m. m.number == k) marks
 
@@ -166,13 +174,14 @@ Counts c me past point bytes s (Fetch k level index) = KeptState c me past point
 Counts c me past point bytes s (Meta k level index digests) = IsAwaited c me past point k level index (digest_of_children digests)
 Counts c me past point bytes s (Page k index text) = IsAwaited c me past point k levels.Page index (sha256 text)
 
+-- The bytes are dropped: what they say to the replica, if anything, no rule takes.
 abbrev pub IsDropped : Configuration → ℕ → List Entry → Point → List ℕ → Type 0
 IsDropped c me past point bytes = (body : Body) → heard c me bytes ≡ Some body → Counts c me past point bytes body.sender body.message → ⊥
 
 -- ---- what is owed
 
--- before: the past at the input; now: the past behind the event; outputs: what lies between, the oldest first; old and
--- new: the points at the input and behind the event
+-- What a correct replica owes in an event. before: the past at the input; now: the past behind the event; outputs: what
+-- lies between, the oldest first; old and new: the points at the input and behind the event.
 pub record Owes (c : Configuration) (me : ℕ) (before : List Entry) (input : Entry) (outputs now : List Entry) (old new : Point) : Type 0 where
   -- no waiting request is without a number at an active primary, while a number is free
   pub numbers : (v i : ℕ) (call : Call) → is_active_in c now v ≡ true → primary c v ≡ me → Has (λ x. x ≡ call) new.waiting
@@ -216,6 +225,7 @@ Proceeds c me (e ∷ past) outputs new point =
     (Proceeds c me past (e ∷ outputs) new old)
     (Owes c me past e outputs (reverse outputs ++ e ∷ past) old new × Proceeds c me past [] old old)
 
+-- an input of a replica: a frame or a tick
 abbrev pub IsInput : Entry → Type 0
 IsInput e = elim e [ Got p bytes ↦ ⊤ | Tick p ↦ ⊤ | _ ↦ ⊥ ]
 

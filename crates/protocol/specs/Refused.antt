@@ -15,7 +15,7 @@ use Rattle.wire.specs.Messages.{BodyData as Body, FrameData as Frame, MacData, m
 use Rattle.authenticator.specs.Authentic.{mac_of}
 use Rattle.signing.specs.Heard.{has_signature}
 use Rattle.protocol.specs.Frames.{frame_of, said, heard}
-use Rattle.protocol.specs.Trace.{Entry, is_output, Once, Always, Has, Each, Hears}
+use Rattle.protocol.specs.Trace.{Entry, is_output, Once, Always, Has, AreOutputs, Hears}
 use Rattle.protocol.specs.Trace.Entry.{Got, Executed, Installed, Sent, Accepted}
 use Rattle.wire.specs.Spelling.{has_children}
 use Rattle.protocol.specs.Selection.{is_quorum, changes_of, signed_change, null_batch}
@@ -26,18 +26,15 @@ use Rattle.space.specs.Pages.{header_text}
 use Rattle.protocol.specs.State.{State, Call, call_of, Ran, run_frame, ran_in, kept_of, tuples, root_of, page_text}
 use Rattle.protocol.specs.RightReplica.{Point, Leaves, SafeReplica, Executes, GetsPage, WasAsked, SentBefore, IsStep, kept_states, digests_at, reply_of}
 use Rattle.protocol.specs.RightClient.{SafeClient}
-use Rattle.protocol.specs.Owed.{fetching, asked_last, Gives, GivesTo, HasRequest, IsNumbered, IsReplica}
+use Rattle.protocol.specs.Owed.{fetching, asked_last, IsSaying, Gives, GivesTo, HasRequest, IsNumbered, IsReplica}
 
--- the party sent a frame of this body
-abbrev pub Says : Body → List Entry → Entry → Type 0
-Says body past (Sent p bytes) = said bytes ≡ Some body
-Says body past _ = ⊥
-
+-- nothing is executed here, nor installed
 abbrev pub NoExecution : List Entry → Entry → Type 0
 NoExecution past (Executed r k batch) = ⊥
 NoExecution past (Installed r k root) = ⊥
 NoExecution past _ = ⊤
 
+-- nothing is installed here
 abbrev pub NoInstallation : List Entry → Entry → Type 0
 NoInstallation past (Installed r k root) = ⊥
 NoInstallation past _ = ⊤
@@ -60,13 +57,13 @@ abbrev pub NoCommitAfterChange : Type 0
 NoCommitAfterChange =
     (c : Configuration) (me v i : ℕ) (digest bytes : List ℕ) (vc : ViewChangeData) (past : List Entry)
     → said bytes ≡ Some (record { sender = me; message = Commit v i digest })
-    → Once (Says (record { sender = me; message = ViewChange vc })) past → v < vc.view → SafeReplica c me (Sent me bytes ∷ past) → ⊥
+    → Once (λ earlier. IsSaying me (ViewChange vc)) past → v < vc.view → SafeReplica c me (Sent me bytes ∷ past) → ⊥
 
 abbrev pub NoPrepareAfterChange : Type 0
 NoPrepareAfterChange =
     (c : Configuration) (me v i : ℕ) (digest bytes : List ℕ) (vc : ViewChangeData) (past : List Entry)
     → said bytes ≡ Some (record { sender = me; message = Prepare v i digest })
-    → Once (Says (record { sender = me; message = ViewChange vc })) past → v < vc.view → SafeReplica c me (Sent me bytes ∷ past) → ⊥
+    → Once (λ earlier. IsSaying me (ViewChange vc)) past → v < vc.view → SafeReplica c me (Sent me bytes ∷ past) → ⊥
 
 -- A checkpoint of a number that was never executed.
 abbrev pub NoEarlyCheckpoint : Type 0
@@ -80,7 +77,7 @@ abbrev pub OnePrePrepare : Type 0
 OnePrePrepare =
     (c : Configuration) (me v i : ℕ) (a b bytes : List ℕ) (past : List Entry)
     → said bytes ≡ Some (record { sender = me; message = PrePrepare v i b })
-    → Once (Says (record { sender = me; message = PrePrepare v i a })) past → SafeReplica c me (Sent me bytes ∷ past) → a ≡ b
+    → Once (λ earlier. IsSaying me (PrePrepare v i a)) past → SafeReplica c me (Sent me bytes ∷ past) → a ≡ b
 
 -- A prepare by the primary.
 abbrev pub NoPrepareByPrimary : Type 0
@@ -113,7 +110,7 @@ abbrev pub NoPrePrepareAfterChange : Type 0
 NoPrePrepareAfterChange =
     (c : Configuration) (me v i : ℕ) (batch bytes : List ℕ) (vc : ViewChangeData) (past : List Entry)
     → said bytes ≡ Some (record { sender = me; message = PrePrepare v i batch })
-    → Once (Says (record { sender = me; message = ViewChange vc })) past → v < vc.view → SafeReplica c me (Sent me bytes ∷ past) → ⊥
+    → Once (λ earlier. IsSaying me (ViewChange vc)) past → v < vc.view → SafeReplica c me (Sent me bytes ∷ past) → ⊥
 
 -- A checkpoint of a number that is no multiple of the period.
 abbrev pub CheckpointsMultiples : Type 0
@@ -331,7 +328,7 @@ DropsOwnChange =
 -- later input, so it has not stopped.
 pub record GoesOn (c : Configuration) (me : ℕ) (outputs : List Entry) (input : Entry) (past : List Entry) : Type 0 where
   pub is_input : is_output input ≡ false
-  pub are_outputs : Each (λ e. is_output e ≡ true) outputs
+  pub are_outputs : AreOutputs outputs
   pub next : Entry
   pub is_next : is_output next ≡ false
   pub between : List Entry
@@ -434,10 +431,13 @@ SendsCheckpoints =
 -- ---- a new view
 
 -- at least so many different replicas have a view change in the set of which this holds
+abbrev pub SoManyHave : ℕ → Configuration → List (ℕ × ViewChangeData) → (ViewChangeData → Type 0) → Type 0
+SoManyHave count c set P =
+    (from : ℕ → Bool) × (count ≤ count_below from (replicas c)) × ((s : ℕ) → from s ≡ true → (vc : ViewChangeData) × Has (λ x. x ≡ (s, vc)) set × P vc)
+
+-- they have one in the set that a new view carries
 abbrev pub HasFrom : ℕ → Configuration → NewViewData → (ViewChangeData → Type 0) → Type 0
-HasFrom count c new P =
-    (from : ℕ → Bool) × (count ≤ count_below from (replicas c))
-    × ((s : ℕ) → from s ≡ true → (vc : ViewChangeData) × Has (λ x. x ≡ (s, vc)) (changes_of c new) × P vc)
+HasFrom count c new P = SoManyHave count c (changes_of c new) P
 
 -- what is prepared there for the number was so in an earlier view, or is this digest in this view
 abbrev pub SaysNothingAgainst : ℕ → ℕ → List ℕ → ViewChangeData → Type 0
@@ -464,6 +464,7 @@ pub record IsWellSelected (c : Configuration) (new : NewViewData) : Type 0 where
       → ((w : ℕ) × (w < new.view) × HasFrom (2 * c.faults + 1) c new (SaysNothingAgainst i w (sha256 batch)) × HasFrom (c.faults + 1) c new (SaysForIt i w (sha256 batch)))
       ⊎ ((batch ≡ null_batch) × HasFrom (2 * c.faults + 1) c new (SaysNothing i))
 
+-- Each new view that is taken is well selected.
 abbrev pub TakesWellSelected : Type 0
 TakesWellSelected = (c : Configuration) (past : List Entry) (e : Entry) (new : NewViewData) → taken c past e ≡ Some new → IsWellSelected c new
 
@@ -471,7 +472,7 @@ TakesWellSelected = (c : Configuration) (past : List Entry) (e : Entry) (new : N
 abbrev pub TakesNoLower : Type 0
 TakesNoLower =
     (c : Configuration) (me : ℕ) (past : List Entry) (e : Entry) (new : NewViewData) (vc : ViewChangeData)
-    → taken c past e ≡ Some new → Once (Says (record { sender = me; message = ViewChange vc })) past → vc.view ≤ new.view
+    → taken c past e ≡ Some new → Once (λ earlier. IsSaying me (ViewChange vc)) past → vc.view ≤ new.view
 
 -- ---- requests
 

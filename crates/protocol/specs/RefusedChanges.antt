@@ -17,8 +17,8 @@ use Rattle.protocol.specs.Certificates.{low, view, is_active_in, is_in_marks, lo
 use Rattle.protocol.specs.State.{Call, last_time}
 use Rattle.protocol.specs.RightReplica.{SafeReplica, SentBefore, HadQuorum, StartsAt}
 use Rattle.protocol.specs.RightClient.{OpenCall, open_call}
-use Rattle.protocol.specs.Owed.{IsReplica}
-use Rattle.protocol.specs.Refused.{Says, AtEachPoint, EachKept, newest_number}
+use Rattle.protocol.specs.Owed.{IsSaying, IsReplica}
+use Rattle.protocol.specs.Refused.{AtEachPoint, EachKept, newest_number}
 use Rattle.protocol.specs.RefusedRuns.{IsAnyClient}
 
 -- ---- view changes
@@ -37,7 +37,7 @@ ChangesAboveView = (c : Configuration) (me : ℕ) (vc : ViewChangeData) (bytes :
 abbrev pub ChangesAboveEarlier : Type 0
 ChangesAboveEarlier =
     (c : Configuration) (me : ℕ) (vc earlier : ViewChangeData) (bytes : List ℕ) (past : List Entry) → SendsNewChange c me vc bytes past
-    → Once (Says (record { sender = me; message = ViewChange earlier })) past → earlier.view < vc.view
+    → Once (λ before. IsSaying me (ViewChange earlier)) past → earlier.view < vc.view
 
 -- A new view change for a view at or above 2^48.
 abbrev pub ChangesToNumbers : Type 0
@@ -75,7 +75,7 @@ abbrev pub ChangesAgainLast : Type 0
 ChangesAgainLast =
     (c : Configuration) (me : ℕ) (vc earlier : ViewChangeData) (bytes : List ℕ) (past : List Entry)
     → said bytes ≡ Some (record { sender = me; message = ViewChange vc }) → SentBefore bytes past → SafeReplica c me (Sent me bytes ∷ past)
-    → Once (Says (record { sender = me; message = ViewChange earlier })) past → earlier.view ≤ vc.view
+    → Once (λ before. IsSaying me (ViewChange earlier)) past → earlier.view ≤ vc.view
 
 -- ---- calls, of a client of either kind
 
@@ -195,8 +195,7 @@ DropsPassedCheckpoints =
     (c : Configuration) (me s k : ℕ) (root bytes : List ℕ) (a b d : Mark) (past : List Entry)
     → checkpoints_of c past s ≡ a ∷ b ∷ d ∷ [] → k < d.number → d.number < b.number → b.number < a.number → Answers c me s (Checkpoint k root) bytes past → ⊥
 
--- A view change not above the view, one beyond its bounds, and one not above another that its sender's signature was
--- on.
+-- A view change not above the view, and one beyond its bounds.
 abbrev pub DropsLowChanges : Type 0
 DropsLowChanges =
     (c : Configuration) (me s : ℕ) (vc : ViewChangeData) (bytes : List ℕ) (past : List Entry)
@@ -212,6 +211,7 @@ abbrev pub GotChange : Configuration → ℕ → ViewChangeData → List Entry �
 GotChange c s vc past (Got p bytes) = (signed_change c bytes ≡ Some (s, vc)) × (is_within c vc ≡ true)
 GotChange c s vc past _ = ⊥
 
+-- A view change not above another that its sender signed.
 abbrev pub DropsPassedChanges : Type 0
 DropsPassedChanges =
     (c : Configuration) (me s : ℕ) (vc earlier : ViewChangeData) (bytes : List ℕ) (past : List Entry)

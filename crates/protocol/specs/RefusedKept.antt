@@ -28,6 +28,7 @@ GivesNoLowPages =
 
 -- ---- the checkpoints of a new view change
 
+-- a state of this number is installed here
 abbrev pub Installs : ℕ → List Entry → Entry → Type 0
 Installs k past (Installed r number root) = number ≡ k
 Installs k past _ = ⊥

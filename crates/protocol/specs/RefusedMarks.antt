@@ -49,6 +49,7 @@ pub record IsWellFounded (c : Configuration) (new : NewViewData) : Type 0 where
   pub started : HasFrom (2 * c.faults + 1) c new (λ vc. vc.low ≤ new.start)
   pub listed : HasFrom (c.faults + 1) c new (λ vc. Has (λ (mark : Mark). (mark.number ≡ new.start) × (mark.digest ≡ new.root)) vc.checkpoints)
 
+-- Each new view that is taken is well founded.
 abbrev pub TakesWellFounded : Type 0
 TakesWellFounded = (c : Configuration) (past : List Entry) (e : Entry) (new : NewViewData) → taken c past e ≡ Some new → IsWellFounded c new
 
@@ -65,6 +66,7 @@ pub record IsStable (c : Configuration) (me : ℕ) (past : List Entry) (k : ℕ)
   pub alike : (s : ℕ) → from s ≡ true → HasCheckpoint c past k root s
   pub own : HasCheckpoint c past k root me
 
+-- a state of this number is installed here
 abbrev pub InstallsNumber : ℕ → Entry → Type 0
 InstallsNumber k (Installed replica number root) = number ≡ k
 InstallsNumber k _ = ⊥

@@ -9,7 +9,7 @@ use Rattle.wire.specs.declared.terms.Mode.{Mode}
 use Rattle.wire.specs.declared.terms.Mode.TheVariants as modes
 use Rattle.wire.specs.Messages.{FrameData as Frame, MacData, macs, ViewChangeData, NewViewData, ClaimData as Claim, request as Request, view_change as ViewChange, new_view as NewView, reply as Reply}
 use Rattle.protocol.specs.Frames.{frame_of, said, heard, reads_only}
-use Rattle.protocol.specs.Trace.{Entry, party_of, is_output, Once, Has, Each, Hears}
+use Rattle.protocol.specs.Trace.{Entry, party_of, is_output, Once, Has, AreOutputs, Hears}
 use Rattle.protocol.specs.Trace.Entry.{Invoke, Got, Tick, Installed, Sent, Accepted}
 use Rattle.protocol.specs.Certificates.{low, is_in_marks, is_active_in, logged}
 use Rattle.protocol.specs.State.{root_of}
@@ -24,9 +24,6 @@ use Rattle.protocol.specs.Schedule.{Step, calls, deliver, feed, ticks, flush, Ma
 -- not stopped there.
 abbrev pub going_on : ℕ → List ℕ → List Entry → Entry → List Entry → List Entry
 going_on me later outputs input past = Sent me later ∷ Tick me ∷ outputs ++ input ∷ past
-
-abbrev pub AreOutputs : List Entry → Type 0
-AreOutputs entries = Each (λ e. is_output e ≡ true) entries
 
 -- one output, the open call's ordered request
 abbrev pub IsOrderedRequest : ℕ → OpenCall → List Entry → Type 0
@@ -75,7 +72,7 @@ AsksAll =
     → frame_of bytes ≡ Some frame → frame.proof ≡ macs entries → s < replicas c → IsAnyClient c me (Sent me bytes ∷ past)
     → Has (λ r. r ≡ s) (map (λ x. x.receiver) entries)
 
--- Of the first client: an ordered reply that makes f + 1 replicas' latest ones of one answer, and no acceptance, or
+-- Of the weak client: an ordered reply that makes f + 1 replicas' latest ones of one answer, and no acceptance, or
 -- more than that.
 abbrev pub WeaklyAcceptsAlike : Type 0
 WeaklyAcceptsAlike =
@@ -120,6 +117,7 @@ IsInputOf (feed party text) (Got p bytes) = (p ≡ party) × (bytes ≡ text)
 IsInputOf (ticks party) (Tick p) = p ≡ party
 IsInputOf _ _ = ⊥
 
+-- the step brings an input of its own into the trace
 abbrev pub feeds_input : Step → Bool
 feeds_input step = elim step [ calls k op ↦ true | deliver frame party ↦ true | feed party text ↦ true | ticks party ↦ true | _ ↦ false ]
 
@@ -129,6 +127,7 @@ FeedsEachStep =
     (c : Configuration) (steps : List Step) (step : Step) (trace : List Entry)
     → Has (λ x. x ≡ step) steps → feeds_input step ≡ true → Feeds c steps trace → Has (IsInputOf step) trace
 
+-- steps and entries that are calls of the client k, and those that are ticks of the party p
 abbrev pub calls_for : ℕ → Step → Bool
 calls_for k step = elim step [ calls client op ↦ client == k | _ ↦ false ]
 
@@ -157,6 +156,7 @@ FeedsEachTick =
 abbrev pub StopsInRuns : Type 0
 StopsInRuns = (c : Configuration) (steps : List Step) (n : ℕ) (trace : List Entry) → StopsAt c steps n trace → IsRun c trace
 
+-- a frame is sent here
 abbrev pub is_sent : Entry → Bool
 is_sent e = elim e [ Sent p bytes ↦ true | _ ↦ false ]
 

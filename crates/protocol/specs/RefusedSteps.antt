@@ -15,7 +15,7 @@ use Rattle.protocol.specs.Schedule.{Step, calls, deliver, feed, seal, sign, tick
 use Rattle.protocol.specs.RightReplica.{others}
 use Rattle.protocol.specs.RefusedRuns.{Gets}
 use Rattle.protocol.specs.Examples.{four}
-use Rattle.protocol.specs.FirstOperation.{FirstFrames, first_answer, first_trace}
+use Rattle.protocol.specs.FirstOperation.{FirstFrames, AreFirstFrames, first_answer, first_item, first_trace}
 
 -- ---- a report
 
@@ -55,12 +55,14 @@ ReportsAreLinear =
     (c : Configuration) → IsConfiguration c → (trace : List Entry) (accepted : List Acceptance) (items : List Item)
     → IsRun c trace → Unforged c trace → NoCollision c trace → IsReport c trace accepted items → IsLinear c items trace
 
--- A report of the first operation with other acceptances than its one, by client 0, before which 49 entries stand.
+-- A report of the first operation with other acceptances than its one, by client 0, before which 49 entries stand, or with
+-- other items than its one.
 abbrev pub FirstOperationIsReported : Type 0
 FirstOperationIsReported =
     (clients : ℕ) (seed : List ℕ) (op : Operation) (batch : List ℕ) (w : FirstFrames) (accepted : List Acceptance) (items : List Item)
     → IsReport (four clients seed) (first_trace op batch w) accepted items
-    → accepted ≡ record { position = 49; client = 0; timestamp = 1; answer = first_answer op } ∷ []
+    → (accepted ≡ record { position = 49; client = 0; timestamp = 1; answer = first_answer op } ∷ [])
+    × (IsConfiguration (four clients seed) → AreFirstFrames (four clients seed) op batch w → items ≡ first_item op ∷ [])
 
 -- ---- a schedule's steps
 
@@ -76,6 +78,7 @@ MayBeFed c past _ = ⊤
 abbrev pub FeedsWhatMayBeFed : Type 0
 FeedsWhatMayBeFed = (c : Configuration) (steps : List Step) (trace : List Entry) → Feeds c steps trace → Always (MayBeFed c) trace
 
+-- the party is one of the configuration
 abbrev pub IsParty : Configuration → ℕ → Type 0
 IsParty c p = (is_replica c p ≡ true) ⊎ (is_client c p ≡ true)
 

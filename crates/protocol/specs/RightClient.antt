@@ -24,10 +24,12 @@ last_call [] = 0
 last_call (Invoke client timestamp op ∷ past) = timestamp
 last_call (_ ∷ past) = last_call past
 
+-- a call that is not answered yet
 pub record OpenCall : Type 0 where
   pub timestamp : ℕ
   pub op : Operation
 
+-- the last call, until its answer is accepted
 abbrev pub open_call : List Entry → Option OpenCall
 open_call [] = None
 open_call (Invoke client timestamp op ∷ past) = Some (record { timestamp = timestamp; op = op })
@@ -42,12 +44,14 @@ pub record Vote : Type 0 where
   pub number : ℕ
   pub answer : Outcome
 
+-- what a message of the replica s is as a reply to the client's call of this timestamp
 abbrev pub vote_of : ℕ → ℕ → ℕ → Body → Option Vote
 vote_of me timestamp s body = elim body.message [
   | Reply client t mode number answer ↦ give_if ((body.sender == s) && (client == me) && (t == timestamp)) (record { read_only = reads_only mode; number = number; answer = answer })
   | _ ↦ None
 ]
 
+-- the later reply, where it is of the kind that is asked for, else the earlier
 abbrev pub later_vote : Bool → Option Vote → Option Vote → Option Vote
 later_vote read_only None earlier = earlier
 later_vote true (Some vote) earlier = if vote.read_only then Some vote else earlier
@@ -88,6 +92,7 @@ pub data Reaction : Type 0 where
   asks : (read_only : Bool) (call : OpenCall) → Reaction
   accepts : (timestamp : ℕ) (answer : Outcome) → Reaction
 
+-- a message is an ordered request of this timestamp
 abbrev pub is_ordered_request : ℕ → Body → Bool
 is_ordered_request timestamp body = elim body.message [ Request t mode op ↦ (t == timestamp) && not (reads_only mode) | _ ↦ false ]
 
@@ -110,6 +115,7 @@ fallback c me now call = if not (went_ordered now call.timestamp) && is_answered
 abbrev pub on_reply : Configuration → ℕ → List Entry → OpenCall → Vote → Reaction
 on_reply c me now call vote = if is_complete c me now call.timestamp vote then accepts call.timestamp vote.answer else fallback c me now call
 
+-- a frame that brings no reply to the open call changes nothing
 abbrev pub on_got : Configuration → ℕ → List Entry → OpenCall → Reaction
 on_got c me now call = option_map_or (on_reply c me now call) (newest_vote c me now call.timestamp) nothing
 
@@ -128,17 +134,21 @@ reaction c me (_ ∷ past) = nothing
 -- ---- the weak client, which the first one is: every operation is ordered, and f + 1 ordered replies of one answer are
 -- enough, whatever their numbers
 
+-- alike in the answer alone
 abbrev pub is_same_answer : Vote → Option Vote → Bool
 is_same_answer vote other = option_map_or (λ o. bytes_eq (outcome_spelling o.answer) (outcome_spelling vote.answer)) other false
 
+-- f + 1 ordered replies of one answer end a call
 abbrev pub is_weakly_complete : Configuration → ℕ → List Entry → ℕ → Vote → Bool
 is_weakly_complete c me past timestamp vote =
     not vote.read_only && is_weak_quorum c (count_below (λ s. is_same_answer vote (latest c me past timestamp false s)) (replicas c))
 
+-- a reply that makes them f + 1 is accepted
 abbrev pub weakly_on_got : Configuration → ℕ → List Entry → OpenCall → Reaction
 weakly_on_got c me now call =
     option_map_or (λ vote. if is_weakly_complete c me now call.timestamp vote then accepts call.timestamp vote.answer else nothing) (newest_vote c me now call.timestamp) nothing
 
+-- What the weak client gives in the event of an input, the newest entry. It asks for every operation ordered.
 abbrev pub weak_reaction : Configuration → ℕ → List Entry → Reaction
 weak_reaction c me [] = nothing
 weak_reaction c me (Invoke client timestamp op ∷ past) = asks false (record { timestamp = timestamp; op = op })
@@ -182,11 +192,13 @@ IsClientBy c me react (e ∷ past) = Reacts c me react [] (e ∷ past) ⊎ ((par
 abbrev pub IsClient : Configuration → ℕ → List Entry → Type 0
 IsClient c me history = IsClientBy c me (reaction c me) history
 
+-- the same for the weak client
 abbrev pub IsWeakClient : Configuration → ℕ → List Entry → Type 0
 IsWeakClient c me history = IsClientBy c me (weak_reaction c me) history
 
 -- ---- what each entry may be; the laws over all runs use no more, and a history that has nothing else is safe
 
+-- the newest entry brings the reply that ends the open call: at a quorum alike, or weakly at f + 1 of one answer
 abbrev pub MayAccept : Configuration → ℕ → List Entry → ℕ → Outcome → Type 0
 MayAccept c me past timestamp answer =
     (call : OpenCall) × (vote : Vote) × (open_call past ≡ Some call) × (call.timestamp ≡ timestamp) × (vote.answer ≡ answer)
@@ -202,17 +214,21 @@ abbrev pub MayRequest : List Entry → ℕ → Bool → Operation → Type 0
 MayRequest past timestamp read_only op =
     (open_call past ≡ Some (record { timestamp = timestamp; op = op })) × (read_only ≡ true → is_read_only op ≡ true)
 
+-- requests are all that a client says
 abbrev pub MayAsk : List Entry → Message → Type 0
 MayAsk past message = elim message [ Request timestamp mode op ↦ MayRequest past timestamp (reads_only mode) op | _ ↦ ⊥ ]
 
+-- an entry that a client may have: its requests, its acceptances by the rule given, and what begins an event
 abbrev pub MayClient : (List Entry → ℕ → Outcome → Type 0) → ℕ → List Entry → Entry → Type 0
 MayClient Accepting me past (Sent p bytes) = (body : Body) × (said bytes ≡ Some body) × (body.sender ≡ me) × MayAsk past body.message
 MayClient Accepting me past (Accepted client timestamp answer) = Accepting past timestamp answer
 MayClient Accepting me past e = MayInput past e
 
+-- each entry is one that the client may have
 abbrev pub RightBy : (List Entry → ℕ → Outcome → Type 0) → ℕ → List Entry → Type 0
 RightBy Accepting me history = Always (λ past e. (party_of e ≡ me) × MayClient Accepting me past e) history
 
+-- The history is safe: it has nothing that a correct client may not do, or that the weak one may not.
 abbrev pub SafeClient : Configuration → ℕ → List Entry → Type 0
 SafeClient c me history = RightBy (MayAccept c me) me history
 

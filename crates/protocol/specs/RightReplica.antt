@@ -25,6 +25,7 @@ use Rattle.protocol.specs.State.{State, IsState, Call, call_in, Ran, opening, ex
 
 -- ---- words on pasts
 
+-- some batch is executed here for the number k
 abbrev pub Executes : ℕ → List Entry → Entry → Type 0
 Executes k past (Executed r number batch) = number ≡ k
 Executes k past _ = ⊥
@@ -35,6 +36,7 @@ HasSeen bytes past (Got p whole) = Has (λ x. x ≡ bytes) (frames_in whole)
 HasSeen bytes past (Sent p whole) = Has (λ x. x ≡ bytes) (frames_in whole)
 HasSeen bytes past _ = ⊥
 
+-- these bytes are sent here
 abbrev pub SendsBytes : List ℕ → List Entry → Entry → Type 0
 SendsBytes bytes past (Sent p sent) = sent ≡ bytes
 SendsBytes bytes past _ = ⊥
@@ -62,6 +64,7 @@ pub record Point : Type 0 where
   pub ran : List Ran
   pub waiting : List Call
 
+-- what there is before any entry: the opening state, kept as a snapshot
 abbrev pub first_point : Point
 first_point = record { state = opening; snapshots = opening ∷ []; ran = []; waiting = [] }
 
@@ -75,6 +78,7 @@ with_waiting st waiting call =
     if nat_lt (last_time st call.client) call.timestamp && list_all (is_newer call) waiting
     then filter (λ other. not (other.client == call.client)) waiting ++ call ∷ [] else waiting
 
+-- the requests that wait once the bytes are got
 abbrev pub waiting_after : Configuration → ℕ → Point → List ℕ → List Call
 waiting_after c me point bytes = option_map_or (with_waiting point.state point.waiting) (option_and_then (call_in c) (heard c me bytes)) point.waiting
 
@@ -82,13 +86,16 @@ waiting_after c me point bytes = option_map_or (with_waiting point.state point.w
 abbrev pub still_waiting : State → List Call → List Call
 still_waiting st waiting = filter (λ call. nat_lt (last_time st call.client) call.timestamp) waiting
 
+-- an executed state is kept where its number is a multiple of the period
 abbrev pub snapshots_after : Configuration → State → List State → List State
 snapshots_after c st snapshots = if st.number % c.period == 0 then st ∷ snapshots else snapshots
 
--- What is installed is a state of the number and root, each page of which is the state's own or was got for its place.
+-- the page is the state's own, or was got for its place
 abbrev pub IsHeld : Configuration → ℕ → List Entry → State → ℕ → List ℕ → Type 0
 IsHeld c me past st i text = (text ≡ page_text st i) ⊎ Once (GetsPage c me i text) past
 
+-- What an installation leaves: a state of the number and root, made of such pages, and kept as a snapshot; what it has
+-- run waits no more.
 pub record IsInstalled (c : Configuration) (me : ℕ) (past : List Entry) (old : Point) (k : ℕ) (root : List ℕ) (new : Point) : Type 0 where
   pub is_state : IsState new.state
   pub number : new.state.number ≡ k
@@ -98,6 +105,7 @@ pub record IsInstalled (c : Configuration) (me : ℕ) (past : List Entry) (old :
   pub ran : new.ran ≡ old.ran
   pub waiting : new.waiting ≡ still_waiting new.state old.waiting
 
+-- what an execution leaves: the state after the batch, and with it what is kept, what ran and what waits
 abbrev pub executed_point : Configuration → Point → ℕ → List ℕ → Point
 executed_point c old k batch = record {
   state = execute c old.state batch;
@@ -106,7 +114,8 @@ executed_point c old k batch = record {
   waiting = still_waiting (execute c old.state batch) old.waiting;
 }
 
--- what an entry does to the point
+-- What an entry does to the point: an input begins an event in which nothing ran yet, an execution and an installation
+-- change the state, and all else changes nothing.
 abbrev pub Moves : Configuration → ℕ → List Entry → Point → Entry → Point → Type 0
 Moves c me past old (Got p bytes) new = new ≡ record old { ran = []; waiting = waiting_after c me old bytes }
 Moves c me past old (Tick p) new = new ≡ record old { ran = [] }
@@ -116,9 +125,11 @@ Moves c me past old _ new = new ≡ old
 
 -- ---- what is kept, and what a view change says
 
+-- the snapshots at or above the low mark, which is given; older ones are given up
 abbrev pub kept_states : ℕ → List State → List State
 kept_states h snapshots = filter (λ st. nat_le h st.number) snapshots
 
+-- what a checkpoint of a state says: its number and root
 abbrev pub checkpoint_of : State → Mark
 checkpoint_of st = record { number = st.number; digest = root_of st }
 
@@ -210,11 +221,12 @@ pub record MayReplyRead (c : Configuration) (me : ℕ) (past : List Entry) (poin
   pub answer_is : answer ≡ outcome (tuples point.state) op
   pub number_is : number ≡ point.state.number
 
+-- an ordered reply and a read-only one each have their rule
 abbrev pub MayReply : Configuration → ℕ → List Entry → Point → ℕ → ℕ → Mode → ℕ → Outcome → Type 0
 MayReply c me past point client timestamp modes.Ordered number answer = MayReplyOrdered point client timestamp number answer
 MayReply c me past point client timestamp modes.ReadOnly number answer = MayReplyRead c me past point client timestamp number answer
 
--- a part of a kept state answers a fetch that was got
+-- a state of the number is kept, and this holds of it
 abbrev pub KeptState : Configuration → ℕ → List Entry → Point → ℕ → (State → Type 0) → Type 0
 KeptState c me past point k P = Has (λ st. (st.number ≡ k) × P st) (kept_states (low c me past) point.snapshots)
 
@@ -224,6 +236,7 @@ digests_at st levels.Root index = inner_digests (pages_of st)
 digests_at st levels.Inner index = page_digests (pages_of st) index
 digests_at st levels.Page index = []
 
+-- Digests, or a page, of a kept state answer a fetch that was got.
 abbrev pub MayMeta : Configuration → ℕ → List Entry → Point → ℕ → Level → ℕ → List (List ℕ) → Type 0
 MayMeta c me past point k level index digests =
     KeptState c me past point k (λ st. digests ≡ digests_at st level index) × ((s : ℕ) × WasAsked c me past s k level index)
@@ -232,6 +245,7 @@ abbrev pub MayPage : Configuration → ℕ → List Entry → Point → ℕ → 
 MayPage c me past point k index text =
     KeptState c me past point k (λ st. text ≡ page_text st index) × ((s : ℕ) × WasAsked c me past s k levels.Page index)
 
+-- Each message has its rule. A replica makes no requests, and asks for parts of a state as it likes.
 abbrev pub MaySay : Configuration → ℕ → List Entry → Point → Entry → List ℕ → Message → Type 0
 MaySay c me past point e bytes (Request timestamp mode op) = ⊥
 MaySay c me past point e bytes (PrePrepare v i batch) = MayPrePrepare c me past e v i batch
@@ -247,6 +261,7 @@ MaySay c me past point e bytes (Page k index text) = MayPage c me past point k i
 
 -- ---- whom a frame is for
 
+-- the replicas but this one
 abbrev pub others : Configuration → ℕ → List ℕ
 others c me = filter (λ r. not (r == me)) (range_with_len 0 (replicas c))
 
@@ -279,6 +294,7 @@ pub record MayExecute (c : Configuration) (me : ℕ) (past : List Entry) (point 
   pub in_view : ℕ
   pub committed : Committed c me past in_view k batch
 
+-- a new view is taken here, or sent, that starts at this number with this root
 abbrev pub StartsAt : Configuration → ℕ → List ℕ → List Entry → Entry → Type 0
 StartsAt c k root past e = (new : NewViewData) × (taken c past e ≡ Some new) × (new.start ≡ k) × (new.root ≡ root)
 
@@ -291,6 +307,7 @@ abbrev pub MayInstall : Configuration → List Entry → Point → ℕ → List 
 MayInstall c past point k root =
     (point.state.number < k) × (HadQuorum c (record { number = k; digest = root }) past ⊎ Once (StartsAt c k root) past)
 
+-- What a correct replica may have next: any frame or tick, what its rules let it do, and nothing that is for clients.
 abbrev pub May : Configuration → ℕ → List Entry → Point → Entry → Type 0
 May c me past point (Invoke client timestamp op) = ⊥
 May c me past point (Got p bytes) = ⊤

@@ -24,10 +24,11 @@ pub record IsRunOf (IsIts : ℕ → List Entry → Type 0) (c : Configuration) (
   pub parties : Always (λ past e. is_correct c (party_of e) ≡ true) trace
   pub events : Always Follows trace
 
+-- a run of the clients that accept at 2f + 1 replies alike
 abbrev pub IsRun : Configuration → List Entry → Type 0
 IsRun c trace = IsRunOf (IsClient c) c trace
 
--- a run of the first client, which accepts at f + 1 replies of one answer
+-- a run of the weak client, which accepts at f + 1 replies of one answer
 abbrev pub IsWeakRun : Configuration → List Entry → Type 0
 IsWeakRun c trace = IsRunOf (IsWeakClient c) c trace
 
@@ -44,7 +45,7 @@ PointsAreLinear =
 abbrev pub RunsAreLinear : Type 0
 RunsAreLinear = (c : Configuration) → IsConfiguration c → (trace : List Entry) → IsRun c trace → Unforged c trace → NoCollision c trace → Linear c trace
 
--- Over every run of the first client too, the accepted answers are those of one space: some list of items is legal and
+-- Over every run of the weak client too, the accepted answers are those of one space: some list of items is legal and
 -- covers the trace. Positions are not promised.
 abbrev pub WeakAnswersAreOneSpace : Type 0
 WeakAnswersAreOneSpace =
@@ -62,6 +63,7 @@ AtItsLevel c past (Accepted k timestamp answer) =
     × (vote.read_only ≡ true → (n : ℕ) → vote.number < n → is_level c (invoke_past (256 + k) past) n ≡ true → ⊥)
 AtItsLevel c past _ = ⊤
 
+-- It is so at each acceptance of a run.
 abbrev pub AcceptedAtLevels : Type 0
 AcceptedAtLevels =
     (c : Configuration) → IsConfiguration c → (trace : List Entry) → IsRun c trace → Unforged c trace → NoCollision c trace

@@ -18,7 +18,9 @@ use Rattle.protocol.specs.RightClient.{open_call}
 use Rattle.protocol.specs.Linear.{Item, points}
 use Rattle.protocol.specs.Run.{IsRun}
 
--- A client stands with its number in a call, all others with their party.
+-- A step of a schedule: a call; a frame that was made, to a party; bytes to a party; a frame of a faulty party, with
+-- MACs or signed; a tick; or the delivery of all that is left. A client stands with its number in a call, all others
+-- with their party.
 pub data Step : Type 0 where
   calls : (client : ℕ) (op : Operation) → Step
   deliver : (frame party : ℕ) → Step
@@ -40,6 +42,7 @@ abbrev pub meant_for : Configuration → ℕ → Proof → List ℕ
 meant_for c sender (macs entries) = receivers_of (macs entries)
 meant_for c sender (signature s) = range_with_len 0 sender ++ range_with_len (suc sender) (replicas c - suc sender)
 
+-- a frame that an output sends is made with it
 abbrev pub made_by : Configuration → Entry → List Made
 made_by c (Sent p bytes) = record { bytes = bytes; receivers = option_map_or (λ frame. meant_for c p frame.proof) (frame_of bytes) [] } ∷ []
 made_by c _ = []
@@ -59,37 +62,46 @@ pub record World : Type 0 where
   pub delivered : List (ℕ × ℕ)
   pub past : List Entry
 
+-- the world before the first step
 abbrev pub new_world : World
 new_world = record { frames = []; delivered = []; past = [] }
 
+-- the world behind an entry
 abbrev pub with_entry : Configuration → World → Entry → World
 with_entry c w e = record w { frames = w.frames ++ made_by c e; past = e ∷ w.past }
 
+-- the world with one more frame, which a faulty party made
 abbrev pub with_frame : World → List ℕ → List ℕ → World
 with_frame w bytes receivers = record w { frames = w.frames ++ record { bytes = bytes; receivers = receivers } ∷ [] }
 
 -- ---- flush: frames by number and receivers ascending, each frame to each of its correct receivers once
 
+-- the frame of this number was delivered to the party
 abbrev pub is_delivered : List (ℕ × ℕ) → ℕ → ℕ → Bool
 is_delivered delivered frame party = list_any (λ x. (x.0 == frame) && (x.1 == party)) delivered
 
+-- the first correct receiver that a frame was not delivered to
 abbrev pub next_receiver : Configuration → List (ℕ × ℕ) → ℕ → List ℕ → Option (ℕ × ℕ)
 next_receiver c delivered frame [] = None
 next_receiver c delivered frame (q ∷ receivers) =
     if is_correct c q && not (is_delivered delivered frame q) then Some (frame, q) else next_receiver c delivered frame receivers
 
+-- the first frame that has one, and that receiver; frames are numbered from this one on
 abbrev pub next_pair : Configuration → List (ℕ × ℕ) → ℕ → List Made → Option (ℕ × ℕ)
 next_pair c delivered frame [] = None
 next_pair c delivered frame (made ∷ frames) = or_else (next_receiver c delivered frame made.receivers) (next_pair c delivered (suc frame) frames)
 
+-- what a flush delivers next, if anything is left
 abbrev pub pending : Configuration → World → Option (ℕ × ℕ)
 pending c w = next_pair c w.delivered 0 w.frames
 
 -- ---- which steps are allowed
 
+-- the party is one of the configuration
 abbrev pub is_party : Configuration → ℕ → Bool
 is_party c p = is_replica c p || is_client c p
 
+-- whom a frame of a faulty party may be for
 pub record AreReceivers (c : Configuration) (receivers : List ℕ) : Type 0 where
   pub some : 1 ≤ length receivers
   pub few : length receivers ≤ 10
@@ -138,7 +150,7 @@ pub data Goes (c : Configuration) : World → List Step → List Entry → World
       → IsAllowed c w (sign replica leaf receivers body) → AtInput entries → Goes c (with_frame w (signed_bytes c replica leaf body) receivers) steps entries v
       → Goes c w (sign replica leaf receivers body ∷ steps) entries v
   flushes : {w v : World} {steps : List Step} {entries : List Entry} {frame party : ℕ}
-      → AtInput entries → pending c w ≡ Some (frame, party) → Goes c w (deliver frame party ∷ flush ∷ steps) entries v
+      → pending c w ≡ Some (frame, party) → Goes c w (deliver frame party ∷ flush ∷ steps) entries v
       → Goes c w (flush ∷ steps) entries v
   flushed : {w v : World} {steps : List Step} {entries : List Entry}
       → AtInput entries → pending c w ≡ None → Goes c w steps entries v → Goes c w (flush ∷ steps) entries v
@@ -162,6 +174,7 @@ pub record Acceptance : Type 0 where
   pub timestamp : ℕ
   pub answer : Outcome
 
+-- the acceptances of a trace, the newest first
 abbrev pub acceptances : List Entry → List Acceptance
 acceptances [] = []
 acceptances (Accepted client timestamp answer ∷ past) = record { position = length past; client = client; timestamp = timestamp; answer = answer } ∷ acceptances past

@@ -8,26 +8,31 @@ use Rattle.protocol.specs.Configuration.{Configuration, replicas, span, is_numbe
 use Rattle.wire.specs.Messages.{BodyData as Body, NewViewData, ViewChangeData, MarkData as Mark, ClaimData as Claim, view_change as ViewChange}
 use Rattle.protocol.specs.Frames.{signed_body}
 
+-- So many replicas are a quorum. Any two quorums have a correct replica in common.
 abbrev pub is_quorum : Configuration → ℕ → Bool
 is_quorum c count = nat_le (2 * c.faults + 1) count
 
+-- So many are a weak quorum. At least one of them is correct.
 abbrev pub is_weak_quorum : Configuration → ℕ → Bool
 is_weak_quorum c count = nat_le (c.faults + 1) count
 
 -- ---- the set of view changes
 
--- the view change that the bytes spell, with its sender, where its signature verifies
+-- the view change that a message is, with its sender
 abbrev pub change_in : Body → Option (ℕ × ViewChangeData)
 change_in body = elim body.message [ ViewChange vc ↦ Some (body.sender, vc) | _ ↦ None ]
 
+-- the view change that the bytes spell, with its sender, where its signature verifies
 abbrev pub signed_change : Configuration → List ℕ → Option (ℕ × ViewChangeData)
 signed_change c bytes = option_and_then change_in (signed_body c bytes)
 
+-- those of the options that are given
 abbrev pub list_of : {A : Type 0} → List (Option A) → List A
 list_of [] = []
 list_of (None ∷ xs) = list_of xs
 list_of (Some x ∷ xs) = x ∷ list_of xs
 
+-- the set of view changes that a new view carries
 abbrev pub changes_of : Configuration → NewViewData → List (ℕ × ViewChangeData)
 changes_of c new = list_of (map (signed_change c) new.changes)
 
@@ -36,6 +41,7 @@ abbrev pub change_by : List (ℕ × ViewChangeData) → ℕ → Option ViewChang
 change_by [] s = None
 change_by (x ∷ xs) s = if x.0 == s then Some x.1 else change_by xs s
 
+-- the replica has a view change in the set, and it passes
 abbrev pub passes_by : (ViewChangeData → Bool) → List (ℕ × ViewChangeData) → ℕ → Bool
 passes_by test set s = option_map_or test (change_by set s) false
 
@@ -45,6 +51,7 @@ count_in c test set = count_below (passes_by test set) (replicas c)
 
 -- ---- a view change within its bounds: views in it are below its own, numbers within its marks, and all below 2^48
 
+-- a claim, prepared or pre-prepared; a checkpoint; and the whole
 abbrev pub is_claim_within : Configuration → ViewChangeData → Claim → Bool
 is_claim_within c vc claim = nat_lt claim.view vc.view && nat_lt vc.low claim.number && nat_le claim.number (vc.low + span c) && is_number claim.number
 
@@ -86,6 +93,7 @@ may_be_null c set number =
 abbrev pub null_batch : List ℕ
 null_batch = 0 ∷ []
 
+-- the batch is the null batch
 abbrev pub is_null : List ℕ → Bool
 is_null batch = bytes_eq batch null_batch
 
@@ -108,10 +116,12 @@ abbrev pub largest : ℕ → List Claim → ℕ
 largest limit [] = 0
 largest limit (claim ∷ claims) = if nat_le claim.number limit then max claim.number (largest limit claims) else largest limit claims
 
+-- the largest over the whole set
 abbrev pub largest_of : ℕ → List (ℕ × ViewChangeData) → ℕ
 largest_of limit [] = 0
 largest_of limit (x ∷ xs) = max (largest limit x.1.prepared) (largest_of limit xs)
 
+-- each sender is above the one before, so that each has one view change in the set
 abbrev pub ascending : List (ℕ × ViewChangeData) → Bool
 ascending [] = true
 ascending (x ∷ []) = true
@@ -135,6 +145,7 @@ are_enough c new = is_quorum c (count_in c (λ vc. true) (changes_of c new))
 abbrev pub all_within : Configuration → NewViewData → Bool
 all_within c new = list_all (λ x. (x.1.view == new.view) && is_within c x.1) (changes_of c new)
 
+-- it has as many batches as it is to have
 abbrev pub has_length : Configuration → NewViewData → Bool
 has_length c new = length new.batches == how_many c new
 

@@ -22,12 +22,15 @@ pub record State : Type 0 where
   pub number : ℕ
   pub replies : Replies
 
+-- the state before the first batch
 abbrev pub opening : State
 opening = record { space = empty_state; number = 0; replies = no_replies }
 
+-- the tuples in order of age
 abbrev pub tuples : State → List TupleTree
 tuples st = tuples_of st.space
 
+-- the reply that is kept for a client
 abbrev pub kept_of : State → ℕ → Option Kept
 kept_of st client = last_of st.replies client
 
@@ -43,6 +46,7 @@ pub record Call : Type 0 where
   pub timestamp : ℕ
   pub op : Operation
 
+-- the call that a message is
 abbrev pub call_in : Configuration → Body → Option Call
 call_in c body = elim body.message [
   | Request timestamp mode op ↦ if not (reads_only mode) && is_client c body.sender
@@ -50,6 +54,7 @@ call_in c body = elim body.message [
   | _ ↦ None
 ]
 
+-- the call that a frame of a batch spells; all others do nothing
 abbrev pub call_of : Configuration → List ℕ → Option Call
 call_of c frame = option_and_then (call_in c) (said frame)
 
@@ -61,6 +66,7 @@ runs st call = nat_lt (last_time st call.client) call.timestamp
 abbrev pub kept_by : State → ℕ → Call → Kept
 kept_by st number call = record { timestamp = call.timestamp; number = number; outcome = outcome (tuples st) call.op }
 
+-- the state after a request that runs
 abbrev pub ran_call : State → ℕ → Call → State
 ran_call st number call =
     record { space = state_after st.space call.op; number = st.number; replies = with_reply st.replies call.client (kept_by st number call) }
@@ -69,6 +75,7 @@ ran_call st number call =
 abbrev pub run_call : State → ℕ → Call → State
 run_call st number call = if runs st call then ran_call st number call else st
 
+-- what a frame does there
 abbrev pub run_frame : Configuration → ℕ → State → List ℕ → State
 run_frame c number st frame = option_map_or (run_call st number) (call_of c frame) st
 
@@ -86,6 +93,7 @@ pub record Ran : Type 0 where
   pub call : Call
   pub kept : Kept
 
+-- a request adds itself to what ran, if it runs
 abbrev pub ran_by : State → ℕ → Call → List Ran
 ran_by st number call = if runs st call then record { call = call; kept = kept_by st number call } ∷ [] else []
 
@@ -103,6 +111,7 @@ pub record IsState (st : State) : Type 0 where
 
 -- ---- pages: 0 to 255 hold tuples, 256 to 511 replies, 512 the header, all others nothing
 
+-- the text of a page
 unfoldable pub page_text : State → ℕ → List ℕ
 page_text st page =
     if nat_lt page 256 then tuple_page st.space page else
@@ -114,6 +123,7 @@ page_text st page =
 unfoldable pub all_pages : (ℕ → List ℕ) → List (List ℕ)
 all_pages page = map page (range_with_len 0 1024)
 
+-- the pages of a state, and the root of the tree over them, which a checkpoint says
 abbrev pub pages_of : State → List (List ℕ)
 pages_of st = all_pages (page_text st)
 

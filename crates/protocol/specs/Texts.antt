@@ -19,6 +19,7 @@ batches_of message = elim message [ PrePrepare view number batch ↦ batch ∷ [
 abbrev pub parts_of : Message → List (List ℕ)
 parts_of message = elim message [ Meta number level index digests ↦ concat digests ∷ [] | Page number index text ↦ text ∷ [] | _ ↦ [] ]
 
+-- the bytes spell a message that has the batch
 abbrev pub SaysBatch : List ℕ → List ℕ → Type 0
 SaysBatch text bytes = (body : Body) × (said bytes ≡ Some body) × Has (λ x. x ≡ text) (batches_of body.message)
 

@@ -18,6 +18,7 @@ pub data Entry : Type 0 where
   Sent : (party : ℕ) (bytes : List ℕ) → Entry
   Accepted : (client timestamp : ℕ) (answer : Outcome) → Entry
 
+-- the party at which the entry stands
 abbrev pub party_of : Entry → ℕ
 party_of (Invoke client timestamp op) = 256 + client
 party_of (Got party bytes) = party
@@ -55,6 +56,10 @@ abbrev pub Each : {A : Type 0} → (A → Type 0) → List A → Type 0
 Each P [] = ⊤
 Each P (x ∷ xs) = P x × Each P xs
 
+-- there is no input among the entries
+abbrev pub AreOutputs : List Entry → Type 0
+AreOutputs entries = Each (λ e. is_output e ≡ true) entries
+
 -- the one or the other
 abbrev pub either : Bool → Type 0 → Type 0 → Type 0
 either true one other = one
@@ -86,6 +91,7 @@ Hears c me body past _ = ⊥
 abbrev pub IsFromSender : Configuration → ℕ → List Entry → List ℕ → Type 0
 IsFromSender c me past bytes = (body : Body) → heard c me bytes ≡ Some body → is_correct c body.sender ≡ true → Once (SendsBody body) past
 
+-- each frame that a correct party gets, alone or carried, is from its sender
 abbrev pub IsUnforgedAt : Configuration → List Entry → Entry → Type 0
 IsUnforgedAt c past (Got me bytes) = is_correct c me ≡ true → Each (IsFromSender c me past) (frames_in bytes)
 IsUnforgedAt c past _ = ⊤

@@ -2,6 +2,9 @@
 
 ghost use Rattle.protocol.specs.Examples.{FirstBatchExecutes, FirstCallIsRun, PreparedIsSelected, EmptyIsNotSelected, NullIsNotSelected, LieIsNotSelected, TruthWaits, TruthIsSelected};
 ghost use Rattle.protocol.specs.ExamplesOfAnswers.{FirstReadIsAnswered, FirstFetchIsAnswered};
+ghost use Rattle.protocol.specs.ExamplesOfTransfer.{TransferBegins};
+ghost use Rattle.protocol.specs.ExamplesOfKept.{KeptReplyGoesAgain};
+ghost use Rattle.protocol.specs.ExamplesOfChanges.{ViewChangesAreJoined, NewViewsAreTaken};
 ghost use Rattle.protocol.specs.FirstOperation.{FirstOperationIsRun, FirstOperationIsCommitted, FirstOperationIsUnforged, FirstOperationIsFed, FirstFramesExist};
 
 /// Of four replicas a backup that gets the primary's pre-prepare of the first batch, one more prepare and two more
@@ -65,4 +68,26 @@ pub fn a_first_read_is_answered()
 /// One that answers a fetch of the root of the opening state with the digests below is a right one.
 pub fn a_first_fetch_is_answered()
     ensures fetch { FirstFetchIsAnswered }
+{}
+
+/// A replica that is behind and asks for the root at the third checkpoint that has it, and at each part that it gets for
+/// the next, is a right one.
+pub fn a_transfer_begins()
+    ensures begins { TransferBegins }
+{}
+
+/// A replica that gets a request again that ran, and sends its client's kept reply again, is a right one.
+pub fn a_kept_reply_goes_again()
+    ensures again { KeptReplyGoesAgain }
+{}
+
+/// A replica that joins the view changes of two others in the beginning, with what its own history says, is a right
+/// one.
+pub fn view_changes_are_joined()
+    ensures joined { ViewChangesAreJoined }
+{}
+
+/// A backup that takes the first new view in the beginning, and prepares its batch, is a right replica.
+pub fn a_new_view_is_taken()
+    ensures taken { NewViewsAreTaken }
 {}

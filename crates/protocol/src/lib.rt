@@ -5,10 +5,12 @@ pub mod accepted;
 pub mod clients;
 pub mod refused;
 pub mod refused_changes;
+pub mod refused_items;
 pub mod refused_kept;
 pub mod refused_marks;
 pub mod refused_runs;
 pub mod refused_steps;
+pub mod selected;
 
 ghost use Rattle.protocol.specs.Laws.{FramesAreSpelled, BodiesAreSaid, BytesAreHeard, PreparedAgree, CommittedStays, CommittedAgree, ExecutedAgree, PagesDetermine, BatchesLeaveStates, StatesAreExecuted, StatesAgree, StableAgree, InstalledAgree, StartsAgree, LinearOfSafe, WeakIsOneSpace, NoneBegins, FirstViewStays};
 ghost use Rattle.protocol.specs.FirstOperation.{SealedFramesAreHeard};

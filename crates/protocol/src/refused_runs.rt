@@ -12,9 +12,9 @@ pub fn correct_clients_go_on()
     ensures receivers { AsksAll }
 {}
 
-/// The first client accepts where `f + 1` replicas' latest ordered replies have one answer, and only there, and asks
+/// The weak client accepts where `f + 1` replicas' latest ordered replies have one answer, and only there, and asks
 /// nothing read-only.
-pub fn first_clients_accept_at_weak_quorum()
+pub fn weak_clients_accept_at_weak_quorum()
     ensures accepts { WeaklyAcceptsAlike }
     ensures quorum { WeaklyAcceptsAtWeakQuorum }
     ensures requests { WeaklyAsksOrdered }

@@ -13,7 +13,8 @@ pub fn reports_are_exact()
 {}
 
 /// A report of a client's first operation at four replicas lists one acceptance: client 0's, of timestamp 1, behind 49
-/// entries, with the empty space's answer.
+/// entries, with the empty space's answer, and one item: that operation with this answer, at the position at which the third
+/// replica executes it.
 pub fn a_first_operation_is_reported()
     ensures reported { FirstOperationIsReported }
 {}

@@ -106,10 +106,12 @@ fn texts_of_no_replies(rt: HostRuntime) {
 }
 
 #[test]
-fn too_few_pages(rt: HostRuntime) {
-    let pages: [&[u8]; 255] = [&[]; 255];
-    assert_eq!(rt; is_read(rt.alloc(), pages.as_slice()), Err(Bad::Malformed));
+fn too_few_and_too_many_pages(rt: HostRuntime) {
+    let few: [&[u8]; 255] = [&[]; 255];
+    assert_eq!(rt; is_read(rt.alloc(), few.as_slice()), Err(Bad::Malformed));
     assert_eq!(rt; is_read(rt.alloc(), &[]), Err(Bad::Malformed));
+    let many: [&[u8]; 257] = [&[]; 257];
+    assert_eq!(rt; is_read(rt.alloc(), many.as_slice()), Err(Bad::Malformed));
 }
 
 // Passes whichever allocation is refused, as by `rt try --test --fail-alloc N`.

@@ -133,8 +133,14 @@ fn headers_of_no_state(rt: HostRuntime) {
     }
     let fitting = b"\x01\0\0\0\0\0\0\0\x01\0\0\0\0\0\0\x10\0".as_slice();
     assert_eq!(rt; is_read(rt.alloc(), pages.as_slice(), fitting), Ok(true));
+    // A page too few, and a page too many.
     assert_eq!(rt;
         is_read(rt.alloc(), &pages[1..], fitting),
+        Err(Bad::Malformed)
+    );
+    let many: [&[u8]; 257] = [&[]; 257];
+    assert_eq!(rt;
+        is_read(rt.alloc(), many.as_slice(), fitting),
         Err(Bad::Malformed)
     );
 }
