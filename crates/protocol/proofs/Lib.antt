@@ -71,6 +71,7 @@ pub mod RefusingMarksLow
 pub mod RefusingMarksCheckpoints
 pub mod RefusingSteps
 pub mod RefusingStepsAllowed
+pub mod Feeding
 pub mod RefusingStepsSigned
 pub mod TransferringStages
 pub mod TransferringEvents

@@ -21,6 +21,7 @@ pub mod ExamplesOfAnswers
 pub mod RefusedMarks
 pub mod RefusedKept
 pub mod RefusedSteps
+pub mod Fed
 pub mod ExamplesOfTransfer
 pub mod ExamplesOfKept
 pub mod ExamplesOfChanges

@@ -1,0 +1,15 @@
+//! Laws that show that a schedule takes each step that may come.
+
+ghost use Rattle.protocol.specs.Fed.{CallsAreFed, DeliveriesAreFed, BytesAreFed, TicksAreFed, SealedAreMade, SignedAreMade};
+
+/// Behind any schedule a call of a correct client with none open, and a frame that was made, any bytes and a tick at a
+/// correct party are fed, each with the outputs that follow. A frame that a faulty party may make is the next that can be
+/// delivered.
+pub fn steps_are_fed()
+    ensures calls { CallsAreFed }
+    ensures deliveries { DeliveriesAreFed }
+    ensures bytes { BytesAreFed }
+    ensures ticks { TicksAreFed }
+    ensures sealed { SealedAreMade }
+    ensures signed { SignedAreMade }
+{}
