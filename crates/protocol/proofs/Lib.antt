@@ -72,6 +72,7 @@ pub mod RefusingMarksCheckpoints
 pub mod RefusingSteps
 pub mod RefusingStepsAllowed
 pub mod Feeding
+pub mod Flushing
 pub mod RefusingStepsSigned
 pub mod TransferringStages
 pub mod TransferringEvents
