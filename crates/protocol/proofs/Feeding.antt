@@ -44,7 +44,7 @@ each_append : (P : Entry → Type 0) (xs ys : List Entry) → Each P xs → Each
 each_append P [] ys h k = k
 each_append P (x ∷ xs) ys h k = (h.0, each_append P xs ys h.1 k)
 
-each_reverse : (P : Entry → Type 0) (xs : List Entry) → Each P xs → Each P (reverse xs)
+pub each_reverse : (P : Entry → Type 0) (xs : List Entry) → Each P xs → Each P (reverse xs)
 each_reverse P [] h = tt
 each_reverse P (x ∷ xs) h = subst (λ (ys : List Entry). Each P ys) (sym (reverse_onto xs x [])) (each_append P (reverse xs) (x ∷ []) (each_reverse P xs h.1) (h.0, tt))
 

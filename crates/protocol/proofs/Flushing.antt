@@ -18,10 +18,10 @@ use Rattle.protocol.proofs.Options.{some_injective}
 
 -- ---- the test of what is left
 
-abbrev left : Configuration → List (ℕ × ℕ) → ℕ → ℕ → Bool
+abbrev pub left : Configuration → List (ℕ × ℕ) → ℕ → ℕ → Bool
 left c d frame q = is_correct c q && not (is_delivered d frame q)
 
-abbrev IsLeftIn : Configuration → List (ℕ × ℕ) → ℕ → ℕ → Type 0
+abbrev pub IsLeftIn : Configuration → List (ℕ × ℕ) → ℕ → ℕ → Type 0
 IsLeftIn c d frame q = (is_correct c q ≡ true) × (Has (λ x. x ≡ (frame, q)) d → ⊥)
 
 delivered_is : (d : List (ℕ × ℕ)) (frame q : ℕ) → Has (λ x. x ≡ (frame, q)) d → is_delivered d frame q ≡ true
@@ -52,7 +52,7 @@ module _ (c : Configuration) (d : List (ℕ × ℕ)) where
       go true e = absurd (h.1 (was_delivered d frame q e))
       go false e = rw (h.0, e) refl
 
-  not_left : (frame q : ℕ) → (IsLeftIn c d frame q → ⊥) → left c d frame q ≡ false
+  pub not_left : (frame q : ℕ) → (IsLeftIn c d frame q → ⊥) → left c d frame q ≡ false
   not_left frame q h = go (left c d frame q) refl
     where
       go : (b : Bool) → left c d frame q ≡ b → b ≡ false

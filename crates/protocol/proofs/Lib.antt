@@ -73,6 +73,7 @@ pub mod RefusingSteps
 pub mod RefusingStepsAllowed
 pub mod Feeding
 pub mod Flushing
+pub mod FlushingEnds
 pub mod RefusingStepsSigned
 pub mod TransferringStages
 pub mod TransferringEvents

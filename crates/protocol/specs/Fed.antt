@@ -1,9 +1,9 @@
 -- What a schedule feeds: each step that may come, with the outputs behind it. The worlds are those of the schedule's
 -- definition; what a step needs is said here in words of its own.
-use Rattle.std.specs.Prelude.{◌≡◌, ℕ, ◌+◌, ◌<◌, true, false, List, [], ◌∷◌, ◌++◌, slice_get, Some, None}
+use Rattle.std.specs.Prelude.{◌≡◌, ℕ, ◌+◌, ◌<◌, true, false, List, [], ◌∷◌, ◌++◌, slice_get, Some, None, ⊤}
 use Rattle.tuple_codec.specs.Operations.{Operation, IsOperation}
 use Rattle.protocol.specs.Configuration.{Configuration, is_correct, is_correct_client}
-use Rattle.protocol.specs.Trace.{Entry, history_of, is_output, Has, AreOutputs}
+use Rattle.protocol.specs.Trace.{Entry, history_of, is_output, Has, Each, AreOutputs}
 use Rattle.protocol.specs.Trace.Entry.{Invoke, Got, Tick}
 use Rattle.protocol.specs.RightClient.{open_call}
 use Rattle.protocol.specs.Schedule.{Step, calls, deliver, feed, seal, sign, ticks, flush, Made, World, sealed_bytes, signed_bytes, Goes, Feeds}
@@ -98,3 +98,14 @@ FlushEnds =
     (c : Configuration) (w : World)
     → ((n q : ℕ) (other : Made) → slice_get w.frames n ≡ Some other → Has (λ r. r ≡ q) other.receivers → IsLeft c w n q → ⊥)
     → Goes c w (flush ∷ []) [] w
+
+-- the entry is a frame that a party gets
+abbrev pub IsGot : Entry → Type 0
+IsGot (Got party bytes) = ⊤
+IsGot _ = ⊥
+
+-- Behind any schedule a flush may come, and end.
+abbrev pub FlushesAreFed : Type 0
+FlushesAreFed =
+    (c : Configuration) (steps : List Step) (trace : List Entry) → Feeds c steps trace
+    → (deliveries : List Entry) × Each IsGot deliveries × Feeds c (steps ++ flush ∷ []) (deliveries ++ trace)
