@@ -1,7 +1,6 @@
 -- A flush delivers the first frame that is left to the first receiver that it is left for, and ends where none is left.
-use Rattle.std.proofs.Common.{◌≡◌, ℕ, zero, suc, ◌+◌, ◌<◌, ◌⊎◌, inl, inr, Bool, true, false, not, cond, List, [], ◌∷◌, slice_get, refl, sym, ap, ◌∙◌, subst, arith, ◌&&◌, ◌||◌, Option, Some, None, eqb-true}
+use Rattle.std.proofs.Common.{◌≡◌, ℕ, zero, suc, ◌+◌, ◌<◌, inl, inr, Bool, true, false, not, cond, List, [], ◌∷◌, slice_get, refl, sym, ap, ◌∙◌, subst, arith, ◌&&◌, Option, Some, None, eqb-true}
 use Rattle.std.specs.Prelude.{◌==◌}
-use Rattle.std.specs.List.{list_any}
 use Rattle.std.proofs.lemmas.Bool.{and_parts, eq-eqb, or_right}
 use Rattle.std.proofs.lemmas.List.{append-nil}
 use Rattle.std.proofs.lemmas.Option.{slice_get_within}
@@ -12,7 +11,7 @@ use Rattle.protocol.specs.Trace.Entry.{Got}
 use Rattle.protocol.specs.Schedule.{Step, Made, World, Goes, with_entry, is_delivered, next_receiver, next_pair, pending}
 use Rattle.protocol.specs.Schedule.Step.{deliver, flush}
 use Rattle.protocol.specs.Schedule.Goes.{ends, gives, called, delivers, gets, ticked, seals, signs, flushes, flushed}
-use Rattle.protocol.specs.Fed.{IsLeft, IsNext, with_delivery, FlushDeliversNext, FlushDeliversNoOther, FlushEnds}
+use Rattle.protocol.specs.Fed.{IsNext, with_delivery, FlushDeliversNext, FlushDeliversNoOther, FlushEnds}
 use Rattle.protocol.proofs.Lists.{some_of_has}
 use Rattle.protocol.proofs.Options.{some_injective}
 

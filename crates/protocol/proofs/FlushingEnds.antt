@@ -6,7 +6,7 @@ use Rattle.quorum.specs.Votes.{or_else}
 use Rattle.protocol.specs.Configuration.{Configuration, is_correct}
 use Rattle.protocol.specs.Trace.{Entry, Each}
 use Rattle.protocol.specs.Trace.Entry.{Got}
-use Rattle.protocol.specs.Schedule.{Step, Made, World, Goes, AtInput, new_world, is_delivered, next_receiver, next_pair, pending}
+use Rattle.protocol.specs.Schedule.{Made, World, Goes, AtInput, new_world, is_delivered, next_receiver, next_pair, pending}
 use Rattle.protocol.specs.Schedule.Step.{flush}
 use Rattle.protocol.specs.Schedule.Goes.{ends, flushed}
 use Rattle.protocol.specs.Fed.{with_delivery, IsGot, FlushesAreFed}
