@@ -78,6 +78,8 @@ pub mod RefusingStepsSigned
 pub mod TransferringStages
 pub mod TransferringEvents
 pub mod Transferring
+pub mod SelectedTests
+pub mod SelectedRules
 pub mod AnsweringAgain
 pub mod JoiningChangesOwing
 pub mod JoiningChanges

@@ -87,7 +87,7 @@ largest_le limit (claim ∷ claims) = go (nat_le claim.number limit) refl (large
     go true e h = let l : claim.number ≤ limit = leb-true claim.number limit e in omega arith
     go false e h = h
 
-largest_of-le : (limit : ℕ) (set : List (ℕ × ViewChangeData)) → largest_of limit set ≤ limit
+pub largest_of-le : (limit : ℕ) (set : List (ℕ × ViewChangeData)) → largest_of limit set ≤ limit
 largest_of-le limit [] = omega arith
 largest_of-le limit (x ∷ xs) = let a = largest_le limit x.1.prepared in let b = largest_of-le limit xs in omega arith
 

@@ -24,17 +24,17 @@ change_is sender (ViewChange vc) x h =
     ap (λ (y : ℕ × ViewChangeData). (let body : Body = record { sender = y.0; message = ViewChange y.1 } in body)) pair
 change_is sender _ x h = absurd cc
 
-spelled : (c : Configuration) (bytes : List ℕ) (x : ℕ × ViewChangeData) → signed_change c bytes ≡ Some x → SpellsChange c bytes x.0 x.1
+pub spelled : (c : Configuration) (bytes : List ℕ) (x : ℕ × ViewChangeData) → signed_change c bytes ≡ Some x → SpellsChange c bytes x.0 x.1
 spelled c bytes x h =
     let r = and_then_some change_in (signed_body c bytes) x h in
     r.1 ∙ ap Some (change_is r.0.sender r.0.message x r.2)
 
-no_longer : {A : Type 0} (xs : List (Option A)) → length (list_of xs) ≤ length xs
+pub no_longer : {A : Type 0} (xs : List (Option A)) → length (list_of xs) ≤ length xs
 no_longer [] = omega arith
 no_longer (None ∷ xs) = let r = no_longer xs in omega arith
 no_longer (Some x ∷ xs) = let r = no_longer xs in omega arith
 
-length_map : (c : Configuration) (xs : List (List ℕ)) → length (map (signed_change c) xs) ≡ length xs
+pub length_map : (c : Configuration) (xs : List (List ℕ)) → length (map (signed_change c) xs) ≡ length xs
 length_map c [] = refl
 length_map c (x ∷ xs) = ap suc (length_map c xs)
 
@@ -114,7 +114,7 @@ checkpoint_bounded c vc mark h =
       number = ltb-true mark.number (2 ^ 48) n.1;
     }
 
-bounded : (c : Configuration) (vc : ViewChangeData) → is_within c vc ≡ true → IsBounded c vc
+pub bounded : (c : Configuration) (vc : ViewChangeData) → is_within c vc ≡ true → IsBounded c vc
 bounded c vc h =
     let k = and_parts (is_number vc.view && is_number vc.low && list_all (is_claim_within c vc) vc.prepared && list_all (is_claim_within c vc) vc.pre_prepared) (list_all (is_checkpoint_within c vc) vc.checkpoints) h in
     let q = and_parts (is_number vc.view && is_number vc.low && list_all (is_claim_within c vc) vc.prepared) (list_all (is_claim_within c vc) vc.pre_prepared) k.0 in
@@ -130,7 +130,7 @@ bounded c vc h =
 
 -- ---- the start
 
-lists : (new : NewViewData) (vc : ViewChangeData) → list_any (λ (mark : Mark). (mark.number == new.start) && bytes_eq mark.digest new.root) vc.checkpoints ≡ true
+pub lists : (new : NewViewData) (vc : ViewChangeData) → list_any (λ (mark : Mark). (mark.number == new.start) && bytes_eq mark.digest new.root) vc.checkpoints ≡ true
     → Has (λ (mark : Mark). (mark.number ≡ new.start) × (mark.digest ≡ new.root)) vc.checkpoints
 lists new vc h =
     has_of_any (λ (mark : Mark). (mark.number ≡ new.start) × (mark.digest ≡ new.root)) (λ (mark : Mark). (mark.number == new.start) && bytes_eq mark.digest new.root)

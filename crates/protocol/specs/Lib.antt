@@ -23,5 +23,6 @@ pub mod RefusedKept
 pub mod RefusedSteps
 pub mod Fed
 pub mod ExamplesOfTransfer
+pub mod Selected
 pub mod ExamplesOfKept
 pub mod ExamplesOfChanges

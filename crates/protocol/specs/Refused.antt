@@ -431,10 +431,13 @@ SendsCheckpoints =
 -- ---- a new view
 
 -- at least so many different replicas have a view change in the set of which this holds
+abbrev pub SoManyHave : ℕ → Configuration → List (ℕ × ViewChangeData) → (ViewChangeData → Type 0) → Type 0
+SoManyHave count c set P =
+    (from : ℕ → Bool) × (count ≤ count_below from (replicas c)) × ((s : ℕ) → from s ≡ true → (vc : ViewChangeData) × Has (λ x. x ≡ (s, vc)) set × P vc)
+
+-- they have one in the set that a new view carries
 abbrev pub HasFrom : ℕ → Configuration → NewViewData → (ViewChangeData → Type 0) → Type 0
-HasFrom count c new P =
-    (from : ℕ → Bool) × (count ≤ count_below from (replicas c))
-    × ((s : ℕ) → from s ≡ true → (vc : ViewChangeData) × Has (λ x. x ≡ (s, vc)) (changes_of c new) × P vc)
+HasFrom count c new P = SoManyHave count c (changes_of c new) P
 
 -- what is prepared there for the number was so in an earlier view, or is this digest in this view
 abbrev pub SaysNothingAgainst : ℕ → ℕ → List ℕ → ViewChangeData → Type 0

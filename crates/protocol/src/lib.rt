@@ -9,6 +9,7 @@ pub mod refused_kept;
 pub mod refused_marks;
 pub mod refused_runs;
 pub mod refused_steps;
+pub mod selected;
 
 ghost use Rattle.protocol.specs.Laws.{FramesAreSpelled, BodiesAreSaid, BytesAreHeard, PreparedAgree, CommittedStays, CommittedAgree, ExecutedAgree, PagesDetermine, BatchesLeaveStates, StatesAreExecuted, StatesAgree, StableAgree, InstalledAgree, StartsAgree, LinearOfSafe, WeakIsOneSpace, NoneBegins, FirstViewStays};
 ghost use Rattle.protocol.specs.FirstOperation.{SealedFramesAreHeard};

@@ -20,8 +20,8 @@ pub const LEAVES: u8 = 64;
 /// The level of the root.
 pub(crate) const LEVELS: u8 = 6;
 
-/// The place of the first leaf among the nodes.
-const FIRST_LEAF: usize = 64;
+/// The place of the first leaf among the nodes: before it are as many places as there are leaves.
+const FIRST_LEAF: usize = LEAVES as usize;
 
 /// The nodes over the leaves of a seed. To make them takes some 115,000 blocks of SHA-256.
 #[derive(Drop)]
