@@ -75,6 +75,9 @@ pub mod RefusingMarksLow
 pub mod RefusingMarksCheckpoints
 pub mod RefusingSteps
 pub mod RefusingStepsAllowed
+pub mod Feeding
+pub mod Flushing
+pub mod FlushingEnds
 pub mod RefusingStepsSigned
 pub mod TransferringStages
 pub mod TransferringEvents

@@ -23,6 +23,7 @@ pub mod RefusedKept
 pub mod RefusedItems
 pub mod FirstReads
 pub mod RefusedSteps
+pub mod Fed
 pub mod ExamplesOfTransfer
 pub mod Selected
 pub mod ExamplesOfKept
