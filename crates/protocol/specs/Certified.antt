@@ -1,0 +1,65 @@
+-- Laws of what a history certifies: the view that is taken, what is logged, that certificates stay, and whose commits a
+-- batch is executed by.
+use Rattle.std.specs.Prelude.{◌≡◌, ℕ, ◌+◌, ◌*◌, ◌^◌, ◌≤◌, ◌<◌, List, ◌∷◌, ◌++◌, Some, None}
+use Rattle.sha2.specs.Sha256.{sha256}
+use Rattle.protocol.specs.Configuration.{Configuration}
+use Rattle.wire.specs.Messages.{BodyData as Body, NewViewData, commit as Commit}
+use Rattle.protocol.specs.Trace.{Entry, Once}
+use Rattle.protocol.specs.Trace.Entry.{Executed}
+use Rattle.protocol.specs.Certificates.{brought, view, target, taken, low, logged, commit_of, Prepared, Committed}
+use Rattle.protocol.specs.RightReplica.{SafeReplica}
+use Rattle.protocol.specs.Laws.{Takes}
+
+-- ---- the own commit
+
+-- A batch that is executed without a commit of the own that counts.
+abbrev pub ExecutesWithOwnCommit : Type 0
+ExecutesWithOwnCommit =
+    (c : Configuration) (me k : ℕ) (batch : List ℕ) (past : List Entry) → SafeReplica c me (Executed me k batch ∷ past)
+    → (v : ℕ) × (commit_of c me past v k me ≡ Some (sha256 batch))
+
+-- the entry brings this body: it is heard, or said
+abbrev pub Brings : Configuration → Body → List Entry → Entry → Type 0
+Brings c body past e = brought c e ≡ Some body
+
+-- So one that only the others committed, however many.
+abbrev pub ExecutesNotByOthersAlone : Type 0
+ExecutesNotByOthersAlone =
+    (c : Configuration) (me k : ℕ) (batch : List ℕ) (past : List Entry)
+    → ((v : ℕ) → Once (Brings c (record { sender = me; message = Commit v k (sha256 batch) })) past → ⊥)
+    → SafeReplica c me (Executed me k batch ∷ past) → ⊥
+
+-- ---- the view that is taken
+
+-- A new view that is taken with a view not above the own one, or below one that a view change was sent for.
+abbrev pub TakesLater : Type 0
+TakesLater =
+    (c : Configuration) (past : List Entry) (e : Entry) (new : NewViewData) → taken c past e ≡ Some new
+    → (view c past < new.view) × (target past ≤ new.view)
+
+-- So one that is taken again, or after another of its view or a later one.
+abbrev pub TakesInOrder : Type 0
+TakesInOrder =
+    (c : Configuration) (past : List Entry) (e : Entry) (earlier new : NewViewData) → Once (Takes c earlier) past
+    → taken c past e ≡ Some new → earlier.view < new.view
+
+-- ---- the log
+
+-- A batch that is logged at or below the low mark, more than the span above it, or for what is no number.
+abbrev pub LogsInMarks : Type 0
+LogsInMarks =
+    (c : Configuration) (me v i : ℕ) (batch : List ℕ) (e : Entry) (past : List Entry) → SafeReplica c me (e ∷ past)
+    → logged c me past v i ≡ None → logged c me (e ∷ past) v i ≡ Some batch
+    → (low c me (e ∷ past) < i) × (i ≤ low c me (e ∷ past) + 2 * c.period) × (i < 2 ^ 48)
+
+-- ---- certificates stay
+
+-- What is prepared, and no more after what comes later, as a second prepare of a backup for another digest.
+abbrev pub PreparedRemains : Type 0
+PreparedRemains =
+    (c : Configuration) (me v i : ℕ) (batch : List ℕ) (later past : List Entry) → Prepared c me past v i batch → Prepared c me (later ++ past) v i batch
+
+-- What is committed, and no more after what comes later, as a second commit of a replica for another digest.
+abbrev pub CommittedRemains : Type 0
+CommittedRemains =
+    (c : Configuration) (me v i : ℕ) (batch : List ℕ) (later past : List Entry) → Committed c me past v i batch → Committed c me (later ++ past) v i batch
