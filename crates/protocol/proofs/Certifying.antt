@@ -14,13 +14,14 @@ use Rattle.protocol.specs.Trace.Entry.{Invoke, Got, Tick, Executed, Installed, S
 use Rattle.protocol.specs.Certificates.{view, target, is_later, is_active_in, new_view_in, new_view_from, taken, checkpoint_from, checkpoint_in, is_stable, stable_at, installed_at, started_at, low, is_in_marks, are_genuine, batch_from, batch_begun, proposal, entry_proposal, logged, commit_from, vote_in, commit_of, Committed}
 use Rattle.protocol.specs.RightReplica.{Point, MaySay, MaySend, MayPrePrepare, May}
 use Rattle.protocol.specs.Laws.{Takes}
-use Rattle.protocol.specs.Certified.{Brings, ExecutesWithOwnCommit, ExecutesNotByOthersAlone, TakesLater, TakesInOrder, LogsInMarks, PreparedRemains, CommittedRemains}
+use Rattle.protocol.specs.Certified.{Brings, ExecutesWithOwnCommit, ExecutesNotByOthersAlone, TakesLater, TakesInOrder, LogsInMarks, LogsWhatBegins, PreparedRemains, CommittedRemains}
 use Rattle.protocol.proofs.Temporal.{once_weaker, once_stays_from}
 use Rattle.protocol.proofs.Options.{and_then_some, give_if_some, some_injective, or_else_cases, given_stays, given_once}
+use Rattle.protocol.proofs.Voting.{right_always}
 use Rattle.protocol.proofs.Linking.{signed_heard}
 use Rattle.protocol.proofs.Marks.{takes, view_grows}
 use Rattle.protocol.proofs.Commits.{committing, commit_source, digest_stays, prepared_stays}
-use Rattle.protocol.proofs.Offers.{entry_batch}
+use Rattle.protocol.proofs.Offers.{entry_batch, begun_place}
 
 -- ---- certificates stay
 
@@ -46,14 +47,14 @@ committed_remains c me v i batch (e ∷ later) past h = committed_stays c me v i
 -- ---- the own commit
 
 pub executes_with_own_commit : ExecutesWithOwnCommit
-executes_with_own_commit c me k batch past right = let may = right.1.2.may in (may.in_view, may.committed.own)
+executes_with_own_commit c me k batch past right = let may = right.1.2.may in (may.in_view, may.committed, may.committed.own)
 
 pub executes_not_by_others_alone : ExecutesNotByOthersAlone
 unfolding commit_of
 executes_not_by_others_alone c me k batch past none right =
     let own = executes_with_own_commit c me k batch past right in
     let votes : Once (λ past e. vote_in c me past e (commit_from me own.0 k) own.0 k ≡ Some (sha256 batch)) past =
-    given_once (λ past e. vote_in c me past e (commit_from me own.0 k) own.0 k) (sha256 batch) past own.1 in
+    given_once (λ past e. vote_in c me past e (commit_from me own.0 k) own.0 k) (sha256 batch) past own.2 in
     none own.0
     (once_weaker (λ past e. vote_in c me past e (commit_from me own.0 k) own.0 k ≡ Some (sha256 batch)) (Brings c (committing me own.0 k (sha256 batch)))
     (commit_source c me me own.0 k (sha256 batch)) past votes)
@@ -157,3 +158,10 @@ logs_in_marks c me v i batch e past right none h = in_marks c (low c me (e ∷ p
     at : (logged c me past v i ≡ Some batch) ⊎ (proposal c me past e v i ≡ Some batch) → is_in_marks c (low c me (e ∷ past)) i ≡ true
     at (inl k) = absurd (let bad : None ≡ Some batch = sym none ∙ k in cc)
     at (inr k) = of (or_else_cases _ _ batch k)
+
+pub logs_what_begins : LogsWhatBegins
+logs_what_begins c me i batch e past new right t begun above = go (begun_place c me new.view i batch past e new (right_always c me past right.0 right.1) t begun)
+  where
+    go : (logged c me (e ∷ past) new.view i ≡ Some batch) ⊎ (i ≤ low c me (e ∷ past)) → logged c me (e ∷ past) new.view i ≡ Some batch
+    go (inl h) = h
+    go (inr h) = absurd (omega arith)

@@ -6,17 +6,17 @@ use Rattle.protocol.specs.Configuration.{Configuration}
 use Rattle.wire.specs.Messages.{BodyData as Body, NewViewData, commit as Commit}
 use Rattle.protocol.specs.Trace.{Entry, Once}
 use Rattle.protocol.specs.Trace.Entry.{Executed}
-use Rattle.protocol.specs.Certificates.{brought, view, target, taken, low, logged, commit_of, Prepared, Committed}
+use Rattle.protocol.specs.Certificates.{brought, view, target, taken, low, batch_begun, logged, commit_of, Prepared, Committed}
 use Rattle.protocol.specs.RightReplica.{SafeReplica}
 use Rattle.protocol.specs.Laws.{Takes}
 
 -- ---- the own commit
 
--- A batch that is executed without a commit of the own that counts.
+-- A batch that is executed without an own commit that counts, in the view in which the batch is committed.
 abbrev pub ExecutesWithOwnCommit : Type 0
 ExecutesWithOwnCommit =
     (c : Configuration) (me k : ℕ) (batch : List ℕ) (past : List Entry) → SafeReplica c me (Executed me k batch ∷ past)
-    → (v : ℕ) × (commit_of c me past v k me ≡ Some (sha256 batch))
+    → (v : ℕ) × Committed c me past v k batch × (commit_of c me past v k me ≡ Some (sha256 batch))
 
 -- the entry brings this body: it is heard, or said
 abbrev pub Brings : Configuration → Body → List Entry → Entry → Type 0
@@ -31,7 +31,7 @@ ExecutesNotByOthersAlone =
 
 -- ---- the view that is taken
 
--- A new view that is taken with a view not above the own one, or below one that a view change was sent for.
+-- A new view that is taken with a view not above the own one, or below that of a view change that was sent.
 abbrev pub TakesLater : Type 0
 TakesLater =
     (c : Configuration) (past : List Entry) (e : Entry) (new : NewViewData) → taken c past e ≡ Some new
@@ -51,6 +51,12 @@ LogsInMarks =
     (c : Configuration) (me v i : ℕ) (batch : List ℕ) (e : Entry) (past : List Entry) → SafeReplica c me (e ∷ past)
     → logged c me past v i ≡ None → logged c me (e ∷ past) v i ≡ Some batch
     → (low c me (e ∷ past) < i) × (i ≤ low c me (e ∷ past) + 2 * c.period) × (i < 2 ^ 48)
+
+-- What a new view that is taken has for a number above the low mark, and is not logged.
+abbrev pub LogsWhatBegins : Type 0
+LogsWhatBegins =
+    (c : Configuration) (me i : ℕ) (batch : List ℕ) (e : Entry) (past : List Entry) (new : NewViewData) → SafeReplica c me past → taken c past e ≡ Some new
+    → batch_begun new.view i new ≡ Some batch → low c me (e ∷ past) < i → logged c me (e ∷ past) new.view i ≡ Some batch
 
 -- ---- certificates stay
 

@@ -1,24 +1,26 @@
 //! Laws of what a history certifies.
 
-ghost use Rattle.protocol.specs.Certified.{ExecutesWithOwnCommit, ExecutesNotByOthersAlone, TakesLater, TakesInOrder, LogsInMarks, PreparedRemains, CommittedRemains};
+ghost use Rattle.protocol.specs.Certified.{ExecutesWithOwnCommit, ExecutesNotByOthersAlone, TakesLater, TakesInOrder, LogsInMarks, LogsWhatBegins, PreparedRemains, CommittedRemains};
 
-/// A replica executes a batch once it committed the batch itself: the commits of the others alone, however many, are not
+/// A replica executes no batch before it committed the batch itself: the commits of the others alone, however many, are not
 /// enough.
 pub fn own_commits_count()
     ensures own { ExecutesWithOwnCommit }
     ensures others { ExecutesNotByOthersAlone }
 {}
 
-/// A new view is taken if its view is above the own one and not below one that a view change was sent for. So none is taken
-/// twice.
+/// The view of a new view that is taken is above the own one, and not below that of a view change that was sent. So none is
+/// taken twice.
 pub fn taken_views_ascend()
     ensures later { TakesLater }
     ensures order { TakesInOrder }
 {}
 
-/// What an entry of a safe history logs is above the low mark and at most two periods above it.
+/// What an entry of a safe history logs is above the low mark and at most two periods above it, and what a new view that
+/// is taken has above it is logged.
 pub fn logged_batches_are_in_marks()
     ensures marks { LogsInMarks }
+    ensures begun { LogsWhatBegins }
 {}
 
 /// What is prepared or committed at a replica stays so, whatever it gets later.
