@@ -4,37 +4,26 @@ use Rattle.std.proofs.Common.{◌≡◌, ℕ, ◌+◌, ◌*◌, ◌^◌, ◌≤�
 use Rattle.std.specs.Prelude.{◌==◌, nat_lt, nat_le, option_and_then}
 use Rattle.std.proofs.lemmas.Bool.{and_parts, leb-true, ltb-true}
 use Rattle.sha2.specs.Sha256.{sha256}
-use Rattle.quorum.specs.Votes.{give_if, has_digest}
-use Rattle.quorum.proofs.Counting.{count_mono}
-use Rattle.protocol.specs.Configuration.{Configuration, replicas, primary, span, is_number}
+use Rattle.quorum.specs.Votes.{give_if}
+use Rattle.protocol.specs.Configuration.{Configuration, primary, span, is_number}
 use Rattle.wire.specs.Messages.{BodyData as Body, MessageData as Message, MarkData as Mark, NewViewData, pre_prepare as PrePrepare}
 use Rattle.protocol.specs.Frames.{heard, signed_body}
 use Rattle.protocol.specs.Trace.{Entry, Once}
 use Rattle.protocol.specs.Trace.Entry.{Invoke, Got, Tick, Executed, Installed, Sent, Accepted}
-use Rattle.protocol.specs.Certificates.{view, target, is_later, is_active_in, new_view_in, new_view_from, taken, checkpoint_from, checkpoint_in, is_stable, stable_at, installed_at, started_at, low, is_in_marks, are_genuine, batch_from, batch_begun, proposal, entry_proposal, logged, commit_from, vote_in, commit_of, Committed}
+use Rattle.protocol.specs.Certificates.{view, target, is_later, is_active_in, new_view_in, new_view_from, taken, checkpoint_from, checkpoint_in, is_stable, stable_at, installed_at, started_at, low, is_in_marks, are_genuine, batch_from, batch_begun, proposal, entry_proposal, logged, commit_from, vote_in, commit_of}
 use Rattle.protocol.specs.RightReplica.{Point, MaySay, MaySend, MayPrePrepare, May}
 use Rattle.protocol.specs.Laws.{Takes}
 use Rattle.protocol.specs.Certified.{Brings, ExecutesWithOwnCommit, ExecutesNotByOthersAlone, TakesLater, TakesInOrder, LogsInMarks, LogsWhatBegins, PreparedRemains, CommittedRemains}
 use Rattle.protocol.proofs.Temporal.{once_weaker, once_stays_from}
-use Rattle.protocol.proofs.Options.{and_then_some, give_if_some, some_injective, or_else_cases, given_stays, given_once}
+use Rattle.protocol.proofs.Options.{and_then_some, give_if_some, some_injective, or_else_cases, given_once}
 use Rattle.protocol.proofs.Voting.{right_always}
 use Rattle.protocol.proofs.Linking.{signed_heard}
 use Rattle.protocol.proofs.Marks.{takes, view_grows}
-use Rattle.protocol.proofs.Commits.{committing, commit_source, digest_stays, prepared_stays}
+use Rattle.protocol.proofs.Commits.{committing, commit_source, prepared_stays}
+use Rattle.protocol.proofs.Executing.{committed_later}
 use Rattle.protocol.proofs.Offers.{entry_batch, begun_place}
 
 -- ---- certificates stay
-
-commit_stays : (c : Configuration) (me v i s : ℕ) (d : List ℕ) (e : Entry) (past : List Entry) → commit_of c me past v i s ≡ Some d → commit_of c me (e ∷ past) v i s ≡ Some d
-unfolding commit_of
-commit_stays c me v i s d e past h = given_stays (λ earlier e. vote_in c me earlier e (commit_from s v i) v i) d e past h
-
-committed_stays : (c : Configuration) (me v i : ℕ) (batch : List ℕ) (e : Entry) (past : List Entry) → Committed c me past v i batch → Committed c me (e ∷ past) v i batch
-committed_stays c me v i batch e past h =
-    let more = count_mono (λ s. has_digest (sha256 batch) (commit_of c me past v i s)) (λ s. has_digest (sha256 batch) (commit_of c me (e ∷ past) v i s)) (replicas c)
-    (λ s l t. digest_stays (sha256 batch) (commit_of c me past v i s) (commit_of c me (e ∷ past) v i s) (λ x. commit_stays c me v i s x e past) t) in
-    let had = h.commits in
-    record { prepared = prepared_stays c me v i batch e past h.prepared; commits = omega arith; own = commit_stays c me v i me (sha256 batch) e past h.own }
 
 pub prepared_remains : PreparedRemains
 prepared_remains c me v i batch [] past h = h
@@ -42,7 +31,7 @@ prepared_remains c me v i batch (e ∷ later) past h = prepared_stays c me v i b
 
 pub committed_remains : CommittedRemains
 committed_remains c me v i batch [] past h = h
-committed_remains c me v i batch (e ∷ later) past h = committed_stays c me v i batch e (later ++ past) (committed_remains c me v i batch later past h)
+committed_remains c me v i batch (e ∷ later) past h = committed_later c me v i batch e (later ++ past) (committed_remains c me v i batch later past h)
 
 -- ---- the own commit
 

@@ -76,3 +76,4 @@ pub mod TransferringStages
 pub mod TransferringEvents
 pub mod Transferring
 pub mod Certifying
+pub mod Installing

@@ -23,3 +23,4 @@ pub mod RefusedKept
 pub mod RefusedSteps
 pub mod ExamplesOfTransfer
 pub mod Certified
+pub mod ExamplesOfInstalling

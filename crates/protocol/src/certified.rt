@@ -1,5 +1,6 @@
-//! Laws of what a history certifies.
+//! Laws of what a history certifies, and of a state that is installed by it.
 
+ghost use Rattle.protocol.specs.ExamplesOfInstalling.{StateIsInstalled};
 ghost use Rattle.protocol.specs.Certified.{ExecutesWithOwnCommit, ExecutesNotByOthersAlone, TakesLater, TakesInOrder, LogsInMarks, LogsWhatBegins, PreparedRemains, CommittedRemains};
 
 /// A replica executes no batch before it committed the batch itself: the commits of the others alone, however many, are not
@@ -27,4 +28,10 @@ pub fn logged_batches_are_in_marks()
 pub fn certificates_stay()
     ensures prepared { PreparedRemains }
     ensures committed { CommittedRemains }
+{}
+
+/// A replica that is behind may install the state of which three checkpoints have the root, once it got the one page that
+/// is another than its own.
+pub fn a_state_is_installed()
+    ensures installed { StateIsInstalled }
 {}
