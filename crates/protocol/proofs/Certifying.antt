@@ -8,19 +8,19 @@ use Rattle.quorum.specs.Votes.{give_if}
 use Rattle.protocol.specs.Configuration.{Configuration, primary, span, is_number}
 use Rattle.wire.specs.Messages.{BodyData as Body, MessageData as Message, MarkData as Mark, NewViewData, pre_prepare as PrePrepare}
 use Rattle.protocol.specs.Frames.{heard, signed_body}
-use Rattle.protocol.specs.Trace.{Entry, Once}
+use Rattle.protocol.specs.Trace.{Entry, party_of, history_of, Once, SendsBody}
 use Rattle.protocol.specs.Trace.Entry.{Invoke, Got, Tick, Executed, Installed, Sent, Accepted}
 use Rattle.protocol.specs.Certificates.{view, target, is_later, is_active_in, new_view_in, new_view_from, taken, checkpoint_from, checkpoint_in, is_stable, stable_at, installed_at, started_at, low, is_in_marks, are_genuine, batch_from, batch_begun, proposal, entry_proposal, logged, commit_from, vote_in, commit_of}
 use Rattle.protocol.specs.RightReplica.{Point, MaySay, MaySend, MayPrePrepare, May}
 use Rattle.protocol.specs.Laws.{Takes}
-use Rattle.protocol.specs.Certified.{Brings, ExecutesWithOwnCommit, ExecutesNotByOthersAlone, TakesLater, TakesInOrder, LogsInMarks, LogsWhatBegins, PreparedRemains, CommittedRemains}
-use Rattle.protocol.proofs.Temporal.{once_weaker, once_stays_from}
+use Rattle.protocol.specs.Certified.{Brings, ExecutesWithOwnCommit, ExecutesNotByOthersAlone, ExecutesWhatItCommits, TakesLater, TakesInOrder, LogsInMarks, LogsWhatBegins, PreparedRemains, CommittedRemains}
+use Rattle.protocol.proofs.Temporal.{once_weaker, once_stays_from, once_in_trace}
 use Rattle.protocol.proofs.Options.{and_then_some, give_if_some, some_injective, or_else_cases, given_once}
 use Rattle.protocol.proofs.Voting.{right_always}
 use Rattle.protocol.proofs.Linking.{signed_heard}
 use Rattle.protocol.proofs.Marks.{takes, view_grows}
-use Rattle.protocol.proofs.Commits.{committing, commit_source, prepared_stays}
-use Rattle.protocol.proofs.Executing.{committed_later}
+use Rattle.protocol.proofs.Commits.{committing, commit_source, prepared_stays, CommitsAt, voter_commits}
+use Rattle.protocol.proofs.Executing.{committed_later, executed_committed}
 use Rattle.protocol.proofs.Offers.{entry_batch, begun_place}
 
 -- ---- certificates stay
@@ -48,7 +48,26 @@ executes_not_by_others_alone c me k batch past none right =
     (once_weaker (λ past e. vote_in c me past e (commit_from me own.0 k) own.0 k ≡ Some (sha256 batch)) (Brings c (committing me own.0 k (sha256 batch)))
     (commit_source c me me own.0 k (sha256 batch)) past votes)
 
--- ---- the view that is taken
+-- what a replica's history says, its trace has sent
+says_sent : (c : Configuration) (r v k : ℕ) (d : List ℕ) (past : List Entry) (e : Entry) → (party_of e ≡ r) × CommitsAt c r v k d (history_of r past) e → SendsBody (committing r v k d) past e
+says_sent c r v k d past (Sent p bytes) h = (h.0, h.1.1)
+says_sent c r v k d past (Invoke x y z) h = absurd h.1.1
+says_sent c r v k d past (Got x y) h = absurd h.1.1
+says_sent c r v k d past (Tick x) h = absurd h.1.1
+says_sent c r v k d past (Executed x y z) h = absurd h.1.1
+says_sent c r v k d past (Installed x y z) h = absurd h.1.1
+says_sent c r v k d past (Accepted x y z) h = absurd h.1.1
+
+pub executes_what_it_commits : ExecutesWhatItCommits
+executes_what_it_commits c trace right unforged r k batch correct h =
+    let ready = executed_committed c trace r k batch right correct h in
+    let commits : Once (CommitsAt c r ready.view k (sha256 batch)) (history_of r trace) = voter_commits c trace r r ready.view k (sha256 batch) right unforged correct correct ready.committed.own in (
+      ready.view,
+      once_weaker (λ past e. (party_of e ≡ r) × CommitsAt c r ready.view k (sha256 batch) (history_of r past) e) (SendsBody (committing r ready.view k (sha256 batch)))
+          (says_sent c r ready.view k (sha256 batch)) trace (once_in_trace (CommitsAt c r ready.view k (sha256 batch)) r trace commits),
+    )
+
+-- ---- the new views that are taken
 
 pub takes_later : TakesLater
 takes_later c past e new h =

@@ -1,13 +1,14 @@
 //! Laws of what a history certifies, and of a state that is installed by it.
 
 ghost use Rattle.protocol.specs.ExamplesOfInstalling.{StateIsInstalled};
-ghost use Rattle.protocol.specs.Certified.{ExecutesWithOwnCommit, ExecutesNotByOthersAlone, TakesLater, TakesInOrder, LogsInMarks, LogsWhatBegins, PreparedRemains, CommittedRemains};
+ghost use Rattle.protocol.specs.Certified.{ExecutesWithOwnCommit, ExecutesNotByOthersAlone, ExecutesWhatItCommits, TakesLater, TakesInOrder, LogsInMarks, LogsWhatBegins, PreparedRemains, CommittedRemains};
 
 /// A replica executes no batch before it committed the batch itself: the commits of the others alone, however many, are not
-/// enough.
+/// enough. If no message of a correct party is forged, it sent that commit.
 pub fn own_commits_count()
     ensures own { ExecutesWithOwnCommit }
     ensures others { ExecutesNotByOthersAlone }
+    ensures sent { ExecutesWhatItCommits }
 {}
 
 /// The view of a new view that is taken is above the own one, and not below that of a view change that was sent. So none is
