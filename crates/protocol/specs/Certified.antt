@@ -53,7 +53,7 @@ TakesInOrder =
 
 -- ---- the log
 
--- What an entry logs is for a number above the low mark behind the entry, and at most the span above it.
+-- What an entry logs is for a number above the low mark that it leaves, and at most the span above it.
 abbrev pub LogsInMarks : Type 0
 LogsInMarks =
     (c : Configuration) (me v i : ℕ) (batch : List ℕ) (e : Entry) (past : List Entry) → SafeReplica c me (e ∷ past)
