@@ -14,8 +14,10 @@ pub mod Lists
 pub mod Settling
 pub mod Staying
 pub mod Executing
+pub mod Certifying
 pub mod Bodies
 pub mod Leaving
+pub mod Installing
 pub mod Paging
 pub mod Roots
 pub mod States
@@ -75,5 +77,3 @@ pub mod RefusingStepsSigned
 pub mod TransferringStages
 pub mod TransferringEvents
 pub mod Transferring
-pub mod Certifying
-pub mod Installing
