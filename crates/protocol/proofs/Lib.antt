@@ -14,8 +14,10 @@ pub mod Lists
 pub mod Settling
 pub mod Staying
 pub mod Executing
+pub mod Certifying
 pub mod Bodies
 pub mod Leaving
+pub mod Installing
 pub mod Paging
 pub mod Roots
 pub mod States

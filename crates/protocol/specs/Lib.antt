@@ -7,12 +7,14 @@ pub mod State
 pub mod RightReplica
 pub mod Texts
 pub mod Laws
+pub mod Certified
 pub mod RightClient
 pub mod Linear
 pub mod Owed
 pub mod Run
 pub mod Refused
 pub mod Examples
+pub mod ExamplesOfInstalling
 pub mod Schedule
 pub mod RefusedRuns
 pub mod FirstOperation
