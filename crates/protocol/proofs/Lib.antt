@@ -75,3 +75,4 @@ pub mod RefusingStepsSigned
 pub mod TransferringStages
 pub mod TransferringEvents
 pub mod Transferring
+pub mod Presuming

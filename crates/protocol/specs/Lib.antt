@@ -22,3 +22,4 @@ pub mod RefusedMarks
 pub mod RefusedKept
 pub mod RefusedSteps
 pub mod ExamplesOfTransfer
+pub mod Premises

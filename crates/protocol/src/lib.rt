@@ -2,6 +2,7 @@
 #![tactic(auto)]
 
 pub mod accepted;
+pub mod premises;
 pub mod refused;
 pub mod refused_changes;
 pub mod refused_kept;

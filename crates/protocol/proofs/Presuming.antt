@@ -1,0 +1,158 @@
+-- What the premises of the laws leave open.
+use Rattle.std.proofs.Common.{◌≡◌, ℕ, ◌+◌, ◌-◌, ◌≤◌, ◌<◌, ◌⊎◌, inl, inr, Bool, true, false, ◌&&◌, ◌||◌, not, List, [], ◌∷◌, refl, sym, ap, ◌∙◌, subst, arith, eqb-true, eq-eqb}
+use Rattle.std.specs.Prelude.{◌==◌, nat_lt, nat_le}
+use Rattle.std.proofs.lemmas.Bool.{and_parts, and_from, ltb-true, lt-ltb, leb-true, le-leb}
+use Rattle.std.proofs.Math.Nat.{mod-eq_of_lt, add-mod_right}
+use Rattle.quorum.specs.Quorum.{member}
+use Rattle.protocol.specs.Configuration.{Configuration, replicas, is_replica, is_client, is_faulty_replica, is_correct_replica, is_correct_client}
+use Rattle.protocol.specs.Trace.{Has}
+use Rattle.protocol.specs.Premises.{WidestIsValid, NarrowestIsValid, ReplicasAreCorrect, ClientsAreCorrect, CorrectAreBoth, EachIsPrimary, PrimariesReturn, RunsHaveReplicas, RunsHaveClients, WeakRunsHaveReplicas, WeakRunsHaveClients}
+
+-- ---- configurations
+
+pub widest_is_valid : WidestIsValid
+widest_is_valid seed faulty_replicas faulty_clients long few replicas_are replicas_differ clients_are clients_differ = record {
+  some_faults = omega arith;
+  most = omega arith;
+  some_clients = omega arith;
+  clients = omega arith;
+  seed = long;
+  period = omega arith;
+  period_most = omega arith;
+  few = omega arith;
+  replicas_are = replicas_are;
+  replicas_differ = replicas_differ;
+  clients_are = clients_are;
+  clients_differ = clients_differ;
+}
+
+pub narrowest_is_valid : NarrowestIsValid
+narrowest_is_valid seed long = record {
+  some_faults = omega arith;
+  most = omega arith;
+  some_clients = omega arith;
+  clients = omega arith;
+  seed = long;
+  period = omega arith;
+  period_most = omega arith;
+  few = omega arith;
+  replicas_are = λ i d l. absurd (omega arith);
+  replicas_differ = λ i j d l m. absurd (omega arith);
+  clients_are = λ i d l. absurd (omega arith);
+  clients_differ = λ i j d l m. absurd (omega arith);
+}
+
+-- ---- who is correct
+
+listed : (xs : List ℕ) (x : ℕ) → Has (λ y. y ≡ x) xs → member xs x ≡ true
+listed [] x h = absurd h
+listed (y ∷ ys) x (inl h) = let e = eq-eqb y x h in rw e refl
+listed (y ∷ ys) x (inr h) = go (y == x) (listed ys x h)
+  where
+    go : (b : Bool) → member ys x ≡ true → (b || member ys x) ≡ true
+    go true m = refl
+    go false m = m
+
+is_listed : (xs : List ℕ) (x : ℕ) → member xs x ≡ true → Has (λ y. y ≡ x) xs
+is_listed [] x h = absurd cc
+is_listed (y ∷ ys) x h = go (y == x) refl h (is_listed ys x)
+  where
+    go : (b : Bool) → (y == x) ≡ b → (b || member ys x) ≡ true → (member ys x ≡ true → Has (λ y. y ≡ x) ys) → (y ≡ x) ⊎ Has (λ y. y ≡ x) ys
+    go true is m below = inl (eqb-true y x is)
+    go false is m below = inr (below m)
+
+-- no member is what passes
+left_out : (xs : List ℕ) (x : ℕ) → not (member xs x) ≡ true → Has (λ y. y ≡ x) xs → ⊥
+left_out xs x h has = let m = listed xs x has in let bad : not true ≡ true = subst (λ b. not b ≡ true) m h in absurd cc
+
+is_left_out : (xs : List ℕ) (x : ℕ) → (Has (λ y. y ≡ x) xs → ⊥) → not (member xs x) ≡ true
+is_left_out xs x none = go (member xs x) refl
+  where
+    go : (b : Bool) → member xs x ≡ b → not b ≡ true
+    go true is = absurd (none (is_listed xs x is))
+    go false is = refl
+
+pub replicas_are_correct : ReplicasAreCorrect
+replicas_are_correct c r = (there, back)
+  where
+    there : is_correct_replica c r ≡ true → (r < replicas c) × (Has (λ s. s ≡ r) c.faulty_replicas → ⊥)
+    there h = let k = and_parts (is_replica c r) (not (is_faulty_replica c r)) h in (ltb-true r (replicas c) k.0, left_out c.faulty_replicas r k.1)
+
+    back : (r < replicas c) × (Has (λ s. s ≡ r) c.faulty_replicas → ⊥) → is_correct_replica c r ≡ true
+    back h = and_from (is_replica c r) (not (is_faulty_replica c r)) (lt-ltb r (replicas c) h.0) (is_left_out c.faulty_replicas r h.1)
+
+pub clients_are_correct : ClientsAreCorrect
+clients_are_correct c k = (there, back)
+  where
+    same : 256 + k - 256 ≡ k
+    same = omega arith
+
+    there : is_correct_client c (256 + k) ≡ true → (k < c.clients) × (Has (λ l. l ≡ k) c.faulty_clients → ⊥)
+    there h =
+        let p = and_parts (is_client c (256 + k)) (not (member c.faulty_clients (256 + k - 256))) h in
+        let l : 256 + k < 256 + c.clients = ltb-true (256 + k) (256 + c.clients) (and_parts (nat_le 256 (256 + k)) (nat_lt (256 + k) (256 + c.clients)) p.0).1 in
+        (omega arith, left_out c.faulty_clients k (subst (λ x. not (member c.faulty_clients x) ≡ true) same p.1))
+
+    back : (k < c.clients) × (Has (λ l. l ≡ k) c.faulty_clients → ⊥) → is_correct_client c (256 + k) ≡ true
+    back h =
+        let l = h.0 in
+        let a : 256 ≤ 256 + k = omega arith in
+        let b : 256 + k < 256 + c.clients = omega arith in
+        and_from (is_client c (256 + k)) (not (member c.faulty_clients (256 + k - 256)))
+        (and_from (nat_le 256 (256 + k)) (nat_lt (256 + k) (256 + c.clients)) (le-leb 256 (256 + k) a) (lt-ltb (256 + k) (256 + c.clients) b))
+        (subst (λ x. not (member c.faulty_clients x) ≡ true) (sym same) (is_left_out c.faulty_clients k h.1))
+
+or_cases : (x y : Bool) → (x || y) ≡ true → (x ≡ true) ⊎ (y ≡ true)
+or_cases true y h = inl refl
+or_cases false y h = inr h
+
+or_right : (x y : Bool) → y ≡ true → (x || y) ≡ true
+or_right true y h = refl
+or_right false y h = h
+
+or_left : (x y : Bool) → x ≡ true → (x || y) ≡ true
+or_left true y h = refl
+or_left false y h = absurd cc
+
+pub correct_are_both : CorrectAreBoth
+correct_are_both c p = (there, back)
+  where
+    client : is_correct_client c p ≡ true → (k : ℕ) × (p ≡ 256 + k) × (is_correct_client c (256 + k) ≡ true)
+    client h =
+        let w = and_parts (is_client c p) (not (member c.faulty_clients (p - 256))) h in
+        let l : 256 ≤ p = leb-true 256 p (and_parts (nat_le 256 p) (nat_lt p (256 + c.clients)) w.0).0 in
+        let same : p ≡ 256 + (p - 256) = omega arith in
+        (p - 256, same, subst (λ q. is_correct_client c q ≡ true) same h)
+
+    there : (is_correct_replica c p || is_correct_client c p) ≡ true → (is_correct_replica c p ≡ true) ⊎ ((k : ℕ) × (p ≡ 256 + k) × (is_correct_client c (256 + k) ≡ true))
+    there h = go (or_cases (is_correct_replica c p) (is_correct_client c p) h)
+      where
+        go : (is_correct_replica c p ≡ true) ⊎ (is_correct_client c p ≡ true) → (is_correct_replica c p ≡ true) ⊎ ((k : ℕ) × (p ≡ 256 + k) × (is_correct_client c (256 + k) ≡ true))
+        go (inl h) = inl h
+        go (inr h) = inr (client h)
+
+    back : (is_correct_replica c p ≡ true) ⊎ ((k : ℕ) × (p ≡ 256 + k) × (is_correct_client c (256 + k) ≡ true)) → (is_correct_replica c p || is_correct_client c p) ≡ true
+    back (inl h) = or_left (is_correct_replica c p) (is_correct_client c p) h
+    back (inr h) = or_right (is_correct_replica c p) (is_correct_client c p) (subst (λ q. is_correct_client c q ≡ true) (sym h.1) h.2)
+
+-- ---- primaries
+
+pub each_is_primary : EachIsPrimary
+each_is_primary c r below = mod-eq_of_lt below
+
+pub primaries_return : PrimariesReturn
+primaries_return c view = add-mod_right view (replicas c)
+
+-- ---- runs
+
+pub runs_have_replicas : RunsHaveReplicas
+runs_have_replicas c trace run = run.replicas
+
+pub runs_have_clients : RunsHaveClients
+runs_have_clients c trace run = run.clients
+
+pub weak_runs_have_replicas : WeakRunsHaveReplicas
+weak_runs_have_replicas c trace run = run.replicas
+
+pub weak_runs_have_clients : WeakRunsHaveClients
+weak_runs_have_clients c trace run = run.clients

@@ -1,0 +1,72 @@
+-- What the premises of the laws leave open: each is met wherever the system model meets it, and says no more
+-- (Castro and Liskov, TOCS 2002, on the system model).
+use Rattle.std.specs.Prelude.{◌≡◌, ◌≢◌, ◌↔◌, ℕ, ◌+◌, ◌<◌, ◌⊎◌, true, false, List, [], ◌∷◌, length, Some, None, All, AllPairs}
+use Rattle.protocol.specs.Configuration.{Configuration, IsConfiguration, replicas, is_correct_replica, is_correct_client, is_correct, primary}
+use Rattle.protocol.specs.Trace.{Entry, history_of, Has}
+use Rattle.protocol.specs.RightClient.{IsClient, IsWeakClient}
+use Rattle.protocol.specs.Owed.{IsReplica}
+use Rattle.protocol.specs.Run.{IsRun, IsWeakRun}
+
+-- ---- configurations
+
+-- Ten replicas of which any three are faulty, 256 clients of which any are, and the longest period.
+abbrev pub widest : (seed faulty_replicas faulty_clients : List ℕ) → Configuration
+widest seed faulty_replicas faulty_clients =
+    record { faults = 3; clients = 256; seed = seed; period = 16; faulty_replicas = faulty_replicas; faulty_clients = faulty_clients }
+
+abbrev pub WidestIsValid : Type 0
+WidestIsValid =
+    (seed faulty_replicas faulty_clients : List ℕ) → length seed ≡ 32
+    → length faulty_replicas ≡ 3 → All (λ r. r < 10) faulty_replicas → AllPairs (λ r s. r ≢ s) faulty_replicas
+    → All (λ k. k < 256) faulty_clients → AllPairs (λ k l. k ≢ l) faulty_clients
+    → IsConfiguration (widest seed faulty_replicas faulty_clients)
+
+-- Four replicas and one client, none of them faulty, and the shortest period.
+abbrev pub narrowest : List ℕ → Configuration
+narrowest seed = record { faults = 1; clients = 1; seed = seed; period = 1; faulty_replicas = []; faulty_clients = [] }
+
+abbrev pub NarrowestIsValid : Type 0
+NarrowestIsValid = (seed : List ℕ) → length seed ≡ 32 → IsConfiguration (narrowest seed)
+
+-- ---- who is correct
+
+-- A replica is correct exactly where it is none of the faulty ones,
+abbrev pub ReplicasAreCorrect : Type 0
+ReplicasAreCorrect = (c : Configuration) (r : ℕ) → (is_correct_replica c r ≡ true) ↔ ((r < replicas c) × (Has (λ s. s ≡ r) c.faulty_replicas → ⊥))
+
+-- and so is a client;
+abbrev pub ClientsAreCorrect : Type 0
+ClientsAreCorrect = (c : Configuration) (k : ℕ) → (is_correct_client c (256 + k) ≡ true) ↔ ((k < c.clients) × (Has (λ l. l ≡ k) c.faulty_clients → ⊥))
+
+-- a correct party is one of the two.
+abbrev pub CorrectAreBoth : Type 0
+CorrectAreBoth =
+    (c : Configuration) (p : ℕ)
+    → (is_correct c p ≡ true) ↔ ((is_correct_replica c p ≡ true) ⊎ ((k : ℕ) × (p ≡ 256 + k) × (is_correct_client c (256 + k) ≡ true)))
+
+-- ---- primaries
+
+-- Each replica is the primary of the view of its own number,
+abbrev pub EachIsPrimary : Type 0
+EachIsPrimary = (c : Configuration) (r : ℕ) → r < replicas c → primary c r ≡ r
+
+-- and again as many views later as there are replicas.
+abbrev pub PrimariesReturn : Type 0
+PrimariesReturn = (c : Configuration) (view : ℕ) → primary c (view + replicas c) ≡ primary c view
+
+-- ---- runs
+
+-- In a run each correct replica's history is all that a correct replica's is,
+abbrev pub RunsHaveReplicas : Type 0
+RunsHaveReplicas = (c : Configuration) (trace : List Entry) → IsRun c trace → (p : ℕ) → is_correct_replica c p ≡ true → IsReplica c p (history_of p trace)
+
+-- and each correct client's a correct client's.
+abbrev pub RunsHaveClients : Type 0
+RunsHaveClients = (c : Configuration) (trace : List Entry) → IsRun c trace → (p : ℕ) → is_correct_client c p ≡ true → IsClient c p (history_of p trace)
+
+-- The same of a run of the first client.
+abbrev pub WeakRunsHaveReplicas : Type 0
+WeakRunsHaveReplicas = (c : Configuration) (trace : List Entry) → IsWeakRun c trace → (p : ℕ) → is_correct_replica c p ≡ true → IsReplica c p (history_of p trace)
+
+abbrev pub WeakRunsHaveClients : Type 0
+WeakRunsHaveClients = (c : Configuration) (trace : List Entry) → IsWeakRun c trace → (p : ℕ) → is_correct_client c p ≡ true → IsWeakClient c p (history_of p trace)

@@ -1,0 +1,33 @@
+//! Laws that show what the premises of the laws leave open.
+
+ghost use Rattle.protocol.specs.Premises.{WidestIsValid, NarrowestIsValid, ReplicasAreCorrect, ClientsAreCorrect, CorrectAreBoth, EachIsPrimary, PrimariesReturn, RunsHaveReplicas, RunsHaveClients, WeakRunsHaveReplicas, WeakRunsHaveClients};
+
+/// Ten replicas of which any three are faulty, with 256 clients of which any are faulty, the longest period and any
+/// seed of 32 bytes are a valid configuration; so are four replicas and one client, none of them faulty, with the
+/// shortest.
+pub fn configurations_are_valid()
+    ensures widest { WidestIsValid }
+    ensures narrowest { NarrowestIsValid }
+{}
+
+/// The correct parties are the replicas and the clients that are in neither list of faulty ones.
+pub fn correct_parties_are_the_others()
+    ensures replicas { ReplicasAreCorrect }
+    ensures clients { ClientsAreCorrect }
+    ensures both { CorrectAreBoth }
+{}
+
+/// Each replica is the primary in turn (Castro and Liskov, TOCS 2002, on the algorithm's properties).
+pub fn primaries_take_turns()
+    ensures each { EachIsPrimary }
+    ensures again { PrimariesReturn }
+{}
+
+/// In a run each correct replica's history is a correct replica's, and each correct client's a correct client's, whole:
+/// safe, and with all that is owed.
+pub fn runs_have_whole_histories()
+    ensures replicas { RunsHaveReplicas }
+    ensures clients { RunsHaveClients }
+    ensures weak_replicas { WeakRunsHaveReplicas }
+    ensures weak_clients { WeakRunsHaveClients }
+{}
