@@ -1,12 +1,15 @@
 -- What the premises of the laws leave open.
-use Rattle.std.proofs.Common.{◌≡◌, ℕ, ◌+◌, ◌-◌, ◌≤◌, ◌<◌, ◌⊎◌, inl, inr, Bool, true, false, ◌&&◌, ◌||◌, not, List, [], ◌∷◌, refl, sym, ap, ◌∙◌, subst, arith, eqb-true, eq-eqb}
+use Rattle.std.proofs.Common.{◌≡◌, ℕ, ◌+◌, ◌-◌, ◌≤◌, ◌<◌, ◌⊎◌, inl, inr, Bool, true, false, ◌&&◌, ◌||◌, not, List, [], ◌∷◌, Option, Some, None, refl, sym, ap, ◌∙◌, subst, arith, eqb-true, eq-eqb}
 use Rattle.std.specs.Prelude.{◌==◌, nat_lt, nat_le}
 use Rattle.std.proofs.lemmas.Bool.{and_parts, and_from, ltb-true, lt-ltb, leb-true, le-leb}
 use Rattle.std.proofs.Math.Nat.{mod-eq_of_lt, add-mod_right}
 use Rattle.quorum.specs.Quorum.{member}
-use Rattle.protocol.specs.Configuration.{Configuration, replicas, is_replica, is_client, is_faulty_replica, is_correct_replica, is_correct_client}
-use Rattle.protocol.specs.Trace.{Has}
-use Rattle.protocol.specs.Premises.{WidestIsValid, NarrowestIsValid, ReplicasAreCorrect, ClientsAreCorrect, CorrectAreBoth, EachIsPrimary, PrimariesReturn, RunsHaveReplicas, RunsHaveClients, WeakRunsHaveReplicas, WeakRunsHaveClients}
+use Rattle.protocol.specs.Configuration.{Configuration, replicas, is_replica, is_client, is_faulty_replica, is_correct_replica, is_correct_client, is_correct}
+use Rattle.wire.specs.Messages.{BodyData as Body}
+use Rattle.protocol.specs.Frames.{heard}
+use Rattle.protocol.specs.Trace.{Entry, Has, Each, Once, SendsBody, IsFromSender, frames_in}
+use Rattle.protocol.proofs.Options.{some_injective}
+use Rattle.protocol.specs.Premises.{WidestIsValid, NarrowestIsValid, ReplicasAreCorrect, ClientsAreCorrect, CorrectAreBoth, EachIsPrimary, PrimariesReturn, RunsHaveReplicas, RunsHaveClients, WeakRunsHaveReplicas, WeakRunsHaveClients, MayBeGot, FramesMayBeGot, FaultyHearAnything}
 
 -- ---- configurations
 
@@ -156,3 +159,26 @@ weak_runs_have_replicas c trace run = run.replicas
 
 pub weak_runs_have_clients : WeakRunsHaveClients
 weak_runs_have_clients c trace run = run.clients
+
+-- ---- what may be got in an unforged trace
+
+-- a frame that may be got is its sender's
+is_from_sender : (c : Configuration) (me : ℕ) (past : List Entry) (bytes : List ℕ) → MayBeGot c me past bytes → IsFromSender c me past bytes
+is_from_sender c me past bytes (inl none) body is correct = let bad : None ≡ Some body = sym none ∙ is in absurd cc
+is_from_sender c me past bytes (inr (other, is, h)) body is' correct =
+    let same : other ≡ body = some_injective other body (sym is ∙ is') in
+    subst (λ (b : Body). Once (SendsBody b) past) same (go h (ap (λ (b : Body). is_correct c b.sender) same ∙ correct))
+  where
+    go : (is_correct c other.sender ≡ false) ⊎ Once (SendsBody other) past → is_correct c other.sender ≡ true → Once (SendsBody other) past
+    go (inl faulty) correct = let bad : false ≡ true = sym faulty ∙ correct in absurd cc
+    go (inr sent) correct = sent
+
+are_from_senders : (c : Configuration) (me : ℕ) (past : List Entry) (frames : List (List ℕ)) → Each (MayBeGot c me past) frames → Each (IsFromSender c me past) frames
+are_from_senders c me past [] h = tt
+are_from_senders c me past (x ∷ xs) h = (is_from_sender c me past x h.0, are_from_senders c me past xs h.1)
+
+pub frames_may_be_got : FramesMayBeGot
+frames_may_be_got c me bytes trace unforged h = (λ correct. are_from_senders c me trace (frames_in bytes) h, unforged)
+
+pub faulty_hear_anything : FaultyHearAnything
+faulty_hear_anything c me bytes trace unforged faulty = (λ correct. let bad : false ≡ true = sym faulty ∙ correct in absurd cc, unforged)

@@ -2,7 +2,10 @@
 -- (Castro and Liskov, TOCS 2002, on the system model).
 use Rattle.std.specs.Prelude.{◌≡◌, ◌≢◌, ◌↔◌, ℕ, ◌+◌, ◌<◌, ◌⊎◌, true, false, List, [], ◌∷◌, length, Some, None, All, AllPairs}
 use Rattle.protocol.specs.Configuration.{Configuration, IsConfiguration, replicas, is_correct_replica, is_correct_client, is_correct, primary}
-use Rattle.protocol.specs.Trace.{Entry, history_of, Has}
+use Rattle.wire.specs.Messages.{BodyData as Body}
+use Rattle.protocol.specs.Frames.{heard}
+use Rattle.protocol.specs.Trace.{Entry, history_of, Once, Has, Each, frames_in, SendsBody, Unforged}
+use Rattle.protocol.specs.Trace.Entry.{Got}
 use Rattle.protocol.specs.RightClient.{IsClient, IsWeakClient}
 use Rattle.protocol.specs.Owed.{IsReplica}
 use Rattle.protocol.specs.Run.{IsRun, IsWeakRun}
@@ -70,3 +73,22 @@ WeakRunsHaveReplicas = (c : Configuration) (trace : List Entry) → IsWeakRun c 
 
 abbrev pub WeakRunsHaveClients : Type 0
 WeakRunsHaveClients = (c : Configuration) (trace : List Entry) → IsWeakRun c trace → (p : ℕ) → is_correct_client c p ≡ true → IsWeakClient c p (history_of p trace)
+
+-- ---- what may be got in an unforged trace
+
+-- The party does not take the frame as genuine, or takes it as from a sender that is faulty, or that sent one of its
+-- body.
+abbrev pub MayBeGot : Configuration → ℕ → List Entry → List ℕ → Type 0
+MayBeGot c me past bytes =
+    (heard c me bytes ≡ None) ⊎ ((body : Body) × (heard c me bytes ≡ Some body) × ((is_correct c body.sender ≡ false) ⊎ Once (SendsBody body) past))
+
+-- Frames of which each may be got, any party may get,
+abbrev pub FramesMayBeGot : Type 0
+FramesMayBeGot =
+    (c : Configuration) (me : ℕ) (bytes : List ℕ) (trace : List Entry) → Unforged c trace → Each (MayBeGot c me trace) (frames_in bytes)
+    → Unforged c (Got me bytes ∷ trace)
+
+-- and a faulty one any bytes.
+abbrev pub FaultyHearAnything : Type 0
+FaultyHearAnything =
+    (c : Configuration) (me : ℕ) (bytes : List ℕ) (trace : List Entry) → Unforged c trace → is_correct c me ≡ false → Unforged c (Got me bytes ∷ trace)

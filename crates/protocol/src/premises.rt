@@ -1,6 +1,6 @@
 //! Laws that show what the premises of the laws leave open.
 
-ghost use Rattle.protocol.specs.Premises.{WidestIsValid, NarrowestIsValid, ReplicasAreCorrect, ClientsAreCorrect, CorrectAreBoth, EachIsPrimary, PrimariesReturn, RunsHaveReplicas, RunsHaveClients, WeakRunsHaveReplicas, WeakRunsHaveClients};
+ghost use Rattle.protocol.specs.Premises.{WidestIsValid, NarrowestIsValid, ReplicasAreCorrect, ClientsAreCorrect, CorrectAreBoth, EachIsPrimary, PrimariesReturn, RunsHaveReplicas, RunsHaveClients, WeakRunsHaveReplicas, WeakRunsHaveClients, FramesMayBeGot, FaultyHearAnything};
 
 /// Ten replicas of which any three are faulty, with 256 clients of which any are faulty, the longest period and any
 /// seed of 32 bytes are a valid configuration; so are four replicas and one client, none of them faulty, with the
@@ -30,4 +30,11 @@ pub fn runs_have_whole_histories()
     ensures clients { RunsHaveClients }
     ensures weak_replicas { WeakRunsHaveReplicas }
     ensures weak_clients { WeakRunsHaveClients }
+{}
+
+/// A trace stays unforged whatever comes that nobody takes as a correct sender's, or that its sender sent, alone or in
+/// other frames, and whatever comes to a faulty party.
+pub fn faulty_parties_may_send_anything()
+    ensures got { FramesMayBeGot }
+    ensures faulty { FaultyHearAnything }
 {}
