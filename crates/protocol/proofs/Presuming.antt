@@ -1,5 +1,5 @@
 -- What the premises of the laws leave open.
-use Rattle.std.proofs.Common.{◌≡◌, ℕ, ◌+◌, ◌-◌, ◌≤◌, ◌<◌, ◌⊎◌, inl, inr, Bool, true, false, ◌&&◌, ◌||◌, not, List, [], ◌∷◌, Option, Some, None, refl, sym, ap, ◌∙◌, subst, arith, eqb-true, eq-eqb}
+use Rattle.std.proofs.Common.{◌≡◌, ℕ, zero, suc, ◌+◌, ◌-◌, ◌≤◌, ◌<◌, ◌⊎◌, inl, inr, Bool, true, false, ◌&&◌, ◌||◌, not, List, [], ◌∷◌, ◌++◌, map, Option, Some, None, refl, sym, ap, ap₂, ◌∙◌, subst, arith, eqb-true, eq-eqb}
 use Rattle.std.specs.Prelude.{◌==◌, nat_lt, nat_le}
 use Rattle.std.proofs.lemmas.Bool.{and_parts, and_from, ltb-true, lt-ltb, leb-true, le-leb}
 use Rattle.std.proofs.Math.Nat.{mod-eq_of_lt, add-mod_right}
@@ -8,8 +8,16 @@ use Rattle.protocol.specs.Configuration.{Configuration, replicas, is_replica, is
 use Rattle.wire.specs.Messages.{BodyData as Body}
 use Rattle.protocol.specs.Frames.{heard}
 use Rattle.protocol.specs.Trace.{Entry, Has, Each, Once, SendsBody, IsFromSender, frames_in}
+use Rattle.std.specs.List.{concat, range_with_len}
+use Rattle.partition_tree.specs.Digests.{inner_digests, page_digests}
+use Rattle.protocol.specs.State.{State, opening, page_text, all_pages}
+use Rattle.protocol.specs.RightReplica.{Point, Leaves, IsHeld}
+use Rattle.protocol.specs.Texts.{IsText, IsUnder, Holds, AreExecuted}
+use Rattle.protocol.specs.Texts.IsText.{null, batch, part, held, page_of, under}
+use Rattle.protocol.specs.Texts.IsUnder.{inner, top}
+use Rattle.protocol.specs.Selection.{null_batch}
 use Rattle.protocol.proofs.Options.{some_injective}
-use Rattle.protocol.specs.Premises.{WidestIsValid, NarrowestIsValid, ReplicasAreCorrect, ClientsAreCorrect, CorrectAreBoth, EachIsPrimary, PrimariesReturn, RunsHaveReplicas, RunsHaveClients, WeakRunsHaveReplicas, WeakRunsHaveClients, MayBeGot, FramesMayBeGot, FaultyHearAnything}
+use Rattle.protocol.specs.Premises.{WidestIsValid, NarrowestIsValid, ReplicasAreCorrect, ClientsAreCorrect, CorrectAreBoth, EachIsPrimary, PrimariesReturn, RunsHaveReplicas, RunsHaveClients, WeakRunsHaveReplicas, WeakRunsHaveClients, MayBeGot, FramesMayBeGot, FaultyHearAnything, IsOpeningText, FirstTextsAreFew}
 
 -- ---- configurations
 
@@ -182,3 +190,48 @@ frames_may_be_got c me bytes trace unforged h = (λ correct. are_from_senders c 
 
 pub faulty_hear_anything : FaultyHearAnything
 faulty_hear_anything c me bytes trace unforged faulty = (λ correct. let bad : false ≡ true = sym faulty ∙ correct in absurd cc, unforged)
+
+-- ---- the texts whose digests must differ
+
+same_on_range : (g h : ℕ → List ℕ) (a n : ℕ) → ((i : ℕ) → a ≤ i → i < a + n → g i ≡ h i) → map g (range_with_len a n) ≡ map h (range_with_len a n)
+same_on_range g h a zero same = refl
+same_on_range g h a (suc n) same =
+    let l : a ≤ a = omega arith in
+    let m : a < a + suc n = omega arith in
+    ap₂ (λ (x : List ℕ) (xs : List (List ℕ)). x ∷ xs) (same a l m)
+    (same_on_range g h (a + 1) n (λ i j k. let l : a ≤ i = omega arith in let m : i < a + suc n = omega arith in same i l m))
+
+same_pages : (g h : ℕ → List ℕ) → ((i : ℕ) → i < 1024 → g i ≡ h i) → all_pages g ≡ all_pages h
+unfolding all_pages
+same_pages g h same = same_on_range g h 0 1024 (λ i l m. same i m)
+
+-- what is under the pages of the opening state
+under_opening : (page : ℕ → List ℕ) (text : List ℕ) → ((i : ℕ) → i < 1024 → page i ≡ page_text opening i) → IsUnder page text → IsOpeningText text
+under_opening page _ same (inner j l) =
+    inr (inr (j, l, ap (λ (pages : List (List ℕ)). concat (page_digests pages j)) (same_pages page (page_text opening) same)))
+under_opening page _ same top = inr (inl (ap (λ (pages : List (List ℕ)). concat (inner_digests pages)) (same_pages page (page_text opening) same)))
+
+nothing_behind : (later past : List Entry) → [] ≡ later ++ past → past ≡ []
+nothing_behind [] past h = sym h
+nothing_behind (e ∷ later) past h = absurd cc
+
+held_first : (c : Configuration) (page : ℕ → List ℕ) → Holds c [] page → (i : ℕ) → i < 1024 → page i ≡ page_text opening i
+held_first c page h i l = go (nothing_behind h.at.later h.at.past h.at.splits)
+  where
+    at : (past : List Entry) (point : Point) → past ≡ [] → Leaves c h.at.replica past point → IsHeld c h.at.replica past point.state i (page i) → page i ≡ page_text opening i
+    at [] point is leaves (inl own) = own ∙ ap (λ (p : Point). page_text p.state i) leaves
+    at [] point is leaves (inr got) = absurd got
+    at (e ∷ past) point is leaves holds = absurd cc
+
+    go : h.at.past ≡ [] → page i ≡ page_text opening i
+    go is = at h.at.past h.at.point is h.at.leaves (h.each i l)
+
+pub first_texts_are_few : FirstTextsAreFew
+first_texts_are_few c _ null = inl refl
+first_texts_are_few c text (batch _ h) = absurd h
+first_texts_are_few c text (part _ h) = absurd h
+first_texts_are_few c text (held page _ h u) = inr (under_opening page text (held_first c page h) u)
+first_texts_are_few c _ (page_of [] i h) = inr (inl (i, refl))
+first_texts_are_few c _ (page_of (x ∷ xs) i h) = absurd h.0
+first_texts_are_few c text (under [] _ h u) = inr (under_opening (page_text opening) text (λ i l. refl) u)
+first_texts_are_few c text (under (x ∷ xs) _ h u) = absurd h.0

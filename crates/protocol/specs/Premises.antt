@@ -2,10 +2,15 @@
 -- (Castro and Liskov, TOCS 2002, on the system model).
 use Rattle.std.specs.Prelude.{◌≡◌, ◌≢◌, ◌↔◌, ℕ, ◌+◌, ◌<◌, ◌⊎◌, true, false, List, [], ◌∷◌, length, Some, None, All, AllPairs}
 use Rattle.protocol.specs.Configuration.{Configuration, IsConfiguration, replicas, is_correct_replica, is_correct_client, is_correct, primary}
+use Rattle.std.specs.List.{concat}
+use Rattle.partition_tree.specs.Digests.{inner_digests, page_digests}
 use Rattle.wire.specs.Messages.{BodyData as Body}
 use Rattle.protocol.specs.Frames.{heard}
 use Rattle.protocol.specs.Trace.{Entry, history_of, Once, Has, Each, frames_in, SendsBody, Unforged}
 use Rattle.protocol.specs.Trace.Entry.{Got}
+use Rattle.protocol.specs.Selection.{null_batch}
+use Rattle.protocol.specs.State.{opening, page_text, pages_of}
+use Rattle.protocol.specs.Texts.{IsText}
 use Rattle.protocol.specs.RightClient.{IsClient, IsWeakClient}
 use Rattle.protocol.specs.Owed.{IsReplica}
 use Rattle.protocol.specs.Run.{IsRun, IsWeakRun}
@@ -92,3 +97,15 @@ FramesMayBeGot =
 abbrev pub FaultyHearAnything : Type 0
 FaultyHearAnything =
     (c : Configuration) (me : ℕ) (bytes : List ℕ) (trace : List Entry) → Unforged c trace → is_correct c me ≡ false → Unforged c (Got me bytes ∷ trace)
+
+-- ---- the texts whose digests must differ
+
+-- The opening state's pages, and the digests under its root.
+abbrev pub IsOpeningText : List ℕ → Type 0
+IsOpeningText text =
+    ((i : ℕ) × (text ≡ page_text opening i))
+    ⊎ ((text ≡ concat (inner_digests (pages_of opening))) ⊎ ((j : ℕ) × (j < 32) × (text ≡ concat (page_digests (pages_of opening) j))))
+
+-- Before anything happens there are only these and the null batch.
+abbrev pub FirstTextsAreFew : Type 0
+FirstTextsAreFew = (c : Configuration) (text : List ℕ) → IsText c [] text → (text ≡ null_batch) ⊎ IsOpeningText text

@@ -1,6 +1,6 @@
 //! Laws that show what the premises of the laws leave open.
 
-ghost use Rattle.protocol.specs.Premises.{WidestIsValid, NarrowestIsValid, ReplicasAreCorrect, ClientsAreCorrect, CorrectAreBoth, EachIsPrimary, PrimariesReturn, RunsHaveReplicas, RunsHaveClients, WeakRunsHaveReplicas, WeakRunsHaveClients, FramesMayBeGot, FaultyHearAnything};
+ghost use Rattle.protocol.specs.Premises.{WidestIsValid, NarrowestIsValid, ReplicasAreCorrect, ClientsAreCorrect, CorrectAreBoth, EachIsPrimary, PrimariesReturn, RunsHaveReplicas, RunsHaveClients, WeakRunsHaveReplicas, WeakRunsHaveClients, FramesMayBeGot, FaultyHearAnything, FirstTextsAreFew};
 
 /// Ten replicas of which any three are faulty, with 256 clients of which any are faulty, the longest period and any
 /// seed of 32 bytes are a valid configuration; so are four replicas and one client, none of them faulty, with the
@@ -37,4 +37,10 @@ pub fn runs_have_whole_histories()
 pub fn faulty_parties_may_send_anything()
     ensures got { FramesMayBeGot }
     ensures faulty { FaultyHearAnything }
+{}
+
+/// Before anything happens the texts whose digests must differ are the null batch, the opening state's pages, and the
+/// digests under its root.
+pub fn texts_are_few()
+    ensures first { FirstTextsAreFew }
 {}
