@@ -5,19 +5,23 @@ use Rattle.std.proofs.lemmas.Bool.{and_parts, and_from, ltb-true, lt-ltb, leb-tr
 use Rattle.std.proofs.Math.Nat.{mod-eq_of_lt, add-mod_right}
 use Rattle.quorum.specs.Quorum.{member}
 use Rattle.protocol.specs.Configuration.{Configuration, replicas, is_replica, is_client, is_faulty_replica, is_correct_replica, is_correct_client, is_correct}
-use Rattle.wire.specs.Messages.{BodyData as Body}
-use Rattle.protocol.specs.Frames.{heard}
-use Rattle.protocol.specs.Trace.{Entry, Has, Each, Once, SendsBody, IsFromSender, frames_in}
+use Rattle.wire.specs.Messages.{BodyData as Body, MessageData as Message, request as Request, pre_prepare as PrePrepare, prepare as Prepare, commit as Commit, checkpoint as Checkpoint, view_change as ViewChange, new_view as NewView, reply as Reply, fetch as Fetch, meta as Meta, page as Page}
+use Rattle.protocol.specs.Frames.{said, heard}
+use Rattle.protocol.specs.Trace.{Entry, party_of, history_of, Always, Has, Each, Once, SendsBody, IsFromSender, frames_in}
+use Rattle.protocol.specs.Trace.Entry.{Invoke, Got, Tick, Executed, Installed, Sent, Accepted}
 use Rattle.std.specs.List.{concat, range_with_len}
 use Rattle.partition_tree.specs.Digests.{inner_digests, page_digests}
 use Rattle.protocol.specs.State.{State, opening, page_text, all_pages}
-use Rattle.protocol.specs.RightReplica.{Point, Leaves, IsHeld}
-use Rattle.protocol.specs.Texts.{IsText, IsUnder, Holds, AreExecuted}
+use Rattle.protocol.specs.RightReplica.{Point, Leaves, May, Moves, IsHeld, GetsPage}
+use Rattle.protocol.specs.Texts.{IsText, IsUnder, Holds, ExecutesBatch, HasBatch, HasPart, batches_of, parts_of}
 use Rattle.protocol.specs.Texts.IsText.{null, batch, part, held, page_of, under}
 use Rattle.protocol.specs.Texts.IsUnder.{inner, top}
 use Rattle.protocol.specs.Selection.{null_batch}
+use Rattle.std.specs.Option.{option_map_or}
+use Rattle.protocol.proofs.Temporal.{once_weaker, always_weaker, always_in_history}
 use Rattle.protocol.proofs.Options.{some_injective}
-use Rattle.protocol.specs.Premises.{WidestIsValid, NarrowestIsValid, ReplicasAreCorrect, ClientsAreCorrect, CorrectAreBoth, EachIsPrimary, PrimariesReturn, RunsHaveReplicas, RunsHaveClients, WeakRunsHaveReplicas, WeakRunsHaveClients, MayBeGot, FramesMayBeGot, FaultyHearAnything, IsOpeningText, FirstTextsAreFew}
+use Rattle.protocol.proofs.Linking.{heard_said}
+use Rattle.protocol.specs.Premises.{WidestIsValid, NarrowestIsValid, ReplicasAreCorrect, ClientsAreCorrect, CorrectAreBoth, EachIsPrimary, PrimariesReturn, RunsHaveReplicas, RunsHaveClients, WeakRunsHaveReplicas, WeakRunsHaveClients, MayBeGot, FramesMayBeGot, FaultyHearAnything, IsOpeningText, HasText, BringsText, is_page, is_quiet, TextsAreFew}
 
 -- ---- configurations
 
@@ -211,27 +215,138 @@ under_opening page _ same (inner j l) =
     inr (inr (j, l, ap (λ (pages : List (List ℕ)). concat (page_digests pages j)) (same_pages page (page_text opening) same)))
 under_opening page _ same top = inr (inl (ap (λ (pages : List (List ℕ)). concat (inner_digests pages)) (same_pages page (page_text opening) same)))
 
-nothing_behind : (later past : List Entry) → [] ≡ later ++ past → past ≡ []
-nothing_behind [] past h = sym h
-nothing_behind (e ∷ later) past h = absurd cc
+quiet_behind : (later past : List Entry) → Always (λ past e. is_quiet e ≡ true) (later ++ past) → Always (λ past e. is_quiet e ≡ true) past
+quiet_behind [] past h = h
+quiet_behind (e ∷ later) past h = quiet_behind later past h.1
 
-held_first : (c : Configuration) (page : ℕ → List ℕ) → Holds c [] page → (i : ℕ) → i < 1024 → page i ≡ page_text opening i
-held_first c page h i l = go (nothing_behind h.at.later h.at.past h.at.splits)
+quiet_at : (p : ℕ) (trace : List Entry) → Always (λ past e. is_quiet e ≡ true) trace → Always (λ past e. is_quiet e ≡ true) (history_of p trace)
+quiet_at p trace h =
+    always_in_history (λ e. is_quiet e ≡ true) p trace (always_weaker (λ past e. is_quiet e ≡ true) (λ past e. party_of e ≡ p → is_quiet e ≡ true) (λ past e q is. q) trace h)
+
+-- a quiet history leaves the opening state
+stays_opening : (c : Configuration) (me : ℕ) (xs : List Entry) (point : Point) → Leaves c me xs point → Always (λ past e. is_quiet e ≡ true) xs → point.state ≡ opening
+stays_opening c me [] point h quiet = ap (λ (p : Point). p.state) h
+stays_opening c me (e ∷ past) point h quiet = go e h.2.may h.2.moves quiet.0 (stays_opening c me past h.0 h.1 quiet.1)
   where
-    at : (past : List Entry) (point : Point) → past ≡ [] → Leaves c h.at.replica past point → IsHeld c h.at.replica past point.state i (page i) → page i ≡ page_text opening i
-    at [] point is leaves (inl own) = own ∙ ap (λ (p : Point). page_text p.state i) leaves
-    at [] point is leaves (inr got) = absurd got
-    at (e ∷ past) point is leaves holds = absurd cc
+    go : (e : Entry) → May c me past h.0 e → Moves c me past h.0 e point → is_quiet e ≡ true → h.0.state ≡ opening → point.state ≡ opening
+    go (Got p bytes) may move quiet was = ap (λ (q : Point). q.state) move ∙ was
+    go (Tick p) may move quiet was = ap (λ (q : Point). q.state) move ∙ was
+    go (Sent p bytes) may move quiet was = ap (λ (q : Point). q.state) move ∙ was
+    go (Invoke x y z) may move quiet was = absurd may
+    go (Accepted x y z) may move quiet was = absurd may
+    go (Installed p k root) may move quiet was = absurd cc
+    go (Executed p k b) may move quiet was = absurd cc
 
-    go : h.at.past ≡ [] → page i ≡ page_text opening i
-    go is = at h.at.past h.at.point is h.at.leaves (h.each i l)
+-- nor does it get a page
+gets_no_page : (c : Configuration) (me i : ℕ) (text : List ℕ) (xs : List Entry) → Always (λ past e. is_quiet e ≡ true) xs → Once (GetsPage c me i text) xs → ⊥
+gets_no_page c me i text [] quiet h = h
+gets_no_page c me i text (e ∷ past) quiet (inr h) = gets_no_page c me i text past quiet.1 h
+gets_no_page c me i text (e ∷ past) quiet (inl h) = go e quiet.0 h
+  where
+    go : (e : Entry) → is_quiet e ≡ true → GetsPage c me i text past e → ⊥
+    go (Got p bytes) quiet (s, n, is) =
+        let says = heard_said c me bytes (record { sender = s; message = Page n i text }) is in
+        let bad : false ≡ true = sym (ap (λ (o : Option Body). not (option_map_or is_page o false)) says) ∙ quiet in
+        absurd cc
+    go (Tick p) quiet h = h
+    go (Sent p bytes) quiet h = h
+    go (Invoke x y z) quiet h = h
+    go (Accepted x y z) quiet h = h
+    go (Installed p k root) quiet h = h
+    go (Executed p k b) quiet h = h
 
-pub first_texts_are_few : FirstTextsAreFew
-first_texts_are_few c _ null = inl refl
-first_texts_are_few c text (batch _ h) = absurd h
-first_texts_are_few c text (part _ h) = absurd h
-first_texts_are_few c text (held page _ h u) = inr (under_opening page text (held_first c page h) u)
-first_texts_are_few c _ (page_of [] i h) = inr (inl (i, refl))
-first_texts_are_few c _ (page_of (x ∷ xs) i h) = absurd h.0
-first_texts_are_few c text (under [] _ h u) = inr (under_opening (page_text opening) text (λ i l. refl) u)
-first_texts_are_few c text (under (x ∷ xs) _ h u) = absurd h.0
+held_opening : (c : Configuration) (trace : List Entry) (page : ℕ → List ℕ) → Always (λ past e. is_quiet e ≡ true) trace → Holds c trace page
+    → (i : ℕ) → i < 1024 → page i ≡ page_text opening i
+held_opening c trace page quiet h i l = go (h.each i l)
+  where
+    behind : Always (λ past e. is_quiet e ≡ true) h.at.past
+    behind = quiet_behind h.at.later h.at.past (subst (Always (λ past e. is_quiet e ≡ true)) h.at.splits (quiet_at h.at.replica trace quiet))
+
+    go : IsHeld c h.at.replica h.at.past h.at.point.state i (page i) → page i ≡ page_text opening i
+    go (inl own) = own ∙ ap (λ (st : State). page_text st i) (stays_opening c h.at.replica h.at.past h.at.point h.at.leaves behind)
+    go (inr got) = absurd (gets_no_page c h.at.replica i (page i) h.at.past behind got)
+
+executes_none : (c : Configuration) (k : ℕ) (text : List ℕ) (xs : List Entry) → Always (λ past e. is_quiet e ≡ true) xs → Once (ExecutesBatch c k text) xs → ⊥
+executes_none c k text [] quiet h = h
+executes_none c k text (e ∷ past) quiet (inr h) = executes_none c k text past quiet.1 h
+executes_none c k text (e ∷ past) quiet (inl h) = go e quiet.0 h
+  where
+    go : (e : Entry) → is_quiet e ≡ true → ExecutesBatch c k text past e → ⊥
+    go (Executed p n b) quiet h = absurd cc
+    go (Got p bytes) quiet h = h
+    go (Tick p) quiet h = h
+    go (Sent p bytes) quiet h = h
+    go (Invoke x y z) quiet h = h
+    go (Accepted x y z) quiet h = h
+    go (Installed p n root) quiet h = h
+
+-- ---- what frames bring
+
+has_batch : (text : List ℕ) (message : Message) → Has (λ x. x ≡ text) (batches_of message) → HasText text message
+has_batch text (PrePrepare v i b) (inl h) = h
+has_batch text (PrePrepare v i b) (inr h) = absurd h
+has_batch text (NewView new) h = h
+has_batch text (Request a b d) h = absurd h
+has_batch text (Prepare a b d) h = absurd h
+has_batch text (Commit a b d) h = absurd h
+has_batch text (Checkpoint a b) h = absurd h
+has_batch text (ViewChange a) h = absurd h
+has_batch text (Reply a b d e f) h = absurd h
+has_batch text (Fetch a b d) h = absurd h
+has_batch text (Meta a b d e) h = absurd h
+has_batch text (Page a b d) h = absurd h
+
+has_part : (text : List ℕ) (body : Body) → is_page body ≡ false → Has (λ x. x ≡ text) (parts_of body.message) → HasText text body.message
+has_part text body quiet h = go body.message quiet h
+  where
+    go : (message : Message) → is_page (record { sender = body.sender; message = message }) ≡ false → Has (λ x. x ≡ text) (parts_of message) → HasText text message
+    go (Meta a b d e) quiet (inl h) = h
+    go (Meta a b d e) quiet (inr h) = absurd h
+    go (Page a b d) quiet h = absurd cc
+    go (PrePrepare a b d) quiet h = absurd h
+    go (NewView a) quiet h = absurd h
+    go (Request a b d) quiet h = absurd h
+    go (Prepare a b d) quiet h = absurd h
+    go (Commit a b d) quiet h = absurd h
+    go (Checkpoint a b) quiet h = absurd h
+    go (ViewChange a) quiet h = absurd h
+    go (Reply a b d e f) quiet h = absurd h
+    go (Fetch a b d) quiet h = absurd h
+
+brings_batch : (text : List ℕ) (past : List Entry) (e : Entry) → HasBatch text past e → BringsText text past e
+brings_batch text past (Got p bytes) (body, says, h) = (body, says, has_batch text body.message h)
+brings_batch text past (Sent p bytes) (body, says, h) = (body, says, has_batch text body.message h)
+brings_batch text past (Tick p) h = h
+brings_batch text past (Invoke x y z) h = h
+brings_batch text past (Accepted x y z) h = h
+brings_batch text past (Installed p n root) h = h
+brings_batch text past (Executed p n b) h = h
+
+brings_part : (text : List ℕ) (xs : List Entry) → Always (λ past e. is_quiet e ≡ true) xs → Once (HasPart text) xs → Once (BringsText text) xs
+brings_part text [] quiet h = h
+brings_part text (e ∷ past) quiet (inr h) = inr (brings_part text past quiet.1 h)
+brings_part text (e ∷ past) quiet (inl h) = inl (go e quiet.0 h)
+  where
+    no_page : (b : Bool) → not b ≡ true → b ≡ false
+    no_page true h = absurd cc
+    no_page false h = refl
+
+    go : (e : Entry) → is_quiet e ≡ true → HasPart text past e → BringsText text past e
+    go (Got p bytes) quiet (body, says, h) =
+        (body, says, has_part text body (no_page (is_page body) (sym (ap (λ (o : Option Body). not (option_map_or is_page o false)) says) ∙ quiet)) h)
+    go (Sent p bytes) quiet h = absurd h
+    go (Tick p) quiet h = h
+    go (Invoke x y z) quiet h = h
+    go (Accepted x y z) quiet h = h
+    go (Installed p n root) quiet h = h
+    go (Executed p n b) quiet h = h
+
+pub texts_are_few : TextsAreFew
+texts_are_few c trace _ quiet null = inl refl
+texts_are_few c trace text quiet (batch _ h) = inr (inr (once_weaker (HasBatch text) (BringsText text) (brings_batch text) trace h))
+texts_are_few c trace text quiet (part _ h) = inr (inr (brings_part text trace quiet h))
+texts_are_few c trace text quiet (held page _ h u) = inr (inl (under_opening page text (held_opening c trace page quiet h) u))
+texts_are_few c trace _ quiet (page_of [] i h) = inr (inl (inl (i, refl)))
+texts_are_few c trace _ quiet (page_of (x ∷ xs) i h) = absurd (executes_none c 1 x trace quiet h.0)
+texts_are_few c trace text quiet (under [] _ h u) = inr (inl (under_opening (page_text opening) text (λ i l. refl) u))
+texts_are_few c trace text quiet (under (x ∷ xs) _ h u) = absurd (executes_none c 1 x trace quiet h.0)

@@ -1,13 +1,14 @@
 -- What the premises of the laws leave open: each is met wherever the system model meets it, and says no more
 -- (Castro and Liskov, TOCS 2002, on the system model).
-use Rattle.std.specs.Prelude.{◌≡◌, ◌≢◌, ◌↔◌, ℕ, ◌+◌, ◌<◌, ◌⊎◌, true, false, List, [], ◌∷◌, length, Some, None, All, AllPairs}
+use Rattle.std.specs.Prelude.{◌≡◌, ◌≢◌, ◌↔◌, ℕ, ◌+◌, ◌<◌, ◌⊎◌, Bool, true, false, not, List, [], ◌∷◌, length, Some, None, All, AllPairs}
 use Rattle.protocol.specs.Configuration.{Configuration, IsConfiguration, replicas, is_correct_replica, is_correct_client, is_correct, primary}
 use Rattle.std.specs.List.{concat}
+use Rattle.std.specs.Option.{option_map_or}
 use Rattle.partition_tree.specs.Digests.{inner_digests, page_digests}
-use Rattle.wire.specs.Messages.{BodyData as Body}
-use Rattle.protocol.specs.Frames.{heard}
-use Rattle.protocol.specs.Trace.{Entry, history_of, Once, Has, Each, frames_in, SendsBody, Unforged}
-use Rattle.protocol.specs.Trace.Entry.{Got}
+use Rattle.wire.specs.Messages.{BodyData as Body, MessageData as Message, pre_prepare as PrePrepare, new_view as NewView, meta as Meta, page as Page}
+use Rattle.protocol.specs.Frames.{said, heard}
+use Rattle.protocol.specs.Trace.{Entry, history_of, Once, Always, Has, Each, frames_in, SendsBody, Unforged}
+use Rattle.protocol.specs.Trace.Entry.{Got, Executed, Installed, Sent}
 use Rattle.protocol.specs.Selection.{null_batch}
 use Rattle.protocol.specs.State.{opening, page_text, pages_of}
 use Rattle.protocol.specs.Texts.{IsText}
@@ -106,6 +107,29 @@ IsOpeningText text =
     ((i : ℕ) × (text ≡ page_text opening i))
     ⊎ ((text ≡ concat (inner_digests (pages_of opening))) ⊎ ((j : ℕ) × (j < 32) × (text ≡ concat (page_digests (pages_of opening) j))))
 
--- Before anything happens there are only these and the null batch.
-abbrev pub FirstTextsAreFew : Type 0
-FirstTextsAreFew = (c : Configuration) (text : List ℕ) → IsText c [] text → (text ≡ null_batch) ⊎ IsOpeningText text
+-- The message has the text: its batch, one of its batches, or its digests one after another.
+abbrev pub HasText : List ℕ → Message → Type 0
+HasText text message = elim message [ PrePrepare view number batch ↦ batch ≡ text | NewView new ↦ Has (λ x. x ≡ text) new.batches | Meta number level index digests ↦ concat digests ≡ text | _ ↦ ⊥ ]
+
+abbrev pub SaysText : List ℕ → List ℕ → Type 0
+SaysText text bytes = (body : Body) × (said bytes ≡ Some body) × HasText text body.message
+
+-- A frame that says it was got or sent.
+abbrev pub BringsText : List ℕ → List Entry → Entry → Type 0
+BringsText text past (Got p bytes) = SaysText text bytes
+BringsText text past (Sent p bytes) = SaysText text bytes
+BringsText text past _ = ⊥
+
+-- Nothing is executed or installed, and no page is got.
+abbrev pub is_page : Body → Bool
+is_page body = elim body.message [ Page number index text ↦ true | _ ↦ false ]
+
+abbrev pub is_quiet : Entry → Bool
+is_quiet e = elim e [ Got p bytes ↦ not (option_map_or is_page (said bytes) false) | Executed r number batch ↦ false | Installed r number root ↦ false | _ ↦ true ]
+
+-- As long as it is quiet there are only the null batch, the opening state's texts, and what frames bring; at first
+-- these alone.
+abbrev pub TextsAreFew : Type 0
+TextsAreFew =
+    (c : Configuration) (trace : List Entry) (text : List ℕ) → Always (λ past e. is_quiet e ≡ true) trace → IsText c trace text
+    → (text ≡ null_batch) ⊎ (IsOpeningText text ⊎ Once (BringsText text) trace)

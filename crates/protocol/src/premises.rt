@@ -1,6 +1,6 @@
 //! Laws that show what the premises of the laws leave open.
 
-ghost use Rattle.protocol.specs.Premises.{WidestIsValid, NarrowestIsValid, ReplicasAreCorrect, ClientsAreCorrect, CorrectAreBoth, EachIsPrimary, PrimariesReturn, RunsHaveReplicas, RunsHaveClients, WeakRunsHaveReplicas, WeakRunsHaveClients, FramesMayBeGot, FaultyHearAnything, FirstTextsAreFew};
+ghost use Rattle.protocol.specs.Premises.{WidestIsValid, NarrowestIsValid, ReplicasAreCorrect, ClientsAreCorrect, CorrectAreBoth, EachIsPrimary, PrimariesReturn, RunsHaveReplicas, RunsHaveClients, WeakRunsHaveReplicas, WeakRunsHaveClients, FramesMayBeGot, FaultyHearAnything, TextsAreFew};
 
 /// Ten replicas of which any three are faulty, with 256 clients of which any are faulty, the longest period and any
 /// seed of 32 bytes are a valid configuration; so are four replicas and one client, none of them faulty, with the
@@ -39,8 +39,9 @@ pub fn faulty_parties_may_send_anything()
     ensures faulty { FaultyHearAnything }
 {}
 
-/// Before anything happens the texts whose digests must differ are the null batch, the opening state's pages, and the
-/// digests under its root.
+/// As long as nothing is executed or installed and no page is got, the texts whose digests must differ are the null
+/// batch, the opening state's pages, the digests under its root, and the batches and digests of frames that were got or
+/// sent.
 pub fn texts_are_few()
-    ensures first { FirstTextsAreFew }
+    ensures few { TextsAreFew }
 {}

@@ -2,4 +2,4 @@ use Rattle.protocol.proofs.Presuming
 use Rattle.protocol.proofs.premises.texts_are_few.Goals as goal
 
 pub returns : goal.returns
-returns c = record { first = Presuming.first_texts_are_few }
+returns c = record { few = Presuming.texts_are_few }
