@@ -1,27 +1,25 @@
 -- What the premises of the laws leave open.
-use Rattle.std.proofs.Common.{◌≡◌, ℕ, zero, suc, ◌+◌, ◌-◌, ◌≤◌, ◌<◌, ◌⊎◌, inl, inr, Bool, true, false, ◌&&◌, ◌||◌, not, List, [], ◌∷◌, ◌++◌, map, Option, Some, None, refl, sym, ap, ap₂, ◌∙◌, subst, arith, eqb-true, eq-eqb}
+use Rattle.std.proofs.Common.{◌≡◌, ℕ, zero, suc, ◌+◌, ◌-◌, ◌≤◌, ◌<◌, ◌⊎◌, inl, inr, Bool, true, false, ◌||◌, not, List, [], ◌∷◌, ◌++◌, map, Option, Some, None, refl, sym, ap, ap₂, ◌∙◌, subst, arith, eqb-true, eq-eqb}
 use Rattle.std.specs.Prelude.{◌==◌, nat_lt, nat_le}
+use Rattle.std.specs.List.{concat, range_with_len}
+use Rattle.std.specs.Option.{option_map_or}
 use Rattle.std.proofs.lemmas.Bool.{and_parts, and_from, ltb-true, lt-ltb, leb-true, le-leb}
 use Rattle.std.proofs.Math.Nat.{mod-eq_of_lt, add-mod_right}
 use Rattle.quorum.specs.Quorum.{member}
-use Rattle.protocol.specs.Configuration.{Configuration, replicas, is_replica, is_client, is_faulty_replica, is_correct_replica, is_correct_client, is_correct}
+use Rattle.partition_tree.specs.Digests.{inner_digests, page_digests}
 use Rattle.wire.specs.Messages.{BodyData as Body, MessageData as Message, request as Request, pre_prepare as PrePrepare, prepare as Prepare, commit as Commit, checkpoint as Checkpoint, view_change as ViewChange, new_view as NewView, reply as Reply, fetch as Fetch, meta as Meta, page as Page}
-use Rattle.protocol.specs.Frames.{said, heard}
+use Rattle.protocol.specs.Configuration.{Configuration, replicas, is_replica, is_client, is_faulty_replica, is_correct_replica, is_correct_client, is_correct}
 use Rattle.protocol.specs.Trace.{Entry, party_of, history_of, Always, Has, Each, Once, SendsBody, IsFromSender, frames_in}
 use Rattle.protocol.specs.Trace.Entry.{Invoke, Got, Tick, Executed, Installed, Sent, Accepted}
-use Rattle.std.specs.List.{concat, range_with_len}
-use Rattle.partition_tree.specs.Digests.{inner_digests, page_digests}
 use Rattle.protocol.specs.State.{State, opening, page_text, all_pages}
 use Rattle.protocol.specs.RightReplica.{Point, Leaves, May, Moves, IsHeld, GetsPage}
-use Rattle.protocol.specs.Texts.{IsText, IsUnder, Holds, ExecutesBatch, HasBatch, HasPart, batches_of, parts_of}
+use Rattle.protocol.specs.Texts.{IsUnder, Holds, ExecutesBatch, HasBatch, HasPart, batches_of, parts_of}
 use Rattle.protocol.specs.Texts.IsText.{null, batch, part, held, page_of, under}
 use Rattle.protocol.specs.Texts.IsUnder.{inner, top}
-use Rattle.protocol.specs.Selection.{null_batch}
-use Rattle.std.specs.Option.{option_map_or}
+use Rattle.protocol.specs.Premises.{WidestIsValid, NarrowestIsValid, ReplicasAreCorrect, ClientsAreCorrect, CorrectAreBoth, EachIsPrimary, PrimariesReturn, RunsHaveReplicas, RunsHaveClients, WeakRunsHaveReplicas, WeakRunsHaveClients, MayBeGot, FramesMayBeGot, FaultyHearAnything, IsOpeningText, HasText, BringsText, is_page, is_quiet, TextsAreFew}
 use Rattle.protocol.proofs.Temporal.{once_weaker, always_weaker, always_in_history}
 use Rattle.protocol.proofs.Options.{some_injective}
 use Rattle.protocol.proofs.Linking.{heard_said}
-use Rattle.protocol.specs.Premises.{WidestIsValid, NarrowestIsValid, ReplicasAreCorrect, ClientsAreCorrect, CorrectAreBoth, EachIsPrimary, PrimariesReturn, RunsHaveReplicas, RunsHaveClients, WeakRunsHaveReplicas, WeakRunsHaveClients, MayBeGot, FramesMayBeGot, FaultyHearAnything, IsOpeningText, HasText, BringsText, is_page, is_quiet, TextsAreFew}
 
 -- ---- configurations
 

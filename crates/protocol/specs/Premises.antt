@@ -1,11 +1,11 @@
 -- What the premises of the laws leave open: each is met wherever the system model meets it, and says no more
 -- (Castro and Liskov, TOCS 2002, on the system model).
 use Rattle.std.specs.Prelude.{◌≡◌, ◌≢◌, ◌↔◌, ℕ, ◌+◌, ◌<◌, ◌⊎◌, Bool, true, false, not, List, [], ◌∷◌, length, Some, None, All, AllPairs}
-use Rattle.protocol.specs.Configuration.{Configuration, IsConfiguration, replicas, is_correct_replica, is_correct_client, is_correct, primary}
 use Rattle.std.specs.List.{concat}
 use Rattle.std.specs.Option.{option_map_or}
 use Rattle.partition_tree.specs.Digests.{inner_digests, page_digests}
 use Rattle.wire.specs.Messages.{BodyData as Body, MessageData as Message, pre_prepare as PrePrepare, new_view as NewView, meta as Meta, page as Page}
+use Rattle.protocol.specs.Configuration.{Configuration, IsConfiguration, replicas, is_correct_replica, is_correct_client, is_correct, primary}
 use Rattle.protocol.specs.Frames.{said, heard}
 use Rattle.protocol.specs.Trace.{Entry, history_of, Once, Always, Has, Each, frames_in, SendsBody, Unforged}
 use Rattle.protocol.specs.Trace.Entry.{Got, Executed, Installed, Sent}
@@ -73,7 +73,7 @@ RunsHaveReplicas = (c : Configuration) (trace : List Entry) → IsRun c trace �
 abbrev pub RunsHaveClients : Type 0
 RunsHaveClients = (c : Configuration) (trace : List Entry) → IsRun c trace → (p : ℕ) → is_correct_client c p ≡ true → IsClient c p (history_of p trace)
 
--- The same of a run of the first client.
+-- The same holds of a run of the first client.
 abbrev pub WeakRunsHaveReplicas : Type 0
 WeakRunsHaveReplicas = (c : Configuration) (trace : List Entry) → IsWeakRun c trace → (p : ℕ) → is_correct_replica c p ≡ true → IsReplica c p (history_of p trace)
 
@@ -120,14 +120,14 @@ BringsText text past (Got p bytes) = SaysText text bytes
 BringsText text past (Sent p bytes) = SaysText text bytes
 BringsText text past _ = ⊥
 
--- Nothing is executed or installed, and no page is got.
 abbrev pub is_page : Body → Bool
 is_page body = elim body.message [ Page number index text ↦ true | _ ↦ false ]
 
+-- The entry is no execution and no installation, and no page is got.
 abbrev pub is_quiet : Entry → Bool
 is_quiet e = elim e [ Got p bytes ↦ not (option_map_or is_page (said bytes) false) | Executed r number batch ↦ false | Installed r number root ↦ false | _ ↦ true ]
 
--- As long as it is quiet there are only the null batch, the opening state's texts, and what frames bring; at first
+-- As long as all entries are such there are only the null batch, the opening state's texts, and what frames bring; at first
 -- these alone.
 abbrev pub TextsAreFew : Type 0
 TextsAreFew =

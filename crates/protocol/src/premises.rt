@@ -17,7 +17,7 @@ pub fn correct_parties_are_the_others()
     ensures both { CorrectAreBoth }
 {}
 
-/// Each replica is the primary in turn (Castro and Liskov, TOCS 2002, on the algorithm's properties).
+/// Each replica is the primary in turn, from replica 0 in view 0 on.
 pub fn primaries_take_turns()
     ensures each { EachIsPrimary }
     ensures again { PrimariesReturn }
