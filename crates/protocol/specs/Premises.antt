@@ -127,8 +127,7 @@ is_page body = elim body.message [ Page number index text ↦ true | _ ↦ false
 abbrev pub is_quiet : Entry → Bool
 is_quiet e = elim e [ Got p bytes ↦ not (option_map_or is_page (said bytes) false) | Executed r number batch ↦ false | Installed r number root ↦ false | _ ↦ true ]
 
--- As long as all entries are such there are only the null batch, the opening state's texts, and what frames bring; at first
--- these alone.
+-- As long as all entries are such there are only the null batch, the opening state's texts, and what frames bring.
 abbrev pub TextsAreFew : Type 0
 TextsAreFew =
     (c : Configuration) (trace : List Entry) (text : List ℕ) → Always (λ past e. is_quiet e ≡ true) trace → IsText c trace text
