@@ -1,22 +1,26 @@
 -- What the premises of the laws leave open.
-use Rattle.std.proofs.Common.{◌≡◌, ℕ, zero, suc, ◌+◌, ◌-◌, ◌≤◌, ◌<◌, ◌⊎◌, inl, inr, Bool, true, false, ◌||◌, not, List, [], ◌∷◌, ◌++◌, map, Option, Some, None, refl, sym, ap, ap₂, ◌∙◌, subst, arith, eqb-true, eq-eqb}
+use Rattle.std.proofs.Common.{◌≡◌, ℕ, zero, suc, ◌+◌, ◌-◌, ◌≤◌, ◌<◌, ◌⊎◌, inl, inr, Bool, true, false, cond, ◌||◌, not, List, [], ◌∷◌, ◌++◌, map, Option, Some, None, refl, sym, ap, ap₂, ◌∙◌, subst, arith, eqb-true, eq-eqb}
 use Rattle.std.specs.Prelude.{◌==◌, nat_lt, nat_le}
 use Rattle.std.specs.List.{concat, range_with_len}
 use Rattle.std.specs.Option.{option_map_or}
 use Rattle.std.proofs.lemmas.Bool.{and_parts, and_from, ltb-true, lt-ltb, leb-true, le-leb}
 use Rattle.std.proofs.Math.Nat.{mod-eq_of_lt, add-mod_right}
 use Rattle.quorum.specs.Quorum.{member}
+use Rattle.tuple_codec.specs.Operations.{Operation, IsOperation}
 use Rattle.partition_tree.specs.Digests.{inner_digests, page_digests}
 use Rattle.wire.specs.Messages.{BodyData as Body, MessageData as Message, request as Request, pre_prepare as PrePrepare, prepare as Prepare, commit as Commit, checkpoint as Checkpoint, view_change as ViewChange, new_view as NewView, reply as Reply, fetch as Fetch, meta as Meta, page as Page}
-use Rattle.protocol.specs.Configuration.{Configuration, replicas, is_replica, is_client, is_faulty_replica, is_correct_replica, is_correct_client, is_correct}
-use Rattle.protocol.specs.Trace.{Entry, party_of, history_of, Always, Has, Each, Once, SendsBody, IsFromSender, frames_in}
+use Rattle.protocol.specs.Configuration.{Configuration, IsConfiguration, replicas, is_replica, is_client, is_faulty_replica, is_correct_replica, is_correct_client, is_correct}
+use Rattle.protocol.specs.Trace.{Entry, party_of, is_output, history_of, Always, Has, Each, Once, SendsBody, IsFromSender, frames_in}
 use Rattle.protocol.specs.Trace.Entry.{Invoke, Got, Tick, Executed, Installed, Sent, Accepted}
 use Rattle.protocol.specs.State.{State, opening, page_text, all_pages}
 use Rattle.protocol.specs.RightReplica.{Point, Leaves, May, Moves, IsHeld, GetsPage}
 use Rattle.protocol.specs.Texts.{IsUnder, Holds, ExecutesBatch, HasBatch, HasPart, batches_of, parts_of}
 use Rattle.protocol.specs.Texts.IsText.{null, batch, part, held, page_of, under}
 use Rattle.protocol.specs.Texts.IsUnder.{inner, top}
-use Rattle.protocol.specs.Premises.{WidestIsValid, NarrowestIsValid, ReplicasAreCorrect, ClientsAreCorrect, CorrectAreBoth, EachIsPrimary, PrimariesReturn, RunsHaveReplicas, RunsHaveClients, WeakRunsHaveReplicas, WeakRunsHaveClients, MayBeGot, FramesMayBeGot, FaultyHearAnything, IsOpeningText, HasText, BringsText, is_page, is_quiet, TextsAreFew}
+use Rattle.protocol.specs.RightClient.{open_call, last_call, MayInput, IsClient, IsWeakClient}
+use Rattle.protocol.specs.Owed.{IsReplica}
+use Rattle.protocol.specs.Run.{Follows, IsRunOf}
+use Rattle.protocol.specs.Premises.{WidestIsValid, NarrowestIsValid, ReplicasAreCorrect, ClientsAreCorrect, CorrectAreBoth, EachIsPrimary, PrimariesReturn, RunsHaveReplicas, RunsHaveClients, WeakRunsHaveReplicas, WeakRunsHaveClients, RunsGoOn, WeakRunsGoOn, RunsTakeCalls, WeakRunsTakeCalls, OthersAreUnforged, MayBeGot, FramesMayBeGot, FaultyHearAnything, IsOpeningText, HasText, BringsText, is_page, is_quiet, TextsAreFew}
 use Rattle.protocol.proofs.Temporal.{once_weaker, always_weaker, always_in_history}
 use Rattle.protocol.proofs.Options.{some_injective}
 use Rattle.protocol.proofs.Linking.{heard_said}
@@ -170,7 +174,76 @@ weak_runs_have_replicas c trace run = run.replicas
 pub weak_runs_have_clients : WeakRunsHaveClients
 weak_runs_have_clients c trace run = run.clients
 
+-- a run and one more input of a correct party
+input_follows : (e : Entry) (trace : List Entry) → is_output e ≡ false → Follows trace e
+input_follows e [] is = is
+input_follows e (before ∷ past) is = λ out. let bad : false ≡ true = sym is ∙ out in absurd cc
+
+run_goes_on : (IsIts : ℕ → List Entry → Type 0) (c : Configuration) (e : Entry) (trace : List Entry) → IsRunOf IsIts c trace
+    → is_correct c (party_of e) ≡ true → is_output e ≡ false
+    → ((q : ℕ) → party_of e ≡ q → is_correct_replica c q ≡ true → IsReplica c q (history_of q trace) → IsReplica c q (e ∷ history_of q trace))
+    → ((q : ℕ) → party_of e ≡ q → is_correct_client c q ≡ true → IsIts q (history_of q trace) → IsIts q (e ∷ history_of q trace))
+    → IsRunOf IsIts c (e ∷ trace)
+run_goes_on IsIts c e trace run correct input replica client = record {
+  replicas = λ q h. at_replica q h (party_of e == q) refl;
+  clients = λ q h. at_client q h (party_of e == q) refl;
+  parties = (correct, run.parties);
+  events = (input_follows e trace input, run.events);
+}
+  where
+    at_replica : (q : ℕ) → is_correct_replica c q ≡ true → (b : Bool) → (party_of e == q) ≡ b → IsReplica c q (cond b (e ∷ history_of q trace) (history_of q trace))
+    at_replica q h true is = replica q (eqb-true (party_of e) q is) h (run.replicas q h)
+    at_replica q h false is = run.replicas q h
+
+    at_client : (q : ℕ) → is_correct_client c q ≡ true → (b : Bool) → (party_of e == q) ≡ b → IsIts q (cond b (e ∷ history_of q trace) (history_of q trace))
+    at_client q h true is = client q (eqb-true (party_of e) q is) h (run.clients q h)
+    at_client q h false is = run.clients q h
+
+pub runs_go_on : RunsGoOn
+runs_go_on c trace run p correct =
+    (run_goes_on (IsClient c) c (Tick p) trace run correct refl (λ q is h was. inr (is, tt, was)) (λ q is h was. inr (is, tt, was)),
+    λ bytes. run_goes_on (IsClient c) c (Got p bytes) trace run correct refl (λ q is h was. inr (is, tt, was)) (λ q is h was. inr (is, tt, was)))
+
+pub weak_runs_go_on : WeakRunsGoOn
+weak_runs_go_on c trace run p correct =
+    (run_goes_on (IsWeakClient c) c (Tick p) trace run correct refl (λ q is h was. inr (is, tt, was)) (λ q is h was. inr (is, tt, was)),
+    λ bytes. run_goes_on (IsWeakClient c) c (Got p bytes) trace run correct refl (λ q is h was. inr (is, tt, was)) (λ q is h was. inr (is, tt, was)))
+
+-- no client is a replica
+not_both : (c : Configuration) → IsConfiguration c → (k q : ℕ) → 256 + k ≡ q → is_correct_replica c q ≡ true → ⊥
+not_both c valid k q is h =
+    let l : q < replicas c = ((replicas_are_correct c q).0 h).0 in
+    let m = valid.most in
+    omega arith
+
+call_may : (trace : List Entry) (k q : ℕ) (op : Operation) → 256 + k ≡ q → IsOperation op → open_call (history_of (256 + k) trace) ≡ None
+    → MayInput (history_of q trace) (Invoke k (suc (last_call (history_of (256 + k) trace))) op)
+call_may trace k q op is right none =
+    (ap (λ (p : ℕ). suc (last_call (history_of p trace))) is, subst (λ (p : ℕ). open_call (history_of p trace) ≡ None) is none, right)
+
+correct_client_is : (c : Configuration) (k : ℕ) → is_correct_client c (256 + k) ≡ true → is_correct c (256 + k) ≡ true
+correct_client_is c k h = or_right (is_correct_replica c (256 + k)) (is_correct_client c (256 + k)) h
+
+pub runs_take_calls : RunsTakeCalls
+runs_take_calls c valid trace run k op correct right none =
+    run_goes_on (IsClient c) c (Invoke k (suc (last_call (history_of (256 + k) trace))) op) trace run (correct_client_is c k correct) refl
+    (λ q is h was. absurd (not_both c valid k q is h)) (λ q is h was. inr (is, call_may trace k q op is right none, was))
+
+pub weak_runs_take_calls : WeakRunsTakeCalls
+weak_runs_take_calls c valid trace run k op correct right none =
+    run_goes_on (IsWeakClient c) c (Invoke k (suc (last_call (history_of (256 + k) trace))) op) trace run (correct_client_is c k correct) refl
+    (λ q is h was. absurd (not_both c valid k q is h)) (λ q is h was. inr (is, call_may trace k q op is right none, was))
+
 -- ---- what may be got in an unforged trace
+
+pub others_are_unforged : OthersAreUnforged
+others_are_unforged c (Got p bytes) trace unforged other = absurd (other p bytes refl)
+others_are_unforged c (Tick p) trace unforged other = (tt, unforged)
+others_are_unforged c (Sent p bytes) trace unforged other = (tt, unforged)
+others_are_unforged c (Invoke x y z) trace unforged other = (tt, unforged)
+others_are_unforged c (Accepted x y z) trace unforged other = (tt, unforged)
+others_are_unforged c (Installed p k root) trace unforged other = (tt, unforged)
+others_are_unforged c (Executed p k b) trace unforged other = (tt, unforged)
 
 -- a frame that may be got is its sender's
 is_from_sender : (c : Configuration) (me : ℕ) (past : List Entry) (bytes : List ℕ) → MayBeGot c me past bytes → IsFromSender c me past bytes

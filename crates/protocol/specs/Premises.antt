@@ -1,18 +1,19 @@
 -- What the premises of the laws leave open: each is met wherever the system model meets it, and says no more
 -- (Castro and Liskov, TOCS 2002, on the system model).
-use Rattle.std.specs.Prelude.{◌≡◌, ◌≢◌, ◌↔◌, ℕ, ◌+◌, ◌<◌, ◌⊎◌, Bool, true, false, not, List, [], ◌∷◌, length, Some, None, All, AllPairs}
+use Rattle.std.specs.Prelude.{◌≡◌, ◌≢◌, ◌↔◌, ℕ, suc, ◌+◌, ◌<◌, ◌⊎◌, Bool, true, false, not, List, [], ◌∷◌, length, Some, None, All, AllPairs}
 use Rattle.std.specs.List.{concat}
 use Rattle.std.specs.Option.{option_map_or}
+use Rattle.tuple_codec.specs.Operations.{Operation, IsOperation}
 use Rattle.partition_tree.specs.Digests.{inner_digests, page_digests}
 use Rattle.wire.specs.Messages.{BodyData as Body, MessageData as Message, pre_prepare as PrePrepare, new_view as NewView, meta as Meta, page as Page}
 use Rattle.protocol.specs.Configuration.{Configuration, IsConfiguration, replicas, is_correct_replica, is_correct_client, is_correct, primary}
 use Rattle.protocol.specs.Frames.{said, heard}
 use Rattle.protocol.specs.Trace.{Entry, history_of, Once, Always, Has, Each, frames_in, SendsBody, Unforged}
-use Rattle.protocol.specs.Trace.Entry.{Got, Executed, Installed, Sent}
+use Rattle.protocol.specs.Trace.Entry.{Invoke, Got, Tick, Executed, Installed, Sent}
 use Rattle.protocol.specs.Selection.{null_batch}
 use Rattle.protocol.specs.State.{opening, page_text, pages_of}
 use Rattle.protocol.specs.Texts.{IsText}
-use Rattle.protocol.specs.RightClient.{IsClient, IsWeakClient}
+use Rattle.protocol.specs.RightClient.{open_call, last_call, IsClient, IsWeakClient}
 use Rattle.protocol.specs.Owed.{IsReplica}
 use Rattle.protocol.specs.Run.{IsRun, IsWeakRun}
 
@@ -80,7 +81,37 @@ WeakRunsHaveReplicas = (c : Configuration) (trace : List Entry) → IsWeakRun c 
 abbrev pub WeakRunsHaveClients : Type 0
 WeakRunsHaveClients = (c : Configuration) (trace : List Entry) → IsWeakRun c trace → (p : ℕ) → is_correct_client c p ≡ true → IsWeakClient c p (history_of p trace)
 
+-- Whatever a correct party gets, and whenever it is ticked, the trace is a run still, of either client: the party may
+-- have stopped.
+abbrev pub GoesOn : (Configuration → List Entry → Type 0) → Type 0
+GoesOn Runs =
+    (c : Configuration) (trace : List Entry) → Runs c trace → (p : ℕ) → is_correct c p ≡ true
+    → Runs c (Tick p ∷ trace) × ((bytes : List ℕ) → Runs c (Got p bytes ∷ trace))
+
+abbrev pub RunsGoOn : Type 0
+RunsGoOn = GoesOn IsRun
+
+abbrev pub WeakRunsGoOn : Type 0
+WeakRunsGoOn = GoesOn IsWeakRun
+
+-- So it is where a correct client with no open call invokes any operation within the limits.
+abbrev pub CallsGoOn : (Configuration → List Entry → Type 0) → Type 0
+CallsGoOn Runs =
+    (c : Configuration) → IsConfiguration c → (trace : List Entry) → Runs c trace → (k : ℕ) (op : Operation) → is_correct_client c (256 + k) ≡ true
+    → IsOperation op → open_call (history_of (256 + k) trace) ≡ None → Runs c (Invoke k (suc (last_call (history_of (256 + k) trace))) op ∷ trace)
+
+abbrev pub RunsTakeCalls : Type 0
+RunsTakeCalls = CallsGoOn IsRun
+
+abbrev pub WeakRunsTakeCalls : Type 0
+WeakRunsTakeCalls = CallsGoOn IsWeakRun
+
 -- ---- what may be got in an unforged trace
+
+-- All but what is got leaves a trace unforged.
+abbrev pub OthersAreUnforged : Type 0
+OthersAreUnforged =
+    (c : Configuration) (e : Entry) (trace : List Entry) → Unforged c trace → ((p : ℕ) (bytes : List ℕ) → e ≢ Got p bytes) → Unforged c (e ∷ trace)
 
 -- The party does not take the frame as genuine, or takes it as from a sender that is faulty, or that sent one of its
 -- body.

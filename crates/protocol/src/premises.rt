@@ -1,6 +1,6 @@
 //! Laws that show what the premises of the laws leave open.
 
-ghost use Rattle.protocol.specs.Premises.{WidestIsValid, NarrowestIsValid, ReplicasAreCorrect, ClientsAreCorrect, CorrectAreBoth, EachIsPrimary, PrimariesReturn, RunsHaveReplicas, RunsHaveClients, WeakRunsHaveReplicas, WeakRunsHaveClients, FramesMayBeGot, FaultyHearAnything, TextsAreFew};
+ghost use Rattle.protocol.specs.Premises.{WidestIsValid, NarrowestIsValid, ReplicasAreCorrect, ClientsAreCorrect, CorrectAreBoth, EachIsPrimary, PrimariesReturn, RunsHaveReplicas, RunsHaveClients, WeakRunsHaveReplicas, WeakRunsHaveClients, RunsGoOn, WeakRunsGoOn, RunsTakeCalls, WeakRunsTakeCalls, OthersAreUnforged, FramesMayBeGot, FaultyHearAnything, TextsAreFew};
 
 /// Ten replicas of which any three are faulty, with 256 clients of which any are faulty, the longest period and any
 /// seed of 32 bytes are a valid configuration; so are four replicas and one client, none of them faulty, with the
@@ -32,9 +32,19 @@ pub fn runs_have_whole_histories()
     ensures weak_clients { WeakRunsHaveClients }
 {}
 
+/// A run goes on with whatever a correct party gets, with a tick at any time, and with any call of a correct client that
+/// has none open.
+pub fn runs_go_on()
+    ensures inputs { RunsGoOn }
+    ensures weak_inputs { WeakRunsGoOn }
+    ensures calls { RunsTakeCalls }
+    ensures weak_calls { WeakRunsTakeCalls }
+{}
+
 /// A trace stays unforged whatever comes that nobody takes as a correct sender's, or that its sender sent, alone or in
 /// other frames, and whatever comes to a faulty party.
 pub fn faulty_parties_may_send_anything()
+    ensures others { OthersAreUnforged }
     ensures got { FramesMayBeGot }
     ensures faulty { FaultyHearAnything }
 {}
