@@ -13,14 +13,14 @@ use Rattle.protocol.specs.Configuration.{Configuration, IsConfiguration, replica
 use Rattle.protocol.specs.Trace.{Entry, party_of, is_output, history_of, Always, Has, Each, Once, SendsBody, IsFromSender, frames_in}
 use Rattle.protocol.specs.Trace.Entry.{Invoke, Got, Tick, Executed, Installed, Sent, Accepted}
 use Rattle.protocol.specs.State.{State, opening, page_text, all_pages}
-use Rattle.protocol.specs.RightReplica.{Point, Leaves, May, Moves, IsHeld, GetsPage}
+use Rattle.protocol.specs.RightReplica.{waiting_after, Point, Leaves, May, Moves, IsHeld, GetsPage}
 use Rattle.protocol.specs.Texts.{IsUnder, Holds, ExecutesBatch, HasBatch, HasPart, batches_of, parts_of}
 use Rattle.protocol.specs.Texts.IsText.{null, batch, part, held, page_of, under}
 use Rattle.protocol.specs.Texts.IsUnder.{inner, top}
 use Rattle.protocol.specs.RightClient.{open_call, last_call, MayInput, IsClient, IsWeakClient}
 use Rattle.protocol.specs.Owed.{IsReplica}
 use Rattle.protocol.specs.Run.{Follows, IsRunOf}
-use Rattle.protocol.specs.Premises.{WidestIsValid, NarrowestIsValid, ReplicasAreCorrect, ClientsAreCorrect, CorrectAreBoth, EachIsPrimary, PrimariesReturn, RunsHaveReplicas, RunsHaveClients, WeakRunsHaveReplicas, WeakRunsHaveClients, RunsGoOn, WeakRunsGoOn, RunsTakeCalls, WeakRunsTakeCalls, OthersAreUnforged, MayBeGot, FramesMayBeGot, FaultyHearAnything, IsOpeningText, HasText, BringsText, is_page, is_quiet, TextsAreFew}
+use Rattle.protocol.specs.Premises.{WidestIsValid, NarrowestIsValid, ReplicasAreCorrect, ClientsAreCorrect, CorrectAreBoth, EachIsPrimary, PrimariesReturn, RunsHaveReplicas, RunsHaveClients, WeakRunsHaveReplicas, WeakRunsHaveClients, RunsGoOn, WeakRunsGoOn, ReplicasGoOn, RunsTakeCalls, WeakRunsTakeCalls, OthersAreUnforged, MayBeGot, FramesMayBeGot, FaultyHearAnything, IsOpeningText, HasText, BringsText, is_page, is_quiet, TextsAreFew}
 use Rattle.protocol.proofs.Temporal.{once_weaker, always_weaker, always_in_history}
 use Rattle.protocol.proofs.Options.{some_injective}
 use Rattle.protocol.proofs.Linking.{heard_said}
@@ -200,14 +200,22 @@ run_goes_on IsIts c e trace run correct input replica client = record {
     at_client q h false is = run.clients q h
 
 pub runs_go_on : RunsGoOn
-runs_go_on c trace run p correct =
-    (run_goes_on (IsClient c) c (Tick p) trace run correct refl (λ q is h was. inr (is, tt, was)) (λ q is h was. inr (is, tt, was)),
-    λ bytes. run_goes_on (IsClient c) c (Got p bytes) trace run correct refl (λ q is h was. inr (is, tt, was)) (λ q is h was. inr (is, tt, was)))
+runs_go_on c trace run p correct = (
+  run_goes_on (IsClient c) c (Tick p) trace run correct refl (λ q is h was. inr (is, tt, was)) (λ q is h was. inr (is, tt, was)),
+  λ bytes. run_goes_on (IsClient c) c (Got p bytes) trace run correct refl (λ q is h was. inr (is, tt, was)) (λ q is h was. inr (is, tt, was)),
+)
 
 pub weak_runs_go_on : WeakRunsGoOn
-weak_runs_go_on c trace run p correct =
-    (run_goes_on (IsWeakClient c) c (Tick p) trace run correct refl (λ q is h was. inr (is, tt, was)) (λ q is h was. inr (is, tt, was)),
-    λ bytes. run_goes_on (IsWeakClient c) c (Got p bytes) trace run correct refl (λ q is h was. inr (is, tt, was)) (λ q is h was. inr (is, tt, was)))
+weak_runs_go_on c trace run p correct = (
+  run_goes_on (IsWeakClient c) c (Tick p) trace run correct refl (λ q is h was. inr (is, tt, was)) (λ q is h was. inr (is, tt, was)),
+  λ bytes. run_goes_on (IsWeakClient c) c (Got p bytes) trace run correct refl (λ q is h was. inr (is, tt, was)) (λ q is h was. inr (is, tt, was)),
+)
+
+pub replicas_go_on : ReplicasGoOn
+replicas_go_on c me past (point, leaves) = (
+  (record point { ran = [] }, (point, leaves, record { own = refl; may = tt; moves = refl })),
+  λ bytes. (record point { ran = []; waiting = waiting_after c me point bytes }, (point, leaves, record { own = refl; may = tt; moves = refl })),
+)
 
 -- no client is a replica
 not_both : (c : Configuration) → IsConfiguration c → (k q : ℕ) → 256 + k ≡ q → is_correct_replica c q ≡ true → ⊥

@@ -12,6 +12,7 @@ use Rattle.protocol.specs.Trace.{Entry, history_of, Once, Always, Has, Each, fra
 use Rattle.protocol.specs.Trace.Entry.{Invoke, Got, Tick, Executed, Installed, Sent}
 use Rattle.protocol.specs.Selection.{null_batch}
 use Rattle.protocol.specs.State.{opening, page_text, pages_of}
+use Rattle.protocol.specs.RightReplica.{SafeReplica}
 use Rattle.protocol.specs.Texts.{IsText}
 use Rattle.protocol.specs.RightClient.{open_call, last_call, IsClient, IsWeakClient}
 use Rattle.protocol.specs.Owed.{IsReplica}
@@ -94,7 +95,13 @@ RunsGoOn = GoesOn IsRun
 abbrev pub WeakRunsGoOn : Type 0
 WeakRunsGoOn = GoesOn IsWeakRun
 
--- So it is where a correct client with no open call invokes any operation within the limits.
+-- A safe replica takes them too, and goes on.
+abbrev pub ReplicasGoOn : Type 0
+ReplicasGoOn =
+    (c : Configuration) (me : ℕ) (past : List Entry) → SafeReplica c me past
+    → SafeReplica c me (Tick me ∷ past) × ((bytes : List ℕ) → SafeReplica c me (Got me bytes ∷ past))
+
+-- The trace is a run still where a correct client with no open call invokes any operation within the limits.
 abbrev pub CallsGoOn : (Configuration → List Entry → Type 0) → Type 0
 CallsGoOn Runs =
     (c : Configuration) → IsConfiguration c → (trace : List Entry) → Runs c trace → (k : ℕ) (op : Operation) → is_correct_client c (256 + k) ≡ true
