@@ -44,7 +44,7 @@ pub fn runs_go_on()
 
 /// Nothing but what is got makes a trace forged. It stays unforged whatever is got that nobody takes as a correct
 /// sender's, or that its sender sent, alone or in other frames, and whatever a faulty party gets.
-pub fn faulty_parties_may_send_anything()
+pub fn unforged_traces_go_on()
     ensures others { OthersAreUnforged }
     ensures got { FramesMayBeGot }
     ensures faulty { FaultyHearAnything }
