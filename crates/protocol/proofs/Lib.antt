@@ -90,3 +90,4 @@ pub mod AnsweringAgain
 pub mod JoiningChangesOwing
 pub mod JoiningChanges
 pub mod TakingViews
+pub mod Presuming

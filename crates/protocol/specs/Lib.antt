@@ -30,3 +30,4 @@ pub mod ExamplesOfTransfer
 pub mod Selected
 pub mod ExamplesOfKept
 pub mod ExamplesOfChanges
+pub mod Premises

@@ -2,8 +2,9 @@
 #![tactic(auto)]
 
 pub mod accepted;
-pub mod fed;
 pub mod certified;
+pub mod fed;
+pub mod premises;
 pub mod refused;
 pub mod refused_changes;
 pub mod refused_items;
