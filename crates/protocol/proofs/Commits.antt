@@ -32,7 +32,7 @@ commit_is s v i d sender (Commit view number digest) h =
     rw (es, ev, ei, g.1) refl
 commit_is s v i d sender _ h = absurd cc
 
-commit_source : (c : Configuration) (me s v i : ℕ) (d : List ℕ) (past : List Entry) (e : Entry) → vote_in c me past e (commit_from s v i) v i ≡ Some d
+pub commit_source : (c : Configuration) (me s v i : ℕ) (d : List ℕ) (past : List Entry) (e : Entry) → vote_in c me past e (commit_from s v i) v i ≡ Some d
     → Brings c (committing s v i d) past e
 commit_source c me s v i d past e h =
     let r = vote_brought c me v i d (commit_from s v i) past e h in

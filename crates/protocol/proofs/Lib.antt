@@ -14,8 +14,10 @@ pub mod Lists
 pub mod Settling
 pub mod Staying
 pub mod Executing
+pub mod Certifying
 pub mod Bodies
 pub mod Leaving
+pub mod Installing
 pub mod Paging
 pub mod Roots
 pub mod States
@@ -75,6 +77,9 @@ pub mod RefusingMarksLow
 pub mod RefusingMarksCheckpoints
 pub mod RefusingSteps
 pub mod RefusingStepsAllowed
+pub mod Feeding
+pub mod Flushing
+pub mod FlushingEnds
 pub mod RefusingStepsSigned
 pub mod Stopping
 pub mod Counted
@@ -91,3 +96,4 @@ pub mod AnsweringAgain
 pub mod JoiningChangesOwing
 pub mod JoiningChanges
 pub mod TakingViews
+pub mod Presuming

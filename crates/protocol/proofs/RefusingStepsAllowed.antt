@@ -72,7 +72,7 @@ feeds_what_may_be_made c steps trace feeds = made c new_world feeds.0 steps (rev
 
 -- ---- where a schedule stops
 
-allowed : (c : Configuration) (w : World) (step : Step) → MayCome c w.frames w.past step → IsAllowed c w step
+pub allowed : (c : Configuration) (w : World) (step : Step) → MayCome c w.frames w.past step → IsAllowed c w step
 allowed c w (calls k op) h = h
 allowed c w (deliver frame party) h = h
 allowed c w (feed party text) h = h

@@ -79,7 +79,7 @@ module _ (clients : ℕ) (seed root : List ℕ) where
       same_bytes other is = cc
 
   -- what is no request moves no point
-  gets : (before : List Entry) (bytes : List ℕ) (body : Body) → heard c 0 bytes ≡ Some body → IsGiven body.message → IsStep c 0 before first_point (Got 0 bytes) first_point
+  pub gets : (before : List Entry) (bytes : List ℕ) (body : Body) → heard c 0 bytes ≡ Some body → IsGiven body.message → IsStep c 0 before first_point (Got 0 bytes) first_point
   gets before bytes body h given = record { own = refl; may = tt; moves = quiet }
     where
       quiet : first_point ≡ record first_point { ran = []; waiting = waiting_after c 0 first_point bytes }

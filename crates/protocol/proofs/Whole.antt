@@ -25,7 +25,7 @@ use Rattle.protocol.proofs.Accepting.{FullRun, full_part, Accepting, accepting, 
 use Rattle.protocol.proofs.Readings.{read_of, MadeAt, KindAt, reads_made, made_read, made_kind, one_kind, reads_differ, all_ordered, ReadFacts, read_facts, read_bound, ordered_has}
 use Rattle.protocol.specs.Linear.{last_executed}
 use Rattle.tuple_codec.specs.Operations.{Operation, Outcome}
-use Rattle.protocol.specs.Run.{PointsAreLinear, RunsAreLinear, AcceptedAtLevels, AtItsLevel}
+use Rattle.protocol.specs.Run.{IsRun, PointsAreLinear, RunsAreLinear, AcceptedAtLevels, LevelsOfSafe, AtItsLevel}
 use Rattle.protocol.proofs.Reacting.{is_replica_right, is_client_right}
 
 -- ---- lists
@@ -369,28 +369,22 @@ full_run c setting trace right unforged apart = record {
 pub linear_of_right : LinearOfSafe
 linear_of_right c setting trace right unforged apart = points_linear c trace (full_run c setting trace right unforged apart)
 
+-- the histories of a run are safe
+run_is_safe : (c : Configuration) (trace : List Entry) → IsRun c trace → IsSafeTrace c trace
+run_is_safe c trace run = record {
+  replicas = λ p correct. is_replica_right c p (history_of p trace) (run.replicas p correct);
+  clients = λ p correct. is_client_right c p (history_of p trace) (run.clients p correct);
+  parties = run.parties;
+}
+
 pub points_are_linear : PointsAreLinear
-points_are_linear c setting trace run unforged apart =
-    linear_of_right c setting trace
-    (record {
-      replicas = λ p correct. is_replica_right c p (history_of p trace) (run.replicas p correct);
-      clients = λ p correct. is_client_right c p (history_of p trace) (run.clients p correct);
-      parties = run.parties;
-    })
-    unforged apart
+points_are_linear c setting trace run unforged apart = linear_of_right c setting trace (run_is_safe c trace run) unforged apart
 
 pub runs_are_linear : RunsAreLinear
 runs_are_linear c setting trace run unforged apart = (points c trace, points_are_linear c setting trace run unforged apart)
 
-pub accepted_at_levels : AcceptedAtLevels
-accepted_at_levels c setting trace run unforged apart =
-    each trace (full_run c setting trace
-    (record {
-      replicas = λ p correct. is_replica_right c p (history_of p trace) (run.replicas p correct);
-      clients = λ p correct. is_client_right c p (history_of p trace) (run.clients p correct);
-      parties = run.parties;
-    })
-    unforged apart)
+pub levels_of_safe : LevelsOfSafe
+levels_of_safe c setting trace right unforged apart = each trace (full_run c setting trace right unforged apart)
   where
     at : (past : List Entry) (e : Entry) → FullRun c (e ∷ past) → AtItsLevel c past e
     at past (Accepted k t a) full =
@@ -405,3 +399,6 @@ accepted_at_levels c setting trace run unforged apart =
     each : (xs : List Entry) → FullRun c xs → Always (AtItsLevel c) xs
     each [] full = tt
     each (e ∷ past) full = (at past e full, each past (full_earlier c e past full))
+
+pub accepted_at_levels : AcceptedAtLevels
+accepted_at_levels c setting trace run unforged apart = levels_of_safe c setting trace (run_is_safe c trace run) unforged apart

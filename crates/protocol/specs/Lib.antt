@@ -7,12 +7,14 @@ pub mod State
 pub mod RightReplica
 pub mod Texts
 pub mod Laws
+pub mod Certified
 pub mod RightClient
 pub mod Linear
 pub mod Owed
 pub mod Run
 pub mod Refused
 pub mod Examples
+pub mod ExamplesOfInstalling
 pub mod Schedule
 pub mod RefusedRuns
 pub mod FirstOperation
@@ -27,7 +29,9 @@ pub mod Clients
 pub mod Stopping
 pub mod ExamplesOfClients
 pub mod Correct
+pub mod Fed
 pub mod ExamplesOfTransfer
 pub mod Selected
 pub mod ExamplesOfKept
 pub mod ExamplesOfChanges
+pub mod Premises

@@ -9,7 +9,7 @@ use Rattle.protocol.specs.Texts.{NoCollision}
 use Rattle.wire.specs.Words.{requests_of}
 use Rattle.protocol.specs.State.{State, opening, execute, ran_in}
 use Rattle.protocol.specs.Linear.{points, IsLinear, Linear, is_level, invoke_past, Placing, ordered_point, NoneTwice}
-use Rattle.protocol.specs.Laws.{IsOneSpace}
+use Rattle.protocol.specs.Laws.{IsOneSpace, IsSafeTrace}
 
 -- an output follows its input, or an output of the same event
 abbrev pub Follows : List Entry → Entry → Type 0
@@ -67,6 +67,12 @@ AtItsLevel c past _ = ⊤
 abbrev pub AcceptedAtLevels : Type 0
 AcceptedAtLevels =
     (c : Configuration) → IsConfiguration c → (trace : List Entry) → IsRun c trace → Unforged c trace → NoCollision c trace
+    → Always (AtItsLevel c) trace
+
+-- The same over a trace whose histories are safe.
+abbrev pub LevelsOfSafe : Type 0
+LevelsOfSafe =
+    (c : Configuration) → IsConfiguration c → (trace : List Entry) → IsSafeTrace c trace → Unforged c trace → NoCollision c trace
     → Always (AtItsLevel c) trace
 
 -- ---- over all batches

@@ -2,7 +2,10 @@
 #![tactic(auto)]
 
 pub mod accepted;
+pub mod certified;
 pub mod clients;
+pub mod fed;
+pub mod premises;
 pub mod refused;
 pub mod refused_changes;
 pub mod refused_items;
@@ -15,7 +18,7 @@ pub mod selected;
 ghost use Rattle.protocol.specs.Laws.{FramesAreSpelled, BodiesAreSaid, BytesAreHeard, PreparedAgree, CommittedStays, CommittedAgree, ExecutedAgree, PagesDetermine, BatchesLeaveStates, StatesAreExecuted, StatesAgree, StableAgree, InstalledAgree, StartsAgree, LinearOfSafe, WeakIsOneSpace, NoneBegins, FirstViewStays};
 ghost use Rattle.protocol.specs.FirstOperation.{SealedFramesAreHeard};
 ghost use Rattle.protocol.specs.RefusedSteps.{SignedFramesAreHeard};
-ghost use Rattle.protocol.specs.Run.{PointsAreLinear, NoneRunsTwice, AcceptedAtLevels, WeakAnswersAreOneSpace, RunsAreLinear};
+ghost use Rattle.protocol.specs.Run.{PointsAreLinear, NoneRunsTwice, AcceptedAtLevels, LevelsOfSafe, WeakAnswersAreOneSpace, RunsAreLinear};
 
 /// What the definitions read from bytes is what the frame's grammar says, and what a party hears as authentic or
 /// signed.
@@ -101,6 +104,11 @@ pub fn safe_histories_are_linear()
 /// greater number had been reached by all but `f`.
 pub fn accepted_at_levels()
     ensures levels { AcceptedAtLevels }
+{}
+
+/// The same over a trace whose histories are safe, whether or not the replicas do all that they owe.
+pub fn safe_histories_accept_at_levels()
+    ensures levels { LevelsOfSafe }
 {}
 
 /// With the weak client, which accepts at `f + 1` replies of one answer, the accepted answers are still those of one

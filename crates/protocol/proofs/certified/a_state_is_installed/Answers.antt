@@ -1,0 +1,5 @@
+use Rattle.protocol.proofs.Installing
+use Rattle.protocol.proofs.certified.a_state_is_installed.Goals as goal
+
+pub returns : goal.returns
+returns c = record { installed = Installing.state_is_installed }
