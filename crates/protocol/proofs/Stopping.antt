@@ -2,18 +2,11 @@
 use Rattle.std.proofs.Common.{ℕ, inr, List, [], refl, sym}
 use Rattle.protocol.specs.Configuration.{Configuration}
 use Rattle.protocol.specs.Trace.{Entry}
-use Rattle.protocol.specs.RightReplica.{waiting_after}
 use Rattle.protocol.specs.RightClient.{Reaction, IsClientBy, reaction, weak_reaction}
-use Rattle.protocol.specs.Stopping.{TakesInputs, TakesCalls, ReplicasMayStop, SafeReplicasMayStop, ClientsMayStop, WeakClientsMayStop}
+use Rattle.protocol.specs.Stopping.{TakesInputs, TakesCalls, ReplicasMayStop, ClientsMayStop, WeakClientsMayStop}
 
 pub replicas_may_stop : ReplicasMayStop
 replicas_may_stop c me past right = (λ bytes. inr (refl, tt, right), inr (refl, tt, right))
-
-pub safe_replicas_may_stop : SafeReplicasMayStop
-safe_replicas_may_stop c me past right = (
-  λ bytes. (record right.0 { ran = []; waiting = waiting_after c me right.0 bytes }, (right.0, right.1, record { own = refl; may = tt; moves = refl })),
-  (record right.0 { ran = [] }, (right.0, right.1, record { own = refl; may = tt; moves = refl })),
-)
 
 -- a client by what it reacts
 takes : (c : Configuration) (me : ℕ) (react : List Entry → Reaction) (past : List Entry) → IsClientBy c me react past

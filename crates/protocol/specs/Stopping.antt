@@ -4,7 +4,6 @@ use Rattle.tuple_codec.specs.Operations.{Operation, IsOperation}
 use Rattle.protocol.specs.Configuration.{Configuration}
 use Rattle.protocol.specs.Trace.{Entry}
 use Rattle.protocol.specs.Trace.Entry.{Invoke, Got, Tick}
-use Rattle.protocol.specs.RightReplica.{SafeReplica}
 use Rattle.protocol.specs.RightClient.{last_call, open_call, IsClient, IsWeakClient}
 use Rattle.protocol.specs.Owed.{IsReplica}
 
@@ -17,12 +16,9 @@ abbrev pub TakesCalls : ℕ → (List Entry → Type 0) → List Entry → Type 
 TakesCalls me Is past =
     (k : ℕ) (op : Operation) → me ≡ 256 + k → open_call past ≡ None → IsOperation op → Is (Invoke k (suc (last_call past)) op ∷ past)
 
--- A replica that is no longer correct, or safe, once it gives nothing at an input.
+-- A replica that is no longer correct once it gives nothing at an input.
 abbrev pub ReplicasMayStop : Type 0
 ReplicasMayStop = (c : Configuration) (me : ℕ) (past : List Entry) → IsReplica c me past → TakesInputs me (IsReplica c me) past
-
-abbrev pub SafeReplicasMayStop : Type 0
-SafeReplicasMayStop = (c : Configuration) (me : ℕ) (past : List Entry) → SafeReplica c me past → TakesInputs me (SafeReplica c me) past
 
 -- The same of a client, at a call too.
 abbrev pub ClientsMayStop : Type 0

@@ -4,7 +4,7 @@
 ghost use Rattle.protocol.specs.Clients.{HeardIsLatest, LatestStays, CallsForget, WaitsForAnswers, FallsBackOnce, WeaklyWaits, IgnoresOthers, RestsWithoutCall};
 ghost use Rattle.protocol.specs.Correct.{ReplicasHaveOwn, ClientsHaveOwn, SealsRequests, AsksItsCall, ReplicasAreSafe, ClientsAreSafe, WeakClientsAreSafe};
 ghost use Rattle.protocol.specs.ExamplesOfClients.{FirstReadIsAccepted, FirstWeakOperationIsRun, FirstWeakOperationIsUnforged};
-ghost use Rattle.protocol.specs.Stopping.{ReplicasMayStop, SafeReplicasMayStop, ClientsMayStop, WeakClientsMayStop};
+ghost use Rattle.protocol.specs.Stopping.{ReplicasMayStop, ClientsMayStop, WeakClientsMayStop};
 
 /// A reply that is heard is its sender's latest of its mode, whatever was heard before, until the sender's next of that mode.
 /// A call begins with none.
@@ -39,7 +39,6 @@ pub fn correct_histories_are_safe()
 /// A correct replica or client may stop: behind any history of it, an input may come and no output.
 pub fn parties_may_stop()
     ensures replicas { ReplicasMayStop }
-    ensures safe { SafeReplicasMayStop }
     ensures clients { ClientsMayStop }
     ensures weak_clients { WeakClientsMayStop }
 {}
