@@ -1,5 +1,5 @@
 -- A party may stop.
-use Rattle.std.proofs.Common.{ℕ, inr, List, [], refl, sym}
+use Rattle.std.proofs.Common.{ℕ, inr, List, refl, sym}
 use Rattle.protocol.specs.Configuration.{Configuration}
 use Rattle.protocol.specs.Trace.{Entry}
 use Rattle.protocol.specs.RightClient.{Reaction, IsClientBy, reaction, weak_reaction}
