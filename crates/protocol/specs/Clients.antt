@@ -14,14 +14,14 @@ use Rattle.protocol.specs.RefusedRuns.{going_on, AsksOrdered, IsAnyClient}
 
 -- ---- the replies that count
 
--- A reply that is heard, of either mode, and is not its sender's latest of that mode, as one behind an earlier reply.
+-- A reply that is heard is its sender's latest of its mode, behind an earlier one too.
 abbrev pub HeardIsLatest : Type 0
 HeardIsLatest =
     (c : Configuration) (me s timestamp number : ℕ) (mode : Mode) (answer : Outcome) (bytes : List ℕ) (past : List Entry)
     → heard c me bytes ≡ Some (record { sender = s; message = Reply me timestamp mode number answer })
     → latest c me (Got me bytes ∷ past) timestamp (reads_only mode) s ≡ Some (record { read_only = reads_only mode; number = number; answer = answer })
 
--- An entry that is no call and brings no reply of a replica in a mode, behind which its latest of that mode is another.
+-- It stays so at an entry that is no call and brings no reply of that replica in that mode.
 abbrev pub LatestStays : Type 0
 LatestStays =
     (c : Configuration) (me s timestamp : ℕ) (mode : Mode) (e : Entry) (past : List Entry)
@@ -29,7 +29,7 @@ LatestStays =
     → ((number : ℕ) (answer : Outcome) → Hears c me (record { sender = s; message = Reply me timestamp mode number answer }) past e → ⊥)
     → latest c me (e ∷ past) timestamp (reads_only mode) s ≡ latest c me past timestamp (reads_only mode) s
 
--- A reply that was got before the call, and counts for it.
+-- A call begins with none: what was got before it does not count.
 abbrev pub CallsForget : Type 0
 CallsForget =
     (c : Configuration) (me s k timestamp : ℕ) (read_only : Bool) (op : Operation) (past : List Entry)
@@ -37,8 +37,8 @@ CallsForget =
 
 -- ---- events in which a client gives nothing
 
--- A reply with fewer than 2f + 1 replicas' latest ones like it, while a replica has not answered read-only, and any
--- output: falling back before all have answered.
+-- At a reply with fewer than 2f + 1 replicas' latest ones like it, while a replica has not answered read-only, there is
+-- no output: a client falls back only once all have answered.
 abbrev pub WaitsForAnswers : Type 0
 WaitsForAnswers =
     (c : Configuration) (me s r number : ℕ) (call : OpenCall) (mode : Mode) (answer : Outcome) (bytes later : List ℕ) (outputs past : List Entry)
@@ -47,7 +47,7 @@ WaitsForAnswers =
     → r < replicas c → latest c me (Got me bytes ∷ past) call.timestamp true r ≡ None
     → AreOutputs outputs → IsClient c me (going_on me later outputs (Got me bytes) past) → outputs ≡ []
 
--- Such a reply, where the call's request went ordered before, and any output: falling back twice.
+-- Nor is there at such a reply where the call's request went ordered before: a client falls back once.
 abbrev pub FallsBackOnce : Type 0
 FallsBackOnce =
     (c : Configuration) (me s number : ℕ) (call : OpenCall) (mode : Mode) (answer : Outcome) (bytes later : List ℕ) (outputs past : List Entry)
@@ -56,8 +56,8 @@ FallsBackOnce =
     → Once (AsksOrdered call.timestamp) past
     → AreOutputs outputs → IsClient c me (going_on me later outputs (Got me bytes) past) → outputs ≡ []
 
--- Of the weak client: a read-only reply, or an ordered one with f or fewer replicas' latest of its answer, and any
--- output.
+-- A weak client gives nothing at a read-only reply, nor at an ordered one with f or fewer replicas' latest of its
+-- answer.
 abbrev pub WeaklyWaits : Type 0
 WeaklyWaits =
     (c : Configuration) (me s number : ℕ) (call : OpenCall) (mode : Mode) (answer : Outcome) (bytes later : List ℕ) (outputs past : List Entry)
@@ -65,7 +65,7 @@ WeaklyWaits =
     → (mode ≡ modes.ReadOnly) ⊎ (count_below (λ r. is_same_answer (record { read_only = false; number = number; answer = answer }) (latest c me (Got me bytes ∷ past) call.timestamp false r)) (replicas c) ≤ c.faults)
     → AreOutputs outputs → IsWeakClient c me (going_on me later outputs (Got me bytes) past) → outputs ≡ []
 
--- A frame that is no reply to the open call, and any output.
+-- At a frame that is no reply to the open call neither client gives an output,
 abbrev pub IgnoresOthers : Type 0
 IgnoresOthers =
     (c : Configuration) (me : ℕ) (call : OpenCall) (bytes later : List ℕ) (outputs past : List Entry)
@@ -73,7 +73,7 @@ IgnoresOthers =
     → ((s number : ℕ) (mode : Mode) (answer : Outcome) → heard c me bytes ≢ Some (record { sender = s; message = Reply me call.timestamp mode number answer }))
     → AreOutputs outputs → IsAnyClient c me (going_on me later outputs (Got me bytes) past) → outputs ≡ []
 
--- A frame or a tick while no call is open, and any output.
+-- nor at a frame or a tick while no call is open.
 abbrev pub RestsWithoutCall : Type 0
 RestsWithoutCall =
     (c : Configuration) (me : ℕ) (input : Entry) (later : List ℕ) (outputs past : List Entry)

@@ -14,21 +14,21 @@ use Rattle.protocol.specs.RightClient.{OpenCall, open_call, IsClient, IsWeakClie
 use Rattle.protocol.specs.Owed.{IsReplica}
 use Rattle.protocol.specs.RefusedRuns.{IsAnyClient}
 
--- A history with an entry of another party.
+-- It has entries of its own party alone.
 abbrev pub ReplicasHaveOwn : Type 0
 ReplicasHaveOwn = (c : Configuration) (me : ℕ) (history : List Entry) → IsReplica c me history → Always (λ past e. party_of e ≡ me) history
 
 abbrev pub ClientsHaveOwn : Type 0
 ClientsHaveOwn = (c : Configuration) (me : ℕ) (history : List Entry) → IsAnyClient c me history → Always (λ past e. party_of e ≡ me) history
 
--- A request with a MAC that is not that of its body from the client to the receiver.
+-- Each MAC of a client's request is that of its body from the client to the receiver.
 abbrev pub SealsRequests : Type 0
 SealsRequests =
     (c : Configuration) (me : ℕ) (bytes : List ℕ) (frame : Frame) (entries : List MacData) (past : List Entry)
     → frame_of bytes ≡ Some frame → frame.proof ≡ macs entries → IsAnyClient c me (Sent me bytes ∷ past)
     → All (λ x. x.mac ≡ mac_of c.seed x.receiver frame.body) entries
 
--- A safe client's frame that is no request of its own for the open call, or a read-only one of what is no read.
+-- A safe client's frame is its request for the open call, read-only for a read alone.
 abbrev pub AsksItsCall : Type 0
 AsksItsCall =
     (c : Configuration) (me : ℕ) (bytes : List ℕ) (past : List Entry)
@@ -36,7 +36,7 @@ AsksItsCall =
     → (mode : Mode) × (call : OpenCall) × (said bytes ≡ Some (record { sender = me; message = Request call.timestamp mode call.op }))
     × (open_call past ≡ Some call) × (mode ≡ modes.ReadOnly → is_read_only call.op ≡ true)
 
--- A correct party's history that is not safe.
+-- A correct party's history is safe.
 abbrev pub ReplicasAreSafe : Type 0
 ReplicasAreSafe = (c : Configuration) (me : ℕ) (history : List Entry) → IsReplica c me history → SafeReplica c me history
 

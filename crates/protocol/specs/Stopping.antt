@@ -16,11 +16,11 @@ abbrev pub TakesCalls : ℕ → (List Entry → Type 0) → List Entry → Type 
 TakesCalls me Is past =
     (k : ℕ) (op : Operation) → me ≡ 256 + k → open_call past ≡ None → IsOperation op → Is (Invoke k (suc (last_call past)) op ∷ past)
 
--- A replica that is no longer correct once it gives nothing at an input.
+-- A correct replica's history stays one where it takes an input and gives nothing: it stopped.
 abbrev pub ReplicasMayStop : Type 0
 ReplicasMayStop = (c : Configuration) (me : ℕ) (past : List Entry) → IsReplica c me past → TakesInputs me (IsReplica c me) past
 
--- The same of a client, at a call too.
+-- So does a client's, at a call too.
 abbrev pub ClientsMayStop : Type 0
 ClientsMayStop =
     (c : Configuration) (me : ℕ) (past : List Entry)
