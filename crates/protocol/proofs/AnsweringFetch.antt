@@ -98,7 +98,7 @@ module _ (clients : ℕ) (seed : List ℕ) (me other : ℕ) (fetch digests : Lis
     owes : Owes c me [] (Got me fetch) (Sent me digests ∷ []) now first_point first_point
     owes = record {
       numbers = λ v i call active is_primary waits free. absurd waits;
-      numbers_once = (λ v i batch says none x y z w. absurd (let bad : answer ≡ record { sender = me; message = PrePrepare v i batch } = some_injective answer (record { sender = me; message = PrePrepare v i batch }) (sym a.says ∙ says) in cc), tt);
+      numbers_once = (λ v i batch says none. absurd (let bad : answer ≡ record { sender = me; message = PrePrepare v i batch } = some_injective answer (record { sender = me; message = PrePrepare v i batch }) (sym a.says ∙ says) in cc), tt);
       prepares = λ v i b none some active backup. absurd (let it = logs_it clients seed [] me now false _ _ stage v i b some in let bad : false ≡ true = it.1 in cc);
       commits = λ v i b none some active. absurd (let it = is_prepared clients seed [] me now false _ _ stage v i b some in let bad : false ≡ true = it.1 in cc);
       executes = λ v b h. absurd (let it = is_prepared clients seed [] me now false _ _ stage v 1 b h.prepared in let bad : false ≡ true = it.1 in cc);

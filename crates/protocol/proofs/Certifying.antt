@@ -7,7 +7,7 @@ use Rattle.sha2.specs.Sha256.{sha256}
 use Rattle.quorum.specs.Votes.{give_if}
 use Rattle.protocol.specs.Configuration.{Configuration, primary, span, is_number}
 use Rattle.wire.specs.Messages.{BodyData as Body, MessageData as Message, MarkData as Mark, NewViewData, pre_prepare as PrePrepare}
-use Rattle.protocol.specs.Frames.{heard, signed_body}
+use Rattle.protocol.specs.Frames.{heard}
 use Rattle.protocol.specs.Trace.{Entry, party_of, history_of, Once, SendsBody}
 use Rattle.protocol.specs.Trace.Entry.{Invoke, Got, Tick, Executed, Installed, Sent, Accepted}
 use Rattle.protocol.specs.Certificates.{view, target, is_later, is_active_in, new_view_in, new_view_from, taken, checkpoint_from, checkpoint_in, is_stable, stable_at, installed_at, started_at, low, is_in_marks, are_genuine, batch_from, batch_begun, proposal, entry_proposal, logged, commit_from, vote_in, commit_of}
@@ -17,7 +17,6 @@ use Rattle.protocol.specs.Certified.{Brings, ExecutesWithOwnCommit, ExecutesNotB
 use Rattle.protocol.proofs.Temporal.{once_weaker, once_stays_from, once_in_trace}
 use Rattle.protocol.proofs.Options.{and_then_some, give_if_some, some_injective, or_else_cases, given_once}
 use Rattle.protocol.proofs.Voting.{right_always}
-use Rattle.protocol.proofs.Linking.{signed_heard}
 use Rattle.protocol.proofs.Marks.{takes, view_grows}
 use Rattle.protocol.proofs.Commits.{committing, commit_source, prepared_stays, CommitsAt, voter_commits}
 use Rattle.protocol.proofs.Executing.{committed_later, executed_committed}
@@ -111,12 +110,8 @@ proposal_other : (c : Configuration) (me v i : ℕ) (batch : List ℕ) (sender :
 proposal_other c me v i batch sender (PrePrepare w number b) h = (refl, refl)
 proposal_other c me v i batch sender _ h = absurd cc
 
-no_view_heard : (c : Configuration) (p : ℕ) (bytes : List ℕ) (body : Body) → heard c p bytes ≡ Some body → new_view_from c body ≡ None → option_and_then (new_view_from c) (signed_body c bytes) ≡ None
-no_view_heard c p bytes body hears other = go (signed_body c bytes) refl
-  where
-    go : (o : Option Body) → signed_body c bytes ≡ o → option_and_then (new_view_from c) o ≡ None
-    go None is = refl
-    go (Some x) is = subst (λ (y : Body). new_view_from c y ≡ None) (some_injective body x (sym hears ∙ signed_heard c bytes x is p)) other
+no_view_heard : (c : Configuration) (p : ℕ) (bytes : List ℕ) (body : Body) → heard c p bytes ≡ Some body → new_view_from c body ≡ None → new_view_in c (Got p bytes) ≡ None
+no_view_heard c p bytes body hears other = ap (option_and_then (new_view_from c)) hears ∙ other
 
 -- the number that a right replica proposes a batch for is in the marks
 proposed_in_marks : (c : Configuration) (me v i : ℕ) (batch : List ℕ) (past : List Entry) (point : Point) (e : Entry) (bytes : List ℕ) (sender : ℕ) (message : Message)

@@ -1,5 +1,5 @@
 -- The definitions accept the first batch of a view.
-use Rattle.std.proofs.Common.{◌≡◌, ℕ, suc, ◌≤◌, Bool, true, false, cond, List, [], ◌∷◌, refl, sym, ap, ◌∙◌, arith, Option, Some, None}
+use Rattle.std.proofs.Common.{◌≡◌, ℕ, suc, ◌≤◌, Bool, true, false, cond, List, [], ◌∷◌, refl, ap, ◌∙◌, arith, Option, Some, None}
 use Rattle.std.specs.Prelude.{◌==◌, nat_le, nat_lt, option_and_then, max, ⊤}
 use Rattle.std.specs.Option.{option_map_or}
 use Rattle.std.proofs.lemmas.Slice.Eq.{bytes_eq-Decides}
@@ -8,7 +8,7 @@ use Rattle.quorum.specs.Quorum.{count_below}
 use Rattle.quorum.specs.Votes.{has_digest, or_else, give_if}
 use Rattle.protocol.specs.Configuration.{Configuration}
 use Rattle.wire.specs.Messages.{BodyData as Body, MessageData as Message, ProofData as Proof, macs, signature, NewViewData, request as Request, pre_prepare as PrePrepare, prepare as Prepare, commit as Commit, reply as Reply, fetch as Fetch, meta as Meta}
-use Rattle.protocol.specs.Frames.{receivers_of, said, heard, signed_body}
+use Rattle.protocol.specs.Frames.{receivers_of, said, heard}
 use Rattle.protocol.specs.Trace.{Entry}
 use Rattle.protocol.specs.Trace.Entry.{Got, Executed, Sent}
 use Rattle.protocol.specs.Certificates.{view, view_after, target, low, new_view_in, new_view_from, change_sent, checkpoint_in, installed_at, taken, is_active_in, counts_at, logged, proposal, prepare_of, prepare_from, commit_of, commit_from, vote_in, first_given, Prepared, Committed, checkpoint_from, change_from, is_in_marks, is_later, batch_begun, begun_proposal, entry_proposal}
@@ -17,8 +17,6 @@ use Rattle.protocol.specs.Examples.{four, IsFirstBatch, FirstBatchExecutes}
 use Rattle.protocol.proofs.Voting.{logged_stays}
 use Rattle.protocol.proofs.Commits.{prepare_stays, prepared_stays}
 use Rattle.protocol.proofs.Executing.{commit_stays}
-use Rattle.protocol.proofs.Linking.{signed_heard}
-use Rattle.protocol.proofs.Options.{some_injective}
 
 pub same_digest : (d : List ℕ) → has_digest d (Some d) ≡ true
 same_digest d = (bytes_eq-Decides d d).1 refl
@@ -117,17 +115,11 @@ none_changes sender _ h = absurd h
 
 pub heard_plain : (c : Configuration) (past : List Entry) (p : ℕ) (bytes : List ℕ) (body : Body) → heard c p bytes ≡ Some body → IsPlain body.message → Plain c past (Got p bytes)
 heard_plain c past p bytes body h o = record {
-  view = go (signed_body c bytes) refl;
+  view = ap (option_and_then (new_view_from c)) h ∙ none_begins c body.sender body.message o;
   change = refl;
   checkpoint = ap (option_and_then checkpoint_from) h ∙ none_checks body.sender body.message o;
   installed = refl;
 }
-  where
-    go : (b : Option Body) → signed_body c bytes ≡ b → option_and_then (new_view_from c) b ≡ None
-    go None is = refl
-    go (Some b) is =
-        let same : b ≡ body = some_injective b body (sym (signed_heard c bytes b is p) ∙ h) in
-        ap (new_view_from c) same ∙ none_begins c body.sender body.message o
 
 pub said_plain : (c : Configuration) (past : List Entry) (p : ℕ) (bytes : List ℕ) (body : Body) → said bytes ≡ Some body → IsPlain body.message → Plain c past (Sent p bytes)
 said_plain c past p bytes body h o = record {

@@ -1,8 +1,8 @@
 -- There are frames of the first operation.
-use Rattle.std.proofs.Common.{◌≡◌, ℕ, zero, suc, ◌+◌, ◌^◌, ◌<◌, ◌≤◌, true, false, List, [], ◌∷◌, length, refl, arith, length-append}
-use Rattle.std.specs.Prelude.{nat_lt, slice_index}
+use Rattle.std.proofs.Common.{◌≡◌, ℕ, zero, suc, ◌+◌, ◌^◌, ◌<◌, ◌≤◌, inl, inr, Bool, true, false, cond, filter, List, [], ◌∷◌, length, refl, arith, length-append}
+use Rattle.std.specs.Prelude.{not, ◌==◌, nat_lt, slice_index}
 use Rattle.std.specs.List.{range_with_len}
-use Rattle.std.proofs.lemmas.Bool.{lt-ltb}
+use Rattle.std.proofs.lemmas.Bool.{lt-ltb, eqb-false}
 use Rattle.sha2.specs.Sha256.{sha256, digest_bytes}
 use Rattle.sha2.proofs.Facts256.{length-sha256}
 use Rattle.tuple_tree.specs.Values.{AreBytes, TupleTree, TemplateTree, IsTuple, IsTemplate}
@@ -24,6 +24,7 @@ use Rattle.protocol.specs.Frames.{members}
 use Rattle.protocol.specs.RightReplica.{others}
 use Rattle.protocol.specs.Schedule.{sealed_bytes}
 use Rattle.protocol.specs.Examples.{four}
+use Rattle.protocol.specs.Trace.{Has}
 use Rattle.protocol.specs.FirstOperation.{FirstFrames, AreFirstFrames, first_answer, FirstFramesExist}
 use Rattle.protocol.proofs.FirstFramesBytes.{no_bytes, bytes_4}
 use Rattle.protocol.proofs.FirstFramesSealed.{MaySeal, sealed_length, sealed_spells, sealed_is_heard}
@@ -84,14 +85,15 @@ pub record AreFew (receivers : List ℕ) : Type 0 where
   pub parties : Each (λ p. p < 2 ^ 16) receivers
 
 may_seal : (c : Configuration) (sender : ℕ) (message : Message) (receivers : List ℕ) → sender < 2 ^ 16 → sends (members c) sender message ≡ true → IsMessage message
-    → is_signed message ≡ false → AreFew receivers → frame_limit message ≡ 4194304 → length (fields_spelling message) ≤ 3000
+    → is_signed message ≡ false → AreFew receivers → (Has (λ r. r ≡ sender) receivers → ⊥) → frame_limit message ≡ 4194304 → length (fields_spelling message) ≤ 3000
     → MaySeal c (record { sender = sender; message = message }) receivers
-may_seal c sender message receivers small known right unsigned are limit short =
+may_seal c sender message receivers small known right unsigned are others limit short =
     let n = sealed_length c sender receivers (body_spelling (record { sender = sender; message = message })) in
     let few = are.few in
     record {
       can = record { said = record { sender = small; message = right }; unsigned = unsigned; some = are.some; few = are.few; ascend = are.ascend };
       known = known;
+      others = others;
       parties = are.parties;
       short = omega (arith, n, few, limit, short);
     }
@@ -106,6 +108,29 @@ others_few clients seed (suc zero) l = record { some = omega arith; few = omega 
 others_few clients seed (suc (suc zero)) l = record { some = omega arith; few = omega arith; ascend = refl; parties = (omega arith, (omega arith, (omega arith, tt))) }
 others_few clients seed (suc (suc (suc zero))) l = record { some = omega arith; few = omega arith; ascend = refl; parties = (omega arith, (omega arith, (omega arith, tt))) }
 others_few clients seed (suc (suc (suc (suc r)))) l = absurd (omega arith)
+
+-- nobody is among the others
+never_own : (me : ℕ) (xs : List ℕ) → Has (λ r. r ≡ me) (filter (λ r. not (r == me)) xs) → ⊥
+never_own me [] h = h
+never_own me (x ∷ xs) h = go (x == me) refl h (never_own me xs)
+  where
+    go : (b : Bool) → (x == me) ≡ b → Has (λ r. r ≡ me) (cond (not b) (x ∷ filter (λ r. not (r == me)) xs) (filter (λ r. not (r == me)) xs))
+        → (Has (λ r. r ≡ me) (filter (λ r. not (r == me)) xs) → ⊥) → ⊥
+    go true e h below = below h
+    go false e (inl is) below = eqb-false x me e is
+    go false e (inr h) below = below h
+
+elsewhere : (r : ℕ) → r < 4 → Has (λ (p : ℕ). p ≡ r) (256 ∷ []) → ⊥
+elsewhere r below (inl e) = absurd (omega (arith, e, below))
+elsewhere r below (inr h) = h
+
+-- and no client among the replicas
+no_client : Has (λ (r : ℕ). r ≡ 256) (0 ∷ 1 ∷ 2 ∷ 3 ∷ []) → ⊥
+no_client (inl e) = absurd (omega (arith, e))
+no_client (inr (inl e)) = absurd (omega (arith, e))
+no_client (inr (inr (inl e))) = absurd (omega (arith, e))
+no_client (inr (inr (inr (inl e)))) = absurd (omega (arith, e))
+no_client (inr (inr (inr (inr h)))) = h
 
 client_few : AreFew (256 ∷ [])
 client_few = record { some = omega arith; few = omega arith; ascend = refl; parties = (omega arith, tt) }
@@ -135,7 +160,7 @@ module _ (clients : ℕ) (seed : List ℕ) (op : Operation) (valid : IsConfigura
   asks =
       let known : nat_lt 256 (256 + clients) ≡ true = lt-ltb 256 (256 + clients) (let l = valid.some_clients in omega arith) in
       let l = operation_short op right in
-      may_seal c 256 asking to_all (omega arith) known (omega arith, right) refl (all_few clients seed) refl (omega arith)
+      may_seal c 256 asking to_all (omega arith) known (omega arith, right) refl (all_few clients seed) no_client refl (omega arith)
 
   is_carried : IsCarried is_ordered_request request
   is_carried =
@@ -162,22 +187,23 @@ module _ (clients : ℕ) (seed : List ℕ) (op : Operation) (valid : IsConfigura
   proposes : MaySeal c (by 0 (PrePrepare 0 1 batch)) (others c 0)
   proposes =
       let l = batch_short in
-      may_seal c 0 (PrePrepare 0 1 batch) (others c 0) (omega arith) refl (omega arith, omega arith, is_batch request is_carried) refl (others_few clients seed 0 (omega arith)) refl (omega arith)
+      may_seal c 0 (PrePrepare 0 1 batch) (others c 0) (omega arith) refl (omega arith, omega arith, is_batch request is_carried) refl (others_few clients seed 0 (omega arith)) (never_own 0 to_all) refl (omega arith)
 
   prepares : (r : ℕ) → r < 4 → MaySeal c (by r (Prepare 0 1 (sha256 batch))) (others c r)
   prepares r below =
       let l = length-sha256 batch in
-      may_seal c r (Prepare 0 1 (sha256 batch)) (others c r) (omega arith) (known r below) (omega arith, omega arith, is_digest batch) refl (others_few clients seed r below) refl (omega arith)
+      may_seal c r (Prepare 0 1 (sha256 batch)) (others c r) (omega arith) (known r below) (omega arith, omega arith, is_digest batch) refl (others_few clients seed r below) (never_own r to_all) refl (omega arith)
 
   commits : (r : ℕ) → r < 4 → MaySeal c (by r (Commit 0 1 (sha256 batch))) (others c r)
   commits r below =
       let l = length-sha256 batch in
-      may_seal c r (Commit 0 1 (sha256 batch)) (others c r) (omega arith) (known r below) (omega arith, omega arith, is_digest batch) refl (others_few clients seed r below) refl (omega arith)
+      may_seal c r (Commit 0 1 (sha256 batch)) (others c r) (omega arith) (known r below) (omega arith, omega arith, is_digest batch) refl (others_few clients seed r below) (never_own r to_all) refl (omega arith)
 
   replies : (r : ℕ) → r < 4 → MaySeal c (by r (Reply 256 1 modes.Ordered 1 (first_answer op))) (256 ∷ [])
   replies r below =
       let a = answer_right op writes in
-      may_seal c r (Reply 256 1 modes.Ordered 1 (first_answer op)) (256 ∷ []) (omega arith) (known r below) (omega arith, omega arith, omega arith, omega arith, a.0) refl client_few refl (omega (arith, a.1))
+      let not_own : Has (λ (p : ℕ). p ≡ r) (256 ∷ []) → ⊥ = elsewhere r below in
+      may_seal c r (Reply 256 1 modes.Ordered 1 (first_answer op)) (256 ∷ []) (omega arith) (known r below) (omega arith, omega arith, omega arith, omega arith, a.0) refl client_few not_own refl (omega (arith, a.1))
 
   abbrev frames : FirstFrames
   frames = record {

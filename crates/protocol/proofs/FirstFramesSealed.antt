@@ -1,5 +1,5 @@
 -- What is sealed is heard.
-use Rattle.std.proofs.Common.{◌≡◌, ℕ, suc, ◌+◌, ◌^◌, ◌<◌, ◌≤◌, inl, inr, Bool, true, false, List, [], ◌∷◌, map, length, Contains, All, AllPairs, Some, refl, ap, ◌∙◌, ◌*◌, arith, ◌||◌, length-append}
+use Rattle.std.proofs.Common.{◌≡◌, ℕ, suc, sym, subst, ◌+◌, ◌^◌, ◌<◌, ◌≤◌, inl, inr, Bool, true, false, List, [], ◌∷◌, map, length, Contains, All, AllPairs, Some, refl, ap, ◌∙◌, ◌*◌, arith, ◌||◌, length-append}
 use Rattle.std.specs.Prelude.{nat_lt, nat_le}
 use Rattle.std.proofs.lemmas.Bool.{and_parts, and_from, ltb-true, lt-ltb}
 use Rattle.std.specs.Int.{w32, to_be_bytes}
@@ -58,6 +58,7 @@ has_contains p (r ∷ rs) (inr h) = let k = has_contains p rs h in (suc k.0, ome
 pub record MaySeal (c : Configuration) (body : Body) (receivers : List ℕ) : Type 0 where
   pub can : IsSealable body receivers
   pub known : sends (members c) body.sender body.message ≡ true
+  pub others : Has (λ r. r ≡ body.sender) receivers → ⊥
   pub parties : Each (λ p. p < 2 ^ 16) receivers
   pub short : length (sealed_bytes c body.sender receivers (body_spelling body)) ≤ frame_limit body.message
 
@@ -86,8 +87,9 @@ module _ (c : Configuration) (body : Body) (receivers : List ℕ) (may : MaySeal
 
   hears : (p : ℕ) → Has (λ r. r ≡ p) receivers → heard c p sealed ≡ Some body
   hears p among =
-      (bytes_are_heard c sealed sealed_are_bytes).heard p
-      ∙ opened_is_heard (members c) p sealed frame (opens p among) (λ signed. absurd (let u = may.can.unsigned in let g : ⊥ = cc in g))
+      let b = bytes_are_heard c sealed sealed_are_bytes in
+      let takes = opened_is_heard (members c) p sealed frame (opens p among) (λ signed. absurd (let u = may.can.unsigned in let g : ⊥ = cc in g)) in
+      (b.others p body).1 (b.all p ∙ takes, λ own. may.others (subst (λ (q : ℕ). Has (λ r. r ≡ q) receivers) (sym own) among))
 
   pub sealed_is_heard : IsFrom c body.sender body.message receivers sealed
   sealed_is_heard = record {
@@ -145,7 +147,7 @@ sender_below c valid p (Meta k level index digests) h = replica_below c valid p 
 sender_below c valid p (Page k index content) h = replica_below c valid p h
 
 pub sealed_frames_are_heard : SealedFramesAreHeard
-sealed_frames_are_heard c valid sender message receivers known right unsigned are short =
+sealed_frames_are_heard c valid sender message receivers known right unsigned are others short =
     sealed_is_heard c (record { sender = sender; message = message }) receivers (record {
       can = record {
         said = record { sender = sender_below c valid sender message known; message = right };
@@ -155,6 +157,7 @@ sealed_frames_are_heard c valid sender message receivers known right unsigned ar
         ascend = ascends_of receivers are.ascend;
       };
       known = known;
+      others = others;
       parties = parties_below c valid receivers are.parties;
       short = short;
     })

@@ -1,20 +1,23 @@
 -- The primary of the first operation is a right replica.
 use Rattle.std.proofs.Common.{◌≡◌, ℕ, ◌<◌, inl, inr, Bool, true, false, List, [], ◌∷◌, refl, sym, ◌∙◌, subst, arith, Some, None}
+use Rattle.std.specs.Prelude.{AllPairs, ⊤}
 use Rattle.std.proofs.lemmas.Bool.{both_ways}
 use Rattle.tuple_codec.specs.Operations.{Operation}
 use Rattle.reply_cache.specs.Replies.{no_replies}
 use Rattle.protocol.specs.Configuration.{Configuration, IsConfiguration}
 use Rattle.wire.specs.declared.terms.Mode.TheVariants as modes
-use Rattle.wire.specs.Messages.{pre_prepare as PrePrepare}
+use Rattle.wire.specs.Messages.{BodyData as Body, pre_prepare as PrePrepare}
+use Rattle.wire.specs.Words.{requests_of}
 use Rattle.protocol.specs.Frames.{heard}
 use Rattle.protocol.specs.Trace.{Entry, Once, Has, Each}
 use Rattle.protocol.specs.Trace.Entry.{Got, Executed, Sent}
 use Rattle.protocol.specs.Certificates.{are_genuine, Committed}
 use Rattle.protocol.specs.State.{Call, call_of, opening, last_time}
 use Rattle.protocol.specs.RightReplica.{first_point, others, HasSeen, MaySend, IsStep}
-use Rattle.protocol.specs.Owed.{IsOfView, BeginsViewWith, HasRequest, IsNumbered, NumbersOnce, Proceeds, IsReplica}
+use Rattle.protocol.specs.Owed.{IsOfView, BeginsViewWith, HasRequest, IsNumbered, AreDifferent, NumbersOnce, Proceeds, IsReplica}
 use Rattle.protocol.specs.Examples.{four}
 use Rattle.protocol.specs.FirstOperation.{FirstFrames, AreFirstFrames}
+use Rattle.protocol.proofs.Options.{some_injective}
 use Rattle.protocol.proofs.FirstReplicasStages.{none, and_of, Stage, first_stage, got, sent, takes_none, stage_request, stage_pre_prepare}
 use Rattle.protocol.proofs.FirstReplicasOwing.{Due, logs_it, committed_full}
 use Rattle.protocol.proofs.FirstReplicasSteps as steps
@@ -161,8 +164,18 @@ module _ (clients : ℕ) (seed : List ℕ) (op : Operation) (batch : List ℕ) (
       go (inl there) = let it = logs_it clients seed batch 0 h1 false none none s1 v there.0 h.0 there.1 in absurd (both_ways false refl it.1)
       go (inr begun) = not_begun v h.0 begun
 
+  -- no request stands twice in a batch that a body proposes
+  abbrev ProposesDifferent : Body → Type 0
+  ProposesDifferent body = elim body.message [ PrePrepare v i b ↦ AllPairs (AreDifferent c) (requests_of b) | _ ↦ ⊤ ]
+
+  one_request : ProposesDifferent (proposes batch)
+  one_request = subst (λ (frames : List (List ℕ)). AllPairs (AreDifferent c) frames) (sym x.requests) (λ i j d less within. absurd (omega arith))
+
   numbers_once : NumbersOnce c 0 h1 (Sent 0 w.pre_prepare)
-  numbers_once v i other claim free client timestamp asked numbered = not_numbered v client timestamp numbered
+  numbers_once v i other claim free = (
+    subst ProposesDifferent (some_injective (proposes batch) (record { sender = 0; message = PrePrepare v i other }) (sym x.proposes.says ∙ claim)) one_request,
+    λ client timestamp asked numbered. not_numbered v client timestamp numbered,
+  )
 
   -- ---- the proposal
 

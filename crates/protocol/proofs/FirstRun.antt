@@ -17,7 +17,7 @@ use Rattle.protocol.specs.Run.{Follows, IsRun}
 use Rattle.protocol.specs.Examples.{four}
 use Rattle.protocol.specs.FirstOperation.{FirstFrames, AreFirstFrames, first_trace, FirstOperationIsRun, FirstOperationIsUnforged}
 use Rattle.protocol.proofs.Options.{some_injective}
-use Rattle.protocol.proofs.Linking.{heard_said}
+use Rattle.protocol.proofs.Linking.{opened_said}
 use Rattle.protocol.proofs.FirstScheduleMoves.{or_cases, is_known, known_correct, Row, Move, moves, row, entry_of, moves_make, is_row}
 use Rattle.protocol.proofs.FirstScheduleMoves.Move.{asks, sends, gets, runs, accepts}
 use Rattle.protocol.proofs.FirstClient
@@ -148,7 +148,7 @@ module _ (clients : ℕ) (seed : List ℕ) (op : Operation) (batch : List ℕ) (
   from_sender : (me n : ℕ) (past : List Move) → was_sent past n ≡ true → IsFromSender configuration me (map entry past) (the n).bytes
   from_sender me n past h heard_body is correct =
       let r = is_row clients seed op batch w x n in
-      let same : body n ≡ heard_body = some_injective (body n) heard_body (sym r.from.says ∙ heard_said configuration me (the n).bytes heard_body is) in
+      let same : body n ≡ heard_body = some_injective (body n) heard_body (sym r.from.says ∙ opened_said configuration me (the n).bytes heard_body is) in
       subst (λ (b : Body). Once (SendsBody b) (map entry past)) same (once_sent n r.from.says past h)
 
   from_senders : (me : ℕ) (past : List Move) (ns : List ℕ) → list_all (was_sent past) ns ≡ true

@@ -17,7 +17,7 @@ use Rattle.protocol.specs.Linear.{Placing, batch_of, is_level, Invokes, Asks}
 use Rattle.quorum.specs.Votes.{give_if}
 use Rattle.protocol.proofs.Temporal.{once_weaker, once_always, once_once, once_in_history, once_in_trace}
 use Rattle.protocol.proofs.Options.{and_then_some, some_injective, given_once, give_if_some}
-use Rattle.protocol.proofs.Linking.{Speaks, heard_said, sent_spoken}
+use Rattle.protocol.proofs.Linking.{Speaks, heard_opened, heard_said, sent_spoken}
 use Rattle.protocol.proofs.Signed.{each_has}
 use Rattle.protocol.proofs.Voting.{correct_replica}
 use Rattle.protocol.proofs.States.{once_append}
@@ -157,7 +157,7 @@ asks_said c xs frame body runs is from h =
         let hears = known q (heard c q frame) refl t.1.1 in
         let each : IsFromSender c q past frame = each_has (IsFromSender c q past) (frames_in bytes) frame (t.0 (correct_replica c q t.1.0)) t.1.2 in
         once_weaker (SendsBody body) (λ past e. (party_of e ≡ body.sender) × Speaks body (history_of body.sender past) e)
-        (sent_spoken body) past (each body hears from)
+        (sent_spoken body) past (each body (heard_opened c q frame body hears).0 from)
     step past (Sent a b) t = absurd t.1
     step past (Invoke a b d) t = absurd t.1
     step past (Tick a) t = absurd t.1

@@ -25,7 +25,7 @@ use Rattle.protocol.specs.Examples.{four}
 use Rattle.protocol.specs.ExamplesOfChanges.{beginning_change, ChangesInBeginning, ViewChangesAreJoined}
 use Rattle.protocol.proofs.FirstBatch.{Plain, Still, still}
 use Rattle.protocol.proofs.FirstReplicasStages.{takes_none}
-use Rattle.protocol.proofs.Linking.{heard_said, signed_heard}
+use Rattle.protocol.proofs.Linking.{opened_said, signed_opened, signed_heard}
 use Rattle.protocol.proofs.Options.{some_injective}
 use Rattle.protocol.proofs.JoiningChangesOwing.{IsOfChange, Due, owes, none_logged, none_checked, same_checkpoints, logs_nothing, moves_nothing}
 
@@ -77,35 +77,35 @@ module _ (clients : ℕ) (seed : List ℕ) (me one other : ℕ) (first second ow
   abbrev now : List Entry
   now = Sent me own ∷ h2
 
-  module _ (differ : one ≢ other) (x : ChangesInBeginning c one first) (y : ChangesInBeginning c other second) (z : ChangesInBeginning c me own) where
-    hears : (s : ℕ) (bytes : List ℕ) → ChangesInBeginning c s bytes → heard c me bytes ≡ Some (changing s)
-    hears s bytes is = signed_heard c bytes (changing s) is me
+  module _ (differ : one ≢ other) (first_other : one ≢ me) (second_other : other ≢ me) (x : ChangesInBeginning c one first) (y : ChangesInBeginning c other second) (z : ChangesInBeginning c me own) where
+    hears : (s : ℕ) (bytes : List ℕ) → s ≢ me → ChangesInBeginning c s bytes → heard c me bytes ≡ Some (changing s)
+    hears s bytes other is = signed_heard c bytes (changing s) is me other
 
     says : said own ≡ Some (changing me)
-    says = heard_said c me own (changing me) (hears me own z)
+    says = opened_said c me own (changing me) (signed_opened c own (changing me) z me)
 
     -- a view change that is got changes no view and no mark
-    plain : (past : List Entry) (s : ℕ) (bytes : List ℕ) → ChangesInBeginning c s bytes → Plain c past (Got me bytes)
-    plain past s bytes is = record {
-      view = ap (option_and_then (new_view_from c)) is;
+    plain : (past : List Entry) (s : ℕ) (bytes : List ℕ) → s ≢ me → ChangesInBeginning c s bytes → Plain c past (Got me bytes)
+    plain past s bytes other is = record {
+      view = ap (option_and_then (new_view_from c)) (hears s bytes other is);
       change = refl;
-      checkpoint = ap (option_and_then checkpoint_from) (hears s bytes is);
+      checkpoint = ap (option_and_then checkpoint_from) (hears s bytes other is);
       installed = refl;
     }
 
     still1 : Still c me h1
-    still1 = still c me h1 (plain [] one first x, tt)
+    still1 = still c me h1 (plain [] one first first_other x, tt)
 
     still2 : Still c me h2
-    still2 = still c me h2 (plain h1 other second y, (plain [] one first x, tt))
+    still2 = still c me h2 (plain h1 other second second_other y, (plain [] one first first_other x, tt))
 
     -- ---- nothing is logged
 
     logs1 : (v i : ℕ) → logged c me h1 v i ≡ None
-    logs1 v i = logs_nothing c me [] (Got me first) (changing one) (hears one first x) tt (takes_none clients seed [] me [] (Got me first) (plain [] one first x)) v i ∙ none_logged c me v i
+    logs1 v i = logs_nothing c me [] (Got me first) (changing one) (hears one first first_other x) tt (takes_none clients seed [] me [] (Got me first) (plain [] one first first_other x)) v i ∙ none_logged c me v i
 
     logs2 : (v i : ℕ) → logged c me h2 v i ≡ None
-    logs2 v i = logs_nothing c me h1 (Got me second) (changing other) (hears other second y) tt (takes_none clients seed [] me h1 (Got me second) (plain h1 other second y)) v i ∙ logs1 v i
+    logs2 v i = logs_nothing c me h1 (Got me second) (changing other) (hears other second second_other y) tt (takes_none clients seed [] me h1 (Got me second) (plain h1 other second second_other y)) v i ∙ logs1 v i
 
     takes_own : taken c h2 (Sent me own) ≡ None
     takes_own = ap (option_and_then (λ (new : NewViewData). Rattle.quorum.specs.Votes.give_if (is_later (view c h2) (target h2) new) new)) (ap (option_and_then (new_view_from c)) says)
@@ -117,10 +117,10 @@ module _ (clients : ℕ) (seed : List ℕ) (me one other : ℕ) (first second ow
     unprepared past none v i batch p = absurd (let bad : None ≡ Some batch = sym (none v i) ∙ p.logged in cc)
 
     checks1 : (s : ℕ) → checkpoints_of c h1 s ≡ []
-    checks1 s = same_checkpoints c [] (Got me first) (changing one) (hears one first x) tt s ∙ none_checked c s
+    checks1 s = same_checkpoints c [] (Got me first) (changing one) (hears one first first_other x) tt s ∙ none_checked c s
 
     checks2 : (s : ℕ) → checkpoints_of c h2 s ≡ []
-    checks2 s = same_checkpoints c h1 (Got me second) (changing other) (hears other second y) tt s ∙ checks1 s
+    checks2 s = same_checkpoints c h1 (Got me second) (changing other) (hears other second second_other y) tt s ∙ checks1 s
 
     checks3 : (s : ℕ) → checkpoints_of c now s ≡ []
     checks3 s = same_checkpoints c h2 (Sent me own) (changing me) says tt s ∙ checks2 s
@@ -145,13 +145,13 @@ module _ (clients : ℕ) (seed : List ℕ) (me one other : ℕ) (first second ow
     none_executed k (inr h) = h
 
     numbers_none : NumbersOnce c me h2 (Sent me own)
-    numbers_none v i batch is fresh client timestamp has numbered =
-        subst (λ (b : Body). IsOfChange b.message) (some_injective (changing me) (record { sender = me; message = PrePrepare v i batch }) (sym says ∙ is)) tt
+    numbers_none v i batch is fresh = absurd (
+        subst (λ (b : Body). IsOfChange b.message) (some_injective (changing me) (record { sender = me; message = PrePrepare v i batch }) (sym says ∙ is)) tt)
 
     due1 : Due c me [] first [] h1
     due1 = record {
       body = changing one;
-      hears = hears one first x;
+      hears = hears one first first_other x;
       of_change = tt;
       checkpoints_are = checks1;
       unprepared = unprepared h1 logs1;
@@ -164,14 +164,14 @@ module _ (clients : ℕ) (seed : List ℕ) (me one other : ℕ) (first second ow
     due2 : Due c me h1 second (Sent me own ∷ []) now
     due2 = record {
       body = changing other;
-      hears = hears other second y;
+      hears = hears other second second_other y;
       of_change = tt;
       checkpoints_are = checks3;
       unprepared = unprepared now logs3;
       numbers_once = (numbers_none, tt);
       prepares = λ v i batch none some active backup. absurd (let bad : None ≡ Some batch = sym (logs3 v i) ∙ some in cc);
       none_executed = none_executed;
-      dropped = λ drops. absurd (drops (changing other) (hears other second y) counts);
+      dropped = λ drops. absurd (drops (changing other) (hears other second second_other y) counts);
     }
 
     owes1 : Owes c me [] (Got me first) [] h1 first_point first_point
@@ -218,10 +218,10 @@ module _ (clients : ℕ) (seed : List ℕ) (me one other : ℕ) (first second ow
     }
 
     gets1 : IsStep c me [] first_point (Got me first) first_point
-    gets1 = record { own = refl; may = tt; moves = moves_nothing c me first (changing one) (hears one first x) tt }
+    gets1 = record { own = refl; may = tt; moves = moves_nothing c me first (changing one) (hears one first first_other x) tt }
 
     gets2 : IsStep c me h1 first_point (Got me second) first_point
-    gets2 = record { own = refl; may = tt; moves = moves_nothing c me second (changing other) (hears other second y) tt }
+    gets2 = record { own = refl; may = tt; moves = moves_nothing c me second (changing other) (hears other second second_other y) tt }
 
     sends : IsStep c me h2 first_point (Sent me own) first_point
     sends = record { own = refl; may = may; moves = refl }
@@ -230,4 +230,5 @@ module _ (clients : ℕ) (seed : List ℕ) (me one other : ℕ) (first second ow
     is_right = inl (first_point, (first_point, sends, (first_point, gets2, (owes2, (first_point, gets1, (owes1, (refl, refl)))))))
 
 pub view_changes_are_joined : ViewChangesAreJoined
-view_changes_are_joined clients seed me one other first second own differ x y z = is_right clients seed me one other first second own differ x y z
+view_changes_are_joined clients seed me one other first second own differ first_other second_other x y z =
+    is_right clients seed me one other first second own differ first_other second_other x y z

@@ -5,7 +5,7 @@ use Rattle.std.specs.Option.{option_map_or}
 use Rattle.std.proofs.lemmas.Bool.{and_parts, ltb-true, leb-true}
 use Rattle.protocol.specs.Configuration.{Configuration, span, primary, is_number}
 use Rattle.wire.specs.Messages.{BodyData as Body, MessageData as Message, NewViewData, ViewChangeData, ClaimData as Claim, new_view as NewView}
-use Rattle.protocol.specs.Frames.{said, signed_body}
+use Rattle.protocol.specs.Frames.{said, heard}
 use Rattle.protocol.specs.Trace.{Entry}
 use Rattle.protocol.specs.Trace.Entry.{Invoke, Got, Tick, Executed, Installed, Sent, Accepted}
 use Rattle.protocol.specs.Certificates.{view, view_after, target, taken, new_view_in, new_view_from, low, batch_begun, is_later}
@@ -175,7 +175,7 @@ proposes c v i new batch h = go ((new.view == v) && nat_lt new.start i) refl h
     go false e h = absurd cc
 
 pub selected_in : (c : Configuration) (e : Entry) (new : NewViewData) → new_view_in c e ≡ Some new → may_select c new ≡ true
-selected_in c (Got p bytes) new h = let r = and_then_some (new_view_from c) (signed_body c bytes) new h in (begins c r.0 new r.2).selected
+selected_in c (Got p bytes) new h = let r = and_then_some (new_view_from c) (heard c p bytes) new h in (begins c r.0 new r.2).selected
 selected_in c (Sent p bytes) new h = let r = and_then_some (new_view_from c) (said bytes) new h in (begins c r.0 new r.2).selected
 selected_in c (Invoke x y z) new h = absurd cc
 selected_in c (Tick x) new h = absurd cc

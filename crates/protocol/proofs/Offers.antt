@@ -5,7 +5,7 @@ use Rattle.std.specs.Prelude.{option_and_then, ◌==◌, nat_lt, nat_le}
 use Rattle.std.proofs.lemmas.Bool.{and_parts, and_cases, ltb-true, ltb-false, leb-false}
 use Rattle.protocol.specs.Configuration.{Configuration, span, primary, is_number}
 use Rattle.wire.specs.Messages.{BodyData as Body, MessageData as Message, NewViewData, pre_prepare as PrePrepare, new_view as NewView}
-use Rattle.protocol.specs.Frames.{said, signed_body}
+use Rattle.protocol.specs.Frames.{said, heard}
 use Rattle.protocol.specs.Trace.{Entry, Once, Always}
 use Rattle.protocol.specs.Trace.Entry.{Invoke, Got, Tick, Executed, Installed, Sent, Accepted}
 use Rattle.quorum.specs.Votes.{or_else, give_if}
@@ -14,7 +14,6 @@ use Rattle.protocol.specs.RightReplica.{Point, MaySay, MayPrePrepare, SentBefore
 use Rattle.protocol.proofs.Temporal.{once_weaker, once_always, once_stays_from}
 use Rattle.protocol.proofs.Options.{and_then_some, give_if_some, or_else_cases, or_else_first, given_once, given_stays, some_injective}
 use Rattle.protocol.proofs.Voting.{RightAt, Brings, logged_stays}
-use Rattle.protocol.proofs.Linking.{signed_heard}
 use Rattle.protocol.proofs.Marks.{view_grows, low_grows, takes, begins, few_batches, selected_in, proposes}
 
 -- the batch that a body offers for the view and number, and the batch that an entry does
@@ -52,9 +51,9 @@ begun_offer v i new batch sender message is h = rw is h
 
 taken_offer : (c : Configuration) (me v i : ℕ) (past : List Entry) (batch : List ℕ) (e : Entry) (new : NewViewData) → new_view_in c e ≡ Some new → batch_begun v i new ≡ Some batch → Offers c me v i batch past e
 taken_offer c me v i past batch (Got p bytes) new h b =
-    let r = and_then_some (new_view_from c) (signed_body c bytes) new h in
+    let r = and_then_some (new_view_from c) (heard c p bytes) new h in
     let g = begins c r.0 new r.2 in
-    record { body = r.0; brings = signed_heard c bytes r.0 r.1 p; sender_is = g.sender_is ∙ ap (primary c) (proposes c v i new batch b).view_is; offers = begun_offer v i new batch r.0.sender r.0.message g.message_is b }
+    record { body = r.0; brings = r.1; sender_is = g.sender_is ∙ ap (primary c) (proposes c v i new batch b).view_is; offers = begun_offer v i new batch r.0.sender r.0.message g.message_is b }
 taken_offer c me v i past batch (Sent p bytes) new h b =
     let r = and_then_some (new_view_from c) (said bytes) new h in
     let g = begins c r.0 new r.2 in

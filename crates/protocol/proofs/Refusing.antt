@@ -1,9 +1,8 @@
 -- The definitions refuse what wrong bodies would do.
 use Rattle.std.specs.List.{list_all, range_with_len}
-use Rattle.std.proofs.Common.{drop, ◌≢◌, ◌^◌, ◌≡◌, ℕ, zero, suc, max, not, filter, ◌+◌, ◌-◌, ◌*◌, ◌≤◌, ◌<◌, ◌⊎◌, inl, inr, Bool, true, false, cond, List, [], bytes_eq, None, ◌∷◌, length, slice_get, refl, sym, ap, ◌∙◌, subst, arith, ◌&&◌, ◌||◌, Option, Some, eqb-true, eq-eqb}
+use Rattle.std.proofs.Common.{drop, ◌≢◌, ◌^◌, ◌≡◌, ℕ, zero, suc, not, filter, ◌+◌, ◌-◌, ◌*◌, ◌≤◌, ◌<◌, ◌⊎◌, inl, inr, Bool, true, false, cond, List, [], bytes_eq, None, ◌∷◌, length, slice_get, refl, sym, ap, ◌∙◌, subst, arith, ◌&&◌, ◌||◌, Option, Some, eqb-true, eq-eqb}
 use Rattle.std.specs.Prelude.{◌==◌, nat_le, nat_lt, is_some, All, ⊤}
-use Rattle.std.specs.Option.{option_map_or}
-use Rattle.std.proofs.lemmas.Bool.{eqb-false, ltb-false, and_parts, or_cases, leb-true, ltb-true}
+use Rattle.std.proofs.lemmas.Bool.{eqb-false, and_parts, or_cases, leb-true, ltb-true}
 use Rattle.std.proofs.lemmas.Slice.Eq.{bytes_eq-Decides}
 use Rattle.tuple_codec.specs.Operations.{Outcome}
 use Rattle.tuple_codec.specs.Spelling.{outcome_spelling}
@@ -11,7 +10,7 @@ use Rattle.sha2.specs.Sha256.{sha256}
 use Rattle.quorum.specs.Quorum.{count_below}
 use Rattle.protocol.specs.Configuration.{Configuration, replicas, span, is_number}
 use Rattle.wire.specs.declared.terms.Mode.TheVariants as modes
-use Rattle.wire.specs.Messages.{BodyData as Body, FrameData as Frame, ProofData as Proof, MacData, macs, signature, ViewChangeData, NewViewData, ClaimData as Claim, pre_prepare as PrePrepare, prepare as Prepare, commit as Commit, checkpoint as Checkpoint, view_change as ViewChange, new_view as NewView, reply as Reply, meta as Meta, page as Page}
+use Rattle.wire.specs.Messages.{fetch as Fetch, BodyData as Body, FrameData as Frame, ProofData as Proof, MacData, macs, signature, ViewChangeData, NewViewData, ClaimData as Claim, pre_prepare as PrePrepare, prepare as Prepare, commit as Commit, checkpoint as Checkpoint, view_change as ViewChange, new_view as NewView, reply as Reply, meta as Meta, page as Page}
 use Rattle.authenticator.specs.Authentic.{mac_of}
 use Rattle.signing.specs.Heard.{has_signature}
 use Rattle.protocol.specs.Frames.{frame_of, said, heard, mode_of}
@@ -21,22 +20,22 @@ use Rattle.protocol.specs.Selection.{is_quorum, is_weak_quorum, passes_by, count
 use Rattle.protocol.specs.Certificates.{target, view, is_active_in, is_later, new_view_in, logged, low}
 use Rattle.reply_cache.specs.Replies.{Kept}
 use Rattle.protocol.specs.State.{State, Ran, opening, kept_of, page_text}
-use Rattle.protocol.specs.RightReplica.{MayNewView, MayMeta, MayPage, kept_states, digests_at, IsAddressed, Point, Leaves, SafeReplica, May, Moves, MaySay, MaySend, MayCheckpoint, MayPrepare, MayCommit, MayPrePrepare, MayReply, MayReplyRead, MayViewChange, SendsBytes, reply_of, GetsPage}
+use Rattle.protocol.specs.RightReplica.{MayNewView, MayFetch, MayMeta, MayPage, kept_states, digests_at, IsAddressed, Point, Leaves, SafeReplica, May, Moves, MaySay, MaySend, MayCheckpoint, MayPrepare, MayCommit, MayPrePrepare, MayReply, MayReplyRead, MayViewChange, SendsBytes, reply_of, GetsPage}
 use Rattle.protocol.specs.RightClient.{SafeClient, Vote, latest, is_alike, count_alike}
-use Rattle.protocol.specs.Refused.{SealsWell, SignsWell, PrePreparesAsPrimary, PrePreparesInMarks, NoPrePrepareAfterChange, CheckpointsMultiples, BeginsAsPrimary, ReadsWhatWasAsked, DigestsToWhoAsked, PagesToWhoAsked, IsReplyOf, ExecutesWhatIsCommitted, GivesKeptDigests, GivesKeptPages, GivesAskedDigests, GivesAskedPages, RepliesWhatRan, DropsUnaskedDigests, DropsUnaskedPages, ProposesAuthentic, ReadsNewest, NoChangeWhileActive, DropsReplies, DropsOwnChange, RepliesToItsClient, CommitsToAll, NoExecution, newest_number, SoManyHave, HasFrom, SaysNothingAgainst, SaysForIt, SaysNothing, RepliesAfterExecution, NoCommitAfterChange, NoPrepareAfterChange, NoEarlyCheckpoint, OnePrePrepare, NoPrepareByPrimary, ExecutesNext, KeepsPrepared, InstallsWhatItHas, InstallsWithHeader, TakesWellSelected, TakesNoLower, AcceptsAtQuorum}
+use Rattle.protocol.specs.Refused.{SealsWell, SignsWell, PrePreparesAsPrimary, PrePreparesInMarks, NoPrePrepareAfterChange, CheckpointsMultiples, BeginsAsPrimary, ReadsWhatWasAsked, DigestsToWhoAsked, PagesToWhoAsked, IsReplyOf, ExecutesWhatIsCommitted, GivesKeptDigests, GivesKeptPages, GivesAskedDigests, GivesAskedPages, RepliesWhatRan, DropsUnaskedDigests, DropsUnaskedPages, ProposesAuthentic, ReadsNewest, NoChangeWhileActive, DropsReplies, DropsOwnFrames, FetchesWhatIsWanted, FetchesAbove, RepliesToItsClient, CommitsToAll, NoExecution, newest_number, SoManyHave, HasFrom, SaysNothingAgainst, SaysForIt, SaysNothing, RepliesAfterExecution, NoCommitAfterChange, NoPrepareAfterChange, NoEarlyCheckpoint, OnePrePrepare, NoPrepareByPrimary, ExecutesNext, KeepsPrepared, InstallsWhatItHas, InstallsWithHeader, TakesWellSelected, TakesNoLower, AcceptsAtQuorum}
 use Rattle.wire.specs.Words.{requests_of}
-use Rattle.protocol.specs.Owed.{IsSaying, Owes, Counts, IsReplica, change_taken, latest_change}
+use Rattle.protocol.specs.Owed.{IsSaying, Owes, Counts, IsReplica}
 use Rattle.protocol.proofs.Temporal.{once_weaker, once_stays_from}
 use Rattle.protocol.proofs.Options.{and_then_some, give_if_some, some_injective}
 use Rattle.protocol.proofs.Voting.{right_always, logged_stays}
-use Rattle.protocol.proofs.Marks.{Selects, selects, selected_in, takes, view_grows}
+use Rattle.protocol.proofs.Marks.{Selects, selects, selected_in, takes}
 use Rattle.protocol.proofs.Lists.{has_some, every_has, passes_change, change_there, has_of_any, largest_of-has, stands_at, some_below}
 use Rattle.protocol.proofs.Reading.{latest_heard}
 use Rattle.protocol.proofs.Ordering.{latest_ordered}
 use Rattle.protocol.proofs.Legality.{executed_number}
 use Rattle.protocol.proofs.Changes.{change_target, target_grows}
 use Rattle.protocol.proofs.Offers.{offer_in, offers_kept, marks_above}
-use Rattle.protocol.proofs.Linking.{Speaks}
+use Rattle.protocol.proofs.Linking.{heard_opened, Speaks}
 use Rattle.protocol.proofs.Leaving.{none_kept}
 use Rattle.protocol.proofs.Paging.{header_at}
 use Rattle.space.specs.Pages.{header_text}
@@ -356,40 +355,27 @@ pub drops_unasked_pages : DropsUnaskedPages
 drops_unasked_pages c me s k index text bytes later past hears other h =
     not_dropped c me bytes later past (record { sender = s; message = Page k index text }) hears h (λ point counts. other counts.0)
 
-pub drops_own_change : DropsOwnChange
-drops_own_change c me vc bytes later past hears signed before h =
-    not_dropped c me bytes later past (record { sender = me; message = ViewChange vc }) hears h (λ point k. let newer = k.2 in late k.0 k.1 (omega arith))
+pub drops_own_frames : DropsOwnFrames
+drops_own_frames c me body bytes later past takes own h =
+    let none : Sent me later ∷ [] ≡ [] = (owed_here c me bytes later past h).owes.dropped bytes refl (λ other hears counts.
+    let o = heard_opened c me bytes other hears in
+    absurd (o.1 (ap (λ (b : Body). b.sender) (some_injective other body (sym o.0 ∙ takes)) ∙ own))) in
+    absurd cc
+
+pub fetches_what_is_wanted : FetchesWhatIsWanted
+fetches_what_is_wanted c me k index level bytes past says none right =
+    go (says_may c me bytes (record { sender = me; message = Fetch k level index }) past right says)
   where
-    taken_or : is_within c vc ≡ true → (v : ℕ) → vc.view ≤ max (change_taken c v me bytes) v
-    taken_or within v =
-        let is : change_taken c v me bytes ≡ cond ((me == me) && nat_lt v vc.view && is_within c vc) vc.view 0
-        = ap (λ (o : Option (ℕ × ViewChangeData)). option_map_or (λ (x : ℕ × ViewChangeData). cond ((x.0 == me) && nat_lt v x.1.view && is_within c x.1) x.1.view 0) o 0) signed in
-        let r = go (me == me) (nat_lt v vc.view) (is_within c vc) (eq-eqb me me refl) within (λ k. ltb-false v vc.view k) in
-        subst (λ (n : ℕ). vc.view ≤ max n v) (sym is) r
-      where
-        go : (a b d : Bool) → a ≡ true → d ≡ true → (b ≡ false → vc.view ≤ v) → vc.view ≤ max (cond (a && b && d) vc.view 0) v
-        go true true true ea ed f = omega arith
-        go true false true ea ed f = let l = f refl in omega arith
-        go true b false ea ed f = absurd cc
-        go false b d ea ed f = absurd cc
+    go : MayFetch c past right.1.0 k → ⊥
+    go (root, (above, inl quorum)) = (none root).0 quorum
+    go (root, (above, inr starts)) = (none root).1 starts
 
-    counted : is_within c vc ≡ true → (x : List Entry) (e : Entry) → SendsBytes bytes x e → vc.view ≤ max (latest_change c (e ∷ x) me) (view c (e ∷ x))
-    counted within x (Sent p sent) t =
-        let r : vc.view ≤ max (change_taken c (view c x) me sent) (view c x) = subst (λ (ys : List ℕ). vc.view ≤ max (change_taken c (view c x) me ys) (view c x)) (sym t) (taken_or within (view c x)) in
-        let grows = view_grows c (Sent p sent) x in
-        omega arith
-    counted within x (Invoke a b d) t = absurd t
-    counted within x (Got a b) t = absurd t
-    counted within x (Tick a) t = absurd t
-    counted within x (Executed a b d) t = absurd t
-    counted within x (Installed a b d) t = absurd t
-    counted within x (Accepted a b d) t = absurd t
-
-    late : view c past < vc.view → is_within c vc ≡ true → latest_change c past me < vc.view → ⊥
-    late above within newer =
-        let a = once_stays_from (λ x. vc.view ≤ max (latest_change c x me) (view c x)) (λ e x k. let grows = view_grows c e x in omega arith) past
-        (once_weaker (SendsBytes bytes) (λ x e. vc.view ≤ max (latest_change c (e ∷ x) me) (view c (e ∷ x))) (counted within) past before) in
-        omega arith
+pub fetches_above : FetchesAbove
+fetches_above c me k index level bytes past says below right =
+    let m : MayFetch c past right.1.0 k = says_may c me bytes (record { sender = me; message = Fetch k level index }) past right says in
+    let above : right.1.0.state.number < k = m.1.0 in
+    let number = newest_state c me past right.1.0 right.1.1 in
+    absurd (omega arith)
 
 -- ---- whom a frame is for
 

@@ -18,8 +18,8 @@ use Rattle.protocol.specs.Selection.{is_within}
 use Rattle.protocol.specs.Certificates.{view, low, is_active_in, is_in_marks, batch_from, are_genuine, logged, prepare_from, commit_from, prepare_of, commit_of, vote_in, checkpoint_from, checkpoint_in, insert_checkpoint, with_checkpoint, checkpoints_of}
 use Rattle.reply_cache.specs.Replies.{Kept}
 use Rattle.protocol.specs.State.{State, Call, kept_of, last_time}
-use Rattle.protocol.specs.RightReplica.{Point, Leaves, kept_states}
-use Rattle.protocol.specs.Owed.{Owes, Counts, IsReplica, IsNoOlder, IsRootWanted, change_taken, latest_change, has_number}
+use Rattle.protocol.specs.RightReplica.{Point, Leaves, kept_states, IsRootWanted}
+use Rattle.protocol.specs.Owed.{Owes, Counts, IsReplica, IsNoOlder, change_taken, latest_change, has_number}
 use Rattle.protocol.specs.RefusedChanges.{Answers, GotChange, IsNoRoot, DropsWrites, DropsRequestsOfReplicas, DropsOldRequests, DropsPassedRequests, DropsPrePreparesOfBackups, DropsPrePreparesWhileInactive, DropsPrePreparesOutsideMarks, DropsSecondPrePrepares, DropsPreparesOfPrimaries, DropsPreparesWhileInactive, DropsSecondPrepares, DropsCommitsWhileInactive, DropsSecondCommits, DropsLowCheckpoints, DropsCheckpointsOfNoNumber, DropsSecondCheckpoints, DropsPassedCheckpoints, DropsLowChanges, DropsUnboundChanges, DropsPassedChanges, DropsNewViews, DropsFetches, DropsLowDigests, DropsLowPages, DropsOtherRoots, DropsOtherDigests, DropsOtherPages}
 use Rattle.protocol.proofs.Temporal.{once_weaker, once_stays_from}
 use Rattle.protocol.proofs.Options.{give_if_some, some_injective}

@@ -1,5 +1,6 @@
 -- The definitions refuse a correct replica that goes on and leaves undone what an event owes.
 use Rattle.std.proofs.Common.{◌≡◌, ℕ, suc, ◌+◌, ◌≤◌, arith, ◌<◌, ◌⊎◌, inl, inr, Bool, true, false, List, [], ◌∷◌, ◌++◌, reverse, refl, sym, ap, subst}
+use Rattle.std.specs.Prelude.{AllPairs, Some, None}
 use Rattle.std.proofs.lemmas.List.{reverse-reverse}
 use mathlib.Core.List.{reverse_aux}
 use Rattle.protocol.specs.Configuration.{Configuration}
@@ -7,12 +8,14 @@ use Rattle.protocol.specs.Trace.{Entry, is_output, Once, Has, AreOutputs, either
 use Rattle.protocol.specs.Trace.Entry.{Invoke, Got, Tick, Executed, Installed, Sent, Accepted}
 use Rattle.protocol.specs.State.{State, root_of}
 use Rattle.protocol.specs.RightReplica.{Point, Leaves, Executes}
-use Rattle.wire.specs.Messages.{checkpoint as Checkpoint, reply as Reply}
+use Rattle.wire.specs.Words.{requests_of}
+use Rattle.protocol.specs.Frames.{said}
+use Rattle.wire.specs.Messages.{pre_prepare as PrePrepare, checkpoint as Checkpoint, reply as Reply}
 use Rattle.wire.specs.declared.terms.Mode.TheVariants as modes
 use Rattle.tuple_codec.specs.Operations.{Outcome}
-use Rattle.protocol.specs.Certificates.{Committed}
-use Rattle.protocol.specs.Owed.{AtOutputs, NumbersOnce, Owes, Proceeds, IsReplica, Gives}
-use Rattle.protocol.specs.Refused.{GoesOn, NumbersNoneTwice, AnswersReads, AnswersDigestFetches, AnswersPageFetches, AnswersAgain, AnswersRan, PreparesLogged, CommitsPrepared, ExecutesCommitted, NumbersWaiting, FetchesAhead, SendsCheckpoints}
+use Rattle.protocol.specs.Certificates.{logged, Committed}
+use Rattle.protocol.specs.Owed.{AtOutputs, HasRequest, IsNumbered, AreDifferent, NumbersOnce, Owes, Proceeds, IsReplica, Gives}
+use Rattle.protocol.specs.Refused.{GoesOn, NumbersNoneTwice, NumbersNoneTogether, AnswersReads, AnswersDigestFetches, AnswersPageFetches, AnswersAgain, AnswersRan, PreparesLogged, CommitsPrepared, ExecutesCommitted, NumbersWaiting, FetchesAhead, SendsCheckpoints}
 use Rattle.protocol.proofs.Reacting.{one_of, proceeds_leaves}
 use Rattle.protocol.proofs.Refusing.{newest_state}
 
@@ -168,12 +171,23 @@ behind_older : (P : List Entry → Entry → Type 0) (past older rest : List Ent
 behind_older P past [] rest h = h
 behind_older P past (x ∷ older) rest h = (behind_older P past older (x ∷ rest) h).1
 
-pub numbers_none_twice : NumbersNoneTwice
-numbers_none_twice c me v i client timestamp batch bytes input newer older past says none has numbered goes =
+-- a pre-prepare of a new number keeps both clauses
+numbers_at : (c : Configuration) (me v i : ℕ) (batch bytes : List ℕ) (input : Entry) (newer older past : List Entry) → said bytes ≡ Some (record { sender = me; message = PrePrepare v i batch })
+    → logged c me (older ++ input ∷ past) v i ≡ None → GoesOn c me (newer ++ Sent me bytes ∷ older) input past
+    → AllPairs (AreDifferent c) (requests_of batch) × ((client timestamp : ℕ) → HasRequest c client timestamp batch → IsNumbered c me (older ++ input ∷ past) v client timestamp → ⊥)
+numbers_at c me v i batch bytes input newer older past says none goes =
     let e = event_of c me (newer ++ Sent me bytes ∷ older) input past goes in
     let all = subst (λ (xs : List Entry). AtOutputs (NumbersOnce c me) (input ∷ past) xs) (reversed_append newer (Sent me bytes ∷ older) []) e.owes.numbers_once in
     let at = behind_older (NumbersOnce c me) (input ∷ past) older (Sent me bytes ∷ reverse newer) all in
-    at.0 v i batch says none client timestamp has numbered
+    at.0 v i batch says none
+
+pub numbers_none_twice : NumbersNoneTwice
+numbers_none_twice c me v i client timestamp batch bytes input newer older past says none has numbered goes =
+    (numbers_at c me v i batch bytes input newer older past says none goes).1 client timestamp has numbered
+
+pub numbers_none_together : NumbersNoneTogether
+numbers_none_together c me v i one other call twin batch bytes input newer older past says none before within is same client time goes =
+    (numbers_at c me v i batch bytes input newer older past says none goes).0 one other [] before within call twin is same client time
 
 pub fetches_ahead : FetchesAhead
 fetches_ahead c me k root input outputs past quorum above newer goes =

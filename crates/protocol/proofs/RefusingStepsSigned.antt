@@ -136,6 +136,6 @@ signed_frames_are_heard c replica leaf message valid right within may kind short
       has_signature = refl;
       is_sealed = (verifies-Decides (public_key seed) text (signature_of seed leaf text)).1 verifies;
       is_for = for_others c replica (signature_of seed leaf text) right;
-      is_heard = λ p. (bytes_are_heard c bytes are).heard p ∙ signed_is_heard (members c) p bytes body told;
+      is_heard = λ p other. ((bytes_are_heard c bytes are).others p body).1 ((bytes_are_heard c bytes are).all p ∙ signed_is_heard (members c) p bytes body told, other);
       is_told = (bytes_are_heard c bytes are).signed ∙ told;
     }

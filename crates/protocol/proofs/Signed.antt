@@ -4,7 +4,7 @@ use Rattle.std.specs.Prelude.{◌==◌, ⊤}
 use Rattle.protocol.specs.Configuration.{Configuration, is_correct, is_correct_replica}
 use Rattle.wire.specs.Messages.{BodyData as Body, MessageData as Message, NewViewData, ViewChangeData, view_change as ViewChange, new_view as NewView}
 use Rattle.wire.specs.Words.{carried, requests_of_all}
-use Rattle.protocol.specs.Frames.{said, heard, signed_body}
+use Rattle.protocol.specs.Frames.{said, opened, heard, signed_body}
 use Rattle.protocol.specs.Trace.{Entry, party_of, history_of, Once, Always, SendsBody, IsFromSender, IsUnforgedAt, Unforged, frames_in, carried_by, Each, Has}
 use Rattle.protocol.specs.Trace.Entry.{Invoke, Got, Tick, Executed, Installed, Sent, Accepted}
 use Rattle.protocol.specs.Certificates.{new_view_in, new_view_from, taken}
@@ -13,7 +13,7 @@ use Rattle.protocol.specs.RightReplica.{HasSeen}
 use Rattle.protocol.specs.Laws.{AreReplicasSafe, Takes}
 use Rattle.protocol.proofs.Temporal.{once_weaker, once_in_history, always_sees, always_in_history}
 use Rattle.protocol.proofs.Options.{and_then_some, some_injective}
-use Rattle.protocol.proofs.Linking.{Speaks, signed_heard, heard_said, sent_spoken}
+use Rattle.protocol.proofs.Linking.{Speaks, opened_said, signed_opened, heard_said, sent_spoken}
 use Rattle.protocol.proofs.Voting.{RightAt, right_always, correct_replica, speaks_as_itself}
 use Rattle.protocol.proofs.Marks.{takes, begins}
 
@@ -46,10 +46,10 @@ gots_said c trace q unforged correct =
     step : (past : List Entry) (e : Entry) → IsUnforgedAt c past e → ((R : List Entry → Entry → Type 0) → Once R past → Once R trace) → party_of e ≡ q → GotsSaid c trace e
     step past (Got p whole) u emb own = λ bytes has body signed from.
         let mine : is_correct c p ≡ true = rw own correct in
-        let hears : heard c p bytes ≡ Some body = signed_heard c bytes body signed p in
+        let takes : opened c p bytes ≡ Some body = signed_opened c bytes body signed p in
         let frames : Each (IsFromSender c p past) (frames_in whole) = u mine in
         let one : IsFromSender c p past bytes = each_has (IsFromSender c p past) (frames_in whole) bytes frames has in
-        let sends = one body hears (correct_replica c body.sender from) in
+        let sends = one body takes (correct_replica c body.sender from) in
         once_in_history (Speaks body) body.sender trace
         (once_weaker (SendsBody body) (λ past e. (party_of e ≡ body.sender) × Speaks body (history_of body.sender past) e)
         (sent_spoken body) trace (emb (SendsBody body) sends))
@@ -66,8 +66,7 @@ seen_was_said c trace q [] emb right gots bytes h = absurd h
 seen_was_said c trace q (e ∷ past) emb right gots bytes (inr h) = seen_was_said c trace q past (λ R k. emb R (inr k)) right.1 gots.1 bytes h
 seen_was_said c trace q (Got p whole ∷ past) emb right gots bytes (inl h) = gots.0 bytes h
 seen_was_said c trace q (Sent p whole ∷ past) emb right gots bytes (inl (inl is)) = λ body signed from.
-    let hears = signed_heard c bytes body signed 0 in
-    let says : said bytes ≡ Some body = heard_said c 0 bytes body hears in
+    let says : said bytes ≡ Some body = opened_said c 0 bytes body (signed_opened c bytes body signed 0) in
     let here : said whole ≡ Some body = rw is says in
     let mine : body.sender ≡ q = speaks_as_itself c q body past (Sent p whole) right.0 here in
     subst (λ (x : ℕ). Once (Speaks body) (history_of x trace)) (sym mine) (emb (Speaks body) (inl here))
@@ -123,8 +122,8 @@ taken_seen c new bytes h past e t = go e (takes c 0 past e new t).brought
   where
     go : (e : Entry) → new_view_in c e ≡ Some new → HasSeen bytes past e
     go (Got p whole) b =
-        let r = and_then_some (new_view_from c) (signed_body c whole) new b in
-        let is : said whole ≡ Some r.0 = heard_said c p whole r.0 (signed_heard c whole r.0 r.1 p) in
+        let r = and_then_some (new_view_from c) (heard c p whole) new b in
+        let is : said whole ≡ Some r.0 = heard_said c p whole r.0 r.1 in
         inr (begin_seen new bytes whole r.0 is (begins c r.0 new r.2).message_is h)
     go (Sent p whole) b =
         let r = and_then_some (new_view_from c) (said whole) new b in

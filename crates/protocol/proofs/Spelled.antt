@@ -8,7 +8,8 @@ use Rattle.wire.specs.Reading.{frame_of as frame_spelled}
 use Rattle.wire.specs.Words.{said as body_spelled}
 use Rattle.wire.proofs.Telling.{reads_frames, reads_said}
 use Rattle.signing.specs.Heard.{heard as heard_among, signed_body as signed_among}
-use Rattle.protocol.specs.Frames.{of_bytes, members, frame_of, said, heard, signed_body}
+use Rattle.protocol.specs.Frames.{of_bytes, members, frame_of, said, opened, signed_body}
+use Rattle.protocol.proofs.Linking.{heard_opened, opened_heard}
 use Rattle.protocol.specs.Laws.{FramesAreSpelled, BodiesAreSaid, BytesAreHeard}
 
 all_bytes : (bs : List ℕ) → AreBytes bs → list_all (λ b. nat_lt b 256) bs ≡ true
@@ -29,5 +30,9 @@ unfolding said
 bodies_are_said bytes frame are s = read_on body_spelled bytes are ∙ reads_said bytes frame s
 
 pub bytes_are_heard : BytesAreHeard
-unfolding heard signed_body
-bytes_are_heard c bytes are = record { heard = λ me. read_on (heard_among (members c) me) bytes are; signed = read_on (signed_among (members c)) bytes are }
+unfolding opened signed_body
+bytes_are_heard c bytes are = record {
+  all = λ me. read_on (heard_among (members c) me) bytes are;
+  others = λ me body. (heard_opened c me bytes body, λ h. opened_heard c me bytes body h.0 h.1);
+  signed = read_on (signed_among (members c)) bytes are;
+}

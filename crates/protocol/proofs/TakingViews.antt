@@ -61,12 +61,12 @@ module _ (clients : ℕ) (seed : List ℕ) (me : ℕ) (batch root a b d new_view
 
   module _ (backup : me ≢ 1) (selected : may_select c new ≡ true) (signed : signed_body c new_view ≡ Some begins) (x : IsForOthers c me prepares.message prepare) where
     hears : heard c me new_view ≡ Some begins
-    hears = signed_heard c new_view begins signed me
+    hears = signed_heard c new_view begins signed me (λ is. backup (sym is))
 
     -- ---- the new view is taken
 
     brings : new_view_in c (Got me new_view) ≡ Some new
-    brings = ap (option_and_then (new_view_from c)) signed ∙ ap (λ (t : Bool). give_if t new) selected
+    brings = ap (option_and_then (new_view_from c)) hears ∙ ap (λ (t : Bool). give_if t new) selected
 
     takes : taken c [] (Got me new_view) ≡ Some new
     unfolding view
@@ -174,7 +174,7 @@ module _ (clients : ℕ) (seed : List ℕ) (me : ℕ) (batch root a b d new_view
     none_executed k (inr h) = h
 
     numbers_none : NumbersOnce c me h1 (Sent me prepare)
-    numbers_none v i given is fresh client timestamp has numbered =
+    numbers_none v i given is fresh =
         absurd (let bad : prepares ≡ record { sender = me; message = PrePrepare v i given } = some_injective prepares (record { sender = me; message = PrePrepare v i given }) (sym x.says ∙ is) in cc)
 
     due : Due c me [] new_view (Sent me prepare ∷ []) now

@@ -8,8 +8,8 @@ use Rattle.wire.specs.Messages.{BodyData as Body, checkpoint as Checkpoint, meta
 use Rattle.protocol.specs.Frames.{heard}
 use Rattle.protocol.specs.Trace.{Entry, Once, Hears}
 use Rattle.protocol.specs.Trace.Entry.{Got, Sent}
-use Rattle.protocol.specs.RightReplica.{first_point}
-use Rattle.protocol.specs.Owed.{has_number, Counts, IsRootWanted, IsInnerWanted, Proceeds, IsReplica}
+use Rattle.protocol.specs.RightReplica.{first_point, IsRootWanted}
+use Rattle.protocol.specs.Owed.{has_number, Counts, IsInnerWanted, Proceeds, IsReplica}
 use Rattle.protocol.specs.Examples.{four}
 use Rattle.protocol.specs.ExamplesOfTransfer.{Parts, digests_of_pages, digests_of_inner_parts, root_of_parts, TransferFrames, AreTransferFrames, transfer, TransferBegins}
 use Rattle.protocol.proofs.TransferringStages.{and_one, Stage, first_stage, stage_checkpoint, stage_meta, stage_page, stage_fetch, quorum_here}
@@ -166,16 +166,16 @@ module _ (clients : ℕ) (seed : List ℕ) (x : Parts) (w : TransferFrames) (f :
       (goes_quiet clients seed root [] (w.checkpoint 1) (checkpoint_of 1) p1 None 0 hears1 tt s1 refl (refl, refl))
 
   to_root : Proceeds c 0 h4 [] first_point first_point
-  to_root = goes_on clients seed root h2 (w.checkpoint 3) w.fetch_root (checkpoint_of 3) 0 levels.Root p3 hears3 tt f.asks_root s4 (inr (refl, refl)) counts_checkpoint to_second
+  to_root = goes_on clients seed root h2 (w.checkpoint 3) w.fetch_root (checkpoint_of 3) 0 levels.Root p3 hears3 tt f.asks_root s4 (inl (inl (quorum_here clients seed root h3 p3 None 0 s3 refl))) (inr (refl, refl)) counts_checkpoint to_second
 
   to_inner : Proceeds c 0 h6 [] first_point first_point
-  to_inner = goes_on clients seed root h4 w.below_root w.fetch_inner root_given 0 levels.Inner p3 hears_root tt f.asks_inner s6 (inl s4.fetching_is) counts_root to_root
+  to_inner = goes_on clients seed root h4 w.below_root w.fetch_inner root_given 0 levels.Inner p3 hears_root tt f.asks_inner s6 (inl (inl (quorum_here clients seed root h5 p3 (asked levels.Root 0) 16 s5 refl))) (inl s4.fetching_is) counts_root to_root
 
   to_page : Proceeds c 0 h8 [] first_point first_point
-  to_page = goes_on clients seed root h6 w.below_inner w.fetch_page inner_given 0 levels.Page p3 hears_inner tt f.asks_page s8 (inl s6.fetching_is) counts_inner to_inner
+  to_page = goes_on clients seed root h6 w.below_inner w.fetch_page inner_given 0 levels.Page p3 hears_inner tt f.asks_page s8 (inl (inl (quorum_here clients seed root h7 p3 (asked levels.Inner 0) 16 s7 refl))) (inl s6.fetching_is) counts_inner to_inner
 
   begins : IsReplica c 0 (transfer w)
-  begins = inl (first_point, goes_on clients seed root h8 w.page w.fetch_next page_given 1 levels.Page p3 hears_page tt f.asks_next s10 (inl s8.fetching_is) counts_page to_page)
+  begins = inl (first_point, goes_on clients seed root h8 w.page w.fetch_next page_given 1 levels.Page p3 hears_page tt f.asks_next s10 (inl (inl (quorum_here clients seed root h9 p3 (asked levels.Page 0) 16 s9 refl))) (inl s8.fetching_is) counts_page to_page)
 
 pub transfer_begins : TransferBegins
 transfer_begins clients seed x w f = begins clients seed x w f

@@ -14,7 +14,7 @@ use Rattle.protocol.specs.Trace.Entry.{Got, Sent}
 use Rattle.protocol.specs.Selection.{is_quorum}
 use Rattle.protocol.specs.Certificates.{logged, count_checkpoints}
 use Rattle.protocol.specs.State.{Call, opening, call_in}
-use Rattle.protocol.specs.RightReplica.{Point, first_point, with_waiting, waiting_after, others, Executes, IsAddressed, IsStep, MaySend}
+use Rattle.protocol.specs.RightReplica.{Point, first_point, with_waiting, waiting_after, others, Executes, IsRootWanted, IsAddressed, IsStep, MaySend}
 use Rattle.protocol.specs.Owed.{Gives, AtOutputs, NumbersOnce, fetching, Counts, IsDropped, Owes, Proceeds}
 use Rattle.protocol.specs.Examples.{four}
 use Rattle.protocol.specs.FirstOperation.{IsFrom}
@@ -88,9 +88,9 @@ module _ (clients : ℕ) (seed root : List ℕ) where
           (sym (ap (λ (o : Option Body). option_map_or (with_waiting opening []) (option_and_then (call_in c) o) []) h
           ∙ ap (λ (o : Option Call). option_map_or (with_waiting opening []) o []) (is_no_call c body.sender body.message given)))
 
-  -- a fetch may be sent at any time
-  fetch_sends : (past : List Entry) (bytes : List ℕ) (index : ℕ) (level : Level) → IsFrom c 0 (Fetch 16 level index) (others c 0) bytes → IsStep c 0 past first_point (Sent 0 bytes) first_point
-  fetch_sends past bytes index level f = record { own = refl; may = may; moves = refl }
+  -- a fetch may be sent for a state that is wanted
+  fetch_sends : (past : List Entry) (bytes : List ℕ) (index : ℕ) (level : Level) → IsRootWanted c past 16 root → IsFrom c 0 (Fetch 16 level index) (others c 0) bytes → IsStep c 0 past first_point (Sent 0 bytes) first_point
+  fetch_sends past bytes index level wanted f = record { own = refl; may = may; moves = refl }
     where
       addressed : IsAddressed c 0 past (Fetch 16 level index) f.frame.proof
       addressed = subst (IsAddressed c 0 past (Fetch 16 level index)) (sym f.has_macs) (sym (ap receivers_of f.has_macs) ∙ f.is_for)
@@ -101,7 +101,7 @@ module _ (clients : ℕ) (seed root : List ℕ) where
         says = f.says;
         own = refl;
         seen = tt;
-        say = tt;
+        say = (root, (omega arith, wanted));
         is_sealed = λ frame is.
             let same : f.frame ≡ frame = some_injective f.frame frame (sym f.spells ∙ is) in
             subst (λ (y : Frame). IsSealed c y × IsAddressed c 0 past (Fetch 16 level index) y.proof) same (f.is_sealed, addressed);
@@ -128,10 +128,10 @@ module _ (clients : ℕ) (seed root : List ℕ) where
   -- what counts is answered by one fetch: that of the root where a transfer of 16 is not open yet
   pub goes_on : (before : List Entry) (bytes sent : List ℕ) (body : Body) (index : ℕ) (level : Level) (p : ℕ → Bool) → heard c 0 bytes ≡ Some body → IsGiven body.message
       → IsFrom c 0 (Fetch 16 level index) (others c 0) sent → At (Sent 0 sent ∷ Got 0 bytes ∷ before) p (Some (16, (level, index))) 16
-      → (fetching before ≡ 16) ⊎ ((level ≡ levels.Root) × (index ≡ 0)) → Counts c 0 before first_point bytes body.sender body.message
+      → IsRootWanted c (Got 0 bytes ∷ before) 16 root → (fetching before ≡ 16) ⊎ ((level ≡ levels.Root) × (index ≡ 0)) → Counts c 0 before first_point bytes body.sender body.message
       → Proceeding before → Proceeding (Sent 0 sent ∷ Got 0 bytes ∷ before)
-  goes_on before bytes sent body index level p h given f st ways counts was =
-      (first_point, fetch_sends (Got 0 bytes ∷ before) sent index level f, (first_point, gets before bytes body h given, (owes before bytes (Sent 0 sent ∷ []) (Sent 0 sent ∷ Got 0 bytes ∷ before) p (Some (16, (level, index))) 16 st due, was)))
+  goes_on before bytes sent body index level p h given f st wanted ways counts was =
+      (first_point, fetch_sends (Got 0 bytes ∷ before) sent index level wanted f, (first_point, gets before bytes body h given, (owes before bytes (Sent 0 sent ∷ []) (Sent 0 sent ∷ Got 0 bytes ∷ before) p (Some (16, (level, index))) 16 st due, was)))
     where
       executed : (n : ℕ) → Has (λ e. Executes n [] e) (Sent 0 sent ∷ []) → ⊥
       executed n (inl has) = has
@@ -154,7 +154,7 @@ module _ (clients : ℕ) (seed root : List ℕ) where
         body = body;
         hears = h;
         given = given;
-        numbers_once = (λ v i batch says none x y z w. absurd (no_proposal v i batch says), tt);
+        numbers_once = (λ v i batch says none. absurd (no_proposal v i batch says), tt);
         none_executed = executed;
         fetches = λ n digest quorum later.
             let is = (agreed clients seed root (Sent 0 sent ∷ Got 0 bytes ∷ before) p (Some (16, (level, index))) 16 st (record { number = n; digest = digest }) quorum).0 in

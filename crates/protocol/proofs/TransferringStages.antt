@@ -10,15 +10,13 @@ use Rattle.quorum.specs.Votes.{or_else, give_if}
 use Rattle.protocol.specs.Configuration.{Configuration}
 use Rattle.wire.specs.declared.terms.Level.{Level}
 use Rattle.wire.specs.Messages.{BodyData as Body, MessageData as Message, NewViewData, MarkData as Mark, checkpoint as Checkpoint, fetch as Fetch, meta as Meta, page as Page}
-use Rattle.protocol.specs.Frames.{said, heard, signed_body}
+use Rattle.protocol.specs.Frames.{said, heard}
 use Rattle.protocol.specs.Trace.{Entry}
 use Rattle.protocol.specs.Trace.Entry.{Got, Sent}
 use Rattle.protocol.specs.Selection.{is_quorum}
 use Rattle.protocol.specs.Certificates.{brought, view, target, low, new_view_in, new_view_from, installed_at, started_at, stable_at, is_stable, taken, is_later, is_in_marks, counts_at, logged, proposal, begun_proposal, entry_proposal, batch_begun, batch_from, checkpoint_in, checkpoint_from, insert_checkpoint, with_checkpoint, checkpoints_of, says_checkpoint, count_checkpoints}
 use Rattle.protocol.specs.Owed.{asked_last, place_from, fetching, fetch_sent}
 use Rattle.protocol.specs.Examples.{four}
-use Rattle.protocol.proofs.Linking.{signed_heard}
-use Rattle.protocol.proofs.Options.{some_injective}
 use Rattle.protocol.proofs.FirstReplicasOwing.{count_same}
 use Rattle.protocol.proofs.RefusingMarksLow.{checkpoints_with, no_checkpoints}
 
@@ -95,13 +93,7 @@ module _ (clients : ℕ) (seed root : List ℕ) where
     pub part : IsPart body.message
 
   got : (bytes : List ℕ) (body : Body) → heard c 0 bytes ≡ Some body → IsPart body.message → Brings (Got 0 bytes) body
-  got bytes body h part = record { brings = h; no_view = go (signed_body c bytes) refl; installs = refl; part = part }
-    where
-      go : (b : Option Body) → signed_body c bytes ≡ b → option_and_then (new_view_from c) b ≡ None
-      go None is = refl
-      go (Some b) is =
-          let same : b ≡ body = some_injective b body (sym (signed_heard c bytes b is 0) ∙ h) in
-          ap (new_view_from c) same ∙ none_begins c body.sender body.message part
+  got bytes body h part = record { brings = h; no_view = ap (option_and_then (new_view_from c)) h ∙ none_begins c body.sender body.message part; installs = refl; part = part }
 
   sent : (bytes : List ℕ) (body : Body) → said bytes ≡ Some body → IsPart body.message → Brings (Sent 0 bytes) body
   sent bytes body h part = record { brings = h; no_view = ap (option_and_then (new_view_from c)) h ∙ none_begins c body.sender body.message part; installs = refl; part = part }

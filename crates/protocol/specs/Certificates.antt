@@ -11,7 +11,7 @@ use Rattle.quorum.specs.Votes.{or_else, give_if, has_digest}
 use Rattle.protocol.specs.Configuration.{Configuration, replicas, primary, span, is_number}
 use Rattle.wire.specs.Messages.{BodyData as Body, NewViewData, MarkData as Mark, pre_prepare as PrePrepare, prepare as Prepare, commit as Commit, checkpoint as Checkpoint, view_change as ViewChange, new_view as NewView}
 use Rattle.wire.specs.Words.{requests_of}
-use Rattle.protocol.specs.Frames.{said, heard, signed_body}
+use Rattle.protocol.specs.Frames.{said, heard}
 use Rattle.protocol.specs.Trace.{Entry}
 use Rattle.protocol.specs.Trace.Entry.{Got, Installed, Sent}
 use Rattle.protocol.specs.Selection.{is_quorum, may_select}
@@ -38,11 +38,9 @@ first_given give (e ∷ past) = or_else (first_given give past) (give past e)
 abbrev pub new_view_from : Configuration → Body → Option NewViewData
 new_view_from c body = elim body.message [ NewView new ↦ give_if ((body.sender == primary c new.view) && may_select c new) new | _ ↦ None ]
 
--- the new view that an entry brings: got, and then signed, or sent
+-- the new view that an entry brings
 abbrev pub new_view_in : Configuration → Entry → Option NewViewData
-new_view_in c (Got p bytes) = option_and_then (new_view_from c) (signed_body c bytes)
-new_view_in c (Sent p bytes) = option_and_then (new_view_from c) (said bytes)
-new_view_in c _ = None
+new_view_in c e = option_and_then (new_view_from c) (brought c e)
 
 -- the view of a view change, else 0
 abbrev pub change_from : Body → ℕ

@@ -25,7 +25,7 @@ ChangesInBeginning c sender bytes = signed_body c bytes ≡ Some (record { sende
 -- second, is a right one.
 abbrev pub ViewChangesAreJoined : Type 0
 ViewChangesAreJoined =
-    (clients : ℕ) (seed : List ℕ) (me one other : ℕ) (first second own : List ℕ) → one ≢ other
+    (clients : ℕ) (seed : List ℕ) (me one other : ℕ) (first second own : List ℕ) → one ≢ other → one ≢ me → other ≢ me
     → ChangesInBeginning (four clients seed) one first → ChangesInBeginning (four clients seed) other second → ChangesInBeginning (four clients seed) me own
     → IsReplica (four clients seed) me (Sent me own ∷ Got me second ∷ Got me first ∷ [])
 

@@ -125,6 +125,6 @@ FirstFramesExist =
 abbrev pub SealedFramesAreHeard : Type 0
 SealedFramesAreHeard =
     (c : Configuration) → IsConfiguration c → (sender : ℕ) (message : Message) (receivers : List ℕ)
-    → sends (members c) sender message ≡ true → IsMessage message → is_signed message ≡ false → AreReceivers c receivers
+    → sends (members c) sender message ≡ true → IsMessage message → is_signed message ≡ false → AreReceivers c receivers → (Has (λ r. r ≡ sender) receivers → ⊥)
     → length (sealed_bytes c sender receivers (body_spelling (record { sender = sender; message = message }))) ≤ frame_limit message
     → IsFrom c sender message receivers (sealed_bytes c sender receivers (body_spelling (record { sender = sender; message = message })))

@@ -1,6 +1,6 @@
 -- What the bytes of a trace spell, and what a party takes from them: the words of the crates wire, authenticator and
 -- signing, for a configuration. Bytes are lists of numbers here, and a list that is not of bytes spells nothing.
-use Rattle.std.specs.Prelude.{◌≡◌, ℕ, Bool, true, false, List, [], map, nat_lt, if◌then◌else◌, Option, None, All}
+use Rattle.std.specs.Prelude.{◌≡◌, ℕ, Bool, true, false, not, List, [], map, nat_lt, ◌==◌, if◌then◌else◌, Option, None, option_and_then, All}
 use Rattle.std.specs.List.{list_all}
 use Rattle.wire.specs.declared.terms.Mode.{Mode}
 use Rattle.wire.specs.declared.terms.Mode.TheVariants as modes
@@ -10,6 +10,7 @@ use Rattle.wire.specs.Words.{said as body_spelled}
 use Rattle.authenticator.specs.Membership.{Membership}
 use Rattle.authenticator.specs.Authentic.{mac_of}
 use Rattle.signing.specs.Heard.{has_signature, heard as heard_among, signed_body as signed_among}
+use Rattle.quorum.specs.Votes.{give_if}
 use Rattle.protocol.specs.Configuration.{Configuration}
 
 -- what is read, where the list is of bytes
@@ -27,9 +28,18 @@ said bytes = of_bytes body_spelled bytes
 abbrev pub members : Configuration → Membership
 members c = record { seed = c.seed; faults = c.faults; clients = c.clients }
 
--- what a party takes from bytes: the body of a frame that is authentic to it, or signed where it is to be signed
+-- what a party can take from bytes: the body of a frame that is authentic to it, or signed where it is to be signed
+unfoldable pub opened : Configuration → ℕ → List ℕ → Option Body
+opened c me bytes = of_bytes (heard_among (members c) me) bytes
+
+-- a body, where its sender is another than this party
+abbrev pub from_another : ℕ → Body → Option Body
+from_another me body = give_if (not (body.sender == me)) body
+
+-- What a party hears: what it can take, and comes from another. A frame that it gets in its own name counts for
+-- nothing, whoever made it: its own messages count when they are sent.
 unfoldable pub heard : Configuration → ℕ → List ℕ → Option Body
-heard c me bytes = of_bytes (heard_among (members c) me) bytes
+heard c me bytes = option_and_then (from_another me) (opened c me bytes)
 
 -- the body of a view change or new view whose signature verifies, whoever gets it
 unfoldable pub signed_body : Configuration → List ℕ → Option Body

@@ -1,12 +1,12 @@
 -- The laws over all safe histories: what bytes say, agreement on batches, states and roots, and the first view.
-use Rattle.std.specs.Prelude.{◌≡◌, ◌↔◌, ℕ, ◌^◌, ◌≤◌, ◌<◌, ◌⊎◌, true, List, length, Some}
+use Rattle.std.specs.Prelude.{◌≡◌, ◌≢◌, ◌↔◌, ℕ, ◌^◌, ◌≤◌, ◌<◌, ◌⊎◌, true, List, length, Some}
 use Rattle.sha2.specs.Sha256.{sha256}
 use Rattle.protocol.specs.Configuration.{Configuration, IsConfiguration, is_correct, is_correct_replica, is_correct_client}
 use Rattle.tuple_tree.specs.Values.{AreBytes}
-use Rattle.wire.specs.Messages.{FrameData as Frame, NewViewData, ViewChangeData, view_change as ViewChange}
+use Rattle.wire.specs.Messages.{BodyData as Body, FrameData as Frame, NewViewData, ViewChangeData, view_change as ViewChange}
 use Rattle.wire.specs.Spelling.{SpellsFrame}
 use Rattle.signing.specs.Heard.{heard as heard_among, signed_body as signed_among}
-use Rattle.protocol.specs.Frames.{members, frame_of, said, heard, signed_body}
+use Rattle.protocol.specs.Frames.{members, frame_of, said, opened, heard, signed_body}
 use Rattle.protocol.specs.Trace.{Entry, party_of, history_of, Once, Always, Has, SendsBody, Unforged}
 use Rattle.protocol.specs.Trace.Entry.{Installed}
 use Rattle.protocol.specs.Certificates.{Prepared, Committed, view, taken, batch_begun}
@@ -26,9 +26,11 @@ FramesAreSpelled = (bytes : List ℕ) (frame : Frame) → AreBytes bytes → (fr
 abbrev pub BodiesAreSaid : Type 0
 BodiesAreSaid = (bytes : List ℕ) (frame : Frame) → AreBytes bytes → SpellsFrame bytes frame → said bytes ≡ Some frame.body
 
--- What a party takes from bytes is what it hears from them in its configuration, and a signed body is one.
+-- What a party can take from bytes is what it hears from them among the members of its configuration, and a signed body
+-- is one. It hears that from others alone.
 pub record IsAsHeard (c : Configuration) (bytes : List ℕ) : Type 0 where
-  pub heard : (me : ℕ) → heard c me bytes ≡ heard_among (members c) me bytes
+  pub all : (me : ℕ) → opened c me bytes ≡ heard_among (members c) me bytes
+  pub others : (me : ℕ) (body : Body) → (heard c me bytes ≡ Some body) ↔ ((opened c me bytes ≡ Some body) × (body.sender ≢ me))
   pub signed : signed_body c bytes ≡ signed_among (members c) bytes
 
 -- It is so on any bytes.

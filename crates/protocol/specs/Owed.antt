@@ -1,7 +1,7 @@
 -- What a correct replica owes in an event: all that the event's input brings about, until nothing more is due, and
 -- nothing where the input is dropped (Castro and Liskov, TOCS 2002, on normal-case operation, garbage collection, view
 -- changes and state transfer). No law of agreement uses it. It speaks of the same states as what the replica may do.
-use Rattle.std.specs.Prelude.{◌≡◌, ◌≢◌, ℕ, suc, ◌+◌, ◌/◌, ◌%◌, ◌≤◌, ◌<◌, ◌⊎◌, Bool, true, false, ◌&&◌, List, [], ◌∷◌, ◌++◌, reverse, max, nat_lt, ◌==◌, if◌then◌else◌, Option, Some, None, slice_get, option_and_then, ⊤}
+use Rattle.std.specs.Prelude.{◌≡◌, ◌≢◌, ℕ, suc, ◌+◌, ◌/◌, ◌%◌, ◌≤◌, ◌<◌, ◌⊎◌, Bool, true, false, ◌&&◌, List, [], ◌∷◌, ◌++◌, reverse, max, nat_lt, ◌==◌, if◌then◌else◌, Option, Some, None, slice_get, option_and_then, AllPairs, ⊤}
 use Rattle.std.specs.List.{list_any}
 use Rattle.std.specs.Option.{option_map_or}
 use Rattle.sha2.specs.Sha256.{sha256}
@@ -23,7 +23,7 @@ use Rattle.protocol.specs.Selection.{is_quorum, signed_change, is_within}
 use Rattle.protocol.specs.Certificates.{greatest, view, is_active_in, taken, checkpoints_of, count_checkpoints, low, is_in_marks, entry_proposal, logged, prepare_from, commit_from, vote_in, prepare_of, commit_of, Prepared, Committed}
 use Rattle.reply_cache.specs.Replies.{Kept}
 use Rattle.protocol.specs.State.{State, Call, call_of, Ran, kept_of, last_time, tuples, root_of, page_text}
-use Rattle.protocol.specs.RightReplica.{Point, first_point, reply_of, IsStep, KeptState, Executes, HadQuorum, StartsAt, digests_at}
+use Rattle.protocol.specs.RightReplica.{Point, first_point, reply_of, IsStep, KeptState, Executes, IsRootWanted, digests_at}
 
 -- ---- words on outputs
 
@@ -92,18 +92,20 @@ IsNumbered c me past v client timestamp = (batch : List ℕ) × IsOfView c me pa
 abbrev pub IsFree : Configuration → ℕ → List Entry → ℕ → ℕ → ℕ → Type 0
 IsFree c me past k v i = (is_in_marks c (low c me past) i ≡ true) × (i ≤ k + 2) × ((j : ℕ) → i ≤ j → logged c me past v j ≡ None)
 
--- a pre-prepare that isn't sent again numbers no request that the view has numbered
+-- two frames are requests of different clients or timestamps
+abbrev pub AreDifferent : Configuration → List ℕ → List ℕ → Type 0
+AreDifferent c frame other =
+    (call twin : Call) → call_of c frame ≡ Some call → call_of c other ≡ Some twin → call.client ≡ twin.client → call.timestamp ≡ twin.timestamp → ⊥
+
+-- a pre-prepare that isn't sent again numbers no request that the view has numbered, and none twice
 abbrev pub NumbersOnce : Configuration → ℕ → List Entry → Entry → Type 0
 NumbersOnce c me past (Sent p bytes) =
     (v i : ℕ) (batch : List ℕ) → said bytes ≡ Some (record { sender = me; message = PrePrepare v i batch }) → logged c me past v i ≡ None
-    → (client timestamp : ℕ) → HasRequest c client timestamp batch → IsNumbered c me past v client timestamp → ⊥
+    → AllPairs (AreDifferent c) (requests_of batch)
+    × ((client timestamp : ℕ) → HasRequest c client timestamp batch → IsNumbered c me past v client timestamp → ⊥)
 NumbersOnce c me past _ = ⊤
 
 -- ---- the digests that the parts of a transfer are to have (Castro and Liskov, TOCS 2002, on state transfer)
-
--- that of the root: a quorum of checkpoints had it, or a new view starts with it
-abbrev pub IsRootWanted : Configuration → List Entry → ℕ → List ℕ → Type 0
-IsRootWanted c past k root = HadQuorum c (record { number = k; digest = root }) past ⊎ Once (StartsAt c k root) past
 
 -- got digests of the parts below a place whose own digest is this one
 abbrev pub GotBelow : Configuration → ℕ → List Entry → Level → ℕ → List ℕ → List (List ℕ) → Type 0
@@ -141,10 +143,8 @@ has_number k marks = list_any (λ m. m.number == k) marks
 abbrev pub change_taken : Configuration → ℕ → ℕ → List ℕ → ℕ
 change_taken c v s bytes = option_map_or (λ x. if (x.0 == s) && nat_lt v x.1.view && is_within c x.1 then x.1.view else 0) (signed_change c bytes) 0
 
--- got, or the own one, sent
 abbrev pub change_at : Configuration → List Entry → Entry → ℕ → ℕ
 change_at c past (Got p bytes) s = change_taken c (view c past) s bytes
-change_at c past (Sent p bytes) s = change_taken c (view c past) s bytes
 change_at c past _ s = 0
 
 -- the greatest of them

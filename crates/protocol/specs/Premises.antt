@@ -7,7 +7,7 @@ use Rattle.tuple_codec.specs.Operations.{Operation, IsOperation}
 use Rattle.partition_tree.specs.Digests.{inner_digests, page_digests}
 use Rattle.wire.specs.Messages.{BodyData as Body, MessageData as Message, pre_prepare as PrePrepare, new_view as NewView, meta as Meta, page as Page}
 use Rattle.protocol.specs.Configuration.{Configuration, IsConfiguration, replicas, is_correct_replica, is_correct_client, is_correct, primary}
-use Rattle.protocol.specs.Frames.{said, heard}
+use Rattle.protocol.specs.Frames.{said, opened}
 use Rattle.protocol.specs.Trace.{Entry, history_of, Once, Always, Has, Each, frames_in, SendsBody, Unforged}
 use Rattle.protocol.specs.Trace.Entry.{Invoke, Got, Tick, Executed, Installed, Sent}
 use Rattle.protocol.specs.Selection.{null_batch}
@@ -120,11 +120,11 @@ abbrev pub OthersAreUnforged : Type 0
 OthersAreUnforged =
     (c : Configuration) (e : Entry) (trace : List Entry) → Unforged c trace → ((p : ℕ) (bytes : List ℕ) → e ≢ Got p bytes) → Unforged c (e ∷ trace)
 
--- The party does not take the frame as genuine, or takes it as from a sender that is faulty, or that sent one of its
+-- The party can't take the frame as genuine, or takes it as from a sender that is faulty, or that sent one of its
 -- body.
 abbrev pub MayBeGot : Configuration → ℕ → List Entry → List ℕ → Type 0
 MayBeGot c me past bytes =
-    (heard c me bytes ≡ None) ⊎ ((body : Body) × (heard c me bytes ≡ Some body) × ((is_correct c body.sender ≡ false) ⊎ Once (SendsBody body) past))
+    (opened c me bytes ≡ None) ⊎ ((body : Body) × (opened c me bytes ≡ Some body) × ((is_correct c body.sender ≡ false) ⊎ Once (SendsBody body) past))
 
 -- Frames of which each may be got, any party may get,
 abbrev pub FramesMayBeGot : Type 0

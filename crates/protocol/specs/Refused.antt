@@ -1,5 +1,5 @@
 -- Small histories that the definitions refuse: what wrong replicas, primaries and clients would make.
-use Rattle.std.specs.Prelude.{◌≡◌, ◌≢◌, ℕ, suc, ◌+◌, ◌-◌, ◌*◌, ◌%◌, ◌^◌, ◌≤◌, ◌<◌, ◌⊎◌, true, false, Bool, List, [], ◌∷◌, ◌++◌, length, map, slice_get, Some, None, fold, ⊤, All}
+use Rattle.std.specs.Prelude.{◌≡◌, ◌≢◌, ℕ, suc, ◌+◌, ◌-◌, ◌*◌, ◌%◌, ◌^◌, ◌≤◌, ◌<◌, ◌⊎◌, true, false, Bool, List, [], ◌∷◌, ◌++◌, length, map, slice_get, slice_index_or, Some, None, fold, ⊤, All}
 use Rattle.sha2.specs.Sha256.{sha256}
 use Rattle.tuple_codec.specs.Operations.{Operation, Outcome}
 use Rattle.space.specs.Applying.{outcome, is_read_only}
@@ -14,17 +14,17 @@ use Rattle.wire.specs.declared.terms.Mode.TheVariants as modes
 use Rattle.wire.specs.Messages.{BodyData as Body, FrameData as Frame, MacData, macs, signature, ViewChangeData, NewViewData, ClaimData as Claim, request as Request, pre_prepare as PrePrepare, prepare as Prepare, commit as Commit, checkpoint as Checkpoint, view_change as ViewChange, new_view as NewView, reply as Reply, fetch as Fetch, meta as Meta, page as Page}
 use Rattle.authenticator.specs.Authentic.{mac_of}
 use Rattle.signing.specs.Heard.{has_signature}
-use Rattle.protocol.specs.Frames.{frame_of, said, heard}
+use Rattle.protocol.specs.Frames.{frame_of, said, opened, heard}
 use Rattle.protocol.specs.Trace.{Entry, is_output, Once, Always, Has, AreOutputs, Hears}
 use Rattle.protocol.specs.Trace.Entry.{Got, Executed, Installed, Sent, Accepted}
 use Rattle.wire.specs.Spelling.{has_children}
-use Rattle.protocol.specs.Selection.{is_quorum, changes_of, signed_change, null_batch}
+use Rattle.protocol.specs.Selection.{is_quorum, changes_of, null_batch}
 use Rattle.protocol.specs.Certificates.{count_checkpoints, low, is_in_marks, is_active_in, logged, taken, target, view, Prepared, Committed}
 use Rattle.reply_cache.specs.Replies.{Kept}
 use Rattle.space.specs.Births.{SpaceState}
 use Rattle.space.specs.Pages.{header_text}
 use Rattle.protocol.specs.State.{State, Call, call_of, Ran, run_frame, ran_in, kept_of, tuples, root_of, page_text}
-use Rattle.protocol.specs.RightReplica.{Point, Leaves, SafeReplica, Executes, GetsPage, WasAsked, SentBefore, IsStep, kept_states, digests_at, reply_of}
+use Rattle.protocol.specs.RightReplica.{Point, Leaves, SafeReplica, Executes, GetsPage, WasAsked, SentBefore, HadQuorum, StartsAt, IsStep, kept_states, digests_at, reply_of}
 use Rattle.protocol.specs.RightClient.{SafeClient}
 use Rattle.protocol.specs.Owed.{fetching, asked_last, IsSaying, Gives, GivesTo, HasRequest, IsNumbered, IsReplica}
 
@@ -315,12 +315,27 @@ DropsReplies =
     → heard c me bytes ≡ Some (record { sender = s; message = Reply client timestamp mode number answer })
     → IsReplica c me (Sent me later ∷ Got me bytes ∷ past) → ⊥
 
--- A frame that answers the own view change, which comes back.
-abbrev pub DropsOwnChange : Type 0
-DropsOwnChange =
-    (c : Configuration) (me : ℕ) (vc : ViewChangeData) (bytes later : List ℕ) (past : List Entry)
-    → heard c me bytes ≡ Some (record { sender = me; message = ViewChange vc }) → signed_change c bytes ≡ Some (me, vc) → SentBefore bytes past
+-- A frame that answers one got in the own name.
+abbrev pub DropsOwnFrames : Type 0
+DropsOwnFrames =
+    (c : Configuration) (me : ℕ) (body : Body) (bytes later : List ℕ) (past : List Entry)
+    → opened c me bytes ≡ Some body → body.sender ≡ me
     → IsReplica c me (Sent me later ∷ Got me bytes ∷ past) → ⊥
+
+-- A fetch of a part of a state whose root neither a quorum of checkpoints nor a new view's start told.
+abbrev pub FetchesWhatIsWanted : Type 0
+FetchesWhatIsWanted =
+    (c : Configuration) (me k index : ℕ) (level : Level) (bytes : List ℕ) (past : List Entry)
+    → said bytes ≡ Some (record { sender = me; message = Fetch k level index })
+    → ((root : List ℕ) → (HadQuorum c (record { number = k; digest = root }) past → ⊥) × (Once (StartsAt c k root) past → ⊥))
+    → SafeReplica c me (Sent me bytes ∷ past) → ⊥
+
+-- A fetch of a part of a state that is not above the executed one.
+abbrev pub FetchesAbove : Type 0
+FetchesAbove =
+    (c : Configuration) (me k index : ℕ) (level : Level) (bytes : List ℕ) (past : List Entry)
+    → said bytes ≡ Some (record { sender = me; message = Fetch k level index }) → k ≤ newest_number past
+    → SafeReplica c me (Sent me bytes ∷ past) → ⊥
 
 -- ---- what is owed
 
@@ -411,6 +426,16 @@ NumbersNoneTwice =
     (c : Configuration) (me v i client timestamp : ℕ) (batch bytes : List ℕ) (input : Entry) (newer older past : List Entry)
     → said bytes ≡ Some (record { sender = me; message = PrePrepare v i batch }) → logged c me (older ++ input ∷ past) v i ≡ None
     → HasRequest c client timestamp batch → IsNumbered c me (older ++ input ∷ past) v client timestamp
+    → GoesOn c me (newer ++ Sent me bytes ∷ older) input past → ⊥
+
+-- A pre-prepare of a new number with two requests of one client and timestamp.
+abbrev pub NumbersNoneTogether : Type 0
+NumbersNoneTogether =
+    (c : Configuration) (me v i one other : ℕ) (call twin : Call) (batch bytes : List ℕ) (input : Entry) (newer older past : List Entry)
+    → said bytes ≡ Some (record { sender = me; message = PrePrepare v i batch }) → logged c me (older ++ input ∷ past) v i ≡ None
+    → one < other → other < length (requests_of batch)
+    → call_of c (slice_index_or (requests_of batch) one []) ≡ Some call → call_of c (slice_index_or (requests_of batch) other []) ≡ Some twin
+    → call.client ≡ twin.client → call.timestamp ≡ twin.timestamp
     → GoesOn c me (newer ++ Sent me bytes ∷ older) input past → ⊥
 
 -- A quorum of checkpoints above the state and above the open transfer that starts none.

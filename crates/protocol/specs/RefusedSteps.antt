@@ -1,5 +1,5 @@
 -- What the definitions of reports and of a schedule's steps refuse, and what a signed frame is.
-use Rattle.std.specs.Prelude.{◌≡◌, ℕ, ◌+◌, ◌≤◌, ◌<◌, ◌⊎◌, true, false, List, [], ◌∷◌, ◌++◌, length, take, slice_get, Some, None, All, AllPairs, ⊤}
+use Rattle.std.specs.Prelude.{◌≡◌, ◌≢◌, ℕ, ◌+◌, ◌≤◌, ◌<◌, ◌⊎◌, true, false, List, [], ◌∷◌, ◌++◌, length, take, slice_get, Some, None, All, AllPairs, ⊤}
 use Rattle.tuple_codec.specs.Operations.{Operation, IsOperation}
 use Rattle.wire.specs.Messages.{BodyData as Body, MessageData as Message, FrameData as Frame, signature}
 use Rattle.wire.specs.Spelling.{IsMessage, is_signed, frame_limit, body_spelling}
@@ -147,7 +147,7 @@ StopsAtEach =
 
 -- ---- signed frames
 
--- The bytes spell the body, signed by its sender and for all other replicas, and whoever gets them hears it.
+-- The bytes spell the body, signed by its sender and for all other replicas, and whoever else gets them hears it.
 pub record IsSignedFrom (c : Configuration) (body : Body) (bytes : List ℕ) : Type 0 where
   pub frame : Frame
   pub made : List ℕ
@@ -156,10 +156,10 @@ pub record IsSignedFrom (c : Configuration) (body : Body) (bytes : List ℕ) : T
   pub has_signature : frame.proof ≡ signature made
   pub is_sealed : IsSealed c frame
   pub is_for : meant_for c body.sender frame.proof ≡ others c body.sender
-  pub is_heard : (p : ℕ) → heard c p bytes ≡ Some body
+  pub is_heard : (p : ℕ) → body.sender ≢ p → heard c p bytes ≡ Some body
   pub is_told : signed_body c bytes ≡ Some body
 
--- What a replica signs with one of its 64 leaves each party hears, if the message is one that may be said and goes with a
+-- What a replica signs with one of its 64 leaves each other party hears, if the message is one that may be said and goes with a
 -- signature, and the frame is not too long.
 abbrev pub SignedFramesAreHeard : Type 0
 SignedFramesAreHeard =

@@ -162,6 +162,28 @@ pub record IsNewViewChange (c : Configuration) (me : ℕ) (past : List Entry) (p
   pub prepared : IsPreparedList c me past vc.prepared
   pub proposed : IsPrePreparedList c me past vc.pre_prepared
 
+-- ---- what may be installed, and asked for
+
+-- a new view is taken here, or sent, that starts at this number with this root
+abbrev pub StartsAt : Configuration → ℕ → List ℕ → List Entry → Entry → Type 0
+StartsAt c k root past e = (new : NewViewData) × (taken c past e ≡ Some new) × (new.start ≡ k) × (new.root ≡ root)
+
+-- a quorum of checkpoints, counted as for stability, was alike at one point of the past
+abbrev pub HadQuorum : Configuration → Mark → List Entry → Type 0
+HadQuorum c mark past = Once (λ earlier e. is_quorum c (count_checkpoints c (e ∷ earlier) mark) ≡ true) past
+
+-- a quorum of checkpoints had this root for the number, or a new view starts there with it
+abbrev pub IsRootWanted : Configuration → List Entry → ℕ → List ℕ → Type 0
+IsRootWanted c past k root = HadQuorum c (record { number = k; digest = root }) past ⊎ Once (StartsAt c k root) past
+
+-- a number above the state's, with its root, of a quorum of checkpoints or of a new view's start
+abbrev pub MayInstall : Configuration → List Entry → Point → ℕ → List ℕ → Type 0
+MayInstall c past point k root = (point.state.number < k) × IsRootWanted c past k root
+
+-- parts are asked for of a state that may be installed
+abbrev pub MayFetch : Configuration → List Entry → Point → ℕ → Type 0
+MayFetch c past point k = (root : List ℕ) × MayInstall c past point k root
+
 -- ---- what may be sent. Each clause covers sending again too.
 
 -- the active primary proposes, over requests authentic to it, for a number in the marks, one batch a view and number
@@ -245,7 +267,7 @@ abbrev pub MayPage : Configuration → ℕ → List Entry → Point → ℕ → 
 MayPage c me past point k index text =
     KeptState c me past point k (λ st. text ≡ page_text st index) × ((s : ℕ) × WasAsked c me past s k levels.Page index)
 
--- Each message has its rule. A replica makes no requests, and asks for parts of a state as it likes.
+-- Each message has its rule. A replica makes no requests.
 abbrev pub MaySay : Configuration → ℕ → List Entry → Point → Entry → List ℕ → Message → Type 0
 MaySay c me past point e bytes (Request timestamp mode op) = ⊥
 MaySay c me past point e bytes (PrePrepare v i batch) = MayPrePrepare c me past e v i batch
@@ -255,7 +277,7 @@ MaySay c me past point e bytes (Checkpoint k root) = MayCheckpoint c past point 
 MaySay c me past point e bytes (ViewChange vc) = MayViewChange c me past point bytes vc
 MaySay c me past point e bytes (NewView new) = MayNewView c me past e bytes new
 MaySay c me past point e bytes (Reply client timestamp kind number answer) = MayReply c me past point client timestamp kind number answer
-MaySay c me past point e bytes (Fetch k level index) = ⊤
+MaySay c me past point e bytes (Fetch k level index) = MayFetch c past point k
 MaySay c me past point e bytes (Meta k level index digests) = MayMeta c me past point k level index digests
 MaySay c me past point e bytes (Page k index text) = MayPage c me past point k index text
 
@@ -286,26 +308,13 @@ pub record MaySend (c : Configuration) (me : ℕ) (past : List Entry) (point : P
   pub say : MaySay c me past point e bytes body.message
   pub is_sealed : (frame : Frame) → frame_of bytes ≡ Some frame → IsSealed c frame × IsAddressed c me past body.message frame.proof
 
--- ---- what may be executed and installed
+-- ---- what may be executed
 
 -- the next number, and a batch that is committed for it
 pub record MayExecute (c : Configuration) (me : ℕ) (past : List Entry) (point : Point) (k : ℕ) (batch : List ℕ) : Type 0 where
   pub next : k ≡ suc point.state.number
   pub in_view : ℕ
   pub committed : Committed c me past in_view k batch
-
--- a new view is taken here, or sent, that starts at this number with this root
-abbrev pub StartsAt : Configuration → ℕ → List ℕ → List Entry → Entry → Type 0
-StartsAt c k root past e = (new : NewViewData) × (taken c past e ≡ Some new) × (new.start ≡ k) × (new.root ≡ root)
-
--- a quorum of checkpoints, counted as for stability, was alike at one point of the past
-abbrev pub HadQuorum : Configuration → Mark → List Entry → Type 0
-HadQuorum c mark past = Once (λ earlier e. is_quorum c (count_checkpoints c (e ∷ earlier) mark) ≡ true) past
-
--- a number above the state's, of a quorum of checkpoints or of a new view's start
-abbrev pub MayInstall : Configuration → List Entry → Point → ℕ → List ℕ → Type 0
-MayInstall c past point k root =
-    (point.state.number < k) × (HadQuorum c (record { number = k; digest = root }) past ⊎ Once (StartsAt c k root) past)
 
 -- What a correct replica may have next: any frame or tick, what its rules let it do, and nothing that is for clients.
 abbrev pub May : Configuration → ℕ → List Entry → Point → Entry → Type 0

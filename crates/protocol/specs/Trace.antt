@@ -6,7 +6,7 @@ use Rattle.tuple_codec.specs.Operations.{Operation, Outcome}
 use Rattle.protocol.specs.Configuration.{Configuration, is_correct}
 use Rattle.wire.specs.Messages.{BodyData as Body}
 use Rattle.wire.specs.Words.{carried}
-use Rattle.protocol.specs.Frames.{said, heard}
+use Rattle.protocol.specs.Frames.{said, opened, heard}
 
 -- What happens at the correct parties. A client stands with its number here, and 256 above it as a party.
 pub data Entry : Type 0 where
@@ -89,7 +89,7 @@ Hears c me body past _ = ⊥
 -- where a correct party can take the frame as a correct sender's, by its MAC or by its signature, the sender sent a
 -- frame of that body before (a body has one spelling, of which MACs and signatures are made)
 abbrev pub IsFromSender : Configuration → ℕ → List Entry → List ℕ → Type 0
-IsFromSender c me past bytes = (body : Body) → heard c me bytes ≡ Some body → is_correct c body.sender ≡ true → Once (SendsBody body) past
+IsFromSender c me past bytes = (body : Body) → opened c me bytes ≡ Some body → is_correct c body.sender ≡ true → Once (SendsBody body) past
 
 -- each frame that a correct party gets, alone or carried, is from its sender
 abbrev pub IsUnforgedAt : Configuration → List Entry → Entry → Type 0
