@@ -1,4 +1,4 @@
-use Rattle.protocol.proofs.RefusingOwed
+use Rattle.protocol.proofs.Evidence.RefusingOwed
 use Rattle.protocol.proofs.refused.correct_replicas_go_on.Goals as goal
 
 pub returns : goal.returns
