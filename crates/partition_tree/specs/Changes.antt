@@ -1,7 +1,7 @@
 -- Changes of pages.
 use Rattle.std.specs.Prelude.{◌≡◌, ℕ, ◌<◌, Bool, false, List, [], ◌∷◌, slice_index_or, slice_set}
 use Rattle.partition_tree.specs.Parts.{part_digest}
-use Rattle.partition_tree.specs.declared.parts.Page.{Page}
+use Rattle.partition_tree.specs.declared.page.Page.{Page}
 
 -- The pages with these texts set, one after another: of two texts for one page the later counts.
 abbrev pub pages_with : List Page → List (List ℕ) → List (List ℕ)

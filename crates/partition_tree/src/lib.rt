@@ -11,14 +11,17 @@
 
 mod digests;
 mod no_memory;
+mod page;
 mod part;
 mod parts;
 mod tree;
 
 pub use digests::{CHILDREN, Digest, digest, digest_of_children};
 pub use no_memory::NoMemory;
-pub use parts::Page;
+pub use page::Page;
 pub use tree::{Level, PAGES, Snapshot, Tree};
 
+#[cfg(test)]
+mod sharing_tests;
 #[cfg(test)]
 mod tests;

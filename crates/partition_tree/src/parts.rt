@@ -1,23 +1,15 @@
 //! The inner parts of a tree, each behind an owner of its own that others may share, and changes of their pages.
 
 ghost use Rattle.std.specs.Prelude.{◌≡◌, ◌<◌, false, IfOk, OnOk, OnErr, map, length, slice_set};
-ghost use Rattle.std.specs.List.{All};
 ghost use Rattle.std.specs.Arc.{arc_value, arc_slice_items};
 ghost use Rattle.partition_tree.specs.Changes.{AreKnown, IsKept, pages_with};
 ghost use Rattle.partition_tree.specs.Parts.{AreFull, pages_of, parts_of, part_digest};
 
 use crate::digests::{CHILDREN, Digest};
 use crate::no_memory::NoMemory;
+use crate::page::Page;
 use crate::part::Part;
-use crate::tree::PAGES;
 use std::sync::{Arc, ArcSlice};
-
-/// A page's index, 0 to 1,023, and the text that it is to have.
-#[derive(Drop)]
-pub struct Page {
-    pub index: usize,
-    pub text: Vec<u8>,
-}
 
 /// Puts a text in the place of a page's, in a copy of the part where others share it.
 pub fn put(part: &mut Arc<Part>, child: usize, text: ArcSlice<u8>) -> Result<(), NoMemory>
@@ -48,7 +40,6 @@ pub fn change_all(
     parts: &mut Vec<Arc<Part>>,
     pages: Vec<Page>,
 ) -> Result<[bool; CHILDREN], NoMemory>
-    requires in_range { All (λ page. page.index < PAGES) pages.items }
     requires full { AreFull (parts_of parts.old.items) }
     requires count { length parts.old.items ≡ CHILDREN }
     ensures pages { OnOk result (pages_of parts.new.items ≡ pages_with pages.items (pages_of parts.old.items)) }

@@ -1,15 +1,15 @@
 //! The tree, and its state at one moment.
 
 ghost use Rattle.std.specs.Prelude.{◌≡◌, ◌<◌, [], IfOk, OnOk, OnErr, length, slice_index_or, slice_set};
-ghost use Rattle.std.specs.List.{All};
 ghost use Rattle.partition_tree.specs.Digests.{root_of, empty_pages};
 ghost use Rattle.partition_tree.specs.Levels.{parts_at, children_of};
 ghost use Rattle.partition_tree.specs.Changes.{pages_with};
 
 use crate::digests::{CHILDREN, Digest, digest_of_children};
 use crate::no_memory::NoMemory;
+use crate::page::Page;
 use crate::part::Part;
-use crate::parts::{Page, change_all, put, renewed};
+use crate::parts::{change_all, put, renewed};
 use std::alloc::Global;
 use std::marker::Model;
 use std::sync::{Arc, ArcSlice};
@@ -116,7 +116,6 @@ impl Tree {
     /// has, each part above those once, and the root once. Takes over the texts' memory. An error leaves the tree as it
     /// was.
     pub fn set_pages(&mut self, pages: Vec<Page>) -> Result<(), NoMemory>
-        requires { All (λ page. page.index < PAGES) pages.items }
         ensures ok { OnOk result (self.new ≡ pages_with pages.items self.old) }
         ensures err { OnErr result (self.new ≡ self.old) }
     {

@@ -1,9 +1,6 @@
 use Rattle.std.proofs.Common.{◌<◌, ◌/◌, ap, sym, subst, ◌∙◌, arith}
 use Rattle.std.proofs.lemmas.List.{length-set}
-use Rattle.std.proofs.lemmas.List.Elements.{All-rest, All-head}
-use Rattle.std.specs.List.{All}
 use Rattle.std.specs.Vec.Iter.{into_iter_items}
-use Rattle.partition_tree.specs.declared.parts.Page.{Page}
 use Rattle.partition_tree.specs.Changes.{pages_with, IsKept}
 use Rattle.partition_tree.specs.Parts.{parts_of, pages_of}
 use Rattle.partition_tree.proofs.Standing.{pages_written, full_written, kept_elsewhere, parts_kept}
@@ -16,14 +13,12 @@ loop-page-preserved-then-branch c =
     let owners = c.loop-page.parts.items in
     let i = c.in-Some.page.index in
     let text = c.in-Some.page.text.items in
-    let InRange = λ (page : Page). page.index < 1024 in
-    let h : i < 1024 = All-head InRange c.in-Some.page _ (subst (All InRange) items was.in_range) in
+    let h : i < 1024 = c.in-Some.page.in_range in
     let is = c.in_ok-change.ensures.ok in
     let pages = pages_written owners i _ _ text was.count was.full h c.index_mut.ensures.value is in
     record {
       can_next = tt;
       is_finite = tt;
-      in_range = All-rest InRange c.in-Some.page _ _ items was.in_range;
       pages =
           ap (pages_with (into_iter_items c.next.new.self)) pages
           ∙ ap (λ more. pages_with more (pages_of owners)) (sym items)
@@ -41,8 +36,7 @@ loop-page-preserved c =
     let owners = c.loop-page.parts.items in
     let i = c.in-Some.page.index in
     let text = c.in-Some.page.text.items in
-    let InRange = λ (page : Page). page.index < 1024 in
-    let h : i < 1024 = All-head InRange c.in-Some.page _ (subst (All InRange) items was.in_range) in
+    let h : i < 1024 = c.in-Some.page.in_range in
     let is = c.in_ok-change.ensures.ok in
     let same = c.in_ok-change.ensures.kept c.if-branch.false in
     let parts = parts_kept owners (i / 32) _ _ (omega arith) c.index_mut.ensures.value same in
@@ -50,7 +44,6 @@ loop-page-preserved c =
     record {
       can_next = tt;
       is_finite = tt;
-      in_range = All-rest InRange c.in-Some.page _ _ items was.in_range;
       pages =
           ap (pages_with (into_iter_items c.next.new.self)) pages
           ∙ ap (λ more. pages_with more (pages_of owners)) (sym items)

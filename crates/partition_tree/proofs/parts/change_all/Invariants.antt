@@ -1,5 +1,4 @@
-use Rattle.std.proofs.Common.{◌≡◌, ◌<◌, length}
-use Rattle.std.specs.List.{All}
+use Rattle.std.proofs.Common.{◌≡◌, length}
 use Rattle.std.specs.Vec.Iter.{into_iter_items}
 use Rattle.partition_tree.specs.Changes.{pages_with, IsKept}
 use Rattle.partition_tree.specs.Parts.{AreFull, pages_of, parts_of}
@@ -9,7 +8,6 @@ abbrev pub invariant-loop-page : goal.invariant-loop-page
 invariant-loop-page l = record {
   can_next : (goal.iterator-loop-page).can_next l.page-iterator;
   is_finite : (goal.iterator-loop-page).is_finite l.page-iterator;
-  in_range : All (λ page. page.index < 1024) (into_iter_items l.page-iterator);
   pages : pages_with (into_iter_items l.page-iterator) (pages_of l.parts.items)
       ≡ pages_with l.fn.pages.items (pages_of l.initial.parts.items);
   full : AreFull (parts_of l.parts.items);
