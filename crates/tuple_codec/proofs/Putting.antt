@@ -1,7 +1,7 @@
 -- Bytes that are put behind others, one text after another.
-use Rattle.std.proofs.Common.{◌≡◌, ℕ, ◌+◌, ◌<◌, ◌≤◌, List, [], ◌∷◌, ◌++◌, length, take, drop, get_or, Result, Ok, Err, ap, sym, refl, ◌∙◌, arith, append_assoc, append-nil, length-append}
+use Rattle.std.proofs.Common.{◌≡◌, ℕ, ◌+◌, ◌<◌, ◌≤◌, List, [], ◌∷◌, ◌++◌, length, take, drop, get_or, Result, Ok, Err, ap, sym, refl, ◌∙◌, arith, append_assoc, append-nil}
 use Rattle.std.proofs.lemmas.List.{take_at, take-take, take-append-le, length-take, at_drop_more, at_drop_all}
-use Rattle.tuple_tree.specs.Items.{Item, Items, item, how_many, items_of}
+use Rattle.tuple_tree.specs.Items.{Item, Items, how_many, items_of}
 use Rattle.tuple_tree.specs.Values.{TupleTree}
 use Rattle.tuple_tree.proofs.Viewing.{items_at}
 use Rattle.tuple_codec.specs.Puts.{Puts}

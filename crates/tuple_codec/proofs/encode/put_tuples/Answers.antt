@@ -1,4 +1,4 @@
-use Rattle.std.proofs.Common.{◌≡◌, ◌++◌, ap, sym, arith, append-nil}
+use Rattle.std.proofs.Common.{◌++◌, ap, sym, arith, append-nil}
 use Rattle.std.proofs.lemmas.Result.{err_from_is_err_and}
 use Rattle.tuple_codec.specs.Spelling.{tuples_spelling}
 use Rattle.tuple_codec.proofs.Putting.{grown, kept_on, kept_grown, tuple_put, tuples_put}
