@@ -2,12 +2,13 @@
 
 ghost use Rattle.std.specs.Prelude.{◌≡◌, ◌+◌, ◌-◌, ◌≤◌, ◌<◌, ◌^◌, codes, true, length, pos, IfOk, IfErr, OnOk, IsTrue, ◌↔◌, Option, option_map};
 ghost use Rattle.tuple_tree.specs.Values.{TupleTree, TemplateTree, datum_length, slot_length};
+ghost use Rattle.tuple_tree.specs.Values as values;
 ghost use Rattle.tuple_tree.specs.AtomView.{datum_of};
 ghost use Rattle.tuple_tree.specs.TupleView.{value_of};
 ghost use Rattle.tuple_tree.specs.TemplateView.{field_of};
 ghost use Rattle.tuple_codec.specs.OperationView.{operation_of};
 ghost use Rattle.tuple_text.specs.Texts.{AreBlanks};
-ghost use Rattle.tuple_text.specs.Reading.{fault_at, blanks, word, gap, finish, digits, positive, signed, numeral, datum, kind, kind_b, kind_t, slot, slot_item, turn, follows, full, no_room, got, stop, begins_datum, begins_slot, opens, kept_with, item_at, list_at, items_at, tuple, template, argument, ending, operation, line, out_line, inp_line, cas_line, rdp_line, all_line, rd_line, lone_template, Gives};
+ghost use Rattle.tuple_text.specs.Reading.{fault_at, blanks, word, gap, finish, digits, positive, signed, numeral, datum, kind, named, behind_b, behind_t, slot, slot_item, turn, follows, full, no_room, got, stop, begins_datum, begins_slot, opens, kept_with, item_at, list_at, items_at, tuple, template, argument, ending, operation, line, out_line, inp_line, cas_line, rdp_line, all_line, rd_line, lone_template, Gives};
 ghost use Rattle.tuple_text.specs.Reading as Reading;
 
 use crate::faults::LineFault;
@@ -22,7 +23,7 @@ const MOST: u64 = 9223372036854775807;
 const BELOW: usize = 7;
 
 /// Why a reader stops.
-#[derive(Clone, Copy, Debug, PartialEq, Eq)]
+#[derive(Clone, Copy)]
 pub(crate) enum Stop {
     /// No text goes on with the next byte.
     BadByte,
@@ -192,6 +193,14 @@ impl<'a> Reader<'a> {
         Ok(Atom::Number(number))
     }
 
+    // A word that stands for a truth value.
+    fn truth(&mut self, letters: &[u8], truth: bool) -> Result<Atom<Global>, Stop>
+        ensures { Gives datum_of result (named letters.now (values.truth truth) self.old.rest.now) self.new.rest.now }
+    {
+        self.word(letters)?;
+        Ok(Atom::Truth(truth))
+    }
+
     // A value that is no tuple.
     #[tactic(auto, unfolding(crate::specs::Reading::datum, crate::specs::Reading::quoted, crate::specs::Reading::byte_string))]
     fn atom(&mut self, alloc: Global) -> Result<Atom<Global>, Stop>
@@ -207,67 +216,58 @@ impl<'a> Reader<'a> {
                 let bytes = self.bytes_literal(alloc)?;
                 Ok(Atom::Bytes(bytes))
             }
-            [b't', ..] => {
-                self.word(b"true")?;
-                Ok(Atom::Truth(true))
-            }
-            [b'f', ..] => {
-                self.word(b"false")?;
-                Ok(Atom::Truth(false))
-            }
+            [b't', ..] => self.truth(b"true", true),
+            [b'f', ..] => self.truth(b"false", false),
             [_, ..] => self.numeral(),
         }
     }
 
-    #[tactic(auto, unfolding(crate::specs::Reading::kind_b))]
-    fn kind_b(&mut self) -> Result<Kind, Stop>
-        ensures { Gives (λ k. k) result (kind_b self.old.rest.now) self.new.rest.now }
+    // The rest of a kind's name.
+    fn named(&mut self, letters: &[u8], kind: Kind) -> Result<Kind, Stop>
+        ensures { Gives (λ k. k) result (named letters.now kind self.old.rest.now) self.new.rest.now }
     {
-        self.word(b"b")?;
+        self.word(letters)?;
+        Ok(kind)
+    }
+
+    // The rest of a kind's name behind its `b`.
+    fn kind_b(&mut self) -> Result<Kind, Stop>
+        ensures { Gives (λ k. k) result (behind_b self.old.rest.now) self.new.rest.now }
+    {
         match self.rest {
             [] => Err(Stop::BadByte),
-            [b'y', ..] => {
-                self.word(b"ytes")?;
-                Ok(Kind::Bytes)
-            }
-            [_, ..] => {
-                self.word(b"ool")?;
-                Ok(Kind::Truth)
-            }
+            [b'y', ..] => self.named(b"ytes", Kind::Bytes),
+            [_, ..] => self.named(b"ool", Kind::Truth),
         }
     }
 
-    #[tactic(auto, unfolding(crate::specs::Reading::kind_t))]
+    // The rest of a kind's name behind its `t`.
     fn kind_t(&mut self) -> Result<Kind, Stop>
-        ensures { Gives (λ k. k) result (kind_t self.old.rest.now) self.new.rest.now }
+        ensures { Gives (λ k. k) result (behind_t self.old.rest.now) self.new.rest.now }
     {
-        self.word(b"t")?;
         match self.rest {
             [] => Err(Stop::BadByte),
-            [b'e', ..] => {
-                self.word(b"ext")?;
-                Ok(Kind::Text)
-            }
-            [_, ..] => {
-                self.word(b"uple")?;
-                Ok(Kind::Tuple)
-            }
+            [b'e', ..] => self.named(b"ext", Kind::Text),
+            [_, ..] => self.named(b"uple", Kind::Tuple),
         }
     }
 
     // The name of a kind.
-    #[tactic(auto, unfolding(crate::specs::Reading::kind))]
+    #[tactic(auto, unfolding(crate::specs::Reading::kind, crate::specs::Reading::kind_b, crate::specs::Reading::kind_t))]
     fn kind(&mut self) -> Result<Kind, Stop>
         ensures { Gives (λ k. k) result (kind self.old.rest.now) self.new.rest.now }
     {
         match self.rest {
             [] => Err(Stop::BadByte),
-            [b'i', ..] => {
-                self.word(b"int")?;
-                Ok(Kind::Number)
+            [b'i', ..] => self.named(b"int", Kind::Number),
+            [b'b', rest @ ..] => {
+                self.rest = rest;
+                self.kind_b()
             }
-            [b'b', ..] => self.kind_b(),
-            [b't', ..] => self.kind_t(),
+            [b't', rest @ ..] => {
+                self.rest = rest;
+                self.kind_t()
+            }
             [_, ..] => Err(Stop::BadByte),
         }
     }
@@ -279,12 +279,12 @@ impl<'a> Reader<'a> {
     {
         match self.rest {
             [] => Err(Stop::BadByte),
-            [b'*', ..] => {
-                self.word(b"*")?;
+            [b'*', rest @ ..] => {
+                self.rest = rest;
                 Ok(Field::Any)
             }
-            [b'?', ..] => {
-                self.word(b"?")?;
+            [b'?', rest @ ..] => {
+                self.rest = rest;
                 let kind = self.kind()?;
                 Ok(Field::Formal(kind))
             }
