@@ -212,6 +212,10 @@ argument one bs = gap bs >>= λ _ rest. one rest
 unfoldable pub ending : Reading Bool
 ending bs = blanks true bs >>= λ _ rest. finish rest
 
+-- the last argument, and blanks alone behind it
+abbrev pub last : {V : Type 0} → Reading V → Reading V
+last one bs = one bs >>= λ v after. ending after >>= λ _ rest. got v rest
+
 unfoldable pub ended : Operation → Reading Operation
 ended o bs = ending bs >>= λ _ rest. got o rest
 

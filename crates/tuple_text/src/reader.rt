@@ -8,7 +8,7 @@ ghost use Rattle.tuple_tree.specs.TupleView.{value_of};
 ghost use Rattle.tuple_tree.specs.TemplateView.{field_of};
 ghost use Rattle.tuple_codec.specs.OperationView.{operation_of};
 ghost use Rattle.tuple_text.specs.Texts.{AreBlanks};
-ghost use Rattle.tuple_text.specs.Reading.{fault_at, blanks, word, gap, finish, digits, positive, signed, numeral, datum, kind, named, behind_b, behind_t, slot, slot_item, turn, follows, full, no_room, got, stop, begins_datum, begins_slot, opens, kept_with, item_at, list_at, items_at, tuple, template, argument, ending, operation, line, out_line, inp_line, cas_line, rdp_line, all_line, rd_line, lone_template, Gives};
+ghost use Rattle.tuple_text.specs.Reading.{fault_at, blanks, word, gap, finish, digits, positive, signed, numeral, datum, kind, named, behind_b, behind_t, slot, slot_item, turn, follows, full, no_room, got, stop, begins_datum, begins_slot, opens, kept_with, item_at, list_at, items_at, tuple, template, argument, ending, last, operation, line, out_line, inp_line, cas_line, rdp_line, all_line, rd_line, lone_template, Gives};
 ghost use Rattle.tuple_text.specs.Reading as Reading;
 
 use crate::faults::LineFault;
@@ -518,6 +518,33 @@ impl<'a> Reader<'a> {
         self.template(alloc)
     }
 
+    // A tuple behind a gap, and blanks alone behind it.
+    fn last_tuple(&mut self, alloc: Global) -> Result<Tuple<Global>, Stop>
+        ensures { Gives (λ t. t) result (last (argument tuple) self.old.rest.now) self.new.rest.now }
+    {
+        let tuple = self.tuple_argument(alloc)?;
+        self.ending()?;
+        Ok(tuple)
+    }
+
+    // A template, and blanks alone behind it.
+    fn closing_template(&mut self, alloc: Global) -> Result<Template<Global>, Stop>
+        ensures { Gives (λ p. p) result (last template self.old.rest.now) self.new.rest.now }
+    {
+        let template = self.template(alloc)?;
+        self.ending()?;
+        Ok(template)
+    }
+
+    // The same behind a gap.
+    #[tactic(auto, unfolding(crate::specs::Reading::argument))]
+    fn last_template(&mut self, alloc: Global) -> Result<Template<Global>, Stop>
+        ensures { Gives (λ p. p) result (last (argument template) self.old.rest.now) self.new.rest.now }
+    {
+        self.gap()?;
+        self.closing_template(alloc)
+    }
+
     // How many tuples an `rdAll` asks for.
     #[tactic(auto, unfolding(crate::specs::Reading::argument))]
     fn count_argument(&mut self) -> Result<Max, Stop>
@@ -544,8 +571,7 @@ impl<'a> Reader<'a> {
         ensures { Gives operation_of result (out_line self.old.rest.now) self.new.rest.now }
     {
         self.word(b"out")?;
-        let tuple = self.tuple_argument(alloc)?;
-        self.ending()?;
+        let tuple = self.last_tuple(alloc)?;
         Ok(Op::Out(tuple))
     }
 
@@ -554,8 +580,7 @@ impl<'a> Reader<'a> {
         ensures { Gives operation_of result (inp_line self.old.rest.now) self.new.rest.now }
     {
         self.word(b"inp")?;
-        let template = self.template_argument(alloc)?;
-        self.ending()?;
+        let template = self.last_template(alloc)?;
         Ok(Op::Inp(template))
     }
 
@@ -565,8 +590,7 @@ impl<'a> Reader<'a> {
     {
         self.word(b"cas")?;
         let template = self.template_argument(alloc)?;
-        let tuple = self.tuple_argument(alloc)?;
-        self.ending()?;
+        let tuple = self.last_tuple(alloc)?;
         Ok(Op::Cas(template, tuple))
     }
 
@@ -576,8 +600,7 @@ impl<'a> Reader<'a> {
         ensures { Gives operation_of result (rdp_line self.old.rest.now) self.new.rest.now }
     {
         self.word(b"p")?;
-        let template = self.template_argument(alloc)?;
-        self.ending()?;
+        let template = self.last_template(alloc)?;
         Ok(Op::Rdp(template))
     }
 
@@ -588,8 +611,7 @@ impl<'a> Reader<'a> {
     {
         self.word(b"All")?;
         let max = self.count_argument()?;
-        let template = self.template_argument(alloc)?;
-        self.ending()?;
+        let template = self.last_template(alloc)?;
         Ok(Op::RdAll(max, template))
     }
 
@@ -624,9 +646,7 @@ impl<'a> Reader<'a> {
         ensures { Gives (λ p. p) result (lone_template self.old.rest.now) self.new.rest.now }
     {
         self.blanks(true);
-        let template = self.template(alloc)?;
-        self.ending()?;
-        Ok(template)
+        self.closing_template(alloc)
     }
 
     /// The operation of the line.

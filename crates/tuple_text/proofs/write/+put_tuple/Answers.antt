@@ -1,4 +1,4 @@
-use Rattle.std.proofs.Common.{◌≡◌, ℕ, List, [], ◌∷◌, ◌++◌, refl, ap, ◌∙◌, drop, append_assoc, append-nil, sym, arith, ◌+◌, ◌*◌}
+use Rattle.std.proofs.Common.{◌≡◌, [], ◌∷◌, ◌++◌, ap, ◌∙◌, drop, append_assoc, append-nil, sym, arith, ◌+◌, ◌*◌}
 use Rattle.std.proofs.lemmas.Result.{err_from_is_err_and}
 use Rattle.tuple_tree.specs.Items.{levels_in}
 use Rattle.tuple_tree.specs.TupleView.{value_of, tuple_of}
