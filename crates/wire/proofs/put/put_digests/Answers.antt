@@ -1,4 +1,4 @@
-use Rattle.std.proofs.Common.{◌≡◌, ◌++◌, refl}
+use Rattle.std.proofs.Common.{refl}
 use Rattle.wire.specs.Lists.{each_spelling}
 use Rattle.wire.proofs.Appending.{one_more, none_left}
 use Rattle.wire.proofs.put.put_digests.Goals as goal

@@ -1,4 +1,4 @@
-use Rattle.std.proofs.Common.{◌≡◌, ◌++◌, ◌∙◌, ap, refl, map}
+use Rattle.std.proofs.Common.{◌++◌, ◌∙◌, ap, refl, map}
 use Rattle.wire.specs.Lists.{each_spelling}
 use Rattle.wire.specs.Views.{batch_text}
 use Rattle.wire.proofs.Appending.{one_more, none_left}

@@ -1,4 +1,4 @@
-use Rattle.std.proofs.Common.{◌≡◌, ◌++◌, refl, map}
+use Rattle.std.proofs.Common.{refl, map}
 use Rattle.wire.specs.Lists.{each_spelling}
 use Rattle.wire.specs.Views.{claim_data}
 use Rattle.wire.specs.Spelling.{claim_spelling}
