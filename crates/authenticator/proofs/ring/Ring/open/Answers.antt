@@ -1,4 +1,4 @@
-use Rattle.std.proofs.Common.{◌≡◌, ◌∙◌, Some, None, ap}
+use Rattle.std.proofs.Common.{◌≡◌, ◌∙◌, Some, ap}
 use Rattle.wire.specs.Views.{frame_data, party_number}
 use Rattle.authenticator.specs.Opening.{refusal}
 use Rattle.authenticator.proofs.Refusing.{refused, opened, not_refused}
