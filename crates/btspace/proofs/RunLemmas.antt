@@ -17,7 +17,7 @@ use Rattle.btspace.specs.Run.{Ending, complete, refused_at, cut_short, result_li
 use Rattle.btspace.specs.NextLines.{Gives, Fails, BeginsWith, IsNextLine}
 use Rattle.btspace.specs.declared.pieces.ReadFault.{ReadFault}
 use Rattle.btspace.specs.declared.pieces.ReadFault.TheVariants as pieces
-use Rattle.btspace.specs.Endings.{Along, AddsResults, StopsBy, EndsRun, MovesOn, HeldForLine, IsWriteFault, fault_at, read_fault_of}
+use Rattle.btspace.specs.Endings.{Along, AddsResults, StopsBy, MovesOn, IsWriteFault, fault_at, read_fault_of}
 use Rattle.btspace.specs.declared.input.NextLine.TheVariants as next
 use Rattle.btspace.specs.declared.input.NoLine.{NoLine}
 use Rattle.btspace.specs.declared.input.NoLine.TheVariants as no
