@@ -1,4 +1,13 @@
 //! `btspace`: a tuple space at the command line.
+//!
+//! # What is proved
+//!
+//! `local`, over any reader and writer whose bytes are known: at Ok what is written is the result lines of the run
+//! over the lines read; at a refused line those of the lines before it, and the fault is its number and refusal; at
+//! want of memory or a reader's error those of some lines in front. `show` writes the tuple that the digits spell, and
+//! refuses exactly where they spell none. The texts of standard error and the statuses follow from the faults. Results
+//! are held back only while a whole line is at hand, so that nobody waits for an answer that is there; in which order
+//! reads and writes come is tested.
 #![tactic(auto)]
 
 mod complaints;

@@ -7,6 +7,12 @@
 //!
 //! Trees and snapshots share their texts and the digests of their pages: each page's text lies behind an `Arc`, and so
 //! does each part. What is set later is put into parts of its own.
+//!
+//! # What is proved
+//!
+//! `root` and `children` are the plain recursion over all pages, though three digests alone are made for a page that
+//! is set; `set_page` and `set_pages` set all that they are given, or nothing where memory runs out. A [`Snapshot`]
+//! keeps its pages whatever is set later, and gives a tree again.
 #![tactic(auto)]
 
 mod digests;

@@ -1,4 +1,24 @@
 //! The laws of the protocol, over every trace of correct replicas and clients.
+//!
+//! # What is proved
+//!
+//! `points_are_linear` is the headline: over every valid configuration and every run in which at most `f` replicas and
+//! any clients are faulty, no message of a correct party is forged and no digests collide, the answers that correct
+//! clients accept, of reads and writes alike, are those of one sequential tuple space, in which each operation acts at
+//! most once, an accepted one exactly once, at a position between its invocation and its acceptance. With it stand the
+//! laws of agreement over all views (`prepared_agree`, `committed_stays`, `committed_agree`, `executed_agree`,
+//! `states_agree`, `roots_agree`), `accepted_at_levels`, `none_runs_twice`, and the same laws for parties of which
+//! only safety is known (`safe_histories_are_linear`, `weak_histories_are_one_space`,
+//! `safe_histories_accept_at_levels`). `bytes_are_read` ties what the definitions read to the grammar of frames.
+//!
+//! The other modules show what the definitions accept and refuse: the first operation of a client at four replicas,
+//! with the bytes of all its frames, is a run, unforged and fed by its schedule ([`accepted`], [`clients`]); over a
+//! hundred wrong histories, lists and traces are refused ([`refused`] and the six modules beside it); a new view is
+//! selected exactly where it meets the rules ([`selected`]); and further laws say what certificates, schedules and the
+//! premises themselves hold ([`certified`], [`fed`], [`premises`]).
+//!
+//! They are laws over runs: that replicas and clients make runs is promised by the crates that make them, once they
+//! stand.
 #![tactic(auto)]
 
 pub mod accepted;

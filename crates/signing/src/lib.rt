@@ -3,6 +3,12 @@
 //! A seed gives 64 one-time keys (Lamport, Constructing digital signatures from a one way function, SRI 1979), whose
 //! digests are the leaves of a tree (Merkle, A certified digital signature, CRYPTO 1989). Its root is the public key.
 //! The hash is SHA-256 (FIPS 180-4); the derivation of the secrets, the sizes and the layout are this project's own.
+//!
+//! # What is proved
+//!
+//! What was signed verifies, a `Signer` uses no leaf twice, `verify` is exactly its definition. `hearing` says that a
+//! party hears exactly the frames that open and, where they have to be signed, have their sender's signature; a view
+//! change or new view is heard by all or by none. That nobody else can sign is no claim of a proof.
 #![tactic(auto)]
 
 mod laws;

@@ -4,6 +4,15 @@
 //! The space holds at most [`MAX_TUPLES`] tuples. Where several match, the oldest is chosen. Each stored tuple has a
 //! birth number, which puts it on one of [`PAGES`] pages of at most [`MAX_ON_PAGE`] tuples; that part is this project's
 //! own.
+//!
+//! # What is proved
+//!
+//! `apply` answers and leaves what the definition says of the list of tuples in order of age (`outcome`,
+//! `tuples_after`), for `out`, `rdp`, `inp`, `cas` and `rdAll`; at want of memory it is unchanged. `peek` answers
+//! reads alone, and refuses exactly the others. `page_text` and `header_text` are the pages of the definition;
+//! `from_pages` gives a space exactly where the texts are a state's, want of memory aside. Laws: `births_are_least`,
+//! `states_stay_states`, `tuples_follow_states`, `answers_are_valid`, `pages_determine` (equal pages are equal
+//! states), `batches_leave_states`.
 #![tactic(auto)]
 
 mod births;

@@ -3,6 +3,11 @@
 //! A template matches a tuple where both have the same number of fields and each field matches (Bessani and others,
 //! DepSpace, EuroSys 2008, section 2): an actual an equal value, a formal each value of its kind, `Any` each value, and
 //! a nested template each nested tuple that it matches. Formals by kind and nesting are this project's own.
+//!
+//! # What is proved
+//!
+//! `matches` holds exactly where the relation `Matches` does; `matching_is_decided` says that the test in the space's
+//! definition is that relation.
 #![tactic(auto)]
 
 ghost use Rattle.std.specs.Prelude.{◌≡◌, IsTrue, ◌↔◌};

@@ -1,4 +1,11 @@
 //! Operations on a tuple space, their answers, and the bytes of both.
+//!
+//! # What is proved
+//!
+//! `encode_*` append the one spelling, or leave the bytes as they were. `decode_*` give a value only where the bytes
+//! in front spell it, and refuse only where no front does, want of memory aside. `is_op` and `is_result` hold exactly
+//! of a whole spelling and take no memory. `one_spelling` is the law that no spelling begins another and each stands
+//! for one value.
 #![tactic(auto)]
 
 mod bad;

@@ -1,4 +1,12 @@
 //! The messages that replicas and clients send each other, and the bytes of their frames.
+//!
+//! # What is proved
+//!
+//! `decode` gives a frame exactly where the bytes spell one, want of memory aside, and tells a frame that is too long
+//! from bytes that are none; `encode`, `begin_frame`, `put_proof` and `encode_frame` write the spelling; `body_bytes`
+//! is the slice that a MAC or a signature stands on. Laws: `one_spelling` (no frame begins another),
+//! `reads_what_is_spelled`, `carries_frames` (what a message carries are frames, and nothing is left out). Signatures
+//! are only carried here.
 #![tactic(auto)]
 
 mod bodies;
