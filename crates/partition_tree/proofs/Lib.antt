@@ -1,3 +1,4 @@
+pub mod Changing
 pub mod Holding
 pub mod Joining
 pub mod Parting

@@ -1,6 +1,6 @@
 //! The tree, and its state at one moment.
 
-ghost use Rattle.std.specs.Prelude.{◌≡◌, ◌<◌, [], IfOk, OnOk, OnErr, length, slice_index_or, slice_set};
+ghost use Rattle.std.specs.Prelude.{◌≡◌, ◌<◌, [], IfOk, IsOk, OnOk, OnErr, length, slice_index_or, slice_set};
 ghost use Rattle.partition_tree.specs.Digests.{root_of, empty_pages};
 ghost use Rattle.partition_tree.specs.Levels.{parts_at, children_of};
 ghost use Rattle.partition_tree.specs.Changes.{pages_with};
@@ -94,12 +94,13 @@ impl Tree {
         self.root
     }
 
-    /// Sets the text of page `i`, 0 to 1,023, and hashes it and twice 1,024 bytes of digests, or nothing where the page
-    /// has that text. An error leaves the tree as it was.
+    /// Sets the text of page `i`, 0 to 1,023, and hashes it and twice 1,024 bytes of digests. Where the page has that
+    /// text already it hashes nothing and takes no memory. An error leaves the tree as it was.
     pub fn set_page(&mut self, i: usize, text: &[u8]) -> Result<(), NoMemory>
         requires { i < PAGES }
         ensures ok { OnOk result (self.new ≡ slice_set self.old i text.now) }
         ensures err { OnErr result (self.new ≡ self.old) }
+        ensures same { slice_index_or self.old i [] ≡ text.now → IsOk result }
     {
         if self.page(i) == text {
             return Ok(());

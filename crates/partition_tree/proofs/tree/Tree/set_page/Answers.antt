@@ -1,9 +1,10 @@
-use Rattle.std.proofs.Common.{◌≡◌, ◌/◌, ◌%◌, ℕ, List, [], set, map, length, ap, sym, subst, ◌∙◌, arith}
+use Rattle.std.proofs.Common.{◌≡◌, ◌≢◌, Bool, true, false, ◌/◌, ◌%◌, ℕ, List, [], set, map, length, ap, sym, subst, ◌∙◌, arith}
 use Rattle.std.proofs.lemmas.Bool.Decides.{Decides-eqb}
 use Rattle.std.proofs.lemmas.List.{length-set}
 use Rattle.std.proofs.lemmas.Result.{MatchResult-from_err}
 use Rattle.std.proofs.lemmas.Slice.Eq.{slice_eq-Decides}
 use Rattle.std.specs.Arc.{arc_value}
+use Rattle.std.specs.Bool.{Decides}
 use Rattle.partition_tree.specs.Parts.{AreFull, pages_in, part_digest}
 use Rattle.partition_tree.proofs.Holding.{set_there}
 use Rattle.partition_tree.proofs.Standing.{parts_kept, pages_written, full_written, digests_written}
@@ -13,6 +14,23 @@ pub returns-then-eq-clause-ok : goal.returns-then-eq-clause-ok
 returns-then-eq-clause-ok c =
     let decided = slice_eq-Decides Decides-eqb c.page.result.now c.args.text.now _ c.eq.ensures in
     set_there _ c.args.i [] c.args.text.now (sym c.page.ensures.text ∙ decided.0 c.if-eq.true)
+
+-- the page has another text where the test says so
+other : (xs ys : List ℕ) (r : Bool) → Decides r (xs ≡ ys) → r ≡ false → xs ≢ ys
+other xs ys r decided off e =
+    let on = decided.1 e in
+    let both : true ≡ false = sym on ∙ off in
+    cc
+
+pub returns-in_err-text-clause-same : goal.returns-in_err-text-clause-same
+returns-in_err-text-clause-same c e =
+    let decided = slice_eq-Decides Decides-eqb c.page.result.now c.args.text.now _ c.eq.ensures in
+    absurd (other _ _ _ decided c.if-eq.false (c.page.ensures.text ∙ e))
+
+pub returns-in_err-put-clause-same : goal.returns-in_err-put-clause-same
+returns-in_err-put-clause-same c e =
+    let decided = slice_eq-Decides Decides-eqb c.page.result.now c.args.text.now _ c.eq.ensures in
+    absurd (other _ _ _ decided c.if-eq.false (c.page.ensures.text ∙ e))
 
 pub invariant_of-self : goal.invariant_of-self
 invariant_of-self c =
