@@ -14,6 +14,3 @@ mod tree;
 pub use digests::{CHILDREN, Digest, digest, digest_of_children};
 pub use no_memory::NoMemory;
 pub use tree::{Level, PAGES, Snapshot, Tree};
-
-#[cfg(test)]
-mod tests;

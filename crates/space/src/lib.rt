@@ -9,8 +9,6 @@
 mod births;
 mod laws;
 mod matching;
-#[cfg(test)]
-mod page_tests;
 mod pages;
 mod reading;
 #[cfg(test)]
