@@ -11,8 +11,6 @@ mod laws;
 mod matching;
 mod pages;
 mod reading;
-#[cfg(test)]
-mod tests;
 mod tuples;
 
 pub use births::{MAX_ON_PAGE, PAGES};

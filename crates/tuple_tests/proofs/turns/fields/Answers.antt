@@ -1,5 +1,5 @@
 use Rattle.std.proofs.Common.{rules, refl}
-use Rattle.across.proofs.turns.fields.Goals as goal
+use Rattle.tuple_tests.proofs.turns.fields.Goals as goal
 
 pub same-template : goal.same-template
 same-template g c = refl

@@ -1,5 +1,5 @@
 use Rattle.std.proofs.Common.{rules}
-use Rattle.across.proofs.arena.a_tuple_in_an_arena.Goals as goal
+use Rattle.tuple_tests.proofs.arena.a_template_in_an_arena.Goals as goal
 
 pub unreachable-assert_eq : goal.unreachable-assert_eq
 unreachable-assert_eq g c = search rules

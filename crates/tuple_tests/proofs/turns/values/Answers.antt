@@ -1,5 +1,5 @@
 use Rattle.std.proofs.Common.{rules, refl}
-use Rattle.across.proofs.turns.values.Goals as goal
+use Rattle.tuple_tests.proofs.turns.values.Goals as goal
 
 pub same-tuple : goal.same-tuple
 same-tuple g c = refl
