@@ -5,4 +5,5 @@ pub mod Entries
 pub mod Frames
 pub mod Keeping
 pub mod Lengths
+pub mod Refusing
 pub mod Sealing

@@ -1,5 +1,5 @@
 -- What a party takes from a frame that it gets, and why it refuses one. Whether a signature verifies is not asked here.
-use Rattle.std.specs.Prelude.{ℕ, Bool, ◌||◌, IsTrue, ◌≡◌, false, List}
+use Rattle.std.specs.Prelude.{ℕ, Bool, ◌||◌, IsTrue, ◌≡◌, false, List, Option, Some, None, if◌then◌else◌}
 use Rattle.wire.specs.Messages.{FrameData}
 use Rattle.wire.specs.Spelling.{SpellsFrame, proof_is_signed}
 use Rattle.wire.specs.Faults.{IsTooLarge}
@@ -11,6 +11,12 @@ use Rattle.authenticator.specs.Authentic.{is_authentic}
 -- The proof of the frame has the right entry for the party, or is a signature.
 abbrev pub may_open : List ℕ → ℕ → FrameData → Bool
 may_open seed party frame = proof_is_signed frame.proof || is_authentic seed party frame
+
+-- Why the party refuses the frame, where it does.
+abbrev pub refusal : Membership → ℕ → FrameData → Option OpenFault
+refusal m party frame =
+    if has_sender m frame.body then (if may_open m.seed party frame then None else Some faults.BadMac)
+    else Some faults.UnknownSender
 
 -- The bytes are this frame, from a party that sends such messages, and authentic to the party or signed.
 pub record Opens (m : Membership) (party : ℕ) (bytes : List ℕ) (frame : FrameData) : Type 0 where

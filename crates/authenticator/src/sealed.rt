@@ -8,7 +8,7 @@ ghost use Rattle.wire.specs.Lists.{Each};
 ghost use Rattle.authenticator.specs.Sealing.{IsSealable, IsTooLong, entry_for, sealed_for};
 ghost use Rattle.wire.specs.Views.{body_data, frame_data, party_number, mac_data};
 ghost use Rattle.authenticator.specs.Authentic.{has_mac, is_mac_for};
-ghost use Rattle.authenticator.specs.Opening.{Opens, Refuses, may_open};
+ghost use Rattle.authenticator.specs.Opening.{Opens, Refuses, may_open, refusal};
 
 use crate::mac::same;
 use crate::ring::Ring;
@@ -144,13 +144,25 @@ impl Ring {
         ensures same { self.new ≡ self.old }
     {
         let frame = decode(alloc, bytes)?;
+        match self.refusal(&frame, bytes, me.number()) {
+            Some(fault) => Err(fault),
+            None => Ok(Opened { frame }),
+        }
+    }
+
+    // Why the party refuses the frame, which the bytes spell, where it does.
+    fn refusal(&mut self, frame: &Frame, bytes: &[u8], party: u16) -> Option<OpenFault>
+        requires { SpellsFrame bytes.now (frame_data frame.now) }
+        ensures value { result ≡ refusal self.old party (frame_data frame.now) }
+        ensures same { self.new ≡ self.old }
+    {
         if !self.has_sender(&frame.body) {
-            return Err(OpenFault::UnknownSender);
+            return Some(OpenFault::UnknownSender);
         }
-        if !self.may_open(&frame, bytes, me.number()) {
-            return Err(OpenFault::BadMac);
+        if !self.may_open(frame, bytes, party) {
+            return Some(OpenFault::BadMac);
         }
-        Ok(Opened { frame })
+        None
     }
 
     // Whether the proof of the frame, which the bytes spell, has the right entry for the party or is a signature.

@@ -17,7 +17,7 @@ use Rattle.btspace.specs.Run.{Ending, complete, refused_at, cut_short, result_li
 use Rattle.btspace.specs.NextLines.{Gives, Fails, BeginsWith, IsNextLine}
 use Rattle.btspace.specs.declared.pieces.ReadFault.{ReadFault}
 use Rattle.btspace.specs.declared.pieces.ReadFault.TheVariants as pieces
-use Rattle.btspace.specs.Endings.{Along, AddsResults, StopsBy, MovesOn, Keeps, IsWriteFault, fault_at, read_fault_of}
+use Rattle.btspace.specs.Endings.{Along, AddsResults, StopsBy, MovesOn, IsWriteFault, fault_at, read_fault_of}
 use Rattle.btspace.specs.declared.input.NextLine.TheVariants as next
 use Rattle.btspace.specs.declared.input.NoLine.{NoLine}
 use Rattle.btspace.specs.declared.input.NoLine.TheVariants as no
@@ -76,15 +76,6 @@ module _ (bytes : List ℕ) (known old new : Option (List ℕ)) (n : ℕ) (ts : 
         answered;
   }
 
-  pub past_write : (written : Option (List ℕ)) → Appends new written pending → Along bytes known old written n ts []
-  past_write written appended = record {
-    rest = along.rest;
-    done = along.done ++ pending;
-    known_is = along.known_is;
-    wrote = Appends-trans old new written along.done pending along.wrote appended;
-    leads = λ more ending r. subst (λ l. Runs 1 [] (lines bytes) (l ++ more) ending) (sym (append-nil (along.done ++ pending))) (along.leads more ending r);
-  }
-
 -- A front of what was pending went to the writer.
 pub moved : (bytes : List ℕ) (known old new written : Option (List ℕ)) (n : ℕ) (ts : List TupleTree) (pending still : List ℕ)
     → Along bytes known old new n ts pending → MovesOn new written pending still → Along bytes known old written n ts still
@@ -97,6 +88,17 @@ moved bytes known old new written n ts pending still along moves = record {
       subst (λ l. Runs 1 [] (lines bytes) (l ++ more) ending) (ap (λ l. along.done ++ l) (sym moves.split) ∙ sym (append_assoc along.done moves.gone still)) (along.leads more ending r);
 }
 
+-- Nothing went to the writer, or all.
+pub moves_none : (known : Option (List ℕ)) (held : List ℕ) → MovesOn known known held held
+moves_none known held = record { gone = []; wrote = Appends-nil known; split = refl }
+
+pub moves_all : (old new : Option (List ℕ)) (held still : List ℕ) → Appends old new held → still ≡ [] → MovesOn old new held still
+moves_all old new held still appended none = record {
+  gone = held;
+  wrote = appended;
+  split = ap (λ l. held ++ l) none ∙ append-nil held;
+}
+
 -- what a step of the run says of the bytes that are left, where they are known
 pub known_of : (P : List ℕ → Type 0) (bytes : List ℕ) (known old new : Option (List ℕ)) (n : ℕ) (ts : List TupleTree) (pending : List ℕ)
     (along : Along bytes known old new n ts pending) → IfSome known P → P along.rest
@@ -105,6 +107,12 @@ known_of P bytes known old new n ts pending along h = subst (λ o. IfSome o P) a
 pub each_known : (P Q : List ℕ → Type 0) (start : Option (List ℕ)) → ((bytes : List ℕ) → P bytes → Q bytes) → IfSome start P → IfSome start Q
 each_known P Q None f h = tt
 each_known P Q (Some bytes) f h = f bytes h
+
+pub at_number : (start known old new : Option (List ℕ)) (n m : ℕ) (ts : List TupleTree) (pending : List ℕ) → n ≡ m
+    → IfSome start (λ bytes. Along bytes known old new n ts pending)
+    → IfSome start (λ bytes. Along bytes known old new m ts pending)
+at_number start known old new n m ts pending e h =
+    subst (λ k. IfSome start (λ bytes. Along bytes known old new k ts pending)) e h
 
 -- an operation raises the next birth number by 257 at the most
 first_passing_below : (test : ℕ → Bool) (n start : ℕ) → first_passing test n start ≤ start + n
@@ -156,50 +164,50 @@ module _ (bytes : List ℕ) (known old new : Option (List ℕ)) (n : ℕ) (ts : 
   pub fails_so : (why : NoLine) → n < 2 ^ 48 → result ≡ Err why → StopsBy (fault_at n why) bytes old new pending
   fails_so why below e = failed bytes known old new n ts pending along why below (fails why e)
 
-  pub runs_on : (field : NextLine) (op : Op Global) (after : SpaceState) (before : SpaceState) (written : Option (List ℕ)) (still : List ℕ) → n < 2 ^ 48
-      → result ≡ Ok field → field ≡ next.Operation op → ts ≡ tuples_of before → after ≡ state_after before (operation_of op)
-      → MovesOn new written (pending ++ result_line (outcome ts (operation_of op))) still → Along bytes left old written (n + 1) (tuples_of after) still
-  runs_on field op after before written still below e f t s moves =
+  pub runs_on : (field : NextLine) (op : Op Global) (after before : SpaceState) (more_pending : List ℕ) → n < 2 ^ 48
+      → result ≡ Ok field → field ≡ next.Operation op → ts ≡ tuples_of before
+      → after ≡ state_after before (operation_of op)
+      → more_pending ≡ pending ++ result_line (outcome ts (operation_of op))
+      → Along bytes left old new (n + 1) (tuples_of after) more_pending
+  runs_on field op after before more_pending below e f t s w =
       let given = gives field (next.Operation op) e f in
       let is_after : tuples_of after ≡ tuples_after ts (operation_of op) =
-      ap tuples_of s ∙ (tuples_of-state_after before (operation_of op) ∙ ap (λ us. tuples_after us (operation_of op)) (sym t)) in
-      moved bytes left old new written (n + 1) (tuples_of after) (pending ++ result_line (outcome ts (operation_of op))) still
-      (past_operation bytes known old new n ts pending along left (operation_of op) given.0 (pending ++ result_line (outcome ts (operation_of op))) (tuples_of after) below given.1 given.2 is_after refl)
-      moves
+      ap tuples_of s
+      ∙ (tuples_of-state_after before (operation_of op) ∙ ap (λ us. tuples_after us (operation_of op)) (sym t)) in
+      past_operation bytes known old new n ts pending along left (operation_of op) given.0 more_pending
+      (tuples_of after) below given.1 given.2 is_after w
 
-  pub stops_keeping : (fault : LocalFault) (written : Option (List ℕ)) (still : List ℕ) → Keeps fault new written pending still → StopsBy fault bytes old written still
-  stops_keeping (local.Refused line fault) written still k = absurd k
-  stops_keeping local.NoMemory written still k =
-      subst (λ p. AddsResults bytes cut_short old written p) (sym k.1) (subst (λ w. AddsResults bytes cut_short old w pending) (sym k.0) (cut bytes known old new n ts pending along))
-  stops_keeping (local.Read error) written still k = absurd k
-  stops_keeping (local.Write error) written still k = tt
+  pub stops_keeping : (still : List ℕ) → still ≡ pending → AddsResults bytes cut_short old new still
+  stops_keeping still e =
+      subst (λ p. AddsResults bytes cut_short old new p) (sym e) (cut bytes known old new n ts pending along)
 
 -- What is left behind the last line that there may be.
-module _ (start known old new : Option (List ℕ)) (n : ℕ) (ts : List TupleTree) (pending : List ℕ) (result : Result Bool ReadFault)
-    (along : IfSome start (λ bytes. Along bytes known old new n ts pending))
-    (more : IfSome known (λ xs. IfOk result (λ is_more. MatchBool is_more (BeginsWith (λ _. Unit {0}) xs) (lines xs ≡ [])))) where
-  left_behind : (bytes : List ℕ) (field : Bool) → result ≡ Ok field → (a : Along bytes known old new n ts pending) → MatchBool field (BeginsWith (λ _. Unit {0}) a.rest) (lines a.rest ≡ [])
-  left_behind bytes field e a =
-      let h = known_of (λ xs. IfOk result (λ is_more. MatchBool is_more (BeginsWith (λ _. Unit {0}) xs) (lines xs ≡ []))) bytes known old new n ts pending a more in
-      subst (λ r. IfOk r (λ is_more. MatchBool is_more (BeginsWith (λ _. Unit {0}) a.rest) (lines a.rest ≡ []))) e h
+module _ (bytes : List ℕ) (known old new : Option (List ℕ)) (n : ℕ) (ts : List TupleTree) (pending : List ℕ)
+    (along : Along bytes known old new n ts pending) (result : Result Bool ReadFault)
+    (more : IfSome known (λ xs. IfOk result (λ is_more.
+    MatchBool is_more (BeginsWith (λ _. Unit {0}) xs) (lines xs ≡ [])))) where
+  left_behind : (field : Bool) → result ≡ Ok field
+      → MatchBool field (BeginsWith (λ _. Unit {0}) along.rest) (lines along.rest ≡ [])
+  left_behind field e =
+      let LeftBehind : List ℕ → Bool → Type 0 =
+      λ xs is_more. MatchBool is_more (BeginsWith (λ _. Unit {0}) xs) (lines xs ≡ []) in
+      subst (λ r. IfOk r (LeftBehind along.rest)) e
+      (known_of (λ xs. IfOk result (LeftBehind xs)) bytes known old new n ts pending along more)
 
-  pub one_too_many : (field : Bool) → result ≡ Ok field → field ≡ true → 2 ^ 48 ≤ n → n ≤ 2 ^ 48 → IfSome start (λ bytes. AddsResults bytes (refused_at (2 ^ 48) TooLong) old new pending)
-  one_too_many field e f low high =
-      let at : n ≡ 2 ^ 48 = omega arith in
-      each_known (λ bytes. Along bytes known old new n ts pending) (λ bytes. AddsResults bytes (refused_at (2 ^ 48) TooLong) old new pending) start
-      (λ bytes a. subst (λ m. AddsResults bytes (refused_at m TooLong) old new pending) at
-      (late bytes known old new n ts pending a low (subst (λ b. MatchBool b (BeginsWith (λ _. Unit {0}) a.rest) (lines a.rest ≡ [])) f (left_behind bytes field e a)))) along
+  pub one_too_many : (field : Bool) → result ≡ Ok field → field ≡ true → 2 ^ 48 ≤ n
+      → AddsResults bytes (refused_at n TooLong) old new pending
+  one_too_many field e f low =
+      late bytes known old new n ts pending along low
+      (subst (λ b. MatchBool b (BeginsWith (λ _. Unit {0}) along.rest) (lines along.rest ≡ [])) f (left_behind field e))
 
-  pub none_left : (field : Bool) → result ≡ Ok field → field ≡ false → IfSome start (λ bytes. AddsResults bytes complete old new pending)
+  pub none_left : (field : Bool) → result ≡ Ok field → field ≡ false → AddsResults bytes complete old new pending
   none_left field e f =
-      each_known (λ bytes. Along bytes known old new n ts pending) (λ bytes. AddsResults bytes complete old new pending) start
-      (λ bytes a. at_last bytes known old new n ts pending a (subst (λ b. MatchBool b (BeginsWith (λ _. Unit {0}) a.rest) (lines a.rest ≡ [])) f (left_behind bytes field e a))) along
+      at_last bytes known old new n ts pending along
+      (subst (λ b. MatchBool b (BeginsWith (λ _. Unit {0}) along.rest) (lines along.rest ≡ [])) f (left_behind field e))
 
-  pub not_read : (fault : ReadFault) → IfSome start (λ bytes. StopsBy (read_fault_of fault) bytes old new pending)
-  not_read pieces.NoMemory =
-      each_known (λ bytes. Along bytes known old new n ts pending) (λ bytes. AddsResults bytes cut_short old new pending) start (λ bytes a. cut bytes known old new n ts pending a) along
-  not_read (pieces.Read error) =
-      each_known (λ bytes. Along bytes known old new n ts pending) (λ bytes. AddsResults bytes cut_short old new pending) start (λ bytes a. cut bytes known old new n ts pending a) along
+  pub not_read : (fault : ReadFault) → StopsBy (read_fault_of fault) bytes old new pending
+  not_read pieces.NoMemory = cut bytes known old new n ts pending along
+  not_read (pieces.Read error) = cut bytes known old new n ts pending along
 
 -- The results that were pending are written too.
 module _ (start old new written : Option (List ℕ)) (pending : List ℕ) (appended : Appends new written pending) where
@@ -222,12 +230,17 @@ module _ (start old new written : Option (List ℕ)) (pending : List ℕ) (appen
       each_known (λ bytes. StopsBy fault bytes old new pending) (λ bytes. StopsBy fault bytes old written []) start (λ bytes a. stops_written bytes fault a) h
 
 -- nothing is promised where the writer failed
-pub write_fault : (start old written : Option (List ℕ)) (left : List ℕ) (fault : LocalFault) → IsWriteFault fault → IfSome start (λ bytes. StopsBy fault bytes old written left)
-write_fault start old written left (local.Refused line fault) h = absurd h
-write_fault start old written left local.NoMemory h = absurd h
-write_fault start old written left (local.Read error) h = absurd h
-write_fault None old written left (local.Write error) h = tt
-write_fault (Some bytes) old written left (local.Write error) h = tt
+pub write_stops : (bytes : List ℕ) (old written : Option (List ℕ)) (left : List ℕ) (fault : LocalFault)
+    → IsWriteFault fault → StopsBy fault bytes old written left
+write_stops bytes old written left (local.Refused line fault) h = absurd h
+write_stops bytes old written left local.NoMemory h = absurd h
+write_stops bytes old written left (local.Read error) h = absurd h
+write_stops bytes old written left (local.Write error) h = tt
+
+pub write_fault : (start old written : Option (List ℕ)) (left : List ℕ) (fault : LocalFault)
+    → IsWriteFault fault → IfSome start (λ bytes. StopsBy fault bytes old written left)
+write_fault None old written left fault h = tt
+write_fault (Some bytes) old written left fault h = write_stops bytes old written left fault h
 
 pub no_start : (start old : Option (List ℕ)) → IfSome start (λ bytes. AddsResults bytes cut_short old old [])
 no_start None old = tt

@@ -1,9 +1,9 @@
 -- What a run over a reader's bytes leaves with its writer.
-use Rattle.std.specs.Prelude.{◌≡◌, ℕ, List, [], ◌++◌, Option, Some}
+use Rattle.std.specs.Prelude.{◌≡◌, ℕ, List, [], ◌++◌, Option, Some, Result, MatchResult, Contains}
 use Rattle.tuple_tree.specs.Values.{TupleTree}
 use Rattle.std.specs.Str.Lines.{lines}
 use Rattle.std.specs.Io.KnownBytes.{Appends}
-use Rattle.btspace.specs.Run.{Ending, refused_at, cut_short, Runs}
+use Rattle.btspace.specs.Run.{Ending, complete, refused_at, cut_short, Runs}
 use Rattle.btspace.specs.declared.input.NoLine.{NoLine}
 use Rattle.btspace.specs.declared.input.NoLine.TheVariants as no
 use Rattle.btspace.specs.declared.pieces.ReadFault.{ReadFault}
@@ -21,6 +21,11 @@ StopsBy (Refused line fault) bytes old new pending = AddsResults bytes (refused_
 StopsBy NoMemory bytes old new pending = AddsResults bytes cut_short old new pending
 StopsBy (Read error) bytes old new pending = AddsResults bytes cut_short old new pending
 StopsBy (Write error) bytes old new pending = Unit {0}
+
+-- A run over the bytes went to their end, or stopped by the fault.
+abbrev pub EndsRun : Result (Unit {0}) LocalFault → List ℕ → Option (List ℕ) → Option (List ℕ) → List ℕ → Type 0
+EndsRun result bytes old new pending =
+    MatchResult result (λ _. AddsResults bytes complete old new pending) (λ fault. StopsBy fault bytes old new pending)
 
 -- the fault of a line of this number
 abbrev pub fault_at : ℕ → NoLine → LocalFault
@@ -42,12 +47,9 @@ pub record MovesOn (old new : Option (List ℕ)) (bytes left : List ℕ) : Type 
   pub wrote : Appends old new gone
   pub split : gone ++ left ≡ bytes
 
--- An operation fails for want of memory, with everything as before, or because the writer failed.
-abbrev pub Keeps : LocalFault → Option (List ℕ) → Option (List ℕ) → List ℕ → List ℕ → Type 0
-Keeps (Refused line fault) old new before after = ⊥
-Keeps NoMemory old new before after = (new ≡ old) × (after ≡ before)
-Keeps (Read error) old new before after = ⊥
-Keeps (Write error) old new before after = Unit {0}
+-- Results are held back only while a line is whole at hand, which is read without asking for more bytes.
+abbrev pub HeldForLine : List ℕ → List ℕ → Type 0
+HeldForLine at_hand held = (Contains at_hand 10 → ⊥) → held ≡ []
 
 abbrev pub IsWriteFault : LocalFault → Type 0
 IsWriteFault (Refused line fault) = ⊥

@@ -1,18 +1,21 @@
 //! A script on a space of its own.
 
-ghost use Rattle.std.specs.Prelude.{◌≡◌, ◌^◌, ◌<◌, ◌≤◌, ◌+◌, ◌*◌, ℕ, List, [], ◌∷◌, ◌++◌, Option, OnOk, OnErr, IfErr, IfSome, MatchBool, MatchResult};
+ghost use Rattle.std.specs.Prelude.{◌≡◌, ◌^◌, ◌<◌, ◌≤◌, ◌+◌, ◌*◌, ℕ, List, [], ◌∷◌, ◌++◌};
+ghost use Rattle.std.specs.Prelude.{Option, OnOk, OnErr, IfErr, IfSome, MatchBool, MatchResult};
 ghost use Rattle.std.specs.Io.KnownBytes.{Appends};
+ghost use Rattle.std.specs.Io.Buffered.{reader_buffer, reader_remaining};
 ghost use Rattle.tuple_codec.specs.OperationView.{operation_of};
 ghost use Rattle.space.specs.Applying.{outcome, tuples_after};
 ghost use Rattle.space.specs.Births.{tuples_of, state_after, empty_state};
 ghost use Rattle.btspace.specs.Run.{complete, result_line};
-ghost use Rattle.btspace.specs.Endings.{Along, AddsResults, StopsBy, MovesOn, Keeps, IsWriteFault, fault_at, read_fault_of};
+ghost use Rattle.btspace.specs.Endings.{Along, AddsResults, StopsBy, EndsRun, MovesOn, HeldForLine};
+ghost use Rattle.btspace.specs.Endings.{IsWriteFault, fault_at, read_fault_of};
 
 use crate::input::{NextLine, NoLine, has_line, next_line};
 use crate::pieces::ReadFault;
 use space::Space;
 use std::alloc::Global;
-use std::io::{self, BufRead, BufReader, Read, Write};
+use std::io::{self, BufReader, Read, Write};
 use thiserror::Error;
 use tuple_codec::Op;
 use tuple_text::{LineFault, write_answer};
@@ -48,15 +51,17 @@ impl From<NoMemory> for LocalFault {
     }
 }
 
-/// Runs the lines of a script on a space of its own and writes the results, a line each, as it goes. Lines are numbered
-/// from 1 and stay below 2 to the power of 48. At a fault the results of the lines before it are written, unless
-/// writing failed.
+/// Runs the lines of a script on a space of its own and writes the results, a line each, as it goes: the reader is
+/// asked for more bytes only when the results of all lines that it gave whole are written and flushed. Lines are
+/// numbered from 1 and stay below 2 to the power of 48. At a fault the results of the lines before it are written,
+/// unless writing failed.
 pub fn local<R: Read + Drop, W: Write>(
     alloc: Global,
     reader: R,
     writer: &mut W,
 ) -> Result<(), LocalFault>
-    ensures { IfSome (R.remaining reader) (λ bytes. MatchResult result (λ _. AddsResults bytes complete (W.contents writer.old) (W.contents writer.new) []) (λ fault. StopsBy fault bytes (W.contents writer.old) (W.contents writer.new) [])) }
+    ensures { IfSome (R.remaining reader) (λ bytes.
+        EndsRun result bytes (W.contents writer.old) (W.contents writer.new) []) }
 {
     let mut input = match BufReader::new(alloc, reader) {
         Ok(input) => input,
@@ -86,15 +91,16 @@ struct Session {
 }
 
 impl Session {
-    fn run_lines<B: BufRead, W: Write>(
+    fn run_lines<R: Read, W: Write>(
         &mut self,
         alloc: Global,
-        reader: &mut B,
+        reader: &mut BufReader<R>,
         writer: &mut W,
     ) -> Result<(), LocalFault>
         requires new_space { self.old.space ≡ empty_state }
         requires no_results { self.old.results.items ≡ [] }
-        ensures { IfSome (B.remaining reader.old) (λ bytes. MatchResult result (λ _. AddsResults bytes complete (W.contents writer.old) (W.contents writer.new) self.new.results.items) (λ fault. StopsBy fault bytes (W.contents writer.old) (W.contents writer.new) self.new.results.items)) }
+        ensures { IfSome (reader_remaining R.remaining reader.old) (λ bytes.
+            EndsRun result bytes (W.contents writer.old) (W.contents writer.new) self.new.results.items) }
     {
         for number in 1..LINES_END {
             match self.run_line(alloc, number, reader, writer) {
@@ -102,6 +108,82 @@ impl Session {
                 Ok(false) => return Ok(()),
                 Err(fault) => return Err(fault),
             }
+        }
+        self.end_lines(reader, writer)
+    }
+
+    // Runs the next line, and answers whether there was one.
+    fn run_line<R: Read, W: Write>(
+        &mut self,
+        alloc: Global,
+        number: u64,
+        reader: &mut BufReader<R>,
+        writer: &mut W,
+    ) -> Result<bool, LocalFault>
+        requires early { number < 2 ^ 48 }
+        requires births { self.old.space.next < 2 ^ 62 }
+        ensures births { OnOk result (self.new.space.next ≤ self.old.space.next + 257) }
+        ensures along { (bytes : List ℕ) (start : Option (List ℕ))
+            → Along bytes (reader_remaining R.remaining reader.old) start (W.contents writer.old) number
+            (tuples_of self.old.space) self.old.results.items
+            → MatchResult result
+            (λ more. MatchBool more
+            (Along bytes (reader_remaining R.remaining reader.new) start (W.contents writer.new) (number + 1)
+            (tuples_of self.new.space) self.new.results.items)
+            (AddsResults bytes complete start (W.contents writer.new) self.new.results.items))
+            (λ fault. StopsBy fault bytes start (W.contents writer.new) self.new.results.items) }
+    {
+        match write_due(&mut self.results, reader.buffer(), writer) {
+            Ok(()) => self.answer_line(alloc, number, reader),
+            Err(fault) => Err(fault),
+        }
+    }
+
+    // Reads the next line and adds its result, and answers whether there was one.
+    fn answer_line<R: Read>(
+        &mut self,
+        alloc: Global,
+        number: u64,
+        reader: &mut BufReader<R>,
+    ) -> Result<bool, LocalFault>
+        requires early { number < 2 ^ 48 }
+        requires births { self.old.space.next < 2 ^ 62 }
+        requires none_waits { HeldForLine (reader_buffer reader.old) self.old.results.items }
+        ensures births { OnOk result (self.new.space.next ≤ self.old.space.next + 257) }
+        ensures along { (bytes : List ℕ) (start written : Option (List ℕ))
+            → Along bytes (reader_remaining R.remaining reader.old) start written number
+            (tuples_of self.old.space) self.old.results.items
+            → MatchResult result
+            (λ more. MatchBool more
+            (Along bytes (reader_remaining R.remaining reader.new) start written (number + 1)
+            (tuples_of self.new.space) self.new.results.items)
+            (AddsResults bytes complete start written self.new.results.items))
+            (λ fault. StopsBy fault bytes start written self.new.results.items) }
+    {
+        match next_line(alloc, reader, &mut self.line) {
+            Ok(NextLine::End) => Ok(false),
+            Ok(NextLine::Skipped) => Ok(true),
+            Ok(NextLine::Operation(op)) => match answer(&mut self.space, &op, &mut self.results) {
+                Ok(()) => Ok(true),
+                Err(_) => Err(LocalFault::NoMemory),
+            },
+            Err(no) => Err(line_fault(number, no)),
+        }
+    }
+
+    // Behind the last line that there may be nothing is left, or the run is refused.
+    fn end_lines<R: Read, W: Write>(
+        &mut self,
+        reader: &mut BufReader<R>,
+        writer: &mut W,
+    ) -> Result<(), LocalFault>
+        ensures { (bytes : List ℕ) (start : Option (List ℕ))
+            → Along bytes (reader_remaining R.remaining reader.old) start (W.contents writer.old) (2 ^ 48)
+            (tuples_of self.old.space) self.old.results.items
+            → EndsRun result bytes start (W.contents writer.new) self.new.results.items }
+    {
+        if let Err(fault) = write_due(&mut self.results, reader.buffer(), writer) {
+            return Err(fault);
         }
         match has_line(reader, &mut self.line) {
             Ok(false) => Ok(()),
@@ -111,51 +193,6 @@ impl Session {
             }),
             Err(fault) => Err(read_fault(fault)),
         }
-    }
-
-    // Runs the next line, and answers whether there was one.
-    fn run_line<B: BufRead, W: Write>(
-        &mut self,
-        alloc: Global,
-        number: u64,
-        reader: &mut B,
-        writer: &mut W,
-    ) -> Result<bool, LocalFault>
-        requires early { number < 2 ^ 48 }
-        requires births { self.old.space.next < 2 ^ 62 }
-        ensures births { OnOk result (self.new.space.next ≤ self.old.space.next + 257) }
-        ensures along { (bytes : List ℕ) (start : Option (List ℕ)) → Along bytes (B.remaining reader.old) start (W.contents writer.old) number (tuples_of self.old.space) self.old.results.items
-            → MatchResult result
-            (λ more. MatchBool more
-            (Along bytes (B.remaining reader.new) start (W.contents writer.new) (number + 1) (tuples_of self.new.space) self.new.results.items)
-            (AddsResults bytes complete start (W.contents writer.new) self.new.results.items))
-            (λ fault. StopsBy fault bytes start (W.contents writer.new) self.new.results.items) }
-    {
-        match next_line(alloc, reader, &mut self.line) {
-            Ok(NextLine::End) => Ok(false),
-            Ok(NextLine::Skipped) => Ok(true),
-            Ok(NextLine::Operation(op)) => match self.run_operation(&op, writer) {
-                Ok(()) => Ok(true),
-                Err(fault) => Err(fault),
-            },
-            Err(no) => Err(line_fault(number, no)),
-        }
-    }
-
-    // Applies the operation and adds its result line; where many results are held, they are written.
-    fn run_operation<W: Write>(&mut self, op: &Op<Global>, writer: &mut W) -> Result<(), LocalFault>
-        requires { self.old.space.next < 2 ^ 62 }
-        ensures state { OnOk result (self.new.space ≡ state_after self.old.space (operation_of op.now)) }
-        ensures results { OnOk result (MovesOn (W.contents writer.old) (W.contents writer.new) (self.old.results.items ++ result_line (outcome (tuples_of self.old.space) (operation_of op.now))) self.new.results.items) }
-        ensures err { IfErr result (λ fault. Keeps fault (W.contents writer.old) (W.contents writer.new) self.old.results.items self.new.results.items) }
-    {
-        if answer(&mut self.space, op, &mut self.results).is_err() {
-            return Err(LocalFault::NoMemory);
-        }
-        if self.results.len() < HELD {
-            return Ok(());
-        }
-        write_out(&mut self.results, writer)
     }
 }
 
@@ -183,7 +220,8 @@ fn answer(space: &mut Space, op: &Op<Global>, results: &mut Vec<u8>) -> Result<(
     requires { space.old.next < 2 ^ 62 }
     ensures state { OnOk result (space.new ≡ state_after space.old (operation_of op.now)) }
     ensures tuples { OnOk result (tuples_of space.new ≡ tuples_after (tuples_of space.old) (operation_of op.now)) }
-    ensures ok { OnOk result (results.new.items ≡ results.old.items ++ result_line (outcome (tuples_of space.old) (operation_of op.now))) }
+    ensures ok { OnOk result (results.new.items
+        ≡ results.old.items ++ result_line (outcome (tuples_of space.old) (operation_of op.now))) }
     ensures err { OnErr result (results.new.items ≡ results.old.items) }
 {
     let old_len = results.len();
@@ -194,6 +232,27 @@ fn answer(space: &mut Space, op: &Op<Global>, results: &mut Vec<u8>) -> Result<(
         return Err(NoMemory);
     }
     Ok(())
+}
+
+// Writes the results that are held, where they are many, or where the next line isn't whole at hand: the reader may
+// then wait for it, and whoever gives the line may wait for the results.
+fn write_due<W: Write>(
+    results: &mut Vec<u8>,
+    at_hand: &[u8],
+    writer: &mut W,
+) -> Result<(), LocalFault>
+    ensures held { OnOk result (HeldForLine at_hand.now results.new.items) }
+    ensures results { OnOk result (MovesOn (W.contents writer.old) (W.contents writer.new)
+        results.old.items results.new.items) }
+    ensures err { IfErr result IsWriteFault }
+{
+    if results.is_empty() {
+        return Ok(());
+    }
+    if results.len() < HELD && at_hand.contains(&b'\n') {
+        return Ok(());
+    }
+    write_out(results, writer)
 }
 
 // Writes the results and leaves none.

@@ -1,6 +1,7 @@
 //! Worked scripts, digits and words.
 
 mod rows;
+mod turns;
 
 use crate::complaints::Complaint;
 use crate::local::{LocalFault, local};

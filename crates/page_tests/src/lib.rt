@@ -7,4 +7,6 @@ mod partitions;
 #[cfg(test)]
 mod replies;
 #[cfg(test)]
+mod sharing;
+#[cfg(test)]
 mod spaces;

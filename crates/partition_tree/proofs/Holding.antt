@@ -1,35 +1,38 @@
--- The texts that pages hold, as pages are added and set.
-use Rattle.std.proofs.Common.{◌≡◌, ℕ, List, [], ◌∷◌, ◌++◌, Vec, length, set, replicate, vec_len, refl, ap, sym, ◌∙◌}
-use Rattle.std.specs.declared.alloc.Global.{Global}
-use Rattle.std.proofs.lemmas.List.{map-set, length-map}
+-- What lists of owners hold, as owners are added, set and cloned.
+use Rattle.std.proofs.Common.{◌≡◌, ℕ, zero, suc, List, [], ◌∷◌, length, set, get_or, map, replicate, refl, ap, sym, ◌∙◌}
+use Rattle.std.proofs.lemmas.List.{map-set, set-get_or, length-map, length-replicate}
 use Rattle.std.specs.List.{AllZip}
-use Rattle.partition_tree.specs.Digests.{empty_pages}
-use Rattle.partition_tree.specs.Texts.{texts_of}
 
-pub texts_of-push : (pages : List (Vec ℕ Global)) (page : Vec ℕ Global) → texts_of (pages ++ page ∷ []) ≡ texts_of pages ++ page.items ∷ []
-texts_of-push [] page = refl
-texts_of-push (x ∷ xs) page = ap (λ ys. x.items ∷ ys) (texts_of-push xs page)
+-- f tells what an owner holds.
+module _ {A B : Type 0} (f : A → B) where
+  pub held-set : (owners : List A) (i : ℕ) (owner : A) (x : B) → f owner ≡ x → map f (set owners i owner) ≡ set (map f owners) i x
+  held-set owners i owner x e = map-set f owners i owner ∙ ap (set (map f owners) i) e
 
-pub texts_of-set : (pages : List (Vec ℕ Global)) (i : ℕ) (page : Vec ℕ Global) (text : List ℕ) → page.items ≡ text → texts_of (set pages i page) ≡ set (texts_of pages) i text
-texts_of-set pages i page text e = map-set (λ p. p.items) pages i page ∙ ap (set (texts_of pages) i) e
+  -- clones hold the same
+  pub held_by_clones : (owners clones : List A) → AllZip (λ x y. f y ≡ f x) owners clones → map f clones ≡ map f owners
+  held_by_clones [] [] h = refl
+  held_by_clones [] (y ∷ ys) h = absurd h
+  held_by_clones (x ∷ xs) [] h = absurd h
+  held_by_clones (x ∷ xs) (y ∷ ys) h = ap (λ z. z ∷ map f ys) h.0 ∙ ap (λ zs. f x ∷ zs) (held_by_clones xs ys h.1)
 
-pub all_empty : (pages : List (Vec ℕ Global)) (n : ℕ) → texts_of pages ≡ replicate n [] → n ≡ 1024 → texts_of pages ≡ empty_pages
-unfolding empty_pages
-all_empty pages n e h = e ∙ ap (λ k. replicate k []) h
+  pub map-replicate : (n : ℕ) (x : A) → map f (replicate n x) ≡ replicate n (f x)
+  map-replicate zero x = refl
+  map-replicate (suc n) x = ap (λ ys. f x ∷ ys) (map-replicate n x)
 
--- lists whose elements are the same, place by place
-zip_same : {A : Type 0} (xs ys : List A) → AllZip (λ x y. y ≡ x) xs ys → ys ≡ xs
-zip_same [] [] h = refl
-zip_same [] (y ∷ ys) h = absurd h
-zip_same (x ∷ xs) [] h = absurd h
-zip_same (x ∷ xs) (y ∷ ys) h = ap (λ z. z ∷ ys) h.0 ∙ ap (λ zs. x ∷ zs) (zip_same xs ys h.1)
+  pub same_count : (owners others : List A) → map f owners ≡ map f others → length owners ≡ length others
+  same_count owners others e = sym (length-map owners f) ∙ ap length e ∙ length-map others f
 
--- the texts of clones
-pub texts_of_clones : (vs ws : List (Vec ℕ Global)) → AllZip (λ v w. AllZip (λ x y. y ≡ x) v.items w.items × (vec_len w ≡ vec_len v)) vs ws → texts_of ws ≡ texts_of vs
-texts_of_clones [] [] h = refl
-texts_of_clones [] (w ∷ ws) h = absurd h
-texts_of_clones (v ∷ vs) [] h = absurd h
-texts_of_clones (v ∷ vs) (w ∷ ws) h = ap (λ x. x ∷ texts_of ws) (zip_same v.items w.items h.0.0) ∙ ap (λ xs. v.items ∷ xs) (texts_of_clones vs ws h.1)
+  -- owners that all hold one value
+  pub alike : (owners : List A) (n m : ℕ) (x y : B) → map f owners ≡ replicate n x → n ≡ m → x ≡ y → map f owners ≡ replicate m y
+  alike owners n m x y e h p = e ∙ ap (λ k. replicate k x) h ∙ ap (replicate m) p
 
-pub same_count : (vs ws : List (Vec ℕ Global)) → texts_of ws ≡ texts_of vs → length ws ≡ length vs
-same_count vs ws e = sym (length-map ws (λ page. page.items)) ∙ ap length e ∙ length-map vs (λ page. page.items)
+  pub count_alike : (owners : List A) (n : ℕ) (x : B) → map f owners ≡ replicate n x → length owners ≡ n
+  count_alike owners n x e = sym (length-map owners f) ∙ ap length e ∙ length-replicate n x
+
+pub map-map : {A B C : Type 0} (g : B → C) (f : A → B) (xs : List A) → map g (map f xs) ≡ map (λ x. g (f x)) xs
+map-map g f [] = refl
+map-map g f (x ∷ xs) = ap (λ ys. g (f x) ∷ ys) (map-map g f xs)
+
+-- what stands there already may be set
+pub set_there : {A : Type 0} (xs : List A) (i : ℕ) (d x : A) → get_or xs i d ≡ x → xs ≡ set xs i x
+set_there xs i d x e = sym (set-get_or xs i d) ∙ ap (set xs i) e

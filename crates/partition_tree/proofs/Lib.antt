@@ -1,5 +1,6 @@
 pub mod Holding
 pub mod Joining
+pub mod Parting
 pub mod Renewing
 pub mod Standing
 pub mod Telling

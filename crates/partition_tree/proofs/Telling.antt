@@ -6,7 +6,7 @@ use Rattle.std.specs.List.{concat, range_with_len}
 use Rattle.sha2.specs.Sha256.{sha256}
 use Rattle.sha2.proofs.Facts256.{length-sha256}
 use Rattle.partition_tree.specs.Digests.{page_digests, inner_digest, inner_digests, root_of, empty_pages}
-use Rattle.partition_tree.proofs.Standing.{map-map}
+use Rattle.partition_tree.proofs.Holding.{map-map}
 
 pub length-empty_pages : length empty_pages ≡ 1024
 unfolding empty_pages

@@ -1,4 +1,5 @@
+pub mod Changes
 pub mod Digests
 pub mod Levels
-pub mod Rows
+pub mod Parts
 pub mod Texts

@@ -4,13 +4,19 @@
 //! that of the digests of the inner parts (Castro and Liskov, Practical Byzantine fault tolerance and proactive
 //! recovery, TOCS 2002, on hierarchical state partitions; FIPS 180-4 for SHA-256). Two replicas that hold
 //! the same pages have the same root, and a replica that lags finds the pages that differ by going down from the root.
+//!
+//! Trees and snapshots share their texts and the digests of their pages: each page's text lies behind an `Arc`, and so
+//! does each part. What is set later is put into parts of its own.
 #![tactic(auto)]
 
 mod digests;
 mod no_memory;
-mod rows;
+mod page;
+mod part;
+mod parts;
 mod tree;
 
 pub use digests::{CHILDREN, Digest, digest, digest_of_children};
 pub use no_memory::NoMemory;
+pub use page::Page;
 pub use tree::{Level, PAGES, Snapshot, Tree};

@@ -3,12 +3,16 @@
 ghost use Rattle.std.specs.Prelude.{◌≡◌, ◌<◌, [], IfOk, OnOk, OnErr, length, slice_index_or, slice_set};
 ghost use Rattle.partition_tree.specs.Digests.{root_of, empty_pages};
 ghost use Rattle.partition_tree.specs.Levels.{parts_at, children_of};
+ghost use Rattle.partition_tree.specs.Changes.{pages_with};
 
-use crate::digests::{CHILDREN, Digest, digest};
+use crate::digests::{CHILDREN, Digest, digest_of_children};
 use crate::no_memory::NoMemory;
-use crate::rows::Rows;
+use crate::page::Page;
+use crate::part::Part;
+use crate::parts::{change_all, put, renewed};
 use std::alloc::Global;
 use std::marker::Model;
+use std::sync::{Arc, ArcSlice};
 
 /// How many pages there are.
 pub const PAGES: usize = 1024;
@@ -22,24 +26,29 @@ pub enum Level {
     Inner,
 }
 
-/// The pages 0 to 1,023, each a text of any length in bytes, under a tree of digests.
+/// The pages 0 to 1,023, each a text of any length in bytes, under a tree of digests. Trees and snapshots share the
+/// parts that are the same in them, so what is set in one is set in a copy of the page's part, with the other texts of
+/// that part still shared.
 #[derive(Drop)]
 pub struct Tree {
-    pages: Vec<Vec<u8>>,
-    rows: Rows,
+    parts: Vec<Arc<Part>>,
+    inner: [Digest; CHILDREN],
+    root: Digest,
 }
 
 impl Model for Tree {
-    ghost use Rattle.std.specs.Prelude.{◌≡◌, ℕ, List, length};
+    ghost use Rattle.std.specs.Prelude.{◌≡◌, ℕ, List, length, map};
 
     ghost Value = { List (List ℕ) };
 
-    ghost use Rattle.partition_tree.specs.Rows.{rows_of};
-    ghost use Rattle.partition_tree.specs.Texts.{texts_of};
+    ghost use Rattle.partition_tree.specs.Digests.{digest_of_children};
+    ghost use Rattle.partition_tree.specs.Parts.{AreFull, pages_of, parts_of, part_digest};
 
-    ghost view = { λ t. texts_of t.pages.items };
+    ghost view = { λ t. pages_of t.parts.items };
 
-    ghost invariant = { λ t. (length t.pages.items ≡ 1024) × (t.rows ≡ rows_of (texts_of t.pages.items)) };
+    ghost invariant = { λ t.
+        (length t.parts.items ≡ 32) × AreFull (parts_of t.parts.items)
+        × (t.inner ≡ map part_digest (parts_of t.parts.items)) × (t.root ≡ digest_of_children t.inner) };
 }
 
 impl Tree {
@@ -47,12 +56,14 @@ impl Tree {
     pub fn new(alloc: Global) -> Result<Tree, NoMemory>
         ensures { IfOk result (λ t. t ≡ empty_pages) }
     {
-        let rows = Rows::alike(alloc, digest(&[]))?;
-        let mut pages = Vec::with_capacity(alloc, PAGES)?;
-        for _page in 0..PAGES {
-            pages.push(Vec::new(alloc))?;
+        let part = Arc::new(alloc, Part::empty(alloc)?)?;
+        let mut parts = Vec::with_capacity(alloc, CHILDREN)?;
+        for _part in 0..CHILDREN {
+            parts.push(part.clone()?)?;
         }
-        Ok(Tree { pages, rows })
+        let inner = [part.digest(); CHILDREN];
+        let root = digest_of_children(&inner);
+        Ok(Tree { parts, inner, root })
     }
 
     /// The text of page `i`, 0 to 1,023. Takes no memory.
@@ -61,7 +72,7 @@ impl Tree {
         ensures text { result.now ≡ slice_index_or self.now i [] }
         ensures count { length self.now ≡ PAGES }
     {
-        self.pages[i].as_slice()
+        self.parts[i / CHILDREN].page(i % CHILDREN)
     }
 
     /// The digests of a part's children in order: those of the inner parts for the root, at index 0, and those of the
@@ -71,8 +82,8 @@ impl Tree {
         ensures { result.now ≡ children_of self.now level index }
     {
         match level {
-            Level::Root => self.rows.inner(),
-            Level::Inner => self.rows.row(index),
+            Level::Root => &self.inner,
+            Level::Inner => self.parts[index].digests(),
         }
     }
 
@@ -80,36 +91,62 @@ impl Tree {
     pub fn root(&self) -> Digest
         ensures { result ≡ root_of self.now }
     {
-        self.rows.root()
+        self.root
     }
 
-    /// Sets the text of page `i`, 0 to 1,023, and hashes it and twice 1,024 bytes of digests. An error leaves the tree
-    /// as it was.
+    /// Sets the text of page `i`, 0 to 1,023, and hashes it and twice 1,024 bytes of digests, or nothing where the page
+    /// has that text. An error leaves the tree as it was.
     pub fn set_page(&mut self, i: usize, text: &[u8]) -> Result<(), NoMemory>
         requires { i < PAGES }
         ensures ok { OnOk result (self.new ≡ slice_set self.old i text.now) }
         ensures err { OnErr result (self.new ≡ self.old) }
     {
-        let page = Vec::from_slice(*self.pages.allocator(), text)?;
-        self.pages[i] = page;
-        self.rows.set(i / CHILDREN, i % CHILDREN, digest(text));
+        if self.page(i) == text {
+            return Ok(());
+        }
+        let text = ArcSlice::from_slice(*self.parts.allocator(), text)?;
+        let part = i / CHILDREN;
+        put(&mut self.parts[part], i % CHILDREN, text)?;
+        self.inner[part] = self.parts[part].digest();
+        self.root = digest_of_children(&self.inner);
         Ok(())
     }
 
-    /// The pages as they are now, copied, so that what is set later leaves them. NoMemory where memory runs out.
+    /// Sets the texts of several pages, of two for one page the later, and hashes each that is another than the page
+    /// has, each part above those once, and the root once. Takes over the texts' memory. An error leaves the tree as it
+    /// was.
+    pub fn set_pages(&mut self, pages: Vec<Page>) -> Result<(), NoMemory>
+        ensures ok { OnOk result (self.new ≡ pages_with pages.items self.old) }
+        ensures err { OnErr result (self.new ≡ self.old) }
+    {
+        let mut parts = self.parts.clone()?;
+        let changed = change_all(&mut parts, pages)?;
+        let inner = renewed(&self.inner, parts.as_slice(), &changed);
+        self.root = digest_of_children(&inner);
+        self.inner = inner;
+        self.parts = parts;
+        Ok(())
+    }
+
+    /// The pages as they are now, whatever is set later. Their texts and digests are shared, not copied. NoMemory where
+    /// memory runs out.
     pub fn snapshot(&self) -> Result<Snapshot, NoMemory>
         ensures { IfOk result (λ s. s ≡ self.now) }
     {
         Ok(Snapshot { tree: self.copy()? })
     }
 
-    // An equal tree in memory of its own.
-    fn copy(&self) -> Result<Tree, NoMemory>
+    /// An equal tree, which shares the texts and the digests of all pages until either tree sets them. NoMemory where
+    /// memory runs out.
+    pub fn copy(&self) -> Result<Tree, NoMemory>
         ensures { IfOk result (λ t. t ≡ self.now) }
     {
-        let rows = self.rows.copy()?;
-        let pages = self.pages.clone()?;
-        Ok(Tree { pages, rows })
+        let parts = self.parts.clone()?;
+        Ok(Tree {
+            parts,
+            inner: self.inner,
+            root: self.root,
+        })
     }
 }
 
@@ -150,5 +187,12 @@ impl Snapshot {
         ensures { result ≡ root_of self.now }
     {
         self.tree.root()
+    }
+
+    /// A tree of these pages, shared as by [`Tree::copy`].
+    pub fn tree(&self) -> Result<Tree, NoMemory>
+        ensures { IfOk result (λ t. t ≡ self.now) }
+    {
+        self.tree.copy()
     }
 }

@@ -1,11 +1,11 @@
 //! Laws that show that the definitions are not empty.
 
-ghost use Rattle.protocol.specs.Examples.{FirstBatchExecutes, FirstCallIsRun, PreparedIsSelected, EmptyIsNotSelected, NullIsNotSelected, LieIsNotSelected, TruthWaits, TruthIsSelected};
-ghost use Rattle.protocol.specs.ExamplesOfAnswers.{FirstReadIsAnswered, FirstFetchIsAnswered};
-ghost use Rattle.protocol.specs.ExamplesOfTransfer.{TransferBegins};
-ghost use Rattle.protocol.specs.ExamplesOfKept.{KeptReplyGoesAgain};
-ghost use Rattle.protocol.specs.ExamplesOfChanges.{ViewChangesAreJoined, NewViewsAreTaken};
-ghost use Rattle.protocol.specs.FirstOperation.{FirstOperationIsRun, FirstOperationIsCommitted, FirstOperationIsUnforged, FirstOperationIsFed, FirstFramesExist};
+ghost use Rattle.protocol.specs.Evidence.Examples.{FirstBatchExecutes, FirstCallIsRun, PreparedIsSelected, EmptyIsNotSelected, NullIsNotSelected, LieIsNotSelected, TruthWaits, TruthIsSelected};
+ghost use Rattle.protocol.specs.Evidence.ExamplesOfAnswers.{FirstReadIsAnswered, FirstFetchIsAnswered};
+ghost use Rattle.protocol.specs.Evidence.ExamplesOfTransfer.{TransferBegins};
+ghost use Rattle.protocol.specs.Evidence.ExamplesOfKept.{KeptReplyGoesAgain};
+ghost use Rattle.protocol.specs.Evidence.ExamplesOfChanges.{ViewChangesAreJoined, NewViewsAreTaken};
+ghost use Rattle.protocol.specs.Evidence.FirstOperation.{FirstOperationIsRun, FirstOperationIsCommitted, FirstOperationIsUnforged, FirstOperationIsFed, FirstFramesExist};
 
 /// Of four replicas a backup that gets the primary's pre-prepare of the first batch, one more prepare and two more
 /// commits holds it committed, and executing it then is right.

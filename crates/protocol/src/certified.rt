@@ -1,7 +1,7 @@
 //! Laws of what a history certifies, and of a state that is installed by it.
 
-ghost use Rattle.protocol.specs.ExamplesOfInstalling.{StateIsInstalled};
-ghost use Rattle.protocol.specs.Certified.{ExecutesWithOwnCommit, ExecutesNotByOthersAlone, ExecutesWhatItCommits, TakesLater, TakesInOrder, LogsInMarks, LogsWhatBegins, PreparedRemains, CommittedRemains};
+ghost use Rattle.protocol.specs.Evidence.ExamplesOfInstalling.{StateIsInstalled};
+ghost use Rattle.protocol.specs.Evidence.Certified.{ExecutesWithOwnCommit, ExecutesNotByOthersAlone, ExecutesWhatItCommits, TakesLater, TakesInOrder, LogsInMarks, LogsWhatBegins, PreparedRemains, CommittedRemains};
 
 /// A replica executes no batch before it committed the batch itself: the commits of the others alone, however many, are not
 /// enough. If no message of a correct party is forged, it sent that commit.

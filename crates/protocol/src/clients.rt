@@ -1,10 +1,10 @@
 //! Laws of the definitions of clients and of parties that stop: which replies count, when a client gives nothing, what all
 //! that is correct keeps, and histories of clients that are accepted.
 
-ghost use Rattle.protocol.specs.Clients.{HeardIsLatest, LatestStays, CallsForget, WaitsForAnswers, FallsBackOnce, WeaklyWaits, IgnoresOthers, RestsWithoutCall};
-ghost use Rattle.protocol.specs.Correct.{ReplicasHaveOwn, ClientsHaveOwn, SealsRequests, AsksItsCall, ReplicasAreSafe, ClientsAreSafe, WeakClientsAreSafe};
-ghost use Rattle.protocol.specs.ExamplesOfClients.{FirstReadIsAccepted, FirstWeakOperationIsRun, FirstWeakOperationIsUnforged};
-ghost use Rattle.protocol.specs.Stopping.{ReplicasMayStop, ClientsMayStop, WeakClientsMayStop};
+ghost use Rattle.protocol.specs.Evidence.Clients.{HeardIsLatest, LatestStays, CallsForget, WaitsForAnswers, FallsBackOnce, WeaklyWaits, IgnoresOthers, RestsWithoutCall};
+ghost use Rattle.protocol.specs.Evidence.Correct.{ReplicasHaveOwn, ClientsHaveOwn, SealsRequests, AsksItsCall, ReplicasAreSafe, ClientsAreSafe, WeakClientsAreSafe};
+ghost use Rattle.protocol.specs.Evidence.ExamplesOfClients.{FirstReadIsAccepted, FirstWeakOperationIsRun, FirstWeakOperationIsUnforged};
+ghost use Rattle.protocol.specs.Evidence.Stopping.{ReplicasMayStop, ClientsMayStop, WeakClientsMayStop};
 
 /// A reply that is heard is its sender's latest of its mode, whatever was heard before, until the sender's next of that mode.
 /// A call begins with none.

@@ -1,6 +1,6 @@
 //! Laws that show that a schedule takes each step that may come, and what a flush delivers next.
 
-ghost use Rattle.protocol.specs.Fed.{CallsAreFed, DeliveriesAreFed, BytesAreFed, TicksAreFed, SealedAreMade, SignedAreMade, FlushDeliversNext, FlushDeliversNoOther, FlushEnds, FlushesAreFed};
+ghost use Rattle.protocol.specs.Evidence.Fed.{CallsAreFed, DeliveriesAreFed, BytesAreFed, TicksAreFed, SealedAreMade, SignedAreMade, FlushDeliversNext, FlushDeliversNoOther, FlushEnds, FlushesAreFed};
 
 /// Behind any schedule a call of a correct client with none open, and a frame that was made, any bytes and a tick at a
 /// correct party are fed, each with the outputs that follow. A frame that a faulty party may make is the next that can be

@@ -15,10 +15,10 @@ pub mod refused_runs;
 pub mod refused_steps;
 pub mod selected;
 
-ghost use Rattle.protocol.specs.Laws.{FramesAreSpelled, BodiesAreSaid, BytesAreHeard, PreparedAgree, CommittedStays, CommittedAgree, ExecutedAgree, PagesDetermine, BatchesLeaveStates, StatesAreExecuted, StatesAgree, StableAgree, InstalledAgree, StartsAgree, LinearOfSafe, WeakIsOneSpace, NoneBegins, FirstViewStays};
-ghost use Rattle.protocol.specs.FirstOperation.{SealedFramesAreHeard};
-ghost use Rattle.protocol.specs.RefusedSteps.{SignedFramesAreHeard};
-ghost use Rattle.protocol.specs.Run.{PointsAreLinear, NoneRunsTwice, AcceptedAtLevels, LevelsOfSafe, WeakAnswersAreOneSpace, RunsAreLinear};
+ghost use Rattle.protocol.specs.Laws.Histories.{FramesAreSpelled, BodiesAreSaid, BytesAreHeard, PreparedAgree, CommittedStays, CommittedAgree, ExecutedAgree, PagesDetermine, BatchesLeaveStates, StatesAreExecuted, StatesAgree, StableAgree, InstalledAgree, StartsAgree, LinearOfSafe, WeakIsOneSpace, NoneBegins, FirstViewStays};
+ghost use Rattle.protocol.specs.Evidence.FirstOperation.{SealedFramesAreHeard};
+ghost use Rattle.protocol.specs.Evidence.RefusedSteps.{SignedFramesAreHeard};
+ghost use Rattle.protocol.specs.Laws.Runs.{PointsAreLinear, NoneRunsTwice, AcceptedAtLevels, LevelsOfSafe, WeakAnswersAreOneSpace, RunsAreLinear};
 
 /// What the definitions read from bytes is what the frame's grammar says, and what a party hears as authentic or
 /// signed.

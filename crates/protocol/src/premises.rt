@@ -1,6 +1,6 @@
 //! Laws that show what the premises of the laws leave open.
 
-ghost use Rattle.protocol.specs.Premises.{WidestIsValid, NarrowestIsValid, ReplicasAreCorrect, ClientsAreCorrect, CorrectAreBoth, EachIsPrimary, PrimariesReturn, RunsHaveReplicas, RunsHaveClients, WeakRunsHaveReplicas, WeakRunsHaveClients, RunsGoOn, WeakRunsGoOn, ReplicasGoOn, RunsTakeCalls, WeakRunsTakeCalls, OthersAreUnforged, FramesMayBeGot, FaultyHearAnything, TextsAreFew};
+ghost use Rattle.protocol.specs.Evidence.Premises.{WidestIsValid, NarrowestIsValid, ReplicasAreCorrect, ClientsAreCorrect, CorrectAreBoth, EachIsPrimary, PrimariesReturn, RunsHaveReplicas, RunsHaveClients, WeakRunsHaveReplicas, WeakRunsHaveClients, RunsGoOn, WeakRunsGoOn, ReplicasGoOn, RunsTakeCalls, WeakRunsTakeCalls, OthersAreUnforged, FramesMayBeGot, FaultyHearAnything, TextsAreFew};
 
 /// Ten replicas of which any three are faulty, with 256 clients of which any are faulty, the longest period and any
 /// seed of 32 bytes are a valid configuration; so are four replicas and one client, none of them faulty, with the

@@ -1,11 +1,12 @@
 //! Laws that show what the definitions refuse: each is a small history, or a part of one, that a wrong body would make.
 
-ghost use Rattle.protocol.specs.Refused.{SealsWell, SignsWell, PrePreparesAsPrimary, PrePreparesInMarks, NoPrePrepareAfterChange, CheckpointsMultiples, BeginsAsPrimary, ReadsWhatWasAsked, DigestsToWhoAsked, PagesToWhoAsked, NumbersNoneTwice, RepliesOfExecuted, ExecutesWhatIsCommitted, GivesKeptDigests, GivesKeptPages, GivesAskedDigests, GivesAskedPages, RepliesWhatRan, AnswersDigestFetches, AnswersPageFetches, AnswersAgain, AnswersRan, PreparesLogged, CommitsPrepared, ExecutesCommitted, NumbersWaiting, SendsCheckpoints, FetchesAhead, ProposesAuthentic, ReadsNewest, NoChangeWhileActive, AnswersReads, DropsReplies, DropsOwnChange, DropsUnaskedDigests, DropsUnaskedPages, RepliesAfterExecution, NoCommitAfterChange, NoPrepareAfterChange, NoEarlyCheckpoint, OnePrePrepare, NoPrepareByPrimary, ExecutesNext, KeepsPrepared, InstallsWhatItHas, InstallsWithHeader, RepliesToItsClient, CommitsToAll, TakesWellSelected, TakesNoLower, RunsOnce, AcceptsAtQuorum};
+ghost use Rattle.protocol.specs.Evidence.Refused.{SealsWell, SignsWell, PrePreparesAsPrimary, PrePreparesInMarks, NoPrePrepareAfterChange, CheckpointsMultiples, BeginsAsPrimary, ReadsWhatWasAsked, DigestsToWhoAsked, PagesToWhoAsked, NumbersNoneTwice, NumbersNoneTogether, RepliesOfExecuted, ExecutesWhatIsCommitted, GivesKeptDigests, GivesKeptPages, GivesAskedDigests, GivesAskedPages, RepliesWhatRan, AnswersDigestFetches, AnswersPageFetches, AnswersAgain, AnswersRan, PreparesLogged, CommitsPrepared, ExecutesCommitted, NumbersWaiting, SendsCheckpoints, FetchesAhead, ProposesAuthentic, ReadsNewest, NoChangeWhileActive, AnswersReads, DropsReplies, DropsOwnFrames, FetchesWhatIsWanted, FetchesAbove, DropsUnaskedDigests, DropsUnaskedPages, RepliesAfterExecution, NoCommitAfterChange, NoPrepareAfterChange, NoEarlyCheckpoint, OnePrePrepare, NoPrepareByPrimary, ExecutesNext, KeepsPrepared, InstallsWhatItHas, InstallsWithHeader, RepliesToItsClient, CommitsToAll, TakesWellSelected, TakesNoLower, RunsOnce, AcceptsAtQuorum};
 
 /// A right replica sends no ordered reply before anything is executed, no commit or prepare of a view after a view
 /// change above it, no checkpoint of a number that it never executed or that is no multiple of the period, and no
-/// prepare as the primary. It answers a read that was got, with the newest state's answer and number, and sends no view
-/// change again while it is active.
+/// prepare as the primary. It answers a read that was got, with the newest state's answer and number, sends no view
+/// change again while it is active, and asks only for parts of a state above its own whose root it was told by a quorum
+/// of checkpoints or by a new view's start.
 pub fn right_replicas_do_not_say()
     ensures replies { RepliesAfterExecution }
     ensures commits { NoCommitAfterChange }
@@ -16,6 +17,8 @@ pub fn right_replicas_do_not_say()
     ensures numbers_read { ReadsNewest }
     ensures reads { ReadsWhatWasAsked }
     ensures view_changes { NoChangeWhileActive }
+    ensures fetches { FetchesWhatIsWanted }
+    ensures fetches_above { FetchesAbove }
 {}
 
 /// A right replica proposes only as the view's primary, and a view only as its primary; no number outside the marks,
@@ -64,7 +67,7 @@ pub fn correct_replicas_answer()
 
 /// A correct replica that goes on has prepared, as an active backup, what it logged in the event, committed what became
 /// prepared, executed what is committed and next, and numbered, as the active primary, the requests that wait, none of
-/// them twice in a view; it has sent a checkpoint of each multiple of the period that it executed, and begun a transfer
+/// them twice in a view or in a batch; it has sent a checkpoint of each multiple of the period that it executed, and begun a transfer
 /// where a quorum of checkpoints is ahead.
 pub fn correct_replicas_go_on()
     ensures prepares { PreparesLogged }
@@ -72,6 +75,7 @@ pub fn correct_replicas_go_on()
     ensures executes { ExecutesCommitted }
     ensures numbers { NumbersWaiting }
     ensures numbers_once { NumbersNoneTwice }
+    ensures numbers_together { NumbersNoneTogether }
     ensures checkpoints { SendsCheckpoints }
     ensures fetches { FetchesAhead }
 {}
@@ -87,13 +91,12 @@ pub fn right_replicas_address_all()
     ensures signatures { SignsWell }
 {}
 
-/// A correct replica answers no part of a state that it did not ask for last, no reply, and not its own view change
-/// that comes back.
+/// A correct replica answers no part of a state that it did not ask for last, no reply, and no frame in its own name.
 pub fn correct_replicas_drop()
     ensures digests { DropsUnaskedDigests }
     ensures pages { DropsUnaskedPages }
     ensures replies { DropsReplies }
-    ensures view_changes { DropsOwnChange }
+    ensures own { DropsOwnFrames }
 {}
 
 /// A new view is not taken over too few view changes, over some for another view, if it leaves out a number prepared in

@@ -1,8 +1,8 @@
 //! Laws that show which lists of items are not linear, and which traces are not linearizable.
 
-ghost use Rattle.protocol.specs.RefusedItems.{AnswersAsOneSpace, ListsWhatIsAccepted, ListsWhatIsCalled, ListsWhatIsAsked, ListsNoneTwice, PlacesInOrder, PlacesBehindCalls, PlacesBeforeAcceptances, LinearIsAllThree, OneSpaceIsBoth, WritesAreSeen, ReadsAreNotEarly};
-ghost use Rattle.protocol.specs.FirstOperation.{FirstOperationHasItsPoint};
-ghost use Rattle.protocol.specs.FirstReads.{ReadsHaveTheirPoints};
+ghost use Rattle.protocol.specs.Evidence.RefusedItems.{AnswersAsOneSpace, ListsWhatIsAccepted, ListsWhatIsCalled, ListsWhatIsAsked, ListsNoneTwice, PlacesInOrder, PlacesBehindCalls, PlacesBeforeAcceptances, LinearIsAllThree, OneSpaceIsBoth, WritesAreSeen, ReadsAreNotEarly};
+ghost use Rattle.protocol.specs.Evidence.FirstOperation.{FirstOperationHasItsPoint};
+ghost use Rattle.protocol.specs.Evidence.FirstReads.{ReadsHaveTheirPoints};
 
 /// Each answer of a legal list is that of one space. What covers a trace lists what correct clients accepted, with that
 /// answer, nothing of a correct client that it did not call, nothing of a faulty one that no correct replica was asked for

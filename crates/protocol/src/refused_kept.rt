@@ -1,6 +1,6 @@
 //! Laws that show what the definition of the kept states refuses, in parts of states and in view changes.
 
-ghost use Rattle.protocol.specs.RefusedKept.{GivesNoLowDigests, GivesNoLowPages, ChangesFromLowMark, ListsNoneBelow, ListsSnapshots, ListsEachSnapshot, CheckpointsAscend};
+ghost use Rattle.protocol.specs.Evidence.RefusedKept.{GivesNoLowDigests, GivesNoLowPages, ChangesFromLowMark, ListsNoneBelow, ListsSnapshots, ListsEachSnapshot, CheckpointsAscend};
 
 /// A right replica gives no digests and no page of a number below its low mark.
 pub fn right_replicas_give_no_low_parts()

@@ -1,6 +1,6 @@
 //! Laws that show what the definitions of a new view's view changes, of the low mark and of checkpoints refuse.
 
-ghost use Rattle.protocol.specs.RefusedMarks.{TakesWellFounded, LowIsNoLower, LowIsMarked, FirstCheckpointCounts, NewCheckpointCounts, CheckpointsStay, CheckpointsAreFew, CheckpointsDescend, CheckpointsWereBrought};
+ghost use Rattle.protocol.specs.Evidence.RefusedMarks.{TakesWellFounded, LowIsNoLower, LowIsMarked, FirstCheckpointCounts, NewCheckpointCounts, CheckpointsStay, CheckpointsAreFew, CheckpointsDescend, CheckpointsWereBrought};
 
 /// A new view is not taken with bytes that are no view change, signed by its sender, with a sender twice or out of order, with
 /// a view change for another view or beyond its bounds, or with a start that is not at or above the low marks of a quorum or

@@ -1,6 +1,6 @@
 //! Laws that show what the definitions of reports and of a schedule's steps refuse.
 
-ghost use Rattle.protocol.specs.RefusedSteps.{ReportsExist, ReportsAll, ReportsNoOther, ReportsInOrder, ReportsAreLinear, FirstOperationIsReported, FeedsWhatMayBeFed, FeedsWhatMayBeMade, FlushDeliversSealed, FlushDeliversSigned, SealedIsNewest, SignedIsNewest, StopsAtNone, StopsAtEach};
+ghost use Rattle.protocol.specs.Evidence.RefusedSteps.{ReportsExist, ReportsAll, ReportsNoOther, ReportsInOrder, ReportsAreLinear, FirstOperationIsReported, FeedsWhatMayBeFed, FeedsWhatMayBeMade, FlushDeliversSealed, FlushDeliversSigned, SealedIsNewest, SignedIsNewest, StopsAtNone, StopsAtEach};
 
 /// Each trace has a report. It lists the trace's acceptances and no others, each with its position, in the order of their
 /// positions, and the items that it lists of a run are legal, cover the run and are placed.

@@ -1,6 +1,6 @@
 //! The law that a new view is selected exactly where it meets the rules.
 
-ghost use Rattle.protocol.specs.Selected.{NewViewsMeetTheRules};
+ghost use Rattle.protocol.specs.Evidence.Selected.{NewViewsMeetTheRules};
 
 /// A new view is selected exactly where it meets the rules: it carries a set of signed view changes for it, within their
 /// bounds, of a quorum of different replicas; its start is at or above the low marks of a quorum, and listed by `f + 1`;

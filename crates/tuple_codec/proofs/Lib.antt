@@ -7,3 +7,4 @@ pub mod Steps
 pub mod Grammar
 pub mod OperationLaws
 pub mod Skipping
+pub mod Putting

@@ -1,5 +1,5 @@
 -- Steps of reading.
-use Rattle.std.proofs.Common.{◌≡◌, ℕ, zero, suc, ◌+◌, ◌-◌, ◌<◌, ◌≤◌, List, [], ◌∷◌, ◌++◌, length, take, drop, Some, None, Bool, true, false, ap, refl, sym, ◌∙◌, arith, append_assoc, length-append}
+use Rattle.std.proofs.Common.{◌≡◌, ℕ, zero, suc, ◌+◌, ◌-◌, ◌<◌, ◌≤◌, List, [], ◌∷◌, ◌++◌, length, take, drop, Option, Some, None, Bool, true, false, ap, refl, sym, subst, ◌∙◌, arith, append_assoc, length-append}
 use Rattle.std.proofs.lemmas.Bool.{le-ltb, eqb-true}
 use Rattle.std.proofs.lemmas.List.{take-append-drop, drop_at, length-take}
 use Rattle.std.proofs.lemmas.Str.{is_utf8-from_IsUtf8, IsUtf8-from_is_utf8}
@@ -7,12 +7,12 @@ use Rattle.std.specs.Str.{IsUtf8, is_utf8}
 use lib.Dec.{ltb, eqb}
 use Rattle.tuple_tree.specs.Items.{Item, leaf, inner, Items, none, how_many, with_last, levels_in, item_length, whole_length}
 use Rattle.tuple_tree.specs.Limits.{AreItems, IsWithin}
-use Rattle.tuple_tree.specs.Values.{AreBytes}
+use Rattle.tuple_tree.specs.Values.{TupleTree, AreBytes}
 use Rattle.tuple_tree.proofs.Growing.{how_many-with_last, levels_in-with_last, length_in-with_last, AreItems-with_last}
 use Rattle.tuple_codec.specs.Gives.{Fails}
 use Rattle.tuple_codec.specs.declared.bad.Bad.{Bad}
 use Rattle.tuple_codec.specs.declared.bad.Bad.TheVariants as bad
-use Rattle.tuple_codec.specs.Reading.{◌>>=◌, Reader, read_as, more, byte_at, string_at, text_at, item_with, items_with, nothing, inner_at, item_at, items_at, framed}
+use Rattle.tuple_codec.specs.Reading.{◌>>=◌, Reader, read_as, more, byte_at, string_at, text_at, item_with, items_with, nothing, inner_at, item_at, items_at, framed, tuple_at, with_tuple, tuples_at}
 use Rattle.tuple_codec.specs.Spelling.{item_spelling}
 use Rattle.tuple_codec.proofs.Readers.{Found, parts, byte_found, bytes_take}
 use Rattle.tuple_codec.proofs.Leaves.{ReadsLeaves}
@@ -40,6 +40,13 @@ module _ {X S : Type 0} (at : Reader X) (grow : S → X → S) where
   pub step : (n i : ℕ) (s : S) (bs : List ℕ) → i < n → more at grow (n - i) s bs ≡ (at bs >>= λ x. more at grow (n - (i + 1)) (grow s x.0) x.1)
   step n i s bs p = let e : n - i ≡ suc (n - (i + 1)) = omega arith in rw e refl
 
+  pub starts : (n : ℕ) (s t : S) (bs : List ℕ) → s ≡ t → more at grow (n - 0) s bs ≡ more at grow n t bs
+  starts n s t bs e = let z : n - 0 ≡ n = omega arith in ap (λ m. more at grow m s bs) z ∙ ap (λ u. more at grow n u bs) e
+
+  -- the loop's end
+  pub ends : (n i : ℕ) (s : S) (bs : List ℕ) (o : Option (S × List ℕ)) → n ≤ i → more at grow (n - i) s bs ≡ o → o ≡ Some (s, bs)
+  ends n i s bs o p e = let z : n - i ≡ 0 = omega arith in sym e ∙ ap (λ m. more at grow m s bs) z
+
   pub goes_on : (n i : ℕ) (s u : S) (x : X) (bs after : List ℕ) → i < n → at bs ≡ Some (x, after) → u ≡ grow s x → more at grow (n - (i + 1)) u after ≡ more at grow (n - i) s bs
   goes_on n i s u x bs after p e f = sym (step n i s bs p ∙ rw (e, f) refl)
 
@@ -53,6 +60,12 @@ pub whole : {L : Type 0} (at : Reader (Item L)) (bs front rest : List ℕ) (n i 
 unfolding items_with
 whole at bs front rest n i t e p h = let l : ltb 32 n ≡ false = le-ltb 32 n p in h ∙ sym (rw (e, l) refl)
 
+-- the same of tuples
+pub whole_tuples : (bs front rest : List ℕ) (n i : ℕ) (ts : List TupleTree) → byte_at bs ≡ Some (n, front) → n ≤ 64
+    → more tuple_at with_tuple (n - i) ts rest ≡ more tuple_at with_tuple n [] front → more tuple_at with_tuple (n - i) ts rest ≡ tuples_at bs
+unfolding tuples_at
+whole_tuples bs front rest n i ts e p h = let l : ltb 64 n ≡ false = le-ltb 64 n p in h ∙ sym (rw (e, l) refl)
+
 -- Trees so far as the loop has come: i items of a list that stood in at most 1,024 bytes.
 pub record Filled {L : Type 0} (IsLeaf : L → Type 0) (length_of : L → ℕ) (levels i : ℕ) (t : Items L) (rest : List ℕ) : Type 0 where
   pub items : how_many t ≡ i
@@ -61,8 +74,9 @@ pub record Filled {L : Type 0} (IsLeaf : L → Type 0) (length_of : L → ℕ) (
   pub bytes : whole_length length_of t + length rest ≤ 1024
   pub valid : AreBytes rest
 
-pub filled_start : {L : Type 0} (IsLeaf : L → Type 0) (length_of : L → ℕ) (levels n : ℕ) (bs front : List ℕ) → AreBytes bs → byte_at bs ≡ Some (n, front) → length bs ≤ 1024 → Filled IsLeaf length_of levels 0 none front
-filled_start IsLeaf length_of levels n bs front h e p = record { items = refl; depth = omega arith; each = tt; bytes = omega (arith, byte_length bs front n e); valid = (byte_found bs front n h e).0.bytes }
+pub filled_start : {L : Type 0} (IsLeaf : L → Type 0) (length_of : L → ℕ) (levels n : ℕ) (bs front : List ℕ) (t : Items L) → t ≡ none → AreBytes bs → byte_at bs ≡ Some (n, front) → length bs ≤ 1024 → Filled IsLeaf length_of levels 0 t front
+filled_start IsLeaf length_of levels n bs front t f h e p =
+    subst (λ u. Filled IsLeaf length_of levels 0 u front) (sym f) (record { items = refl; depth = omega arith; each = tt; bytes = omega (arith, byte_length bs front n e); valid = (byte_found bs front n h e).0.bytes })
 
 module _ {L : Type 0} (IsLeaf : L → Type 0) (length_of : L → ℕ) (spelling : L → List ℕ) (leaf_at : ℕ → Reader L) (reads : ReadsLeaves IsLeaf length_of spelling leaf_at) where
   pub filled_more : (levels i : ℕ) (t : Items L) (x : Item L) (rest after : List ℕ) → Filled IsLeaf length_of levels i t rest → i < 32 → levels ≤ 7 → item_at leaf_at levels rest ≡ Some (x, after)

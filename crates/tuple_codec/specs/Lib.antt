@@ -4,4 +4,5 @@ pub mod TuplesView
 pub mod OperationView
 pub mod Reading
 pub mod Gives
+pub mod Puts
 pub mod Laws

@@ -3,7 +3,7 @@
 ghost use Rattle.std.specs.Prelude.{◌≡◌, ◌+◌, ◌*◌, ◌≤◌, length, take, ℕ, IfOk, MatchResult, OnOk};
 ghost use Rattle.std.specs.Int.{w64, cast_signed};
 ghost use Rattle.tuple_tree.specs.Items.{leaf, with_last};
-ghost use Rattle.tuple_tree.specs.Values.{TupleTree, TemplateTree, IsTuple, IsTemplate};
+ghost use Rattle.tuple_tree.specs.Values.{actual, text, bytes as byte_string, TupleTree, TemplateTree, IsTuple, IsTemplate};
 ghost use Rattle.tuple_tree.specs.AtomView.{datum_of};
 ghost use Rattle.tuple_tree.specs.TupleView.{value_of};
 ghost use Rattle.tuple_tree.specs.TemplateView.{field_of};
@@ -28,7 +28,7 @@ pub fn decode_tuple<A: Allocator + Clone>(alloc: A, bytes: &[u8]) -> Result<(Tup
     // What is spelled so is read, unless memory runs out.
     ensures only { (t : TupleTree) (k : ℕ) → k ≤ length bytes.now → SpellsTuple (take k bytes.now) t → MatchResult result (λ x. (x.0 ≡ t) × (x.1 ≡ k)) (λ e. e ≡ Bad.NoMemory) }
 {
-    match read_tuple(alloc, bytes) {
+    match read_tuple(&alloc, bytes) {
         Ok((tuple, rest)) => Ok((tuple, bytes.len() - rest.len())),
         Err(bad) => Err(bad),
     }
@@ -49,13 +49,16 @@ pub fn decode_template<A: Allocator + Clone>(
     // What is spelled so is read, unless memory runs out.
     ensures only { (p : TemplateTree) (k : ℕ) → k ≤ length bytes.now → SpellsTemplate (take k bytes.now) p → MatchResult result (λ x. (x.0 ≡ p) × (x.1 ≡ k)) (λ e. e ≡ Bad.NoMemory) }
 {
-    match read_template(alloc, bytes) {
+    match read_template(&alloc, bytes) {
         Ok((template, rest)) => Ok((template, bytes.len() - rest.len())),
         Err(bad) => Err(bad),
     }
 }
 
-pub fn read_tuple<A: Allocator + Clone>(alloc: A, bytes: &[u8]) -> Result<(Tuple<A>, &[u8]), Bad>
+pub fn read_tuple<'b, A: Allocator + Clone>(
+    alloc: &A,
+    bytes: &'b [u8],
+) -> Result<(Tuple<A>, &'b [u8]), Bad>
     ensures { Gives (λ x. (x.0, x.1.now)) result (tuple_at bytes.now) }
 {
     let front = frame(bytes);
@@ -65,10 +68,10 @@ pub fn read_tuple<A: Allocator + Clone>(alloc: A, bytes: &[u8]) -> Result<(Tuple
     }
 }
 
-pub fn read_template<A: Allocator + Clone>(
-    alloc: A,
-    bytes: &[u8],
-) -> Result<(Template<A>, &[u8]), Bad>
+pub fn read_template<'b, A: Allocator + Clone>(
+    alloc: &A,
+    bytes: &'b [u8],
+) -> Result<(Template<A>, &'b [u8]), Bad>
     ensures { Gives (λ x. (x.0, x.1.now)) result (template_at bytes.now) }
 {
     let front = frame(bytes);
@@ -81,11 +84,11 @@ pub fn read_template<A: Allocator + Clone>(
 // A tuple with at most so many levels below its own.
 #[tactic(auto, unfolding(crate::specs::Reading::items_with))]
 #[cycle(read_values)]
-fn read_values<A: Allocator + Clone>(
-    alloc: A,
-    bytes: &[u8],
+fn read_values<'b, A: Allocator + Clone>(
+    alloc: &A,
+    bytes: &'b [u8],
     levels: u8,
-) -> Result<(Tuple<A>, &[u8]), Bad>
+) -> Result<(Tuple<A>, &'b [u8]), Bad>
     requires levels { levels ≤ 7 }
     requires bytes { length bytes.now ≤ 1024 }
     ensures { Gives (λ x. (x.0, x.1.now)) result (items_at datum_at levels bytes.now) }
@@ -97,7 +100,7 @@ fn read_values<A: Allocator + Clone>(
     let mut tuple = Tuple::new_in(alloc.clone()?);
     let mut rest = values;
     for _i in 0..count {
-        let (value, after) = read_value(alloc.clone()?, rest, levels)?;
+        let (value, after) = read_value(alloc, rest, levels)?;
         push_value(&mut tuple, value)?;
         rest = after;
     }
@@ -106,11 +109,11 @@ fn read_values<A: Allocator + Clone>(
 
 #[tactic(auto, unfolding(crate::specs::Reading::item_with))]
 #[cycle(read_values)]
-fn read_value<A: Allocator + Clone>(
-    alloc: A,
-    bytes: &[u8],
+fn read_value<'b, A: Allocator + Clone>(
+    alloc: &A,
+    bytes: &'b [u8],
     levels: u8,
-) -> Result<(Value<A>, &[u8]), Bad>
+) -> Result<(Value<A>, &'b [u8]), Bad>
     requires levels { levels ≤ 7 }
     requires bytes { length bytes.now ≤ 1024 }
     ensures { Gives (λ x. (value_of x.0, x.1.now)) result (item_at datum_at levels bytes.now) }
@@ -135,11 +138,17 @@ pub fn next_byte(bytes: &[u8]) -> Result<(u8, &[u8]), Bad>
     }
 }
 
-fn read_atom_value<A: Allocator>(alloc: A, tag: u8, bytes: &[u8]) -> Result<(Value<A>, &[u8]), Bad>
+fn read_atom_value<'b, A: Allocator + Clone>(
+    alloc: &A,
+    tag: u8,
+    bytes: &'b [u8],
+) -> Result<(Value<A>, &'b [u8]), Bad>
     ensures { Gives (λ x. (value_of x.0, x.1.now)) result (read_as leaf (datum_at tag) bytes.now) }
 {
-    let (atom, rest) = read_atom(alloc, tag, bytes)?;
-    Ok((Value::Atom(atom), rest))
+    match read_atom(alloc, tag, bytes) {
+        Ok((atom, rest)) => Ok((Value::Atom(atom), rest)),
+        Err(bad) => Err(bad),
+    }
 }
 
 // The limits were tested before, so that only memory can be wanting.
@@ -159,11 +168,11 @@ fn push_value<A: Allocator>(tuple: &mut Tuple<A>, value: Value<A>) -> Result<(),
 // A template with at most so many levels below its own.
 #[tactic(auto, unfolding(crate::specs::Reading::items_with))]
 #[cycle(read_fields)]
-fn read_fields<A: Allocator + Clone>(
-    alloc: A,
-    bytes: &[u8],
+fn read_fields<'b, A: Allocator + Clone>(
+    alloc: &A,
+    bytes: &'b [u8],
     levels: u8,
-) -> Result<(Template<A>, &[u8]), Bad>
+) -> Result<(Template<A>, &'b [u8]), Bad>
     requires levels { levels ≤ 7 }
     requires bytes { length bytes.now ≤ 1024 }
     ensures { Gives (λ x. (x.0, x.1.now)) result (items_at slot_at levels bytes.now) }
@@ -175,7 +184,7 @@ fn read_fields<A: Allocator + Clone>(
     let mut template = Template::new_in(alloc.clone()?);
     let mut rest = fields;
     for _i in 0..count {
-        let (field, after) = read_field(alloc.clone()?, rest, levels)?;
+        let (field, after) = read_field(alloc, rest, levels)?;
         push_field(&mut template, field)?;
         rest = after;
     }
@@ -184,11 +193,11 @@ fn read_fields<A: Allocator + Clone>(
 
 #[tactic(auto, unfolding(crate::specs::Reading::item_with))]
 #[cycle(read_fields)]
-fn read_field<A: Allocator + Clone>(
-    alloc: A,
-    bytes: &[u8],
+fn read_field<'b, A: Allocator + Clone>(
+    alloc: &A,
+    bytes: &'b [u8],
     levels: u8,
-) -> Result<(Field<A>, &[u8]), Bad>
+) -> Result<(Field<A>, &'b [u8]), Bad>
     requires levels { levels ≤ 7 }
     requires bytes { length bytes.now ≤ 1024 }
     ensures { Gives (λ x. (field_of x.0, x.1.now)) result (item_at slot_at levels bytes.now) }
@@ -205,7 +214,11 @@ fn read_field<A: Allocator + Clone>(
 }
 
 #[tactic(auto, unfolding(crate::specs::Reading::slot_at))]
-fn read_slot<A: Allocator>(alloc: A, tag: u8, bytes: &[u8]) -> Result<(Field<A>, &[u8]), Bad>
+fn read_slot<'b, A: Allocator + Clone>(
+    alloc: &A,
+    tag: u8,
+    bytes: &'b [u8],
+) -> Result<(Field<A>, &'b [u8]), Bad>
     ensures { Gives (λ x. (field_of x.0, x.1.now)) result (read_as leaf (slot_at tag) bytes.now) }
 {
     match tag {
@@ -215,10 +228,20 @@ fn read_slot<A: Allocator>(alloc: A, tag: u8, bytes: &[u8]) -> Result<(Field<A>,
         0x13 => Ok((Field::Formal(Kind::Bytes), bytes)),
         0x14 => Ok((Field::Formal(Kind::Truth), bytes)),
         0x15 => Ok((Field::Formal(Kind::Tuple), bytes)),
-        _ => {
-            let (atom, rest) = read_atom(alloc, tag, bytes)?;
-            Ok((Field::Actual(atom), rest))
-        }
+        _ => read_actual(alloc, tag, bytes),
+    }
+}
+
+fn read_actual<'b, A: Allocator + Clone>(
+    alloc: &A,
+    tag: u8,
+    bytes: &'b [u8],
+) -> Result<(Field<A>, &'b [u8]), Bad>
+    ensures { Gives (λ x. (field_of x.0, x.1.now)) result (read_as leaf (read_as actual (datum_at tag)) bytes.now) }
+{
+    match read_atom(alloc, tag, bytes) {
+        Ok((atom, rest)) => Ok((Field::Actual(atom), rest)),
+        Err(bad) => Err(bad),
     }
 }
 
@@ -238,7 +261,11 @@ fn push_field<A: Allocator>(template: &mut Template<A>, field: Field<A>) -> Resu
 
 // The value behind a tag. The bytes are few, so that little memory is asked for.
 #[tactic(auto, unfolding(crate::specs::Reading::datum_at))]
-fn read_atom<A: Allocator>(alloc: A, tag: u8, bytes: &[u8]) -> Result<(Atom<A>, &[u8]), Bad>
+fn read_atom<'b, A: Allocator + Clone>(
+    alloc: &A,
+    tag: u8,
+    bytes: &'b [u8],
+) -> Result<(Atom<A>, &'b [u8]), Bad>
     ensures { Gives (λ x. (datum_of x.0, x.1.now)) result (datum_at tag bytes.now) }
 {
     match tag {
@@ -247,11 +274,11 @@ fn read_atom<A: Allocator>(alloc: A, tag: u8, bytes: &[u8]) -> Result<(Atom<A>, 
             None => Err(Bad::Malformed),
         },
         2 => match read_text(bytes) {
-            Some((text, rest)) => Ok((Atom::Text(String::from_str(alloc, text)?), rest)),
+            Some((text, rest)) => Ok((text_atom(alloc, text)?, rest)),
             None => Err(Bad::Malformed),
         },
         3 => match read_string(bytes) {
-            Some((string, rest)) => Ok((Atom::Bytes(Vec::from_slice(alloc, string)?), rest)),
+            Some((string, rest)) => Ok((bytes_atom(alloc, string)?, rest)),
             None => Err(Bad::Malformed),
         },
         4 => match read_flag(bytes) {
@@ -260,4 +287,16 @@ fn read_atom<A: Allocator>(alloc: A, tag: u8, bytes: &[u8]) -> Result<(Atom<A>, 
         },
         _ => Err(Bad::Malformed),
     }
+}
+
+fn text_atom<A: Allocator + Clone>(alloc: &A, string: &str) -> Result<Atom<A>, NoMemory>
+    ensures { IfOk result (λ x. datum_of x ≡ text string.now) }
+{
+    Ok(Atom::Text(String::from_str(alloc.clone()?, string)?))
+}
+
+fn bytes_atom<A: Allocator + Clone>(alloc: &A, string: &[u8]) -> Result<Atom<A>, NoMemory>
+    ensures { IfOk result (λ x. datum_of x ≡ byte_string string.now) }
+{
+    Ok(Atom::Bytes(Vec::from_slice(alloc.clone()?, string)?))
 }

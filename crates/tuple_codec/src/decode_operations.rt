@@ -1,11 +1,11 @@
 //! From bytes to operations and answers.
 
 ghost use Rattle.std.specs.Prelude.{◌≡◌, ◌≢◌, ◌+◌, ◌<◌, ◌≤◌, length, take, ℕ, IfOk, MatchResult, OnOk};
-ghost use Rattle.tuple_codec.specs.Operations.{Operation, Outcome, all};
+ghost use Rattle.tuple_codec.specs.Operations.{Operation, out, rdp, inp, Outcome, found as found_one, swapped as was_swapped, all};
 ghost use Rattle.tuple_codec.specs.OperationView.{operation_of, outcome_of};
 ghost use Rattle.tuple_codec.specs.Gives.{Gives};
 ghost use Rattle.tuple_codec.specs.Spelling.{SpellsOperation, SpellsOutcome};
-ghost use Rattle.tuple_codec.specs.Reading.{read_as, cas_at, rd_all_at, operation_behind, operation_at, tuples_at, outcome_behind, outcome_at, with_tuple};
+ghost use Rattle.tuple_codec.specs.Reading.{read_as, tuple_at, template_at, flag_at, cas_at, rd_all_at, operation_behind, operation_at, tuples_at, outcome_behind, outcome_at, with_tuple};
 
 use crate::bad::Bad;
 use crate::decode::{next_byte, read_template, read_tuple};
@@ -27,7 +27,7 @@ pub fn decode_op<A: Allocator + Clone>(alloc: A, bytes: &[u8]) -> Result<(Op<A>,
     // What is spelled so is read, unless memory runs out.
     ensures only { (o : Operation) (k : ℕ) → k ≤ length bytes.now → SpellsOperation (take k bytes.now) o → MatchResult result (λ x. (operation_of x.0 ≡ o) × (x.1 ≡ k)) (λ e. e ≡ Bad.NoMemory) }
 {
-    match read_op(alloc, bytes) {
+    match read_op(&alloc, bytes) {
         Ok((op, rest)) => Ok((op, bytes.len() - rest.len())),
         Err(bad) => Err(bad),
     }
@@ -48,14 +48,14 @@ pub fn decode_result<A: Allocator + Clone>(
     // What is spelled so is read, unless memory runs out.
     ensures only { (r : Outcome) (k : ℕ) → k ≤ length bytes.now → SpellsOutcome (take k bytes.now) r → MatchResult result (λ x. (outcome_of x.0 ≡ r) × (x.1 ≡ k)) (λ e. e ≡ Bad.NoMemory) }
 {
-    match read_answer(alloc, bytes) {
+    match read_answer(&alloc, bytes) {
         Ok((answer, rest)) => Ok((answer, bytes.len() - rest.len())),
         Err(bad) => Err(bad),
     }
 }
 
 #[tactic(auto, unfolding(crate::specs::Reading::operation_at))]
-fn read_op<A: Allocator + Clone>(alloc: A, bytes: &[u8]) -> Result<(Op<A>, &[u8]), Bad>
+fn read_op<'b, A: Allocator + Clone>(alloc: &A, bytes: &'b [u8]) -> Result<(Op<A>, &'b [u8]), Bad>
     ensures { Gives (λ x. (operation_of x.0, x.1.now)) result (operation_at bytes.now) }
 {
     let (tag, rest) = next_byte(bytes)?;
@@ -63,43 +63,64 @@ fn read_op<A: Allocator + Clone>(alloc: A, bytes: &[u8]) -> Result<(Op<A>, &[u8]
 }
 
 #[tactic(auto, unfolding(crate::specs::Reading::operation_behind))]
-fn read_op_behind<A: Allocator + Clone>(
-    alloc: A,
+fn read_op_behind<'b, A: Allocator + Clone>(
+    alloc: &A,
     tag: u8,
-    bytes: &[u8],
-) -> Result<(Op<A>, &[u8]), Bad>
+    bytes: &'b [u8],
+) -> Result<(Op<A>, &'b [u8]), Bad>
     ensures { Gives (λ x. (operation_of x.0, x.1.now)) result (operation_behind tag bytes.now) }
 {
     match tag {
-        0x21 => {
-            let (tuple, rest) = read_tuple(alloc, bytes)?;
-            Ok((Op::Out(tuple), rest))
-        }
-        0x22 => {
-            let (template, rest) = read_template(alloc, bytes)?;
-            Ok((Op::Rdp(template), rest))
-        }
-        0x23 => {
-            let (template, rest) = read_template(alloc, bytes)?;
-            Ok((Op::Inp(template), rest))
-        }
+        0x21 => read_out(alloc, bytes),
+        0x22 => read_rdp(alloc, bytes),
+        0x23 => read_inp(alloc, bytes),
         0x24 => read_cas(alloc, bytes),
         0x25 => read_rd_all(alloc, bytes),
         _ => Err(Bad::Malformed),
     }
 }
 
+fn read_out<'b, A: Allocator + Clone>(alloc: &A, bytes: &'b [u8]) -> Result<(Op<A>, &'b [u8]), Bad>
+    ensures { Gives (λ x. (operation_of x.0, x.1.now)) result (read_as out tuple_at bytes.now) }
+{
+    match read_tuple(alloc, bytes) {
+        Ok((tuple, rest)) => Ok((Op::Out(tuple), rest)),
+        Err(bad) => Err(bad),
+    }
+}
+
+fn read_rdp<'b, A: Allocator + Clone>(alloc: &A, bytes: &'b [u8]) -> Result<(Op<A>, &'b [u8]), Bad>
+    ensures { Gives (λ x. (operation_of x.0, x.1.now)) result (read_as rdp template_at bytes.now) }
+{
+    match read_template(alloc, bytes) {
+        Ok((template, rest)) => Ok((Op::Rdp(template), rest)),
+        Err(bad) => Err(bad),
+    }
+}
+
+fn read_inp<'b, A: Allocator + Clone>(alloc: &A, bytes: &'b [u8]) -> Result<(Op<A>, &'b [u8]), Bad>
+    ensures { Gives (λ x. (operation_of x.0, x.1.now)) result (read_as inp template_at bytes.now) }
+{
+    match read_template(alloc, bytes) {
+        Ok((template, rest)) => Ok((Op::Inp(template), rest)),
+        Err(bad) => Err(bad),
+    }
+}
+
 #[tactic(auto, unfolding(crate::specs::Reading::cas_at))]
-fn read_cas<A: Allocator + Clone>(alloc: A, bytes: &[u8]) -> Result<(Op<A>, &[u8]), Bad>
+fn read_cas<'b, A: Allocator + Clone>(alloc: &A, bytes: &'b [u8]) -> Result<(Op<A>, &'b [u8]), Bad>
     ensures { Gives (λ x. (operation_of x.0, x.1.now)) result (cas_at bytes.now) }
 {
-    let (template, after) = read_template(alloc.clone()?, bytes)?;
+    let (template, after) = read_template(alloc, bytes)?;
     let (tuple, rest) = read_tuple(alloc, after)?;
     Ok((Op::Cas(template, tuple), rest))
 }
 
 #[tactic(auto, unfolding(crate::specs::Reading::rd_all_at))]
-fn read_rd_all<A: Allocator + Clone>(alloc: A, bytes: &[u8]) -> Result<(Op<A>, &[u8]), Bad>
+fn read_rd_all<'b, A: Allocator + Clone>(
+    alloc: &A,
+    bytes: &'b [u8],
+) -> Result<(Op<A>, &'b [u8]), Bad>
     ensures { Gives (λ x. (operation_of x.0, x.1.now)) result (rd_all_at bytes.now) }
 {
     let (count, after) = next_byte(bytes)?;
@@ -113,7 +134,10 @@ fn read_rd_all<A: Allocator + Clone>(alloc: A, bytes: &[u8]) -> Result<(Op<A>, &
 }
 
 #[tactic(auto, unfolding(crate::specs::Reading::outcome_at))]
-fn read_answer<A: Allocator + Clone>(alloc: A, bytes: &[u8]) -> Result<(Answer<A>, &[u8]), Bad>
+fn read_answer<'b, A: Allocator + Clone>(
+    alloc: &A,
+    bytes: &'b [u8],
+) -> Result<(Answer<A>, &'b [u8]), Bad>
     ensures { Gives (λ x. (outcome_of x.0, x.1.now)) result (outcome_at bytes.now) }
 {
     let (tag, rest) = next_byte(bytes)?;
@@ -121,36 +145,63 @@ fn read_answer<A: Allocator + Clone>(alloc: A, bytes: &[u8]) -> Result<(Answer<A
 }
 
 #[tactic(auto, unfolding(crate::specs::Reading::outcome_behind))]
-fn read_answer_behind<A: Allocator + Clone>(
-    alloc: A,
+fn read_answer_behind<'b, A: Allocator + Clone>(
+    alloc: &A,
     tag: u8,
-    bytes: &[u8],
-) -> Result<(Answer<A>, &[u8]), Bad>
+    bytes: &'b [u8],
+) -> Result<(Answer<A>, &'b [u8]), Bad>
     ensures { Gives (λ x. (outcome_of x.0, x.1.now)) result (outcome_behind tag bytes.now) }
 {
     match tag {
         0x31 => Ok((Answer::Done, bytes)),
-        0x32 => {
-            let (tuple, rest) = read_tuple(alloc, bytes)?;
-            Ok((Answer::Found(tuple), rest))
-        }
+        0x32 => read_found(alloc, bytes),
         0x33 => Ok((Answer::Absent, bytes)),
-        0x34 => match read_flag(bytes) {
-            Some((swapped, rest)) => Ok((Answer::Swapped(swapped), rest)),
-            None => Err(Bad::Malformed),
-        },
-        0x35 => {
-            let (tuples, rest) = read_tuples(alloc, bytes)?;
-            Ok((Answer::All(tuples), rest))
-        }
+        0x34 => read_swapped(bytes),
+        0x35 => read_all(alloc, bytes),
         0x36 => Ok((Answer::Full, bytes)),
         0x37 => Ok((Answer::Refused, bytes)),
         _ => Err(Bad::Malformed),
     }
 }
 
+fn read_found<'b, A: Allocator + Clone>(
+    alloc: &A,
+    bytes: &'b [u8],
+) -> Result<(Answer<A>, &'b [u8]), Bad>
+    ensures { Gives (λ x. (outcome_of x.0, x.1.now)) result (read_as found_one tuple_at bytes.now) }
+{
+    match read_tuple(alloc, bytes) {
+        Ok((tuple, rest)) => Ok((Answer::Found(tuple), rest)),
+        Err(bad) => Err(bad),
+    }
+}
+
+fn read_swapped<A: Allocator>(bytes: &[u8]) -> Result<(Answer<A>, &[u8]), Bad>
+    ensures { Gives (λ x. (outcome_of x.0, x.1.now)) result (read_as was_swapped flag_at bytes.now) }
+{
+    match read_flag(bytes) {
+        Some((swapped, rest)) => Ok((Answer::Swapped(swapped), rest)),
+        None => Err(Bad::Malformed),
+    }
+}
+
+fn read_all<'b, A: Allocator + Clone>(
+    alloc: &A,
+    bytes: &'b [u8],
+) -> Result<(Answer<A>, &'b [u8]), Bad>
+    ensures { Gives (λ x. (outcome_of x.0, x.1.now)) result (read_as all tuples_at bytes.now) }
+{
+    match read_tuples(alloc, bytes) {
+        Ok((tuples, rest)) => Ok((Answer::All(tuples), rest)),
+        Err(bad) => Err(bad),
+    }
+}
+
 #[tactic(auto, unfolding(crate::specs::Reading::tuples_at))]
-fn read_tuples<A: Allocator + Clone>(alloc: A, bytes: &[u8]) -> Result<(Tuples<A>, &[u8]), Bad>
+fn read_tuples<'b, A: Allocator + Clone>(
+    alloc: &A,
+    bytes: &'b [u8],
+) -> Result<(Tuples<A>, &'b [u8]), Bad>
     ensures { Gives (λ x. (x.0, x.1.now)) result (tuples_at bytes.now) }
 {
     let (count, front) = next_byte(bytes)?;
@@ -160,7 +211,7 @@ fn read_tuples<A: Allocator + Clone>(alloc: A, bytes: &[u8]) -> Result<(Tuples<A
     let mut tuples = Tuples::new_in(alloc.clone()?);
     let mut rest = front;
     for _i in 0..count {
-        let (tuple, after) = read_tuple(alloc.clone()?, rest)?;
+        let (tuple, after) = read_tuple(alloc, rest)?;
         push_tuple(&mut tuples, tuple)?;
         rest = after;
     }

@@ -1,17 +1,19 @@
 //! From values to bytes.
 
-ghost use Rattle.std.specs.Prelude.{◌≡◌, ◌+◌, ◌≤◌, ◌++◌, ◌∷◌, [], OnOk, OnErr, take, length, vec_len};
+ghost use Rattle.std.specs.Prelude.{◌≡◌, ◌+◌, ◌≤◌, ◌++◌, ◌∷◌, [], OnOk, OnErr, length};
 ghost use Rattle.std.specs.Int.{w16, w64, to_be_bytes, cast_unsigned};
 ghost use Rattle.tuple_tree.specs.Items.{item_length};
 ghost use Rattle.tuple_tree.specs.Values.{datum_length, slot_length};
 ghost use Rattle.tuple_tree.specs.AtomView.{datum_of};
 ghost use Rattle.tuple_tree.specs.TupleView.{value_of};
 ghost use Rattle.tuple_tree.specs.TemplateView.{field_of};
+ghost use Rattle.tuple_codec.specs.Puts.{Puts};
+ghost use Rattle.tuple_codec.specs.Operations.{cas, rd_all, all};
 ghost use Rattle.tuple_codec.specs.OperationView.{operation_of, outcome_of};
 ghost use Rattle.tuple_codec.specs.Spelling.{flag, datum_spelling, slot_spelling, formal_tag, item_spelling, tuple_spelling, template_spelling, operation_spelling, tuples_spelling, outcome_spelling};
 ghost use Rattle.tuple_codec.specs.Spelling as Spelling;
 
-use crate::operations::{Answer, Op, Tuples};
+use crate::operations::{Answer, Max, Op, Tuples};
 use byteorder::{BigEndian, ByteOrder};
 use std::alloc::Allocator;
 use tuple_tree::{Atom, Field, Kind, NoMemory, Template, Tuple, Value};
@@ -91,74 +93,98 @@ pub fn encode_result<A: Allocator, B: Allocator>(
 }
 
 fn put_op<A: Allocator, B: Allocator>(op: &Op<A>, out: &mut Vec<u8, B>) -> Result<(), NoMemory>
-    ensures ok { OnOk result (out.new.items ≡ out.old.items ++ operation_spelling (operation_of op.now)) }
-    ensures kept { take (vec_len out.old) out.new.items ≡ out.old.items }
+    ensures { Puts (operation_spelling (operation_of op.now)) out.old.items out.new.items result }
 {
     match op {
-        Op::Out(tuple) => {
-            out.push(0x21)?;
-            put_tuple(tuple, out)
-        }
-        Op::Rdp(template) => {
-            out.push(0x22)?;
-            put_template(template, out)
-        }
-        Op::Inp(template) => {
-            out.push(0x23)?;
-            put_template(template, out)
-        }
-        Op::Cas(template, tuple) => {
-            out.push(0x24)?;
-            put_template(template, out)?;
-            put_tuple(tuple, out)
-        }
-        Op::RdAll(max, template) => {
-            out.push(0x25)?;
-            out.push(max.count)?;
-            put_template(template, out)
-        }
+        Op::Out(tuple) => put_tuple_behind(0x21, tuple, out),
+        Op::Rdp(template) => put_template_behind(0x22, template, out),
+        Op::Inp(template) => put_template_behind(0x23, template, out),
+        Op::Cas(template, tuple) => put_cas(template, tuple, out),
+        Op::RdAll(max, template) => put_rd_all(*max, template, out),
     }
+}
+
+fn put_cas<A: Allocator, B: Allocator>(
+    template: &Template<A>,
+    tuple: &Tuple<A>,
+    out: &mut Vec<u8, B>,
+) -> Result<(), NoMemory>
+    ensures { Puts (operation_spelling (cas template.now tuple.now)) out.old.items out.new.items result }
+{
+    put_template_behind(0x24, template, out)?;
+    put_tuple(tuple, out)
+}
+
+fn put_rd_all<A: Allocator, B: Allocator>(
+    max: Max,
+    template: &Template<A>,
+    out: &mut Vec<u8, B>,
+) -> Result<(), NoMemory>
+    ensures { Puts (operation_spelling (rd_all max.count template.now)) out.old.items out.new.items result }
+{
+    put_byte(0x25, out)?;
+    put_template_behind(max.count, template, out)
 }
 
 fn put_answer<A: Allocator, B: Allocator>(
     answer: &Answer<A>,
     out: &mut Vec<u8, B>,
 ) -> Result<(), NoMemory>
-    ensures ok { OnOk result (out.new.items ≡ out.old.items ++ outcome_spelling (outcome_of answer.now)) }
-    ensures kept { take (vec_len out.old) out.new.items ≡ out.old.items }
+    ensures { Puts (outcome_spelling (outcome_of answer.now)) out.old.items out.new.items result }
 {
     match answer {
-        Answer::Done => Ok(out.push(0x31)?),
-        Answer::Found(tuple) => {
-            out.push(0x32)?;
-            put_tuple(tuple, out)
-        }
-        Answer::Absent => Ok(out.push(0x33)?),
-        Answer::Swapped(swapped) => {
-            out.push(0x34)?;
-            Ok(out.push(*swapped as u8)?)
-        }
-        Answer::All(tuples) => {
-            out.push(0x35)?;
-            put_tuples(tuples, out)
-        }
-        Answer::Full => Ok(out.push(0x36)?),
-        Answer::Refused => Ok(out.push(0x37)?),
+        Answer::Done => put_byte(0x31, out),
+        Answer::Found(tuple) => put_tuple_behind(0x32, tuple, out),
+        Answer::Absent => put_byte(0x33, out),
+        Answer::Swapped(swapped) => put_behind(0x34, &[*swapped as u8], out),
+        Answer::All(tuples) => put_all(tuples, out),
+        Answer::Full => put_byte(0x36, out),
+        Answer::Refused => put_byte(0x37, out),
     }
+}
+
+fn put_all<A: Allocator, B: Allocator>(
+    tuples: &Tuples<A>,
+    out: &mut Vec<u8, B>,
+) -> Result<(), NoMemory>
+    ensures { Puts (outcome_spelling (all tuples.now)) out.old.items out.new.items result }
+{
+    put_behind(0x35, &[tuples.len() as u8], out)?;
+    put_tuples(tuples, out)
 }
 
 fn put_tuples<A: Allocator, B: Allocator>(
     tuples: &Tuples<A>,
     out: &mut Vec<u8, B>,
 ) -> Result<(), NoMemory>
-    ensures ok { OnOk result (out.new.items ≡ out.old.items ++ length tuples.now ∷ tuples_spelling tuples.now) }
-    ensures kept { take (vec_len out.old) out.new.items ≡ out.old.items }
+    ensures { Puts (tuples_spelling tuples.now) out.old.items out.new.items result }
 {
-    out.push(tuples.len() as u8)?;
     for tuple in tuples.as_slice() {
         put_tuple(tuple, out)?;
     }
     Ok(())
+}
+
+fn put_tuple_behind<A: Allocator, B: Allocator>(
+    tag: u8,
+    tuple: &Tuple<A>,
+    out: &mut Vec<u8, B>,
+) -> Result<(), NoMemory>
+    ensures { Puts (tag ∷ tuple_spelling tuple.now) out.old.items out.new.items result }
+{
+    put_byte(tag, out)?;
+    put_tuple(tuple, out)
+}
+
+fn put_template_behind<A: Allocator, B: Allocator>(
+    tag: u8,
+    template: &Template<A>,
+    out: &mut Vec<u8, B>,
+) -> Result<(), NoMemory>
+    ensures { Puts (tag ∷ template_spelling template.now) out.old.items out.new.items result }
+{
+    put_byte(tag, out)?;
+    put_template(template, out)
 }
 
 #[cycle(put_tuple)]
@@ -166,10 +192,9 @@ fn put_tuple<A: Allocator, B: Allocator>(
     tuple: &Tuple<A>,
     out: &mut Vec<u8, B>,
 ) -> Result<(), NoMemory>
-    ensures ok { OnOk result (out.new.items ≡ out.old.items ++ tuple_spelling tuple.now) }
-    ensures kept { take (vec_len out.old) out.new.items ≡ out.old.items }
+    ensures { Puts (tuple_spelling tuple.now) out.old.items out.new.items result }
 {
-    out.push(tuple.len() as u8)?;
+    put_byte(tuple.len() as u8, out)?;
     for value in tuple.values() {
         put_value(value, out)?;
     }
@@ -182,13 +207,12 @@ fn put_value<A: Allocator, B: Allocator>(
     out: &mut Vec<u8, B>,
 ) -> Result<(), NoMemory>
     requires { item_length datum_length (value_of value.now) ≤ 1024 }
-    ensures ok { OnOk result (out.new.items ≡ out.old.items ++ item_spelling datum_spelling (value_of value.now)) }
-    ensures kept { take (vec_len out.old) out.new.items ≡ out.old.items }
+    ensures { Puts (item_spelling datum_spelling (value_of value.now)) out.old.items out.new.items result }
 {
     match value {
         Value::Atom(atom) => put_atom(atom, out),
         Value::Nested(tuple) => {
-            out.push(5)?;
+            put_byte(5, out)?;
             put_tuple(tuple, out)
         }
     }
@@ -199,10 +223,9 @@ fn put_template<A: Allocator, B: Allocator>(
     template: &Template<A>,
     out: &mut Vec<u8, B>,
 ) -> Result<(), NoMemory>
-    ensures ok { OnOk result (out.new.items ≡ out.old.items ++ template_spelling template.now) }
-    ensures kept { take (vec_len out.old) out.new.items ≡ out.old.items }
+    ensures { Puts (template_spelling template.now) out.old.items out.new.items result }
 {
-    out.push(template.len() as u8)?;
+    put_byte(template.len() as u8, out)?;
     for field in template.fields() {
         put_field(field, out)?;
     }
@@ -215,15 +238,14 @@ fn put_field<A: Allocator, B: Allocator>(
     out: &mut Vec<u8, B>,
 ) -> Result<(), NoMemory>
     requires { item_length slot_length (field_of field.now) ≤ 1024 }
-    ensures ok { OnOk result (out.new.items ≡ out.old.items ++ item_spelling slot_spelling (field_of field.now)) }
-    ensures kept { take (vec_len out.old) out.new.items ≡ out.old.items }
+    ensures { Puts (item_spelling slot_spelling (field_of field.now)) out.old.items out.new.items result }
 {
     match field {
         Field::Actual(atom) => put_atom(atom, out),
-        Field::Any => Ok(out.push(0x10)?),
-        Field::Formal(kind) => Ok(out.push(kind_tag(*kind))?),
+        Field::Any => put_byte(0x10, out),
+        Field::Formal(kind) => put_byte(kind_tag(*kind), out),
         Field::Nested(template) => {
-            out.push(5)?;
+            put_byte(5, out)?;
             put_template(template, out)
         }
     }
@@ -246,36 +268,41 @@ fn put_atom<A: Allocator, B: Allocator>(
     out: &mut Vec<u8, B>,
 ) -> Result<(), NoMemory>
     requires { datum_length (datum_of atom.now) ≤ 1024 }
-    ensures ok { OnOk result (out.new.items ≡ out.old.items ++ datum_spelling (datum_of atom.now)) }
-    ensures kept { take (vec_len out.old) out.new.items ≡ out.old.items }
+    ensures { Puts (datum_spelling (datum_of atom.now)) out.old.items out.new.items result }
 {
     match atom {
-        Atom::Number(number) => {
-            out.push(1)?;
-            Ok(out.extend_from_slice(&number_bytes(*number))?)
-        }
-        Atom::Text(text) => {
-            out.push(2)?;
-            put_string(text.as_bytes(), out)
-        }
-        Atom::Bytes(bytes) => {
-            out.push(3)?;
-            put_string(bytes.as_slice(), out)
-        }
-        Atom::Truth(truth) => {
-            out.push(4)?;
-            Ok(out.push(*truth as u8)?)
-        }
+        Atom::Number(number) => put_behind(1, &number_bytes(*number), out),
+        Atom::Text(text) => put_string(2, text.as_bytes(), out),
+        Atom::Bytes(bytes) => put_string(3, bytes.as_slice(), out),
+        Atom::Truth(truth) => put_behind(4, &[*truth as u8], out),
     }
 }
 
-fn put_string<B: Allocator>(string: &[u8], out: &mut Vec<u8, B>) -> Result<(), NoMemory>
+fn put_string<B: Allocator>(tag: u8, string: &[u8], out: &mut Vec<u8, B>) -> Result<(), NoMemory>
     requires { length string.now ≤ 1021 }
-    ensures ok { OnOk result (out.new.items ≡ out.old.items ++ Spelling.string string.now) }
-    ensures kept { take (vec_len out.old) out.new.items ≡ out.old.items }
+    ensures { Puts (tag ∷ Spelling.string string.now) out.old.items out.new.items result }
 {
-    out.extend_from_slice(&length_bytes(string.len() as u16))?;
-    Ok(out.extend_from_slice(string)?)
+    put_behind(tag, &length_bytes(string.len() as u16), out)?;
+    put_bytes(string, out)
+}
+
+fn put_behind<B: Allocator>(tag: u8, bytes: &[u8], out: &mut Vec<u8, B>) -> Result<(), NoMemory>
+    ensures { Puts (tag ∷ bytes.now) out.old.items out.new.items result }
+{
+    put_byte(tag, out)?;
+    put_bytes(bytes, out)
+}
+
+fn put_byte<B: Allocator>(byte: u8, out: &mut Vec<u8, B>) -> Result<(), NoMemory>
+    ensures { Puts (byte ∷ []) out.old.items out.new.items result }
+{
+    Ok(out.push(byte)?)
+}
+
+fn put_bytes<B: Allocator>(bytes: &[u8], out: &mut Vec<u8, B>) -> Result<(), NoMemory>
+    ensures { Puts bytes.now out.old.items out.new.items result }
+{
+    Ok(out.extend_from_slice(bytes)?)
 }
 
 fn length_bytes(len: u16) -> [u8; 2]

@@ -1,6 +1,7 @@
 pub mod Local
 pub mod Localities
 pub mod Steps
+pub mod Closing
 pub mod Right
 pub mod Numbers
 pub mod Blanks

@@ -1,7 +1,7 @@
 -- Steps of the reader's loops.
 use Rattle.std.proofs.Common.{◌≡◌, ◌≢◌, ℕ, zero, suc, ◌+◌, ◌-◌, ◌≤◌, Bool, true, false, cond, List, [], ◌∷◌, Option, Some, option_map, refl, ap, sym, subst, ◌∙◌, arith, if◌then◌else◌}
 use Rattle.tuple_tree.specs.Items.{Item, leaf, inner, Items, none}
-use Rattle.tuple_text.specs.Reading.{Read, got, stop, Reading, ◌>>=◌, Stops, look, turn, full, items, opens, no_room, kept_with, leaf_item, list, item_at, list_at, items_at, datum, slot}
+use Rattle.tuple_text.specs.Reading.{Read, got, stop, Reading, ◌>>=◌, Stops, look, turn, items, opens, no_room, kept_with, leaf_item, list, item_at, list_at, items_at, datum, slot}
 use Rattle.tuple_text.specs.declared.reader.Stop.{Stop}
 use Rattle.tuple_text.specs.declared.reader.Stop.TheVariants.{BadByte, TooDeep, TooManyFields, TooLong, NoMemory}
 
@@ -89,30 +89,3 @@ datum_empty = refl
 pub slot_empty : slot [] ≡ stop BadByte []
 unfolding slot
 slot_empty = refl
-
-module _ {T X : Type 0} (why : ℕ → Stop) (add : T → X → T) (one : Reading X) where
-  -- the loop's ends
-  pub turn_stops : (m : ℕ) (free : Bool) (t : T) (s : Stop) (bs rest : List ℕ) → Stops s (turn free bs) rest → Stops s (items why add one m free t bs) rest
-  turn_stops zero free t s bs rest h = stops_through s (turn free bs) (λ on rest. if on then full why rest else got t rest) rest h
-  turn_stops (suc m) free t s bs rest h =
-      stops_through s (turn free bs) (λ on rest. if on then (one rest >>= λ x after. items why add one m false (add t x) after) else got t rest) rest h
-
-  pub turn_ends : (m : ℕ) (free : Bool) (t : T) (bs rest : List ℕ) → turn free bs ≡ got false rest → items why add one m free t bs ≡ got t rest
-  turn_ends zero free t bs rest h = ap (λ y. y >>= λ on rest. if on then full why rest else got t rest) h
-  turn_ends (suc m) free t bs rest h = ap (λ y. y >>= λ on rest. if on then (one rest >>= λ x after. items why add one m false (add t x) after) else got t rest) h
-
-  pub no_more : (n : ℕ) (free : Bool) (t : T) (bs at : List ℕ) → n ≡ 32 → turn free bs ≡ got true at → items why add one (32 - n) free t bs ≡ full why at
-  no_more n free t bs at e h =
-      let z : 32 - n ≡ 0 = omega (arith, e) in
-      ap (λ m. items why add one m free t bs) z ∙ ap (λ y. y >>= λ on rest. if on then full why rest else got t rest) h
-
-  one_stops_as : (m : ℕ) (free : Bool) (t : T) (s : Stop) (bs at rest : List ℕ) → turn free bs ≡ got true at → Stops s (one at) rest → Stops s (items why add one (suc m) free t bs) rest
-  one_stops_as m free t s bs at rest on h =
-      stops_as s (items why add one (suc m) free t bs) (one at >>= λ x after. items why add one m false (add t x) after) rest
-      (ap (λ y. y >>= λ on rest. if on then (one rest >>= λ x after. items why add one m false (add t x) after) else got t rest) on)
-      (stops_through s (one at) (λ x after. items why add one m false (add t x) after) rest h)
-
-  pub one_stops : (n : ℕ) (free : Bool) (t : T) (s : Stop) (bs at rest : List ℕ) → n ≤ 32 → n ≢ 32 → turn free bs ≡ got true at → Stops s (one at) rest → Stops s (items why add one (32 - n) free t bs) rest
-  one_stops n free t s bs at rest p q on h =
-      let r : 32 - n ≡ suc (32 - (n + 1)) = omega (arith, p, q) in
-      subst (λ m. Stops s (items why add one m free t bs) rest) (sym r) (one_stops_as (32 - (n + 1)) free t s bs at rest on h)

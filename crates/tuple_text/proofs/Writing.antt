@@ -1,9 +1,12 @@
 -- What is written is a text, and what the writer keeps.
-use Rattle.std.proofs.Common.{◌≡◌, ℕ, zero, suc, ◌≤◌, ◌<◌, List, [], ◌∷◌, ◌++◌, length, take, get_or, refl, ap, sym, ◌∙◌, arith, length-append}
-use Rattle.std.proofs.lemmas.List.{length-take, take-take, take-append-le}
+use Rattle.std.proofs.Common.{◌≡◌, ℕ, zero, suc, ◌+◌, ◌≤◌, ◌<◌, List, [], ◌∷◌, ◌++◌, length, take, drop, get_or, Result, Ok, Err, refl, ap, sym, ◌∙◌, append_assoc, append-nil, add-one, arith}
+use Rattle.std.specs.List.{flat_map}
+use Rattle.std.proofs.lemmas.List.{take_at}
+use Rattle.std.proofs.Math.Seq.{drop-cons}
 use Rattle.tuple_tree.specs.Items.{Item, leaf, inner, Items, none, item, item_levels, levels_in, items_of}
 use Rattle.tuple_text.specs.Texts.{ItemText, ItemsText, MoreText}
-use Rattle.tuple_text.specs.Written.{item_written, items_written, more_written}
+use Rattle.tuple_tree.specs.Values.{TupleTree}
+use Rattle.tuple_text.specs.Written.{item_written, items_written, more_written, tuple_written, tuples_written, Appends}
 
 module _ {L : Type 0} (leaf_text : L → List ℕ) where
   mutual
@@ -21,24 +24,94 @@ module _ {L : Type 0} (leaf_text : L → List ℕ) where
     more_is_text (item x xs) =
         (32 ∷ [], item_written leaf_text x, more_written leaf_text xs, cc, (omega arith, (refl, tt)), item_is_text x, more_is_text xs)
 
--- What was kept before a blank and one more item is kept behind them.
-pub kept_behind : (n m : ℕ) (a b c d : List ℕ) (x : ℕ) → n ≡ length a → take n b ≡ a → c ≡ b ++ x ∷ [] → m ≡ length c → take m d ≡ c → take n d ≡ a
-kept_behind n m a b c d x p q r s t =
-    let e : length (take n b) ≡ length a = ap length q in
-    let f : n ≤ length b = omega (arith, length-take n b, e) in
-    let k : n ≤ m = omega (arith, ap length r, length-append b (x ∷ [])) in
-    sym (take-take n m d k) ∙ ap (take n) t ∙ ap (take n) r ∙ take-append-le n b (x ∷ []) f ∙ q
+-- What is written so far behind the old bytes, and what is left of the whole.
+pub record SoFar (old new left whole : List ℕ) : Type 0 where
+  pub done : List ℕ
+  pub at : new ≡ old ++ done
+  pub is : done ++ left ≡ whole
 
--- an item behind the first has fewer levels than the list
+pub so_far : (old text left new : List ℕ) → new ≡ old ++ text → SoFar old new left (text ++ left)
+so_far old text left new e = record { done = text; at = e; is = refl }
+
+pub one_more : (old mid left text next whole new : List ℕ) → SoFar old mid left whole → left ≡ text ++ next → new ≡ mid ++ text → SoFar old new next whole
+one_more old mid left text next whole new s p e = record {
+  done = s.done ++ text;
+  at = e ∙ ap (λ t. t ++ text) s.at ∙ append_assoc old s.done text;
+  is = append_assoc s.done text next ∙ ap (λ t. s.done ++ t) (sym p) ∙ s.is;
+}
+
+-- all is written
+pub nothing_left : (old new left whole : List ℕ) → SoFar old new left whole → left ≡ [] → new ≡ old ++ whole
+nothing_left old new left whole s p = s.at ∙ ap (λ t. old ++ t) (sym (append-nil s.done) ∙ ap (λ t. s.done ++ t) (sym p) ∙ s.is)
+
+-- an error comes behind what is written
+pub error_second : (old front mid new : List ℕ) → mid ≡ old ++ front → (more : List ℕ) × (new ≡ mid ++ more) → (more : List ℕ) × (new ≡ old ++ more)
+error_second old front mid new e h = (front ++ h.0, h.1 ∙ ap (λ t. t ++ h.0) e ∙ append_assoc old front h.0)
+
+pub error_behind : (old mid left whole new : List ℕ) → SoFar old mid left whole → (more : List ℕ) × (new ≡ mid ++ more) → (more : List ℕ) × (new ≡ old ++ more)
+error_behind old mid left whole new s h = error_second old s.done mid new s.at h
+
+-- The last part is written, or an error comes in it.
+pub last_part : {V E : Type 0} → (r : Result V E) (old mid left text whole new : List ℕ) → SoFar old mid left whole → left ≡ text → Appends r mid text new → Appends r old whole new
+last_part (Ok v) old mid left text whole new s p e = nothing_left old new [] whole (one_more old mid left text [] whole new s (p ∙ sym (append-nil text)) e) refl
+last_part (Err f) old mid left text whole new s p h = error_behind old mid left whole new s h
+
+-- two parts
+pub second_part : {V E : Type 0} → (r : Result V E) (old mid front text new : List ℕ) → mid ≡ old ++ front → Appends r mid text new → Appends r old (front ++ text) new
+second_part r old mid front text new e h = last_part r old mid text text (front ++ text) new (so_far old front text mid e) refl h
+
+-- What stood there before is a beginning of what an error leaves.
+pub kept : (old new : List ℕ) (n : ℕ) → n ≡ length old → (more : List ℕ) × (new ≡ old ++ more) → take n new ≡ old
+kept old new n e h = ap (take n) h.1 ∙ take_at old h.0 n (sym e)
+
+-- the first of what is left of a list, and nothing left
+drop_first : {A : Type 0} → (xs : List A) (i : ℕ) (d : A) → i < length xs → drop i xs ≡ get_or xs i d ∷ drop (i + 1) xs
+drop_first xs i d h = drop-cons xs i d h ∙ ap (λ k. get_or xs i d ∷ drop k xs) (sym (add-one i))
+
+pub drop_all : {A : Type 0} → (xs : List A) (i : ℕ) → length xs ≤ i → drop i xs ≡ []
+drop_all [] zero h = refl
+drop_all [] (suc i) h = refl
+drop_all (x ∷ xs) zero h = absurd (omega arith)
+drop_all (x ∷ xs) (suc i) h = drop_all xs i (omega arith)
+
+pub flat_map_first : (f : ℕ → List ℕ) (xs : List ℕ) (i : ℕ) → i < length xs → flat_map f (drop i xs) ≡ f (get_or xs i 0) ++ flat_map f (drop (i + 1) xs)
+flat_map_first f xs i h = ap (flat_map f) (drop_first xs i 0 h)
+
+pub tuples_first : (ts : List TupleTree) (i : ℕ) (t : TupleTree) → i < length ts → t ≡ get_or ts i t → tuples_written (drop i ts) ≡ 32 ∷ tuple_written t ++ tuples_written (drop (i + 1) ts)
+tuples_first ts i t h e = ap tuples_written (drop_first ts i t h) ∙ ap (λ x. 32 ∷ tuple_written x ++ tuples_written (drop (i + 1) ts)) (sym e)
+
+-- the items, the first behind this gap
+abbrev pub behind : {L : Type 0} → (L → List ℕ) → List ℕ → Items L → List ℕ
+behind leaf_text gap none = []
+behind leaf_text gap (item x xs) = gap ++ item_written leaf_text x ++ more_written leaf_text xs
+
+module _ {X L : Type 0} (view : X → Item L) (leaf_text : L → List ℕ) where
+  behind_cons : (gap : List ℕ) (x : X) (xs : List X) → behind leaf_text gap (items_of view (x ∷ xs)) ≡ (gap ++ item_written leaf_text (view x)) ++ behind leaf_text (32 ∷ []) (items_of view xs)
+  behind_cons gap x [] = refl
+  behind_cons gap x (y ∷ ys) = refl
+
+  pub behind_first : (gap : List ℕ) (xs : List X) (i : ℕ) (x : X) → i < length xs → x ≡ get_or xs i x
+      → behind leaf_text gap (items_of view (drop i xs)) ≡ (gap ++ item_written leaf_text (view x)) ++ behind leaf_text (32 ∷ []) (items_of view (drop (i + 1) xs))
+  behind_first gap xs i x h e =
+      ap (λ ys. behind leaf_text gap (items_of view ys)) (drop_first xs i x h ∙ ap (λ y. y ∷ drop (i + 1) xs) (sym e))
+      ∙ behind_cons gap x (drop (i + 1) xs)
+
+  pub behind_nothing : (xs : List X) → behind leaf_text [] (items_of view xs) ≡ items_written leaf_text (items_of view xs)
+  behind_nothing [] = refl
+  behind_nothing (x ∷ xs) = refl
+
+  pub behind_last : (gap : List ℕ) (xs : List X) (i : ℕ) → length xs ≤ i → behind leaf_text gap (items_of view (drop i xs)) ≡ []
+  behind_last gap xs i h = ap (λ ys. behind leaf_text gap (items_of view ys)) (drop_all xs i h)
+
+-- an item of a list has fewer levels than the list
 module _ {X L : Type 0} (view : X → Item L) where
   levels_at : (xs : List X) (i : ℕ) (d : X) → i < length xs → item_levels (view (get_or xs i d)) ≤ levels_in (items_of view xs)
   levels_at [] i d p = absurd (omega arith)
   levels_at (x ∷ xs) zero d p = omega arith
   levels_at (x ∷ xs) (suc i) d p = let h : item_levels (view (get_or xs i d)) ≤ levels_in (items_of view xs) = levels_at xs i d (omega arith) in omega arith
 
-  pub levels_behind : (xs ys : List X) (x y : X) (i : ℕ) → xs ≡ x ∷ ys → i < length ys → y ≡ get_or ys i y → item_levels (view y) ≤ levels_in (items_of view xs)
-  levels_behind xs ys x y i p q r =
-      let h : item_levels (view (get_or ys i y)) ≤ levels_in (items_of view ys) = levels_at ys i y q in
-      let a : item_levels (view y) ≡ item_levels (view (get_or ys i y)) = ap (λ z. item_levels (view z)) r in
-      let b : levels_in (items_of view xs) ≡ levels_in (item (view x) (items_of view ys)) = ap (λ zs. levels_in (items_of view zs)) p in
-      omega (arith, h, a, b)
+  pub levels_below : (xs : List X) (i : ℕ) (x : X) → i < length xs → x ≡ get_or xs i x → item_levels (view x) ≤ levels_in (items_of view xs)
+  levels_below xs i x p q =
+      let h : item_levels (view (get_or xs i x)) ≤ levels_in (items_of view xs) = levels_at xs i x p in
+      let a : item_levels (view x) ≡ item_levels (view (get_or xs i x)) = ap (λ z. item_levels (view z)) q in
+      omega (arith, h, a)

@@ -94,6 +94,13 @@ kind_b bs = word (codes "b") bs >>= λ _ rest. look 121 (named (codes "ytes") ki
 unfoldable pub kind_t : Reading Kind
 kind_t bs = word (codes "t") bs >>= λ _ rest. look 101 (named (codes "ext") kinds.Text) (named (codes "uple") kinds.Tuple) rest
 
+-- the same behind that letter
+abbrev pub behind_b : Reading Kind
+behind_b = look 121 (named (codes "ytes") kinds.Bytes) (named (codes "ool") kinds.Truth)
+
+abbrev pub behind_t : Reading Kind
+behind_t = look 101 (named (codes "ext") kinds.Text) (named (codes "uple") kinds.Tuple)
+
 unfoldable pub kind : Reading Kind
 kind bs = look 105 (named (codes "int") kinds.Number) (look 98 kind_b (look 116 kind_t nothing)) bs
 
@@ -204,6 +211,10 @@ argument one bs = gap bs >>= λ _ rest. one rest
 
 unfoldable pub ending : Reading Bool
 ending bs = blanks true bs >>= λ _ rest. finish rest
+
+-- the last argument, and blanks alone behind it
+abbrev pub last : {V : Type 0} → Reading V → Reading V
+last one bs = one bs >>= λ v after. ending after >>= λ _ rest. got v rest
 
 unfoldable pub ended : Operation → Reading Operation
 ended o bs = ending bs >>= λ _ rest. got o rest

@@ -1,5 +1,5 @@
 -- The text that is written: one blank between items and none at the parentheses.
-use Rattle.std.specs.Prelude.{ℕ, List, [], ◌∷◌, ◌++◌, length, codes}
+use Rattle.std.specs.Prelude.{◌≡◌, ℕ, List, [], ◌∷◌, ◌++◌, length, codes, Result, Ok, Err}
 use Rattle.std.specs.Fmt.{decimal}
 use Rattle.tuple_tree.specs.Items.{Item, leaf, inner, Items, none, item}
 use Rattle.tuple_tree.specs.Values.{TupleTree, TemplateTree}
@@ -45,3 +45,8 @@ outcome_text (swapped b) = codes "swapped " ++ truth_text b
 outcome_text (all ts) = codes "all " ++ decimal (length ts) ++ tuples_written ts
 outcome_text full = codes "full"
 outcome_text refused = codes "refused"
+
+-- Behind the old bytes stands the text, or what an error left of it.
+abbrev pub Appends : {V E : Type 0} → Result V E → List ℕ → List ℕ → List ℕ → Type 0
+Appends (Ok v) old text new = new ≡ old ++ text
+Appends (Err e) old text new = (more : List ℕ) × (new ≡ old ++ more)

@@ -2,12 +2,13 @@
 
 ghost use Rattle.std.specs.Prelude.{◌≡◌, ◌+◌, ◌-◌, ◌≤◌, ◌<◌, ◌^◌, codes, true, length, pos, IfOk, IfErr, OnOk, IsTrue, ◌↔◌, Option, option_map};
 ghost use Rattle.tuple_tree.specs.Values.{TupleTree, TemplateTree, datum_length, slot_length};
+ghost use Rattle.tuple_tree.specs.Values as values;
 ghost use Rattle.tuple_tree.specs.AtomView.{datum_of};
 ghost use Rattle.tuple_tree.specs.TupleView.{value_of};
 ghost use Rattle.tuple_tree.specs.TemplateView.{field_of};
 ghost use Rattle.tuple_codec.specs.OperationView.{operation_of};
 ghost use Rattle.tuple_text.specs.Texts.{AreBlanks};
-ghost use Rattle.tuple_text.specs.Reading.{fault_at, blanks, word, gap, finish, digits, positive, signed, numeral, datum, kind, kind_b, kind_t, slot, slot_item, turn, follows, full, no_room, got, stop, begins_datum, begins_slot, opens, kept_with, item_at, list_at, items_at, tuple, template, argument, ending, operation, line, out_line, inp_line, cas_line, rdp_line, all_line, rd_line, lone_template, Gives};
+ghost use Rattle.tuple_text.specs.Reading.{fault_at, blanks, word, gap, finish, digits, positive, signed, numeral, datum, kind, named, behind_b, behind_t, slot, slot_item, turn, follows, full, no_room, got, stop, begins_datum, begins_slot, opens, kept_with, item_at, list_at, items_at, tuple, template, argument, ending, last, operation, line, out_line, inp_line, cas_line, rdp_line, all_line, rd_line, lone_template, Gives};
 ghost use Rattle.tuple_text.specs.Reading as Reading;
 
 use crate::faults::LineFault;
@@ -22,7 +23,7 @@ const MOST: u64 = 9223372036854775807;
 const BELOW: usize = 7;
 
 /// Why a reader stops.
-#[derive(Clone, Copy, Debug, PartialEq, Eq)]
+#[derive(Clone, Copy)]
 pub(crate) enum Stop {
     /// No text goes on with the next byte.
     BadByte,
@@ -192,6 +193,14 @@ impl<'a> Reader<'a> {
         Ok(Atom::Number(number))
     }
 
+    // A word that stands for a truth value.
+    fn truth(&mut self, letters: &[u8], truth: bool) -> Result<Atom<Global>, Stop>
+        ensures { Gives datum_of result (named letters.now (values.truth truth) self.old.rest.now) self.new.rest.now }
+    {
+        self.word(letters)?;
+        Ok(Atom::Truth(truth))
+    }
+
     // A value that is no tuple.
     #[tactic(auto, unfolding(crate::specs::Reading::datum, crate::specs::Reading::quoted, crate::specs::Reading::byte_string))]
     fn atom(&mut self, alloc: Global) -> Result<Atom<Global>, Stop>
@@ -207,67 +216,58 @@ impl<'a> Reader<'a> {
                 let bytes = self.bytes_literal(alloc)?;
                 Ok(Atom::Bytes(bytes))
             }
-            [b't', ..] => {
-                self.word(b"true")?;
-                Ok(Atom::Truth(true))
-            }
-            [b'f', ..] => {
-                self.word(b"false")?;
-                Ok(Atom::Truth(false))
-            }
+            [b't', ..] => self.truth(b"true", true),
+            [b'f', ..] => self.truth(b"false", false),
             [_, ..] => self.numeral(),
         }
     }
 
-    #[tactic(auto, unfolding(crate::specs::Reading::kind_b))]
-    fn kind_b(&mut self) -> Result<Kind, Stop>
-        ensures { Gives (λ k. k) result (kind_b self.old.rest.now) self.new.rest.now }
+    // The rest of a kind's name.
+    fn named(&mut self, letters: &[u8], kind: Kind) -> Result<Kind, Stop>
+        ensures { Gives (λ k. k) result (named letters.now kind self.old.rest.now) self.new.rest.now }
     {
-        self.word(b"b")?;
+        self.word(letters)?;
+        Ok(kind)
+    }
+
+    // The rest of a kind's name behind its `b`.
+    fn kind_b(&mut self) -> Result<Kind, Stop>
+        ensures { Gives (λ k. k) result (behind_b self.old.rest.now) self.new.rest.now }
+    {
         match self.rest {
             [] => Err(Stop::BadByte),
-            [b'y', ..] => {
-                self.word(b"ytes")?;
-                Ok(Kind::Bytes)
-            }
-            [_, ..] => {
-                self.word(b"ool")?;
-                Ok(Kind::Truth)
-            }
+            [b'y', ..] => self.named(b"ytes", Kind::Bytes),
+            [_, ..] => self.named(b"ool", Kind::Truth),
         }
     }
 
-    #[tactic(auto, unfolding(crate::specs::Reading::kind_t))]
+    // The rest of a kind's name behind its `t`.
     fn kind_t(&mut self) -> Result<Kind, Stop>
-        ensures { Gives (λ k. k) result (kind_t self.old.rest.now) self.new.rest.now }
+        ensures { Gives (λ k. k) result (behind_t self.old.rest.now) self.new.rest.now }
     {
-        self.word(b"t")?;
         match self.rest {
             [] => Err(Stop::BadByte),
-            [b'e', ..] => {
-                self.word(b"ext")?;
-                Ok(Kind::Text)
-            }
-            [_, ..] => {
-                self.word(b"uple")?;
-                Ok(Kind::Tuple)
-            }
+            [b'e', ..] => self.named(b"ext", Kind::Text),
+            [_, ..] => self.named(b"uple", Kind::Tuple),
         }
     }
 
     // The name of a kind.
-    #[tactic(auto, unfolding(crate::specs::Reading::kind))]
+    #[tactic(auto, unfolding(crate::specs::Reading::kind, crate::specs::Reading::kind_b, crate::specs::Reading::kind_t))]
     fn kind(&mut self) -> Result<Kind, Stop>
         ensures { Gives (λ k. k) result (kind self.old.rest.now) self.new.rest.now }
     {
         match self.rest {
             [] => Err(Stop::BadByte),
-            [b'i', ..] => {
-                self.word(b"int")?;
-                Ok(Kind::Number)
+            [b'i', ..] => self.named(b"int", Kind::Number),
+            [b'b', rest @ ..] => {
+                self.rest = rest;
+                self.kind_b()
             }
-            [b'b', ..] => self.kind_b(),
-            [b't', ..] => self.kind_t(),
+            [b't', rest @ ..] => {
+                self.rest = rest;
+                self.kind_t()
+            }
             [_, ..] => Err(Stop::BadByte),
         }
     }
@@ -279,12 +279,12 @@ impl<'a> Reader<'a> {
     {
         match self.rest {
             [] => Err(Stop::BadByte),
-            [b'*', ..] => {
-                self.word(b"*")?;
+            [b'*', rest @ ..] => {
+                self.rest = rest;
                 Ok(Field::Any)
             }
-            [b'?', ..] => {
-                self.word(b"?")?;
+            [b'?', rest @ ..] => {
+                self.rest = rest;
                 let kind = self.kind()?;
                 Ok(Field::Formal(kind))
             }
@@ -518,6 +518,33 @@ impl<'a> Reader<'a> {
         self.template(alloc)
     }
 
+    // A tuple behind a gap, and blanks alone behind it.
+    fn last_tuple(&mut self, alloc: Global) -> Result<Tuple<Global>, Stop>
+        ensures { Gives (λ t. t) result (last (argument tuple) self.old.rest.now) self.new.rest.now }
+    {
+        let tuple = self.tuple_argument(alloc)?;
+        self.ending()?;
+        Ok(tuple)
+    }
+
+    // A template, and blanks alone behind it.
+    fn closing_template(&mut self, alloc: Global) -> Result<Template<Global>, Stop>
+        ensures { Gives (λ p. p) result (last template self.old.rest.now) self.new.rest.now }
+    {
+        let template = self.template(alloc)?;
+        self.ending()?;
+        Ok(template)
+    }
+
+    // The same behind a gap.
+    #[tactic(auto, unfolding(crate::specs::Reading::argument))]
+    fn last_template(&mut self, alloc: Global) -> Result<Template<Global>, Stop>
+        ensures { Gives (λ p. p) result (last (argument template) self.old.rest.now) self.new.rest.now }
+    {
+        self.gap()?;
+        self.closing_template(alloc)
+    }
+
     // How many tuples an `rdAll` asks for.
     #[tactic(auto, unfolding(crate::specs::Reading::argument))]
     fn count_argument(&mut self) -> Result<Max, Stop>
@@ -544,8 +571,7 @@ impl<'a> Reader<'a> {
         ensures { Gives operation_of result (out_line self.old.rest.now) self.new.rest.now }
     {
         self.word(b"out")?;
-        let tuple = self.tuple_argument(alloc)?;
-        self.ending()?;
+        let tuple = self.last_tuple(alloc)?;
         Ok(Op::Out(tuple))
     }
 
@@ -554,8 +580,7 @@ impl<'a> Reader<'a> {
         ensures { Gives operation_of result (inp_line self.old.rest.now) self.new.rest.now }
     {
         self.word(b"inp")?;
-        let template = self.template_argument(alloc)?;
-        self.ending()?;
+        let template = self.last_template(alloc)?;
         Ok(Op::Inp(template))
     }
 
@@ -565,8 +590,7 @@ impl<'a> Reader<'a> {
     {
         self.word(b"cas")?;
         let template = self.template_argument(alloc)?;
-        let tuple = self.tuple_argument(alloc)?;
-        self.ending()?;
+        let tuple = self.last_tuple(alloc)?;
         Ok(Op::Cas(template, tuple))
     }
 
@@ -576,8 +600,7 @@ impl<'a> Reader<'a> {
         ensures { Gives operation_of result (rdp_line self.old.rest.now) self.new.rest.now }
     {
         self.word(b"p")?;
-        let template = self.template_argument(alloc)?;
-        self.ending()?;
+        let template = self.last_template(alloc)?;
         Ok(Op::Rdp(template))
     }
 
@@ -588,8 +611,7 @@ impl<'a> Reader<'a> {
     {
         self.word(b"All")?;
         let max = self.count_argument()?;
-        let template = self.template_argument(alloc)?;
-        self.ending()?;
+        let template = self.last_template(alloc)?;
         Ok(Op::RdAll(max, template))
     }
 
@@ -624,9 +646,7 @@ impl<'a> Reader<'a> {
         ensures { Gives (λ p. p) result (lone_template self.old.rest.now) self.new.rest.now }
     {
         self.blanks(true);
-        let template = self.template(alloc)?;
-        self.ending()?;
-        Ok(template)
+        self.closing_template(alloc)
     }
 
     /// The operation of the line.

@@ -1,6 +1,6 @@
 //! From values to text.
 
-ghost use Rattle.std.specs.Prelude.{◌≡◌, ◌+◌, ◌≤◌, ◌<◌, ◌++◌, ◌∷◌, [], OnOk, OnErr, ℕ, List, codes, take, length, vec_len};
+ghost use Rattle.std.specs.Prelude.{◌≡◌, ◌+◌, ◌<◌, ◌++◌, ◌∷◌, [], OnOk, OnErr, ℕ, List, codes, length};
 ghost use Rattle.std.specs.List.{flat_map};
 ghost use Rattle.std.specs.Fmt.{decimal, signed_decimal};
 ghost use Rattle.tuple_tree.specs.Values.{TupleTree, TemplateTree, IsTuple, IsTemplate};
@@ -11,7 +11,7 @@ ghost use Rattle.tuple_codec.specs.OperationView.{outcome_of};
 ghost use Rattle.tuple_text.specs.Lines.{IsLine};
 ghost use Rattle.tuple_text.specs.Texts.{TupleText, TemplateText, datum_text, truth_text, escaped, hex_pair};
 ghost use Rattle.tuple_text.specs.Texts as Texts;
-ghost use Rattle.tuple_text.specs.Written.{item_written, items_written, tuple_written, template_written, tuples_written, outcome_text};
+ghost use Rattle.tuple_text.specs.Written.{item_written, items_written, tuple_written, template_written, tuples_written, outcome_text, Appends};
 
 use itoa::Buffer;
 use std::alloc::Allocator;
@@ -70,30 +70,36 @@ pub fn written_is_read()
     ensures one { (o p : Operation) (line : List ℕ) → IsLine o line → IsLine p line → o ≡ p }
 {}
 
+// Appends these bytes.
+fn append<B: Allocator>(text: &[u8], out: &mut Vec<u8, B>) -> Result<(), NoMemory>
+    ensures { Appends result out.old.items text.now out.new.items }
+{
+    Ok(out.extend_from_slice(text)?)
+}
+
 fn put_answer<A: Allocator, B: Allocator>(
     answer: &Answer<A>,
     out: &mut Vec<u8, B>,
 ) -> Result<(), NoMemory>
-    ensures ok { OnOk result (out.new.items ≡ out.old.items ++ outcome_text (outcome_of answer.now)) }
-    ensures kept { take (vec_len out.old) out.new.items ≡ out.old.items }
+    ensures { Appends result out.old.items (outcome_text (outcome_of answer.now)) out.new.items }
 {
     match answer {
-        Answer::Done => Ok(out.extend_from_slice(b"done")?),
+        Answer::Done => append(b"done", out),
         Answer::Found(tuple) => {
-            out.extend_from_slice(b"found ")?;
+            append(b"found ", out)?;
             put_tuple(tuple, out)
         }
-        Answer::Absent => Ok(out.extend_from_slice(b"absent")?),
+        Answer::Absent => append(b"absent", out),
         Answer::Swapped(swapped) => {
-            out.extend_from_slice(b"swapped ")?;
+            append(b"swapped ", out)?;
             put_truth(*swapped, out)
         }
         Answer::All(tuples) => {
-            out.extend_from_slice(b"all ")?;
+            append(b"all ", out)?;
             put_tuples(tuples, out)
         }
-        Answer::Full => Ok(out.extend_from_slice(b"full")?),
-        Answer::Refused => Ok(out.extend_from_slice(b"refused")?),
+        Answer::Full => append(b"full", out),
+        Answer::Refused => append(b"refused", out),
     }
 }
 
@@ -101,13 +107,12 @@ fn put_tuples<A: Allocator, B: Allocator>(
     tuples: &Tuples<A>,
     out: &mut Vec<u8, B>,
 ) -> Result<(), NoMemory>
-    ensures ok { OnOk result (out.new.items ≡ out.old.items ++ (decimal (length tuples.now) ++ tuples_written tuples.now)) }
-    ensures kept { take (vec_len out.old) out.new.items ≡ out.old.items }
+    ensures { Appends result out.old.items (decimal (length tuples.now) ++ tuples_written tuples.now) out.new.items }
 {
     let mut buffer = Buffer::new();
-    out.extend_from_slice(buffer.format(tuples.len()).as_bytes())?;
+    append(buffer.format(tuples.len()).as_bytes(), out)?;
     for tuple in tuples.as_slice() {
-        out.push(b' ')?;
+        append(b" ", out)?;
         put_tuple(tuple, out)?;
     }
     Ok(())
@@ -118,12 +123,11 @@ fn put_tuple<A: Allocator, B: Allocator>(
     tuple: &Tuple<A>,
     out: &mut Vec<u8, B>,
 ) -> Result<(), NoMemory>
-    ensures ok { OnOk result (out.new.items ≡ out.old.items ++ tuple_written tuple.now) }
-    ensures kept { take (vec_len out.old) out.new.items ≡ out.old.items }
+    ensures { Appends result out.old.items (tuple_written tuple.now) out.new.items }
 {
-    out.push(b'(')?;
+    append(b"(", out)?;
     put_values(tuple.values(), out)?;
-    Ok(out.push(b')')?)
+    append(b")", out)
 }
 
 #[cycle(put_tuple)]
@@ -131,15 +135,13 @@ fn put_values<A: Allocator, B: Allocator>(
     values: &[Value<A>],
     out: &mut Vec<u8, B>,
 ) -> Result<(), NoMemory>
-    ensures ok { OnOk result (out.new.items ≡ out.old.items ++ items_written datum_text (tuple_of values.now)) }
-    ensures kept { take (vec_len out.old) out.new.items ≡ out.old.items }
+    ensures { Appends result out.old.items (items_written datum_text (tuple_of values.now)) out.new.items }
 {
-    if let Some((first, others)) = values.split_first() {
-        put_value(first, out)?;
-        for value in others {
-            out.push(b' ')?;
-            put_value(value, out)?;
-        }
+    let mut gap: &[u8] = b"";
+    for value in values {
+        append(gap, out)?;
+        put_value(value, out)?;
+        gap = b" ";
     }
     Ok(())
 }
@@ -149,8 +151,7 @@ fn put_value<A: Allocator, B: Allocator>(
     value: &Value<A>,
     out: &mut Vec<u8, B>,
 ) -> Result<(), NoMemory>
-    ensures ok { OnOk result (out.new.items ≡ out.old.items ++ item_written datum_text (value_of value.now)) }
-    ensures kept { take (vec_len out.old) out.new.items ≡ out.old.items }
+    ensures { Appends result out.old.items (item_written datum_text (value_of value.now)) out.new.items }
 {
     match value {
         Value::Atom(atom) => put_atom(atom, out),
@@ -162,8 +163,7 @@ fn put_atom<A: Allocator, B: Allocator>(
     atom: &Atom<A>,
     out: &mut Vec<u8, B>,
 ) -> Result<(), NoMemory>
-    ensures ok { OnOk result (out.new.items ≡ out.old.items ++ datum_text (datum_of atom.now)) }
-    ensures kept { take (vec_len out.old) out.new.items ≡ out.old.items }
+    ensures { Appends result out.old.items (datum_text (datum_of atom.now)) out.new.items }
 {
     match atom {
         Atom::Number(number) => put_number(*number, out),
@@ -174,69 +174,54 @@ fn put_atom<A: Allocator, B: Allocator>(
 }
 
 fn put_number<B: Allocator>(number: i64, out: &mut Vec<u8, B>) -> Result<(), NoMemory>
-    ensures ok { OnOk result (out.new.items ≡ out.old.items ++ signed_decimal number) }
-    ensures kept { take (vec_len out.old) out.new.items ≡ out.old.items }
+    ensures { Appends result out.old.items (signed_decimal number) out.new.items }
 {
     let mut buffer = Buffer::new();
-    Ok(out.extend_from_slice(buffer.format(number).as_bytes())?)
+    append(buffer.format(number).as_bytes(), out)
 }
 
 fn put_truth<B: Allocator>(truth: bool, out: &mut Vec<u8, B>) -> Result<(), NoMemory>
-    ensures ok { OnOk result (out.new.items ≡ out.old.items ++ truth_text truth) }
-    ensures kept { take (vec_len out.old) out.new.items ≡ out.old.items }
+    ensures { Appends result out.old.items (truth_text truth) out.new.items }
 {
-    if truth {
-        Ok(out.extend_from_slice(b"true")?)
-    } else {
-        Ok(out.extend_from_slice(b"false")?)
-    }
+    let text: &[u8] = if truth { b"true" } else { b"false" };
+    append(text, out)
 }
 
 // A text in quotes, with its escapes.
 fn put_text<B: Allocator>(text: &[u8], out: &mut Vec<u8, B>) -> Result<(), NoMemory>
-    ensures ok { OnOk result (out.new.items ≡ out.old.items ++ (34 ∷ flat_map escaped text.now ++ 34 ∷ [])) }
-    ensures kept { take (vec_len out.old) out.new.items ≡ out.old.items }
+    ensures { Appends result out.old.items (34 ∷ flat_map escaped text.now ++ 34 ∷ []) out.new.items }
 {
-    out.push(b'"')?;
+    append(b"\"", out)?;
     for byte in text {
         put_escaped(*byte, out)?;
     }
-    Ok(out.push(b'"')?)
+    append(b"\"", out)
 }
 
 fn put_escaped<B: Allocator>(byte: u8, out: &mut Vec<u8, B>) -> Result<(), NoMemory>
-    ensures ok { OnOk result (out.new.items ≡ out.old.items ++ escaped byte) }
-    ensures kept { take (vec_len out.old) out.new.items ≡ out.old.items }
+    ensures { Appends result out.old.items (escaped byte) out.new.items }
 {
     match byte {
-        b'"' => Ok(out.extend_from_slice(b"\\\"")?),
-        b'\\' => Ok(out.extend_from_slice(b"\\\\")?),
-        b'\n' => Ok(out.extend_from_slice(b"\\n")?),
-        0..=31 => {
-            out.extend_from_slice(b"\\x")?;
-            put_hex(byte, out)
-        }
-        _ => Ok(out.push(byte)?),
+        b'"' => append(b"\\\"", out),
+        b'\\' => append(b"\\\\", out),
+        b'\n' => append(b"\\n", out),
+        0..=31 => append(
+            &[b'\\', b'x', hex_digit(byte / 16), hex_digit(byte % 16)],
+            out,
+        ),
+        _ => append(&[byte], out),
     }
 }
 
 // A byte string: an `x` and two digits for each byte.
 fn put_bytes<B: Allocator>(bytes: &[u8], out: &mut Vec<u8, B>) -> Result<(), NoMemory>
-    ensures ok { OnOk result (out.new.items ≡ out.old.items ++ 120 ∷ flat_map hex_pair bytes.now) }
-    ensures kept { take (vec_len out.old) out.new.items ≡ out.old.items }
+    ensures { Appends result out.old.items (120 ∷ flat_map hex_pair bytes.now) out.new.items }
 {
-    out.push(b'x')?;
+    append(b"x", out)?;
     for byte in bytes {
-        put_hex(*byte, out)?;
+        append(&[hex_digit(*byte / 16), hex_digit(*byte % 16)], out)?;
     }
     Ok(())
-}
-
-fn put_hex<B: Allocator>(byte: u8, out: &mut Vec<u8, B>) -> Result<(), NoMemory>
-    ensures ok { OnOk result (out.new.items ≡ out.old.items ++ hex_pair byte) }
-    ensures kept { take (vec_len out.old) out.new.items ≡ out.old.items }
-{
-    Ok(out.extend_from_slice(&[hex_digit(byte / 16), hex_digit(byte % 16)])?)
 }
 
 fn hex_digit(digit: u8) -> u8

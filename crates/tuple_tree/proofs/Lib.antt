@@ -1,3 +1,4 @@
 pub mod Growing
 pub mod Viewing
 pub mod Counting
+pub mod Apart

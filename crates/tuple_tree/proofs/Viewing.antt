@@ -1,6 +1,6 @@
 -- Laws of the items that a list of values stands for.
-use Rattle.std.proofs.Common.{◌≡◌, ◌↔◌, ℕ, zero, suc, ◌+◌, ◌≤◌, ◌<◌, List, [], ◌∷◌, ◌++◌, length, take, drop, get_or, Option, Some, None, option_map, slice_get, Bor, ap, subst, sym, refl, arith, ◌∙◌, IsTrue, false}
-use Rattle.std.proofs.lemmas.List.{at_drop_more, take_more}
+use Rattle.std.proofs.Common.{◌≡◌, ◌↔◌, ℕ, zero, suc, ◌+◌, ◌≤◌, ◌<◌, List, [], ◌∷◌, ◌++◌, length, take, drop, get_or, Option, Some, None, option_map, slice_get, Bor, ap, subst, sym, refl, arith, ◌∙◌, IsTrue, true, false}
+use Rattle.std.proofs.lemmas.List.{at_drop_more, at_drop_all, take_more}
 use Rattle.std.specs.Slice.{IsItemAt}
 use Rattle.tuple_tree.specs.Items.{Item, Items, item, how_many, with_last, as_list, item_levels, levels_in, levels_of, whole_length, items_of}
 use Rattle.tuple_tree.specs.Limits.{IsWithin}
@@ -47,6 +47,9 @@ module _ {X L : Type 0} (view : X → Item L) where
   levels_at (x ∷ xs) zero d p = omega arith
   levels_at (x ∷ xs) (suc i) d p = let h : item_levels (view (get_or xs i d)) ≤ levels_in (items_of view xs) = levels_at xs i d (omega arith) in omega arith
 
+  pub item_levels_le : (xs : List X) (i : ℕ) (x : X) → i < length xs → x ≡ get_or xs i x → item_levels (view x) ≤ levels_in (items_of view xs)
+  item_levels_le xs i x p e = let h = levels_at xs i x p in let f : item_levels (view x) ≡ item_levels (view (get_or xs i x)) = ap (λ y. item_levels (view y)) e in omega (arith, h, f)
+
 -- A copy, made one value at a time.
 module _ {X Y L : Type 0} (view : X → Item L) (other : Y → Item L) where
   pub copied : (xs : List X) (i : ℕ) (x : X) (old new : List Y) (y : Y) → i < length xs → x ≡ get_or xs i x
@@ -67,3 +70,7 @@ never refutes = (λ h. absurd (let g : ⊥ = cc in g), λ x. absurd (refutes x))
 module _ {X Y L : Type 0} (view : X → Item L) (other : Y → Item L) where
   pub same_length : (xs : List X) (ys : List Y) → items_of view xs ≡ items_of other ys → length xs ≡ length ys
   same_length xs ys e = sym (how_many-items_of view xs) ∙ ap how_many e ∙ how_many-items_of other ys
+
+  pub same_end : (xs : List X) (ys : List Y) (i : ℕ) → length xs ≤ i → length xs ≡ length ys → (items_of view xs ≡ items_of other ys) ↔ (items_of view (drop i xs) ≡ items_of other (drop i ys))
+      → IsTrue true ↔ (items_of view xs ≡ items_of other ys)
+  same_end xs ys i p n h = (λ w. h.1 (at_drop_all (items_of view) xs i p ∙ sym (at_drop_all (items_of other) ys i (omega arith))), λ e. refl)

@@ -1,10 +1,10 @@
 -- Each nested tuple has fewer levels than the tuple that holds it.
-use Rattle.std.specs.Prelude.{◌+◌, ◌*◌, ◌≤◌, List, [], ◌∷◌}
+use Rattle.std.specs.Prelude.{◌+◌, ◌≤◌, List, [], ◌∷◌}
 use Rattle.std.proofs.Common.{arith}
 use Rattle.std.specs.declared.alloc.Allocator.{Ghosts}
 use Rattle.tuple_tree.specs.declared.tuples.Value.{Value}
 use Rattle.tuple_tree.specs.declared.tuples.Value.TheVariants.{Atom, Nested}
-use Rattle.tuple_tree.specs.declared.tuples.Tuple.TheDeep.{deep-Value, size-Value}
+use Rattle.tuple_tree.specs.declared.tuples.Tuple.TheDeep.{deep-Value}
 use Rattle.tuple_tree.specs.Items.{item_levels, levels_in}
 use Rattle.tuple_tree.specs.TupleView.{value_of, tuple_of}
 use denote.Param.Weighed.{most}
@@ -17,12 +17,3 @@ module _ {A : Type 0} (g : Ghosts A) where
   pub most_le_levels : (vs : List (Value A)) → most (deep-Value A g) vs ≤ 1 + levels_in (tuple_of vs)
   most_le_levels [] = omega arith
   most_le_levels (v ∷ vs) = omega (arith, deep_le_levels v, most_le_levels vs)
-
-  -- what the measure of a recursion is made of
-  pub size_le_levels : (v : Value A) → size-Value A g v ≤ 2 * item_levels (value_of v) + 3
-  size_le_levels (Atom x) = omega arith
-  size_le_levels (Nested t) = omega arith
-
-  pub most_size_le_levels : (vs : List (Value A)) → most (size-Value A g) vs ≤ 2 * levels_in (tuple_of vs) + 3
-  most_size_le_levels [] = omega arith
-  most_size_le_levels (v ∷ vs) = omega (arith, size_le_levels v, most_size_le_levels vs)

@@ -133,7 +133,7 @@ impl<A: Allocator> Field<A> {
     #[cycle(copy_template)]
     fn copy_fields<B: Allocator + Clone>(
         fields: &[Field<A>],
-        alloc: B,
+        alloc: &B,
     ) -> Result<Vec<Field<B>, B>, NoMemory>
         ensures { IfOk result (λ copies. template_of copies.items ≡ template_of fields.now) }
     {
@@ -224,7 +224,7 @@ impl<A: Allocator> Template<A> {
     pub fn copy_in<B: Allocator + Clone>(&self, alloc: B) -> Result<Template<B>, NoMemory>
         ensures { IfOk result (λ t. t ≡ self.now) }
     {
-        let fields = Field::copy_fields(self.fields.as_slice(), alloc)?;
+        let fields = Field::copy_fields(self.fields.as_slice(), &alloc)?;
         Ok(Template {
             fields,
             extent: self.extent,

@@ -133,7 +133,7 @@ impl<A: Allocator> Value<A> {
     #[cycle(copy_tuple)]
     fn copy_values<B: Allocator + Clone>(
         values: &[Value<A>],
-        alloc: B,
+        alloc: &B,
     ) -> Result<Vec<Value<B>, B>, NoMemory>
         ensures { IfOk result (λ copies. tuple_of copies.items ≡ tuple_of values.now) }
     {
@@ -224,7 +224,7 @@ impl<A: Allocator> Tuple<A> {
     pub fn copy_in<B: Allocator + Clone>(&self, alloc: B) -> Result<Tuple<B>, NoMemory>
         ensures { IfOk result (λ t. t ≡ self.now) }
     {
-        let values = Value::copy_values(self.values.as_slice(), alloc)?;
+        let values = Value::copy_values(self.values.as_slice(), &alloc)?;
         Ok(Tuple {
             values,
             extent: self.extent,

@@ -1,4 +1,4 @@
-use Rattle.protocol.proofs.Leaving
+use Rattle.protocol.proofs.Words.Leaving
 use Rattle.protocol.proofs.batches_leave_states.Goals as goal
 
 pub returns : goal.returns

@@ -1,4 +1,4 @@
-use Rattle.protocol.proofs.Spelled
+use Rattle.protocol.proofs.Words.Spelled
 use Rattle.protocol.proofs.bytes_are_read.Goals as goal
 
 pub returns : goal.returns

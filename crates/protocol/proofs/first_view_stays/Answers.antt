@@ -1,4 +1,4 @@
-use Rattle.protocol.proofs.Beginning
+use Rattle.protocol.proofs.Agreement.Beginning
 use Rattle.protocol.proofs.first_view_stays.Goals as goal
 
 pub returns : goal.returns

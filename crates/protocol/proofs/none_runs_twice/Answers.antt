@@ -1,4 +1,4 @@
-use Rattle.protocol.proofs.Weakly
+use Rattle.protocol.proofs.Points.Weakly
 use Rattle.protocol.proofs.none_runs_twice.Goals as goal
 
 pub returns : goal.returns

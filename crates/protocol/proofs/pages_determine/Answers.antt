@@ -1,4 +1,4 @@
-use Rattle.protocol.proofs.Paging
+use Rattle.protocol.proofs.Words.Paging
 use Rattle.protocol.proofs.pages_determine.Goals as goal
 
 pub returns : goal.returns

@@ -1,4 +1,4 @@
-use Rattle.protocol.proofs.States
+use Rattle.protocol.proofs.Agreement.States
 use Rattle.protocol.proofs.roots_agree.Goals as goal
 
 pub returns : goal.returns

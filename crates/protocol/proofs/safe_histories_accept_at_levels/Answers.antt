@@ -1,4 +1,4 @@
-use Rattle.protocol.proofs.Whole
+use Rattle.protocol.proofs.Points.Whole
 use Rattle.protocol.proofs.safe_histories_accept_at_levels.Goals as goal
 
 pub returns : goal.returns

@@ -1,4 +1,4 @@
-use Rattle.protocol.proofs.FirstFramesSealed
+use Rattle.protocol.proofs.Evidence.FirstFramesSealed
 use Rattle.protocol.proofs.sealed_frames_are_heard.Goals as goal
 
 pub returns : goal.returns

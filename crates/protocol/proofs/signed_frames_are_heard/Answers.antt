@@ -1,4 +1,4 @@
-use Rattle.protocol.proofs.RefusingStepsSigned
+use Rattle.protocol.proofs.Evidence.RefusingStepsSigned
 use Rattle.protocol.proofs.signed_frames_are_heard.Goals as goal
 
 pub returns : goal.returns

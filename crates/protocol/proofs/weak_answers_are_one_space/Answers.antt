@@ -1,4 +1,4 @@
-use Rattle.protocol.proofs.Weakly
+use Rattle.protocol.proofs.Points.Weakly
 use Rattle.protocol.proofs.weak_answers_are_one_space.Goals as goal
 
 pub returns : goal.returns

@@ -1,4 +1,4 @@
-use Rattle.protocol.proofs.FirstBatch
+use Rattle.protocol.proofs.Evidence.FirstBatch
 use Rattle.protocol.proofs.accepted.a_first_batch_executes.Goals as goal
 
 pub returns : goal.returns

@@ -1,4 +1,4 @@
-use Rattle.protocol.proofs.FirstCall
+use Rattle.protocol.proofs.Evidence.FirstCall
 use Rattle.protocol.proofs.accepted.a_first_call_is_a_run.Goals as goal
 
 pub returns : goal.returns

@@ -1,4 +1,4 @@
-use Rattle.protocol.proofs.AnsweringFetch
+use Rattle.protocol.proofs.Evidence.AnsweringFetch
 use Rattle.protocol.proofs.accepted.a_first_fetch_is_answered.Goals as goal
 
 pub returns : goal.returns

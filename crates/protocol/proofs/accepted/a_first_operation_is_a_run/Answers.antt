@@ -1,5 +1,5 @@
-use Rattle.protocol.proofs.FirstReplicas
-use Rattle.protocol.proofs.FirstRun
+use Rattle.protocol.proofs.Evidence.FirstReplicas
+use Rattle.protocol.proofs.Evidence.FirstRun
 use Rattle.protocol.proofs.accepted.a_first_operation_is_a_run.Goals as goal
 
 pub returns : goal.returns

@@ -1,4 +1,4 @@
-use Rattle.protocol.proofs.FirstReplicas
+use Rattle.protocol.proofs.Evidence.FirstReplicas
 use Rattle.protocol.proofs.accepted.a_first_operation_is_committed.Goals as goal
 
 pub returns : goal.returns

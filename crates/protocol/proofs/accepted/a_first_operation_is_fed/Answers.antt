@@ -1,4 +1,4 @@
-use Rattle.protocol.proofs.FirstSchedule
+use Rattle.protocol.proofs.Evidence.FirstSchedule
 use Rattle.protocol.proofs.accepted.a_first_operation_is_fed.Goals as goal
 
 pub returns : goal.returns

@@ -1,4 +1,4 @@
-use Rattle.protocol.proofs.AnsweringFirst
+use Rattle.protocol.proofs.Evidence.AnsweringFirst
 use Rattle.protocol.proofs.accepted.a_first_read_is_answered.Goals as goal
 
 pub returns : goal.returns

@@ -1,4 +1,4 @@
-use Rattle.protocol.proofs.AnsweringAgain
+use Rattle.protocol.proofs.Evidence.AnsweringAgain
 use Rattle.protocol.proofs.accepted.a_kept_reply_goes_again.Goals as goal
 
 pub returns : goal.returns

@@ -1,4 +1,4 @@
-use Rattle.protocol.proofs.TakingViews
+use Rattle.protocol.proofs.Evidence.TakingViews
 use Rattle.protocol.proofs.accepted.a_new_view_is_taken.Goals as goal
 
 pub returns : goal.returns

@@ -1,4 +1,4 @@
-use Rattle.protocol.proofs.Selecting
+use Rattle.protocol.proofs.Evidence.Selecting
 use Rattle.protocol.proofs.accepted.a_prepared_batch_is_selected.Goals as goal
 
 pub returns : goal.returns

@@ -1,4 +1,4 @@
-use Rattle.protocol.proofs.Transferring
+use Rattle.protocol.proofs.Evidence.Transferring
 use Rattle.protocol.proofs.accepted.a_transfer_begins.Goals as goal
 
 pub returns : goal.returns

@@ -1,4 +1,4 @@
-use Rattle.protocol.proofs.FirstFrames
+use Rattle.protocol.proofs.Evidence.FirstFrames
 use Rattle.protocol.proofs.accepted.first_frames_exist.Goals as goal
 
 pub returns : goal.returns

@@ -1,4 +1,4 @@
-use Rattle.protocol.proofs.Selecting
+use Rattle.protocol.proofs.Evidence.Selecting
 use Rattle.protocol.proofs.accepted.one_lie_is_not_selected.Goals as goal
 
 pub returns : goal.returns

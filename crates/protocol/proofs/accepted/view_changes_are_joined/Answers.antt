@@ -1,4 +1,4 @@
-use Rattle.protocol.proofs.JoiningChanges
+use Rattle.protocol.proofs.Evidence.JoiningChanges
 use Rattle.protocol.proofs.accepted.view_changes_are_joined.Goals as goal
 
 pub returns : goal.returns

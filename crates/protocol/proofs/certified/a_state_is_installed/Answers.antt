@@ -1,4 +1,4 @@
-use Rattle.protocol.proofs.Installing
+use Rattle.protocol.proofs.Evidence.Installing
 use Rattle.protocol.proofs.certified.a_state_is_installed.Goals as goal
 
 pub returns : goal.returns

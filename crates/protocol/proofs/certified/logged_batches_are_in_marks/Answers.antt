@@ -1,4 +1,4 @@
-use Rattle.protocol.proofs.Certifying
+use Rattle.protocol.proofs.Evidence.Certifying
 use Rattle.protocol.proofs.certified.logged_batches_are_in_marks.Goals as goal
 
 pub returns : goal.returns

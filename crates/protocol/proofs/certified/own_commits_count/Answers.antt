@@ -1,4 +1,4 @@
-use Rattle.protocol.proofs.Certifying
+use Rattle.protocol.proofs.Evidence.Certifying
 use Rattle.protocol.proofs.certified.own_commits_count.Goals as goal
 
 pub returns : goal.returns

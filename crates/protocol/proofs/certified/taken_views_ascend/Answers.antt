@@ -1,4 +1,4 @@
-use Rattle.protocol.proofs.Certifying
+use Rattle.protocol.proofs.Evidence.Certifying
 use Rattle.protocol.proofs.certified.taken_views_ascend.Goals as goal
 
 pub returns : goal.returns

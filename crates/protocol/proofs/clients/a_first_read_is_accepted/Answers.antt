@@ -1,4 +1,4 @@
-use Rattle.protocol.proofs.FirstRead
+use Rattle.protocol.proofs.Evidence.FirstRead
 use Rattle.protocol.proofs.clients.a_first_read_is_accepted.Goals as goal
 
 pub returns : goal.returns

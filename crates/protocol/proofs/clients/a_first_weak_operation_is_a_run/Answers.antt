@@ -1,4 +1,4 @@
-use Rattle.protocol.proofs.FirstWeak
+use Rattle.protocol.proofs.Evidence.FirstWeak
 use Rattle.protocol.proofs.clients.a_first_weak_operation_is_a_run.Goals as goal
 
 pub returns : goal.returns

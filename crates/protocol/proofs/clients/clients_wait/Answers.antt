@@ -1,4 +1,4 @@
-use Rattle.protocol.proofs.Waiting
+use Rattle.protocol.proofs.Evidence.Waiting
 use Rattle.protocol.proofs.clients.clients_wait.Goals as goal
 
 pub returns : goal.returns

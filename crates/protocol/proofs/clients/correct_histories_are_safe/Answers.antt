@@ -1,4 +1,4 @@
-use Rattle.protocol.proofs.Correctness
+use Rattle.protocol.proofs.Evidence.Correctness
 use Rattle.protocol.proofs.clients.correct_histories_are_safe.Goals as goal
 
 pub returns : goal.returns

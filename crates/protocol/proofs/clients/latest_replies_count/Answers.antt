@@ -1,4 +1,4 @@
-use Rattle.protocol.proofs.Counted
+use Rattle.protocol.proofs.Evidence.Counted
 use Rattle.protocol.proofs.clients.latest_replies_count.Goals as goal
 
 pub returns : goal.returns

@@ -1,4 +1,4 @@
-use Rattle.protocol.proofs.Stopping
+use Rattle.protocol.proofs.Evidence.Stopping
 use Rattle.protocol.proofs.clients.parties_may_stop.Goals as goal
 
 pub returns : goal.returns

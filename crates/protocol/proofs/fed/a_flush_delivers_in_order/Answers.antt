@@ -1,5 +1,5 @@
-use Rattle.protocol.proofs.Flushing
-use Rattle.protocol.proofs.FlushingEnds
+use Rattle.protocol.proofs.Evidence.Flushing
+use Rattle.protocol.proofs.Evidence.FlushingEnds
 use Rattle.protocol.proofs.fed.a_flush_delivers_in_order.Goals as goal
 
 pub returns : goal.returns

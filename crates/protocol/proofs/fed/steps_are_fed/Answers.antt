@@ -1,4 +1,4 @@
-use Rattle.protocol.proofs.Feeding
+use Rattle.protocol.proofs.Evidence.Feeding
 use Rattle.protocol.proofs.fed.steps_are_fed.Goals as goal
 
 pub returns : goal.returns

@@ -1,4 +1,4 @@
-use Rattle.protocol.proofs.Presuming
+use Rattle.protocol.proofs.Evidence.Presuming
 use Rattle.protocol.proofs.premises.correct_parties_are_the_others.Goals as goal
 
 pub returns : goal.returns

@@ -1,4 +1,4 @@
-use Rattle.protocol.proofs.Presuming
+use Rattle.protocol.proofs.Evidence.Presuming
 use Rattle.protocol.proofs.premises.texts_are_few.Goals as goal
 
 pub returns : goal.returns

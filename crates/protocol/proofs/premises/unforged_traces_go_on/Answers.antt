@@ -1,4 +1,4 @@
-use Rattle.protocol.proofs.Presuming
+use Rattle.protocol.proofs.Evidence.Presuming
 use Rattle.protocol.proofs.premises.unforged_traces_go_on.Goals as goal
 
 pub returns : goal.returns

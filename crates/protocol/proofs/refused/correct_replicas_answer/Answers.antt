@@ -1,4 +1,4 @@
-use Rattle.protocol.proofs.RefusingOwed
+use Rattle.protocol.proofs.Evidence.RefusingOwed
 use Rattle.protocol.proofs.refused.correct_replicas_answer.Goals as goal
 
 pub returns : goal.returns

@@ -1,4 +1,4 @@
-use Rattle.protocol.proofs.Refusing
+use Rattle.protocol.proofs.Evidence.Refusing
 use Rattle.protocol.proofs.refused.new_views_meet_rules.Goals as goal
 
 pub returns : goal.returns

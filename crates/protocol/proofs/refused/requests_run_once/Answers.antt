@@ -1,4 +1,4 @@
-use Rattle.protocol.proofs.RefusingAgain
+use Rattle.protocol.proofs.Evidence.RefusingAgain
 use Rattle.protocol.proofs.refused.requests_run_once.Goals as goal
 
 pub returns : goal.returns

@@ -1,4 +1,4 @@
-use Rattle.protocol.proofs.Refusing
+use Rattle.protocol.proofs.Evidence.Refusing
 use Rattle.protocol.proofs.refused.right_primaries_propose.Goals as goal
 
 pub returns : goal.returns

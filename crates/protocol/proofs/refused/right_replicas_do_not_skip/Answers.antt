@@ -1,4 +1,4 @@
-use Rattle.protocol.proofs.Refusing
+use Rattle.protocol.proofs.Evidence.Refusing
 use Rattle.protocol.proofs.refused.right_replicas_do_not_skip.Goals as goal
 
 pub returns : goal.returns

@@ -1,5 +1,5 @@
-use Rattle.protocol.proofs.Refusing
-use Rattle.protocol.proofs.RefusingReplies
+use Rattle.protocol.proofs.Evidence.Refusing
+use Rattle.protocol.proofs.Evidence.RefusingReplies
 use Rattle.protocol.proofs.refused.right_replicas_give_what_they_have.Goals as goal
 
 pub returns : goal.returns

@@ -1,4 +1,4 @@
-use Rattle.protocol.proofs.RefusingChanges
+use Rattle.protocol.proofs.Evidence.RefusingChanges
 use Rattle.protocol.proofs.refused_changes.correct_clients_call_in_turn.Goals as goal
 
 pub returns : goal.returns

@@ -1,4 +1,4 @@
-use Rattle.protocol.proofs.RefusingChangesDropped
+use Rattle.protocol.proofs.Evidence.RefusingChangesDropped
 use Rattle.protocol.proofs.refused_changes.correct_replicas_drop_parts.Goals as goal
 
 pub returns : goal.returns

@@ -1,4 +1,4 @@
-use Rattle.protocol.proofs.RefusingChanges
+use Rattle.protocol.proofs.Evidence.RefusingChanges
 use Rattle.protocol.proofs.refused_changes.right_replicas_change_upwards.Goals as goal
 
 pub returns : goal.returns

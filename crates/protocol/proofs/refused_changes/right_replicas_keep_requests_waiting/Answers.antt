@@ -1,4 +1,4 @@
-use Rattle.protocol.proofs.RefusingChangesWaiting
+use Rattle.protocol.proofs.Evidence.RefusingChangesWaiting
 use Rattle.protocol.proofs.refused_changes.right_replicas_keep_requests_waiting.Goals as goal
 
 pub returns : goal.returns

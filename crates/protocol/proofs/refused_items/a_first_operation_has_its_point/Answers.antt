@@ -1,4 +1,4 @@
-use Rattle.protocol.proofs.FirstPoint
+use Rattle.protocol.proofs.Evidence.FirstPoint
 use Rattle.protocol.proofs.refused_items.a_first_operation_has_its_point.Goals as goal
 
 pub returns : goal.returns

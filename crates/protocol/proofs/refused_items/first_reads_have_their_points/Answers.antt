@@ -1,4 +1,4 @@
-use Rattle.protocol.proofs.FirstReadsPoints
+use Rattle.protocol.proofs.Evidence.FirstReadsPoints
 use Rattle.protocol.proofs.refused_items.first_reads_have_their_points.Goals as goal
 
 pub returns : goal.returns

@@ -1,4 +1,4 @@
-use Rattle.protocol.proofs.RefusingItems
+use Rattle.protocol.proofs.Evidence.RefusingItems
 use Rattle.protocol.proofs.refused_items.lists_are_refused.Goals as goal
 
 pub returns : goal.returns

@@ -1,4 +1,4 @@
-use Rattle.protocol.proofs.RefusingItemsTraces
+use Rattle.protocol.proofs.Evidence.RefusingItemsTraces
 use Rattle.protocol.proofs.refused_items.traces_are_refused.Goals as goal
 
 pub returns : goal.returns

@@ -1,4 +1,4 @@
-use Rattle.protocol.proofs.RefusingKept
+use Rattle.protocol.proofs.Evidence.RefusingKept
 use Rattle.protocol.proofs.refused_kept.right_replicas_list_checkpoints.Goals as goal
 
 pub returns : goal.returns

@@ -1,4 +1,4 @@
-use Rattle.protocol.proofs.RefusingMarksCheckpoints
+use Rattle.protocol.proofs.Evidence.RefusingMarksCheckpoints
 use Rattle.protocol.proofs.refused_marks.first_checkpoints_of_three_numbers_count.Goals as goal
 
 pub returns : goal.returns

@@ -1,4 +1,4 @@
-use Rattle.protocol.proofs.RefusingMarksLow
+use Rattle.protocol.proofs.Evidence.RefusingMarksLow
 use Rattle.protocol.proofs.refused_marks.low_marks_are_certified.Goals as goal
 
 pub returns : goal.returns

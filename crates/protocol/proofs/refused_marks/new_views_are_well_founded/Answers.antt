@@ -1,4 +1,4 @@
-use Rattle.protocol.proofs.RefusingMarksSelected
+use Rattle.protocol.proofs.Evidence.RefusingMarksSelected
 use Rattle.protocol.proofs.refused_marks.new_views_are_well_founded.Goals as goal
 
 pub returns : goal.returns

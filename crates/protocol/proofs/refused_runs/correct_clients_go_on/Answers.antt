@@ -1,4 +1,4 @@
-use Rattle.protocol.proofs.RefusingRuns
+use Rattle.protocol.proofs.Evidence.RefusingRuns
 use Rattle.protocol.proofs.refused_runs.correct_clients_go_on.Goals as goal
 
 pub returns : goal.returns

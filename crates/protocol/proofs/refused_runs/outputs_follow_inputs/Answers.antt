@@ -1,4 +1,4 @@
-use Rattle.protocol.proofs.RefusingRuns
+use Rattle.protocol.proofs.Evidence.RefusingRuns
 use Rattle.protocol.proofs.refused_runs.outputs_follow_inputs.Goals as goal
 
 pub returns : goal.returns

@@ -1,4 +1,4 @@
-use Rattle.protocol.proofs.RefusingRunsSchedules
+use Rattle.protocol.proofs.Evidence.RefusingRunsSchedules
 use Rattle.protocol.proofs.refused_runs.schedules_feed_all.Goals as goal
 
 pub returns : goal.returns

@@ -1,4 +1,4 @@
-use Rattle.protocol.proofs.RefusingRuns
+use Rattle.protocol.proofs.Evidence.RefusingRuns
 use Rattle.protocol.proofs.refused_runs.weak_clients_accept_at_weak_quorum.Goals as goal
 
 pub returns : goal.returns

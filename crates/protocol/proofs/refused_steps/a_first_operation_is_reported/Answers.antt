@@ -1,4 +1,4 @@
-use Rattle.protocol.proofs.RefusingSteps
+use Rattle.protocol.proofs.Evidence.RefusingSteps
 use Rattle.protocol.proofs.refused_steps.a_first_operation_is_reported.Goals as goal
 
 pub returns : goal.returns

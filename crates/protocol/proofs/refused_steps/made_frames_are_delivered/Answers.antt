@@ -1,4 +1,4 @@
-use Rattle.protocol.proofs.RefusingStepsAllowed
+use Rattle.protocol.proofs.Evidence.RefusingStepsAllowed
 use Rattle.protocol.proofs.refused_steps.made_frames_are_delivered.Goals as goal
 
 pub returns : goal.returns

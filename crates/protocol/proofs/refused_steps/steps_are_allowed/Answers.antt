@@ -1,4 +1,4 @@
-use Rattle.protocol.proofs.RefusingStepsAllowed
+use Rattle.protocol.proofs.Evidence.RefusingStepsAllowed
 use Rattle.protocol.proofs.refused_steps.steps_are_allowed.Goals as goal
 
 pub returns : goal.returns

@@ -1,4 +1,4 @@
-use Rattle.protocol.proofs.SelectedRules
+use Rattle.protocol.proofs.Evidence.SelectedRules
 use Rattle.protocol.proofs.selected.new_views_are_selected.Goals as goal
 
 pub returns : goal.returns

@@ -1,4 +1,4 @@
-use Rattle.std.proofs.Common.{◌∙◌, ap, sym, subst, arith, ◌+◌, Some, refl, ◌≡◌, ◌-◌}
+use Rattle.std.proofs.Common.{◌∙◌, ap, sym, subst, arith, ◌+◌, Some}
 use Rattle.std.proofs.lemmas.Result.{err_from_is_err_and}
 use Rattle.tuple_tree.specs.Values.{IsSlot, slot_length}
 use Rattle.tuple_tree.specs.Items.{with_last}
@@ -6,7 +6,7 @@ use Rattle.tuple_codec.specs.Gives.{Fails}
 use Rattle.tuple_codec.specs.Spelling.{slot_spelling}
 use Rattle.tuple_codec.specs.Reading.{slot_at, item_at, inner_at}
 use Rattle.tuple_codec.proofs.Leaves.{slot_leaves}
-use Rattle.tuple_codec.proofs.Steps.{goes_on, one_fails, whole, Filled, filled_start, filled_more, at_leaf, at_five, no_levels, inner_there, inner_fails}
+use Rattle.tuple_codec.proofs.Steps.{starts, ends, goes_on, one_fails, whole, Filled, filled_start, filled_more, at_leaf, at_five, no_levels, inner_there, inner_fails}
 use Rattle.tuple_codec.proofs.decode.+read_fields.Goals as goal
 
 pub read_field-returns-then-tag-ne5 : goal.read_field-returns-then-tag-ne5
@@ -28,8 +28,8 @@ read_field-returns g t c =
 
 pub read_fields-loop-i-init : goal.read_fields-loop-i-init
 read_fields-loop-i-init g t c = record {
-  reads = let e : c.in_ok-count.count - 0 ≡ c.in_ok-count.count = omega arith in rw (c.new_in-template.ensures, e) refl;
-  filled = rw c.new_in-template.ensures (filled_start IsSlot slot_length c.args.levels c.in_ok-count.count c.args.bytes.now c.in_ok-count.fields.now (λ i. omega (arith, c.type_inv.bytes i)) c.in_ok-count.ensures c.requires.bytes);
+  reads = starts (item_at slot_at c.args.levels) with_last c.in_ok-count.count _ _ _ c.new_in-template.ensures;
+  filled = filled_start IsSlot slot_length c.args.levels c.in_ok-count.count c.args.bytes.now c.in_ok-count.fields.now _ c.new_in-template.ensures (λ i. omega (arith, c.type_inv.bytes i)) c.in_ok-count.ensures c.requires.bytes;
 }
 
 pub read_fields-returns-in_err-field : goal.read_fields-returns-in_err-field
@@ -50,3 +50,8 @@ read_fields-loop-i-preserved g t c =
       reads = goes_on (item_at slot_at c.args.levels) with_last _ _ _ _ _ _ _ (omega arith) c.in_ok-field.ensures e ∙ c.loop-i.invariant.reads;
       filled = subst (λ u. Filled IsSlot slot_length c.args.levels (c.loop-i._i + 1) u c.in_ok-field.after.now) (sym e) f.1;
     }
+
+pub read_fields-returns : goal.read_fields-returns
+read_fields-returns g t c =
+    let w = whole (item_at slot_at c.args.levels) _ _ _ _ c.loop-i._i _ c.in_ok-count.ensures (omega arith) c.loop-i.invariant.reads in
+    ends (item_at slot_at c.args.levels) with_last c.in_ok-count.count c.loop-i._i _ _ _ (omega arith) w

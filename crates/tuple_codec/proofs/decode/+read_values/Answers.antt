@@ -1,4 +1,4 @@
-use Rattle.std.proofs.Common.{◌∙◌, ap, sym, subst, arith, ◌+◌, Some, refl, ◌≡◌, ◌-◌}
+use Rattle.std.proofs.Common.{◌∙◌, ap, sym, subst, arith, ◌+◌, Some}
 use Rattle.std.proofs.lemmas.Result.{err_from_is_err_and}
 use Rattle.tuple_tree.specs.Values.{IsDatum, datum_length}
 use Rattle.tuple_tree.specs.Items.{with_last}
@@ -6,7 +6,7 @@ use Rattle.tuple_codec.specs.Gives.{Fails}
 use Rattle.tuple_codec.specs.Spelling.{datum_spelling}
 use Rattle.tuple_codec.specs.Reading.{datum_at, item_at, inner_at}
 use Rattle.tuple_codec.proofs.Leaves.{datum_leaves}
-use Rattle.tuple_codec.proofs.Steps.{goes_on, one_fails, whole, Filled, filled_start, filled_more, at_leaf, at_five, no_levels, inner_there, inner_fails}
+use Rattle.tuple_codec.proofs.Steps.{starts, ends, goes_on, one_fails, whole, Filled, filled_start, filled_more, at_leaf, at_five, no_levels, inner_there, inner_fails}
 use Rattle.tuple_codec.proofs.decode.+read_values.Goals as goal
 
 pub read_value-returns-then-tag-ne5 : goal.read_value-returns-then-tag-ne5
@@ -28,8 +28,8 @@ read_value-returns g t c =
 
 pub read_values-loop-i-init : goal.read_values-loop-i-init
 read_values-loop-i-init g t c = record {
-  reads = let e : c.in_ok-count.count - 0 ≡ c.in_ok-count.count = omega arith in rw (c.new_in-tuple.ensures, e) refl;
-  filled = rw c.new_in-tuple.ensures (filled_start IsDatum datum_length c.args.levels c.in_ok-count.count c.args.bytes.now c.in_ok-count.values.now (λ i. omega (arith, c.type_inv.bytes i)) c.in_ok-count.ensures c.requires.bytes);
+  reads = starts (item_at datum_at c.args.levels) with_last c.in_ok-count.count _ _ _ c.new_in-tuple.ensures;
+  filled = filled_start IsDatum datum_length c.args.levels c.in_ok-count.count c.args.bytes.now c.in_ok-count.values.now _ c.new_in-tuple.ensures (λ i. omega (arith, c.type_inv.bytes i)) c.in_ok-count.ensures c.requires.bytes;
 }
 
 pub read_values-returns-in_err-value : goal.read_values-returns-in_err-value
@@ -50,3 +50,8 @@ read_values-loop-i-preserved g t c =
       reads = goes_on (item_at datum_at c.args.levels) with_last _ _ _ _ _ _ _ (omega arith) c.in_ok-value.ensures e ∙ c.loop-i.invariant.reads;
       filled = subst (λ u. Filled IsDatum datum_length c.args.levels (c.loop-i._i + 1) u c.in_ok-value.after.now) (sym e) f.1;
     }
+
+pub read_values-returns : goal.read_values-returns
+read_values-returns g t c =
+    let w = whole (item_at datum_at c.args.levels) _ _ _ _ c.loop-i._i _ c.in_ok-count.ensures (omega arith) c.loop-i.invariant.reads in
+    ends (item_at datum_at c.args.levels) with_last c.in_ok-count.count c.loop-i._i _ _ _ (omega arith) w

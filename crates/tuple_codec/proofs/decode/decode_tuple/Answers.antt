@@ -14,5 +14,5 @@ returns-in-Ok-clause-found g c = (omega arith, spelled IsTuple tuple_spelling tu
 pub returns-in-Ok-clause-only : goal.returns-in-Ok-clause-only
 returns-in-Ok-clause-only g c t k p s = only_ok IsTuple tuple_spelling tuple_at tuple_reads c.args.bytes.now c.in-Ok.rest.now c.in-Ok.tuple t k c.in-Ok.ensures p s
 
-pub returns-in-Err-clause-only : goal.returns-in-Err-clause-only
-returns-in-Err-clause-only g c t k p s = only_err IsTuple tuple_spelling tuple_at tuple_reads c.args.bytes.now c.in-Err.bad t k c.in-Err.ensures s
+pub returns-clause-only : goal.returns-clause-only
+returns-clause-only g c t k p s = only_err IsTuple tuple_spelling tuple_at tuple_reads c.args.bytes.now c.in-Err.bad t k c.in-Err.ensures s

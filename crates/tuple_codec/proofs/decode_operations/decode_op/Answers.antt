@@ -16,5 +16,5 @@ returns-in-Ok-clause-found g c = (omega arith, spelled IsOperation operation_spe
 pub returns-in-Ok-clause-only : goal.returns-in-Ok-clause-only
 returns-in-Ok-clause-only g c t k p s = only_ok IsOperation operation_spelling operation_at operation_reads c.args.bytes.now c.in-Ok.rest.now (operation_of c.in-Ok.op) t k c.in-Ok.ensures p s
 
-pub returns-in-Err-clause-only : goal.returns-in-Err-clause-only
-returns-in-Err-clause-only g c t k p s = only_err IsOperation operation_spelling operation_at operation_reads c.args.bytes.now c.in-Err.bad t k c.in-Err.ensures s
+pub returns-clause-only : goal.returns-clause-only
+returns-clause-only g c t k p s = only_err IsOperation operation_spelling operation_at operation_reads c.args.bytes.now c.in-Err.bad t k c.in-Err.ensures s

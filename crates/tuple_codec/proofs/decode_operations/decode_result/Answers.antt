@@ -16,5 +16,5 @@ returns-in-Ok-clause-found g c = (omega arith, spelled IsOutcome outcome_spellin
 pub returns-in-Ok-clause-only : goal.returns-in-Ok-clause-only
 returns-in-Ok-clause-only g c t k p s = only_ok IsOutcome outcome_spelling outcome_at outcome_reads c.args.bytes.now c.in-Ok.rest.now (outcome_of c.in-Ok.answer) t k c.in-Ok.ensures p s
 
-pub returns-in-Err-clause-only : goal.returns-in-Err-clause-only
-returns-in-Err-clause-only g c t k p s = only_err IsOutcome outcome_spelling outcome_at outcome_reads c.args.bytes.now c.in-Err.bad t k c.in-Err.ensures s
+pub returns-clause-only : goal.returns-clause-only
+returns-clause-only g c t k p s = only_err IsOutcome outcome_spelling outcome_at outcome_reads c.args.bytes.now c.in-Err.bad t k c.in-Err.ensures s

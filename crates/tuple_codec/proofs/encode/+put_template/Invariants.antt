@@ -1,4 +1,4 @@
-use Rattle.std.proofs.Common.{◌≡◌, ◌+◌, ◌*◌, ◌++◌, drop, take, vec_len}
+use Rattle.std.proofs.Common.{◌≡◌, ◌+◌, ◌*◌, ◌++◌, drop, take, length}
 use Rattle.tuple_tree.specs.Items.{levels_of, item_levels}
 use Rattle.tuple_tree.specs.TemplateView.{field_of, template_of}
 use Rattle.tuple_codec.specs.Spelling.{slot_spelling, items_spelling, template_spelling}
@@ -8,7 +8,7 @@ abbrev pub invariant-put_template-loop-field : goal.invariant-put_template-loop-
 invariant-put_template-loop-field g l = record {
   template : template_of l.field-items ≡ l.template;
   spelled : l.out.items ++ items_spelling slot_spelling (template_of (drop l.field-index l.field-items)) ≡ l.fn.out.items ++ template_spelling l.template;
-  kept : take (vec_len l.fn.out) l.out.items ≡ l.fn.out.items;
+  kept : take (length l.fn.out.items) l.out.items ≡ l.fn.out.items;
 }
 
 abbrev pub decreases-put_template : goal.decreases-put_template

@@ -1,9 +1,8 @@
-use Rattle.std.proofs.Common.{◌≡◌, ◌*◌, ◌+◌, ap, arith, IsTrue}
-use Rattle.tuple_tree.specs.Items.{levels_in}
-use Rattle.tuple_tree.specs.TupleView.{value_of}
-use Rattle.tuple_tree.specs.TupleFalls.{most_size_le_levels}
-use Rattle.tuple_tree.specs.declared.tuples.Tuple.TheDeep.{size-Tuple}
-use Rattle.tuple_tree.proofs.Viewing.{items_at, same_step, differ, never, same_length}
+use Rattle.std.proofs.Common.{◌≡◌, ◌*◌, ◌+◌, ap, sym, arith, IsTrue}
+use Rattle.tuple_tree.specs.Items.{levels_in, levels_of}
+use Rattle.tuple_tree.specs.TupleView.{value_of, tuple_of}
+use Rattle.tuple_tree.proofs.Apart.{same_leaves, same_inners, leaf_or_inner}
+use Rattle.tuple_tree.proofs.Viewing.{item_levels_le, items_at, same_step, differ, never, same_length, same_end}
 use Rattle.tuple_tree.proofs.tuples.+same_tuple.Goals as goal
 
 pub Value::same_values-returns-then-a-b : goal.Value::same_values-returns-then-a-b
@@ -11,9 +10,15 @@ Value::same_values-returns-then-a-b g t c = never (λ e. let h = same_length val
 
 pub Tuple::same-same_values-requires : goal.Tuple::same-same_values-requires
 Tuple::same-same_values-requires g t c κs within =
-    let h = most_size_le_levels g.A.Allocator c.self.inside.values.items in
-    let d : 2 * size-Tuple g.row.A.Denot g.A.Allocator c.args.self.now + 0 ≡ t = c.decreases in
-    (rw c.as_slice.ensures.value (omega (arith, ap levels_in c.self.view_is)), (within.0, within.1))
+    let d : 3 * levels_of c.args.self.now ≡ t = c.decreases in
+    let e = ap (λ xs. levels_in (tuple_of xs)) c.as_slice.ensures.value in
+    (omega (arith, e, ap levels_in c.self.view_is), (within.0, within.1))
+
+pub Value::same_values-same-requires : goal.Value::same_values-same-requires
+Value::same_values-same-requires g t c κs within =
+    let d : 3 * levels_in (tuple_of c.args.a.now) + 2 ≡ t = c.decreases in
+    let h = item_levels_le value_of c.args.a.now c.loop-i.i c.index-a-i.result (omega arith) c.index-a-i.is in
+    (omega arith, (within.0, within.1))
 
 pub Tuple::same-returns : goal.Tuple::same-returns
 Tuple::same-returns g t c =
@@ -35,3 +40,18 @@ Value::same_values-loop-i-preserved g t c =
     (items_at value_of c.args.b.now c.loop-i.i c.index-b-i.result (omega arith) c.index-b-i.is)
     (c.same.ensures.0 c.if-not-same.false)
     c.loop-i.invariant
+
+pub Value::same_values-returns : goal.Value::same_values-returns
+Value::same_values-returns g t c = same_end value_of value_of c.args.a.now c.args.b.now c.loop-i.i (omega arith) (omega arith) c.loop-i.invariant
+
+pub Value::same-returns-in_default : goal.Value::same-returns-in_default
+Value::same-returns-in_default g t c = never (leaf_or_inner _ _ _ _ (ap value_of c.in_default.is-0) (ap value_of c.in_default.is-1))
+
+pub Value::same-returns-in_default-2 : goal.Value::same-returns-in_default-2
+Value::same-returns-in_default-2 g t c = never (λ e. leaf_or_inner _ _ _ _ (ap value_of c.in_default.is-1) (ap value_of c.in_default.is-0) (sym e))
+
+pub Value::same-returns-in-Atom-Atom : goal.Value::same-returns-in-Atom-Atom
+Value::same-returns-in-Atom-Atom g t c = same_leaves _ _ _ _ _ (ap value_of c.in-Atom-Atom.is-0) (ap value_of c.in-Atom-Atom.is-1) c.same.ensures
+
+pub Value::same-returns-in-Nested-Nested : goal.Value::same-returns-in-Nested-Nested
+Value::same-returns-in-Nested-Nested g t c = same_inners _ _ _ _ _ (ap value_of c.in-Nested-Nested.is-0) (ap value_of c.in-Nested-Nested.is-1) c.same-in-Nested-Nested.ensures

@@ -1,29 +1,11 @@
-use Rattle.std.proofs.Common.{refl, arith, subst, ap}
-use Rattle.tuple_codec.specs.OperationView.{operation_of}
-use Rattle.btspace.proofs.RunLemmas.{ends, skips_on, fails_so, runs_on, stops_keeping, state_after_next}
+use Rattle.btspace.proofs.RunLemmas.{moved, write_stops}
 use Rattle.btspace.proofs.local.Session.run_line.Goals as goal
-
-pub returns-in-Ok-End-clause-along : goal.returns-in-Ok-End-clause-along
-returns-in-Ok-End-clause-along g c bytes start along =
-    ends bytes _ start _ _ _ _ along _ c.next_line.result c.next_line.ensures c.in-Ok-End.field-0 c.in-Ok-End.is c.in-Ok-End.field-0-is
-
-pub returns-in-Ok-Skipped-clause-along : goal.returns-in-Ok-Skipped-clause-along
-returns-in-Ok-Skipped-clause-along g c bytes start along =
-    skips_on bytes _ start _ _ _ _ along _ c.next_line.result c.next_line.ensures c.in-Ok-Skipped.field-0 c.requires.early c.in-Ok-Skipped.is c.in-Ok-Skipped.field-0-is
-
-pub returns-in-Ok-clause-births : goal.returns-in-Ok-clause-births
-returns-in-Ok-clause-births g c =
-    rw (c.in-Ok.ensures {u = tt}).state (state_after_next c.args.self.now.space (operation_of c.in-Ok-Operation.op))
 
 pub returns-in-Ok-clause-along : goal.returns-in-Ok-clause-along
 returns-in-Ok-clause-along g c bytes start along =
-    runs_on bytes _ start _ _ _ _ along _ c.next_line.result c.next_line.ensures c.in-Ok-Operation.field-0 c.in-Ok-Operation.op
-    c.run_operation.new.self.space c.args.self.now.space _ _ c.requires.early c.in-Ok-Operation.is c.in-Ok-Operation.field-0-is refl (c.in-Ok.ensures {u = tt}).state (c.in-Ok.ensures {u = tt}).results
+    c.answer_line.ensures.along bytes start _
+    (moved bytes _ start _ _ _ _ _ _ along (c.in-Ok.ensures {u = tt}).results)
 
-pub returns-in-Ok-Operation-clause-along : goal.returns-in-Ok-Operation-clause-along
-returns-in-Ok-Operation-clause-along g c bytes start along =
-    stops_keeping bytes _ start _ _ _ _ along _ c.next_line.result c.next_line.ensures c.in-Err-run_operation.fault _ _ (c.in-Err-run_operation.ensures {u = tt}).err
-
-pub returns-clause-along : goal.returns-clause-along
-returns-clause-along g c bytes start along =
-    rw c.line_fault.ensures (fails_so bytes _ start _ _ _ _ along _ c.next_line.result c.next_line.ensures c.in-Err.no c.requires.early c.in-Err.is)
+pub returns-in-Err-clause-along : goal.returns-in-Err-clause-along
+returns-in-Err-clause-along g c bytes start along =
+    write_stops bytes start _ _ c.in-Err.fault (c.in-Err.ensures {u = tt}).err

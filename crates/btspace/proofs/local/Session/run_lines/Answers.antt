@@ -1,14 +1,8 @@
-use Rattle.std.proofs.Common.{arith}
-use Rattle.btspace.proofs.RunLemmas.{one_too_many, none_left, not_read}
+use Rattle.std.proofs.Common.{arith, ◌^◌}
+use Rattle.btspace.proofs.RunLemmas.{each_known, at_number}
 use Rattle.btspace.proofs.local.Session.run_lines.Goals as goal
 
-pub returns-in-Ok-true-has_line : goal.returns-in-Ok-true-has_line
-returns-in-Ok-true-has_line g c =
-    one_too_many _ _ _ _ _ _ _ c.has_line.result c.loop-number.invariant.along c.has_line.ensures c.in-Ok-true-has_line.field-0 c.in-Ok-true-has_line.is c.in-Ok-true-has_line.field-0-test (omega arith) (omega arith)
-
-pub returns-in-Ok-false-has_line : goal.returns-in-Ok-false-has_line
-returns-in-Ok-false-has_line g c =
-    none_left _ _ _ _ _ _ _ c.has_line.result c.loop-number.invariant.along c.has_line.ensures c.in-Ok-false-has_line.field-0 c.in-Ok-false-has_line.is c.in-Ok-false-has_line.field-0-test
-
-pub returns-in-Err-has_line : goal.returns-in-Err-has_line
-returns-in-Err-has_line g c = rw c.read_fault.ensures (not_read _ _ _ _ _ _ _ c.has_line.result c.loop-number.invariant.along c.has_line.ensures c.in-Err-has_line.fault)
+pub returns : goal.returns
+returns g c =
+    each_known _ _ _ (λ bytes along. c.end_lines.ensures bytes _ along)
+    (at_number _ _ _ _ c.loop-number.number (2 ^ 48) _ _ (omega arith) c.loop-number.invariant.along)

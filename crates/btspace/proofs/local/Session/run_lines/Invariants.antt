@@ -1,4 +1,5 @@
 use Rattle.std.proofs.Common.{ℕ, ◌*◌, ◌≤◌, IfSome}
+use Rattle.std.specs.Io.Buffered.{reader_remaining}
 use Rattle.space.specs.Births.{tuples_of}
 use Rattle.btspace.specs.Endings.{Along}
 use Rattle.btspace.proofs.local.Session.run_lines.Given as goal
@@ -7,5 +8,7 @@ use Rattle.btspace.proofs.local.Session.run_lines.Given as goal
 abbrev pub invariant-loop-number : goal.invariant-loop-number
 invariant-loop-number g l = record {
   births : l.self.space.next ≤ 257 * l.number;
-  along : IfSome (g.B.Read.remaining l.initial.reader) (λ bytes. Along bytes (g.B.Read.remaining l.reader) (g.W.Write.contents l.initial.writer) (g.W.Write.contents l.writer) l.number (tuples_of l.self.space) l.self.results.items);
+  along : IfSome (reader_remaining g.R.Read.remaining l.initial.reader) (λ bytes.
+      Along bytes (reader_remaining g.R.Read.remaining l.reader) (g.W.Write.contents l.initial.writer)
+      (g.W.Write.contents l.writer) l.number (tuples_of l.self.space) l.self.results.items);
 }

@@ -1,6 +1,7 @@
-use Rattle.std.proofs.Common.{◌≡◌, length, replicate, []}
-use Rattle.partition_tree.specs.Texts.{texts_of}
+use Rattle.std.proofs.Common.{◌≡◌, replicate}
+use Rattle.std.specs.Arc.{arc_value}
+use Rattle.partition_tree.specs.Parts.{parts_of}
 use Rattle.partition_tree.proofs.tree.Tree.new.Given as goal
 
-abbrev pub invariant-loop-page : goal.invariant-loop-page
-invariant-loop-page l = record { count : length l.pages.items ≡ l._page; empty : texts_of l.pages.items ≡ replicate l._page [] }
+abbrev pub invariant-loop-part : goal.invariant-loop-part
+invariant-loop-part l = parts_of l.parts.items ≡ replicate l._part (arc_value l.part)

@@ -1,0 +1,91 @@
+//! An inner part of the tree: its pages with their digests.
+
+ghost use Rattle.std.specs.Prelude.{◌≡◌, ◌<◌, [], IfOk, map, replicate, slice_index_or, slice_set};
+ghost use Rattle.std.specs.Arc.{arc_slice_items};
+ghost use Rattle.sha2.specs.Sha256.{sha256};
+ghost use Rattle.partition_tree.specs.Parts.{part_digest};
+
+use crate::digests::{CHILDREN, Digest, digest, digest_of_children};
+use crate::no_memory::NoMemory;
+use std::alloc::{AllocError, Global};
+use std::marker::Model;
+use std::sync::ArcSlice;
+
+/// The texts of 32 pages, each behind an owner of its own that others may share, and their digests.
+#[derive(Drop)]
+pub struct Part {
+    texts: Vec<ArcSlice<u8>>,
+    digests: [Digest; CHILDREN],
+}
+
+impl Model for Part {
+    ghost use Rattle.std.specs.Prelude.{◌≡◌, ℕ, List, length, map};
+    ghost use Rattle.sha2.specs.Sha256.{sha256};
+    ghost use Rattle.partition_tree.specs.Texts.{texts_of};
+
+    ghost Value = { List (List ℕ) };
+
+    ghost view = { λ p. texts_of p.texts.items };
+
+    ghost invariant = { λ p.
+        (length p.texts.items ≡ 32) × (p.digests ≡ map sha256 (texts_of p.texts.items)) };
+}
+
+impl Part {
+    /// A part of empty pages, which share one text.
+    pub fn empty(alloc: Global) -> Result<Part, NoMemory>
+        ensures { IfOk result (λ p. p ≡ replicate 32 []) }
+    {
+        let text = ArcSlice::from_vec(Vec::new(alloc))?;
+        let mut texts = Vec::with_capacity(alloc, CHILDREN)?;
+        for _page in 0..CHILDREN {
+            texts.push(text.clone()?)?;
+        }
+        let digests = [digest(&[]); CHILDREN];
+        Ok(Part { texts, digests })
+    }
+
+    /// The text of a page.
+    pub fn page(&self, child: usize) -> &[u8]
+        requires { child < CHILDREN }
+        ensures { result.now ≡ slice_index_or self.now child [] }
+    {
+        self.texts[child].as_slice()
+    }
+
+    /// The digests of the pages.
+    pub fn digests(&self) -> &[Digest; CHILDREN]
+        ensures { result.now ≡ map sha256 self.now }
+    {
+        &self.digests
+    }
+
+    /// The digest of the part.
+    pub fn digest(&self) -> Digest
+        ensures { result ≡ part_digest self.now }
+    {
+        digest_of_children(&self.digests)
+    }
+
+    /// Puts a text in the place of a page's, and hashes it.
+    pub fn set(&mut self, child: usize, text: ArcSlice<u8>)
+        requires { child < CHILDREN }
+        ensures { self.new ≡ slice_set self.old child (arc_slice_items text) }
+    {
+        self.digests[child] = digest(text.as_slice());
+        self.texts[child] = text;
+    }
+}
+
+// The copy shares the texts.
+impl Clone for Part {
+    ghost is_clone = { λ p q. q ≡ p };
+
+    fn clone(&self) -> Result<Part, AllocError> {
+        let texts = self.texts.clone()?;
+        Ok(Part {
+            texts,
+            digests: self.digests,
+        })
+    }
+}

@@ -1,0 +1,78 @@
+//! The inner parts of a tree, each behind an owner of its own that others may share, and changes of their pages.
+
+ghost use Rattle.std.specs.Prelude.{◌≡◌, ◌<◌, false, IfOk, OnOk, OnErr, map, length, slice_set};
+ghost use Rattle.std.specs.Arc.{arc_value, arc_slice_items};
+ghost use Rattle.partition_tree.specs.Changes.{AreKnown, IsKept, pages_with};
+ghost use Rattle.partition_tree.specs.Parts.{AreFull, pages_of, parts_of, part_digest};
+
+use crate::digests::{CHILDREN, Digest};
+use crate::no_memory::NoMemory;
+use crate::page::Page;
+use crate::part::Part;
+use std::sync::{Arc, ArcSlice};
+
+/// Puts a text in the place of a page's, in a copy of the part where others share it.
+pub fn put(part: &mut Arc<Part>, child: usize, text: ArcSlice<u8>) -> Result<(), NoMemory>
+    requires { child < CHILDREN }
+    ensures ok { OnOk result (arc_value part.new ≡ slice_set (arc_value part.old) child (arc_slice_items text)) }
+    ensures err { OnErr result (arc_value part.new ≡ arc_value part.old) }
+{
+    let part = Arc::make_mut(part)?;
+    part.set(child, text);
+    Ok(())
+}
+
+// Puts a text in the place of a page's, unless the page has it already. Whether it had another.
+fn change(part: &mut Arc<Part>, child: usize, text: Vec<u8>) -> Result<bool, NoMemory>
+    requires { child < CHILDREN }
+    ensures ok { OnOk result (arc_value part.new ≡ slice_set (arc_value part.old) child text.items) }
+    ensures kept { IfOk result (λ changed. changed ≡ false → arc_value part.new ≡ arc_value part.old) }
+{
+    if part.page(child) == text.as_slice() {
+        return Ok(false);
+    }
+    put(part, child, ArcSlice::from_vec(text)?)?;
+    Ok(true)
+}
+
+/// Puts these texts in their places, and tells of each part whether a page of it was changed.
+pub fn change_all(
+    parts: &mut Vec<Arc<Part>>,
+    pages: Vec<Page>,
+) -> Result<[bool; CHILDREN], NoMemory>
+    requires full { AreFull (parts_of parts.old.items) }
+    requires count { length parts.old.items ≡ CHILDREN }
+    ensures pages { OnOk result (pages_of parts.new.items ≡ pages_with pages.items (pages_of parts.old.items)) }
+    ensures full { OnOk result (AreFull (parts_of parts.new.items)) }
+    ensures count { OnOk result (length parts.new.items ≡ CHILDREN) }
+    ensures kept { IfOk result (λ changed. IsKept changed (parts_of parts.old.items) (parts_of parts.new.items)) }
+{
+    let mut changed = [false; CHILDREN];
+    for page in pages {
+        let Page { index, text } = page;
+        let part = index / CHILDREN;
+        if change(&mut parts[part], index % CHILDREN, text)? {
+            changed[part] = true;
+        }
+    }
+    Ok(changed)
+}
+
+/// The digests of the parts: the known ones, but for those of changed parts, which are hashed.
+pub fn renewed(
+    known: &[Digest; CHILDREN],
+    parts: &[Arc<Part>],
+    changed: &[bool; CHILDREN],
+) -> [Digest; CHILDREN]
+    requires count { length parts.now ≡ CHILDREN }
+    requires known { AreKnown changed.now known.now (parts_of parts.now) }
+    ensures { result ≡ map part_digest (parts_of parts.now) }
+{
+    let mut inner = *known;
+    for part in 0..CHILDREN {
+        if changed[part] {
+            inner[part] = parts[part].digest();
+        }
+    }
+    inner
+}

@@ -1,0 +1,15 @@
+-- From votes to one state for each number.
+pub mod Voting
+pub mod Marks
+pub mod Offers
+pub mod Agreeing
+pub mod Signed
+pub mod Commits
+pub mod Changes
+pub mod Settling
+pub mod Staying
+pub mod Executing
+pub mod States
+pub mod Uniting
+pub mod Asking
+pub mod Beginning

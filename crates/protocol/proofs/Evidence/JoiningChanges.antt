@@ -1,0 +1,234 @@
+-- The definitions accept a replica that joins the view changes of two others in the beginning.
+use Rattle.std.proofs.Common.{◌≡◌, ◌≢◌, ℕ, ◌<◌, max, inl, inr, Bool, true, cond, ◌&&◌, List, [], ◌∷◌, refl, sym, ap, ◌∙◌, subst, arith, Option, Some, None}
+use Rattle.std.specs.Prelude.{◌==◌, nat_lt, option_and_then, All}
+use Rattle.std.specs.List.{list_all}
+use Rattle.std.specs.Option.{option_map_or}
+use Rattle.std.proofs.lemmas.Bool.{and_parts, ne_eqb}
+use Rattle.tuple_codec.proofs.Readers.{guard_holds}
+use Rattle.wire.specs.Messages.{BodyData as Body, FrameData as Frame, ProofData as Proof, ViewChangeData, NewViewData, macs, signature, pre_prepare as PrePrepare, view_change as ViewChange}
+use Rattle.wire.specs.Spelling.{is_signed, body_spelling}
+use Rattle.wire.specs.Reading.{frame_of as frame_spelled}
+use Rattle.authenticator.specs.Keys.{signing_seed}
+use Rattle.authenticator.specs.Membership.{Membership, has_sender}
+use Rattle.authenticator.specs.Authentic.{mac_of}
+use Rattle.signing.specs.Signatures.{public_key}
+use Rattle.signing.specs.Heard.{signs, has_signature, signed_body as signed_among}
+use Rattle.protocol.specs.System.Configuration.{Configuration}
+use Rattle.protocol.specs.System.Frames.{frame_of, said, heard, members, signed_body, IsSealed}
+use Rattle.protocol.specs.System.Trace.{Entry, Has}
+use Rattle.protocol.specs.System.Trace.Entry.{Got, Sent}
+use Rattle.protocol.specs.Replica.Selection.{is_within, change_in}
+use Rattle.protocol.specs.Replica.Certificates.{view, target, taken, is_later, new_view_from, checkpoint_from, checkpoints_of, logged, Prepared}
+use Rattle.protocol.specs.Replica.RightReplica.{first_point, IsPreparedList, IsPrePreparedList, IsNewViewChange, IsAddressed, Executes, MaySend, IsStep}
+use Rattle.protocol.specs.Replica.Owed.{Owes, IsReplica, NumbersOnce, change_taken, latest_change}
+use Rattle.protocol.specs.Evidence.Examples.{four}
+use Rattle.protocol.specs.Evidence.ExamplesOfChanges.{beginning_change, ChangesInBeginning, ViewChangesAreJoined}
+use Rattle.protocol.proofs.Evidence.FirstBatch.{Plain, Still, still}
+use Rattle.protocol.proofs.Evidence.FirstReplicasStages.{takes_none}
+use Rattle.protocol.proofs.Words.Linking.{opened_said, signed_opened, signed_heard}
+use Rattle.protocol.proofs.Words.Options.{some_injective}
+use Rattle.protocol.proofs.Evidence.JoiningChangesOwing.{IsOfChange, Due, owes, none_logged, none_checked, same_checkpoints, logs_nothing, moves_nothing}
+
+-- ---- a signed frame is sealed, and for all
+
+signed_passes : (m : Membership) (bytes : List ℕ) (body : Body) (frame : Frame) → signed_among m bytes ≡ Some body → frame_spelled bytes ≡ Some frame → has_signature m.seed frame ≡ true
+unfolding signed_among
+signed_passes m bytes body frame h is =
+    let k : cond (is_signed frame.body.message && (has_sender m frame.body && has_signature m.seed frame)) (Some frame.body) None ≡ Some body
+    = sym (ap (option_and_then (λ (f : Frame). cond (is_signed f.body.message && (has_sender m f.body && has_signature m.seed f)) (Some f.body) None)) is) ∙ h in
+    let p = and_parts (is_signed frame.body.message) (has_sender m frame.body && has_signature m.seed frame) (guard_holds (is_signed frame.body.message && (has_sender m frame.body && has_signature m.seed frame)) (Some frame.body) body k).0 in
+    (and_parts (has_sender m frame.body) (has_signature m.seed frame) p.1).1
+
+-- what makes a frame sealed, of one proof
+abbrev IsSealedBy : Configuration → Frame → Proof → Type 0
+IsSealedBy c frame (macs entries) = All (λ x. x.mac ≡ mac_of c.seed x.receiver frame.body) entries
+IsSealedBy c frame (signature s) = has_signature c.seed frame ≡ true
+
+pub signed_is_sealed : (c : Configuration) (me : ℕ) (past : List Entry) (bytes : List ℕ) (body : Body) (frame : Frame) → signed_body c bytes ≡ Some body → frame_of bytes ≡ Some frame
+    → IsSealed c frame × IsAddressed c me past body.message frame.proof
+unfolding signed_body frame_of
+signed_is_sealed c me past bytes body frame h is = let r = by frame.proof own in (r.0, r.1)
+  where
+    own : has_signature c.seed frame ≡ true
+    own =
+        let g = guard_holds (list_all (λ b. nat_lt b 256) bytes) (signed_among (members c) bytes) body h in
+        let f = guard_holds (list_all (λ b. nat_lt b 256) bytes) (frame_spelled bytes) frame is in
+        signed_passes (members c) bytes body frame g.1 f.1
+
+    by : (proof : Proof) → signs (public_key (signing_seed c.seed frame.body.sender)) (body_spelling frame.body) proof ≡ true → IsSealedBy c frame proof × IsAddressed c me past body.message proof
+    by (macs entries) h = absurd cc
+    by (signature s) h = (own, tt)
+
+-- ---- the history
+
+module _ (clients : ℕ) (seed : List ℕ) (me one other : ℕ) (first second own : List ℕ) where
+  abbrev c : Configuration
+  c = four clients seed
+
+  abbrev changing : ℕ → Body
+  changing s = record { sender = s; message = ViewChange beginning_change }
+
+  abbrev h1 : List Entry
+  h1 = Got me first ∷ []
+
+  abbrev h2 : List Entry
+  h2 = Got me second ∷ h1
+
+  abbrev now : List Entry
+  now = Sent me own ∷ h2
+
+  module _ (differ : one ≢ other) (first_other : one ≢ me) (second_other : other ≢ me) (x : ChangesInBeginning c one first) (y : ChangesInBeginning c other second) (z : ChangesInBeginning c me own) where
+    hears : (s : ℕ) (bytes : List ℕ) → s ≢ me → ChangesInBeginning c s bytes → heard c me bytes ≡ Some (changing s)
+    hears s bytes other is = signed_heard c bytes (changing s) is me other
+
+    says : said own ≡ Some (changing me)
+    says = opened_said c me own (changing me) (signed_opened c own (changing me) z me)
+
+    -- a view change that is got changes no view and no mark
+    plain : (past : List Entry) (s : ℕ) (bytes : List ℕ) → s ≢ me → ChangesInBeginning c s bytes → Plain c past (Got me bytes)
+    plain past s bytes other is = record {
+      view = ap (option_and_then (new_view_from c)) (hears s bytes other is);
+      change = refl;
+      checkpoint = ap (option_and_then checkpoint_from) (hears s bytes other is);
+      installed = refl;
+    }
+
+    still1 : Still c me h1
+    still1 = still c me h1 (plain [] one first first_other x, tt)
+
+    still2 : Still c me h2
+    still2 = still c me h2 (plain h1 other second second_other y, (plain [] one first first_other x, tt))
+
+    -- ---- nothing is logged
+
+    logs1 : (v i : ℕ) → logged c me h1 v i ≡ None
+    logs1 v i = logs_nothing c me [] (Got me first) (changing one) (hears one first first_other x) tt (takes_none clients seed [] me [] (Got me first) (plain [] one first first_other x)) v i ∙ none_logged c me v i
+
+    logs2 : (v i : ℕ) → logged c me h2 v i ≡ None
+    logs2 v i = logs_nothing c me h1 (Got me second) (changing other) (hears other second second_other y) tt (takes_none clients seed [] me h1 (Got me second) (plain h1 other second second_other y)) v i ∙ logs1 v i
+
+    takes_own : taken c h2 (Sent me own) ≡ None
+    takes_own = ap (option_and_then (λ (new : NewViewData). Rattle.quorum.specs.Votes.give_if (is_later (view c h2) (target h2) new) new)) (ap (option_and_then (new_view_from c)) says)
+
+    logs3 : (v i : ℕ) → logged c me now v i ≡ None
+    logs3 v i = logs_nothing c me h2 (Sent me own) (changing me) says tt takes_own v i ∙ logs2 v i
+
+    unprepared : (past : List Entry) → ((v i : ℕ) → logged c me past v i ≡ None) → (v i : ℕ) (batch : List ℕ) → Prepared c me past v i batch → ⊥
+    unprepared past none v i batch p = absurd (let bad : None ≡ Some batch = sym (none v i) ∙ p.logged in cc)
+
+    checks1 : (s : ℕ) → checkpoints_of c h1 s ≡ []
+    checks1 s = same_checkpoints c [] (Got me first) (changing one) (hears one first first_other x) tt s ∙ none_checked c s
+
+    checks2 : (s : ℕ) → checkpoints_of c h2 s ≡ []
+    checks2 s = same_checkpoints c h1 (Got me second) (changing other) (hears other second second_other y) tt s ∙ checks1 s
+
+    checks3 : (s : ℕ) → checkpoints_of c now s ≡ []
+    checks3 s = same_checkpoints c h2 (Sent me own) (changing me) says tt s ∙ checks2 s
+
+    -- ---- the second view change counts
+
+    not_of_other : (v : ℕ) → change_taken c v other first ≡ 0
+    not_of_other v =
+        ap (λ (o : Option (ℕ × ViewChangeData)). option_map_or (λ (p : ℕ × ViewChangeData). cond ((p.0 == other) && nat_lt v p.1.view && is_within c p.1) p.1.view 0) o 0) (ap (option_and_then change_in) x)
+        ∙ ap (λ (b : Bool). cond (b && nat_lt v 1 && is_within c beginning_change) 1 0) (ne_eqb one other differ)
+
+    latest : latest_change c h1 other ≡ 0
+    latest = ap (max 0) (not_of_other (view c []))
+
+    counts : (view c h1 < 1) × (is_within c beginning_change ≡ true) × (latest_change c h1 other < 1)
+    counts = (subst (λ (n : ℕ). n < 1) (sym still1.view_is) (omega arith), refl, subst (λ (n : ℕ). n < 1) (sym latest) (omega arith))
+
+    -- ---- what is owed
+
+    none_executed : (k : ℕ) → Has (λ e. Executes k [] e) (Sent me own ∷ []) → ⊥
+    none_executed k (inl h) = h
+    none_executed k (inr h) = h
+
+    numbers_none : NumbersOnce c me h2 (Sent me own)
+    numbers_none v i batch is fresh = absurd (
+        subst (λ (b : Body). IsOfChange b.message) (some_injective (changing me) (record { sender = me; message = PrePrepare v i batch }) (sym says ∙ is)) tt)
+
+    due1 : Due c me [] first [] h1
+    due1 = record {
+      body = changing one;
+      hears = hears one first first_other x;
+      of_change = tt;
+      checkpoints_are = checks1;
+      unprepared = unprepared h1 logs1;
+      numbers_once = tt;
+      prepares = λ v i batch none some active backup. absurd (let bad : None ≡ Some batch = sym (logs1 v i) ∙ some in cc);
+      none_executed = λ k h. h;
+      dropped = λ drops. refl;
+    }
+
+    due2 : Due c me h1 second (Sent me own ∷ []) now
+    due2 = record {
+      body = changing other;
+      hears = hears other second second_other y;
+      of_change = tt;
+      checkpoints_are = checks3;
+      unprepared = unprepared now logs3;
+      numbers_once = (numbers_none, tt);
+      prepares = λ v i batch none some active backup. absurd (let bad : None ≡ Some batch = sym (logs3 v i) ∙ some in cc);
+      none_executed = none_executed;
+      dropped = λ drops. absurd (drops (changing other) (hears other second second_other y) counts);
+    }
+
+    owes1 : Owes c me [] (Got me first) [] h1 first_point first_point
+    owes1 = owes clients seed me [] first [] h1 due1
+
+    owes2 : Owes c me h1 (Got me second) (Sent me own ∷ []) now first_point first_point
+    owes2 = owes clients seed me h1 second (Sent me own ∷ []) now due2
+
+    -- ---- what is sent
+
+    no_claims : IsPreparedList c me h2 []
+    no_claims = record {
+      listed = λ claim h. absurd h;
+      all = λ v i batch marks p. absurd (unprepared h2 logs2 v i batch p);
+      ascending = λ i j d less within. absurd (omega arith);
+    }
+
+    no_proposals : IsPrePreparedList c me h2 []
+    no_proposals = record {
+      listed = λ claim h. absurd h;
+      all = λ v i batch marks is. absurd (let bad : None ≡ Some batch = sym (logs2 v i) ∙ is in cc);
+      differ = λ i j d less within. absurd (omega arith);
+    }
+
+    is_new : IsNewViewChange c me h2 first_point beginning_change
+    is_new = record {
+      above = subst (λ (n : ℕ). n < 1) (sym still2.view_is) (omega arith);
+      newer = subst (λ (n : ℕ). n < 1) (sym still2.target_is) (omega arith);
+      is_view = refl;
+      low = sym still2.low_is;
+      checkpoints = refl;
+      prepared = no_claims;
+      proposed = no_proposals;
+    }
+
+    may : MaySend c me h2 first_point (Sent me own) own
+    may = record {
+      body = changing me;
+      says = says;
+      own = refl;
+      seen = tt;
+      say = inl is_new;
+      is_sealed = λ frame is. signed_is_sealed c me h2 own (changing me) frame z is;
+    }
+
+    gets1 : IsStep c me [] first_point (Got me first) first_point
+    gets1 = record { own = refl; may = tt; moves = moves_nothing c me first (changing one) (hears one first first_other x) tt }
+
+    gets2 : IsStep c me h1 first_point (Got me second) first_point
+    gets2 = record { own = refl; may = tt; moves = moves_nothing c me second (changing other) (hears other second second_other y) tt }
+
+    sends : IsStep c me h2 first_point (Sent me own) first_point
+    sends = record { own = refl; may = may; moves = refl }
+
+    is_right : IsReplica c me now
+    is_right = inl (first_point, (first_point, sends, (first_point, gets2, (owes2, (first_point, gets1, (owes1, (refl, refl)))))))
+
+pub view_changes_are_joined : ViewChangesAreJoined
+view_changes_are_joined clients seed me one other first second own differ first_other second_other x y z =
+    is_right clients seed me one other first second own differ first_other second_other x y z

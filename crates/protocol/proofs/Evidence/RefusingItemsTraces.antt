@@ -1,0 +1,192 @@
+-- Two traces of a write and a read that are not linearizable.
+use Rattle.std.proofs.Common.{◌≡◌, ◌≢◌, ℕ, ◌+◌, ◌≤◌, ◌⊎◌, inl, inr, Bool, true, false, List, [], ◌∷◌, refl, sym, ap, ◌∙◌, subst, arith, length}
+use Rattle.std.specs.Prelude.{if◌then◌else◌, Some, None}
+use Rattle.tuple_tree.specs.Values.{TupleTree, TemplateTree}
+use Rattle.tuple_codec.specs.Operations.{Operation, out, rdp, done, found, absent}
+use Rattle.template_match.specs.Tests.{is_match}
+use Rattle.space.specs.Applying.{outcome, tuples_after, found_or_absent}
+use Rattle.protocol.specs.System.Configuration.{Configuration, is_correct_client}
+use Rattle.protocol.specs.System.Trace.{Entry, Once, Has}
+use Rattle.protocol.specs.System.Trace.Entry.{Invoke, Accepted}
+use Rattle.protocol.specs.Space.Linear.{Item, LegalFrom, Invokes, Asks, NoneTwice, NeverFall, IsLinear}
+use Rattle.protocol.specs.Evidence.RefusedItems.{WritesAreSeen, ReadsAreNotEarly}
+use Rattle.protocol.proofs.Evidence.RefusingItems.{has_weaker, behind, lowest}
+
+module _ (c : Configuration) (writer reader : ℕ) (t : TupleTree) (p : TemplateTree) (differ : writer ≢ reader)
+    (right_writer : is_correct_client c (256 + writer) ≡ true) (right_reader : is_correct_client c (256 + reader) ≡ true) where
+  abbrev IsWrite : Item → Type 0
+  IsWrite x = (x.client ≡ 256 + writer) × (x.timestamp ≡ 1) × (x.op ≡ out t)
+
+  abbrev IsRead : Item → Type 0
+  IsRead x = (x.client ≡ 256 + reader) × (x.timestamp ≡ 1) × (x.op ≡ rdp p)
+
+  not_both : (x : Item) → x.client ≡ 256 + writer → x.client ≡ 256 + reader → ⊥
+  not_both x w r = differ (omega (arith, w, r))
+
+  -- ---- a write, then a read that finds nothing
+
+  abbrev late : List Entry
+  late = Accepted reader 1 absent ∷ Invoke reader 1 (rdp p) ∷ Accepted writer 1 done ∷ Invoke writer 1 (out t) ∷ []
+
+  module _ (matches : is_match p t ≡ true) where
+    abbrev Early : Item → Type 0
+    Early x = IsWrite x × (x.position ≤ 1)
+
+    abbrev Late : Item → Type 0
+    Late x = IsRead x × (2 ≤ x.position)
+
+    abbrev Misses : Item → Type 0
+    Misses x = (x.client ≡ 256 + reader) × (x.answer ≡ absent)
+
+    finds : outcome (t ∷ []) (rdp p) ≡ found t
+    finds = ap (λ (b : Bool). found_or_absent (if b then Some t else None)) matches
+
+    -- behind the write alone, reads find it
+    after_write : (items : List Item) → ((x : Item) → Has (λ y. y ≡ x) items → Late x) → LegalFrom (t ∷ []) items → Has Misses items → ⊥
+    after_write [] each legal has = has
+    after_write (x ∷ items) each legal (inl misses) =
+        let is : x.op ≡ rdp p = (each x (inl refl)).0.2 in
+        let bad : absent ≡ found t = sym misses.1 ∙ legal.0 ∙ ap (outcome (t ∷ [])) is ∙ finds in absurd cc
+    after_write (x ∷ items) each legal (inr has) =
+        let is : x.op ≡ rdp p = (each x (inl refl)).0.2 in
+        after_write items (λ y h. each y (inr h)) (subst (λ (o : Operation). LegalFrom (tuples_after (t ∷ []) o) items) is legal.1) has
+
+    misses_none : (items : List Item) → ((x : Item) → Has (λ y. y ≡ x) items → Early x ⊎ Late x) → NoneTwice items → NeverFall items → LegalFrom [] items
+        → Has (λ x. x.client ≡ 256 + writer) items → Has Misses items → ⊥
+    misses_none [] each once order legal writes misses = misses
+    misses_none (x ∷ items) each once order legal writes misses = go (each x (inl refl)) writes misses
+      where
+        go : Early x ⊎ Late x → (x.client ≡ 256 + writer) ⊎ Has (λ y. y.client ≡ 256 + writer) items → Misses x ⊎ Has Misses items → ⊥
+        go (inr l) (inl w) misses = not_both x w l.0.0
+        go (inr l) (inr w) misses =
+            let high = l.1 in
+            let low = lowest (λ y. (y.client ≡ 256 + writer) × Has (λ z. z ≡ y) items) 1 x items early order (has_there items w) in
+            absurd (omega arith)
+          where
+            has_there : (ys : List Item) → Has (λ y. y.client ≡ 256 + writer) ys → Has (λ y. (y.client ≡ 256 + writer) × Has (λ z. z ≡ y) ys) ys
+            has_there [] h = h
+            has_there (y ∷ ys) (inl h) = inl (h, inl refl)
+            has_there (y ∷ ys) (inr h) = inr (has_weaker (λ z. (z.client ≡ 256 + writer) × Has (λ u. u ≡ z) ys) (λ z. (z.client ≡ 256 + writer) × Has (λ u. u ≡ z) (y ∷ ys)) (λ z k. (k.0, inr k.1)) ys (has_there ys h))
+
+            early : (y : Item) → (y.client ≡ 256 + writer) × Has (λ z. z ≡ y) items → y.position ≤ 1
+            early y h = by (each y (inr h.1))
+              where
+                by : Early y ⊎ Late y → y.position ≤ 1
+                by (inl e) = e.1
+                by (inr l) = absurd (not_both y h.0 l.0.0)
+        go (inl e) writes (inl m) = not_both x e.0.0 m.0
+        go (inl e) writes (inr m) = after_write items reads (subst (λ (o : Operation). LegalFrom (tuples_after [] o) items) e.0.2 legal.1) m
+          where
+            again : (y : Item) → IsWrite y → (ys : List Item) → Has (λ z. z ≡ y) ys → Has (λ z. (z.client ≡ x.client) × (z.timestamp ≡ x.timestamp)) ys
+            again y is ys h = has_weaker (λ z. z ≡ y) (λ z. (z.client ≡ x.client) × (z.timestamp ≡ x.timestamp)) (λ z same. (ap (λ (u : Item). u.client) same ∙ is.0 ∙ sym e.0.0, ap (λ (u : Item). u.timestamp) same ∙ is.1 ∙ sym e.0.1)) ys h
+
+            reads : (y : Item) → Has (λ z. z ≡ y) items → Late y
+            reads y h = by (each y (inr h))
+              where
+                by : Early y ⊎ Late y → Late y
+                by (inr l) = l
+                by (inl w) = absurd (once.0 (again y w.0 items h))
+
+    late_has_none : (items : List Item) → IsLinear c items late → ⊥
+    late_has_none items linear =
+        misses_none items each linear.covers.once linear.placed.in_order linear.legal
+        (has_weaker (λ (x : Item). (x.client ≡ 256 + writer) × (x.timestamp ≡ 1) × (x.answer ≡ done) × Once (Invokes (256 + writer) 1 x.op) late) (λ x. x.client ≡ 256 + writer) (λ x h. h.0) items
+        (linear.covers.accepted (256 + writer) 1 done right_writer (inr (inr (inl (refl, refl, refl))))))
+        (has_weaker (λ (x : Item). (x.client ≡ 256 + reader) × (x.timestamp ≡ 1) × (x.answer ≡ absent) × Once (Invokes (256 + reader) 1 x.op) late) Misses (λ x h. (h.0, h.2)) items
+        (linear.covers.accepted (256 + reader) 1 absent right_reader (inl (refl, refl, refl))))
+      where
+        each : (x : Item) → Has (λ y. y ≡ x) items → Early x ⊎ Late x
+        each x has = go (is_correct_client c x.client) refl
+          where
+            go : (b : Bool) → is_correct_client c x.client ≡ b → Early x ⊎ Late x
+            go true right = by (linear.placed.after x has right)
+              where
+                by : Once (λ past e. Invokes x.client x.timestamp x.op past e × (length past ≤ x.position)) late → Early x ⊎ Late x
+                by (inl h) = absurd h.0
+                by (inr (inl h)) = inr ((sym h.0.0, sym h.0.1, sym h.0.2), h.1)
+                by (inr (inr (inl h))) = absurd h.0
+                by (inr (inr (inr (inl h)))) =
+                    inl ((sym h.0.0, sym h.0.1, sym h.0.2), (linear.placed.before x done has right).1.1.0 (h.0.0, h.0.1, refl))
+                by (inr (inr (inr (inr h)))) = absurd h
+            go false wrong = by (linear.covers.asked x has wrong)
+              where
+                by : Once (λ past e. Asks c x.client x.timestamp x.op past e × (length past ≤ x.position)) late → Early x ⊎ Late x
+                by (inl h) = absurd h.0
+                by (inr (inl h)) = absurd h.0
+                by (inr (inr (inl h))) = absurd h.0
+                by (inr (inr (inr (inl h)))) = absurd h.0
+                by (inr (inr (inr (inr h)))) = absurd h
+
+  -- ---- a read that finds, then the write
+
+  abbrev early : List Entry
+  early = Accepted writer 1 done ∷ Invoke writer 1 (out t) ∷ Accepted reader 1 (found t) ∷ Invoke reader 1 (rdp p) ∷ []
+
+  abbrev Writes : Item → Type 0
+  Writes x = IsWrite x × (2 ≤ x.position)
+
+  abbrev Reads : Item → Type 0
+  Reads x = IsRead x × (x.position ≤ 1)
+
+  abbrev Finds : Item → Type 0
+  Finds x = (x.client ≡ 256 + reader) × (x.answer ≡ found t) × (x.position ≤ 1)
+
+  abbrev IsAccepted : Item → Type 0
+  IsAccepted x = (x.client ≡ 256 + reader) × (x.timestamp ≡ 1) × (x.answer ≡ found t) × Once (Invokes (256 + reader) 1 x.op) early
+
+  -- of what is read from the empty space nothing is found, and no write is before it
+  finds_none : (items : List Item) → ((x : Item) → Has (λ y. y ≡ x) items → Writes x ⊎ Reads x) → NeverFall items → LegalFrom [] items → Has Finds items → ⊥
+  finds_none [] each order legal has = has
+  finds_none (x ∷ items) each order legal has =
+      go (each x (inl refl)) has
+      (λ r f. finds_none items (λ y h. each y (inr h)) (behind x items order) (subst (λ (o : Operation). LegalFrom (tuples_after [] o) items) r.0.2 legal.1) f)
+    where
+      go : Writes x ⊎ Reads x → Finds x ⊎ Has Finds items → (Reads x → Has Finds items → ⊥) → ⊥
+      go (inl w) (inl f) below = not_both x w.0.0 f.0
+      go (inl w) (inr f) below =
+          let high = w.1 in
+          let low = lowest Finds 1 x items (λ y h. h.2) order f in
+          absurd (omega arith)
+      go (inr r) (inl f) below = let bad : found t ≡ absent = sym f.1 ∙ legal.0 ∙ ap (outcome []) r.0.2 in absurd cc
+      go (inr r) (inr f) below = below r f
+
+  early_has_none : (items : List Item) → IsLinear c items early → ⊥
+  early_has_none items linear =
+      finds_none items each linear.placed.in_order linear.legal
+      (has_with items (λ x h. h)
+      (linear.covers.accepted (256 + reader) 1 (found t) right_reader (inr (inr (inl (refl, refl, refl))))))
+    where
+      has_with : (ys : List Item) → ((x : Item) → Has (λ y. y ≡ x) ys → Has (λ y. y ≡ x) items) → Has IsAccepted ys → Has Finds ys
+      has_with [] emb h = h
+      has_with (y ∷ ys) emb (inl h) =
+          let right : is_correct_client c y.client ≡ true = subst (λ (q : ℕ). is_correct_client c q ≡ true) (sym h.0) right_reader in
+          inl (h.0, h.2, (linear.placed.before y (found t) (emb y (inl refl)) right).1.1.0 (sym h.0, sym h.1, refl))
+      has_with (y ∷ ys) emb (inr h) = inr (has_with ys (λ x k. emb x (inr k)) h)
+
+      each : (x : Item) → Has (λ y. y ≡ x) items → Writes x ⊎ Reads x
+      each x has = go (is_correct_client c x.client) refl
+        where
+          go : (b : Bool) → is_correct_client c x.client ≡ b → Writes x ⊎ Reads x
+          go true right = by (linear.placed.after x has right)
+            where
+              by : Once (λ past e. Invokes x.client x.timestamp x.op past e × (length past ≤ x.position)) early → Writes x ⊎ Reads x
+              by (inl h) = absurd h.0
+              by (inr (inl h)) = inl ((sym h.0.0, sym h.0.1, sym h.0.2), h.1)
+              by (inr (inr (inl h))) = absurd h.0
+              by (inr (inr (inr (inl h)))) =
+                  inr ((sym h.0.0, sym h.0.1, sym h.0.2), (linear.placed.before x (found t) has right).1.1.0 (h.0.0, h.0.1, refl))
+              by (inr (inr (inr (inr h)))) = absurd h
+          go false wrong = by (linear.covers.asked x has wrong)
+            where
+              by : Once (λ past e. Asks c x.client x.timestamp x.op past e × (length past ≤ x.position)) early → Writes x ⊎ Reads x
+              by (inl h) = absurd h.0
+              by (inr (inl h)) = absurd h.0
+              by (inr (inr (inl h))) = absurd h.0
+              by (inr (inr (inr (inl h)))) = absurd h.0
+              by (inr (inr (inr (inr h)))) = absurd h
+
+pub writes_are_seen : WritesAreSeen
+writes_are_seen c writer reader t p differ right_writer right_reader matches linear = late_has_none c writer reader t p differ right_writer right_reader matches linear.0 linear.1
+
+pub reads_are_not_early : ReadsAreNotEarly
+reads_are_not_early c writer reader t p differ right_writer right_reader linear = early_has_none c writer reader t p differ right_writer right_reader linear.0 linear.1

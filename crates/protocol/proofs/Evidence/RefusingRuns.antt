@@ -1,0 +1,374 @@
+-- The definitions of clients, runs and certificates refuse what wrong bodies would do.
+use Rattle.std.specs.List.{range_with_len}
+use Rattle.std.proofs.Common.{◌≡◌, ℕ, zero, suc, not, ◌+◌, ◌*◌, ◌≤◌, ◌<◌, ◌⊎◌, inl, inr, Bool, true, false, cond, List, [], ◌∷◌, ◌++◌, map, bytes_eq, refl, sym, ap, ◌∙◌, subst, arith, ◌&&◌, Option, Some, None, eqb-true, eq-eqb, reverse}
+use mathlib.Core.List.{reverse_aux}
+use Rattle.std.proofs.lemmas.List.{reverse-reverse}
+use Rattle.std.specs.Prelude.{◌==◌, nat_le, is_some}
+use Rattle.std.specs.Option.{option_map_or}
+use Rattle.std.proofs.lemmas.Bool.{eqb-false, and_parts, and_from, or_cases, leb-true, le-leb}
+use Rattle.std.proofs.lemmas.Slice.Eq.{bytes_eq-Decides}
+use Rattle.sha2.specs.Sha256.{sha256}
+use Rattle.tuple_codec.specs.Operations.{Operation, Outcome}
+use Rattle.tuple_codec.specs.Spelling.{outcome_spelling}
+use Rattle.quorum.specs.Quorum.{count_below}
+use Rattle.quorum.proofs.Counting.{count_mono}
+use Rattle.protocol.specs.System.Configuration.{Configuration, replicas}
+use Rattle.wire.specs.declared.terms.Mode.{Mode}
+use Rattle.wire.specs.declared.terms.Mode.TheVariants as modes
+use Rattle.wire.specs.Messages.{BodyData as Body, FrameData as Frame, MacData, macs, MessageData as Message, ClaimData as Claim, request as Request, view_change as ViewChange, new_view as NewView, reply as Reply}
+use Rattle.protocol.specs.System.Frames.{frame_of, said, heard, reads_only, mode_of, receivers_of}
+use Rattle.protocol.specs.System.Trace.{Entry, party_of, is_output, Once, Always, Has, AreOutputs, Hears, either}
+use Rattle.protocol.specs.System.Trace.Entry.{Invoke, Got, Tick, Executed, Installed, Sent, Accepted}
+use Rattle.protocol.specs.Replica.Certificates.{view, target, is_active_in, taken}
+use Rattle.protocol.specs.Replica.RightReplica.{SafeReplica, MaySay, MaySend, MayViewChange, MayNewView, SendsBytes}
+use Rattle.protocol.specs.Client.RightClient.{OpenCall, open_call, Vote, newest_vote, latest, is_alike, count_alike, is_complete, is_ordered_request, went_ordered, is_answered, Reaction, fallback, on_reply, on_got, reaction, is_same_answer, is_weakly_complete, weakly_on_got, weak_reaction, IsRequest, IsReaction, MayInput, Reacts, IsClientBy, SafeWeakClient}
+use Rattle.protocol.specs.Client.RightClient.Reaction.{nothing, asks, accepts}
+use Rattle.protocol.specs.System.Run.{Follows}
+use Rattle.protocol.specs.Evidence.RefusedRuns.{going_on, IsOrderedRequest, AcceptsAlike, AsksOrdered, FallsBack, AsksAtTicks, AsksAll, WeaklyAcceptsAlike, WeaklyAcceptsAtWeakQuorum, WeaklyAsksOrdered, OutputsFollow, LogsNumbers, NoBeginWhileInactive, KeepsProposed, NoRequestByReplica, InstallsItsRoot}
+use Rattle.protocol.proofs.Words.Temporal.{once_weaker, once_always, once_stays_from}
+use Rattle.protocol.proofs.Words.Options.{some_injective}
+use Rattle.protocol.proofs.Agreement.Voting.{RightAt, right_always}
+use Rattle.protocol.proofs.Agreement.Marks.{takes, view_grows}
+use Rattle.protocol.proofs.Agreement.Changes.{logged_within}
+use Rattle.protocol.proofs.Points.Ordering.{latest_ordered}
+use Rattle.protocol.proofs.Words.Reacting.{one_output}
+
+-- ---- clients
+
+when_true : (b : Bool) (X Y : Type 0) → b ≡ true → either b X Y → X
+when_true true X Y e h = h
+when_true false X Y e h = absurd cc
+
+when_false : (b : Bool) (X Y : Type 0) → b ≡ false → either b X Y → Y
+when_false true X Y e h = absurd cc
+when_false false X Y e h = h
+
+-- the outputs of an event are taken together
+collect : (c : Configuration) (me : ℕ) (react : List Entry → Reaction) (outputs given rest : List Entry) → AreOutputs outputs → Reacts c me react given (outputs ++ rest) → Reacts c me react (reverse_aux outputs given) rest
+collect c me react [] given rest are h = h
+collect c me react (e ∷ outputs) given rest are h =
+    collect c me react outputs (e ∷ given) rest are.1
+    (when_true (is_output e) (Reacts c me react (e ∷ given) (outputs ++ rest)) (MayInput (outputs ++ rest) e × IsReaction c me (react (e ∷ outputs ++ rest)) given × Reacts c me react [] (outputs ++ rest)) are.0 h.1)
+
+-- what a client that goes on gave in an event is what it was to give
+pub gave : (c : Configuration) (me : ℕ) (react : List Entry → Reaction) (later : List ℕ) (outputs : List Entry) (input : Entry) (past : List Entry) → is_output input ≡ false → AreOutputs outputs
+    → IsClientBy c me react (going_on me later outputs input past) → IsReaction c me (react (input ∷ past)) (reverse outputs)
+gave c me react later outputs input past is are (inl h) =
+    let event = collect c me react outputs [] (input ∷ past) are h.1.1.2 in
+    (when_false (is_output input) (Reacts c me react (input ∷ reverse outputs) past) (MayInput past input × IsReaction c me (react (input ∷ past)) (reverse outputs) × Reacts c me react [] past) is event.1).1
+gave c me react later outputs input past is are (inr h) = absurd h.1
+
+accepts_only : (c : Configuration) (me t : ℕ) (a : Outcome) (r : Reaction) (outputs : List Entry) → r ≡ accepts t a → IsReaction c me r (reverse outputs) → (k : ℕ) × (outputs ≡ Accepted k t a ∷ [])
+accepts_only c me t a r outputs is h =
+    let k = subst (λ (x : Reaction). IsReaction c me x (reverse outputs)) is h in
+    (k.0, sym (reverse-reverse outputs) ∙ ap reverse k.1)
+
+asks_only : (c : Configuration) (me : ℕ) (call : OpenCall) (r : Reaction) (outputs : List Entry) → r ≡ asks false call → IsReaction c me r (reverse outputs) → IsOrderedRequest me call outputs
+asks_only c me call r outputs is h =
+    let k = subst (λ (x : Reaction). IsReaction c me x (reverse outputs)) is h in
+    (k.0, sym (reverse-reverse outputs) ∙ ap reverse k.1, k.2.says)
+
+abbrev pub vote_in : Mode → ℕ → Outcome → Vote
+vote_in mode number answer = record { read_only = reads_only mode; number = number; answer = answer }
+
+pub brings : (c : Configuration) (me s t number : ℕ) (mode : Mode) (answer : Outcome) (bytes : List ℕ) (past : List Entry) → heard c me bytes ≡ Some (record { sender = s; message = Reply me t mode number answer })
+    → newest_vote c me (Got me bytes ∷ past) t ≡ Some (vote_in mode number answer)
+brings c me s t number mode answer bytes past hears = rw hears (rw (eq-eqb s s refl, eq-eqb me me refl, eq-eqb t t refl) refl)
+
+pub alike : (vote : Vote) → is_alike vote (Some vote) ≡ true
+alike vote = and_from (vote.number == vote.number) (bytes_eq (outcome_spelling vote.answer) (outcome_spelling vote.answer)) (eq-eqb vote.number vote.number refl) ((bytes_eq-Decides (outcome_spelling vote.answer) (outcome_spelling vote.answer)).1 refl)
+
+pub accepts_alike : AcceptsAlike
+accepts_alike c me s number call mode answer bytes later from outputs past opened hears enough same are h =
+    accepts_only c me call.timestamp answer (reaction c me (Got me bytes ∷ past)) outputs (ap (λ (o : Option OpenCall). option_map_or (on_got c me (Got me bytes ∷ past)) o nothing) opened ∙ votes ∙ completes) (gave c me (reaction c me) later outputs (Got me bytes) past refl are h)
+  where
+    votes : on_got c me (Got me bytes ∷ past) call ≡ on_reply c me (Got me bytes ∷ past) call (vote_in mode number answer)
+    votes = ap (λ (o : Option Vote). option_map_or (on_reply c me (Got me bytes ∷ past) call) o nothing) (brings c me s call.timestamp number mode answer bytes past hears)
+
+    each : (r : ℕ) → from r ≡ true → is_alike (vote_in mode number answer) (latest c me (Got me bytes ∷ past) call.timestamp (reads_only mode) r) ≡ true
+    each r h = ap (is_alike (vote_in mode number answer)) (same r h) ∙ alike (vote_in mode number answer)
+
+    full : 2 * c.faults + 1 ≤ count_alike c me (Got me bytes ∷ past) call.timestamp (vote_in mode number answer)
+    full = let more = count_mono from (λ r. is_alike (vote_in mode number answer) (latest c me (Got me bytes ∷ past) call.timestamp (reads_only mode) r)) (replicas c) (λ r l h. each r h) in omega arith
+
+    completes : on_reply c me (Got me bytes ∷ past) call (vote_in mode number answer) ≡ accepts call.timestamp answer
+    completes = rw (le-leb (2 * c.faults + 1) (count_alike c me (Got me bytes ∷ past) call.timestamp (vote_in mode number answer)) full) refl
+
+-- what went ordered was sent
+went_asked : (t : ℕ) (xs : List Entry) → went_ordered xs t ≡ true → Once (AsksOrdered t) xs
+went_asked t [] h = absurd cc
+went_asked t (Invoke x y z ∷ past) h = absurd cc
+went_asked t (Got x y ∷ past) h = inr (went_asked t past h)
+went_asked t (Tick x ∷ past) h = inr (went_asked t past h)
+went_asked t (Executed x y z ∷ past) h = inr (went_asked t past h)
+went_asked t (Installed x y z ∷ past) h = inr (went_asked t past h)
+went_asked t (Accepted x y z ∷ past) h = inr (went_asked t past h)
+went_asked t (Sent p bytes ∷ past) h = go (or_cases (option_map_or (is_ordered_request t) (said bytes) false) (went_ordered past t) h) (went_asked t past)
+  where
+    ordered : (sender timestamp : ℕ) (mode : Mode) (op : Operation) → ((timestamp == t) && not (reads_only mode)) ≡ true
+        → (op' : Operation) × (◌≡◌ {A = Body} (record { sender = sender; message = Request timestamp mode op }) (record { sender = sender; message = Request t modes.Ordered op' }))
+    ordered sender timestamp modes.Ordered op k =
+        let e = eqb-true timestamp t (and_parts (timestamp == t) true k).0 in
+        (op, ap (λ (n : ℕ). (let b : Body = record { sender = sender; message = Request n modes.Ordered op } in b)) e)
+    ordered sender timestamp modes.ReadOnly op k = let bad = (and_parts (timestamp == t) false k).1 in absurd cc
+
+    body : (sender : ℕ) (message : Message) → is_ordered_request t (record { sender = sender; message = message }) ≡ true
+        → (op : Operation) × (◌≡◌ {A = Body} (record { sender = sender; message = message }) (record { sender = sender; message = Request t modes.Ordered op }))
+    body sender (Request timestamp mode op) k = ordered sender timestamp mode op k
+    body sender _ k = absurd cc
+
+    spoken : (o : Option Body) → said bytes ≡ o → option_map_or (is_ordered_request t) o false ≡ true → AsksOrdered t past (Sent p bytes)
+    spoken None is k = absurd cc
+    spoken (Some b) is k = let r = body b.sender b.message k in (b.sender, r.0, is ∙ ap Some r.1)
+
+    go : (option_map_or (is_ordered_request t) (said bytes) false ≡ true) ⊎ (went_ordered past t ≡ true) → (went_ordered past t ≡ true → Once (AsksOrdered t) past) → AsksOrdered t past (Sent p bytes) ⊎ Once (AsksOrdered t) past
+    go (inl k) below = inl (spoken (said bytes) refl k)
+    go (inr k) below = inr (below k)
+
+all_below : (test : ℕ → Bool) (n : ℕ) → ((k : ℕ) → k < n → test k ≡ true) → count_below test n ≡ n
+all_below test zero h = refl
+all_below test (suc n) h =
+    let last : n < suc n = omega arith in
+    let below = all_below test n (λ k l. let m : k < suc n = omega arith in h k m) in
+    rw (h n last) (ap suc below)
+
+pub falls_back : FallsBack
+falls_back c me s number call answer bytes later outputs past opened hears answered few never are h =
+    asks_only c me call (reaction c me (Got me bytes ∷ past)) outputs (ap (λ (o : Option OpenCall). option_map_or (on_got c me (Got me bytes ∷ past)) o nothing) opened ∙ votes ∙ incomplete ∙ falls) (gave c me (reaction c me) later outputs (Got me bytes) past refl are h)
+  where
+    votes : on_got c me (Got me bytes ∷ past) call ≡ on_reply c me (Got me bytes ∷ past) call (vote_in modes.ReadOnly number answer)
+    votes = ap (λ (o : Option Vote). option_map_or (on_reply c me (Got me bytes ∷ past) call) o nothing) (brings c me s call.timestamp number modes.ReadOnly answer bytes past hears)
+
+    incomplete : on_reply c me (Got me bytes ∷ past) call (vote_in modes.ReadOnly number answer) ≡ fallback c me (Got me bytes ∷ past) call
+    incomplete = go (is_complete c me (Got me bytes ∷ past) call.timestamp (vote_in modes.ReadOnly number answer)) refl
+      where
+        go : (b : Bool) → is_complete c me (Got me bytes ∷ past) call.timestamp (vote_in modes.ReadOnly number answer) ≡ b → cond b (accepts call.timestamp answer) (fallback c me (Got me bytes ∷ past) call) ≡ fallback c me (Got me bytes ∷ past) call
+        go true e = let l = leb-true (2 * c.faults + 1) (count_alike c me (Got me bytes ∷ past) call.timestamp (vote_in modes.ReadOnly number answer)) e in absurd (omega arith)
+        go false e = refl
+
+    some_answer : (o : Option Vote) → (o ≡ None → ⊥) → is_some o ≡ true
+    some_answer None n = absurd (n refl)
+    some_answer (Some v) n = refl
+
+    all_answered : is_answered c me (Got me bytes ∷ past) call.timestamp ≡ true
+    all_answered =
+        let all = all_below (λ r. is_some (latest c me (Got me bytes ∷ past) call.timestamp true r)) (replicas c) (λ r l. some_answer (latest c me (Got me bytes ∷ past) call.timestamp true r) (answered r l)) in
+        le-leb (replicas c) (count_below (λ r. is_some (latest c me (Got me bytes ∷ past) call.timestamp true r)) (replicas c)) (omega arith)
+
+    falls : fallback c me (Got me bytes ∷ past) call ≡ asks false call
+    falls = go (went_ordered past call.timestamp) refl
+      where
+        go : (b : Bool) → went_ordered past call.timestamp ≡ b → cond (not b && is_answered c me (Got me bytes ∷ past) call.timestamp) (asks false call) nothing ≡ asks false call
+        go true e = absurd (never (went_asked call.timestamp past e))
+        go false e = rw all_answered refl
+
+pub asks_at_ticks : AsksAtTicks
+asks_at_ticks c me call later outputs past opened are (inl h) =
+    asks_only c me call (reaction c me (Tick me ∷ past)) outputs (ap (λ (o : Option OpenCall). option_map_or (asks false) o nothing) opened) (gave c me (reaction c me) later outputs (Tick me) past refl are h)
+asks_at_ticks c me call later outputs past opened are (inr h) =
+    asks_only c me call (weak_reaction c me (Tick me ∷ past)) outputs (ap (λ (o : Option OpenCall). option_map_or (asks false) o nothing) opened) (gave c me (weak_reaction c me) later outputs (Tick me) past refl are h)
+
+-- one request is another's bytes
+same_request : (me : ℕ) (x y : List ℕ) → Sent me x ∷ [] ≡ Sent me y ∷ [] → y ≡ x
+same_request me x y e = cc
+
+-- a frame that a client sends is a request that it was to give
+pub record Asked (c : Configuration) (me : ℕ) (react : List Entry → Reaction) (bytes : List ℕ) : Type 0 where
+  pub now : List Entry
+  pub read_only : Bool
+  pub call : OpenCall
+  pub given : react now ≡ asks read_only call
+  pub request : IsRequest c me read_only call bytes
+
+asked_here : (c : Configuration) (me : ℕ) (react : List Entry → Reaction) (bytes : List ℕ) (past : List Entry) → Reacts c me react (Sent me bytes ∷ []) past → Asked c me react bytes
+asked_here c me react bytes [] h = absurd cc
+asked_here c me react bytes (e ∷ past) h = go (is_output e) h.1
+  where
+    by : (r : Reaction) → react (e ∷ past) ≡ r → IsReaction c me r (Sent me bytes ∷ []) → Asked c me react bytes
+    by nothing is k = absurd cc
+    by (asks read_only call) is k = record { now = e ∷ past; read_only = read_only; call = call; given = is; request = subst (IsRequest c me read_only call) (same_request me bytes k.0 k.1) k.2 }
+    by (accepts t a) is k = let bad = k.1 in absurd cc
+
+    go : (b : Bool) → either b (Reacts c me react (e ∷ Sent me bytes ∷ []) past) (MayInput past e × IsReaction c me (react (e ∷ past)) (Sent me bytes ∷ []) × Reacts c me react [] past) → Asked c me react bytes
+    go true k = absurd (one_output c me react e (Sent me bytes) [] past k)
+    go false k = by (react (e ∷ past)) refl k.1
+
+pub asked_by : (c : Configuration) (me : ℕ) (react : List Entry → Reaction) (bytes : List ℕ) (past : List Entry) → IsClientBy c me react (Sent me bytes ∷ past) → Asked c me react bytes
+asked_by c me react bytes past (inl h) = asked_here c me react bytes past h.1
+asked_by c me react bytes past (inr h) = absurd h.1
+
+in_range : (n a s : ℕ) → a ≤ s → s < a + n → Has (λ r. r ≡ s) (range_with_len a n)
+in_range zero a s l h = absurd (omega arith)
+in_range (suc n) a s l h = go (a == s) refl (λ above. in_range n (a + 1) s above (omega arith))
+  where
+    go : (b : Bool) → (a == s) ≡ b → (a + 1 ≤ s → Has (λ r. r ≡ s) (range_with_len (a + 1) n)) → (a ≡ s) ⊎ Has (λ r. r ≡ s) (range_with_len (a + 1) n)
+    go true e below = inl (eqb-true a s e)
+    go false e below = let d = eqb-false a s e in inr (below (omega arith))
+
+for_all : (c : Configuration) (me s : ℕ) (react : List Entry → Reaction) (bytes : List ℕ) (frame : Frame) (entries : List MacData) → Asked c me react bytes → frame_of bytes ≡ Some frame → frame.proof ≡ macs entries → s < replicas c
+    → Has (λ r. r ≡ s) (map (λ (x : MacData). x.receiver) entries)
+for_all c me s react bytes frame entries asked is proof within =
+    subst (λ (rs : List ℕ). Has (λ x. x ≡ s) rs) (sym (ap receivers_of (sym proof) ∙ (asked.request.is_sealed frame is).1)) (in_range (replicas c) 0 s (omega arith) (omega arith))
+
+pub asks_all : AsksAll
+asks_all c me s bytes frame entries past is proof within (inl h) = for_all c me s (reaction c me) bytes frame entries (asked_by c me (reaction c me) bytes past h) is proof within
+asks_all c me s bytes frame entries past is proof within (inr h) = for_all c me s (weak_reaction c me) bytes frame entries (asked_by c me (weak_reaction c me) bytes past h) is proof within
+
+-- ---- the weak client
+
+same_answer : (vote other : Vote) → other.answer ≡ vote.answer → is_same_answer vote (Some other) ≡ true
+same_answer vote other e = (bytes_eq-Decides (outcome_spelling other.answer) (outcome_spelling vote.answer)).1 (ap outcome_spelling e)
+
+pub weakly_accepts_alike : WeaklyAcceptsAlike
+weakly_accepts_alike c me s number call answer bytes later from outputs past opened hears enough same are h =
+    accepts_only c me call.timestamp answer (weak_reaction c me (Got me bytes ∷ past)) outputs (ap (λ (o : Option OpenCall). option_map_or (weakly_on_got c me (Got me bytes ∷ past)) o nothing) opened ∙ votes ∙ completes) (gave c me (weak_reaction c me) later outputs (Got me bytes) past refl are h)
+  where
+    votes : weakly_on_got c me (Got me bytes ∷ past) call
+        ≡ cond (is_weakly_complete c me (Got me bytes ∷ past) call.timestamp (vote_in modes.Ordered number answer)) (accepts call.timestamp answer) nothing
+    votes = ap (λ (o : Option Vote). option_map_or (λ (vote : Vote). cond (is_weakly_complete c me (Got me bytes ∷ past) call.timestamp vote) (accepts call.timestamp vote.answer) nothing) o nothing) (brings c me s call.timestamp number modes.Ordered answer bytes past hears)
+
+    each : (r : ℕ) → from r ≡ true → is_same_answer (vote_in modes.Ordered number answer) (latest c me (Got me bytes ∷ past) call.timestamp false r) ≡ true
+    each r k = let x = same r k in ap (is_same_answer (vote_in modes.Ordered number answer)) x.1 ∙ same_answer (vote_in modes.Ordered number answer) (vote_in modes.Ordered x.0 answer) refl
+
+    full : c.faults + 1 ≤ count_below (λ r. is_same_answer (vote_in modes.Ordered number answer) (latest c me (Got me bytes ∷ past) call.timestamp false r)) (replicas c)
+    full = let more = count_mono from (λ r. is_same_answer (vote_in modes.Ordered number answer) (latest c me (Got me bytes ∷ past) call.timestamp false r)) (replicas c) (λ r l h. each r h) in omega arith
+
+    completes : cond (is_weakly_complete c me (Got me bytes ∷ past) call.timestamp (vote_in modes.Ordered number answer)) (accepts call.timestamp answer) nothing ≡ accepts call.timestamp answer
+    completes = rw (le-leb (c.faults + 1) (count_below (λ r. is_same_answer (vote_in modes.Ordered number answer) (latest c me (Got me bytes ∷ past) call.timestamp false r)) (replicas c)) full) refl
+
+weakly_own : (c : Configuration) (me : ℕ) (xs : List Entry) → SafeWeakClient c me xs → Always (λ past e. party_of e ≡ me) xs
+weakly_own c me [] r = tt
+weakly_own c me (e ∷ xs) r = (r.0.0, weakly_own c me xs r.1)
+
+pub weakly_accepts_at_weak_quorum : WeaklyAcceptsAtWeakQuorum
+weakly_accepts_at_weak_quorum c me k timestamp answer past right =
+    let m = right.0.1 in
+    let q = and_parts (not m.1.read_only) (nat_le (c.faults + 1) (count_below (λ s. is_same_answer m.1 (latest c me past m.0.timestamp false s)) (replicas c))) m.6 in
+    let full = leb-true (c.faults + 1) (count_below (λ s. is_same_answer m.1 (latest c me past m.0.timestamp false s)) (replicas c)) q.1 in (
+      λ s. is_same_answer m.1 (latest c me past timestamp false s),
+      subst (λ (t : ℕ). c.faults + 1 ≤ count_below (λ s. is_same_answer m.1 (latest c me past t false s)) (replicas c)) m.3 full,
+      λ s h. answers s m.1 m.4 (latest c me past timestamp false s) refl h,
+    )
+  where
+    answers : (s : ℕ) (vote : Vote) → vote.answer ≡ answer → (o : Option Vote) → latest c me past timestamp false s ≡ o → is_same_answer vote o ≡ true
+        → (number : ℕ) × (other : Outcome) × (outcome_spelling other ≡ outcome_spelling answer) × Once (Hears c me (record { sender = s; message = Reply me timestamp modes.Ordered number other })) past
+    answers s vote is None e h = absurd cc
+    answers s vote is (Some v) e h =
+        let spelled = (bytes_eq-Decides (outcome_spelling v.answer) (outcome_spelling vote.answer)).0 h in
+        (v.number, v.answer, spelled ∙ ap outcome_spelling is, latest_ordered c me timestamp s v past (weakly_own c me past right.1) e)
+
+-- all that it asks is ordered
+asks_false : (c : Configuration) (me : ℕ) (now : List Entry) (read_only : Bool) (call : OpenCall) → weak_reaction c me now ≡ asks read_only call → read_only ≡ false
+asks_false c me [] read_only call h = absurd cc
+asks_false c me (Invoke client t op ∷ past) read_only call h = kind h
+  where
+    kind : asks false (let x : OpenCall = record { timestamp = t; op = op } in x) ≡ asks read_only call → read_only ≡ false
+    kind e = cc
+asks_false c me (Got p bytes ∷ past) read_only call h = absurd (go (open_call past) h)
+  where
+    go : (o : Option OpenCall) → option_map_or (weakly_on_got c me (Got p bytes ∷ past)) o nothing ≡ asks read_only call → ⊥
+    go None h = cc
+    go (Some x) h = votes (newest_vote c me (Got p bytes ∷ past) x.timestamp) h
+      where
+        votes : (o : Option Vote) → option_map_or (λ vote. cond (is_weakly_complete c me (Got p bytes ∷ past) x.timestamp vote) (accepts x.timestamp vote.answer) nothing) o nothing ≡ asks read_only call → ⊥
+        votes None h = cc
+        votes (Some vote) h = test (is_weakly_complete c me (Got p bytes ∷ past) x.timestamp vote) h
+          where
+            test : (b : Bool) → cond b (accepts x.timestamp vote.answer) nothing ≡ asks read_only call → ⊥
+            test true h = cc
+            test false h = cc
+asks_false c me (Tick p ∷ past) read_only call h = go (open_call past) h
+  where
+    go : (o : Option OpenCall) → option_map_or (asks false) o nothing ≡ asks read_only call → read_only ≡ false
+    go None h = absurd cc
+    go (Some x) h = kind h
+      where
+        kind : asks false x ≡ asks read_only call → read_only ≡ false
+        kind e = cc
+asks_false c me (Executed x y z ∷ past) read_only call h = absurd cc
+asks_false c me (Installed x y z ∷ past) read_only call h = absurd cc
+asks_false c me (Sent x y ∷ past) read_only call h = absurd cc
+asks_false c me (Accepted x y z ∷ past) read_only call h = absurd cc
+
+pub weakly_asks_ordered : WeaklyAsksOrdered
+weakly_asks_ordered c me timestamp mode op bytes past says h =
+    let a = asked_by c me (weak_reaction c me) bytes past h in
+    let kind = asks_false c me a.now a.read_only a.call a.given in
+    let same = some_injective (record { sender = me; message = Request timestamp mode op }) (record { sender = me; message = Request a.call.timestamp (mode_of a.read_only) a.call.op }) (sym says ∙ a.request.says) in
+    modes_same same ∙ ap mode_of kind
+  where
+    modes_same : {t : ℕ} {m : Mode} {o : Operation} → ◌≡◌ {A = Body} (record { sender = me; message = Request timestamp mode op }) (record { sender = me; message = Request t m o }) → mode ≡ m
+    modes_same e = let messages : Request timestamp mode op ≡ Request _ _ _ = ap (λ (b : Body). b.message) e in cc
+
+-- ---- runs
+
+pub always_behind : (P : List Entry → Entry → Type 0) (later xs : List Entry) → Always P (later ++ xs) → Always P xs
+always_behind P [] xs a = a
+always_behind P (e ∷ later) xs a = always_behind P later xs a.1
+
+pub outputs_follow : OutputsFollow
+outputs_follow c e other past later output differs run =
+    let a = always_behind Follows later (e ∷ other ∷ past) run.events in
+    differs (sym (a.0 output))
+
+-- ---- replicas
+
+-- what the newest frame says, a right replica may say
+says_may : (c : Configuration) (me : ℕ) (bytes : List ℕ) (body : Body) (past : List Entry) (right : SafeReplica c me (Sent me bytes ∷ past)) → said bytes ≡ Some body
+    → MaySay c me past right.1.0 (Sent me bytes) bytes body.message
+says_may c me bytes body past right h =
+    let m : MaySend c me past right.1.0 (Sent me bytes) bytes = right.1.2.may in
+    subst (λ (x : Body). MaySay c me past right.1.0 (Sent me bytes) bytes x.message) (some_injective m.body body (sym m.says ∙ h)) m.say
+
+pub logs_numbers : LogsNumbers
+logs_numbers c me v i batch past right h = (logged_within c me v i batch past (right_always c me past right.0 right.1) h).1
+
+pub no_begin_while_inactive : NoBeginWhileInactive
+no_begin_while_inactive c me bytes new past says before right = go (says_may c me bytes (record { sender = me; message = NewView new }) past right says).1
+  where
+    -- where it was sent before, its view was begun
+    begun : (x : List Entry) (e : Entry) → RightAt c me x e → SendsBytes bytes x e → new.view ≤ view c (e ∷ x)
+    begun x (Sent p sent) r t = pick say.1
+      where
+        spoken : said sent ≡ Some (record { sender = me; message = NewView new })
+        spoken = subst (λ (ys : List ℕ). said ys ≡ Some (record { sender = me; message = NewView new })) (sym t) says
+
+        say : MayNewView c me x (Sent p sent) sent new
+        say = subst (λ (b : Body). MaySay c me x r.point (Sent p sent) sent b.message) (some_injective r.may.body (record { sender = me; message = NewView new }) (sym r.may.says ∙ spoken)) r.may.say
+
+        pick : (taken c x (Sent p sent) ≡ Some new) ⊎ ((is_active_in c x new.view ≡ true) × Once (SendsBytes sent) x) → new.view ≤ view c (Sent p sent ∷ x)
+        pick (inl k) = let is = (takes c me x (Sent p sent) new k).view_is in omega arith
+        pick (inr k) =
+            let is = eqb-true (view c x) new.view (and_parts (view c x == new.view) (nat_le (target x) new.view) k.0).0 in
+            let grows = view_grows c (Sent p sent) x in
+            omega arith
+    begun x (Invoke a b d) r t = absurd t
+    begun x (Got a b) r t = absurd t
+    begun x (Tick a) r t = absurd t
+    begun x (Executed a b d) r t = absurd t
+    begun x (Installed a b d) r t = absurd t
+    begun x (Accepted a b d) r t = absurd t
+
+    there : new.view ≤ view c past
+    there =
+        once_stays_from (λ x. new.view ≤ view c x) (λ e x k. let grows = view_grows c e x in omega arith) past
+        (once_weaker (λ x e. RightAt c me x e × SendsBytes bytes x e × Always (RightAt c me) x) (λ x e. new.view ≤ view c (e ∷ x)) (λ x e t. begun x e t.0 t.1) past
+        (once_always (RightAt c me) (SendsBytes bytes) past (right_always c me past right.1.0 right.1.1) before))
+
+    go : (taken c past (Sent me bytes) ≡ Some new) ⊎ ((is_active_in c past new.view ≡ true) × Once (SendsBytes bytes) past) → is_active_in c past new.view ≡ true
+    go (inl k) = let above = (takes c me past (Sent me bytes) new k).above in let b = there in absurd (omega arith)
+    go (inr k) = k.0
+
+pub keeps_proposed : KeepsProposed
+keeps_proposed c me v i batch bytes vc past says new right proposed marks =
+    go (says_may c me bytes (record { sender = me; message = ViewChange vc }) past right says)
+  where
+    go : MayViewChange c me past right.1.0 bytes vc → Has (λ (claim : Claim). (claim.number ≡ i) × (claim.digest ≡ sha256 batch) × (v ≤ claim.view)) vc.pre_prepared
+    go (inl change) = change.proposed.all v i batch marks proposed
+    go (inr again) = absurd (new again.2)
+
+pub no_request_by_replica : NoRequestByReplica
+no_request_by_replica c me timestamp mode op bytes past says right = says_may c me bytes (record { sender = me; message = Request timestamp mode op }) past right says
+
+pub installs_its_root : InstallsItsRoot
+installs_its_root c me k root past right = (right.1.2.moves.number, right.1.2.moves.root_is)

@@ -1,0 +1,163 @@
+-- An event of a replica that fetches a state: what it gets moves no point, and it owes at most one fetch.
+use Rattle.std.proofs.Common.{◌≡◌, ℕ, ◌+◌, ◌<◌, ◌⊎◌, inl, inr, Bool, true, false, List, [], ◌∷◌, refl, sym, ap, ◌∙◌, subst, arith, Option, Some, None}
+use Rattle.std.specs.Prelude.{nat_le, option_and_then, ⊤}
+use Rattle.std.specs.Option.{option_map_or}
+use Rattle.quorum.specs.Quorum.{count_below}
+use Rattle.protocol.specs.System.Configuration.{Configuration}
+use Rattle.wire.specs.declared.terms.Mode.TheVariants as modes
+use Rattle.wire.specs.declared.terms.Level.{Level}
+use Rattle.wire.specs.declared.terms.Level.TheVariants as levels
+use Rattle.wire.specs.Messages.{BodyData as Body, FrameData as Frame, MessageData as Message, request as Request, pre_prepare as PrePrepare, checkpoint as Checkpoint, fetch as Fetch, meta as Meta, page as Page}
+use Rattle.protocol.specs.System.Frames.{said, heard, IsSealed, receivers_of}
+use Rattle.protocol.specs.System.Trace.{Entry, Has}
+use Rattle.protocol.specs.System.Trace.Entry.{Got, Sent}
+use Rattle.protocol.specs.Replica.Selection.{is_quorum}
+use Rattle.protocol.specs.Replica.Certificates.{logged, count_checkpoints}
+use Rattle.protocol.specs.Replica.State.{Call, opening, call_in}
+use Rattle.protocol.specs.Replica.RightReplica.{Point, first_point, with_waiting, waiting_after, others, Executes, IsRootWanted, IsAddressed, IsStep, MaySend}
+use Rattle.protocol.specs.Replica.Owed.{Gives, AtOutputs, NumbersOnce, fetching, Counts, IsDropped, Owes, Proceeds}
+use Rattle.protocol.specs.Evidence.Examples.{four}
+use Rattle.protocol.specs.Evidence.FirstOperation.{IsFrom}
+use Rattle.protocol.proofs.Words.Options.{some_injective}
+use Rattle.protocol.proofs.Evidence.TransferringStages.{Stage, agreed}
+
+-- checkpoints and parts, to which no answer is owed
+abbrev pub IsGiven : Message → Type 0
+IsGiven message = elim message [ Checkpoint k root ↦ ⊤ | Meta k level index digests ↦ ⊤ | Page k index text ↦ ⊤ | _ ↦ ⊥ ]
+
+is_no_call : (c : Configuration) (sender : ℕ) (message : Message) → IsGiven message → call_in c (record { sender = sender; message = message }) ≡ None
+is_no_call c sender (Checkpoint k root) h = refl
+is_no_call c sender (Meta k level index digests) h = refl
+is_no_call c sender (Page k index text) h = refl
+is_no_call c sender _ h = absurd h
+
+module _ (clients : ℕ) (seed root : List ℕ) where
+  abbrev c : Configuration
+  c = four clients seed
+
+  abbrev At : List Entry → (ℕ → Bool) → Option (ℕ × (Level × ℕ)) → ℕ → Type 0
+  At past p asked k = Stage clients seed root past p asked k
+
+  abbrev Proceeding : List Entry → Type 0
+  Proceeding past = Proceeds c 0 past [] first_point first_point
+
+  none_logged : (past : List Entry) (p : ℕ → Bool) (asked : Option (ℕ × (Level × ℕ))) (k : ℕ) → At past p asked k → (v i : ℕ) (batch : List ℕ) → logged c 0 past v i ≡ Some batch → ⊥
+  none_logged past p asked k st v i batch h = absurd (let bad : None ≡ Some batch = sym (st.logged_is v i) ∙ h in cc)
+
+  -- what is got, and what is to be shown of its event
+  record Due (before : List Entry) (bytes : List ℕ) (outputs now : List Entry) : Type 0 where
+    pub body : Body
+    pub hears : heard c 0 bytes ≡ Some body
+    pub given : IsGiven body.message
+    pub numbers_once : AtOutputs (NumbersOnce c 0) (Got 0 bytes ∷ before) outputs
+    pub none_executed : (n : ℕ) → Has (λ e. Executes n [] e) outputs → ⊥
+    pub fetches : (n : ℕ) (digest : List ℕ) → is_quorum c (count_checkpoints c now (record { number = n; digest = digest })) ≡ true → fetching before < n → Gives 0 (Fetch n levels.Root 0) outputs
+    pub dropped : IsDropped c 0 before first_point bytes → outputs ≡ []
+
+  owes : (before : List Entry) (bytes : List ℕ) (outputs now : List Entry) (p : ℕ → Bool) (asked : Option (ℕ × (Level × ℕ))) (k : ℕ)
+      → At now p asked k → Due before bytes outputs now → Owes c 0 before (Got 0 bytes) outputs now first_point first_point
+  owes before bytes outputs now p asked k st due = record {
+    numbers = λ v i call active is_primary waits free. absurd waits;
+    numbers_once = due.numbers_once;
+    prepares = λ v i batch none some active backup. absurd (none_logged now p asked k st v i batch some);
+    commits = λ v i batch none some active. absurd (none_logged now p asked k st v i batch some.logged);
+    executes = λ v batch h. none_logged now p asked k st v 1 batch h.prepared.logged;
+    replies = λ ran h. absurd h;
+    checkpoints = λ n h multiple. absurd (due.none_executed n h);
+    again = λ n t op kept asks there same. absurd (given_is (record { sender = 256 + n; message = Request t modes.Ordered op }) asks);
+    reads = λ s t op asks is. absurd (given_is (record { sender = s; message = Request t modes.ReadOnly op }) asks);
+    fetched_digests = λ s n index level children asks state kept. absurd (given_is (record { sender = s; message = Fetch n level index }) asks);
+    fetched_page = λ s n index asks state kept. absurd (given_is (record { sender = s; message = Fetch n levels.Page index }) asks);
+    fetches = λ n digest quorum above later. due.fetches n digest quorum later;
+    dropped = λ other is drops. due.dropped (subst (λ (bs : List ℕ). IsDropped c 0 before first_point bs) (sym (same_bytes other is)) drops);
+  }
+    where
+      given_is : (other : Body) → heard c 0 bytes ≡ Some other → IsGiven other.message
+      given_is other h = subst (λ (x : Body). IsGiven x.message) (some_injective due.body other (sym due.hears ∙ h)) due.given
+
+      same_bytes : (other : List ℕ) → Got 0 bytes ≡ Got 0 other → bytes ≡ other
+      same_bytes other is = cc
+
+  -- what is no request moves no point
+  pub gets : (before : List Entry) (bytes : List ℕ) (body : Body) → heard c 0 bytes ≡ Some body → IsGiven body.message → IsStep c 0 before first_point (Got 0 bytes) first_point
+  gets before bytes body h given = record { own = refl; may = tt; moves = quiet }
+    where
+      quiet : first_point ≡ record first_point { ran = []; waiting = waiting_after c 0 first_point bytes }
+      quiet =
+          ap (λ (calls : List Call). let p : Point = record first_point { waiting = calls } in p)
+          (sym (ap (λ (o : Option Body). option_map_or (with_waiting opening []) (option_and_then (call_in c) o) []) h
+          ∙ ap (λ (o : Option Call). option_map_or (with_waiting opening []) o []) (is_no_call c body.sender body.message given)))
+
+  -- a fetch may be sent for a state that is wanted
+  fetch_sends : (past : List Entry) (bytes : List ℕ) (index : ℕ) (level : Level) → IsRootWanted c past 16 root → IsFrom c 0 (Fetch 16 level index) (others c 0) bytes → IsStep c 0 past first_point (Sent 0 bytes) first_point
+  fetch_sends past bytes index level wanted f = record { own = refl; may = may; moves = refl }
+    where
+      addressed : IsAddressed c 0 past (Fetch 16 level index) f.frame.proof
+      addressed = subst (IsAddressed c 0 past (Fetch 16 level index)) (sym f.has_macs) (sym (ap receivers_of f.has_macs) ∙ f.is_for)
+
+      may : MaySend c 0 past first_point (Sent 0 bytes) bytes
+      may = record {
+        body = record { sender = 0; message = Fetch 16 level index };
+        says = f.says;
+        own = refl;
+        seen = tt;
+        say = (root, (omega arith, wanted));
+        is_sealed = λ frame is.
+            let same : f.frame ≡ frame = some_injective f.frame frame (sym f.spells ∙ is) in
+            subst (λ (y : Frame). IsSealed c y × IsAddressed c 0 past (Fetch 16 level index) y.proof) same (f.is_sealed, addressed);
+      }
+
+  -- a checkpoint of no quorum, after which nothing is sent
+  pub goes_quiet : (before : List Entry) (bytes : List ℕ) (body : Body) (p : ℕ → Bool) (asked : Option (ℕ × (Level × ℕ))) (k : ℕ) → heard c 0 bytes ≡ Some body → IsGiven body.message
+      → At (Got 0 bytes ∷ before) p asked k → nat_le 3 (count_below p 4) ≡ false → Proceeding before → Proceeding (Got 0 bytes ∷ before)
+  goes_quiet before bytes body p asked k h given st few was = (first_point, gets before bytes body h given, (owes before bytes [] (Got 0 bytes ∷ before) p asked k st due, was))
+    where
+      due : Due before bytes [] (Got 0 bytes ∷ before)
+      due = record {
+        body = body;
+        hears = h;
+        given = given;
+        numbers_once = tt;
+        none_executed = λ n has. has;
+        fetches = λ n digest quorum later.
+            let enough = (agreed clients seed root (Got 0 bytes ∷ before) p asked k st (record { number = n; digest = digest }) quorum).1 in
+            absurd (let bad : false ≡ true = sym few ∙ enough in cc);
+        dropped = λ drops. refl;
+      }
+
+  -- what counts is answered by one fetch: that of the root where a transfer of 16 is not open yet
+  pub goes_on : (before : List Entry) (bytes sent : List ℕ) (body : Body) (index : ℕ) (level : Level) (p : ℕ → Bool) → heard c 0 bytes ≡ Some body → IsGiven body.message
+      → IsFrom c 0 (Fetch 16 level index) (others c 0) sent → At (Sent 0 sent ∷ Got 0 bytes ∷ before) p (Some (16, (level, index))) 16
+      → IsRootWanted c (Got 0 bytes ∷ before) 16 root → (fetching before ≡ 16) ⊎ ((level ≡ levels.Root) × (index ≡ 0)) → Counts c 0 before first_point bytes body.sender body.message
+      → Proceeding before → Proceeding (Sent 0 sent ∷ Got 0 bytes ∷ before)
+  goes_on before bytes sent body index level p h given f st wanted ways counts was =
+      (first_point, fetch_sends (Got 0 bytes ∷ before) sent index level wanted f, (first_point, gets before bytes body h given, (owes before bytes (Sent 0 sent ∷ []) (Sent 0 sent ∷ Got 0 bytes ∷ before) p (Some (16, (level, index))) 16 st due, was)))
+    where
+      executed : (n : ℕ) → Has (λ e. Executes n [] e) (Sent 0 sent ∷ []) → ⊥
+      executed n (inl has) = has
+      executed n (inr has) = has
+
+      no_proposal : (v i : ℕ) (batch : List ℕ) → said sent ≡ Some (record { sender = 0; message = PrePrepare v i batch }) → ⊥
+      no_proposal v i batch says =
+          let same = some_injective (record { sender = 0; message = Fetch 16 level index }) (record { sender = 0; message = PrePrepare v i batch }) (sym f.says ∙ says) in
+          absurd (let bad : Fetch 16 level index ≡ PrePrepare v i batch = ap (λ (y : Body). y.message) same in cc)
+
+      asks : (n : ℕ) → 16 ≡ n → fetching before < n → (fetching before ≡ 16) ⊎ ((level ≡ levels.Root) × (index ≡ 0)) → Gives 0 (Fetch n levels.Root 0) (Sent 0 sent ∷ [])
+      asks n is later (inl same) = absurd (omega (arith, is, later, same))
+      asks n is later (inr first) =
+          inl (f.says ∙ ap (λ (x : Level). let body : Body = record { sender = 0; message = Fetch 16 x index } in Some body) first.0
+          ∙ ap (λ (x : ℕ). let body : Body = record { sender = 0; message = Fetch 16 levels.Root x } in Some body) first.1
+          ∙ ap (λ (x : ℕ). let body : Body = record { sender = 0; message = Fetch x levels.Root 0 } in Some body) is)
+
+      due : Due before bytes (Sent 0 sent ∷ []) (Sent 0 sent ∷ Got 0 bytes ∷ before)
+      due = record {
+        body = body;
+        hears = h;
+        given = given;
+        numbers_once = (λ v i batch says none. absurd (no_proposal v i batch says), tt);
+        none_executed = executed;
+        fetches = λ n digest quorum later.
+            let is = (agreed clients seed root (Sent 0 sent ∷ Got 0 bytes ∷ before) p (Some (16, (level, index))) 16 st (record { number = n; digest = digest }) quorum).0 in
+            asks n is later ways;
+        dropped = λ drops. absurd (drops body h counts);
+      }

@@ -1,0 +1,239 @@
+-- A number that an ordered call is accepted with was reached by all but f correct replicas.
+use Rattle.std.proofs.Common.{◌≡◌, ℕ, suc, ◌+◌, ◌*◌, ◌≤◌, ◌⊎◌, inl, inr, Bool, true, false, cond, List, [], ◌∷◌, ◌++◌, fold, refl, sym, ap, ◌∙◌, subst, arith, ◌&&◌, Option, Some, None, eqb-true, bytes_eq}
+use Rattle.std.specs.Prelude.{option_and_then, ◌==◌}
+use Rattle.std.specs.Option.{option_map_or}
+use Rattle.std.proofs.lemmas.Bool.{and_parts}
+use Rattle.protocol.specs.Replica.RightReplica
+use Rattle.quorum.specs.Quorum.{count_below}
+use Rattle.protocol.specs.System.Configuration.{Configuration, IsConfiguration, is_correct_replica, is_correct_client}
+use Rattle.wire.specs.declared.terms.Mode.TheVariants as modes
+use Rattle.wire.specs.Messages.{BodyData as Body, MessageData as Message, reply as Reply}
+use Rattle.wire.specs.Words.{requests_of}
+use Rattle.protocol.specs.System.Frames.{reads_only, heard}
+use Rattle.protocol.specs.System.Trace.{Entry, party_of, history_of, Once, Always, Has, Hears}
+use Rattle.protocol.specs.System.Trace.Entry.{Invoke, Got, Tick, Executed, Installed, Sent, Accepted}
+use Rattle.protocol.specs.Replica.State.{State, Call, Ran, opening, runs, run_call, call_of, run_frame, execute, ran_by, ran_in, kept_by, kept_of}
+use Rattle.reply_cache.specs.Replies.{Kept}
+use Rattle.protocol.specs.Replica.RightReplica.{Leaves, May, Moves, MaySay, MayReply, snapshots_after}
+use Rattle.protocol.specs.Client.RightClient.{Vote, vote_of, later_vote, latest, is_alike}
+use Rattle.protocol.specs.Space.Linear.{reached, is_level}
+use Rattle.protocol.proofs.Words.Modes.{mode_is}
+use Rattle.protocol.proofs.Words.Temporal.{once_weaker, once_always, once_stays}
+use Rattle.protocol.proofs.Words.Options.{and_then_some, give_if_some, some_injective}
+use Rattle.protocol.proofs.Words.Linking.{Speaks, heard_was_said}
+use Rattle.protocol.proofs.Agreement.Voting.{RightAt, once_right, correct_replica}
+use Rattle.protocol.proofs.Words.Lists.{has_some}
+use Rattle.protocol.proofs.Points.Levels.{reached_grows, reached_history, number_reached, level_after}
+use Rattle.protocol.proofs.Points.Reading.{Runs, correct_client, own_entries}
+use Rattle.protocol.specs.Replica.State.{after_batches, ran_call}
+use Rattle.protocol.specs.Replica.RightReplica.{executed_point, waiting_after, reply_of}
+use Rattle.protocol.specs.System.Texts.{NoCollision}
+use Rattle.protocol.proofs.Words.Leaving.{last_put, none_kept}
+use Rattle.protocol.specs.Laws.Histories.{IsStateOf}
+use Rattle.protocol.proofs.Agreement.States.{GoodHere, states_agree}
+use Rattle.tuple_codec.specs.Spelling.{outcome_spelling}
+use Rattle.tuple_codec.specs.Operations.{Outcome}
+
+-- each kept number is at most k
+abbrev pub AreAtMost : ℕ → State → Type 0
+AreAtMost k st = (client : ℕ) (kept : Kept) → kept_of st client ≡ Some kept → kept.number ≤ k
+
+run_at_most : (k : ℕ) (st : State) (call : Call) → AreAtMost k st → AreAtMost k (run_call st k call)
+run_at_most k st call most = go (runs st call)
+  where
+    go : (b : Bool) → (client : ℕ) (kept : Kept) → kept_of (cond b (ran_call st k call) st) client ≡ Some kept → kept.number ≤ k
+    go false client kept h = most client kept h
+    go true client kept h =
+        pick (last_put st.replies call.client client (kept_by st k call))
+      where
+        pick : ((kept_of (ran_call st k call) client ≡ Some (kept_by st k call)) × (call.client ≡ client)) ⊎ (kept_of (ran_call st k call) client ≡ kept_of st client) → kept.number ≤ k
+        pick (inl e) = let same : kept_by st k call ≡ kept = some_injective (kept_by st k call) kept (sym e.0 ∙ h) in let n : k ≡ kept.number = ap (λ (x : Kept). x.number) same in omega arith
+        pick (inr e) = most client kept (sym e ∙ h)
+
+frames_at_most : (c : Configuration) (k : ℕ) (st : State) (frames : List (List ℕ)) → AreAtMost k st → AreAtMost k (fold (run_frame c k) st frames)
+frames_at_most c k st [] most = most
+frames_at_most c k st (frame ∷ frames) most = frames_at_most c k (run_frame c k st frame) frames (go (call_of c frame))
+  where
+    go : (o : Option Call) → AreAtMost k (option_map_or (run_call st k) o st)
+    go None = most
+    go (Some call) = run_at_most k st call most
+
+ran_number : (c : Configuration) (k : ℕ) (st : State) (frames : List (List ℕ)) (ran : Ran) → Has (λ x. x ≡ ran) (ran_in c k st frames) → ran.kept.number ≡ k
+ran_number c k st [] ran h = absurd h
+ran_number c k st (frame ∷ frames) ran h = go (call_of c frame) h (ran_number c k (run_frame c k st frame) frames ran)
+  where
+    test : (call : Call) (b : Bool) (rest : List Ran) → Has (λ x. x ≡ ran) (cond b (record { call = call; kept = kept_by st k call } ∷ []) [] ++ rest) → (Has (λ x. x ≡ ran) rest → ran.kept.number ≡ k) → ran.kept.number ≡ k
+    test call true rest (inl e) below = sym (ap (λ (x : Ran). x.kept.number) e)
+    test call true rest (inr e) below = below e
+    test call false rest e below = below e
+
+    go : (o : Option Call) → Has (λ x. x ≡ ran) (option_map_or (ran_by st k) o [] ++ ran_in c k (run_frame c k st frame) frames)
+        → (Has (λ x. x ≡ ran) (ran_in c k (run_frame c k st frame) frames) → ran.kept.number ≡ k) → ran.kept.number ≡ k
+    go None h below = below h
+    go (Some call) h below = test call (runs st call) (ran_in c k (run_frame c k st frame) frames) h below
+
+executed_bounded : (c : Configuration) (st : State) (batch : List ℕ) → AreAtMost st.number st → AreAtMost (suc st.number) (execute c st batch)
+unfolding execute
+executed_bounded c st batch most = frames_at_most c (suc st.number) st (requests_of batch) (λ client kept h. let m = most client kept h in omega arith)
+
+executed_number : (c : Configuration) (st : State) (batch : List ℕ) → (execute c st batch).number ≡ suc st.number
+unfolding execute
+executed_number c st batch = refl
+
+has_either : (x : Ran) (xs ys : List Ran) → Has (λ y. y ≡ x) (xs ++ ys) → Has (λ y. y ≡ x) xs ⊎ Has (λ y. y ≡ x) ys
+has_either x [] ys h = inr h
+has_either x (z ∷ xs) ys (inl h) = inl (inl h)
+has_either x (z ∷ xs) ys (inr h) = go (has_either x xs ys h)
+  where
+    go : Has (λ y. y ≡ x) xs ⊎ Has (λ y. y ≡ x) ys → Has (λ y. y ≡ x) (z ∷ xs) ⊎ Has (λ y. y ≡ x) ys
+    go (inl k) = inl (inr k)
+    go (inr k) = inr k
+
+none_at_most : AreAtMost 0 opening
+none_at_most client kept h = absurd (let none : None ≡ Some kept = sym (none_kept client) ∙ h in cc)
+
+after_at_most : (c : Configuration) (st : State) (batches : List (List ℕ)) → AreAtMost st.number st → AreAtMost (after_batches c st batches).number (after_batches c st batches)
+after_at_most c st [] most = most
+after_at_most c st (batch ∷ batches) most =
+    after_at_most c (execute c st batch) batches (subst (λ (n : ℕ). AreAtMost n (execute c st batch)) (sym (executed_number c st batch)) (executed_bounded c st batch most))
+
+-- in a state of executed batches each kept number is at most the state's
+kept_at_most : (c : Configuration) (trace : List Entry) (st : State) → IsStateOf c trace st → AreAtMost st.number st
+kept_at_most c trace st s = subst (λ (x : State). AreAtMost x.number x) (sym s.is) (after_at_most c opening s.batches none_at_most)
+
+-- what ran in the event has a number that the state has reached
+ran_at_most : (c : Configuration) (r : ℕ) (xs : List Entry) (point : RightReplica.Point) → Leaves c r xs point → (x : Ran) → Has (λ y. y ≡ x) point.ran → x.kept.number ≤ point.state.number
+ran_at_most c r [] point h x k = absurd (subst (λ (p : RightReplica.Point). Has (λ y. y ≡ x) p.ran) h k)
+ran_at_most c r (e ∷ past) point h x k = go e h.2.may h.2.moves (ran_at_most c r past h.0 h.1 x)
+  where
+    at : (new : RightReplica.Point) → point ≡ new → Has (λ y. y ≡ x) new.ran
+    at new is = subst (λ (p : RightReplica.Point). Has (λ y. y ≡ x) p.ran) is k
+
+    go : (e : Entry) → May c r past h.0 e → Moves c r past h.0 e point → (Has (λ y. y ≡ x) h.0.ran → x.kept.number ≤ h.0.state.number) → x.kept.number ≤ point.state.number
+    go (Got p bytes) may move below = absurd (at (record h.0 { ran = []; waiting = waiting_after c r h.0 bytes }) move)
+    go (Tick p) may move below = absurd (at (record h.0 { ran = [] }) move)
+    go (Sent p bytes) may move below = subst (λ (q : RightReplica.Point). x.kept.number ≤ q.state.number) (sym move) (below (at h.0 move))
+    go (Invoke y z w) may move below = absurd may
+    go (Accepted y z w) may move below = absurd may
+    go (Executed p j batch) may move below = pick (has_either x h.0.ran (ran_in c j h.0.state (requests_of batch)) (at (executed_point c h.0 j batch) move))
+      where
+        number : point.state.number ≡ suc h.0.state.number
+        number = ap (λ (q : RightReplica.Point). q.state.number) move ∙ executed_number c h.0.state batch
+
+        pick : Has (λ y. y ≡ x) h.0.ran ⊎ Has (λ y. y ≡ x) (ran_in c j h.0.state (requests_of batch)) → x.kept.number ≤ point.state.number
+        pick (inl a) = let m = below a in let n = number in omega arith
+        pick (inr a) = let m = ran_number c j h.0.state (requests_of batch) x a in let j_is = may.next in let n = number in omega arith
+    go (Installed p j root) may move below =
+        let m = below (subst (λ (xs : List Ran). Has (λ y. y ≡ x) xs) move.ran k) in let n = move.number in let above = may.0 in omega arith
+
+-- ---- an ordered reply
+
+abbrev pub ordering : ℕ → ℕ → ℕ → ℕ → Outcome → Body
+ordering s p t number answer = record { sender = s; message = Reply p t modes.Ordered number answer }
+
+-- what a reply of something kept says
+pub record RepliesTo (client timestamp number : ℕ) (answer : Outcome) (call_client : ℕ) (kept : Kept) : Type 0 where
+  pub client_is : client ≡ 256 + call_client
+  pub time : kept.timestamp ≡ timestamp
+  pub number_is : kept.number ≡ number
+  pub answer_is : kept.outcome ≡ answer
+
+pub replies_to : (client timestamp number : ℕ) (answer : Outcome) (k : ℕ) (kept : Kept) → reply_of k kept ≡ Reply client timestamp modes.Ordered number answer → RepliesTo client timestamp number answer k kept
+replies_to client timestamp number answer k kept h =
+    let a : 256 + k ≡ client = cc in
+    let b : kept.timestamp ≡ timestamp = cc in
+    let d : kept.number ≡ number = cc in
+    let e : kept.outcome ≡ answer = cc in
+    record { client_is = sym a; time = b; number_is = d; answer_is = e }
+
+says_ordered : (c : Configuration) (trace : List Entry) (s p t number : ℕ) (answer : Outcome) (past : List Entry) (e : Entry) → RightAt c s past e → GoodHere c trace s past
+    → Speaks (ordering s p t number answer) past e → number ≤ reached past s
+says_ordered c trace s p t number answer past (Sent q bytes) r good h =
+    let is = some_injective r.may.body (ordering s p t number answer) (sym r.may.says ∙ h) in
+    go (subst (λ (x : Body). MaySay c s past r.point (Sent q bytes) bytes x.message) is r.may.say)
+  where
+    at : r.point.state.number ≡ reached past s
+    at = number_reached c s past r.point r.leaves
+
+    go : MayReply c s past r.point p t modes.Ordered number answer → number ≤ reached past s
+    go (inl h) =
+        let x = has_some (λ (ran : Ran). reply_of ran.call.client ran.kept ≡ Reply p t modes.Ordered number answer) r.point.ran h in
+        let m = ran_at_most c s past r.point r.leaves x.0 x.1 in let n = (replies_to p t number answer x.0.call.client x.0.kept x.2).number_is in let a = at in omega arith
+    go (inr h) = let m = kept_at_most c trace r.point.state (good r.point r.leaves).state h.0 h.1 h.2 in let n = (replies_to p t number answer h.0 h.1 h.3).number_is in let a = at in omega arith
+says_ordered c trace s p t number answer past (Invoke x y z) r good h = absurd h
+says_ordered c trace s p t number answer past (Got x y) r good h = absurd h
+says_ordered c trace s p t number answer past (Tick x) r good h = absurd h
+says_ordered c trace s p t number answer past (Executed x y z) r good h = absurd h
+says_ordered c trace s p t number answer past (Installed x y z) r good h = absurd h
+says_ordered c trace s p t number answer past (Accepted x y z) r good h = absurd h
+
+ordered_reached : (c : Configuration) → IsConfiguration c → (s p t number : ℕ) (answer : Outcome) (xs : List Entry) → Runs c xs → NoCollision c xs → is_correct_replica c s ≡ true
+    → Once (Speaks (ordering s p t number answer)) (history_of s xs) → number ≤ reached xs s
+ordered_reached c setting s p t number answer xs runs apart correct h =
+    let goods = states_agree c setting xs runs.replicas runs.unforged apart s correct in
+    let there : number ≤ reached (history_of s xs) s =
+    once_stays (λ past. number ≤ reached past s) (λ e past k. let g = reached_grows e past s in omega arith) (history_of s xs)
+    (once_weaker (λ past e. GoodHere c xs s past × (RightAt c s past e × Speaks (ordering s p t number answer) past e × Always (RightAt c s) past) × Always (λ past e. GoodHere c xs s past) past) (λ past e. number ≤ reached past s)
+    (λ past e u. says_ordered c xs s p t number answer past e u.1.0 u.0 u.1.1) (history_of s xs)
+    (once_always (λ past e. GoodHere c xs s past) (λ past e. RightAt c s past e × Speaks (ordering s p t number answer) past e × Always (RightAt c s) past) (history_of s xs) goods.1
+    (once_right c s (Speaks (ordering s p t number answer)) (history_of s xs) (runs.replicas s correct) h))) in
+    let same = reached_history s xs in omega arith
+
+vote_body : (me t s : ℕ) (vote : Vote) (sender : ℕ) (message : Message) → vote_of me t s (record { sender = sender; message = message }) ≡ Some vote → vote.read_only ≡ false
+    → ◌≡◌ {A = Body} (record { sender = sender; message = message }) (ordering s me t vote.number vote.answer)
+vote_body me t s vote sender (Reply client timestamp mode number answer) h ro =
+    let g = give_if_some ((sender == s) && (client == me) && (timestamp == t)) (record { read_only = reads_only mode; number = number; answer = answer }) vote h in
+    let p = and_parts ((sender == s) && (client == me)) (timestamp == t) g.0 in
+    let q = and_parts (sender == s) (client == me) p.0 in
+    let es : sender ≡ s = eqb-true sender s q.0 in
+    let ec : client ≡ me = eqb-true client me q.1 in
+    let et : timestamp ≡ t = eqb-true timestamp t p.1 in
+    let er : mode ≡ modes.Ordered = mode_is mode false (ap (λ (x : Vote). x.read_only) g.1 ∙ ro) in
+    let en : number ≡ vote.number = ap (λ (x : Vote). x.number) g.1 in
+    let ea : answer ≡ vote.answer = ap (λ (x : Vote). x.answer) g.1 in
+    rw (es, ec, et, er, en, ea) refl
+vote_body me t s vote sender _ h ro = absurd cc
+
+pub latest_ordered : (c : Configuration) (me t s : ℕ) (vote : Vote) (xs : List Entry) → Always (λ past e. party_of e ≡ me) xs → latest c me xs t false s ≡ Some vote
+    → Once (Hears c me (ordering s me t vote.number vote.answer)) xs
+unfolding latest
+latest_ordered c me t s vote [] own h = absurd cc
+latest_ordered c me t s vote (Invoke x y z ∷ past) own h = absurd cc
+latest_ordered c me t s vote (Got p bytes ∷ past) own h = go (option_and_then (vote_of me t s) (heard c me bytes)) refl h (latest_ordered c me t s vote past own.1)
+  where
+    go : (o : Option Vote) → option_and_then (vote_of me t s) (heard c me bytes) ≡ o → later_vote false o (latest c me past t false s) ≡ Some vote
+        → (latest c me past t false s ≡ Some vote → Once (Hears c me (ordering s me t vote.number vote.answer)) past) → Once (Hears c me (ordering s me t vote.number vote.answer)) (Got p bytes ∷ past)
+    go None is k below = inr (below k)
+    go (Some v) is k below = test v.read_only refl k
+      where
+        test : (b : Bool) → v.read_only ≡ b → cond b (latest c me past t false s) (Some v) ≡ Some vote → Once (Hears c me (ordering s me t vote.number vote.answer)) (Got p bytes ∷ past)
+        test true e k = inr (below k)
+        test false e k =
+            let same : v ≡ vote = some_injective v vote k in
+            let r = and_then_some (vote_of me t s) (heard c me bytes) v is in
+            let body = vote_body me t s v r.0.sender r.0.message r.2 e in
+            inl (r.1 ∙ ap Some body ∙ ap (λ (x : Vote). Some (ordering s me t x.number x.answer)) same)
+latest_ordered c me t s vote (Tick x ∷ past) own h = inr (latest_ordered c me t s vote past own.1 h)
+latest_ordered c me t s vote (Sent x y ∷ past) own h = inr (latest_ordered c me t s vote past own.1 h)
+latest_ordered c me t s vote (Executed x y z ∷ past) own h = inr (latest_ordered c me t s vote past own.1 h)
+latest_ordered c me t s vote (Installed x y z ∷ past) own h = inr (latest_ordered c me t s vote past own.1 h)
+latest_ordered c me t s vote (Accepted x y z ∷ past) own h = inr (latest_ordered c me t s vote past own.1 h)
+
+-- a number with which 2f + 1 ordered replies are alike is one of the level
+pub ordered_level : (c : Configuration) → IsConfiguration c → (past : List Entry) → Runs c past → NoCollision c past → (p t : ℕ) → is_correct_client c p ≡ true → (vote : Vote)
+    → 2 * c.faults + 1 ≤ count_below (λ s. is_alike vote (latest c p (history_of p past) t false s)) (3 * c.faults + 1) → is_level c past vote.number ≡ true
+ordered_level c setting past runs apart p t client vote enough =
+    level_after c setting [] past vote.number (λ s. is_alike vote (latest c p (history_of p past) t false s)) enough high (λ s correct h. omega arith)
+  where
+    high : (s : ℕ) → is_correct_replica c s ≡ true → is_alike vote (latest c p (history_of p past) t false s) ≡ true → vote.number ≤ reached past s
+    high s correct h = go (latest c p (history_of p past) t false s) refl h
+      where
+        go : (o : Option Vote) → latest c p (history_of p past) t false s ≡ o → is_alike vote o ≡ true → vote.number ≤ reached past s
+        go None is k = absurd cc
+        go (Some v) is k =
+            let q = and_parts (v.number == vote.number) (bytes_eq (outcome_spelling v.answer) (outcome_spelling vote.answer)) k in
+            let n : v.number ≡ vote.number = eqb-true v.number vote.number q.0 in
+            let hears = latest_ordered c p t s v (history_of p past) (own_entries c p (history_of p past) (runs.clients p client)) is in
+            let said' = heard_was_said c past p (ordering s p t v.number v.answer) runs.unforged (correct_client c p client) (correct_replica c s correct) hears in
+            let m = ordered_reached c setting s p t v.number v.answer past runs apart correct said' in
+            omega arith

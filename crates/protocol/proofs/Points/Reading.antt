@@ -1,0 +1,348 @@
+-- An accepted read finds the level at most its number when it was invoked, and at least its number when it is accepted.
+use Rattle.std.proofs.Common.{◌≡◌, ℕ, suc, ◌+◌, ◌*◌, ◌≤◌, ◌<◌, inl, inr, Bool, true, false, cond, List, [], ◌∷◌, refl, sym, ap, ◌∙◌, subst, arith, ◌&&◌, ◌||◌, Option, Some, None, eq-eqb, eqb-true, bytes_eq}
+use Rattle.std.specs.Prelude.{◌==◌, option_and_then}
+use Rattle.std.proofs.lemmas.Bool.{and_parts}
+use Rattle.quorum.specs.Quorum.{count_below}
+use Rattle.protocol.specs.System.Configuration.{Configuration, IsConfiguration, is_correct, is_correct_replica, is_correct_client}
+use Rattle.wire.specs.declared.terms.Mode.TheVariants as modes
+use Rattle.wire.specs.Messages.{BodyData as Body, MessageData as Message, request as Request, reply as Reply}
+use Rattle.protocol.specs.System.Frames.{reads_only, mode_of, heard}
+use Rattle.protocol.specs.System.Trace.{Entry, party_of, history_of, Once, Always, Unforged, Hears}
+use Rattle.protocol.specs.System.Trace.Entry.{Invoke, Got, Tick, Executed, Installed, Sent, Accepted}
+use Rattle.protocol.specs.Replica.RightReplica.{MaySay, MayReply}
+use Rattle.protocol.specs.Client.RightClient.{AnyClient, MayAsk, MayRequest, OpenCall, open_call, last_call, Vote, vote_of, later_vote, latest, is_alike}
+use Rattle.protocol.specs.Space.Linear.{reached, is_level}
+use Rattle.protocol.specs.Laws.Histories.{AreReplicasSafe}
+use Rattle.protocol.proofs.Words.Modes.{mode_is}
+use Rattle.protocol.proofs.Words.Temporal.{once_weaker, once_in_trace}
+use Rattle.protocol.proofs.Words.Options.{and_then_some, give_if_some, some_injective}
+use Rattle.protocol.proofs.Words.Linking.{Speaks, heard_was_said}
+use Rattle.protocol.proofs.Agreement.Voting.{RightAt, once_right, correct_replica}
+use Rattle.protocol.proofs.Agreement.States.{right_append}
+use Rattle.protocol.proofs.Points.Levels.{reached_grows, reached_history, number_reached, level_after, level_before}
+use Rattle.tuple_codec.specs.Operations.{Operation, Outcome}
+use Rattle.tuple_codec.specs.Spelling.{outcome_spelling}
+use Rattle.protocol.specs.Space.Linear.{invoke_past}
+
+-- ---- a run, and each of its beginnings
+
+pub record Runs (c : Configuration) (xs : List Entry) : Type 0 where
+  pub unforged : Unforged c xs
+  pub replicas : AreReplicasSafe c xs
+  pub clients : (p : ℕ) → is_correct_client c p ≡ true → AnyClient p (history_of p xs)
+
+pub runs_earlier : (c : Configuration) (e : Entry) (xs : List Entry) → Runs c (e ∷ xs) → Runs c xs
+runs_earlier c e xs r = record {
+  unforged = r.unforged.1;
+  replicas = λ p h. right_append c p (e ∷ []) xs (r.replicas p h);
+  clients = λ p h. go p (party_of e == p) (r.clients p h);
+}
+  where
+    go : (p : ℕ) (b : Bool) → AnyClient p (cond b (e ∷ history_of p xs) (history_of p xs)) → AnyClient p (history_of p xs)
+    go p true h = h.1
+    go p false h = h
+
+once_runs : (c : Configuration) (Q : List Entry → Entry → Type 0) (xs : List Entry) → Runs c xs → Once Q xs → Once (λ past e. Runs c past × Q past e) xs
+once_runs c Q [] r h = h
+once_runs c Q (e ∷ past) r (inl h) = inl (runs_earlier c e past r, h)
+once_runs c Q (e ∷ past) r (inr h) = inr (once_runs c Q past (runs_earlier c e past r) h)
+
+pub correct_client : (c : Configuration) (p : ℕ) → is_correct_client c p ≡ true → is_correct c p ≡ true
+correct_client c p h = go (is_correct_replica c p) h
+  where
+    go : (b : Bool) → is_correct_client c p ≡ true → (b || is_correct_client c p) ≡ true
+    go true h = refl
+    go false h = h
+
+-- ---- a read's request was invoked before
+
+pub InvokesAt : ℕ → ℕ → List Entry → Entry → Type 0
+InvokesAt p t past (Invoke client timestamp op) = (256 + client ≡ p) × (timestamp ≡ t)
+InvokesAt p t past _ = ⊥
+
+pub opened : (p t : ℕ) (op : Operation) (xs : List Entry) → Always (λ past e. party_of e ≡ p) xs → open_call xs ≡ Some (record { timestamp = t; op = op }) → Once (InvokesAt p t) xs
+unfolding InvokesAt
+opened p t op [] own h = absurd cc
+opened p t op (Invoke client timestamp o ∷ past) own h =
+    let e : ◌≡◌ {A = OpenCall} (record { timestamp = timestamp; op = o }) (record { timestamp = t; op = op }) = some_injective {A = OpenCall} (record { timestamp = timestamp; op = o }) (record { timestamp = t; op = op }) h in
+    inl (own.0, ap (λ (x : OpenCall). x.timestamp) e)
+opened p t op (Accepted client timestamp answer ∷ past) own h = absurd cc
+opened p t op (Got x y ∷ past) own h = inr (opened p t op past own.1 h)
+opened p t op (Tick x ∷ past) own h = inr (opened p t op past own.1 h)
+opened p t op (Sent x y ∷ past) own h = inr (opened p t op past own.1 h)
+opened p t op (Executed x y z ∷ past) own h = inr (opened p t op past own.1 h)
+opened p t op (Installed x y z ∷ past) own h = inr (opened p t op past own.1 h)
+
+pub own_entries : (c : Configuration) (p : ℕ) (xs : List Entry) → AnyClient p xs → Always (λ past e. party_of e ≡ p) xs
+own_entries c p [] r = tt
+own_entries c p (e ∷ xs) r = (r.0.0, own_entries c p xs r.1)
+
+abbrev pub asking : ℕ → ℕ → Bool → Operation → Body
+asking p t read_only text = record { sender = p; message = Request t (mode_of read_only) text }
+
+-- what a right client asks it invoked
+pub asked_invoked : (c : Configuration) (p t : ℕ) (read_only : Bool) (text : Operation) (xs : List Entry) → AnyClient p xs → Once (Speaks (asking p t read_only text)) xs → Once (InvokesAt p t) xs
+asked_invoked c p t read_only text [] r h = absurd h
+asked_invoked c p t read_only text (e ∷ past) r (inr h) = inr (asked_invoked c p t read_only text past r.1 h)
+asked_invoked c p t read_only text (Sent x bytes ∷ past) r (inl h) =
+    let m = r.0.1 in
+    let is : m.0 ≡ asking p t read_only text = some_injective m.0 (asking p t read_only text) (sym m.1 ∙ h) in
+    let ask : MayRequest past t (reads_only (mode_of read_only)) text = subst (λ (b : Body). MayAsk past b.message) is m.3 in
+    inr (opened p t text past (own_entries c p past r.1) ask.0)
+asked_invoked c p t read_only text (Invoke x y z ∷ past) r (inl h) = absurd h
+asked_invoked c p t read_only text (Got x y ∷ past) r (inl h) = absurd h
+asked_invoked c p t read_only text (Tick x ∷ past) r (inl h) = absurd h
+asked_invoked c p t read_only text (Executed x y z ∷ past) r (inl h) = absurd h
+asked_invoked c p t read_only text (Installed x y z ∷ past) r (inl h) = absurd h
+asked_invoked c p t read_only text (Accepted x y z ∷ past) r (inl h) = absurd h
+
+-- ---- a read-only reply stands behind its request's invocation, at the replica's number
+
+abbrev pub replying : ℕ → ℕ → ℕ → ℕ → Outcome → Body
+replying s p t number answer = record { sender = s; message = Reply p t modes.ReadOnly number answer }
+
+pub ReadAt : Configuration → ℕ → ℕ → ℕ → ℕ → List Entry → Entry → Type 0
+ReadAt c s p t number past e = (reached past s ≡ number) × ((text : Operation) × Once (Hears c s (asking p t true text)) past)
+
+says_read : (c : Configuration) (s p t number : ℕ) (answer : Outcome) (past : List Entry) (e : Entry) → RightAt c s past e → Speaks (replying s p t number answer) past e → ReadAt c s p t number past e
+unfolding ReadAt
+says_read c s p t number answer past (Sent q bytes) r h =
+    let is = some_injective r.may.body (replying s p t number answer) (sym r.may.says ∙ h) in
+    let m : MayReply c s past r.point p t modes.ReadOnly number answer = subst (λ (x : Body). MaySay c s past r.point (Sent q bytes) bytes x.message) is r.may.say in
+    (sym (m.number_is ∙ number_reached c s past r.point r.leaves), (m.op, m.heard))
+says_read c s p t number answer past (Invoke x y z) r h = absurd h
+says_read c s p t number answer past (Got x y) r h = absurd h
+says_read c s p t number answer past (Tick x) r h = absurd h
+says_read c s p t number answer past (Executed x y z) r h = absurd h
+says_read c s p t number answer past (Installed x y z) r h = absurd h
+says_read c s p t number answer past (Accepted x y z) r h = absurd h
+
+pub Answered : ℕ → ℕ → ℕ → ℕ → List Entry → Entry → Type 0
+Answered s p t number past e = (reached past s ≡ number) × Once (InvokesAt p t) past
+
+invokes_any : (p t q : ℕ) (past : List Entry) (e : Entry) → (party_of e ≡ q) × InvokesAt p t (history_of q past) e → InvokesAt p t past e
+unfolding InvokesAt
+invokes_any p t q past (Invoke x y z) h = h.1
+invokes_any p t q past (Got x y) h = absurd h.1
+invokes_any p t q past (Tick x) h = absurd h.1
+invokes_any p t q past (Executed x y z) h = absurd h.1
+invokes_any p t q past (Installed x y z) h = absurd h.1
+invokes_any p t q past (Sent x y) h = absurd h.1
+invokes_any p t q past (Accepted x y z) h = absurd h.1
+
+pub read_answered : (c : Configuration) (s p t number : ℕ) (answer : Outcome) (xs : List Entry) → Runs c xs → is_correct_replica c s ≡ true → is_correct_client c p ≡ true
+    → Once (Speaks (replying s p t number answer)) (history_of s xs) → Once (Answered s p t number) xs
+unfolding Answered ReadAt
+read_answered c s p t number answer xs runs correct client h =
+    let reads : Once (ReadAt c s p t number) (history_of s xs) =
+    once_weaker (λ past e. RightAt c s past e × Speaks (replying s p t number answer) past e × Always (RightAt c s) past) (ReadAt c s p t number)
+    (λ past e u. says_read c s p t number answer past e u.0 u.1) (history_of s xs)
+    (once_right c s (Speaks (replying s p t number answer)) (history_of s xs) (runs.replicas s correct) h) in
+    once_weaker (λ past e. Runs c past × ((party_of e ≡ s) × ReadAt c s p t number (history_of s past) e)) (Answered s p t number) step xs
+    (once_runs c (λ past e. (party_of e ≡ s) × ReadAt c s p t number (history_of s past) e) xs runs (once_in_trace (ReadAt c s p t number) s xs reads))
+  where
+    step : (past : List Entry) (e : Entry) → Runs c past × ((party_of e ≡ s) × ((reached (history_of s past) s ≡ number) × ((text : Operation) × Once (Hears c s (asking p t true text)) (history_of s past))))
+        → (reached past s ≡ number) × Once (InvokesAt p t) past
+    step past e u =
+        let said' = heard_was_said c past s (asking p t true u.1.1.1.0) u.0.unforged (correct_replica c s correct) (correct_client c p client) u.1.1.1.1 in
+        let invoked = asked_invoked c p t true u.1.1.1.0 (history_of p past) (u.0.clients p client) said' in (
+          sym (reached_history s past) ∙ u.1.1.0,
+          once_weaker (λ past e. (party_of e ≡ p) × InvokesAt p t (history_of p past) e) (InvokesAt p t) (invokes_any p t p) past (once_in_trace (InvokesAt p t) p past invoked),
+        )
+
+-- ---- the votes of a client
+
+vote_body : (me t s : ℕ) (vote : Vote) (sender : ℕ) (message : Message) → vote_of me t s (record { sender = sender; message = message }) ≡ Some vote → vote.read_only ≡ true
+    → ◌≡◌ {A = Body} (record { sender = sender; message = message }) (replying s me t vote.number vote.answer)
+vote_body me t s vote sender (Reply client timestamp mode number answer) h ro =
+    let g = give_if_some ((sender == s) && (client == me) && (timestamp == t)) (record { read_only = reads_only mode; number = number; answer = answer }) vote h in
+    let p = and_parts ((sender == s) && (client == me)) (timestamp == t) g.0 in
+    let q = and_parts (sender == s) (client == me) p.0 in
+    let es : sender ≡ s = eqb-true sender s q.0 in
+    let ec : client ≡ me = eqb-true client me q.1 in
+    let et : timestamp ≡ t = eqb-true timestamp t p.1 in
+    let er : mode ≡ modes.ReadOnly = mode_is mode true (ap (λ (x : Vote). x.read_only) g.1 ∙ ro) in
+    let en : number ≡ vote.number = ap (λ (x : Vote). x.number) g.1 in
+    let ea : answer ≡ vote.answer = ap (λ (x : Vote). x.answer) g.1 in
+    rw (es, ec, et, er, en, ea) refl
+vote_body me t s vote sender _ h ro = absurd cc
+
+pub latest_heard : (c : Configuration) (me t s : ℕ) (vote : Vote) (xs : List Entry) → Always (λ past e. party_of e ≡ me) xs → latest c me xs t true s ≡ Some vote
+    → Once (Hears c me (replying s me t vote.number vote.answer)) xs
+unfolding latest
+latest_heard c me t s vote [] own h = absurd cc
+latest_heard c me t s vote (Invoke x y z ∷ past) own h = absurd cc
+latest_heard c me t s vote (Got p bytes ∷ past) own h = go (option_and_then (vote_of me t s) (heard c me bytes)) refl h (latest_heard c me t s vote past own.1)
+  where
+    go : (o : Option Vote) → option_and_then (vote_of me t s) (heard c me bytes) ≡ o → later_vote true o (latest c me past t true s) ≡ Some vote
+        → (latest c me past t true s ≡ Some vote → Once (Hears c me (replying s me t vote.number vote.answer)) past) → Once (Hears c me (replying s me t vote.number vote.answer)) (Got p bytes ∷ past)
+    go None is k below = inr (below k)
+    go (Some v) is k below = test v.read_only refl k
+      where
+        test : (b : Bool) → v.read_only ≡ b → cond b (Some v) (latest c me past t true s) ≡ Some vote → Once (Hears c me (replying s me t vote.number vote.answer)) (Got p bytes ∷ past)
+        test false e k = inr (below k)
+        test true e k =
+            let same : v ≡ vote = some_injective v vote k in
+            let r = and_then_some (vote_of me t s) (heard c me bytes) v is in
+            let body = vote_body me t s v r.0.sender r.0.message r.2 e in
+            inl (r.1 ∙ ap Some body ∙ ap (λ (x : Vote). Some (replying s me t x.number x.answer)) same)
+latest_heard c me t s vote (Tick x ∷ past) own h = inr (latest_heard c me t s vote past own.1 h)
+latest_heard c me t s vote (Sent x y ∷ past) own h = inr (latest_heard c me t s vote past own.1 h)
+latest_heard c me t s vote (Executed x y z ∷ past) own h = inr (latest_heard c me t s vote past own.1 h)
+latest_heard c me t s vote (Installed x y z ∷ past) own h = inr (latest_heard c me t s vote past own.1 h)
+latest_heard c me t s vote (Accepted x y z ∷ past) own h = inr (latest_heard c me t s vote past own.1 h)
+
+-- ---- the latest invocation
+
+-- the timestamp of the client's latest invocation
+abbrev pub last_of : ℕ → List Entry → ℕ
+last_of p [] = 0
+last_of p (Invoke client t op ∷ past) = cond (256 + client == p) t (last_of p past)
+last_of p (_ ∷ past) = last_of p past
+
+pub last_of-history : (p : ℕ) (xs : List Entry) → last_call (history_of p xs) ≡ last_of p xs
+last_of-history p [] = refl
+last_of-history p (Invoke client t op ∷ xs) = go (256 + client == p) (last_of-history p xs)
+  where
+    go : (b : Bool) → last_call (history_of p xs) ≡ last_of p xs → last_call (cond b (Invoke client t op ∷ history_of p xs) (history_of p xs)) ≡ cond b t (last_of p xs)
+    go true h = refl
+    go false h = h
+last_of-history p (Got x y ∷ xs) = other (x == p) (last_of-history p xs)
+  where
+    other : (b : Bool) → last_call (history_of p xs) ≡ last_of p xs → last_call (cond b (Got x y ∷ history_of p xs) (history_of p xs)) ≡ last_of p xs
+    other true h = h
+    other false h = h
+last_of-history p (Tick x ∷ xs) = other (x == p) (last_of-history p xs)
+  where
+    other : (b : Bool) → last_call (history_of p xs) ≡ last_of p xs → last_call (cond b (Tick x ∷ history_of p xs) (history_of p xs)) ≡ last_of p xs
+    other true h = h
+    other false h = h
+last_of-history p (Sent x y ∷ xs) = other (x == p) (last_of-history p xs)
+  where
+    other : (b : Bool) → last_call (history_of p xs) ≡ last_of p xs → last_call (cond b (Sent x y ∷ history_of p xs) (history_of p xs)) ≡ last_of p xs
+    other true h = h
+    other false h = h
+last_of-history p (Executed x y z ∷ xs) = other (x == p) (last_of-history p xs)
+  where
+    other : (b : Bool) → last_call (history_of p xs) ≡ last_of p xs → last_call (cond b (Executed x y z ∷ history_of p xs) (history_of p xs)) ≡ last_of p xs
+    other true h = h
+    other false h = h
+last_of-history p (Installed x y z ∷ xs) = other (x == p) (last_of-history p xs)
+  where
+    other : (b : Bool) → last_call (history_of p xs) ≡ last_of p xs → last_call (cond b (Installed x y z ∷ history_of p xs) (history_of p xs)) ≡ last_of p xs
+    other true h = h
+    other false h = h
+last_of-history p (Accepted x y z ∷ xs) = other (256 + x == p) (last_of-history p xs)
+  where
+    other : (b : Bool) → last_call (history_of p xs) ≡ last_of p xs → last_call (cond b (Accepted x y z ∷ history_of p xs) (history_of p xs)) ≡ last_of p xs
+    other true h = h
+    other false h = h
+
+-- an invocation of a right client has the next timestamp
+next_time : (c : Configuration) (p client t : ℕ) (op : Operation) (past : List Entry) → AnyClient p (history_of p (Invoke client t op ∷ past)) → (256 + client == p) ≡ true → t ≡ suc (last_of p past)
+next_time c p client t op past r is = go (256 + client == p) is r
+  where
+    go : (b : Bool) → b ≡ true → AnyClient p (cond b (Invoke client t op ∷ history_of p past) (history_of p past)) → t ≡ suc (last_of p past)
+    go true e r = r.0.1.0 ∙ ap suc (last_of-history p past)
+    go false e r = absurd cc
+
+-- no earlier invocation has a later timestamp
+invoked_le : (c : Configuration) (p t : ℕ) (xs : List Entry) → Runs c xs → is_correct_client c p ≡ true → Once (InvokesAt p t) xs → t ≤ last_of p xs
+unfolding InvokesAt
+invoked_le c p t [] runs client h = absurd h
+invoked_le c p t (Invoke x timestamp op ∷ past) runs client (inl h) = rw (eq-eqb (256 + x) p h.0) (omega arith)
+invoked_le c p t (Invoke x timestamp op ∷ past) runs client (inr h) = go (256 + x == p) refl (invoked_le c p t past (runs_earlier c (Invoke x timestamp op) past runs) client h)
+  where
+    go : (b : Bool) → (256 + x == p) ≡ b → t ≤ last_of p past → t ≤ cond b timestamp (last_of p past)
+    go true e k = let n = next_time c p x timestamp op past (runs.clients p client) e in omega arith
+    go false e k = k
+invoked_le c p t (Got x y ∷ past) runs client (inl h) = absurd h
+invoked_le c p t (Tick x ∷ past) runs client (inl h) = absurd h
+invoked_le c p t (Sent x y ∷ past) runs client (inl h) = absurd h
+invoked_le c p t (Executed x y z ∷ past) runs client (inl h) = absurd h
+invoked_le c p t (Installed x y z ∷ past) runs client (inl h) = absurd h
+invoked_le c p t (Accepted x y z ∷ past) runs client (inl h) = absurd h
+invoked_le c p t (Got x y ∷ past) runs client (inr h) = invoked_le c p t past (runs_earlier c (Got x y) past runs) client h
+invoked_le c p t (Tick x ∷ past) runs client (inr h) = invoked_le c p t past (runs_earlier c (Tick x) past runs) client h
+invoked_le c p t (Sent x y ∷ past) runs client (inr h) = invoked_le c p t past (runs_earlier c (Sent x y) past runs) client h
+invoked_le c p t (Executed x y z ∷ past) runs client (inr h) = invoked_le c p t past (runs_earlier c (Executed x y z) past runs) client h
+invoked_le c p t (Installed x y z ∷ past) runs client (inr h) = invoked_le c p t past (runs_earlier c (Installed x y z) past runs) client h
+invoked_le c p t (Accepted x y z ∷ past) runs client (inr h) = invoked_le c p t past (runs_earlier c (Accepted x y z) past runs) client h
+
+pub InvokedLow : ℕ → ℕ → ℕ → ℕ → List Entry → Entry → Type 0
+InvokedLow s p t number past e = InvokesAt p t past e × (reached past s ≤ number)
+
+-- what holds at the invocation of the latest timestamp holds at the latest invocation
+at_latest : (c : Configuration) (s p t number : ℕ) (xs : List Entry) → Runs c xs → is_correct_client c p ≡ true → last_of p xs ≡ t → Once (InvokedLow s p t number) xs → reached (invoke_past p xs) s ≤ number
+unfolding InvokedLow InvokesAt
+at_latest c s p t number [] runs client is h = absurd h
+at_latest c s p t number (Invoke x timestamp op ∷ past) runs client is (inl h) = rw (eq-eqb (256 + x) p h.0.0) h.1
+at_latest c s p t number (Invoke x timestamp op ∷ past) runs client is (inr h) =
+    go (256 + x == p) refl is (at_latest c s p t number past (runs_earlier c (Invoke x timestamp op) past runs) client)
+    (invoked_le c p t past (runs_earlier c (Invoke x timestamp op) past runs) client (once_weaker (InvokedLow s p t number) (InvokesAt p t) (λ past e u. u.0) past h))
+  where
+    go : (b : Bool) → (256 + x == p) ≡ b → cond b timestamp (last_of p past) ≡ t → (last_of p past ≡ t → Once (InvokedLow s p t number) past → reached (invoke_past p past) s ≤ number) → t ≤ last_of p past
+        → reached (cond b past (invoke_past p past)) s ≤ number
+    go true e k below le = let n = next_time c p x timestamp op past (runs.clients p client) e in absurd (omega arith)
+    go false e k below le = below k h
+at_latest c s p t number (Got x y ∷ past) runs client is (inl h) = absurd h.0
+at_latest c s p t number (Tick x ∷ past) runs client is (inl h) = absurd h.0
+at_latest c s p t number (Sent x y ∷ past) runs client is (inl h) = absurd h.0
+at_latest c s p t number (Executed x y z ∷ past) runs client is (inl h) = absurd h.0
+at_latest c s p t number (Installed x y z ∷ past) runs client is (inl h) = absurd h.0
+at_latest c s p t number (Accepted x y z ∷ past) runs client is (inl h) = absurd h.0
+at_latest c s p t number (Got x y ∷ past) runs client is (inr h) = at_latest c s p t number past (runs_earlier c (Got x y) past runs) client is h
+at_latest c s p t number (Tick x ∷ past) runs client is (inr h) = at_latest c s p t number past (runs_earlier c (Tick x) past runs) client is h
+at_latest c s p t number (Sent x y ∷ past) runs client is (inr h) = at_latest c s p t number past (runs_earlier c (Sent x y) past runs) client is h
+at_latest c s p t number (Executed x y z ∷ past) runs client is (inr h) = at_latest c s p t number past (runs_earlier c (Executed x y z) past runs) client is h
+at_latest c s p t number (Installed x y z ∷ past) runs client is (inr h) = at_latest c s p t number past (runs_earlier c (Installed x y z) past runs) client is h
+at_latest c s p t number (Accepted x y z ∷ past) runs client is (inr h) = at_latest c s p t number past (runs_earlier c (Accepted x y z) past runs) client is h
+
+-- ---- what was answered lies between
+
+invoked_low : (s p t number : ℕ) (xs : List Entry) → reached xs s ≤ number → Once (InvokesAt p t) xs → Once (InvokedLow s p t number) xs
+unfolding InvokedLow
+invoked_low s p t number [] l h = h
+invoked_low s p t number (e ∷ past) l (inl h) = inl (h, (let g = reached_grows e past s in omega arith))
+invoked_low s p t number (e ∷ past) l (inr h) = inr (invoked_low s p t number past (let g = reached_grows e past s in omega arith) h)
+
+answered_low : (s p t number : ℕ) (xs : List Entry) → Once (Answered s p t number) xs → Once (InvokedLow s p t number) xs
+unfolding Answered
+answered_low s p t number [] h = h
+answered_low s p t number (e ∷ past) (inl h) = inr (invoked_low s p t number past (let k = h.0 in omega arith) h.1)
+answered_low s p t number (e ∷ past) (inr h) = inr (answered_low s p t number past h)
+
+answered_high : (s p t number : ℕ) (xs : List Entry) → Once (Answered s p t number) xs → number ≤ reached xs s
+unfolding Answered
+answered_high s p t number [] h = absurd h
+answered_high s p t number (e ∷ past) (inl h) = let g = reached_grows e past s in let k = h.0 in omega arith
+answered_high s p t number (e ∷ past) (inr h) = let g = reached_grows e past s in let k = answered_high s p t number past h in omega arith
+
+-- ---- an accepted read
+
+module _ (c : Configuration) (setting : IsConfiguration c) (past : List Entry) (runs : Runs c past) (p t : ℕ) (client : is_correct_client c p ≡ true) (vote : Vote)
+    (read_only : vote.read_only ≡ true) (open' : last_of p past ≡ t)
+    (enough : 2 * c.faults + 1 ≤ count_below (λ s. is_alike vote (latest c p (history_of p past) t true s)) (3 * c.faults + 1)) where
+  answers : (s : ℕ) → is_correct_replica c s ≡ true → is_alike vote (latest c p (history_of p past) t true s) ≡ true → Once (Answered s p t vote.number) past
+  answers s correct h = go (latest c p (history_of p past) t true s) refl h
+    where
+      go : (o : Option Vote) → latest c p (history_of p past) t true s ≡ o → is_alike vote o ≡ true → Once (Answered s p t vote.number) past
+      go None is k = absurd cc
+      go (Some v) is k =
+          let q = and_parts (v.number == vote.number) (bytes_eq (outcome_spelling v.answer) (outcome_spelling vote.answer)) k in
+          let n : v.number ≡ vote.number = eqb-true v.number vote.number q.0 in
+          let hears = latest_heard c p t s v (history_of p past) (own_entries c p (history_of p past) (runs.clients p client)) is in
+          let said' = heard_was_said c past p (replying s p t v.number v.answer) runs.unforged (correct_client c p client) (correct_replica c s correct) hears in
+          subst (λ (x : ℕ). Once (Answered s p t x) past) n (read_answered c s p t v.number v.answer past runs correct client said')
+
+  -- the level at the acceptance is at least the number
+  pub read_level_after : is_level c past vote.number ≡ true
+  read_level_after = level_after c setting (invoke_past p past) past vote.number (λ s. is_alike vote (latest c p (history_of p past) t true s)) enough
+      (λ s correct h. answered_high s p t vote.number past (answers s correct h))
+      (λ s correct h. at_latest c s p t vote.number past runs client open' (answered_low s p t vote.number past (answers s correct h)))
+
+  -- the level at the invocation is at most the number
+  pub read_level_before : (k : ℕ) → vote.number < k → is_level c (invoke_past p past) k ≡ true → ⊥
+  read_level_before = level_before c setting (invoke_past p past) past vote.number (λ s. is_alike vote (latest c p (history_of p past) t true s)) enough
+      (λ s correct h. answered_high s p t vote.number past (answers s correct h))
+      (λ s correct h. at_latest c s p t vote.number past runs client open' (answered_low s p t vote.number past (answers s correct h)))

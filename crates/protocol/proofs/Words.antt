@@ -1,0 +1,12 @@
+-- Laws of the definitions' words.
+pub mod Temporal
+pub mod Options
+pub mod Modes
+pub mod Linking
+pub mod Spelled
+pub mod Lists
+pub mod Bodies
+pub mod Leaving
+pub mod Paging
+pub mod Roots
+pub mod Reacting

@@ -1,0 +1,103 @@
+-- What the laws use of how bodies are read: their operations and answers are within the limits, timestamps fit their
+-- bytes, and a batch has at most 16 requests.
+use Rattle.std.proofs.Common.{◌≡◌, ℕ, zero, suc, ◌+◌, ◌^◌, ◌≤◌, ◌<◌, Bool, cond, List, [], ◌∷◌, ◌++◌, length, refl, ap, subst, arith, ◌&&◌, Option, Some, None}
+use Rattle.std.specs.Prelude.{nat_lt, nat_le, ⊤}
+use Rattle.std.specs.List.{list_all}
+use Rattle.std.proofs.lemmas.Bool.{and_parts, leb-true}
+use Rattle.tuple_tree.specs.Values.{AreBytes}
+use Rattle.tuple_codec.specs.Operations.{IsOperation, IsOutcome}
+use Rattle.tuple_codec.specs.Reading.{Reader, byte_at}
+use Rattle.tuple_codec.proofs.Readers.{bind_some, guard_holds}
+use Rattle.wire.specs.Messages.{BodyData as Body, MessageData as Message, FrameData as Frame, request as Request, pre_prepare as PrePrepare, prepare as Prepare, commit as Commit, checkpoint as Checkpoint, view_change as ViewChange, new_view as NewView, reply as Reply, fetch as Fetch, meta as Meta, page as Page}
+use Rattle.wire.specs.Spelling.{IsMessage}
+use Rattle.wire.specs.Reading.{frame_of as frame_spelled, passing, if_it, more_at, anyhow, piece_at, is_request, requests_at}
+use Rattle.wire.specs.Words.{said as body_spelled, requests_of}
+use Rattle.wire.proofs.Carriers.{frame_of_found}
+use Rattle.protocol.specs.System.Configuration.{Configuration}
+use Rattle.protocol.specs.System.Frames.{said, heard}
+use Rattle.protocol.proofs.Words.Options.{some_injective}
+use Rattle.protocol.proofs.Words.Linking.{are_bytes, heard_said}
+
+-- ---- what a message has
+
+abbrev pub FitsMessage : Message → Type 0
+FitsMessage (Request t mode op) = (t < 2 ^ 64) × IsOperation op
+FitsMessage (Reply client t mode number answer) = IsOutcome answer
+FitsMessage _ = ⊤
+
+message_fits : (m : Message) → IsMessage m → FitsMessage m
+message_fits (Request t mode op) h = h
+message_fits (Reply client t mode number answer) h = h.4
+message_fits (PrePrepare v i batch) h = tt
+message_fits (Prepare v i digest) h = tt
+message_fits (Commit v i digest) h = tt
+message_fits (Checkpoint k root) h = tt
+message_fits (ViewChange vc) h = tt
+message_fits (NewView new) h = tt
+message_fits (Fetch k level index) h = tt
+message_fits (Meta k level index digests) h = tt
+message_fits (Page k index text) h = tt
+
+spelled_fits : (bytes : List ℕ) (body : Body) → AreBytes bytes → body_spelled bytes ≡ Some body → FitsMessage body.message
+unfolding body_spelled
+spelled_fits bytes body are h =
+    let k = bind_some (frame_spelled bytes) (λ (f : Frame). Some f.body) body h in
+    let same : k.0.body ≡ body = some_injective k.0.body body k.2 in
+    subst (λ (b : Body). FitsMessage b.message) same (message_fits k.0.body.message (frame_of_found bytes k.0 are k.1).valid.message)
+
+pub said_fits : (bytes : List ℕ) (body : Body) → said bytes ≡ Some body → FitsMessage body.message
+unfolding said
+said_fits bytes body h =
+    let g = guard_holds (list_all (λ b. nat_lt b 256) bytes) (body_spelled bytes) body h in
+    spelled_fits bytes body (are_bytes bytes g.0) g.1
+
+pub heard_fits : (c : Configuration) (me : ℕ) (bytes : List ℕ) (body : Body) → heard c me bytes ≡ Some body → FitsMessage body.message
+heard_fits c me bytes body h = said_fits bytes body (heard_said c me bytes body h)
+
+-- ---- batches
+
+one_more : {A : Type 0} (xs : List A) (x : A) → length (xs ++ x ∷ []) ≡ suc (length xs)
+one_more [] x = refl
+one_more (y ∷ xs) x = ap suc (one_more xs x)
+
+more_many : {A : Type 0} (at : Reader A) (fits : List A → A → Bool) (n : ℕ) (xs ys : List A) (bs rest : List ℕ)
+    → more_at at fits n xs bs ≡ Some (ys, rest) → length ys ≡ length xs + n
+more_many at fits zero xs ys bs rest e =
+    let same : xs ≡ ys = ap (λ (p : List _ × List ℕ). p.0) (some_injective (xs, bs) (ys, rest) e) in
+    subst (λ zs. length zs ≡ length xs + 0) same (omega arith)
+more_many at fits (suc n) xs ys bs rest e =
+    let k = bind_some (at bs) (λ x. cond (fits xs x.0) (more_at at fits n (xs ++ x.0 ∷ []) x.1) None) (ys, rest) e in
+    let g = guard_holds (fits xs k.0.0) (more_at at fits n (xs ++ k.0.0 ∷ []) k.0.1) (ys, rest) k.2 in
+    let l : length ys ≡ length (xs ++ k.0.0 ∷ []) + n = more_many at fits n (xs ++ k.0.0 ∷ []) ys k.0.1 rest g.1 in
+    let o : length (xs ++ k.0.0 ∷ []) ≡ suc (length xs) = one_more xs k.0.0 in
+    omega arith
+
+passed : (n : ℕ × List ℕ) (bs : List ℕ) → passing (λ n. nat_le 0 n && nat_le n 16) byte_at bs ≡ Some n → n.0 ≤ 16
+passed n bs h =
+    let k = bind_some (byte_at bs) (λ x. if_it (nat_le 0 x.0 && nat_le x.0 16) x) n h in
+    let g = guard_holds (nat_le 0 k.0.0 && nat_le k.0.0 16) (Some k.0) n k.2 in
+    let same : k.0 ≡ n = some_injective k.0 n g.1 in
+    subst (λ (m : ℕ × List ℕ). m.0 ≤ 16) same (leb-true k.0.0 16 (and_parts (nat_le 0 k.0.0) (nat_le k.0.0 16) g.0).1)
+
+few_at : (bs rest : List ℕ) (frames : List (List ℕ)) → requests_at 0 bs ≡ Some (frames, rest) → length frames ≤ 16
+unfolding requests_at
+few_at bs rest frames h =
+    let k = bind_some (passing (λ n. nat_le 0 n && nat_le n 16) byte_at bs) (λ n. more_at (passing is_request piece_at) anyhow n.0 [] n.1) (frames, rest) h in
+    let l = more_many (passing is_request piece_at) anyhow k.0.0 [] frames k.0.1 rest k.2 in
+    let m = passed k.0 bs k.1 in
+    omega arith
+
+-- a batch has at most 16 requests
+pub requests_few : (batch : List ℕ) → length (requests_of batch) ≤ 16
+unfolding requests_of
+requests_few batch = go (requests_at 0 batch) refl
+  where
+    go : (o : Option (List (List ℕ) × List ℕ)) → requests_at 0 batch ≡ o → length (requests_of batch) ≤ 16
+    go None is = rw is (omega arith)
+    go (Some (frames, [])) is = rw is (few_at batch [] frames is)
+    go (Some (frames, b ∷ rest)) is = rw is (omega arith)
+
+-- the null batch has none
+pub null_empty : requests_of (0 ∷ []) ≡ []
+unfolding requests_of requests_at
+null_empty = refl

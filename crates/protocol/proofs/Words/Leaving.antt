@@ -1,0 +1,192 @@
+-- Batches leave states.
+use Rattle.std.proofs.Common.{◌≡◌, ℕ, zero, suc, ◌+◌, ◌-◌, ◌*◌, ◌^◌, ◌≤◌, ◌<◌, ◌⊎◌, inl, inr, Bool, true, false, not, cond, List, [], ◌∷◌, length, map, take, refl, sym, ap, ◌∙◌, subst, arith, ◌&&◌, Option, Some, None}
+use Rattle.std.specs.Prelude.{fold, filter, find, replicate, is_some, All}
+use Rattle.std.specs.Option.{option_map_or}
+use Rattle.std.proofs.lemmas.Bool.{ltb-true}
+use Rattle.std.proofs.lemmas.List.Elements.{All-head, All-tail}
+use Rattle.std.proofs.lemmas.List.{length-set}
+use Rattle.tuple_tree.specs.Values.{TupleTree, IsTuple}
+use Rattle.tuple_codec.specs.Operations.{Operation, out, rdp, inp, cas, rd_all, done, full, swapped, AreTuples, IsOperation, IsOutcome}
+use Rattle.template_match.specs.Tests.{is_match}
+use Rattle.space.specs.Applying.{outcome, first_match, found_or_absent, has_room}
+use Rattle.space.specs.Births.{Entry, IsState as IsSpace}
+use Rattle.space.proofs.Keeping.{IsState-state_after, IsState-empty}
+use Rattle.space.proofs.Batches.{next_after}
+use Rattle.protocol.specs.System.Configuration.{Configuration, is_client}
+use Rattle.wire.specs.Messages.{MessageData as Message, request as Request}
+use Rattle.wire.specs.Words.{requests_of}
+use Rattle.protocol.specs.System.Frames.{reads_only, said}
+use Rattle.reply_cache.specs.Replies.{Kept, Replies, no_replies, last_of, with_reply, IsKept, IsReply, AreReplies}
+use Rattle.reply_cache.proofs.Slots.{AreReplies-none}
+use Rattle.protocol.specs.Replica.State.{State, IsState, Call, opening, tuples, kept_of, last_time, call_in, call_of, runs, kept_by, ran_call, run_call, run_frame, execute, after_batches}
+use Rattle.protocol.specs.Laws.Histories.{BatchesLeaveStates}
+use Rattle.protocol.proofs.Words.Options.{and_then_some, some_injective}
+use Rattle.protocol.proofs.Words.Bodies.{said_fits, FitsMessage, requests_few}
+
+-- ---- outcomes are within the limits
+
+found_is : (test : TupleTree → Bool) (ts : List TupleTree) → AreTuples ts → IsOutcome (found_or_absent (find test ts))
+found_is test [] h = tt
+found_is test (t ∷ ts) h = go (test t) (found_is test ts h.1)
+  where
+    go : (b : Bool) → IsOutcome (found_or_absent (find test ts)) → IsOutcome (found_or_absent (cond b (Some t) (find test ts)))
+    go true k = h.0
+    go false k = k
+
+filtered : (test : TupleTree → Bool) (ts : List TupleTree) → AreTuples ts → AreTuples (filter test ts)
+filtered test [] h = tt
+filtered test (t ∷ ts) h = go (test t) (filtered test ts h.1)
+  where
+    go : (b : Bool) → AreTuples (filter test ts) → AreTuples (cond b (t ∷ filter test ts) (filter test ts))
+    go true k = (h.0, k)
+    go false k = k
+
+taken_few : (n : ℕ) (ts : List TupleTree) → AreTuples ts → (length (take n ts) ≤ n) × AreTuples (take n ts)
+taken_few zero ts h = (omega arith, tt)
+taken_few (suc n) [] h = (omega arith, tt)
+taken_few (suc n) (t ∷ ts) h = let r = taken_few n ts h.1 in let l = r.0 in (omega arith, (h.0, r.1))
+
+pub outcome_is : (ts : List TupleTree) (o : Operation) → AreTuples ts → IsOperation o → IsOutcome (outcome ts o)
+outcome_is ts (out t) h v = go (has_room ts)
+  where
+    go : (b : Bool) → IsOutcome (cond b done full)
+    go true = tt
+    go false = tt
+outcome_is ts (rdp p) h v = found_is (is_match p) ts h
+outcome_is ts (inp p) h v = found_is (is_match p) ts h
+outcome_is ts (cas p t) h v = go (is_some (first_match p ts)) (has_room ts)
+  where
+    go : (a b : Bool) → IsOutcome (cond a (swapped false) (cond b (swapped true) full))
+    go true b = tt
+    go false true = tt
+    go false false = tt
+outcome_is ts (rd_all n p) h v =
+    let r = taken_few n (filter (is_match p) ts) (filtered (is_match p) ts h) in
+    let l = r.0 in
+    let most = v.1 in
+    (omega arith, r.1)
+
+tuples_are : (es : List Entry) → All (λ e. IsTuple e.1) es → AreTuples (map (λ e. e.1) es)
+tuples_are [] h = tt
+tuples_are (e ∷ es) h = (All-head (λ (x : Entry). IsTuple x.1) e es h, tuples_are es (All-tail (λ (x : Entry). IsTuple x.1) e es h))
+
+-- ---- kept replies
+
+-- the last reply to a client is the one that was put, or the one before
+pub last_put : (replies : Replies) (i client : ℕ) (kept : Kept)
+    → ((last_of (with_reply replies i kept) client ≡ Some kept) × (i ≡ client)) ⊎ (last_of (with_reply replies i kept) client ≡ last_of replies client)
+last_put [] i client kept = inr refl
+last_put (o ∷ replies) zero zero kept = inl (refl, refl)
+last_put (o ∷ replies) zero (suc client) kept = inr refl
+last_put (o ∷ replies) (suc i) zero kept = inr refl
+last_put (o ∷ replies) (suc i) (suc client) kept = go (last_put replies i client kept)
+  where
+    go : ((last_of (with_reply replies i kept) client ≡ Some kept) × (i ≡ client)) ⊎ (last_of (with_reply replies i kept) client ≡ last_of replies client)
+        → ((last_of (with_reply replies i kept) client ≡ Some kept) × (suc i ≡ suc client)) ⊎ (last_of (with_reply replies i kept) client ≡ last_of replies client)
+    go (inl k) = inl (k.0, ap suc k.1)
+    go (inr k) = inr k
+
+put_replies : (replies : Replies) (i : ℕ) (kept : Kept) → IsKept kept → AreReplies replies → AreReplies (with_reply replies i kept)
+put_replies replies i kept is are = record { all = length-set replies i (Some kept) ∙ are.all; each = λ client. go client (last_put replies i client kept) }
+  where
+    go : (client : ℕ) → ((last_of (with_reply replies i kept) client ≡ Some kept) × (i ≡ client)) ⊎ (last_of (with_reply replies i kept) client ≡ last_of replies client)
+        → IsReply (last_of (with_reply replies i kept) client)
+    go client (inl k) = subst IsReply (sym k.0) is
+    go client (inr k) = subst IsReply (sym k) (are.each client)
+
+-- no client has a reply at first
+pub none_kept : (client : ℕ) → kept_of opening client ≡ None
+unfolding no_replies
+none_kept client = go 256 client
+  where
+    go : (n i : ℕ) → last_of (replicate n None) i ≡ None
+    go zero i = refl
+    go (suc n) zero = refl
+    go (suc n) (suc i) = go n i
+
+-- ---- through a batch
+
+-- what holds between the requests of a batch
+record Running (st : State) (most : ℕ) : Type 0 where
+  space : IsSpace st.space
+  births : st.space.next ≤ most
+  replies : AreReplies st.replies
+
+call_fits : (c : Configuration) (frame : List ℕ) (call : Call) → call_of c frame ≡ Some call → (call.timestamp < 2 ^ 64) × IsOperation call.op
+call_fits c frame call h =
+    let r = and_then_some (call_in c) (said frame) call h in
+    go r.0.sender r.0.message (said_fits frame r.0 r.1) r.2
+  where
+    go : (sender : ℕ) (message : Message) → FitsMessage message → call_in c (record { sender = sender; message = message }) ≡ Some call → (call.timestamp < 2 ^ 64) × IsOperation call.op
+    go sender (Request t mode op) f h = pick (not (reads_only mode) && is_client c sender) h
+      where
+        pick : (b : Bool) → cond b (Some (let x : Call = record { client = sender - 256; timestamp = t; op = op } in x)) None ≡ Some call → (call.timestamp < 2 ^ 64) × IsOperation call.op
+        pick true h =
+            subst (λ (x : Call). (x.timestamp < 2 ^ 64) × IsOperation x.op)
+            (some_injective {A = Call} (record { client = sender - 256; timestamp = t; op = op }) call h) f
+        pick false h = absurd cc
+    go sender _ f h = absurd cc
+
+call_leaves : (number : ℕ) → number < 2 ^ 64 → (st : State) (most : ℕ) (call : Call) → (call.timestamp < 2 ^ 64) × IsOperation call.op → Running st most → Running (run_call st number call) (most + 256)
+call_leaves number small st most call fits r = go (runs st call) refl
+  where
+    kept : runs st call ≡ true → IsKept (kept_by st number call)
+    kept e =
+        let l = ltb-true (last_time st call.client) call.timestamp e in
+        record { first = omega arith; timestamp_fits = fits.0; number_fits = small; answer = outcome_is (tuples st) call.op (tuples_are st.space.entries r.space.tuples) fits.1 }
+
+    go : (b : Bool) → runs st call ≡ b → Running (cond b (ran_call st number call) st) (most + 256)
+    go true e =
+        let n = next_after st.space call.op in
+        let was = r.births in
+        record {
+          space = IsState-state_after st.space call.op r.space fits.1;
+          births = omega arith;
+          replies = put_replies st.replies call.client (kept_by st number call) (kept e) r.replies;
+        }
+    go false e = let was = r.births in record { space = r.space; births = omega arith; replies = r.replies }
+
+more_room : (st : State) (a b : ℕ) → a ≤ b → Running st a → Running st b
+more_room st a b l r = let was = r.births in record { space = r.space; births = omega arith; replies = r.replies }
+
+frames_leave : (c : Configuration) (number : ℕ) → number < 2 ^ 64 → (frames : List (List ℕ)) (st : State) (most : ℕ) → Running st most → Running (fold (run_frame c number) st frames) (most + 256 * length frames)
+frames_leave c number small [] st most r = let l : most ≤ most + 256 * 0 = omega arith in more_room st most (most + 256 * 0) l r
+frames_leave c number small (frame ∷ frames) st most r =
+    let rest = frames_leave c number small frames (run_frame c number st frame) (most + 256) (one (call_of c frame) refl) in
+    let l : most + 256 + 256 * length frames ≤ most + 256 * suc (length frames) = omega arith in
+    more_room (fold (run_frame c number) (run_frame c number st frame) frames) (most + 256 + 256 * length frames) (most + 256 * suc (length frames)) l rest
+  where
+    one : (o : Option Call) → call_of c frame ≡ o → Running (option_map_or (run_call st number) o st) (most + 256)
+    one None is = let l : most ≤ most + 256 = omega arith in more_room st most (most + 256) l r
+    one (Some call) is = call_leaves number small st most call (call_fits c frame call is) r
+
+-- a batch leaves a state, of the next number
+pub execute_leaves : (c : Configuration) (st : State) (batch : List ℕ) → st.number + 1 < 2 ^ 48 → IsState st → IsState (execute c st batch)
+unfolding execute
+execute_leaves c st batch below is =
+    let small : suc st.number < 2 ^ 64 = omega arith in
+    let first : Running st (4096 * st.number) = record { space = is.space.state; births = is.space.births; replies = is.replies } in
+    let r = frames_leave c (suc st.number) small (requests_of batch) st (4096 * st.number) first in
+    let few = requests_few batch in
+    let births = r.births in
+    record {
+      space = record { state = r.space; births = omega arith; few = omega arith };
+      replies = r.replies;
+    }
+
+pub opening_is : IsState opening
+opening_is = record {
+  space = record { state = IsState-empty; births = omega arith; few = omega arith };
+  replies = AreReplies-none;
+}
+
+pub leaves_from : (c : Configuration) (batches : List (List ℕ)) (st : State) → st.number + length batches < 2 ^ 48 → IsState st → IsState (after_batches c st batches)
+unfolding execute
+leaves_from c [] st below is = is
+leaves_from c (batch ∷ batches) st below is =
+    let one : st.number + 1 < 2 ^ 48 = omega arith in
+    let rest : suc st.number + length batches < 2 ^ 48 = omega arith in
+    leaves_from c batches (execute c st batch) rest (execute_leaves c st batch one is)
+
+pub batches_leave_states : BatchesLeaveStates
+batches_leave_states c batches valid few = let l : 0 + length batches < 2 ^ 48 = omega arith in leaves_from c batches opening l opening_is

@@ -1,0 +1,127 @@
+-- Laws of the words on lists that the rules of a new view use.
+use Rattle.std.proofs.Common.{◌≡◌, ℕ, zero, suc, ◌+◌, ◌≤◌, ◌<◌, ◌⊎◌, inl, inr, Bool, true, false, cond, max, List, [], ◌∷◌, length, slice_get, Option, Some, None, refl, sym, ap₂, subst, arith, ◌||◌, eqb-true}
+use Rattle.std.specs.Prelude.{◌==◌, nat_lt, nat_le}
+use Rattle.std.specs.Option.{option_map_or}
+use Rattle.std.proofs.lemmas.Bool.{and_parts, le-leb, ltb-true}
+use Rattle.quorum.proofs.Counting.{some_more}
+use Rattle.quorum.specs.Quorum.{count_below}
+use Rattle.protocol.specs.System.Configuration.{Configuration}
+use Rattle.wire.specs.Messages.{ViewChangeData, ClaimData as Claim}
+use Rattle.std.specs.List.{list_all, list_any}
+use Rattle.protocol.specs.Replica.Selection.{change_by, passes_by, largest, largest_of, may_stand, may_all_stand}
+use Rattle.protocol.specs.System.Trace.{Has}
+
+pub has_some : {A : Type 0} (P : A → Type 0) (xs : List A) → Has P xs → (x : A) × Has (λ y. y ≡ x) xs × P x
+has_some P [] h = absurd h
+has_some P (x ∷ xs) (inl h) = (x, inl refl, h)
+has_some P (x ∷ xs) (inr h) = let r = has_some P xs h in (r.0, inr r.1, r.2)
+
+pub every_has : {A : Type 0} (test : A → Bool) (xs : List A) (x : A) → list_all test xs ≡ true → Has (λ y. y ≡ x) xs → test x ≡ true
+every_has test [] x e h = absurd h
+every_has test (y ∷ ys) x e (inl h) = subst (λ z. test z ≡ true) h (and_parts (test y) (list_all test ys) e).0
+every_has test (y ∷ ys) x e (inr h) = every_has test ys x (and_parts (test y) (list_all test ys) e).1 h
+
+pub some_of_has : {A : Type 0} (test : A → Bool) (xs : List A) → list_any test xs ≡ true → (x : A) × Has (λ y. y ≡ x) xs × (test x ≡ true)
+some_of_has test [] h = absurd cc
+some_of_has test (x ∷ xs) h = go (test x) refl h (some_of_has test xs)
+  where
+    go : (b : Bool) → test x ≡ b → (b || list_any test xs) ≡ true
+        → (list_any test xs ≡ true → (y : _) × Has (λ z. z ≡ y) xs × (test y ≡ true)) → (y : _) × Has (λ z. z ≡ y) (x ∷ xs) × (test y ≡ true)
+    go true e k below = (x, inl refl, e)
+    go false e k below = let r = below k in (r.0, inr r.1, r.2)
+
+pub every_change : (test : ViewChangeData → Bool) (set : List (ℕ × ViewChangeData)) (s : ℕ) (vc : ViewChangeData) → list_all (λ x. test x.1) set ≡ true → change_by set s ≡ Some vc → test vc ≡ true
+every_change test [] s vc e h = absurd cc
+every_change test (x ∷ xs) s vc e h =
+    let parts = and_parts (test x.1) (list_all (λ x. test x.1) xs) e in
+    go (x.0 == s) h parts.0 (every_change test xs s vc parts.1)
+  where
+    go : (b : Bool) → cond b (Some x.1) (change_by xs s) ≡ Some vc → test x.1 ≡ true → (change_by xs s ≡ Some vc → test vc ≡ true) → test vc ≡ true
+    go true k here below = subst (λ z. test z ≡ true) (let i : x.1 ≡ vc = cc in i) here
+    go false k here below = below k
+
+pub passes_change : (test : ViewChangeData → Bool) (set : List (ℕ × ViewChangeData)) (s : ℕ) → passes_by test set s ≡ true → (vc : ViewChangeData) × (change_by set s ≡ Some vc) × (test vc ≡ true)
+passes_change test set s h = go (change_by set s) h
+  where
+    go : (o : Option ViewChangeData) → option_map_or test o false ≡ true → (vc : ViewChangeData) × (o ≡ Some vc) × (test vc ≡ true)
+    go None k = absurd cc
+    go (Some vc) k = (vc, refl, k)
+
+pub largest_ge : (limit i : ℕ) (claims : List Claim) → Has (λ x. x.number ≡ i) claims → i ≤ limit → i ≤ largest limit claims
+largest_ge limit i [] h l = absurd h
+largest_ge limit i (claim ∷ claims) (inl h) l =
+    let le : claim.number ≤ limit = omega arith in
+    let test : nat_le claim.number limit ≡ true = le-leb claim.number limit le in
+    rw test (omega arith)
+largest_ge limit i (claim ∷ claims) (inr h) l = go (nat_le claim.number limit) (largest_ge limit i claims h l)
+  where
+    go : (b : Bool) → i ≤ largest limit claims → i ≤ cond b (max claim.number (largest limit claims)) (largest limit claims)
+    go true k = omega arith
+    go false k = k
+
+pub largest_of-ge : (limit i s : ℕ) (set : List (ℕ × ViewChangeData)) (vc : ViewChangeData) → change_by set s ≡ Some vc → Has (λ x. x.number ≡ i) vc.prepared → i ≤ limit → i ≤ largest_of limit set
+largest_of-ge limit i s [] vc is h l = absurd cc
+largest_of-ge limit i s (x ∷ xs) vc is h l = go (x.0 == s) is (largest_of-ge limit i s xs vc)
+  where
+    go : (b : Bool) → cond b (Some x.1) (change_by xs s) ≡ Some vc → (change_by xs s ≡ Some vc → Has (λ x. x.number ≡ i) vc.prepared → i ≤ limit → i ≤ largest_of limit xs)
+        → i ≤ max (largest limit x.1.prepared) (largest_of limit xs)
+    go true k below =
+        let same : x.1 ≡ vc = cc in
+        let r = largest_ge limit i x.1.prepared (subst (λ (z : ViewChangeData). Has (λ x. x.number ≡ i) z.prepared) (sym same) h) l in omega arith
+    go false k below = let r = below k h l in omega arith
+
+-- the same over each member
+pub largest_of-has : (limit i s : ℕ) (set : List (ℕ × ViewChangeData)) (vc : ViewChangeData) → Has (λ x. x ≡ (s, vc)) set → Has (λ x. x.number ≡ i) vc.prepared → i ≤ limit → i ≤ largest_of limit set
+largest_of-has limit i s [] vc is h l = absurd is
+largest_of-has limit i s (x ∷ xs) vc (inl is) h l =
+    let r = largest_ge limit i x.1.prepared (subst (λ (z : ℕ × ViewChangeData). Has (λ x. x.number ≡ i) z.1.prepared) (sym is) h) l in omega arith
+largest_of-has limit i s (x ∷ xs) vc (inr is) h l = let r = largest_of-has limit i s xs vc is h l in omega arith
+
+pub change_there : (set : List (ℕ × ViewChangeData)) (s : ℕ) (vc : ViewChangeData) → change_by set s ≡ Some vc → Has (λ x. x ≡ (s, vc)) set
+change_there [] s vc h = absurd cc
+change_there (x ∷ xs) s vc h = go (x.0 == s) refl h (change_there xs s vc)
+  where
+    go : (b : Bool) → (x.0 == s) ≡ b → cond b (Some x.1) (change_by xs s) ≡ Some vc → (change_by xs s ≡ Some vc → Has (λ x. x ≡ (s, vc)) xs) → Has (λ x. x ≡ (s, vc)) (x ∷ xs)
+    go true own k below =
+        let i : x.1 ≡ vc = cc in
+        let n : x.0 ≡ s = eqb-true x.0 s own in
+        inl (ap₂ (λ (m : ℕ) (y : ViewChangeData). let r : ℕ × ViewChangeData = (m, y) in r) n i)
+    go false own k below = inr (below k)
+
+pub has_of_any : {A : Type 0} (P : A → Type 0) (test : A → Bool) → ((x : A) → test x ≡ true → P x) → (xs : List A) → list_any test xs ≡ true → Has P xs
+has_of_any P test f [] h = absurd cc
+has_of_any P test f (x ∷ xs) h = go (test x) refl h (has_of_any P test f xs)
+  where
+    go : (b : Bool) → test x ≡ b → (b || list_any test xs) ≡ true → (list_any test xs ≡ true → Has P xs) → P x ⊎ Has P xs
+    go true e k below = inl (f x e)
+    go false e k below = inr (below k)
+
+pub get_there : (xs : List (List ℕ)) (k : ℕ) → k < length xs → (x : List ℕ) × (slice_get xs k ≡ Some x)
+get_there [] k l = absurd (omega arith)
+get_there (y ∷ ys) zero l = (y, refl)
+get_there (y ∷ ys) (suc k) l = let m : k < length ys = omega arith in get_there ys k m
+
+pub stands_at : (c : Configuration) (view : ℕ) (set : List (ℕ × ViewChangeData)) (first : ℕ) (batches : List (List ℕ)) (k : ℕ) (batch : List ℕ)
+    → may_all_stand c view set first batches ≡ true → slice_get batches k ≡ Some batch → (i : ℕ) → i ≡ first + k → may_stand c view set i batch ≡ true
+stands_at c view set first [] k batch h g i is = absurd cc
+stands_at c view set first (x ∷ xs) zero batch h g i is =
+    let p = and_parts (may_stand c view set first x) (may_all_stand c view set (suc first) xs) h in
+    let e : x ≡ batch = cc in
+    let n : first ≡ i = omega arith in
+    subst (λ m. may_stand c view set m batch ≡ true) n (subst (λ y. may_stand c view set first y ≡ true) e p.0)
+stands_at c view set first (x ∷ xs) (suc k) batch h g i is =
+    let p = and_parts (may_stand c view set first x) (may_all_stand c view set (suc first) xs) h in
+    let n : i ≡ suc first + k = omega arith in
+    stands_at c view set (suc first) xs k batch p.1 g i n
+
+none_pass : (n : ℕ) → count_below (λ x. false) n ≡ 0
+none_pass zero = refl
+none_pass (suc n) = none_pass n
+
+pub some_below : (test : ℕ → Bool) (n : ℕ) → nat_lt 0 (count_below test n) ≡ true → (k : ℕ) × (k < n) × (test k ≡ true)
+some_below test n h =
+    let some : 0 < count_below test n = ltb-true 0 (count_below test n) h in
+    let zero_is = none_pass n in
+    let more : count_below (λ x. false) n < count_below test n = omega arith in
+    let r = some_more test (λ x. false) n more in
+    (r.0, r.1, r.3)

@@ -1,0 +1,41 @@
+-- Laws of the words on options.
+use Rattle.std.proofs.Common.{◌≡◌, ◌⊎◌, inl, inr, Bool, true, false, List, [], ◌∷◌, Option, Some, None, refl}
+use Rattle.std.specs.Prelude.{option_and_then}
+use Rattle.protocol.specs.System.Trace.{Entry, Once}
+use Rattle.quorum.specs.Votes.{or_else, give_if}
+use Rattle.protocol.specs.Replica.Certificates.{first_given}
+
+pub or_else_first : {A : Type 0} (o later : Option A) (x : A) → o ≡ Some x → or_else o later ≡ Some x
+or_else_first None later x e = absurd cc
+or_else_first (Some y) later x e = e
+
+pub or_else_cases : {A : Type 0} (o later : Option A) (x : A) → or_else o later ≡ Some x → (o ≡ Some x) ⊎ (later ≡ Some x)
+or_else_cases None later x e = inr e
+or_else_cases (Some y) later x e = inl e
+
+pub give_if_some : {A : Type 0} (b : Bool) (x y : A) → give_if b x ≡ Some y → (b ≡ true) × (x ≡ y)
+give_if_some true x y e = (refl, cc)
+give_if_some false x y e = absurd cc
+
+pub some_injective : {A : Type 0} (x y : A) → Some x ≡ Some y → x ≡ y
+some_injective x y e = cc
+
+pub and_then_some : {A B : Type 0} (f : A → Option B) (o : Option A) (y : B) → option_and_then f o ≡ Some y → (x : A) × (o ≡ Some x) × (f x ≡ Some y)
+and_then_some f None y e = absurd cc
+and_then_some f (Some x) y e = (x, refl, e)
+
+-- ---- the first that is given
+
+pub given_stays : {A : Type 0} (give : List Entry → Entry → Option A) (x : A) (e : Entry) (past : List Entry)
+    → first_given give past ≡ Some x → first_given give (e ∷ past) ≡ Some x
+given_stays give x e past h = or_else_first (first_given give past) (give past e) x h
+
+pub given_once : {A : Type 0} (give : List Entry → Entry → Option A) (x : A) (xs : List Entry)
+    → first_given give xs ≡ Some x → Once (λ past e. give past e ≡ Some x) xs
+given_once give x [] h = absurd cc
+given_once give x (e ∷ past) h = go (or_else_cases (first_given give past) (give past e) x h) (given_once give x past)
+  where
+    go : (first_given give past ≡ Some x) ⊎ (give past e ≡ Some x) → (first_given give past ≡ Some x → Once (λ past e. give past e ≡ Some x) past)
+        → Once (λ past e. give past e ≡ Some x) (e ∷ past)
+    go (inl h) below = inr (below h)
+    go (inr h) below = inl h

@@ -1,0 +1,2 @@
+-- A correct client.
+pub mod RightClient

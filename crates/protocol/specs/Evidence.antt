@@ -1,0 +1,24 @@
+-- What the definitions accept and refuse, and what the premises leave open. Nothing else stands on these.
+pub mod Certified
+pub mod Refused
+pub mod Examples
+pub mod ExamplesOfInstalling
+pub mod RefusedRuns
+pub mod FirstOperation
+pub mod RefusedChanges
+pub mod ExamplesOfAnswers
+pub mod RefusedMarks
+pub mod RefusedKept
+pub mod RefusedItems
+pub mod FirstReads
+pub mod RefusedSteps
+pub mod Clients
+pub mod Stopping
+pub mod ExamplesOfClients
+pub mod Correct
+pub mod Fed
+pub mod ExamplesOfTransfer
+pub mod Selected
+pub mod ExamplesOfKept
+pub mod ExamplesOfChanges
+pub mod Premises

@@ -1,0 +1,32 @@
+-- A party may stop: behind any history of a correct one, it takes inputs and gives no output.
+use Rattle.std.specs.Prelude.{◌≡◌, ℕ, suc, ◌+◌, List, ◌∷◌, None}
+use Rattle.tuple_codec.specs.Operations.{Operation, IsOperation}
+use Rattle.protocol.specs.System.Configuration.{Configuration}
+use Rattle.protocol.specs.System.Trace.{Entry}
+use Rattle.protocol.specs.System.Trace.Entry.{Invoke, Got, Tick}
+use Rattle.protocol.specs.Client.RightClient.{last_call, open_call, IsClient, IsWeakClient}
+use Rattle.protocol.specs.Replica.Owed.{IsReplica}
+
+-- the party gets a frame, or has a tick
+abbrev pub TakesInputs : ℕ → (List Entry → Type 0) → List Entry → Type 0
+TakesInputs me Is past = ((bytes : List ℕ) → Is (Got me bytes ∷ past)) × Is (Tick me ∷ past)
+
+-- the client calls, where no call is open
+abbrev pub TakesCalls : ℕ → (List Entry → Type 0) → List Entry → Type 0
+TakesCalls me Is past =
+    (k : ℕ) (op : Operation) → me ≡ 256 + k → open_call past ≡ None → IsOperation op → Is (Invoke k (suc (last_call past)) op ∷ past)
+
+-- A correct replica's history stays one where it takes an input and gives nothing: it stopped.
+abbrev pub ReplicasMayStop : Type 0
+ReplicasMayStop = (c : Configuration) (me : ℕ) (past : List Entry) → IsReplica c me past → TakesInputs me (IsReplica c me) past
+
+-- So does a client's, at a call too.
+abbrev pub ClientsMayStop : Type 0
+ClientsMayStop =
+    (c : Configuration) (me : ℕ) (past : List Entry)
+    → IsClient c me past → TakesInputs me (IsClient c me) past × TakesCalls me (IsClient c me) past
+
+abbrev pub WeakClientsMayStop : Type 0
+WeakClientsMayStop =
+    (c : Configuration) (me : ℕ) (past : List Entry)
+    → IsWeakClient c me past → TakesInputs me (IsWeakClient c me) past × TakesCalls me (IsWeakClient c me) past

@@ -1,0 +1,192 @@
+-- The laws over all safe histories: what bytes say, agreement on batches, states and roots, and the first view.
+use Rattle.std.specs.Prelude.{◌≡◌, ◌≢◌, ◌↔◌, ℕ, ◌^◌, ◌≤◌, ◌<◌, ◌⊎◌, true, List, length, Some}
+use Rattle.sha2.specs.Sha256.{sha256}
+use Rattle.protocol.specs.System.Configuration.{Configuration, IsConfiguration, is_correct, is_correct_replica, is_correct_client}
+use Rattle.tuple_tree.specs.Values.{AreBytes}
+use Rattle.wire.specs.Messages.{BodyData as Body, FrameData as Frame, NewViewData, ViewChangeData, view_change as ViewChange}
+use Rattle.wire.specs.Spelling.{SpellsFrame}
+use Rattle.signing.specs.Heard.{heard as heard_among, signed_body as signed_among}
+use Rattle.protocol.specs.System.Frames.{members, frame_of, said, opened, heard, signed_body}
+use Rattle.protocol.specs.System.Trace.{Entry, party_of, history_of, Once, Always, Has, SendsBody, Unforged}
+use Rattle.protocol.specs.System.Trace.Entry.{Installed}
+use Rattle.protocol.specs.Replica.Certificates.{Prepared, Committed, view, taken, batch_begun}
+use Rattle.protocol.specs.Replica.RightReplica.{SafeReplica, HadQuorum, StartsAt}
+use Rattle.protocol.specs.Client.RightClient.{SafeClient, SafeWeakClient}
+use Rattle.protocol.specs.Space.Linear.{points, IsLinear, Item, Legal, Covers}
+use Rattle.protocol.specs.Replica.State.{State, IsState, opening, after_batches, page_text, root_of}
+use Rattle.protocol.specs.System.Texts.{NoCollision, StoodAt, ExecutesBatch, AreExecuted}
+
+-- ---- bytes
+
+-- A list of bytes spells what its grammar says.
+abbrev pub FramesAreSpelled : Type 0
+FramesAreSpelled = (bytes : List ℕ) (frame : Frame) → AreBytes bytes → (frame_of bytes ≡ Some frame) ↔ SpellsFrame bytes frame
+
+-- What a spelled frame says is its body.
+abbrev pub BodiesAreSaid : Type 0
+BodiesAreSaid = (bytes : List ℕ) (frame : Frame) → AreBytes bytes → SpellsFrame bytes frame → said bytes ≡ Some frame.body
+
+-- What a party can take from bytes is what it hears from them among the members of its configuration, and a signed body
+-- is one. It hears that from others alone.
+pub record IsAsHeard (c : Configuration) (bytes : List ℕ) : Type 0 where
+  pub all : (me : ℕ) → opened c me bytes ≡ heard_among (members c) me bytes
+  pub others : (me : ℕ) (body : Body) → (heard c me bytes ≡ Some body) ↔ ((opened c me bytes ≡ Some body) × (body.sender ≢ me))
+  pub signed : signed_body c bytes ≡ signed_among (members c) bytes
+
+-- It is so on any bytes.
+abbrev pub BytesAreHeard : Type 0
+BytesAreHeard = (c : Configuration) (bytes : List ℕ) → AreBytes bytes → IsAsHeard c bytes
+
+-- ---- agreement
+
+-- Each correct replica's history is safe.
+abbrev pub AreReplicasSafe : Configuration → List Entry → Type 0
+AreReplicasSafe c trace = (p : ℕ) → is_correct_replica c p ≡ true → SafeReplica c p (history_of p trace)
+
+-- What two correct replicas hold prepared in one view for one number has one digest.
+abbrev pub PreparedAgree : Type 0
+PreparedAgree =
+    (c : Configuration) → IsConfiguration c → (trace : List Entry) → AreReplicasSafe c trace → Unforged c trace
+    → (p q v i : ℕ) (a b : List ℕ) → is_correct_replica c p ≡ true → is_correct_replica c q ≡ true
+    → Prepared c p (history_of p trace) v i a → Prepared c q (history_of q trace) v i b → sha256 a ≡ sha256 b
+
+-- the new view has a batch of this digest for the number, or starts at or above it
+abbrev pub HasOrStartsAbove : ℕ → List ℕ → NewViewData → Type 0
+HasOrStartsAbove i digest new = (i ≤ new.start) ⊎ ((batch : List ℕ) × (batch_begun new.view i new ≡ Some batch) × (sha256 batch ≡ digest))
+
+-- the new view is taken here, or sent
+abbrev pub Takes : Configuration → NewViewData → List Entry → Entry → Type 0
+Takes c new past e = taken c past e ≡ Some new
+
+-- What is committed for a number, each new view of a later view that a correct replica takes or sends has there, or it
+-- starts at or above the number.
+abbrev pub CommittedStays : Type 0
+CommittedStays =
+    (c : Configuration) → IsConfiguration c → (trace : List Entry) → AreReplicasSafe c trace → Unforged c trace
+    → (p q v i : ℕ) (a : List ℕ) (new : NewViewData) → is_correct_replica c p ≡ true → is_correct_replica c q ≡ true
+    → Committed c p (history_of p trace) v i a → Once (Takes c new) (history_of q trace) → v < new.view
+    → HasOrStartsAbove i (sha256 a) new
+
+-- What two correct replicas hold committed for one number has one digest, over all views.
+abbrev pub CommittedAgree : Type 0
+CommittedAgree =
+    (c : Configuration) → IsConfiguration c → (trace : List Entry) → AreReplicasSafe c trace → Unforged c trace
+    → (p q v w i : ℕ) (a b : List ℕ) → is_correct_replica c p ≡ true → is_correct_replica c q ≡ true
+    → Committed c p (history_of p trace) v i a → Committed c q (history_of q trace) w i b → sha256 a ≡ sha256 b
+
+-- What two correct replicas execute for one number is one batch.
+abbrev pub ExecutedAgree : Type 0
+ExecutedAgree =
+    (c : Configuration) → IsConfiguration c → (trace : List Entry) → AreReplicasSafe c trace → Unforged c trace → NoCollision c trace
+    → (k : ℕ) (a b : List ℕ) → Once (ExecutesBatch c k a) trace → Once (ExecutesBatch c k b) trace → a ≡ b
+
+-- ---- states
+
+-- States are equal where their pages are.
+abbrev pub PagesDetermine : Type 0
+PagesDetermine = (st other : State) → IsState st → IsState other → ((i : ℕ) → i < 1024 → page_text st i ≡ page_text other i) → st ≡ other
+
+-- Batches leave a state, as long as there are fewer than 2^48.
+abbrev pub BatchesLeaveStates : Type 0
+BatchesLeaveStates = (c : Configuration) (batches : List (List ℕ)) → IsConfiguration c → length batches < 2 ^ 48 → IsState (after_batches c opening batches)
+
+-- some correct replica had the state at some time of the trace, as its own or as a snapshot
+abbrev pub Had : Configuration → List Entry → State → Type 0
+Had c trace st = (at : StoodAt c trace) × ((at.point.state ≡ st) ⊎ Has (λ x. x ≡ st) at.point.snapshots)
+
+-- it is the state after batches that were executed
+pub record IsStateOf (c : Configuration) (trace : List Entry) (st : State) : Type 0 where
+  pub batches : List (List ℕ)
+  pub executed : AreExecuted c trace 1 batches
+  pub is : st ≡ after_batches c opening batches
+
+-- Each state that a correct replica ever has, executed, kept or installed, is that of the executed batches up to its
+-- number.
+abbrev pub StatesAreExecuted : Type 0
+StatesAreExecuted =
+    (c : Configuration) → IsConfiguration c → (trace : List Entry) → AreReplicasSafe c trace → Unforged c trace → NoCollision c trace
+    → (st : State) → Had c trace st → IsStateOf c trace st
+
+-- So those of one number, whenever and wherever, are one state.
+abbrev pub StatesAgree : Type 0
+StatesAgree =
+    (c : Configuration) → IsConfiguration c → (trace : List Entry) → AreReplicasSafe c trace → Unforged c trace → NoCollision c trace
+    → (x y : State) → Had c trace x → Had c trace y → x.number ≡ y.number → x ≡ y
+
+-- the root is that of the state of the executed batches up to the number
+pub record IsRootOf (c : Configuration) (trace : List Entry) (k : ℕ) (root : List ℕ) : Type 0 where
+  pub batches : List (List ℕ)
+  pub long : length batches ≡ k
+  pub executed : AreExecuted c trace 1 batches
+  pub root_is : root ≡ root_of (after_batches c opening batches)
+
+-- a state of this number and root is installed here
+abbrev pub Installs : ℕ → List ℕ → List Entry → Entry → Type 0
+Installs k root past (Installed r number digest) = (number ≡ k) × (digest ≡ root)
+Installs k root past _ = ⊥
+
+-- what happens at a correct replica with a number and a root gives the root of the executed batches
+abbrev pub GivesRoots : (Configuration → ℕ → List ℕ → List Entry → Type 0) → Type 0
+GivesRoots Happens =
+    (c : Configuration) → IsConfiguration c → (trace : List Entry) → AreReplicasSafe c trace → Unforged c trace → NoCollision c trace
+    → (r k : ℕ) (root : List ℕ) → is_correct_replica c r ≡ true → Happens c k root (history_of r trace) → IsRootOf c trace k root
+
+-- What a quorum of checkpoints says, what is installed, and what a new view starts with, has the root of the executed
+-- batches.
+abbrev pub StableAgree : Type 0
+StableAgree = GivesRoots (λ c k root history. HadQuorum c (record { number = k; digest = root }) history)
+
+abbrev pub InstalledAgree : Type 0
+InstalledAgree = GivesRoots (λ c k root history. Once (Installs k root) history)
+
+abbrev pub StartsAgree : Type 0
+StartsAgree = GivesRoots (λ c k root history. Once (StartsAt c k root) history)
+
+-- ---- points
+
+-- what the laws use of a run: what its correct replicas and clients do, they may do, and no others have entries
+pub record IsSafeTrace (c : Configuration) (trace : List Entry) : Type 0 where
+  pub replicas : AreReplicasSafe c trace
+  pub clients : (p : ℕ) → is_correct_client c p ≡ true → SafeClient c p (history_of p trace)
+  pub parties : Always (λ past e. is_correct c (party_of e) ≡ true) trace
+
+-- The headline, over all such traces: no party needs to be prompt.
+abbrev pub LinearOfSafe : Type 0
+LinearOfSafe =
+    (c : Configuration) → IsConfiguration c → (trace : List Entry) → IsSafeTrace c trace → Unforged c trace → NoCollision c trace
+    → IsLinear c (points c trace) trace
+
+-- Some list of items is legal and covers the trace, under the client that accepts at f + 1 replies of one answer too:
+-- one correct replica stands behind an answer.
+pub record IsOneSpace (c : Configuration) (trace : List Entry) : Type 0 where
+  pub items : List Item
+  pub legal : Legal items
+  pub covers : Covers c items trace
+
+-- each correct client's history is safe, by the rule that accepts at f + 1
+abbrev pub AreClientsWeak : Configuration → List Entry → Type 0
+AreClientsWeak c trace = (p : ℕ) → is_correct_client c p ≡ true → SafeWeakClient c p (history_of p trace)
+
+-- It is so in each trace of safe parties.
+abbrev pub WeakIsOneSpace : Type 0
+WeakIsOneSpace =
+    (c : Configuration) → IsConfiguration c → (trace : List Entry) → AreReplicasSafe c trace → AreClientsWeak c trace
+    → Always (λ past e. is_correct c (party_of e) ≡ true) trace → Unforged c trace → NoCollision c trace → IsOneSpace c trace
+
+-- ---- the first view
+
+-- no correct replica sends a view change
+abbrev pub NoneChanges : Configuration → List Entry → Type 0
+NoneChanges c trace = (p : ℕ) (vc : ViewChangeData) → is_correct_replica c p ≡ true → Once (SendsBody (record { sender = p; message = ViewChange vc })) trace → ⊥
+
+-- Then none takes a new view: of the 2f + 1 signers of its view changes one is correct.
+abbrev pub NoneBegins : Type 0
+NoneBegins =
+    (c : Configuration) → IsConfiguration c → (trace : List Entry) → AreReplicasSafe c trace → Unforged c trace → NoneChanges c trace
+    → (p : ℕ) (new : NewViewData) → is_correct_replica c p ≡ true → Once (Takes c new) (history_of p trace) → ⊥
+
+-- So each stays in the first view.
+abbrev pub FirstViewStays : Type 0
+FirstViewStays =
+    (c : Configuration) → IsConfiguration c → (trace : List Entry) → AreReplicasSafe c trace → Unforged c trace → NoneChanges c trace
+    → (p : ℕ) → is_correct_replica c p ≡ true → view c (history_of p trace) ≡ 0

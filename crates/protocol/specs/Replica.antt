@@ -1,0 +1,6 @@
+-- A correct replica.
+pub mod Selection
+pub mod Certificates
+pub mod State
+pub mod RightReplica
+pub mod Owed

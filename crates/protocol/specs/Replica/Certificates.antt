@@ -1,0 +1,203 @@
+-- What a replica's history certifies at one of its points: the view, the low mark, the log, and what is prepared,
+-- committed and stable (Castro and Liskov, TOCS 2002, on quorums and certificates, garbage collection and view
+-- changes). Each word is a function of the past, the newest entry first. What counts first stays: a later message for
+-- the same place adds nothing.
+use Rattle.std.specs.Prelude.{◌≡◌, ℕ, ◌+◌, ◌-◌, ◌*◌, ◌≤◌, Bool, true, false, ◌&&◌, not, List, [], ◌∷◌, take, max, nat_lt, nat_le, ◌==◌, if◌then◌else◌, Option, Some, None, slice_get, option_and_then, bytes_eq, is_some}
+use Rattle.std.specs.List.{list_all, list_any}
+use Rattle.std.specs.Option.{option_map_or}
+use Rattle.sha2.specs.Sha256.{sha256}
+use Rattle.quorum.specs.Quorum.{count_below}
+use Rattle.quorum.specs.Votes.{or_else, give_if, has_digest}
+use Rattle.protocol.specs.System.Configuration.{Configuration, replicas, primary, span, is_number}
+use Rattle.wire.specs.Messages.{BodyData as Body, NewViewData, MarkData as Mark, pre_prepare as PrePrepare, prepare as Prepare, commit as Commit, checkpoint as Checkpoint, view_change as ViewChange, new_view as NewView}
+use Rattle.wire.specs.Words.{requests_of}
+use Rattle.protocol.specs.System.Frames.{said, heard}
+use Rattle.protocol.specs.System.Trace.{Entry}
+use Rattle.protocol.specs.System.Trace.Entry.{Got, Installed, Sent}
+use Rattle.protocol.specs.Replica.Selection.{is_quorum, may_select}
+
+-- what an entry brings: what is heard, or what is said
+abbrev pub brought : Configuration → Entry → Option Body
+brought c (Got p bytes) = heard c p bytes
+brought c (Sent p bytes) = said bytes
+brought c _ = None
+
+-- the greatest number that an entry has
+abbrev pub greatest : (Entry → ℕ) → List Entry → ℕ
+greatest number [] = 0
+greatest number (e ∷ past) = max (number e) (greatest number past)
+
+-- what the first entry gives that gives anything
+abbrev pub first_given : {A : Type 0} → (List Entry → Entry → Option A) → List Entry → Option A
+first_given give [] = None
+first_given give (e ∷ past) = or_else (first_given give past) (give past e)
+
+-- ---- the view
+
+-- a new view by the primary of its view, that meets the rules
+abbrev pub new_view_from : Configuration → Body → Option NewViewData
+new_view_from c body = elim body.message [ NewView new ↦ give_if ((body.sender == primary c new.view) && may_select c new) new | _ ↦ None ]
+
+-- the new view that an entry brings
+abbrev pub new_view_in : Configuration → Entry → Option NewViewData
+new_view_in c e = option_and_then (new_view_from c) (brought c e)
+
+-- the view of a view change, else 0
+abbrev pub change_from : Body → ℕ
+change_from body = elim body.message [ ViewChange vc ↦ vc.view | _ ↦ 0 ]
+
+-- that of a view change that is sent here
+abbrev pub change_sent : Entry → ℕ
+change_sent (Sent p bytes) = option_map_or change_from (said bytes) 0
+change_sent _ = 0
+
+-- the greatest view of a view change that was sent
+abbrev pub target : List Entry → ℕ
+target past = greatest change_sent past
+
+-- a new view is taken where its view is above the own one, and not below the target
+abbrev pub is_later : ℕ → ℕ → NewViewData → Bool
+is_later v t new = nat_lt v new.view && nat_le t new.view
+
+-- the view behind an entry that brings this new view, or none
+abbrev pub view_after : ℕ → ℕ → Option NewViewData → ℕ
+view_after v t None = v
+view_after v t (Some new) = if is_later v t new then new.view else v
+
+-- that of the last new view that was sent or taken, first 0
+unfoldable pub view : Configuration → List Entry → ℕ
+view c [] = 0
+view c (e ∷ past) = view_after (view c past) (target past) (new_view_in c e)
+
+-- in the view, with no later view change sent
+abbrev pub is_active_in : Configuration → List Entry → ℕ → Bool
+is_active_in c past v = (view c past == v) && nat_le (target past) v
+
+-- the new view that is taken, or sent, at an entry
+abbrev pub taken : Configuration → List Entry → Entry → Option NewViewData
+taken c past e = option_and_then (λ new. give_if (is_later (view c past) (target past) new) new) (new_view_in c e)
+
+-- ---- checkpoints
+
+-- the checkpoint that a message is, with its sender, where its number is one
+abbrev pub checkpoint_from : Body → Option (ℕ × Mark)
+checkpoint_from body = elim body.message [ Checkpoint number root ↦ give_if (is_number number) (body.sender, record { number = number; digest = root }) | _ ↦ None ]
+
+-- the checkpoint that an entry brings, with its sender
+abbrev pub checkpoint_in : Configuration → Entry → Option (ℕ × Mark)
+checkpoint_in c e = option_and_then checkpoint_from (brought c e)
+
+-- one more among a sender's checkpoints, the largest number first; of one number the earlier stays
+abbrev pub insert_checkpoint : Mark → List Mark → List Mark
+insert_checkpoint mark [] = mark ∷ []
+insert_checkpoint mark (m ∷ ms) = if m.number == mark.number then m ∷ ms else if nat_lt m.number mark.number then mark ∷ m ∷ ms else m ∷ insert_checkpoint mark ms
+
+-- a sender's checkpoints behind an entry that brings this one: another's changes nothing, and three stay
+abbrev pub with_checkpoint : ℕ → Option (ℕ × Mark) → List Mark → List Mark
+with_checkpoint s None marks = marks
+with_checkpoint s (Some x) marks = if x.0 == s then take 3 (insert_checkpoint x.1 marks) else marks
+
+-- of each sender the checkpoints of the three largest numbers, the largest first; of one number the first counts
+unfoldable pub checkpoints_of : Configuration → List Entry → ℕ → List Mark
+checkpoints_of c [] s = []
+checkpoints_of c (e ∷ past) s = with_checkpoint s (checkpoint_in c e) (checkpoints_of c past s)
+
+-- one of these checkpoints has this number and digest
+abbrev pub says_checkpoint : Mark → List Mark → Bool
+says_checkpoint mark marks = list_any (λ m. (m.number == mark.number) && bytes_eq m.digest mark.digest) marks
+
+-- how many different replicas' checkpoints say this
+abbrev pub count_checkpoints : Configuration → List Entry → Mark → ℕ
+count_checkpoints c past mark = count_below (λ s. says_checkpoint mark (checkpoints_of c past s)) (replicas c)
+
+-- Stable: a quorum of checkpoints is alike, the own among them.
+abbrev pub is_stable : Configuration → ℕ → List Entry → Mark → Bool
+is_stable c me past mark = is_quorum c (count_checkpoints c past mark) && says_checkpoint mark (checkpoints_of c past me)
+
+-- ---- the low mark
+
+-- the number that an entry makes stable, installs or starts at, else 0
+abbrev pub stable_at : Configuration → ℕ → List Entry → Entry → ℕ
+stable_at c me past e = option_map_or (λ x. if is_stable c me (e ∷ past) x.1 then x.1.number else 0) (checkpoint_in c e) 0
+
+abbrev pub installed_at : Entry → ℕ
+installed_at (Installed replica number root) = number
+installed_at _ = 0
+
+abbrev pub started_at : Configuration → List Entry → Entry → ℕ
+started_at c past e = option_map_or (λ new. new.start) (taken c past e) 0
+
+-- the greatest of them
+unfoldable pub low : Configuration → ℕ → List Entry → ℕ
+low c me [] = 0
+low c me (e ∷ past) = max (low c me past) (max (stable_at c me past e) (max (installed_at e) (started_at c past e)))
+
+-- above the low mark, at most the span above it, and a number
+abbrev pub is_in_marks : Configuration → ℕ → ℕ → Bool
+is_in_marks c h number = nat_lt h number && nat_le number (h + span c) && is_number number
+
+-- ---- the log
+
+-- whether an ordering message for the view and number counts: the own do, others while active in the view and within
+-- the marks
+abbrev pub counts_at : Configuration → ℕ → List Entry → Entry → ℕ → ℕ → Bool
+counts_at c me past (Got p bytes) v i = is_active_in c past v && is_in_marks c (low c me past) i
+counts_at c me past (Sent p bytes) v i = true
+counts_at c me past _ v i = false
+
+-- whether each request of the batch is authentic to the replica
+abbrev pub are_genuine : Configuration → ℕ → List ℕ → Bool
+are_genuine c me batch = list_all (λ request. is_some (heard c me request)) (requests_of batch)
+
+-- the batch that the view's primary proposes by a pre-prepare
+abbrev pub batch_from : Configuration → ℕ → ℕ → ℕ → Body → Option (List ℕ)
+batch_from c me v i body = elim body.message [ PrePrepare view number batch ↦ give_if ((view == v) && (number == i) && (body.sender == primary c v) && are_genuine c me batch) batch | _ ↦ None ]
+
+-- what a new view proposes for the number
+abbrev pub batch_begun : ℕ → ℕ → NewViewData → Option (List ℕ)
+batch_begun v i new = if (new.view == v) && nat_lt new.start i then slice_get new.batches (i - new.start - 1) else None
+
+-- what the new view that an entry brings pre-prepares in the view v at i, within the marks then, and what a pre-prepare
+-- does
+abbrev pub begun_proposal : Configuration → ℕ → List Entry → Entry → ℕ → ℕ → Option (List ℕ)
+begun_proposal c me past e v i = if is_in_marks c (low c me (e ∷ past)) i then option_and_then (batch_begun v i) (taken c past e) else None
+
+abbrev pub entry_proposal : Configuration → ℕ → List Entry → Entry → ℕ → ℕ → Option (List ℕ)
+entry_proposal c me past e v i = if counts_at c me past e v i then option_and_then (batch_from c me v i) (brought c e) else None
+
+-- what an entry pre-prepares, by a new view or by a pre-prepare
+abbrev pub proposal : Configuration → ℕ → List Entry → Entry → ℕ → ℕ → Option (List ℕ)
+proposal c me past e v i = or_else (begun_proposal c me past e v i) (entry_proposal c me past e v i)
+
+-- PrePrepared: the batch that is logged for the view and number.
+unfoldable pub logged : Configuration → ℕ → List Entry → ℕ → ℕ → Option (List ℕ)
+logged c me past v i = first_given (λ earlier e. proposal c me earlier e v i) past
+
+-- the digest that a message prepares, as a backup, or commits
+abbrev pub prepare_from : Configuration → ℕ → ℕ → ℕ → Body → Option (List ℕ)
+prepare_from c s v i body = elim body.message [ Prepare view number digest ↦ give_if ((body.sender == s) && (view == v) && (number == i) && not (s == primary c v)) digest | _ ↦ None ]
+
+abbrev pub commit_from : ℕ → ℕ → ℕ → Body → Option (List ℕ)
+commit_from s v i body = elim body.message [ Commit view number digest ↦ give_if ((body.sender == s) && (view == v) && (number == i)) digest | _ ↦ None ]
+
+-- the vote that an entry brings
+abbrev pub vote_in : Configuration → ℕ → List Entry → Entry → (Body → Option (List ℕ)) → ℕ → ℕ → Option (List ℕ)
+vote_in c me past e vote v i = if counts_at c me past e v i then option_and_then vote (brought c e) else None
+
+-- the first digest that the replica s prepared, or committed, in the view v at i
+unfoldable pub prepare_of : Configuration → ℕ → List Entry → ℕ → ℕ → ℕ → Option (List ℕ)
+prepare_of c me past v i s = first_given (λ earlier e. vote_in c me earlier e (prepare_from c s v i) v i) past
+
+unfoldable pub commit_of : Configuration → ℕ → List Entry → ℕ → ℕ → ℕ → Option (List ℕ)
+commit_of c me past v i s = first_given (λ earlier e. vote_in c me earlier e (commit_from s v i) v i) past
+
+-- Prepared: the batch is logged, and 2f different backups prepared its digest.
+pub record Prepared (c : Configuration) (me : ℕ) (past : List Entry) (v i : ℕ) (batch : List ℕ) : Type 0 where
+  pub logged : logged c me past v i ≡ Some batch
+  pub backups : 2 * c.faults ≤ count_below (λ s. has_digest (sha256 batch) (prepare_of c me past v i s)) (replicas c)
+
+-- Committed: prepared, and 2f + 1 different replicas committed its digest, the own commit among them.
+pub record Committed (c : Configuration) (me : ℕ) (past : List Entry) (v i : ℕ) (batch : List ℕ) : Type 0 where
+  pub prepared : Prepared c me past v i batch
+  pub commits : 2 * c.faults + 1 ≤ count_below (λ s. has_digest (sha256 batch) (commit_of c me past v i s)) (replicas c)
+  pub own : commit_of c me past v i me ≡ Some (sha256 batch)

@@ -1,0 +1,343 @@
+-- What a correct replica may do: what each entry of its history must be, given its past (Castro and Liskov, TOCS 2002,
+-- on normal-case operation, garbage collection, view changes and state transfer). What it owes, and the
+-- whole of what its history is (IsReplica), stands in Owed.
+use Rattle.std.specs.Prelude.{◌≡◌, ◌≢◌, ℕ, suc, ◌+◌, ◌%◌, ◌≤◌, ◌<◌, ◌⊎◌, Bool, true, ◌&&◌, ◌||◌, not, List, [], ◌∷◌, ◌++◌, map, reverse, filter, nat_le, nat_lt, ◌==◌, if◌then◌else◌, Some, option_and_then, AllPairs, ⊤}
+use Rattle.std.specs.List.{list_all, range_with_len}
+use Rattle.std.specs.Option.{option_map_or}
+use Rattle.sha2.specs.Sha256.{sha256}
+use Rattle.tuple_codec.specs.Operations.{Operation, Outcome}
+use Rattle.space.specs.Applying.{outcome, is_read_only}
+use Rattle.partition_tree.specs.Digests.{inner_digests, page_digests}
+use Rattle.protocol.specs.System.Configuration.{Configuration, replicas, primary, is_number}
+use Rattle.wire.specs.declared.terms.Mode.{Mode}
+use Rattle.wire.specs.declared.terms.Mode.TheVariants as modes
+use Rattle.wire.specs.declared.terms.Level.{Level}
+use Rattle.wire.specs.declared.terms.Level.TheVariants as levels
+use Rattle.wire.specs.Messages.{BodyData as Body, FrameData as Frame, MessageData as Message, ProofData as Proof, macs, signature, ViewChangeData, NewViewData, MarkData as Mark, ClaimData as Claim, request as Request, pre_prepare as PrePrepare, prepare as Prepare, commit as Commit, checkpoint as Checkpoint, view_change as ViewChange, new_view as NewView, reply as Reply, fetch as Fetch, meta as Meta, page as Page}
+use Rattle.wire.specs.Words.{carried, requests_of}
+use Rattle.protocol.specs.System.Frames.{frame_of, said, heard, IsSealed, receivers_of}
+use Rattle.protocol.specs.System.Trace.{Entry, party_of, Once, Has, Each, frames_in, Hears}
+use Rattle.protocol.specs.System.Trace.Entry.{Invoke, Got, Tick, Executed, Installed, Sent, Accepted}
+use Rattle.protocol.specs.Replica.Selection.{is_quorum}
+use Rattle.protocol.specs.Replica.Certificates.{view, target, is_active_in, taken, count_checkpoints, low, is_in_marks, are_genuine, logged, Prepared, Committed}
+use Rattle.reply_cache.specs.Replies.{Kept}
+use Rattle.protocol.specs.Replica.State.{State, IsState, Call, call_in, Ran, opening, execute, root_of, pages_of, page_text, kept_of, last_time, tuples, ran_in}
+
+-- ---- words on pasts
+
+-- some batch is executed here for the number k
+abbrev pub Executes : ℕ → List Entry → Entry → Type 0
+Executes k past (Executed r number batch) = number ≡ k
+Executes k past _ = ⊥
+
+-- these bytes were got or sent, alone or carried
+abbrev pub HasSeen : List ℕ → List Entry → Entry → Type 0
+HasSeen bytes past (Got p whole) = Has (λ x. x ≡ bytes) (frames_in whole)
+HasSeen bytes past (Sent p whole) = Has (λ x. x ≡ bytes) (frames_in whole)
+HasSeen bytes past _ = ⊥
+
+-- these bytes are sent here
+abbrev pub SendsBytes : List ℕ → List Entry → Entry → Type 0
+SendsBytes bytes past (Sent p sent) = sent ≡ bytes
+SendsBytes bytes past _ = ⊥
+
+-- the bytes were sent before
+abbrev pub SentBefore : List ℕ → List Entry → Type 0
+SentBefore bytes past = Once (SendsBytes bytes) past
+
+-- a page of this index and text was got
+abbrev pub GetsPage : Configuration → ℕ → ℕ → List ℕ → List Entry → Entry → Type 0
+GetsPage c me i text past (Got p bytes) = (sender number : ℕ) × (heard c me bytes ≡ Some (record { sender = sender; message = Page number i text }))
+GetsPage c me i text past _ = ⊥
+
+-- a part of a checkpoint was asked for by the replica s
+abbrev pub WasAsked : Configuration → ℕ → List Entry → ℕ → ℕ → Level → ℕ → Type 0
+WasAsked c me past s k level index = Once (Hears c me (record { sender = s; message = Fetch k level index })) past
+
+-- ---- what stands between entries
+
+-- The executed state; the states of executed multiples of the period and of installed numbers, the newest first; the
+-- requests that ran in the running event; and the requests that wait, in order of arrival.
+pub record Point : Type 0 where
+  pub state : State
+  pub snapshots : List State
+  pub ran : List Ran
+  pub waiting : List Call
+
+-- what there is before any entry: the opening state, kept as a snapshot
+abbrev pub first_point : Point
+first_point = record { state = opening; snapshots = opening ∷ []; ran = []; waiting = [] }
+
+-- A request waits once it is got, where its timestamp is above its client's last and above that of a waiting one, which
+-- it replaces.
+abbrev pub is_newer : Call → Call → Bool
+is_newer call other = not (other.client == call.client) || nat_lt other.timestamp call.timestamp
+
+abbrev pub with_waiting : State → List Call → Call → List Call
+with_waiting st waiting call =
+    if nat_lt (last_time st call.client) call.timestamp && list_all (is_newer call) waiting
+    then filter (λ other. not (other.client == call.client)) waiting ++ call ∷ [] else waiting
+
+-- the requests that wait once the bytes are got
+abbrev pub waiting_after : Configuration → ℕ → Point → List ℕ → List Call
+waiting_after c me point bytes = option_map_or (with_waiting point.state point.waiting) (option_and_then (call_in c) (heard c me bytes)) point.waiting
+
+-- It waits until its client's last timestamp is at least its own.
+abbrev pub still_waiting : State → List Call → List Call
+still_waiting st waiting = filter (λ call. nat_lt (last_time st call.client) call.timestamp) waiting
+
+-- an executed state is kept where its number is a multiple of the period
+abbrev pub snapshots_after : Configuration → State → List State → List State
+snapshots_after c st snapshots = if st.number % c.period == 0 then st ∷ snapshots else snapshots
+
+-- the page is the state's own, or was got for its place
+abbrev pub IsHeld : Configuration → ℕ → List Entry → State → ℕ → List ℕ → Type 0
+IsHeld c me past st i text = (text ≡ page_text st i) ⊎ Once (GetsPage c me i text) past
+
+-- What an installation leaves: a state of the number and root, made of such pages, and kept as a snapshot; what it has
+-- run waits no more.
+pub record IsInstalled (c : Configuration) (me : ℕ) (past : List Entry) (old : Point) (k : ℕ) (root : List ℕ) (new : Point) : Type 0 where
+  pub is_state : IsState new.state
+  pub number : new.state.number ≡ k
+  pub root_is : root_of new.state ≡ root
+  pub pages : (i : ℕ) → i < 1024 → IsHeld c me past old.state i (page_text new.state i)
+  pub snapshots : new.snapshots ≡ new.state ∷ old.snapshots
+  pub ran : new.ran ≡ old.ran
+  pub waiting : new.waiting ≡ still_waiting new.state old.waiting
+
+-- what an execution leaves: the state after the batch, and with it what is kept, what ran and what waits
+abbrev pub executed_point : Configuration → Point → ℕ → List ℕ → Point
+executed_point c old k batch = record {
+  state = execute c old.state batch;
+  snapshots = snapshots_after c (execute c old.state batch) old.snapshots;
+  ran = old.ran ++ ran_in c k old.state (requests_of batch);
+  waiting = still_waiting (execute c old.state batch) old.waiting;
+}
+
+-- What an entry does to the point: an input begins an event in which nothing ran yet, an execution and an installation
+-- change the state, and all else changes nothing.
+abbrev pub Moves : Configuration → ℕ → List Entry → Point → Entry → Point → Type 0
+Moves c me past old (Got p bytes) new = new ≡ record old { ran = []; waiting = waiting_after c me old bytes }
+Moves c me past old (Tick p) new = new ≡ record old { ran = [] }
+Moves c me past old (Executed r k batch) new = new ≡ executed_point c old k batch
+Moves c me past old (Installed r k root) new = IsInstalled c me past old k root new
+Moves c me past old _ new = new ≡ old
+
+-- ---- what is kept, and what a view change says
+
+-- the snapshots at or above the low mark, which is given; older ones are given up
+abbrev pub kept_states : ℕ → List State → List State
+kept_states h snapshots = filter (λ st. nat_le h st.number) snapshots
+
+-- what a checkpoint of a state says: its number and root
+abbrev pub checkpoint_of : State → Mark
+checkpoint_of st = record { number = st.number; digest = root_of st }
+
+-- the latest prepared digest of each number in the marks, one a number
+pub record IsPreparedList (c : Configuration) (me : ℕ) (past : List Entry) (claims : List Claim) : Type 0 where
+  pub listed : (claim : Claim) → Has (λ x. x ≡ claim) claims
+      → ((batch : List ℕ) × Prepared c me past claim.view claim.number batch × (sha256 batch ≡ claim.digest))
+      × (is_in_marks c (low c me past) claim.number ≡ true)
+      × ((v : ℕ) (batch : List ℕ) → claim.view < v → Prepared c me past v claim.number batch → ⊥)
+  pub all : (v i : ℕ) (batch : List ℕ) → is_in_marks c (low c me past) i ≡ true → Prepared c me past v i batch
+      → Has (λ x. x.number ≡ i) claims
+  pub ascending : AllPairs (λ x y. x.number < y.number) claims
+
+-- each digest that was pre-prepared for a number in the marks, with its latest view
+pub record IsPrePreparedList (c : Configuration) (me : ℕ) (past : List Entry) (claims : List Claim) : Type 0 where
+  pub listed : (claim : Claim) → Has (λ x. x ≡ claim) claims
+      → ((batch : List ℕ) × (logged c me past claim.view claim.number ≡ Some batch) × (sha256 batch ≡ claim.digest))
+      × (is_in_marks c (low c me past) claim.number ≡ true)
+  pub all : (v i : ℕ) (batch : List ℕ) → is_in_marks c (low c me past) i ≡ true → logged c me past v i ≡ Some batch
+      → Has (λ x. (x.number ≡ i) × (x.digest ≡ sha256 batch) × (v ≤ x.view)) claims
+  pub differ : AllPairs (λ x y. (x.number ≡ y.number) → x.digest ≢ y.digest) claims
+
+-- a view change for a view above the own one and above those sent before, with what the history says
+pub record IsNewViewChange (c : Configuration) (me : ℕ) (past : List Entry) (point : Point) (vc : ViewChangeData) : Type 0 where
+  pub above : view c past < vc.view
+  pub newer : target past < vc.view
+  pub is_view : is_number vc.view ≡ true
+  pub low : vc.low ≡ low c me past
+  pub checkpoints : vc.checkpoints ≡ map checkpoint_of (reverse (kept_states vc.low point.snapshots))
+  pub prepared : IsPreparedList c me past vc.prepared
+  pub proposed : IsPrePreparedList c me past vc.pre_prepared
+
+-- ---- what may be installed, and asked for
+
+-- a new view is taken here, or sent, that starts at this number with this root
+abbrev pub StartsAt : Configuration → ℕ → List ℕ → List Entry → Entry → Type 0
+StartsAt c k root past e = (new : NewViewData) × (taken c past e ≡ Some new) × (new.start ≡ k) × (new.root ≡ root)
+
+-- a quorum of checkpoints, counted as for stability, was alike at one point of the past
+abbrev pub HadQuorum : Configuration → Mark → List Entry → Type 0
+HadQuorum c mark past = Once (λ earlier e. is_quorum c (count_checkpoints c (e ∷ earlier) mark) ≡ true) past
+
+-- a quorum of checkpoints had this root for the number, or a new view starts there with it
+abbrev pub IsRootWanted : Configuration → List Entry → ℕ → List ℕ → Type 0
+IsRootWanted c past k root = HadQuorum c (record { number = k; digest = root }) past ⊎ Once (StartsAt c k root) past
+
+-- a number above the state's, with its root, of a quorum of checkpoints or of a new view's start
+abbrev pub MayInstall : Configuration → List Entry → Point → ℕ → List ℕ → Type 0
+MayInstall c past point k root = (point.state.number < k) × IsRootWanted c past k root
+
+-- parts are asked for of a state that may be installed
+abbrev pub MayFetch : Configuration → List Entry → Point → ℕ → Type 0
+MayFetch c past point k = (root : List ℕ) × MayInstall c past point k root
+
+-- ---- what may be sent. Each clause covers sending again too.
+
+-- the active primary proposes, over requests authentic to it, for a number in the marks, one batch a view and number
+pub record MayPrePrepare (c : Configuration) (me : ℕ) (past : List Entry) (e : Entry) (v i : ℕ) (batch : List ℕ) : Type 0 where
+  pub is_primary : primary c v ≡ me
+  pub active : is_active_in c past v ≡ true
+  pub in_marks : is_in_marks c (low c me past) i ≡ true
+  pub genuine : are_genuine c me batch ≡ true
+  pub one : logged c me (e ∷ past) v i ≡ Some batch
+
+-- an active backup prepares what is logged
+pub record MayPrepare (c : Configuration) (me : ℕ) (past : List Entry) (v i : ℕ) (digest : List ℕ) : Type 0 where
+  pub is_backup : primary c v ≢ me
+  pub active : is_active_in c past v ≡ true
+  pub batch : List ℕ
+  pub is_logged : logged c me past v i ≡ Some batch
+  pub digest_is : sha256 batch ≡ digest
+
+-- an active replica commits what is prepared
+pub record MayCommit (c : Configuration) (me : ℕ) (past : List Entry) (v i : ℕ) (digest : List ℕ) : Type 0 where
+  pub active : is_active_in c past v ≡ true
+  pub batch : List ℕ
+  pub prepared : Prepared c me past v i batch
+  pub digest_is : sha256 batch ≡ digest
+
+-- a checkpoint is of an executed multiple of the period, with the root of the state there
+pub record MayCheckpoint (c : Configuration) (past : List Entry) (point : Point) (k : ℕ) (root : List ℕ) : Type 0 where
+  pub multiple : k % c.period ≡ 0
+  pub executed : Once (Executes k) past
+  pub state : Has (λ st. (st.number ≡ k) × (root_of st ≡ root)) point.snapshots
+
+-- a view change is new, or the last one goes again while inactive
+abbrev pub MayViewChange : Configuration → ℕ → List Entry → Point → List ℕ → ViewChangeData → Type 0
+MayViewChange c me past point bytes vc =
+    IsNewViewChange c me past point vc ⊎ ((view c past < target past) × (vc.view ≡ target past) × SentBefore bytes past)
+
+-- a new view is sent by its primary: where it is taken, or again while active in it
+abbrev pub MayNewView : Configuration → ℕ → List Entry → Entry → List ℕ → NewViewData → Type 0
+MayNewView c me past e bytes new =
+    (primary c new.view ≡ me) × ((taken c past e ≡ Some new) ⊎ ((is_active_in c past new.view ≡ true) × SentBefore bytes past))
+
+-- what is kept for the client k, as a reply to it
+abbrev pub reply_of : ℕ → Kept → Message
+reply_of k kept = Reply (256 + k) kept.timestamp modes.Ordered kept.number kept.outcome
+
+-- a reply is of a request that ran in the event, or the client's kept one
+abbrev pub MayReplyOrdered : Point → ℕ → ℕ → ℕ → Outcome → Type 0
+MayReplyOrdered point client timestamp number answer =
+    Has (λ ran. reply_of ran.call.client ran.kept ≡ Reply client timestamp modes.Ordered number answer) point.ran
+    ⊎ ((k : ℕ) × (kept : Kept) × (kept_of point.state k ≡ Some kept) × (reply_of k kept ≡ Reply client timestamp modes.Ordered number answer))
+
+-- a read that was got is answered from the executed state, with its number
+pub record MayReplyRead (c : Configuration) (me : ℕ) (past : List Entry) (point : Point) (client timestamp number : ℕ) (answer : Outcome) : Type 0 where
+  pub op : Operation
+  pub is_read : is_read_only op ≡ true
+  pub heard : Once (Hears c me (record { sender = client; message = Request timestamp modes.ReadOnly op })) past
+  pub answer_is : answer ≡ outcome (tuples point.state) op
+  pub number_is : number ≡ point.state.number
+
+-- an ordered reply and a read-only one each have their rule
+abbrev pub MayReply : Configuration → ℕ → List Entry → Point → ℕ → ℕ → Mode → ℕ → Outcome → Type 0
+MayReply c me past point client timestamp modes.Ordered number answer = MayReplyOrdered point client timestamp number answer
+MayReply c me past point client timestamp modes.ReadOnly number answer = MayReplyRead c me past point client timestamp number answer
+
+-- a state of the number is kept, and this holds of it
+abbrev pub KeptState : Configuration → ℕ → List Entry → Point → ℕ → (State → Type 0) → Type 0
+KeptState c me past point k P = Has (λ st. (st.number ≡ k) × P st) (kept_states (low c me past) point.snapshots)
+
+-- the digests below a place; below a page there are none
+abbrev pub digests_at : State → Level → ℕ → List (List ℕ)
+digests_at st levels.Root index = inner_digests (pages_of st)
+digests_at st levels.Inner index = page_digests (pages_of st) index
+digests_at st levels.Page index = []
+
+-- Digests, or a page, of a kept state answer a fetch that was got.
+abbrev pub MayMeta : Configuration → ℕ → List Entry → Point → ℕ → Level → ℕ → List (List ℕ) → Type 0
+MayMeta c me past point k level index digests =
+    KeptState c me past point k (λ st. digests ≡ digests_at st level index) × ((s : ℕ) × WasAsked c me past s k level index)
+
+abbrev pub MayPage : Configuration → ℕ → List Entry → Point → ℕ → ℕ → List ℕ → Type 0
+MayPage c me past point k index text =
+    KeptState c me past point k (λ st. text ≡ page_text st index) × ((s : ℕ) × WasAsked c me past s k levels.Page index)
+
+-- Each message has its rule. A replica makes no requests.
+abbrev pub MaySay : Configuration → ℕ → List Entry → Point → Entry → List ℕ → Message → Type 0
+MaySay c me past point e bytes (Request timestamp mode op) = ⊥
+MaySay c me past point e bytes (PrePrepare v i batch) = MayPrePrepare c me past e v i batch
+MaySay c me past point e bytes (Prepare v i digest) = MayPrepare c me past v i digest
+MaySay c me past point e bytes (Commit v i digest) = MayCommit c me past v i digest
+MaySay c me past point e bytes (Checkpoint k root) = MayCheckpoint c past point k root
+MaySay c me past point e bytes (ViewChange vc) = MayViewChange c me past point bytes vc
+MaySay c me past point e bytes (NewView new) = MayNewView c me past e bytes new
+MaySay c me past point e bytes (Reply client timestamp kind number answer) = MayReply c me past point client timestamp kind number answer
+MaySay c me past point e bytes (Fetch k level index) = MayFetch c past point k
+MaySay c me past point e bytes (Meta k level index digests) = MayMeta c me past point k level index digests
+MaySay c me past point e bytes (Page k index text) = MayPage c me past point k index text
+
+-- ---- whom a frame is for
+
+-- the replicas but this one
+abbrev pub others : Configuration → ℕ → List ℕ
+others c me = filter (λ r. not (r == me)) (range_with_len 0 (replicas c))
+
+-- a reply is for its client, a part for a replica that asked for it, all else for the other replicas
+abbrev pub IsFor : Configuration → ℕ → List Entry → Message → List ℕ → Type 0
+IsFor c me past (Reply client timestamp mode number answer) receivers = receivers ≡ client ∷ []
+IsFor c me past (Meta k level index digests) receivers = (s : ℕ) × (receivers ≡ s ∷ []) × WasAsked c me past s k level index
+IsFor c me past (Page k index text) receivers = (s : ℕ) × (receivers ≡ s ∷ []) × WasAsked c me past s k levels.Page index
+IsFor c me past _ receivers = receivers ≡ others c me
+
+-- MACs are for those; a signature is for all
+abbrev pub IsAddressed : Configuration → ℕ → List Entry → Message → Proof → Type 0
+IsAddressed c me past message (macs entries) = IsFor c me past message (receivers_of (macs entries))
+IsAddressed c me past message (signature s) = ⊤
+
+-- a frame of the replica's own, sealed for those it is for, or signed, over frames that it has seen
+pub record MaySend (c : Configuration) (me : ℕ) (past : List Entry) (point : Point) (e : Entry) (bytes : List ℕ) : Type 0 where
+  pub body : Body
+  pub says : said bytes ≡ Some body
+  pub own : body.sender ≡ me
+  pub seen : Each (λ frame. Once (HasSeen frame) past) (carried body.message)
+  pub say : MaySay c me past point e bytes body.message
+  pub is_sealed : (frame : Frame) → frame_of bytes ≡ Some frame → IsSealed c frame × IsAddressed c me past body.message frame.proof
+
+-- ---- what may be executed
+
+-- the next number, and a batch that is committed for it
+pub record MayExecute (c : Configuration) (me : ℕ) (past : List Entry) (point : Point) (k : ℕ) (batch : List ℕ) : Type 0 where
+  pub next : k ≡ suc point.state.number
+  pub in_view : ℕ
+  pub committed : Committed c me past in_view k batch
+
+-- What a correct replica may have next: any frame or tick, what its rules let it do, and nothing that is for clients.
+abbrev pub May : Configuration → ℕ → List Entry → Point → Entry → Type 0
+May c me past point (Invoke client timestamp op) = ⊥
+May c me past point (Got p bytes) = ⊤
+May c me past point (Tick p) = ⊤
+May c me past point (Executed r k batch) = MayExecute c me past point k batch
+May c me past point (Installed r k root) = MayInstall c past point k root
+May c me past point (Sent p bytes) = MaySend c me past point (Sent p bytes) bytes
+May c me past point (Accepted client timestamp answer) = ⊥
+
+-- one entry that a replica may have, from the point before it to the one behind it
+pub record IsStep (c : Configuration) (me : ℕ) (past : List Entry) (old : Point) (e : Entry) (new : Point) : Type 0 where
+  pub own : party_of e ≡ me
+  pub may : May c me past old e
+  pub moves : Moves c me past old e new
+
+-- each entry is one that the replica may have, and the last leaves it at the point
+abbrev pub Leaves : Configuration → ℕ → List Entry → Point → Type 0
+Leaves c me [] point = point ≡ first_point
+Leaves c me (e ∷ past) point = (old : Point) × Leaves c me past old × IsStep c me past old e point
+
+-- The history is safe: it has nothing that a correct replica may not do. The laws over all runs use no more
+-- of it.
+abbrev pub SafeReplica : Configuration → ℕ → List Entry → Type 0
+SafeReplica c me history = (point : Point) × Leaves c me history point

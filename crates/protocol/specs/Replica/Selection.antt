@@ -1,0 +1,158 @@
+-- What a new view may start with (Castro and Liskov, TOCS 2002, on view changes).
+use Rattle.std.specs.Prelude.{ℕ, suc, ◌+◌, ◌-◌, ◌*◌, ◌%◌, Bool, true, false, ◌&&◌, ◌||◌, not, List, [], ◌∷◌, length, map, max, nat_lt, nat_le, ◌==◌, if◌then◌else◌, Option, Some, None, option_and_then, bytes_eq}
+use Rattle.std.specs.List.{list_all, list_any}
+use Rattle.std.specs.Option.{option_map_or}
+use Rattle.sha2.specs.Sha256.{sha256}
+use Rattle.quorum.specs.Quorum.{count_below}
+use Rattle.protocol.specs.System.Configuration.{Configuration, replicas, span, is_number}
+use Rattle.wire.specs.Messages.{BodyData as Body, NewViewData, ViewChangeData, MarkData as Mark, ClaimData as Claim, view_change as ViewChange}
+use Rattle.protocol.specs.System.Frames.{signed_body}
+
+-- So many replicas are a quorum. Any two quorums have a correct replica in common.
+abbrev pub is_quorum : Configuration → ℕ → Bool
+is_quorum c count = nat_le (2 * c.faults + 1) count
+
+-- So many are a weak quorum. At least one of them is correct.
+abbrev pub is_weak_quorum : Configuration → ℕ → Bool
+is_weak_quorum c count = nat_le (c.faults + 1) count
+
+-- ---- the set of view changes
+
+-- the view change that a message is, with its sender
+abbrev pub change_in : Body → Option (ℕ × ViewChangeData)
+change_in body = elim body.message [ ViewChange vc ↦ Some (body.sender, vc) | _ ↦ None ]
+
+-- the view change that the bytes spell, with its sender, where its signature verifies
+abbrev pub signed_change : Configuration → List ℕ → Option (ℕ × ViewChangeData)
+signed_change c bytes = option_and_then change_in (signed_body c bytes)
+
+-- those of the options that are given
+abbrev pub list_of : {A : Type 0} → List (Option A) → List A
+list_of [] = []
+list_of (None ∷ xs) = list_of xs
+list_of (Some x ∷ xs) = x ∷ list_of xs
+
+-- the set of view changes that a new view carries
+abbrev pub changes_of : Configuration → NewViewData → List (ℕ × ViewChangeData)
+changes_of c new = list_of (map (signed_change c) new.changes)
+
+-- the view change of the replica in the set
+abbrev pub change_by : List (ℕ × ViewChangeData) → ℕ → Option ViewChangeData
+change_by [] s = None
+change_by (x ∷ xs) s = if x.0 == s then Some x.1 else change_by xs s
+
+-- the replica has a view change in the set, and it passes
+abbrev pub passes_by : (ViewChangeData → Bool) → List (ℕ × ViewChangeData) → ℕ → Bool
+passes_by test set s = option_map_or test (change_by set s) false
+
+-- how many different replicas have one in the set that passes
+abbrev pub count_in : Configuration → (ViewChangeData → Bool) → List (ℕ × ViewChangeData) → ℕ
+count_in c test set = count_below (passes_by test set) (replicas c)
+
+-- ---- a view change within its bounds: views in it are below its own, numbers within its marks, and all below 2^48
+
+-- a claim, prepared or pre-prepared; a checkpoint; and the whole
+abbrev pub is_claim_within : Configuration → ViewChangeData → Claim → Bool
+is_claim_within c vc claim = nat_lt claim.view vc.view && nat_lt vc.low claim.number && nat_le claim.number (vc.low + span c) && is_number claim.number
+
+abbrev pub is_checkpoint_within : Configuration → ViewChangeData → Mark → Bool
+is_checkpoint_within c vc mark = nat_le vc.low mark.number && nat_le mark.number (vc.low + span c) && (mark.number % c.period == 0) && is_number mark.number
+
+abbrev pub is_within : Configuration → ViewChangeData → Bool
+is_within c vc = is_number vc.view && is_number vc.low
+    && list_all (is_claim_within c vc) vc.prepared && list_all (is_claim_within c vc) vc.pre_prepared && list_all (is_checkpoint_within c vc) vc.checkpoints
+
+-- ---- the rules
+
+-- the start: a quorum has its low mark at or below it, and f + 1 list its checkpoint
+abbrev pub is_start : Configuration → List (ℕ × ViewChangeData) → ℕ → List ℕ → Bool
+is_start c set start root =
+    is_quorum c (count_in c (λ vc. nat_le vc.low start) set)
+    && is_weak_quorum c (count_in c (λ vc. list_any (λ mark. (mark.number == start) && bytes_eq mark.digest root) vc.checkpoints) set)
+
+-- no claim of the view change for the number speaks against this digest in this view
+abbrev pub agrees : ℕ → ℕ → List ℕ → ViewChangeData → Bool
+agrees number view digest vc = list_all (λ claim. not (claim.number == number) || nat_lt claim.view view || ((claim.view == view) && bytes_eq claim.digest digest)) vc.prepared
+
+-- it pre-prepared this digest for the number in this view or a later one
+abbrev pub vouches : ℕ → ℕ → List ℕ → ViewChangeData → Bool
+vouches number view digest vc = list_any (λ claim. (claim.number == number) && bytes_eq claim.digest digest && nat_le view claim.view) vc.pre_prepared
+
+-- a digest may stand at the number by this view: a quorum has nothing against it, and f + 1 vouch for it
+abbrev pub may_stand_at : Configuration → List (ℕ × ViewChangeData) → ℕ → List ℕ → ℕ → Bool
+may_stand_at c set number digest view =
+    is_quorum c (count_in c (λ vc. nat_lt vc.low number && agrees number view digest vc) set)
+    && is_weak_quorum c (count_in c (vouches number view digest) set)
+
+-- the null batch may stand at the number: a quorum has nothing prepared for it
+abbrev pub may_be_null : Configuration → List (ℕ × ViewChangeData) → ℕ → Bool
+may_be_null c set number =
+    is_quorum c (count_in c (λ vc. nat_lt vc.low number && list_all (λ claim. not (claim.number == number)) vc.prepared) set)
+
+-- the batch of no requests, which fills a number that nothing is prepared for
+abbrev pub null_batch : List ℕ
+null_batch = 0 ∷ []
+
+-- the batch is the null batch
+abbrev pub is_null : List ℕ → Bool
+is_null batch = bytes_eq batch null_batch
+
+-- some number below passes
+abbrev pub is_some_below : (ℕ → Bool) → ℕ → Bool
+is_some_below test n = nat_lt 0 (count_below test n)
+
+-- by some earlier view, or as the null batch
+abbrev pub may_stand : Configuration → ℕ → List (ℕ × ViewChangeData) → ℕ → List ℕ → Bool
+may_stand c view set number batch =
+    is_some_below (may_stand_at c set number (sha256 batch)) view || (is_null batch && may_be_null c set number)
+
+-- each batch may stand at its number, from the given one on
+abbrev pub may_all_stand : Configuration → ℕ → List (ℕ × ViewChangeData) → ℕ → List (List ℕ) → Bool
+may_all_stand c view set number [] = true
+may_all_stand c view set number (batch ∷ batches) = may_stand c view set number batch && may_all_stand c view set (suc number) batches
+
+-- the largest number that a view change has prepared, up to the limit
+abbrev pub largest : ℕ → List Claim → ℕ
+largest limit [] = 0
+largest limit (claim ∷ claims) = if nat_le claim.number limit then max claim.number (largest limit claims) else largest limit claims
+
+-- the largest over the whole set
+abbrev pub largest_of : ℕ → List (ℕ × ViewChangeData) → ℕ
+largest_of limit [] = 0
+largest_of limit (x ∷ xs) = max (largest limit x.1.prepared) (largest_of limit xs)
+
+-- each sender is above the one before, so that each has one view change in the set
+abbrev pub ascending : List (ℕ × ViewChangeData) → Bool
+ascending [] = true
+ascending (x ∷ []) = true
+ascending (x ∷ y ∷ xs) = nat_lt x.0 y.0 && ascending (y ∷ xs)
+
+-- how many batches a new view has: up to the largest number prepared, at most the span above its start
+abbrev pub how_many : Configuration → NewViewData → ℕ
+how_many c new = max (largest_of (new.start + span c) (changes_of c new)) new.start - new.start
+
+-- ---- the rules of a new view, each by its name
+
+-- what it carries is view changes alone, and their signatures verify
+abbrev pub all_signed : Configuration → NewViewData → Bool
+all_signed c new = length (changes_of c new) == length new.changes
+
+-- a quorum of different replicas has one there
+abbrev pub are_enough : Configuration → NewViewData → Bool
+are_enough c new = is_quorum c (count_in c (λ vc. true) (changes_of c new))
+
+-- each is for the view, and within its bounds
+abbrev pub all_within : Configuration → NewViewData → Bool
+all_within c new = list_all (λ x. (x.1.view == new.view) && is_within c x.1) (changes_of c new)
+
+-- it has as many batches as it is to have
+abbrev pub has_length : Configuration → NewViewData → Bool
+has_length c new = length new.batches == how_many c new
+
+-- whether all of them hold
+unfoldable pub may_select : Configuration → NewViewData → Bool
+may_select c new =
+    all_signed c new && are_enough c new && ascending (changes_of c new) && all_within c new
+    && is_start c (changes_of c new) new.start new.root
+    && has_length c new
+    && may_all_stand c new.view (changes_of c new) (suc new.start) new.batches

@@ -1,0 +1,131 @@
+-- The state that batches leave, its pages and its root (Castro and Liskov, TOCS 2002, on normal-case
+-- operation and, of pages and root, on hierarchical state partitions).
+use Rattle.std.specs.Prelude.{ℕ, suc, ◌-◌, Bool, ◌&&◌, not, List, [], ◌∷◌, ◌++◌, map, nat_lt, ◌==◌, if◌then◌else◌, Option, Some, None, option_and_then, fold}
+use Rattle.std.specs.List.{range_with_len}
+use Rattle.std.specs.Option.{option_map_or}
+use Rattle.tuple_tree.specs.Values.{TupleTree}
+use Rattle.tuple_codec.specs.Operations.{Operation}
+use Rattle.space.specs.Applying.{outcome}
+use Rattle.space.specs.Births.{SpaceState, empty_state, tuples_of, state_after}
+use Rattle.space.specs.Pages.{IsStateAt, header_text, page_text as tuple_page}
+use Rattle.partition_tree.specs.Digests.{root_of as root_of_pages}
+use Rattle.protocol.specs.System.Configuration.{Configuration, is_client}
+use Rattle.wire.specs.Messages.{BodyData as Body, request as Request}
+use Rattle.wire.specs.Words.{requests_of}
+use Rattle.protocol.specs.System.Frames.{said, reads_only}
+use Rattle.reply_cache.specs.Replies.{Kept, Replies, no_replies, last_of, seen_of, with_reply, AreReplies}
+use Rattle.reply_cache.specs.Pages.{reply_text}
+
+-- The space, the number of the last batch, and for each client the reply to its last request that ran.
+pub record State : Type 0 where
+  pub space : SpaceState
+  pub number : ℕ
+  pub replies : Replies
+
+-- the state before the first batch
+abbrev pub opening : State
+opening = record { space = empty_state; number = 0; replies = no_replies }
+
+-- the tuples in order of age
+abbrev pub tuples : State → List TupleTree
+tuples st = tuples_of st.space
+
+-- the reply that is kept for a client
+abbrev pub kept_of : State → ℕ → Option Kept
+kept_of st client = last_of st.replies client
+
+-- the last timestamp of a client, first 0
+abbrev pub last_time : State → ℕ → ℕ
+last_time st client = seen_of st.replies client
+
+-- ---- requests
+
+-- an ordered request of one of the clients
+pub record Call : Type 0 where
+  pub client : ℕ
+  pub timestamp : ℕ
+  pub op : Operation
+
+-- the call that a message is
+abbrev pub call_in : Configuration → Body → Option Call
+call_in c body = elim body.message [
+  | Request timestamp mode op ↦ if not (reads_only mode) && is_client c body.sender
+      then Some (record { client = body.sender - 256; timestamp = timestamp; op = op }) else None
+  | _ ↦ None
+]
+
+-- the call that a frame of a batch spells; all others do nothing
+abbrev pub call_of : Configuration → List ℕ → Option Call
+call_of c frame = option_and_then (call_in c) (said frame)
+
+-- A request runs if its timestamp is above its client's last.
+abbrev pub runs : State → Call → Bool
+runs st call = nat_lt (last_time st call.client) call.timestamp
+
+-- what a request that runs keeps for its client
+abbrev pub kept_by : State → ℕ → Call → Kept
+kept_by st number call = record { timestamp = call.timestamp; number = number; outcome = outcome (tuples st) call.op }
+
+-- the state after a request that runs
+abbrev pub ran_call : State → ℕ → Call → State
+ran_call st number call =
+    record { space = state_after st.space call.op; number = st.number; replies = with_reply st.replies call.client (kept_by st number call) }
+
+-- what a request does in the batch of a number
+abbrev pub run_call : State → ℕ → Call → State
+run_call st number call = if runs st call then ran_call st number call else st
+
+-- what a frame does there
+abbrev pub run_frame : Configuration → ℕ → State → List ℕ → State
+run_frame c number st frame = option_map_or (run_call st number) (call_of c frame) st
+
+-- the state after the next batch: each of its requests in order, and its number
+unfoldable pub execute : Configuration → State → List ℕ → State
+execute c st batch = record (fold (run_frame c (suc st.number)) st (requests_of batch)) { number = suc st.number }
+
+-- the state after these batches, the oldest first
+abbrev pub after_batches : Configuration → State → List (List ℕ) → State
+after_batches c st [] = st
+after_batches c st (batch ∷ batches) = after_batches c (execute c st batch) batches
+
+-- a request that ran, with what it keeps
+pub record Ran : Type 0 where
+  pub call : Call
+  pub kept : Kept
+
+-- a request adds itself to what ran, if it runs
+abbrev pub ran_by : State → ℕ → Call → List Ran
+ran_by st number call = if runs st call then record { call = call; kept = kept_by st number call } ∷ [] else []
+
+-- the requests of the frames that run, one after another
+abbrev pub ran_in : Configuration → ℕ → State → List (List ℕ) → List Ran
+ran_in c number st [] = []
+ran_in c number st (frame ∷ frames) = option_map_or (ran_by st number) (call_of c frame) [] ++ ran_in c number (run_frame c number st frame) frames
+
+-- ---- what a state is
+
+-- A state: that of a space behind so many batches, and with a reply or none for each of 256 clients.
+pub record IsState (st : State) : Type 0 where
+  pub space : IsStateAt st.space st.number
+  pub replies : AreReplies st.replies
+
+-- ---- pages: 0 to 255 hold tuples, 256 to 511 replies, 512 the header, all others nothing
+
+-- the text of a page
+unfoldable pub page_text : State → ℕ → List ℕ
+page_text st page =
+    if nat_lt page 256 then tuple_page st.space page else
+    if nat_lt page 512 then reply_text (kept_of st (page - 256)) else
+    if page == 512 then header_text st.space st.number else
+    []
+
+-- the texts of all 1,024 pages
+unfoldable pub all_pages : (ℕ → List ℕ) → List (List ℕ)
+all_pages page = map page (range_with_len 0 1024)
+
+-- the pages of a state, and the root of the tree over them, which a checkpoint says
+abbrev pub pages_of : State → List (List ℕ)
+pages_of st = all_pages (page_text st)
+
+abbrev pub root_of : State → List ℕ
+root_of st = root_of_pages (pages_of st)

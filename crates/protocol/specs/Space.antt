@@ -1,0 +1,2 @@
+-- What one sequential tuple space would do.
+pub mod Linear

@@ -1,5 +1,0 @@
-use Rattle.std.proofs.Common.{refl}
-use Rattle.tuple_text.proofs.reader.Reader.lone_template.Goals as goal
-
-pub same-template : goal.same-template
-same-template c = refl
