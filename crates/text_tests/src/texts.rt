@@ -24,30 +24,37 @@ fn tuple_of_one(alloc: Global, value: Value<Global>) -> Tuple<Global> {
     tuple
 }
 
-fn has_text(alloc: Global, tuple: &Tuple<Global>, text: &[u8]) -> bool {
+fn tuple_written(alloc: Global, tuple: &Tuple<Global>) -> Result<Vec<u8>, NoMemory> {
     let mut out = Vec::new(alloc);
-    write_tuple(tuple, &mut out).is_ok() && out.as_slice() == text
+    write_tuple(tuple, &mut out)?;
+    Ok(out)
 }
 
 // (("x") true)
-fn nested(alloc: Global) -> Result<Tuple<Global>, AllocError> {
+fn nested(alloc: Global) -> Result<Vec<u8>, Fail> {
     let inner = tuple_of_one(alloc, text_of(alloc, "x")?);
     let mut tuple = tuple_of_one(alloc, inner.into_value());
     let _ = tuple.push(Value::Atom(Atom::Truth(true)));
-    Ok(tuple)
+    Ok(tuple_written(alloc, &tuple)?)
 }
 
 #[test]
 fn writes_a_nested_tuple(rt: HostRuntime) -> Result<(), Fail> {
-    let tuple = nested(rt.alloc())?;
-    assert!(rt; has_text(rt.alloc(), &tuple, b"((\"x\") true)"));
+    let text = nested(rt.alloc())?;
+    assert_eq!(rt; text.as_slice(), b"((\"x\") true)".as_slice());
     Ok(())
+}
+
+// A tuple of a tab.
+fn tab(alloc: Global) -> Result<Vec<u8>, Fail> {
+    let tuple = tuple_of_one(alloc, text_of(alloc, "\t")?);
+    Ok(tuple_written(alloc, &tuple)?)
 }
 
 #[test]
 fn escapes_a_tab(rt: HostRuntime) -> Result<(), Fail> {
-    let tuple = tuple_of_one(rt.alloc(), text_of(rt.alloc(), "\t")?);
-    assert!(rt; has_text(rt.alloc(), &tuple, b"(\"\\x09\")"));
+    let text = tab(rt.alloc())?;
+    assert_eq!(rt; text.as_slice(), b"(\"\\x09\")".as_slice());
     Ok(())
 }
 
