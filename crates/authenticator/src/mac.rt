@@ -124,6 +124,3 @@ fn copy_of(hasher: &Sha256) -> Sha256
         Err(_) => unreachable!(),
     }
 }
-
-#[cfg(test)]
-mod tests;

@@ -96,6 +96,3 @@ fn key_text(from: u16, to: u16) -> [u8; 5]
     let [to_high, to_low] = to.to_be_bytes();
     [b'M', from_high, from_low, to_high, to_low]
 }
-
-#[cfg(test)]
-mod tests;

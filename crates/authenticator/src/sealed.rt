@@ -199,6 +199,3 @@ fn is_mac_for(entry: &ReceiverMac, party: u16, mac: &[u8; 32]) -> bool
 {
     entry.receiver.number() == party && same(&entry.mac, mac)
 }
-
-#[cfg(test)]
-mod tests;

@@ -26,8 +26,3 @@ pub use digests::{CHILDREN, Digest, digest, digest_of_children};
 pub use no_memory::NoMemory;
 pub use page::Page;
 pub use tree::{Level, PAGES, Snapshot, Tree};
-
-#[cfg(test)]
-mod sharing_tests;
-#[cfg(test)]
-mod tests;

@@ -15,6 +15,3 @@ mod pages;
 
 pub use cache::{CLIENTS, Reply, ReplyCache};
 pub use laws::{pages_determine, replies_stay_replies};
-
-#[cfg(test)]
-mod tests;

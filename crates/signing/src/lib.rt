@@ -23,6 +23,3 @@ pub use public_keys::PublicKeys;
 pub use signature::{SIGNATURE_LEN, Signature, verify, verify_bytes};
 pub use signer::{SignFault, Signer};
 pub use tree::{KeyTree, LEAVES};
-
-#[cfg(test)]
-mod tests;

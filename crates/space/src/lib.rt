@@ -18,12 +18,8 @@
 mod births;
 mod laws;
 mod matching;
-#[cfg(test)]
-mod page_tests;
 mod pages;
 mod reading;
-#[cfg(test)]
-mod tests;
 mod tuples;
 
 pub use births::{MAX_ON_PAGE, PAGES};

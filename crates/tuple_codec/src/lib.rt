@@ -24,6 +24,3 @@ pub use decode_operations::{decode_op, decode_result};
 pub use encode::{encode_op, encode_result, encode_template, encode_tuple};
 pub use laws::one_spelling;
 pub use operations::{Answer, MAX_ANSWERS, Max, Op, Tuples};
-
-#[cfg(test)]
-mod tests;

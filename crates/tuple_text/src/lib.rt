@@ -13,8 +13,6 @@ mod faults;
 mod lines;
 mod literals;
 mod reader;
-#[cfg(test)]
-mod tests;
 mod write;
 
 pub use faults::{LineFault, MAX_LINE};

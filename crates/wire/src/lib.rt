@@ -39,8 +39,3 @@ pub use messages::{
 };
 pub use sealing::{begin_frame, body_bytes, encode_frame, put_proof};
 pub use terms::{ClientId, Digest, Level, Mode, Number, Party, Timestamp, View};
-
-#[cfg(test)]
-mod tests;
-#[cfg(test)]
-mod tests_of_encoding;

@@ -1,8 +1,0 @@
-use Rattle.std.proofs.Common.{rules, refl}
-use Rattle.across.proofs.turns.values.Goals as goal
-
-pub same-tuple : goal.same-tuple
-same-tuple g c = refl
-
-pub loop-number-preserved : goal.loop-number-preserved
-loop-number-preserved g c = search rules

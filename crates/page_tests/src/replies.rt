@@ -1,0 +1,167 @@
+//! Replies' worked pages, texts that are no replies', and memory refused.
+
+use reply_cache::{CLIENTS, ReplyCache};
+use std::alloc::{AllocError, Global};
+use std::test::Fail;
+use tuple_codec::{Answer, Bad};
+use tuple_tree::{Atom, NoMemory, Tuple, Value};
+
+// The answer `done` to a first request that ran in the first batch.
+const DONE: &[u8; 17] = b"\0\0\0\0\0\0\0\x01\0\0\0\0\0\0\0\x011";
+
+// The answer `found (1)` to a request of timestamp 258 in batch 3.
+const FOUND: &[u8; 27] = b"\0\0\0\0\0\0\x01\x02\0\0\0\0\0\0\0\x032\x01\x01\0\0\0\0\0\0\0\x01";
+
+fn found(alloc: Global) -> Result<Answer<Global>, AllocError> {
+    let mut tuple = Tuple::new_in(alloc);
+    match tuple.push(Value::Atom(Atom::Number(1))) {
+        Ok(()) => Ok(Answer::Found(tuple)),
+        Err(_) => Err(AllocError),
+    }
+}
+
+// The page's text, at the second try where memory ran out at the first one.
+fn page_of(cache: &ReplyCache, client: u8) -> Result<Vec<u8>, NoMemory> {
+    match cache.page_text(client) {
+        Ok(text) => Ok(text),
+        Err(_) => cache.page_text(client),
+    }
+}
+
+fn has_page(cache: &ReplyCache, client: u8, text: &[u8]) -> bool {
+    match page_of(cache, client) {
+        Ok(page) => page.as_slice() == text,
+        Err(_) => false,
+    }
+}
+
+fn has_no_replies(cache: &ReplyCache) -> bool {
+    cache.seen(0) == 0 && cache.last(255).is_none() && has_page(cache, 0, b"")
+}
+
+#[test]
+fn new_replies(rt: HostRuntime) {
+    let cache = ReplyCache::new(rt.alloc());
+    assert!(rt; has_no_replies(&cache));
+}
+
+#[test]
+fn pages_of_replies(rt: HostRuntime) -> Result<(), Fail> {
+    let mut cache = ReplyCache::new(rt.alloc());
+    let _ = cache.put(0, 1, 1, Answer::Done);
+    assert!(rt; cache.seen(0) == 1 && has_page(&cache, 0, DONE.as_slice()));
+    let _ = cache.put(255, 258, 3, found(rt.alloc())?);
+    assert!(rt; has_page(&cache, 255, FOUND.as_slice()) && has_page(&cache, 0, DONE.as_slice()));
+    Ok(())
+}
+
+// Whether client 7 has its second reply alone, and the client before it none.
+fn is_replaced(cache: &ReplyCache) -> bool {
+    let Some(reply) = cache.last(7) else {
+        return false;
+    };
+    cache.seen(7) == 6
+        && cache.seen(6) == 0
+        && (reply.timestamp, reply.number) == (6, 9)
+        && matches!(&reply.answer, Answer::Swapped(true))
+}
+
+#[test]
+fn a_reply_is_replaced_whole(rt: HostRuntime) -> Result<(), Fail> {
+    let mut cache = ReplyCache::new(rt.alloc());
+    let _ = cache.put(7, 5, 2, found(rt.alloc())?);
+    let _ = cache.put(7, 6, 9, Answer::Swapped(true));
+    assert!(rt; is_replaced(&cache));
+    Ok(())
+}
+
+// The replies with these pages, at the second try where memory ran out at the first one.
+fn read(alloc: Global, pages: &[&[u8]]) -> Result<ReplyCache, Bad> {
+    match ReplyCache::from_pages(alloc, pages) {
+        Err(Bad::NoMemory) => ReplyCache::from_pages(alloc, pages),
+        first => first,
+    }
+}
+
+fn has_pages(cache: &ReplyCache, pages: &[&[u8]]) -> bool {
+    for (client, text) in pages.iter().enumerate() {
+        if client >= CLIENTS || !has_page(cache, client as u8, text) {
+            return false;
+        }
+    }
+    true
+}
+
+// What reading these pages gives: whether the cache has the pages again.
+fn is_read(alloc: Global, pages: &[&[u8]]) -> Result<bool, Bad> {
+    let cache = read(alloc, pages)?;
+    Ok(has_pages(&cache, pages))
+}
+
+// The same where all pages are empty but one.
+fn is_page_read(alloc: Global, client: u8, text: &[u8]) -> Result<bool, Bad> {
+    let mut pages: [&[u8]; CLIENTS] = [&[]; CLIENTS];
+    pages[client as usize] = text;
+    is_read(alloc, pages.as_slice())
+}
+
+#[test]
+fn pages_are_read_back(rt: HostRuntime) {
+    let mut pages: [&[u8]; CLIENTS] = [&[]; CLIENTS];
+    pages[0] = DONE.as_slice();
+    pages[255] = FOUND.as_slice();
+    assert_eq!(rt; is_read(rt.alloc(), pages.as_slice()), Ok(true));
+}
+
+const WRONG: [&[u8]; 6] = [
+    // The timestamp 0.
+    b"\0\0\0\0\0\0\0\0\0\0\0\0\0\0\0\x011",
+    // No answer, and half a number.
+    b"\0\0\0\0\0\0\0\x01\0\0\0\0\0\0\0\x01",
+    b"\0\0\0\0\0\0\0\x01\0\0\0\0\0\0\0",
+    // A byte too many, an answer that there is not, and a flag that there is not.
+    b"\0\0\0\0\0\0\0\x01\0\0\0\0\0\0\0\x0111",
+    b"\0\0\0\0\0\0\0\x01\0\0\0\0\0\0\0\x018",
+    b"\0\0\0\0\0\0\0\x01\0\0\0\0\0\0\0\x014\x02",
+];
+
+#[test]
+fn texts_of_no_replies(rt: HostRuntime) {
+    for text in WRONG {
+        assert_eq!(rt; is_page_read(rt.alloc(), 3, text), Err(Bad::Malformed));
+    }
+}
+
+#[test]
+fn too_few_and_too_many_pages(rt: HostRuntime) {
+    let pages: [&[u8]; 257] = [&[]; 257];
+    for count in [0, 255, 257] {
+        assert_eq!(rt; is_read(rt.alloc(), &pages[..count]), Err(Bad::Malformed));
+    }
+}
+
+// Whether client 9 gets its first reply, at the second try where memory ran out at the first one, which changed nothing.
+fn gets_done(cache: &mut ReplyCache) -> bool {
+    if cache.put(9, 1, 1, Answer::Done).is_ok() {
+        return true;
+    }
+    cache.seen(9) == 0 && cache.put(9, 1, 1, Answer::Done).is_ok()
+}
+
+// The same of client 200, where client 9 has its reply.
+fn gets_full(cache: &mut ReplyCache) -> bool {
+    if cache.put(200, 4, 2, Answer::Full).is_ok() {
+        return true;
+    }
+    cache.seen(200) == 0 && cache.seen(9) == 1 && cache.put(200, 4, 2, Answer::Full).is_ok()
+}
+
+// Passes whichever allocation is refused, as by `rt try --test --fail-alloc N`.
+#[test]
+fn refusals_change_nothing(rt: HostRuntime) {
+    let mut cache = ReplyCache::new(rt.alloc());
+    assert!(rt; gets_done(&mut cache));
+    assert!(rt; gets_full(&mut cache));
+    assert!(rt; cache.seen(200) == 4 && has_page(&cache, 9, DONE.as_slice()));
+    assert_eq!(rt; is_page_read(rt.alloc(), 255, FOUND.as_slice()), Ok(true));
+}

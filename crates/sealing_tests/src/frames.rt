@@ -1,0 +1,308 @@
+//! Worked frames, whose bytes come from Python's hmac and hashlib.
+
+ghost use Rattle.std.specs.Prelude.{◌≡◌, false, IfOk};
+ghost use Rattle.wire.specs.Spelling.{IsBody, is_signed};
+ghost use Rattle.wire.specs.Views.{body_data, message_data};
+
+use crate::codes::{is_code, seed};
+use authenticator::{OpenFault, Opened, Ring, SealFault};
+use sha2::{Digest, Sha256};
+use std::alloc::{AllocError, Global};
+use std::test::Fail;
+use tuple_codec::{Bad, Op, decode_op};
+use tuple_tree::{Atom, Value};
+use wire::{Body, ClientId, Frame, Message, Mode, Party, Proof, ReceiverMac, Request, Timestamp};
+
+const REPLICAS: [Party; 4] = [
+    Party::Replica(0),
+    Party::Replica(1),
+    Party::Replica(2),
+    Party::Replica(3),
+];
+
+const CLIENT: Party = Party::Client(ClientId { number: 0 });
+
+const CLIENTS: [Party; 3] = [
+    CLIENT,
+    Party::Client(ClientId { number: 1 }),
+    Party::Client(ClientId { number: 2 }),
+];
+
+// The SHA-256 of the request below with a MAC for each of four replicas, under the seed 00 01 .. 1f.
+const SEALED: &str = "b3fcc2a0b2ecee83d20e75fc4c640da5d1ce29112d0c620d4db87dcd9dbeae1b";
+
+// out (1), with timestamp 1
+fn request(alloc: Global, sender: Party) -> Result<Body, Bad>
+    ensures { IfOk result (λ b. IsBody (body_data b) × (is_signed (message_data b.message) ≡ false)) }
+{
+    let (op, _) = decode_op(alloc, b"\x21\x01\x01\0\0\0\0\0\0\0\x01")?;
+    let message = Message::Request(Request {
+        timestamp: Timestamp(1),
+        mode: Mode::Ordered,
+        op,
+    });
+    Ok(Body { sender, message })
+}
+
+// One replica of four may be faulty, and there are two clients.
+fn ring(alloc: Global) -> Ring {
+    Ring::new(alloc, &seed(), 1, 2)
+}
+
+// The request's frame for one receiver.
+fn sealed_for(
+    ring: &mut Ring,
+    alloc: Global,
+    sender: Party,
+    receiver: Party,
+) -> Result<Vec<u8>, Fail> {
+    let body = request(alloc, sender)?;
+    Ok(ring.seal(alloc, &body, &[receiver])?)
+}
+
+// The frame of the first client's request for the four replicas.
+fn sealed_for_all(ring: &mut Ring, alloc: Global) -> Result<Vec<u8>, Fail> {
+    let body = request(alloc, CLIENT)?;
+    Ok(ring.seal(alloc, &body, &REPLICAS)?)
+}
+
+// A sender, a receiver, and the code of the request between them.
+type Row<'a> = (Party, Party, &'a str);
+
+// Python's hmac: hmac(hmac(seed, 4d || be16 from || be16 to), body), for the body
+// 41 || be16 from || be64 1 || 00 || 21 01 01 || be64 1.
+const ROWS: [Row<'static>; 4] = [
+    (
+        Party::Replica(0),
+        Party::Replica(1),
+        "5fc0b9193f67d74cc43c1fd5ff8c36d278d05b8629523bd931b4bddf63301d79",
+    ),
+    (
+        Party::Replica(1),
+        Party::Replica(0),
+        "eb1094b7c2ad3aa760c26ec2a344a6af643dc5b412c6e1228e2765fdca1c8d02",
+    ),
+    (
+        CLIENT,
+        Party::Replica(3),
+        "2f6a2ac079126dac5169d5a05779c513f6778f2a6e1e5e8d95037ceb02c1ca1f",
+    ),
+    (
+        Party::Replica(3),
+        CLIENT,
+        "1856a86079d4a70e1e718732b34ceadadb928b30b7e78d406609ecc4e56f51b0",
+    ),
+];
+
+// The code that ends a frame for one receiver.
+fn code_of(frame: &[u8]) -> Option<[u8; 32]> {
+    match frame.get(31..) {
+        Some(code) => <[u8; 32]>::try_from(code).ok(),
+        None => None,
+    }
+}
+
+fn agrees(ring: &mut Ring, alloc: Global, (from, to, digits): Row<'_>) -> Result<bool, Fail> {
+    let frame = sealed_for(ring, alloc, from, to)?;
+    match code_of(frame.as_slice()) {
+        Some(code) => Ok(is_code(code, digits)),
+        None => Ok(false),
+    }
+}
+
+#[test]
+fn each_direction_has_its_key(rt: HostRuntime) -> Result<(), Fail> {
+    let mut ring = ring(rt.alloc());
+    // Derived at first, and then kept.
+    for _ in 0..2 {
+        for row in ROWS {
+            assert!(rt; agrees(&mut ring, rt.alloc(), row)?, "{}", row.2);
+        }
+    }
+    Ok(())
+}
+
+fn refusal(ring: &mut Ring, alloc: Global, bytes: &[u8], me: Party) -> Option<OpenFault> {
+    ring.open(alloc, bytes, me).err()
+}
+
+fn is_worked(frame: &[u8]) -> bool {
+    frame.len() == 165
+        && frame.starts_with(b"\0\0\0\x17\x41")
+        && is_code(Sha256::digest(frame), SEALED)
+}
+
+#[test]
+fn a_request_for_four_replicas(rt: HostRuntime) -> Result<(), Fail> {
+    let mut ring = ring(rt.alloc());
+    let frame = sealed_for_all(&mut ring, rt.alloc())?;
+    assert!(rt; is_worked(&frame));
+    for replica in REPLICAS {
+        assert!(rt; refusal(&mut ring, rt.alloc(), &frame, replica).is_none());
+    }
+    // A party for which nothing was sealed.
+    assert!(rt; refusal(&mut ring, rt.alloc(), &frame, CLIENTS[1]) == Some(OpenFault::BadMac));
+    Ok(())
+}
+
+#[test]
+fn each_receiver_has_its_own_entry(rt: HostRuntime) -> Result<(), Fail> {
+    let mut ring = ring(rt.alloc());
+    let mut frame = sealed_for_all(&mut ring, rt.alloc())?;
+    assert_eq!(rt; frame.len(), 165);
+    // The last byte of the entry for replica 1.
+    frame[96] ^= 1;
+    for (replica, expected) in [(0, None), (1, Some(OpenFault::BadMac)), (2, None)] {
+        let fault = refusal(&mut ring, rt.alloc(), &frame, Party::Replica(replica));
+        assert!(rt; fault == expected, "{replica}");
+    }
+    Ok(())
+}
+
+// Why replica 1 refuses a request by this sender for replica 2, whole and without its last byte.
+fn faults_of(
+    ring: &mut Ring,
+    alloc: Global,
+    sender: Party,
+) -> Result<[Option<OpenFault>; 2], Fail> {
+    let frame = sealed_for(ring, alloc, sender, REPLICAS[2])?;
+    let cut = &frame[..frame.len().saturating_sub(1)];
+    Ok([
+        refusal(ring, alloc, &frame, REPLICAS[1]),
+        refusal(ring, alloc, cut, REPLICAS[1]),
+    ])
+}
+
+#[test]
+fn refusals_come_in_order(rt: HostRuntime) -> Result<(), Fail> {
+    let mut ring = ring(rt.alloc());
+    // Neither is the sender known nor the entry there.
+    let expected = [Some(OpenFault::UnknownSender), Some(OpenFault::Malformed)];
+    for sender in [REPLICAS[0], CLIENTS[2], Party::Replica(9)] {
+        assert!(rt; faults_of(&mut ring, rt.alloc(), sender)? == expected);
+    }
+    Ok(())
+}
+
+#[test]
+fn frames_too_long(rt: HostRuntime) -> Result<(), Fail> {
+    let mut ring = ring(rt.alloc());
+    let long = vec![in rt.alloc(); 0; 4_194_305]?;
+    assert!(rt; refusal(&mut ring, rt.alloc(), &long, REPLICAS[1]) == Some(OpenFault::TooLarge));
+    assert!(rt;
+        refusal(&mut ring, rt.alloc(), &long[1..], REPLICAS[1]) == Some(OpenFault::Malformed)
+    );
+    Ok(())
+}
+
+// A view change to view 1 by this replica that lists nothing, with a signature of zeros: whether it verifies is not asked
+// here.
+fn view_change(alloc: Global, sender: u8) -> Result<Vec<u8>, AllocError> {
+    let signature = Vec::from_elem(alloc, 0u8, 16_577)?;
+    let mut frame = b"\0\0\0\x18\x46\0".to_vec(alloc)?;
+    frame.extend_from_slice(&[sender])?;
+    frame.extend_from_slice(b"\0\0\0\0\0\0\0\x01\0\0\0\0\0\0\0\0\0\0\0\0\0\x01")?;
+    frame.extend_from_slice(&signature)?;
+    Ok(frame)
+}
+
+#[test]
+fn signed_frames_open(rt: HostRuntime) -> Result<(), Fail> {
+    let mut ring = ring(rt.alloc());
+    let frame = view_change(rt.alloc(), 0)?;
+    for me in [REPLICAS[0], REPLICAS[3], CLIENTS[1]] {
+        assert!(rt; refusal(&mut ring, rt.alloc(), &frame, me).is_none());
+    }
+    // Nobody has the number 4.
+    let other = view_change(rt.alloc(), 4)?;
+    let fault = refusal(&mut ring, rt.alloc(), &other, REPLICAS[0]);
+    assert!(rt; fault == Some(OpenFault::UnknownSender));
+    Ok(())
+}
+
+// Whether they are those of replicas 0 to 3, and the bytes have the same MACs.
+fn has_entries(bytes: &[u8], entries: &[ReceiverMac]) -> bool {
+    for (i, entry) in entries.iter().enumerate() {
+        if i >= 4 || entry.receiver.number() != i as u16 {
+            return false;
+        }
+        if bytes.get(31 + 34 * i..63 + 34 * i) != Some(entry.mac.as_slice()) {
+            return false;
+        }
+    }
+    entries.len() == 4
+}
+
+// Whether it is out (1) with timestamp 1.
+fn is_asked(message: &Message) -> bool {
+    match message {
+        Message::Request(request) => {
+            request.timestamp.0 == 1
+                && matches!(&request.mode, Mode::Ordered)
+                && is_out_of_one(&request.op)
+        },
+        _ => false,
+    }
+}
+
+fn is_out_of_one(op: &Op<Global>) -> bool {
+    match op {
+        Op::Out(tuple) => {
+            tuple.len() == 1 && matches!(tuple.get(0), Some(Value::Atom(Atom::Number(1))))
+        },
+        _ => false,
+    }
+}
+
+// Whether it is the request of client 0, and has the MACs of the bytes.
+fn is_request(bytes: &[u8], frame: &Frame) -> bool {
+    let is_proved = match &frame.proof {
+        Proof::Macs(entries) => has_entries(bytes, entries),
+        Proof::Signature(_) => false,
+    };
+    is_proved && is_asked(&frame.body.message) && frame.body.sender.number() == 256
+}
+
+fn body_of_client(alloc: Global) -> Result<Body, Bad>
+    ensures { IfOk result (λ b. IsBody (body_data b) × (is_signed (message_data b.message) ≡ false)) }
+{
+    match request(alloc, CLIENT) {
+        Ok(body) => Ok(body),
+        Err(_) => request(alloc, CLIENT),
+    }
+}
+
+// The frame of a request for the four replicas, at the second try where memory ran out at the first one.
+fn sealed(ring: &mut Ring, alloc: Global) -> Result<Vec<u8>, Fail> {
+    let body = body_of_client(alloc)?;
+    let frame = match ring.seal(alloc, &body, &REPLICAS) {
+        Err(SealFault::NoMemory) => ring.seal(alloc, &body, &REPLICAS)?,
+        first => first?,
+    };
+    Ok(frame)
+}
+
+fn opened(ring: &mut Ring, alloc: Global, bytes: &[u8], me: Party) -> Result<Opened, OpenFault> {
+    match ring.open(alloc, bytes, me) {
+        Err(OpenFault::NoMemory) => ring.open(alloc, bytes, me),
+        first => first,
+    }
+}
+
+fn opens(ring: &mut Ring, alloc: Global, bytes: &[u8], me: Party) -> Result<bool, OpenFault> {
+    let opened = opened(ring, alloc, bytes, me)?;
+    Ok(is_request(bytes, &opened.frame) && ring.has_sender(&opened.frame.body))
+}
+
+// Passes whichever allocation is refused, as by `rt try --test --fail-alloc N`: a second try gives what the first one
+// gives where nothing is refused, so the ring still has its seed and its parties.
+#[test]
+fn refusals_change_nothing(rt: HostRuntime) -> Result<(), Fail> {
+    let mut ring = ring(rt.alloc());
+    let frame = sealed(&mut ring, rt.alloc())?;
+    assert!(rt; is_worked(&frame));
+    for replica in REPLICAS {
+        assert!(rt; opens(&mut ring, rt.alloc(), &frame, replica)?);
+    }
+    Ok(())
+}

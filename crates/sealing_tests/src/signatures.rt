@@ -1,0 +1,183 @@
+//! Signatures, whose bytes come from a program of its own: Python's `hmac.new(seed, .., hashlib.sha256)` for each
+//! secret, `hashlib.sha256` for each hash, and lists for the levels of the tree.
+
+use crate::codes::{is_code, seed};
+use authenticator::signing_seed;
+use sha2::{Digest, Sha256};
+use signing::{
+    KeyTree, LEAVES, PublicKeys, SIGNATURE_LEN, SignFault, Signature, Signer, verify, verify_bytes,
+};
+use std::alloc::{AllocError, Global};
+use std::test::Fail;
+use wire::Party;
+
+const PUBLIC: &str = "25e441d2b6f59c4bf7210fe82ef554ad9ab38cd474492b4ea132304f6118d5ee";
+
+// The SHA-256 of the signatures of "a text" by leaves 0 and 37.
+const BY_LEAF_0: &str = "95056325b1906617d21796d9f90db7515f7f909e08c17be82f08fee17a109f5b";
+
+const BY_LEAF_37: &str = "fd1ee6ffc28f5163cc7eceabb9ac510a5c49144bcbca8b9645d99df3068a54ac";
+
+fn is_digest(signature: &Signature, digest: &str) -> bool {
+    is_code(Sha256::digest(signature.as_slice()), digest)
+}
+
+// Keys of a seed of this byte, by calls without a contract, so that the proofs don't compute them.
+fn signer_of(byte: u8) -> Signer {
+    Signer::from_seed(&[byte; 32])
+}
+
+fn tree_of(byte: u8) -> KeyTree {
+    KeyTree::new(&[byte; 32])
+}
+
+// By the next leaf, at the second try where memory ran out at the first one. That spends no leaf.
+fn signed(signer: &mut Signer, alloc: Global) -> Result<Signature, SignFault> {
+    match signer.sign(alloc, b"a text") {
+        Err(SignFault::NoMemory) => signer.sign(alloc, b"a text"),
+        first => first,
+    }
+}
+
+// By leaf 37, at the second try where memory ran out at the first one.
+fn signed_by_37(tree: &KeyTree, alloc: Global) -> Result<Signature, AllocError> {
+    match tree.sign_with(alloc, 37, b"a text") {
+        Ok(signature) => Ok(signature),
+        Err(_) => tree.sign_with(alloc, 37, b"a text"),
+    }
+}
+
+fn copied(alloc: Global, signature: &Signature) -> Result<Option<Signature>, AllocError> {
+    match Signature::from_bytes(alloc, signature.as_slice()) {
+        Ok(copy) => Ok(copy),
+        Err(_) => Signature::from_bytes(alloc, signature.as_slice()),
+    }
+}
+
+// Passes whichever allocation is refused, as by `rt try --test --fail-alloc N`: a second try gives what the first one
+// gives where nothing is refused, by the same leaf.
+#[test]
+fn a_signer(rt: HostRuntime) -> Result<(), Fail> {
+    let mut signer = signer_of(0);
+    assert!(rt; is_code(signer.public(), PUBLIC));
+    let first = signed(&mut signer, rt.alloc())?;
+    assert!(rt; is_digest(&first, BY_LEAF_0));
+    assert_eq!(rt; signer.used(), 1);
+    Ok(())
+}
+
+// Passes whichever allocation is refused.
+#[test]
+fn a_tree_of_keys(rt: HostRuntime) -> Result<(), Fail> {
+    let tree = tree_of(0);
+    assert!(rt; is_code(tree.public(), PUBLIC));
+    let signature = signed_by_37(&tree, rt.alloc())?;
+    assert!(rt; is_digest(&signature, BY_LEAF_37));
+    assert!(rt; verify(&tree.public(), b"a text", &signature));
+    let copy = copied(rt.alloc(), &signature)?;
+    assert!(rt; copy.is_some_and(|copy| is_digest(&copy, BY_LEAF_37)));
+    Ok(())
+}
+
+// Whether it is the signature of this text alone, and under this key alone.
+fn is_of_text(public: &[u8; 32], signature: &Signature) -> bool {
+    verify(public, b"text", signature)
+        && !verify(public, b"texu", signature)
+        && !verify(&[7; 32], b"text", signature)
+}
+
+// Whether the bytes are no signature of the text once this one is changed.
+fn counts(public: &[u8; 32], bytes: &mut [u8], at: usize) -> bool {
+    if at >= bytes.len() {
+        return false;
+    }
+    bytes[at] ^= 1;
+    let is_refused = !verify_bytes(public, b"text", bytes);
+    bytes[at] ^= 1;
+    is_refused
+}
+
+#[test]
+fn each_part_counts(rt: HostRuntime) -> Result<(), Fail> {
+    let mut signer = signer_of(7);
+    let public = signer.public();
+    let signature = signer.sign(rt.alloc(), b"text")?;
+    assert!(rt; is_of_text(&public, &signature));
+    let mut bytes = signature.into_bytes();
+    assert_eq!(rt; bytes.len(), SIGNATURE_LEN);
+    // The leaf, a secret, a public hash, the last of the pairs, and both ends of the path.
+    for at in [0, 1, 33, 16_384, 16_385, 16_576] {
+        assert!(rt; counts(&public, &mut bytes, at), "at {at}");
+    }
+    assert!(rt; verify_bytes(&public, b"text", &bytes));
+    Ok(())
+}
+
+// Whether a signer that used so many leaves signs by the next one.
+fn signs(signer: &mut Signer, alloc: Global, leaf: u8) -> Result<bool, SignFault> {
+    let used = signer.used();
+    let public = signer.public();
+    let signature = signer.sign(alloc, b"text")?;
+    Ok(used == leaf && verify(&public, b"text", &signature))
+}
+
+#[test]
+fn keys_are_spent(rt: HostRuntime) -> Result<(), Fail> {
+    let mut signer = signer_of(1);
+    for leaf in 0..LEAVES {
+        assert!(rt; signs(&mut signer, rt.alloc(), leaf)?);
+    }
+    assert!(rt; signer.sign(rt.alloc(), b"text").err() == Some(SignFault::KeysSpent));
+    assert_eq!(rt; signer.used(), LEAVES);
+    Ok(())
+}
+
+// The public key of replica 2 under the seed 00 01 .. 1f, by the same program.
+const PUBLIC_OF_2: &str = "dcff933adeb0d86920aaf05cc53c0b3533f358a52eececea5f9df5aa8b305905";
+
+// Whether replica 2 alone has signed this text alone.
+fn is_of_replica_2(keys: &mut PublicKeys, signature: &[u8]) -> bool {
+    keys.verify(Party::Replica(2), b"text", signature)
+        && !keys.verify(Party::Replica(1), b"text", signature)
+        && !keys.verify(Party::Replica(2), b"texu", signature)
+}
+
+#[test]
+fn public_keys_of_replicas(rt: HostRuntime) -> Result<(), Fail> {
+    let mut signer = Signer::from_seed(&signing_seed(&seed(), Party::Replica(2)));
+    let signature = signer.sign(rt.alloc(), b"text")?;
+    let mut keys = PublicKeys::new(rt.alloc(), &seed());
+    assert!(rt; is_of_replica_2(&mut keys, signature.as_slice()));
+    Ok(())
+}
+
+// Passes whichever allocation is refused: a key for which there is no room is derived again.
+#[test]
+fn keys_without_room(rt: HostRuntime) {
+    let mut keys = PublicKeys::new(rt.alloc(), &seed());
+    for _ in 0..2 {
+        assert!(rt; is_code(keys.public(Party::Replica(2)), PUBLIC_OF_2));
+    }
+}
+
+// Whether bytes that begin with this one are a signature, and come back then.
+fn is_form(alloc: Global, first: u8) -> Result<bool, AllocError> {
+    let mut bytes = vec![in alloc; 0; SIGNATURE_LEN]?;
+    bytes[0] = first;
+    let found = Signature::from_bytes(alloc, &bytes)?;
+    Ok(found.is_some_and(|signature| signature.as_slice() == bytes.as_slice()))
+}
+
+fn is_short_form(alloc: Global) -> Result<bool, AllocError> {
+    let bytes = vec![in alloc; 0; SIGNATURE_LEN - 1]?;
+    let found = Signature::from_bytes(alloc, &bytes)?;
+    Ok(found.is_some())
+}
+
+#[test]
+fn forms(rt: HostRuntime) -> Result<(), Fail> {
+    assert!(rt; !is_short_form(rt.alloc())?);
+    assert!(rt; !is_form(rt.alloc(), 64)?);
+    assert!(rt; is_form(rt.alloc(), 63)?);
+    Ok(())
+}

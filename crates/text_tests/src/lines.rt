@@ -1,0 +1,284 @@
+//! Worked rows of the grammar of lines.
+
+use std::alloc::{AllocError, Global};
+use std::test::Fail;
+use tuple_codec::{Op, encode_op};
+use tuple_text::{LineFault, read_line, read_template, write_tuple};
+
+// Lines and the bytes of their operations.
+const LINES: [(&[u8], &[u8]); 17] = [
+    (b"out (1)", b"\x21\x01\x01\0\0\0\0\0\0\0\x01"),
+    (
+        b"  out   ( 1  -2 )  ",
+        b"\x21\x02\x01\0\0\0\0\0\0\0\x01\x01\xff\xff\xff\xff\xff\xff\xff\xfe",
+    ),
+    (
+        b"out (-9223372036854775808)",
+        b"\x21\x01\x01\x80\0\0\0\0\0\0\0",
+    ),
+    (b"out ()", b"\x21\0"),
+    (
+        b"out ((\"x\") true)",
+        b"\x21\x02\x05\x01\x02\0\x01x\x04\x01",
+    ),
+    (
+        b"out (x x00ff false)",
+        b"\x21\x03\x03\0\0\x03\0\x02\x00\xff\x04\0",
+    ),
+    (b"out (\"\\\"\\\\\\n\\x09\")", b"\x21\x01\x02\0\x04\"\\\n\t"),
+    (
+        b"out (((((((())))))))",
+        b"\x21\x01\x05\x01\x05\x01\x05\x01\x05\x01\x05\x01\x05\x01\x05\0",
+    ),
+    (b"rdp (?int)", b"\x22\x01\x11"),
+    (
+        b"rdp (* ?text ?bytes ?bool ?tuple)",
+        b"\x22\x05\x10\x12\x13\x14\x15",
+    ),
+    (b"inp ((?int) \"a\")", b"\x23\x02\x05\x01\x11\x02\0\x01a"),
+    (
+        b"cas (\"k\" *) (\"k\" 1)",
+        b"\x24\x02\x02\0\x01k\x10\x02\x02\0\x01k\x01\0\0\0\0\0\0\0\x01",
+    ),
+    (b"rdAll 64 (*)", b"\x25\x40\x01\x10"),
+    (b"rdAll 1 ()", b"\x25\x01\0"),
+    (
+        b"out (\"\\\"\\\\\\n\\x01\\x1f\x7f \xC3\xA9\xE2\x82\xAC\xF0\x9D\x84\x9E\")",
+        b"\x21\x01\x02\0\x10\"\\\n\x01\x1f\x7f \xC3\xA9\xE2\x82\xAC\xF0\x9D\x84\x9E",
+    ),
+    (b"out (x09af)", b"\x21\x01\x03\0\x02\x09\xAF"),
+    (b"out (x)", b"\x21\x01\x03\0\0"),
+];
+
+// Lines with the byte that no line goes on with.
+const BAD_BYTES: [(&[u8], usize); 47] = [
+    (b"rdp (1)(2)", 7),
+    (b"out (01)", 6),
+    (b"out (-0)", 6),
+    (b"out (9223372036854775808)", 23),
+    (b"rdAll 65 (*)", 7),
+    (b"rdAll 0 (*)", 6),
+    (b"rdAll 064 (*)", 6),
+    (b"rdAll (*)", 6),
+    (b"out (1", 6),
+    (b"out (1))", 7),
+    (b"out (1(2))", 6),
+    (b"out ((1)2)", 8),
+    (b"out (1)\r", 7),
+    (b"out (1) (2)", 8),
+    (b"out(1)", 3),
+    (b"ou", 2),
+    (b"out", 3),
+    (b"rdq (1)", 2),
+    (b"rdall 1 (*)", 2),
+    (b"cas (1)", 7),
+    (b"x", 0),
+    (b"out (*)", 5),
+    (b"out (?int)", 5),
+    (b"rdp (?intx)", 9),
+    (b"rdp (?txt)", 7),
+    (b"rdp (?by", 8),
+    (b"out (truefalse)", 9),
+    (b"out (\"a\"\"b\")", 8),
+    (b"out (\"\\x0a\")", 9),
+    (b"out (\"\\x20\")", 8),
+    (b"out (\"\\xA0\")", 8),
+    (b"out (\"\xc3\")", 7),
+    (b"out (x0)", 7),
+    // Texts and byte strings that do not go on so; RFC 3629, section 4, for UTF-8.
+    (b"out (\"abc", 9),
+    (b"out (\"\t\"", 6),
+    (b"out (\"\\t\"", 7),
+    (b"out (\"\\x1F\"", 9),
+    (b"out (\"\x80\"", 6),
+    (b"out (\"\xC1\xBF\"", 6),
+    (b"out (\"\xE0\x9F\xBF\"", 7),
+    (b"out (\"\xED\xA0\x80\"", 7),
+    (b"out (\"\xE2\x82\"", 8),
+    (b"out (\"\xF0\x8F\xBF\xBF\"", 7),
+    (b"out (\"\xF4\x90\x80\x80\"", 7),
+    (b"out (\"\xF0\x9D\x84", 9),
+    (b"out (\"\xF5\x80\x80\x80\"", 6),
+    (b"out (x00fFx", 9),
+];
+
+// Whether the line is read as the operation of these bytes.
+fn is_read(alloc: Global, line: &[u8], bytes: &[u8]) -> Result<bool, LineFault> {
+    match read_line(alloc, line)? {
+        Some(op) => Ok(is_spelled(alloc, &op, bytes)),
+        None => Ok(false),
+    }
+}
+
+fn is_spelled(alloc: Global, op: &Op<Global>, bytes: &[u8]) -> bool {
+    let mut out = Vec::new(alloc);
+    encode_op(op, &mut out).is_ok() && out.as_slice() == bytes
+}
+
+#[test]
+fn reads_the_lines(rt: HostRuntime) -> Result<(), Fail> {
+    for (line, bytes) in LINES {
+        assert!(rt; is_read(rt.alloc(), line, bytes)?);
+    }
+    Ok(())
+}
+
+fn fault(alloc: Global, line: &[u8]) -> Option<LineFault> {
+    read_line(alloc, line).err()
+}
+
+#[test]
+fn stops_at_bad_bytes(rt: HostRuntime) {
+    for (line, offset) in BAD_BYTES {
+        let fault = fault(rt.alloc(), line);
+        assert!(rt; fault == Some(LineFault::BadByte { offset }), "{offset}");
+    }
+}
+
+#[test]
+fn skips_lines(rt: HostRuntime) {
+    for line in [b"".as_slice(), b"   ", b"# out (1)", b"#"] {
+        assert!(rt; matches!(read_line(rt.alloc(), line), Ok(None)));
+    }
+}
+
+#[test]
+fn a_ninth_level_is_too_deep(rt: HostRuntime) {
+    for line in [b"out (((((((((1)))))))))".as_slice(), b"inp ((((((((((x"] {
+        assert!(rt; fault(rt.alloc(), line) == Some(LineFault::TooDeep));
+    }
+}
+
+// The head, an item so many times, and the tail; with the fault of that line.
+type Long<'a> = (&'a [u8], &'a [u8], usize, &'a [u8], Option<LineFault>);
+
+const LONG: [Long<'static>; 13] = [
+    // A 33rd item is too much. At one byte the levels come before the items.
+    (b"out (", b"1 ", 32, b")", None),
+    (b"out (", b"1 ", 33, b"", Some(LineFault::TooManyFields)),
+    (b"rdp ((", b"* ", 32, b"()", Some(LineFault::TooManyFields)),
+    (
+        b"out (",
+        b"1 ",
+        32,
+        b"*",
+        Some(LineFault::BadByte { offset: 69 }),
+    ),
+    (b"out ((((((((", b"1 ", 32, b"(", Some(LineFault::TooDeep)),
+    // An encoding of 1,025 bytes is too long.
+    (b"out (\"", b"a", 1020, b"\")", None),
+    (b"out (\"", b"a", 1021, b"\")", Some(LineFault::TooLong)),
+    // It comes at the parenthesis: what stands before it decides first, and what stands behind it does not.
+    (
+        b"out (\"",
+        b"a",
+        1021,
+        b"\"*",
+        Some(LineFault::BadByte { offset: 1028 }),
+    ),
+    (b"cas (\"", b"a", 1021, b"\") (*", Some(LineFault::TooLong)),
+    (b"cas () (\"", b"a", 1021, b"\")", Some(LineFault::TooLong)),
+    // A nested list is not judged where it is closed.
+    (
+        b"out ((\"",
+        b"a",
+        1021,
+        b"\")",
+        Some(LineFault::BadByte { offset: 1030 }),
+    ),
+    // A line has 65,536 bytes at the most.
+    (b"out ()", b" ", 65530, b"", None),
+    (
+        b"out ()",
+        b" ",
+        65531,
+        b"",
+        Some(LineFault::BadByte { offset: 65536 }),
+    ),
+];
+
+fn repeated(
+    alloc: Global,
+    head: &[u8],
+    item: &[u8],
+    count: usize,
+    tail: &[u8],
+) -> Result<Vec<u8>, AllocError> {
+    let mut line = head.to_vec(alloc)?;
+    for _i in 0..count {
+        line.extend_from_slice(item)?;
+    }
+    line.extend_from_slice(tail)?;
+    Ok(line)
+}
+
+fn has_fault(
+    alloc: Global,
+    (head, item, count, tail, expected): Long<'_>,
+) -> Result<bool, AllocError> {
+    let line = repeated(alloc, head, item, count, tail)?;
+    Ok(fault(alloc, &line) == expected)
+}
+
+#[test]
+fn long_lines(rt: HostRuntime) -> Result<(), Fail> {
+    for (number, row) in LONG.into_iter().enumerate() {
+        assert!(rt; has_fault(rt.alloc(), row)?, "{number}");
+    }
+    Ok(())
+}
+
+// Whether the text is the template of the operation `inp` of these bytes.
+fn is_template(alloc: Global, text: &[u8], bytes: &[u8]) -> Result<bool, LineFault> {
+    let template = read_template(alloc, text)?;
+    Ok(is_spelled(alloc, &Op::Inp(template), bytes))
+}
+
+#[test]
+fn reads_templates(rt: HostRuntime) -> Result<(), Fail> {
+    let bytes = b"\x23\x03\x01\0\0\0\0\0\0\0\x01\x05\x01\x12\x10".as_slice();
+    assert!(rt; is_template(rt.alloc(), b" (1 (?text) *) ", bytes)?);
+    Ok(())
+}
+
+#[test]
+fn templates_stop_at_bad_bytes(rt: HostRuntime) {
+    for (text, offset) in [(b"".as_slice(), 0), (b"(1", 2), (b"(1))", 3), (b"(01)", 2)] {
+        let fault = read_template(rt.alloc(), text).err();
+        assert!(rt; fault == Some(LineFault::BadByte { offset }), "{offset}");
+    }
+}
+
+// Whether the tuple of the operation is written as this text.
+fn is_written(alloc: Global, op: &Op<Global>, text: &[u8]) -> bool {
+    let mut out = Vec::new(alloc);
+    match op {
+        Op::Out(tuple) => write_tuple(tuple, &mut out).is_ok() && out.as_slice() == text,
+        _ => false,
+    }
+}
+
+// Whether the line is read and its tuple written as this text.
+fn is_written_again(alloc: Global, line: &[u8], text: &[u8]) -> Result<bool, LineFault> {
+    match read_line(alloc, line)? {
+        Some(op) => Ok(is_written(alloc, &op, text)),
+        None => Ok(false),
+    }
+}
+
+#[test]
+fn reads_what_is_written(rt: HostRuntime) -> Result<(), Fail> {
+    let line = b"out (-1 \"\xc3\xa9\\x00\" (x0a ()) false)".as_slice();
+    let text = b"(-1 \"\xc3\xa9\\x00\" (x0a ()) false)".as_slice();
+    assert!(rt; is_written_again(rt.alloc(), line, text)?);
+    Ok(())
+}
+
+// To be run with each allocation refused in turn: the line is read, or memory runs out.
+#[test]
+fn reads_or_runs_out_of_memory(rt: HostRuntime) {
+    match read_line(rt.alloc(), b"cas (1 (\"ab\" x00) *) (1 (\"ab\" x00) true)") {
+        Ok(read) => assert!(rt; matches!(read, Some(Op::Cas(_, _)))),
+        Err(fault) => assert!(rt; fault == LineFault::NoMemory),
+    }
+}

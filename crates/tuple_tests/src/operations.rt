@@ -1,0 +1,68 @@
+//! Worked rows of the grammar of operations and answers.
+
+use std::alloc::Global;
+use std::test::Fail;
+use tuple_codec::{Bad, decode_op, decode_result, encode_op, encode_result, is_op, is_result};
+
+const ROWS: [&[u8]; 4] = [
+    // out (1 "a")
+    b"\x21\x02\x01\x00\x00\x00\x00\x00\x00\x00\x01\x02\x00\x01a",
+    // out (("x") true)
+    b"\x21\x02\x05\x01\x02\x00\x01x\x04\x01",
+    // cas ("k" *) ("k" 1)
+    b"\x24\x02\x02\x00\x01k\x10\x02\x02\x00\x01k\x01\x00\x00\x00\x00\x00\x00\x00\x01",
+    // rdAll 64 (*)
+    b"\x25\x40\x01\x10",
+];
+
+// All of () and (true)
+const ALL: &[u8] = b"\x35\x02\x00\x01\x04\x01";
+
+fn comes_back(alloc: Global, row: &[u8]) -> Result<bool, Bad> {
+    let (op, len) = decode_op(alloc, row)?;
+    let mut out = Vec::new(alloc);
+    Ok(encode_op(&op, &mut out).is_ok() && len == row.len() && out.as_slice() == row)
+}
+
+#[test]
+fn operations_come_back(rt: HostRuntime) -> Result<(), Fail> {
+    for row in ROWS {
+        assert!(rt; comes_back(rt.alloc(), row)?);
+    }
+    Ok(())
+}
+
+fn answer_comes_back(alloc: Global, row: &[u8]) -> Result<bool, Bad> {
+    let (answer, len) = decode_result(alloc, row)?;
+    let mut out = Vec::new(alloc);
+    Ok(encode_result(&answer, &mut out).is_ok() && len == row.len() && out.as_slice() == row)
+}
+
+#[test]
+fn answers_come_back(rt: HostRuntime) -> Result<(), Fail> {
+    assert!(rt; answer_comes_back(rt.alloc(), ALL)?);
+    assert!(rt; is_result(ALL));
+    Ok(())
+}
+
+// Whether no front of the row is an operation.
+fn is_none_cut(row: &[u8]) -> bool {
+    for len in 0..row.len() {
+        if is_op(&row[..len]) {
+            return false;
+        }
+    }
+    true
+}
+
+#[test]
+fn no_cut_row_is_an_operation(rt: HostRuntime) {
+    for row in ROWS {
+        assert!(rt; is_op(row) && is_none_cut(row));
+    }
+}
+
+#[test]
+fn no_other_truth_value(rt: HostRuntime) {
+    assert!(rt; !is_op(b"\x21\x02\x05\x01\x02\x00\x01x\x04\x02"));
+}

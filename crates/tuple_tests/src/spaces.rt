@@ -1,0 +1,137 @@
+//! Scripts of operations. A space goes on after memory ran out as if nothing had been asked.
+//!
+//! In a plain run nothing is refused here. `rt try --test --fail-alloc N` refuses the allocation of number N: each test
+//! passes at each N.
+
+use space::Space;
+use std::alloc::Global;
+use tuple_codec::{Answer, Op, decode_op, encode_result};
+
+// An operation and its answer, in bytes.
+type Step<'a> = (&'a [u8], &'a [u8]);
+
+// Whether the operation of these bytes is answered by those. What memory is refused to is tried a second time.
+fn answers(space: &mut Space, alloc: Global, (op, expected): Step<'_>) -> bool {
+    let Some(op) = read(alloc, op) else {
+        return false;
+    };
+    match applied(space, &op) {
+        Some(answer) => is_spelled(alloc, &answer, expected),
+        None => false,
+    }
+}
+
+fn read(alloc: Global, bytes: &[u8]) -> Option<Op<Global>> {
+    match decode_op(alloc, bytes) {
+        Ok((op, _)) => Some(op),
+        Err(_) => decode_op(alloc, bytes).ok().map(|(op, _)| op),
+    }
+}
+
+fn applied_once(space: &mut Space, op: &Op<Global>) -> Option<Answer<Global>> {
+    if !space.births_left() {
+        return None;
+    }
+    space.apply(op).ok()
+}
+
+fn applied(space: &mut Space, op: &Op<Global>) -> Option<Answer<Global>> {
+    let count = space.count();
+    match applied_once(space, op) {
+        Some(answer) => Some(answer),
+        None if space.count() == count => applied_once(space, op),
+        None => None,
+    }
+}
+
+fn is_spelled(alloc: Global, answer: &Answer<Global>, expected: &[u8]) -> bool {
+    let mut out = Vec::new(alloc);
+    let is_written = encode_result(answer, &mut out).is_ok()
+        || encode_result(answer, &mut out).is_ok();
+    is_written && out.as_slice() == expected
+}
+
+// The first step that is answered in another way.
+fn first_wrong(space: &mut Space, alloc: Global, steps: &[Step<'_>]) -> Option<usize> {
+    for (number, step) in steps.iter().enumerate() {
+        if !answers(space, alloc, *step) {
+            return Some(number);
+        }
+    }
+    None
+}
+
+const OPERATIONS: [Step<'static>; 7] = [
+    // out ("k"): done
+    (b"\x21\x01\x02\x00\x01k", b"\x31"),
+    // cas (?text) (true): swapped false
+    (b"\x24\x01\x12\x01\x04\x01", b"\x34\x00"),
+    // cas (?bool) (true): swapped true
+    (b"\x24\x01\x14\x01\x04\x01", b"\x34\x01"),
+    // rdAll 64 (*): all 2 ("k") (true)
+    (
+        b"\x25\x40\x01\x10",
+        b"\x35\x02\x01\x02\x00\x01k\x01\x04\x01",
+    ),
+    // rdp (*): found ("k")
+    (b"\x22\x01\x10", b"\x32\x01\x02\x00\x01k"),
+    // inp (*): found ("k")
+    (b"\x23\x01\x10", b"\x32\x01\x02\x00\x01k"),
+    // rdp (?text): absent
+    (b"\x22\x01\x12", b"\x33"),
+];
+
+#[test]
+fn operations_in_ordinary_memory(rt: HostRuntime) {
+    let mut space = Space::new(rt.alloc());
+    let wrong = first_wrong(&mut space, rt.alloc(), OPERATIONS.as_slice());
+    assert_eq!(rt; wrong, None);
+}
+
+const SCRIPT: [Step<'static>; 7] = [
+    // out (1): done, twice
+    (b"\x21\x01\x01\0\0\0\0\0\0\0\x01", b"\x31"),
+    (b"\x21\x01\x01\0\0\0\0\0\0\0\x01", b"\x31"),
+    // inp (?int): found (1)
+    (b"\x23\x01\x11", b"\x32\x01\x01\0\0\0\0\0\0\0\x01"),
+    // rdAll 64 (*): all 1 (1)
+    (READ_ALL, b"\x35\x01\x01\x01\0\0\0\0\0\0\0\x01"),
+    // rdp (): absent
+    (b"\x22\0", b"\x33"),
+    // cas (?int) (2): swapped false
+    (b"\x24\x01\x11\x01\x01\0\0\0\0\0\0\0\x02", b"\x34\0"),
+    // cas () (2): swapped true
+    (b"\x24\0\x01\x01\0\0\0\0\0\0\0\x02", b"\x34\x01"),
+];
+
+// rdAll 64 (*), and the answer after the script: all 2 (1) (2)
+const READ_ALL: &[u8] = b"\x25\x40\x01\x10";
+
+const BOTH: &[u8] = b"\x35\x02\x01\x01\0\0\0\0\0\0\0\x01\x01\x01\0\0\0\0\0\0\0\x02";
+
+// Whether a look at the space gives this answer, at the second try where memory ran out at the first one.
+fn peeks(space: &Space, alloc: Global, op: &[u8], expected: &[u8]) -> bool {
+    let Some(op) = read(alloc, op) else {
+        return false;
+    };
+    match peeked(space, &op) {
+        Some(answer) => is_spelled(alloc, &answer, expected),
+        None => false,
+    }
+}
+
+fn peeked(space: &Space, op: &Op<Global>) -> Option<Answer<Global>> {
+    match space.peek(op) {
+        Ok(answer) => Some(answer),
+        Err(_) => space.peek(op).ok(),
+    }
+}
+
+#[test]
+fn answers_of_a_script(rt: HostRuntime) {
+    let mut space = Space::new(rt.alloc());
+    let wrong = first_wrong(&mut space, rt.alloc(), SCRIPT.as_slice());
+    assert_eq!(rt; wrong, None);
+    assert!(rt; peeks(&space, rt.alloc(), READ_ALL, BOTH));
+    assert_eq!(rt; space.count(), 2);
+}

@@ -1,0 +1,236 @@
+//! Worked rows of frames that are read, and where none is.
+
+ghost use Rattle.std.specs.Prelude.{◌≤◌, length};
+ghost use Rattle.wire.specs.Counts.{CountsFit};
+ghost use Rattle.wire.specs.Spelling.{proof_spelling};
+ghost use Rattle.wire.specs.Views.{message_data, proof_data};
+
+use crate::frames::{
+    DIGEST, ONE, REQUEST, TWO, VIEW_CHANGE, carried_request, joined, new_view, new_view_of,
+    parts_with_macs, piece, signed, signed_parts, with_macs,
+};
+use std::alloc::{AllocError, Global};
+use std::test::Fail;
+use tuple_tree::NoMemory;
+use wire::{Body, Frame, WireFault, body_bytes, decode, encode, encode_frame};
+
+fn is_body(alloc: Global, body: &Body, text: &[u8]) -> Result<bool, NoMemory>
+    requires { CountsFit (message_data body.now.message) }
+{
+    let written = encode(alloc, body)?;
+    Ok(written.as_slice() == text)
+}
+
+fn is_frame(alloc: Global, frame: &Frame, bytes: &[u8]) -> Result<bool, WireFault>
+    requires body { CountsFit (message_data frame.now.body.message) }
+    requires proof { length (proof_spelling (proof_data frame.now.proof)) ≤ 16578 }
+{
+    let written = encode_frame(alloc, frame)?;
+    Ok(written.as_slice() == bytes)
+}
+
+// Whether the bytes are a frame whose body and which itself are written as these bytes.
+pub fn comes_back(alloc: Global, bytes: &[u8]) -> Result<bool, WireFault> {
+    let frame = decode(alloc, bytes)?;
+    Ok(is_body(alloc, &frame.body, body_bytes(bytes))? && is_frame(alloc, &frame, bytes)?)
+}
+
+pub fn fault(alloc: Global, bytes: &[u8]) -> Option<WireFault> {
+    decode(alloc, bytes).err()
+}
+
+pub fn is_malformed(alloc: Global, bytes: &[u8]) -> bool {
+    fault(alloc, bytes) == Some(WireFault::Malformed)
+}
+
+// Whether no front of the bytes is a frame, of those with a length from the first number to below the second.
+fn fronts_are_refused(alloc: Global, bytes: &[u8], from: usize, to: usize) -> bool {
+    for len in from..to.min(bytes.len()) {
+        if !is_malformed(alloc, &bytes[..len]) {
+            return false;
+        }
+    }
+    true
+}
+
+// Whether the frame comes back, and one with a spare byte is none.
+fn stands(alloc: Global, bytes: &[u8]) -> Result<bool, WireFault> {
+    let longer = joined(alloc, &[bytes, &[0]])?;
+    Ok(is_malformed(alloc, &longer) && comes_back(alloc, bytes)?)
+}
+
+// Whether the body's frame is none with MACs.
+fn needs_signature(alloc: Global, body: &[u8]) -> Result<bool, AllocError> {
+    let frame = with_macs(alloc, body)?;
+    Ok(is_malformed(alloc, &frame))
+}
+
+// Whether the body's frame is none with a signature.
+fn needs_macs(alloc: Global, body: &[u8]) -> Result<bool, AllocError> {
+    let frame = signed(alloc, body)?;
+    Ok(is_malformed(alloc, &frame))
+}
+
+// Whether the body's frame stands with MACs and is none where it is cut.
+fn stands_whole(alloc: Global, body: &[u8]) -> Result<bool, WireFault> {
+    let frame = with_macs(alloc, body)?;
+    Ok(stands(alloc, &frame)? && fronts_are_refused(alloc, &frame, 0, frame.len()))
+}
+
+// Whether the body's frame stands with MACs, but neither with a signature nor cut.
+fn stands_with_macs(alloc: Global, parts: &[&[u8]]) -> Result<bool, WireFault> {
+    let body = joined(alloc, parts)?;
+    Ok(stands_whole(alloc, &body)? && needs_macs(alloc, &body)?)
+}
+
+// Whether the body's frame stands with a signature, and not with MACs.
+fn stands_signed(alloc: Global, body: &[u8]) -> Result<bool, WireFault> {
+    let frame = signed(alloc, body)?;
+    Ok(stands(alloc, &frame)? && needs_signature(alloc, body)?)
+}
+
+fn is_worked(frame: &[u8]) -> bool {
+    frame.len() == 165 && frame.starts_with(&[0, 0, 0, 0x17, 0x41]) && body_bytes(frame) == REQUEST
+}
+
+#[test]
+fn the_worked_request(rt: HostRuntime) -> Result<(), Fail> {
+    let frame = with_macs(rt.alloc(), REQUEST)?;
+    assert!(rt; is_worked(&frame));
+    Ok(())
+}
+
+// Bodies that go with MACs.
+const BODIES: [&[&[u8]]; 8] = [
+    &[REQUEST],
+    // Votes and a checkpoint.
+    &[b"\x43\x00\x01", ONE, TWO, DIGEST],
+    &[b"\x44\x00\x01", ONE, TWO, DIGEST],
+    &[b"\x45\x00\x01", TWO, DIGEST],
+    // A reply, a fetch, digests and a page.
+    &[b"\x48\x00\x03\x01\x00", ONE, b"\x01", TWO, b"\x34\x01"],
+    &[b"\x49\x00\x03", TWO, b"\x02\x03\xff"],
+    &[b"\x4a\x00\x03", TWO, b"\x01\x00\x1f", &[5; 1024]],
+    &[b"\x4b\x00\x03", TWO, b"\x03\xff", b"\x01\x02\x03"],
+];
+
+#[test]
+fn bodies_stand_with_macs(rt: HostRuntime) -> Result<(), Fail> {
+    for parts in BODIES {
+        assert!(rt; stands_with_macs(rt.alloc(), parts)?);
+    }
+    Ok(())
+}
+
+// A fetch of a page past the last one.
+const PAST: &[&[u8]] = &[b"\x49\x00\x03", TWO, b"\x02\x04\x00"];
+
+#[test]
+fn no_page_past_the_last(rt: HostRuntime) -> Result<(), Fail> {
+    let frame = parts_with_macs(rt.alloc(), PAST)?;
+    assert!(rt; is_malformed(rt.alloc(), &frame));
+    Ok(())
+}
+
+// What stands in a pre-prepare before its batch.
+const HEAD: &[u8] = b"\x42\x00\x00\x00\x00\x00\x00\x00\x00\x00\x01\x00\x00\x00\x00\x00\x00\x00\x02";
+
+// Whether a batch of the same request twice stands.
+fn two_stand(alloc: Global) -> Result<bool, WireFault> {
+    let carried = carried_request(alloc)?;
+    stands_with_macs(alloc, &[HEAD, &[2], &carried, &carried])
+}
+
+// Whether a batch of this count and these bytes is refused.
+fn is_no_batch(alloc: Global, count: u8, bytes: &[u8]) -> Result<bool, AllocError> {
+    let frame = parts_with_macs(alloc, &[HEAD, &[count], bytes])?;
+    Ok(is_malformed(alloc, &frame))
+}
+
+// A carried request with a signature.
+fn other_request(alloc: Global) -> Result<Vec<u8>, AllocError> {
+    let frame = signed(alloc, REQUEST)?;
+    piece(alloc, &frame)
+}
+
+#[test]
+fn batches_stand(rt: HostRuntime) -> Result<(), Fail> {
+    assert!(rt; two_stand(rt.alloc())?);
+    assert!(rt; is_no_batch(rt.alloc(), 0, b"")?);
+    let other = other_request(rt.alloc())?;
+    assert!(rt; is_no_batch(rt.alloc(), 1, &other)?);
+    Ok(())
+}
+
+#[test]
+fn view_changes_stand(rt: HostRuntime) -> Result<(), Fail> {
+    let body = joined(rt.alloc(), VIEW_CHANGE)?;
+    assert!(rt; stands_signed(rt.alloc(), &body)?);
+    Ok(())
+}
+
+#[test]
+fn a_view_change_cut(rt: HostRuntime) -> Result<(), Fail> {
+    let frame = signed_parts(rt.alloc(), VIEW_CHANGE)?;
+    assert!(rt; fronts_are_refused(rt.alloc(), &frame, 0, frame.len()));
+    Ok(())
+}
+
+#[test]
+fn new_views_stand(rt: HostRuntime) -> Result<(), Fail> {
+    let body = new_view(rt.alloc())?;
+    assert!(rt; stands_signed(rt.alloc(), &body)?);
+    Ok(())
+}
+
+// The body of a new view that carries a view change with MACs.
+fn other_new_view(alloc: Global) -> Result<Vec<u8>, AllocError> {
+    let change = parts_with_macs(alloc, VIEW_CHANGE)?;
+    new_view_of(alloc, &change)
+}
+
+#[test]
+fn no_new_view_of_macs(rt: HostRuntime) -> Result<(), Fail> {
+    let body = other_new_view(rt.alloc())?;
+    assert!(rt; needs_macs(rt.alloc(), &body)?);
+    Ok(())
+}
+
+// Whether the frame of a new view is none where it is cut in such a part of its 33,600 bytes. The body ends before
+// byte 17,022.
+fn cut_new_view(alloc: Global, from: usize, to: usize) -> Result<bool, AllocError> {
+    let body = new_view(alloc)?;
+    let frame = signed(alloc, &body)?;
+    Ok(frame.len() == 33_600 && fronts_are_refused(alloc, &frame, from, to))
+}
+
+#[test]
+fn a_new_view_cut_in_its_body(rt: HostRuntime) -> Result<(), Fail> {
+    assert!(rt; cut_new_view(rt.alloc(), 0, 17_022)?);
+    Ok(())
+}
+
+// The body is read again at each cut behind it, so these take longer.
+#[test]
+fn a_new_view_cut_in_its_proof(rt: HostRuntime) -> Result<(), Fail> {
+    assert!(rt; cut_new_view(rt.alloc(), 17_022, 21_200)?);
+    Ok(())
+}
+
+#[test]
+fn a_new_view_cut_in_its_proof_further(rt: HostRuntime) -> Result<(), Fail> {
+    assert!(rt; cut_new_view(rt.alloc(), 21_200, 25_400)?);
+    Ok(())
+}
+
+#[test]
+fn a_new_view_cut_in_its_proof_late(rt: HostRuntime) -> Result<(), Fail> {
+    assert!(rt; cut_new_view(rt.alloc(), 25_400, 29_500)?);
+    Ok(())
+}
+
+#[test]
+fn a_new_view_cut_near_its_end(rt: HostRuntime) -> Result<(), Fail> {
+    assert!(rt; cut_new_view(rt.alloc(), 29_500, 33_600)?);
+    Ok(())
+}
