@@ -6,8 +6,14 @@
 //! own.
 #![tactic(auto)]
 
+mod birth_list;
 mod births;
+mod index;
+#[cfg(test)]
+mod index_tests;
+mod keys;
 mod laws;
+mod lists;
 mod matching;
 #[cfg(test)]
 mod page_tests;

@@ -4,37 +4,45 @@ ghost use Rattle.std.specs.Prelude.{◌≡◌, position, map, take, filter, IfOk
 ghost use Rattle.template_match.specs.Tests.{is_match};
 
 use std::alloc::{Allocator, Global};
+use std::collections::BTreeMap;
 use template_match::matches;
 use tuple_codec::{Max, Tuples};
 use tuple_tree::{NoMemory, Template, Tuple};
 
-/// The index of the oldest match.
-pub fn index_of_match<A: Allocator>(
-    entries: &[(u64, Tuple<Global>)],
+/// The oldest match among the tuples of these births.
+pub fn oldest_match<'a, A: Allocator>(
+    tuples: &'a BTreeMap<u64, Tuple<Global>>,
+    births: &[u64],
     template: &Template<A>,
-) -> Option<usize>
-    ensures { result ≡ position (λ e. is_match template.now e.1) entries.now }
-{
-    entries.iter().position(|entry| matches(template, &entry.1))
+) -> Option<(u64, &'a Tuple<Global>)> {
+    for birth in births {
+        if let Some(tuple) = tuples.get(birth) {
+            if matches(template, tuple) {
+                return Some((*birth, tuple));
+            }
+        }
+    }
+    None
 }
 
-/// Copies of the oldest matches, so many at the most.
+/// Copies of the oldest matches among the tuples of these births, so many at the most.
 pub fn copies_of_matches<A: Allocator>(
     alloc: Global,
-    entries: &[(u64, Tuple<Global>)],
+    tuples: &BTreeMap<u64, Tuple<Global>>,
+    births: &[u64],
     template: &Template<A>,
     max: Max,
-) -> Result<Tuples<Global>, NoMemory>
-    ensures { IfOk result (λ copies. copies ≡ take max.count (filter (is_match template.now) (map (λ e. e.1) entries.now))) }
-{
+) -> Result<Tuples<Global>, NoMemory> {
     let mut copies = Tuples::new_in(alloc);
-    for entry in entries {
+    for birth in births {
         if copies.len() >= max.count as usize {
             return Ok(copies);
         }
-        if matches(template, &entry.1) {
-            let copy = entry.1.copy_in(alloc)?;
-            copies.push(copy)?;
+        if let Some(tuple) = tuples.get(birth) {
+            if matches(template, tuple) {
+                let copy = tuple.copy_in(alloc)?;
+                copies.push(copy)?;
+            }
         }
     }
     Ok(copies)

@@ -11,10 +11,12 @@ ghost use Rattle.space.specs.Reading.{ArePagesOf};
 ghost use Rattle.space.specs.Births.{SpaceState, IsState, empty_state, tuples_of, state_after, with_birth, with_tuple, without_match};
 
 use crate::births::{PAGES, empty_pages, next_birth};
-use crate::matching::{copies_of_matches, index_of_match};
-use crate::pages::{HEADER_LEN, header_of, text_of_page};
+use crate::index::Index;
+use crate::matching::{copies_of_matches, oldest_match};
+use crate::pages::{HEADER_LEN, header_of, text_of};
 use crate::reading::{read_header, read_page};
 use std::alloc::{Allocator, Global};
+use std::collections::BTreeMap;
 use std::marker::Model;
 use thiserror::Error;
 use tuple_codec::{Answer, Bad, Max, Op};
@@ -49,10 +51,12 @@ impl From<NoMemory> for PeekFault {
 #[derive(Drop)]
 pub struct Space {
     alloc: Global,
-    entries: Vec<(u64, Tuple<Global>)>,
+    tuples: BTreeMap<u64, Tuple<Global>>,
     next: u64,
     // How many tuples lie on each page, so that a birth number is found without a look at the tuples.
     page_counts: [u8; PAGES],
+    index: Index,
+    touched: [bool; PAGES],
 }
 
 impl Model for Space {
@@ -64,9 +68,9 @@ impl Model for Space {
 
     ghost coded = { space_code };
 
-    ghost view = { λ a. record { entries = a.entries.items; next = a.next } };
+    ghost view = { λ a. record { entries = a.tuples.entries; next = a.next } };
 
-    ghost invariant = { λ a. IsCounted a.entries.items a.next a.page_counts };
+    ghost invariant = { λ a. IsCounted a.tuples.entries a.next a.page_counts };
 }
 
 impl Space {
@@ -77,9 +81,11 @@ impl Space {
     {
         Space {
             alloc,
-            entries: Vec::new(alloc),
+            tuples: BTreeMap::new(alloc),
             next: 0,
             page_counts: empty_pages(),
+            index: Index::new(alloc),
+            touched: [true; PAGES],
         }
     }
 
@@ -116,19 +122,22 @@ impl Space {
         ensures found { IfOk result (λ s. ArePagesOf next (map (λ page. page.now) pages.now) s) }
         ensures only { (s : SpaceState) → ArePagesOf next (map (λ page. page.now) pages.now) s → IfErr result (λ bad. bad ≡ Bad.NoMemory) }
     {
-        let mut entries = Vec::new(alloc);
+        let mut tuples = BTreeMap::new(alloc);
         let mut page_counts = empty_pages();
         for (page, text) in pages.iter().enumerate() {
-            page_counts[page] = read_page(&mut entries, text, page, next)?;
+            page_counts[page] = read_page(alloc, &mut tuples, text, page, next)?;
         }
-        if entries.len() > MAX_TUPLES {
+        if tuples.len() > MAX_TUPLES {
             return Err(Bad::Malformed);
         }
+        let index = Index::of(alloc, &tuples)?;
         Ok(Space {
             alloc,
-            entries,
+            tuples,
             next,
             page_counts,
+            index,
+            touched: [true; PAGES],
         })
     }
 
@@ -137,7 +146,7 @@ impl Space {
         ensures value { result ≡ length (tuples_of self.now) }
         ensures bound { result ≤ 8192 }
     {
-        self.entries.len()
+        self.tuples.len()
     }
 
     /// Whether an operation may still be applied: birth numbers stay below 2 to the power of 62.
@@ -153,7 +162,7 @@ impl Space {
         requires { page < PAGES }
         ensures { IfOk result (λ text. text.items ≡ page_text self.now page) }
     {
-        text_of_page(self.alloc, self.entries.as_slice(), page)
+        text_of(self.alloc, &self.tuples, self.index.on_page(page))
     }
 
     /// The text of the header after `number` executed batches: a version byte, the number and the next birth number,
@@ -180,8 +189,14 @@ impl Space {
     {
         note_tuple(&tuple);
         let birth = next_birth(&self.page_counts, self.next);
-        self.entries.push((birth, tuple))?;
+        self.index.add(birth, &tuple)?;
+        if let Err(failed) = self.tuples.insert(birth, tuple) {
+            let (_, tuple) = failed.value;
+            self.index.remove(birth, &tuple);
+            return Err(NoMemory);
+        }
         self.page_counts[(birth % PAGES as u64) as usize] += 1;
+        self.touched[(birth % PAGES as u64) as usize] = true;
         self.next = birth + 1;
         Ok(())
     }
@@ -201,35 +216,45 @@ impl Space {
         Ok(true)
     }
 
-    fn index_of<A: Allocator>(&self, template: &Template<A>) -> Option<usize>
-        ensures { result ≡ position (λ e. is_match template.now e.1) self.now.entries }
-    {
-        index_of_match(self.entries.as_slice(), template)
+    /// The births, the oldest first, of the stored tuples that have as many values as the template has fields and, where
+    /// its first field is an actual, that first value. Takes no memory.
+    pub fn candidates<A: Allocator>(&self, template: &Template<A>) -> &[u64] {
+        self.index.candidates(template)
     }
 
-    fn copy_at(&self, index: usize) -> Result<Tuple<Global>, NoMemory>
-        requires { index < length self.now.entries }
-        ensures { IfOk result (λ t. t ≡ (slice_index_or self.now.entries index (0, t)).1) }
+    /// Whether the text of page `page`, 0 to 255, may differ from what it was at the last [`Space::untouch`].
+    pub fn touched(&self, page: usize) -> bool
+        requires { page < PAGES }
     {
-        self.entries[index].1.copy_in(self.alloc)
+        self.touched[page]
     }
 
-    fn remove_at(&mut self, index: usize) -> Tuple<Global>
-        requires { index < length self.old.entries }
-        ensures value { result ≡ (slice_index_or self.old.entries index (0, result)).1 }
-        ensures state { self.new ≡ record { entries = remove self.old.entries index; next = self.old.next } }
+    /// Begins anew: no page is touched.
+    pub fn untouch(&mut self)
+        ensures { self.new ≡ self.old }
     {
-        let (birth, tuple) = self.entries.remove(index);
+        self.touched = [false; PAGES];
+    }
+
+    fn oldest_match<A: Allocator>(&self, template: &Template<A>) -> Option<(u64, &Tuple<Global>)> {
+        oldest_match(&self.tuples, self.candidates(template), template)
+    }
+
+    // Takes the tuple of this birth.
+    fn remove(&mut self, birth: u64) -> Option<Tuple<Global>> {
+        let tuple = self.tuples.remove(&birth)?;
+        self.index.remove(birth, &tuple);
         self.page_counts[(birth % PAGES as u64) as usize] -= 1;
-        tuple
+        self.touched[(birth % PAGES as u64) as usize] = true;
+        Some(tuple)
     }
 
     // Reads the oldest match.
     fn read<A: Allocator>(&self, template: &Template<A>) -> Result<Answer<Global>, NoMemory>
         ensures { IfOk result (λ a. outcome_of a ≡ found_or_absent (first_match template.now (tuples_of self.now))) }
     {
-        match self.index_of(template) {
-            Some(index) => Ok(Answer::Found(self.copy_at(index)?)),
+        match self.oldest_match(template) {
+            Some((_, tuple)) => Ok(Answer::Found(tuple.copy_in(self.alloc)?)),
             None => Ok(Answer::Absent),
         }
     }
@@ -242,7 +267,13 @@ impl Space {
     ) -> Result<Answer<Global>, NoMemory>
         ensures { IfOk result (λ a. outcome_of a ≡ outcome (tuples_of self.now) (rd_all max.count template.now)) }
     {
-        let copies = copies_of_matches(self.alloc, self.entries.as_slice(), template, max)?;
+        let copies = copies_of_matches(
+            self.alloc,
+            &self.tuples,
+            self.candidates(template),
+            template,
+            max,
+        )?;
         Ok(Answer::All(copies))
     }
 
@@ -251,8 +282,11 @@ impl Space {
         ensures value { outcome_of result ≡ found_or_absent (first_match template.now (tuples_of self.old)) }
         ensures state { self.new ≡ without_match self.old template.now }
     {
-        match self.index_of(template) {
-            Some(index) => Answer::Found(self.remove_at(index)),
+        let Some((birth, _)) = self.oldest_match(template) else {
+            return Answer::Absent;
+        };
+        match self.remove(birth) {
+            Some(tuple) => Answer::Found(tuple),
             None => Answer::Absent,
         }
     }
@@ -260,7 +294,7 @@ impl Space {
     fn has_match<A: Allocator>(&self, template: &Template<A>) -> bool
         ensures { result ≡ is_some (first_match template.now (tuples_of self.now)) }
     {
-        self.index_of(template).is_some()
+        self.oldest_match(template).is_some()
     }
 
     // Adds a copy of the tuple where nothing matches.
