@@ -1,7 +1,7 @@
 //! Births in order of age.
 
-ghost use Rattle.std.specs.Prelude.{◌≡◌, ◌<◌, ◌++◌, ◌∷◌, [], drop, length, AllPairs, OnOk, OnErr, IfOk, IsTrue, ◌↔◌};
-ghost use Rattle.space.specs.Listing.{without};
+ghost use Rattle.std.specs.Prelude.{◌≡◌, ◌<◌, ◌++◌, ◌∷◌, [], drop, length, remove, AllPairs, OnOk, OnErr, IfOk, IsTrue, ◌↔◌};
+ghost use Rattle.space.specs.Ages.{without};
 
 use std::alloc::Global;
 use std::marker::Model;
@@ -57,8 +57,7 @@ impl BirthList {
 
     /// Takes a birth, where it is there.
     pub fn remove(&mut self, birth: u64)
-        requires { AllPairs (λ a b. a < b) self.old }
-        ensures { self.new ≡ without birth self.old }
+        ensures { AllPairs (λ a b. a < b) self.old → self.new ≡ without birth self.old }
     {
         let births = self.as_slice();
         let place = births.partition_point(|other| *other < birth);
@@ -68,7 +67,11 @@ impl BirthList {
         self.remove_at(place);
     }
 
-    fn remove_at(&mut self, place: usize) {
+    // Takes the birth at this place.
+    fn remove_at(&mut self, place: usize)
+        requires { place < length self.old }
+        ensures { self.new ≡ remove self.old place }
+    {
         if place > 0 {
             self.births.remove(self.taken + place);
             return;

@@ -1,6 +1,6 @@
-//! Candidates and touched pages.
+//! Candidates.
 
-use crate::{PAGES, Space};
+use crate::Space;
 use std::alloc::{AllocError, Global};
 use std::test::Fail;
 use tuple_codec::{Op, decode_op};
@@ -83,23 +83,18 @@ fn candidates_of(space: &Space, template: &Template<Global>) -> usize {
 fn candidates_by_length_and_first_value(rt: HostRuntime) -> Result<(), Fail> {
     let space = many(rt.alloc())?;
     // (1 *)
-    assert_eq!(rt; candidates(&space, rt.alloc(), b"\x22\x02\x01\0\0\0\0\0\0\0\x01\x10"), Some(100));
+    assert_eq!(rt;
+        candidates(&space, rt.alloc(), b"\x22\x02\x01\0\0\0\0\0\0\0\x01\x10"),
+        Some(100)
+    );
     // (* *)
-    assert_eq!(rt; candidates(&space, rt.alloc(), b"\x22\x02\x10\x10"), Some(200));
+    assert_eq!(rt;
+        candidates(&space, rt.alloc(), b"\x22\x02\x10\x10"),
+        Some(200)
+    );
     // (*)
     assert_eq!(rt; candidates(&space, rt.alloc(), b"\x22\x01\x10"), Some(1));
     // ()
     assert_eq!(rt; candidates(&space, rt.alloc(), b"\x22\0"), Some(0));
     Ok(())
-}
-
-// In a new space after `untouch` and `out (1)`, page 0 alone is touched.
-#[test]
-fn a_page_is_touched(rt: HostRuntime) {
-    let mut space = Space::new(rt.alloc());
-    space.untouch();
-    assert!(rt; is_done(&mut space, rt.alloc(), b"\x21\x01\x01\0\0\0\0\0\0\0\x01"));
-    for page in 0..PAGES {
-        assert_eq!(rt; space.touched(page), page == 0);
-    }
 }

@@ -1,6 +1,11 @@
 //! Keys of bytes.
 
-ghost use Rattle.std.specs.Prelude.{◌≡◌};
+ghost use Rattle.std.specs.Prelude.{◌≡◌, ◌+◌, ◌≤◌, ◌<◌, ◌++◌, ◌∷◌, length, option_map};
+ghost use Rattle.std.specs.Int.{w16, w64, to_be_bytes, cast_unsigned};
+ghost use Rattle.tuple_tree.specs.Values.{datum_length, IsTemplate};
+ghost use Rattle.tuple_tree.specs.AtomView.{datum_of};
+ghost use Rattle.tuple_codec.specs.Spelling.{datum_spelling, string as string_spelling};
+ghost use Rattle.space.specs.Keys.{tuple_key, template_key};
 
 use arrayvec::ArrayVec;
 use byteorder::{BigEndian, ByteOrder};
@@ -14,7 +19,9 @@ pub const KEY_LEN: usize = 1026;
 pub type Key = ArrayVec<u8, KEY_LEN>;
 
 /// The key of a tuple.
-pub fn key_of_tuple<A: Allocator>(tuple: &Tuple<A>) -> Key {
+pub fn key_of_tuple<A: Allocator>(tuple: &Tuple<A>) -> Key
+    ensures { result.items ≡ tuple_key tuple.now }
+{
     match tuple.values().first() {
         Some(Value::Atom(atom)) => key_of(tuple.len(), atom),
         _ => ArrayVec::new(),
@@ -22,14 +29,21 @@ pub fn key_of_tuple<A: Allocator>(tuple: &Tuple<A>) -> Key {
 }
 
 /// The key of the tuples that a template may match, where its first field is an actual.
-pub fn key_of_template<A: Allocator>(template: &Template<A>) -> Option<Key> {
+pub fn key_of_template<A: Allocator>(template: &Template<A>) -> Option<Key>
+    ensures value { option_map (λ key. key.items) result ≡ template_key template.now }
+    ensures valid { IsTemplate template.now }
+{
     match template.fields().first() {
         Some(Field::Actual(atom)) => Some(key_of(template.len(), atom)),
         _ => None,
     }
 }
 
-fn key_of<A: Allocator>(count: usize, first: &Atom<A>) -> Key {
+fn key_of<A: Allocator>(count: usize, first: &Atom<A>) -> Key
+    requires few { count ≤ 32 }
+    requires fits { datum_length (datum_of first.now) ≤ 1024 }
+    ensures { result.items ≡ count ∷ datum_spelling (datum_of first.now) }
+{
     let mut key = ArrayVec::new();
     key.push(count as u8);
     match first {
@@ -53,22 +67,32 @@ fn key_of<A: Allocator>(count: usize, first: &Atom<A>) -> Key {
     key
 }
 
-fn put_string(key: &mut Key, string: &[u8]) {
+fn put_string(key: &mut Key, string: &[u8])
+    requires { length key.old.items + (2 + length string.now) ≤ 1026 }
+    ensures { key.new.items ≡ key.old.items ++ string_spelling string.now }
+{
     put(key, &length_bytes(string.len() as u16));
     put(key, string);
 }
 
-fn put(key: &mut Key, bytes: &[u8]) {
+fn put(key: &mut Key, bytes: &[u8])
+    requires { length key.old.items + length bytes.now ≤ 1026 }
+    ensures { key.new.items ≡ key.old.items ++ bytes.now }
+{
     let _ = key.try_extend_from_slice(bytes);
 }
 
-fn length_bytes(len: u16) -> [u8; 2] {
+fn length_bytes(len: u16) -> [u8; 2]
+    ensures { result ≡ to_be_bytes w16 len }
+{
     let mut bytes = [0; 2];
     BigEndian::write_u16(&mut bytes, len);
     bytes
 }
 
-fn number_bytes(number: i64) -> [u8; 8] {
+fn number_bytes(number: i64) -> [u8; 8]
+    ensures { result ≡ to_be_bytes w64 (cast_unsigned w64 number) }
+{
     let mut bytes = [0; 8];
     BigEndian::write_i64(&mut bytes, number);
     bytes

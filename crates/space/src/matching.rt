@@ -1,7 +1,8 @@
 //! Matches among stored tuples.
 
-ghost use Rattle.std.specs.Prelude.{◌≡◌, position, map, take, filter, IfOk};
+ghost use Rattle.std.specs.Prelude.{◌≡◌, find, map, take, filter, option_map, IfOk};
 ghost use Rattle.template_match.specs.Tests.{is_match};
+ghost use Rattle.space.specs.Found.{found_at, entries_at};
 
 use std::alloc::{Allocator, Global};
 use std::collections::BTreeMap;
@@ -9,17 +10,37 @@ use template_match::matches;
 use tuple_codec::{Max, Tuples};
 use tuple_tree::{NoMemory, Template, Tuple};
 
+// The tuple of this birth, where it matches.
+fn match_at<'a, A: Allocator>(
+    tuples: &'a BTreeMap<u64, Tuple<Global>>,
+    birth: u64,
+    template: &Template<A>,
+) -> Option<&'a Tuple<Global>>
+    ensures { option_map (λ t. (birth, t.now)) result ≡ find (λ e. is_match template.now e.1) (found_at tuples.now.entries birth) }
+{
+    match tuples.get(&birth) {
+        Some(tuple) => {
+            if matches(template, tuple) {
+                Some(tuple)
+            } else {
+                None
+            }
+        }
+        None => None,
+    }
+}
+
 /// The oldest match among the tuples of these births.
 pub fn oldest_match<'a, A: Allocator>(
     tuples: &'a BTreeMap<u64, Tuple<Global>>,
     births: &[u64],
     template: &Template<A>,
-) -> Option<(u64, &'a Tuple<Global>)> {
+) -> Option<(u64, &'a Tuple<Global>)>
+    ensures { option_map (λ x. (x.0, x.1.now)) result ≡ find (λ e. is_match template.now e.1) (entries_at tuples.now.entries births.now) }
+{
     for birth in births {
-        if let Some(tuple) = tuples.get(birth) {
-            if matches(template, tuple) {
-                return Some((*birth, tuple));
-            }
+        if let Some(tuple) = match_at(tuples, *birth, template) {
+            return Some((*birth, tuple));
         }
     }
     None
@@ -32,17 +53,17 @@ pub fn copies_of_matches<A: Allocator>(
     births: &[u64],
     template: &Template<A>,
     max: Max,
-) -> Result<Tuples<Global>, NoMemory> {
+) -> Result<Tuples<Global>, NoMemory>
+    ensures { IfOk result (λ copies. copies ≡ take max.count (filter (is_match template.now) (map (λ e. e.1) (entries_at tuples.now.entries births.now)))) }
+{
     let mut copies = Tuples::new_in(alloc);
     for birth in births {
         if copies.len() >= max.count as usize {
             return Ok(copies);
         }
-        if let Some(tuple) = tuples.get(birth) {
-            if matches(template, tuple) {
-                let copy = tuple.copy_in(alloc)?;
-                copies.push(copy)?;
-            }
+        if let Some(tuple) = match_at(tuples, *birth, template) {
+            let copy = tuple.copy_in(alloc)?;
+            copies.push(copy)?;
         }
     }
     Ok(copies)

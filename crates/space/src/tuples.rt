@@ -1,10 +1,14 @@
 //! The space and its operations.
 
-ghost use Rattle.std.specs.Prelude.{◌≡◌, ◌^◌, ◌<◌, ◌≤◌, false, length, remove, slice_index_or, position, is_some, OnOk, OnErr, IfOk, IfErr, MatchResult, IsTrue, ◌↔◌, ℕ, map};
+ghost use Rattle.std.specs.Prelude.{◌≡◌, ◌^◌, ◌<◌, ◌≤◌, false, length, find, option_map, is_some, OnOk, OnErr, IfOk, IfErr, MatchResult, IsTrue, ◌↔◌, ℕ, map};
+ghost use Rattle.std.specs.Ordering.{nat_cmp};
+ghost use Rattle.std.specs.Map.{lookup, remove_entry};
+ghost use Rattle.std.specs.BTreeMap.{is_at};
 ghost use Rattle.tuple_tree.specs.Values.{IsTuple};
 ghost use Rattle.tuple_codec.specs.Operations.{cas, rd_all};
 ghost use Rattle.template_match.specs.Tests.{is_match};
 ghost use Rattle.tuple_codec.specs.OperationView.{operation_of, outcome_of};
+ghost use Rattle.space.specs.Candidates.{candidates_of};
 ghost use Rattle.space.specs.Applying.{outcome, tuples_after, first_match, found_or_absent, has_room, is_read_only};
 ghost use Rattle.space.specs.Pages.{page_text, header_text, ArePages};
 ghost use Rattle.space.specs.Reading.{ArePagesOf};
@@ -56,13 +60,12 @@ pub struct Space {
     // How many tuples lie on each page, so that a birth number is found without a look at the tuples.
     page_counts: [u8; PAGES],
     index: Index,
-    touched: [bool; PAGES],
 }
 
 impl Model for Space {
     ghost use Rattle.std.specs.Prelude.{◌≡◌};
     ghost use Rattle.space.specs.Births.{SpaceState, space_code};
-    ghost use Rattle.space.specs.Counted.{IsCounted};
+    ghost use Rattle.space.specs.Counted.{IsIndexed};
 
     ghost Value = { SpaceState };
 
@@ -70,7 +73,7 @@ impl Model for Space {
 
     ghost view = { λ a. record { entries = a.tuples.entries; next = a.next } };
 
-    ghost invariant = { λ a. IsCounted a.tuples.entries a.next a.page_counts };
+    ghost invariant = { λ a. IsIndexed a.tuples.entries a.next a.page_counts a.index };
 }
 
 impl Space {
@@ -85,7 +88,6 @@ impl Space {
             next: 0,
             page_counts: empty_pages(),
             index: Index::new(alloc),
-            touched: [true; PAGES],
         }
     }
 
@@ -137,7 +139,6 @@ impl Space {
             next,
             page_counts,
             index,
-            touched: [true; PAGES],
         })
     }
 
@@ -191,12 +192,10 @@ impl Space {
         let birth = next_birth(&self.page_counts, self.next);
         self.index.add(birth, &tuple)?;
         if let Err(failed) = self.tuples.insert(birth, tuple) {
-            let (_, tuple) = failed.value;
-            self.index.remove(birth, &tuple);
+            self.index.remove(birth, &failed.value.1);
             return Err(NoMemory);
         }
         self.page_counts[(birth % PAGES as u64) as usize] += 1;
-        self.touched[(birth % PAGES as u64) as usize] = true;
         self.next = birth + 1;
         Ok(())
     }
@@ -218,35 +217,32 @@ impl Space {
 
     /// The births, the oldest first, of the stored tuples that have as many values as the template has fields and, where
     /// its first field is an actual, that first value. Takes no memory.
-    pub fn candidates<A: Allocator>(&self, template: &Template<A>) -> &[u64] {
+    pub fn candidates<A: Allocator>(&self, template: &Template<A>) -> &[u64]
+        ensures { result.now ≡ candidates_of template.now self.now }
+    {
         self.index.candidates(template)
     }
 
-    /// Whether the text of page `page`, 0 to 255, may differ from what it was at the last [`Space::untouch`].
-    pub fn touched(&self, page: usize) -> bool
-        requires { page < PAGES }
+    fn oldest_match<A: Allocator>(&self, template: &Template<A>) -> Option<(u64, &Tuple<Global>)>
+        ensures value { option_map (λ x. (x.0, x.1.now)) result ≡ find (λ e. is_match template.now e.1) self.now.entries }
+        ensures valid { IsState self.now }
     {
-        self.touched[page]
-    }
-
-    /// Begins anew: no page is touched.
-    pub fn untouch(&mut self)
-        ensures { self.new ≡ self.old }
-    {
-        self.touched = [false; PAGES];
-    }
-
-    fn oldest_match<A: Allocator>(&self, template: &Template<A>) -> Option<(u64, &Tuple<Global>)> {
         oldest_match(&self.tuples, self.candidates(template), template)
     }
 
     // Takes the tuple of this birth.
-    fn remove(&mut self, birth: u64) -> Option<Tuple<Global>> {
-        let tuple = self.tuples.remove(&birth)?;
-        self.index.remove(birth, &tuple);
-        self.page_counts[(birth % PAGES as u64) as usize] -= 1;
-        self.touched[(birth % PAGES as u64) as usize] = true;
-        Some(tuple)
+    fn remove(&mut self, birth: u64) -> Option<Tuple<Global>>
+        ensures value { result ≡ lookup (is_at (nat_cmp birth)) self.old.entries }
+        ensures state { self.new ≡ record { entries = remove_entry (is_at (nat_cmp birth)) self.old.entries; next = self.old.next } }
+    {
+        match self.tuples.remove(&birth) {
+            Some(tuple) => {
+                self.index.remove(birth, &tuple);
+                self.page_counts[(birth % PAGES as u64) as usize] -= 1;
+                Some(tuple)
+            }
+            None => None,
+        }
     }
 
     // Reads the oldest match.
@@ -282,8 +278,9 @@ impl Space {
         ensures value { outcome_of result ≡ found_or_absent (first_match template.now (tuples_of self.old)) }
         ensures state { self.new ≡ without_match self.old template.now }
     {
-        let Some((birth, _)) = self.oldest_match(template) else {
-            return Answer::Absent;
+        let birth = match self.oldest_match(template) {
+            Some((birth, _)) => birth,
+            None => return Answer::Absent,
         };
         match self.remove(birth) {
             Some(tuple) => Answer::Found(tuple),
