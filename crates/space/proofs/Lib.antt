@@ -17,4 +17,5 @@ pub mod Keying
 pub mod Trees
 pub mod Storing
 pub mod Among
+pub mod Changing
 pub mod Answering

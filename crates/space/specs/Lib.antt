@@ -8,3 +8,4 @@ pub mod Found
 pub mod Keys
 pub mod Pages
 pub mod Reading
+pub mod Watching

@@ -1,6 +1,6 @@
-//! Candidates.
+//! Candidates and touched pages.
 
-use crate::Space;
+use crate::{PAGES, Space, Watched};
 use std::alloc::{AllocError, Global};
 use std::test::Fail;
 use tuple_codec::{Op, decode_op};
@@ -97,4 +97,29 @@ fn candidates_by_length_and_first_value(rt: HostRuntime) -> Result<(), Fail> {
     // ()
     assert_eq!(rt; candidates(&space, rt.alloc(), b"\x22\0"), Some(0));
     Ok(())
+}
+
+// The operation is applied, at the second try or a later one where memory ran out at the first one.
+fn is_watched(watched: &mut Watched, op: &Op<Global>) -> bool {
+    for _try in 0..8 {
+        if !watched.space().births_left() {
+            return false;
+        }
+        if watched.apply(op).is_ok() {
+            return true;
+        }
+    }
+    false
+}
+
+// In a new space after `untouch` and `out (1)`, page 0 alone is touched.
+#[test]
+fn a_page_is_touched(rt: HostRuntime) {
+    let mut watched = Watched::of(Space::new(rt.alloc()));
+    watched.untouch();
+    let one = read(rt.alloc(), b"\x21\x01\x01\0\0\0\0\0\0\0\x01");
+    assert!(rt; one.is_some_and(|op| is_watched(&mut watched, &op)));
+    for page in 0..PAGES {
+        assert_eq!(rt; watched.touched(page), page == 0);
+    }
 }

@@ -22,6 +22,7 @@ mod reading;
 #[cfg(test)]
 mod tests;
 mod tuples;
+mod watched;
 
 pub use births::{MAX_ON_PAGE, PAGES};
 pub use laws::{
@@ -30,3 +31,4 @@ pub use laws::{
 };
 pub use pages::HEADER_LEN;
 pub use tuples::{MAX_TUPLES, PeekFault, Space};
+pub use watched::Watched;

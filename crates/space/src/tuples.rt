@@ -1,6 +1,6 @@
 //! The space and its operations.
 
-ghost use Rattle.std.specs.Prelude.{◌≡◌, ◌^◌, ◌<◌, ◌≤◌, false, length, find, option_map, is_some, OnOk, OnErr, IfOk, IfErr, MatchResult, IsTrue, ◌↔◌, ℕ, map};
+ghost use Rattle.std.specs.Prelude.{◌≡◌, ◌+◌, ◌%◌, ◌^◌, ◌<◌, ◌≤◌, false, length, find, option_map, is_some, OnOk, OnErr, IfOk, IfErr, IfSome, MatchResult, IsTrue, ◌↔◌, ℕ, map};
 ghost use Rattle.std.specs.Ordering.{nat_cmp};
 ghost use Rattle.std.specs.Map.{lookup, remove_entry};
 ghost use Rattle.std.specs.BTreeMap.{is_at};
@@ -12,7 +12,7 @@ ghost use Rattle.space.specs.Candidates.{candidates_of};
 ghost use Rattle.space.specs.Applying.{outcome, tuples_after, first_match, found_or_absent, has_room, is_read_only};
 ghost use Rattle.space.specs.Pages.{page_text, header_text, ArePages};
 ghost use Rattle.space.specs.Reading.{ArePagesOf};
-ghost use Rattle.space.specs.Births.{SpaceState, IsState, empty_state, tuples_of, state_after, with_birth, with_tuple, without_match};
+ghost use Rattle.space.specs.Births.{SpaceState, IsState, empty_state, birth_of, tuples_of, state_after, with_birth, with_tuple, without_match};
 
 use crate::births::{PAGES, empty_pages, next_birth};
 use crate::index::Index;
@@ -323,11 +323,38 @@ impl Space {
         ensures state { OnOk result (self.new ≡ state_after self.old (operation_of op.now)) }
         ensures tuples { OnOk result (tuples_of self.new ≡ tuples_after (tuples_of self.old) (operation_of op.now)) }
         ensures valid { IsState self.new }
+        ensures next { self.new.next ≤ self.old.next + 256 }
         ensures err { OnErr result (self.new ≡ self.old) }
     {
         let result = self.answer(op);
         self.note_state();
         result
+    }
+
+    /// The page whose text an operation may change. Takes no memory.
+    pub(crate) fn page_changed_by<A: Allocator>(&self, op: &Op<A>) -> Option<usize>
+        requires { self.now.next < 2 ^ 62 }
+        ensures bound { IfSome result (λ page. page < 256) }
+        ensures others { (page : ℕ) → ¬ (result ≡ Some page) → page_text (state_after self.now (operation_of op.now)) page ≡ page_text self.now page }
+    {
+        match op {
+            Op::Out(_) => Some(self.next_page()),
+            Op::Cas(_, _) => Some(self.next_page()),
+            Op::Inp(template) => match self.oldest_match(template) {
+                Some((birth, _)) => Some((birth % PAGES as u64) as usize),
+                None => None,
+            },
+            Op::Rdp(_) | Op::RdAll(_, _) => None,
+        }
+    }
+
+    // The page of the next tuple.
+    fn next_page(&self) -> usize
+        requires { self.now.next < 2 ^ 62 }
+        ensures { result ≡ birth_of self.now % 256 }
+    {
+        let birth = next_birth(&self.page_counts, self.next);
+        (birth % PAGES as u64) as usize
     }
 
     fn answer<A: Allocator>(&mut self, op: &Op<A>) -> Result<Answer<Global>, NoMemory>
@@ -355,7 +382,9 @@ impl Space {
     pub fn peek<A: Allocator>(&self, op: &Op<A>) -> Result<Answer<Global>, PeekFault>
         ensures answer { IfOk result (λ a. outcome_of a ≡ outcome (tuples_of self.now) (operation_of op.now)) }
         ensures not_read_only { (result ≡ Err PeekFault.NotReadOnly) ↔ (is_read_only (operation_of op.now) ≡ false) }
+        ensures valid { IsState self.now }
     {
+        self.note_state();
         match op {
             Op::Rdp(template) => Ok(self.read(template)?),
             Op::RdAll(max, template) => Ok(self.read_all(*max, template)?),
