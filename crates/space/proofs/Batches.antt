@@ -1,6 +1,6 @@
 -- What a batch of operations leaves.
-use Rattle.std.proofs.Common.{◌≡◌, ℕ, ◌+◌, ◌*◌, ◌^◌, ◌≤◌, ◌<◌, Bool, true, false, cond, List, [], ◌∷◌, length, refl, arith}
-use Rattle.std.specs.Prelude.{All, fold, is_some}
+use Rattle.std.proofs.Common.{◌≡◌, ℕ, ◌+◌, ◌*◌, ◌^◌, ◌≤◌, ◌<◌, Bool, true, false, cond, List, [], ◌∷◌, length, Result, Ok, Err, refl, sym, subst, arith}
+use Rattle.std.specs.Prelude.{All, OnOk, OnErr, fold, is_some}
 use Rattle.std.proofs.lemmas.Bool.{ltb-true}
 use Rattle.std.proofs.lemmas.List.{length-map}
 use Rattle.std.proofs.lemmas.List.Elements.{All-head, All-tail}
@@ -47,3 +47,8 @@ batches_leave_states s number os h few valid below =
     let births = h.births in
     let more = all.1 in
     record { state = all.0; births = omega arith; few = below }
+
+-- An operation that failed takes none.
+pub next_bounded : {T E : Type 0} (r : Result T E) (old new : SpaceState) (o : Operation) → OnOk r (new ≡ state_after old o) → OnErr r (new ≡ old) → new.next ≤ old.next + 256
+next_bounded (Ok x) old new o h k = subst (λ (s : SpaceState). s.next ≤ old.next + 256) (sym h) (next_after old o)
+next_bounded (Err e) old new o h k = subst (λ (s : SpaceState). s.next ≤ old.next + 256) (sym k) (omega arith)

@@ -1,35 +1,48 @@
--- The oldest match by its index.
-use Rattle.std.proofs.Common.{◌≡◌, ℕ, ◌<◌, Bool, length, get_or, Option, Some, None, option_map, refl, sym, ap, ◌∙◌}
-use Rattle.std.specs.Prelude.{position, is_some, remove}
+-- The oldest match, and what is left without it.
+use Rattle.std.proofs.Common.{◌≡◌, ℕ, Bool, List, get_or, Option, Some, None, option_map, refl, sym, ap, ◌∙◌}
+use Rattle.std.specs.Prelude.{AllPairs, find, position, is_some}
+use Rattle.std.specs.Ordering.{nat_cmp}
+use Rattle.std.specs.Map.{lookup, remove_entry}
+use Rattle.std.specs.BTreeMap.{is_at}
 use Rattle.tuple_tree.specs.Items.{none}
-use Rattle.tuple_tree.specs.Values.{TemplateTree}
+use Rattle.tuple_tree.specs.Values.{TupleTree, TemplateTree}
 use Rattle.template_match.specs.Tests.{is_match}
-use Rattle.space.specs.Applying.{first_match}
-use Rattle.space.specs.Births.{Entry, SpaceState, tuples_of, without_match}
-use Rattle.space.proofs.Listing.{find-map, found_at, found_none, removed_at, removed_none, position-first}
+use Rattle.space.specs.Applying.{first_match, without_first}
+use Rattle.space.specs.Births.{Entry, SpaceState, IsState, tuples_of, without_match}
+use Rattle.space.proofs.Listing.{find-map, found_at, removed_none}
+use Rattle.space.proofs.Storing.{oldest_taken}
+
+none_passes : (test : Entry → Bool) (es : List Entry) → find test es ≡ None → without_first test es ≡ es
+none_passes test es e = go (position test es) refl
+  where
+    go : (o : Option ℕ) → position test es ≡ o → without_first test es ≡ es
+    go None p = removed_none test es p
+    go (Some i) p = absurd (let g : Some (get_or es i (i, none)) ≡ None = sym (found_at test es i (i, none) p) ∙ e in let bad : ⊥ = cc in bad)
 
 module _ (s : SpaceState) (p : TemplateTree) where
-  abbrev test : Entry → Bool
-  test e = is_match p e.1
+  pub first_of : (o : Option Entry) → o ≡ find (λ e. is_match p e.1) s.entries → first_match p (tuples_of s) ≡ option_map (λ e. e.1) o
+  first_of o e = find-map (λ e. e.1) (is_match p) s.entries ∙ ap (option_map (λ (x : Entry). x.1)) (sym e)
 
-  pub match_within : (i : ℕ) → position (λ e. is_match p e.1) s.entries ≡ Some i → i < length s.entries
-  match_within i e = (position-first test s.entries i e).1
-
-  pub match_at : (i : ℕ) (d : Entry) → position (λ e. is_match p e.1) s.entries ≡ Some i → first_match p (tuples_of s) ≡ Some (get_or s.entries i d).1
-  match_at i d e = find-map (λ e. e.1) (is_match p) s.entries ∙ ap (option_map (λ (x : Entry). x.1)) (found_at test s.entries i d e)
-
-  pub match_none : position (λ e. is_match p e.1) s.entries ≡ None → first_match p (tuples_of s) ≡ None
-  match_none e = find-map (λ e. e.1) (is_match p) s.entries ∙ ap (option_map (λ (x : Entry). x.1)) (found_none test s.entries e)
-
-  pub match_some : is_some (position (λ e. is_match p e.1) s.entries) ≡ is_some (first_match p (tuples_of s))
-  match_some = go (position (λ e. is_match p e.1) s.entries) refl
+  pub some_first : (o : Option Entry) → o ≡ find (λ e. is_match p e.1) s.entries → is_some o ≡ is_some (first_match p (tuples_of s))
+  some_first o e = go o ∙ sym (ap is_some (first_of o e))
     where
-      go : (o : Option ℕ) → position (λ e. is_match p e.1) s.entries ≡ o → is_some (position (λ e. is_match p e.1) s.entries) ≡ is_some (first_match p (tuples_of s))
-      go None e = ap is_some e ∙ sym (ap is_some (match_none e))
-      go (Some i) e = ap is_some e ∙ sym (ap is_some (match_at i (i, none) e))
+      go : (o : Option Entry) → is_some o ≡ is_some (option_map (λ (x : Entry). x.1) o)
+      go None = refl
+      go (Some x) = refl
 
-  pub taken_at : (i : ℕ) → position (λ e. is_match p e.1) s.entries ≡ Some i → without_match s p ≡ record { entries = remove s.entries i; next = s.next }
-  taken_at i e = ap (λ es. record { entries = es; next = s.next }) (removed_at test s.entries i e)
+  pub some_seen : {B : Type 0} (f : B → Entry) (r : Option B) → option_map f r ≡ find (λ e. is_match p e.1) s.entries → is_some r ≡ is_some (first_match p (tuples_of s))
+  some_seen {B = B} f r e = go r ∙ some_first (option_map f r) e
+    where
+      go : (r : Option B) → is_some r ≡ is_some (option_map f r)
+      go None = refl
+      go (Some x) = refl
 
-  pub taken_none : position (λ e. is_match p e.1) s.entries ≡ None → without_match s p ≡ s
-  taken_none e = ap (λ es. record { entries = es; next = s.next }) (removed_none test s.entries e)
+  pub none_taken : None ≡ find (λ e. is_match p e.1) s.entries → without_match s p ≡ s
+  none_taken e = ap (λ es. record { entries = es; next = s.next }) (none_passes (λ (x : Entry). is_match p x.1) s.entries (sym e))
+
+  module _ (h : IsState s) (b : ℕ) (t : TupleTree) (e : Some (b, t) ≡ find (λ e. is_match p e.1) s.entries) where
+    pub one_taken : record { entries = remove_entry (is_at (nat_cmp b)) s.entries; next = s.next } ≡ without_match s p
+    one_taken = ap (λ es. record { entries = es; next = s.next }) (oldest_taken (λ (x : Entry). is_match p x.1) s.entries b t h.rising (sym e)).left
+
+    pub one_stored : lookup (is_at (nat_cmp b)) s.entries ≡ Some t
+    one_stored = (oldest_taken (λ (x : Entry). is_match p x.1) s.entries b t h.rising (sym e)).stored

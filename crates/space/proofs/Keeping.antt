@@ -187,6 +187,11 @@ module _ (es : List Entry) (next : ℕ) (counts : List ℕ) (h : IsCounted es ne
       let s : SpaceState = record { entries = es; next = next } in
       subst (λ n. n < next + 256) (sym (e ∙ birth_by_counts s refl)) (IsNextBirth-birth_of s l).soon
 
+  pub birth_from : (b : ℕ) → b ≡ first_passing (λ birth. nat_lt (get_or counts (birth % 256) 0) 64) 256 next → length es < 8192 → next ≤ b
+  birth_from b e l =
+      let s : SpaceState = record { entries = es; next = next } in
+      subst (λ n. next ≤ n) (sym (e ∙ birth_by_counts s refl)) (IsNextBirth-birth_of s l).not_below
+
   pub IsCounted-push : (b : ℕ) (t : TupleTree) (items : List Entry) → length counts ≡ 256 → IsTuple t → length es < 8192
       → b ≡ first_passing (λ birth. nat_lt (get_or counts (birth % 256) 0) 64) 256 next → items ≡ es ++ (b, t) ∷ []
       → IsCounted items (b + 1) (set counts (b % 256) (get_or counts (b % 256) 0 + 1))

@@ -1,4 +1,7 @@
 pub mod Passing
+pub mod Ages
+pub mod Filing
+pub mod Listed
 pub mod Listing
 pub mod Paging
 pub mod Keeping
@@ -10,4 +13,9 @@ pub mod Placing
 pub mod Fronts
 pub mod Loading
 pub mod Restoring
+pub mod Keying
+pub mod Trees
+pub mod Storing
+pub mod Among
+pub mod Changing
 pub mod Answering

@@ -1,8 +1,15 @@
 -- What the fields of a space keep.
 use Rattle.std.specs.Prelude.{◌≡◌, ℕ, ◌<◌, List, slice_index}
 use Rattle.space.specs.Births.{Entry, SpaceState, IsState, page_count}
+use Rattle.space.specs.Filing.{IsIndexOf}
+use Rattle.space.specs.declared.index.Index.{Index}
 
 -- The tuples and the next number are a state, and the table has how many tuples lie on each page.
 pub record IsCounted (entries : List Entry) (next : ℕ) (page_counts : List ℕ) : Type 0 where
   pub state : let s : SpaceState = record { entries = entries; next = next } in IsState s
   pub counted : (page : ℕ) → page < 256 → slice_index page_counts page ≡ page_count entries page
+
+-- The tables and the index are those of the tuples.
+pub record IsIndexed (entries : List Entry) (next : ℕ) (page_counts : List ℕ) (index : Index) : Type 0 where
+  pub counts : IsCounted entries next page_counts
+  pub indexed : IsIndexOf index entries

@@ -1,5 +1,11 @@
+pub mod Ages
 pub mod Applying
 pub mod Births
+pub mod Candidates
 pub mod Counted
+pub mod Filing
+pub mod Found
+pub mod Keys
 pub mod Pages
 pub mod Reading
+pub mod Watching

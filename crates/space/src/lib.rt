@@ -13,14 +13,23 @@
 //! `from_pages` gives a space exactly where the texts are a state's, want of memory aside. Laws: `births_are_least`,
 //! `states_stay_states`, `tuples_follow_states`, `answers_are_valid`, `pages_determine` (equal pages are equal
 //! states), `batches_leave_states`.
+//!
+//! `candidates` lends the births of the tuples of a template's length and first value, exactly; the operations walk no
+//! others. [`Watched`] is a space that knows which pages its operations touched: a page that is not touched has the text
+//! that it had when `untouch` was last called.
 #![tactic(auto)]
 
+mod birth_list;
 mod births;
+mod index;
+mod keys;
 mod laws;
+mod lists;
 mod matching;
 mod pages;
 mod reading;
 mod tuples;
+mod watched;
 
 pub use births::{MAX_ON_PAGE, PAGES};
 pub use laws::{
@@ -29,3 +38,4 @@ pub use laws::{
 };
 pub use pages::HEADER_LEN;
 pub use tuples::{MAX_TUPLES, PeekFault, Space};
+pub use watched::Watched;

@@ -1,39 +1,68 @@
 //! Matches among stored tuples.
 
-ghost use Rattle.std.specs.Prelude.{◌≡◌, position, map, take, filter, IfOk};
+ghost use Rattle.std.specs.Prelude.{◌≡◌, find, map, take, filter, option_map, IfOk};
 ghost use Rattle.template_match.specs.Tests.{is_match};
+ghost use Rattle.space.specs.Found.{found_at, entries_at};
 
 use std::alloc::{Allocator, Global};
+use std::collections::BTreeMap;
 use template_match::matches;
 use tuple_codec::{Max, Tuples};
 use tuple_tree::{NoMemory, Template, Tuple};
 
-/// The index of the oldest match.
-pub fn index_of_match<A: Allocator>(
-    entries: &[(u64, Tuple<Global>)],
+// The tuple of this birth, where it matches.
+fn match_at<'a, A: Allocator>(
+    tuples: &'a BTreeMap<u64, Tuple<Global>>,
+    birth: u64,
     template: &Template<A>,
-) -> Option<usize>
-    ensures { result ≡ position (λ e. is_match template.now e.1) entries.now }
+) -> Option<&'a Tuple<Global>>
+    ensures { option_map (λ t. (birth, t.now)) result ≡ find (λ e. is_match template.now e.1) (found_at tuples.now.entries birth) }
 {
-    entries.iter().position(|entry| matches(template, &entry.1))
+    match tuples.get(&birth) {
+        Some(tuple) => {
+            if matches(template, tuple) {
+                Some(tuple)
+            } else {
+                None
+            }
+        }
+        None => None,
+    }
 }
 
-/// Copies of the oldest matches, so many at the most.
+/// The oldest match among the tuples of these births.
+pub fn oldest_match<'a, A: Allocator>(
+    tuples: &'a BTreeMap<u64, Tuple<Global>>,
+    births: &[u64],
+    template: &Template<A>,
+) -> Option<(u64, &'a Tuple<Global>)>
+    ensures { option_map (λ x. (x.0, x.1.now)) result ≡ find (λ e. is_match template.now e.1) (entries_at tuples.now.entries births.now) }
+{
+    for birth in births {
+        if let Some(tuple) = match_at(tuples, *birth, template) {
+            return Some((*birth, tuple));
+        }
+    }
+    None
+}
+
+/// Copies of the oldest matches among the tuples of these births, so many at the most.
 pub fn copies_of_matches<A: Allocator>(
     alloc: Global,
-    entries: &[(u64, Tuple<Global>)],
+    tuples: &BTreeMap<u64, Tuple<Global>>,
+    births: &[u64],
     template: &Template<A>,
     max: Max,
 ) -> Result<Tuples<Global>, NoMemory>
-    ensures { IfOk result (λ copies. copies ≡ take max.count (filter (is_match template.now) (map (λ e. e.1) entries.now))) }
+    ensures { IfOk result (λ copies. copies ≡ take max.count (filter (is_match template.now) (map (λ e. e.1) (entries_at tuples.now.entries births.now)))) }
 {
     let mut copies = Tuples::new_in(alloc);
-    for entry in entries {
+    for birth in births {
         if copies.len() >= max.count as usize {
             return Ok(copies);
         }
-        if matches(template, &entry.1) {
-            let copy = entry.1.copy_in(alloc)?;
+        if let Some(tuple) = match_at(tuples, *birth, template) {
+            let copy = tuple.copy_in(alloc)?;
             copies.push(copy)?;
         }
     }

@@ -2,11 +2,12 @@
 
 ghost use Rattle.std.specs.Prelude.{◌≡◌, ◌++◌, ◌∷◌, IfOk, OnOk};
 ghost use Rattle.std.specs.Int.{w64, to_be_bytes};
-ghost use Rattle.space.specs.Pages.{entry_text, entries_text, on_page};
+ghost use Rattle.space.specs.Found.{entries_at};
+ghost use Rattle.space.specs.Pages.{entry_text, entries_text};
 
-use crate::births::PAGES;
 use byteorder::{BigEndian, ByteOrder};
 use std::alloc::Global;
+use std::collections::BTreeMap;
 use tuple_codec::encode_tuple;
 use tuple_tree::{NoMemory, Tuple};
 
@@ -16,28 +17,28 @@ pub const HEADER_LEN: usize = 17;
 /// The first byte of a header.
 pub const VERSION: u8 = 1;
 
-/// The text of a page of these births and tuples.
-pub fn text_of_page(
+/// The text of the tuples of these births.
+pub fn text_of(
     alloc: Global,
-    entries: &[(u64, Tuple<Global>)],
-    page: usize,
+    tuples: &BTreeMap<u64, Tuple<Global>>,
+    births: &[u64],
 ) -> Result<Vec<u8>, NoMemory>
-    ensures { IfOk result (λ text. text.items ≡ entries_text (on_page page entries.now)) }
+    ensures { IfOk result (λ text. text.items ≡ entries_text (entries_at tuples.now.entries births.now)) }
 {
     let mut text = Vec::new(alloc);
-    for entry in entries {
-        if entry.0 % PAGES as u64 == page as u64 {
-            put_entry(entry, &mut text)?;
+    for birth in births {
+        if let Some(tuple) = tuples.get(birth) {
+            put_entry(*birth, tuple, &mut text)?;
         }
     }
     Ok(text)
 }
 
-fn put_entry(entry: &(u64, Tuple<Global>), out: &mut Vec<u8>) -> Result<(), NoMemory>
-    ensures { OnOk result (out.new.items ≡ out.old.items ++ entry_text entry.now) }
+fn put_entry(birth: u64, tuple: &Tuple<Global>, out: &mut Vec<u8>) -> Result<(), NoMemory>
+    ensures { OnOk result (out.new.items ≡ out.old.items ++ entry_text (birth, tuple.now)) }
 {
-    out.extend_from_slice(&birth_bytes(entry.0))?;
-    encode_tuple(&entry.1, out)
+    out.extend_from_slice(&birth_bytes(birth))?;
+    encode_tuple(tuple, out)
 }
 
 /// The text of a header: a version byte, the number of executed batches, and the next birth number.

@@ -10,6 +10,7 @@ use crate::births::{MAX_ON_PAGE, PAGES};
 use crate::pages::{HEADER_LEN, VERSION};
 use byteorder::{BigEndian, ByteOrder};
 use std::alloc::Global;
+use std::collections::BTreeMap;
 use tuple_codec::{Bad, decode_tuple};
 use tuple_tree::{NoMemory, Tuple};
 
@@ -61,25 +62,19 @@ fn read_entry_of(
     Ok((entry, rest))
 }
 
-// Where a birth belongs.
-fn place_of(entries: &[(u64, Tuple<Global>)], birth: u64) -> usize
-    requires { AllPairs (λ e f. e.0 < f.0) entries.now }
-    ensures { IsPlace entries.now birth result }
-{
-    entries.partition_point(|entry| entry.0 < birth)
-}
-
 // Puts an entry where its birth belongs.
 fn add_entry(
-    entries: &mut Vec<(u64, Tuple<Global>)>,
+    tuples: &mut BTreeMap<u64, Tuple<Global>>,
     entry: (u64, Tuple<Global>),
 ) -> Result<(), NoMemory>
-    requires rising { AllPairs (λ e f. e.0 < f.0) entries.old.items }
-    requires latest { All (λ e. e.0 % 256 ≡ entry.0 % 256 → e.0 < entry.0) entries.old.items }
-    ensures { OnOk result (IsAdded entries.old.items entries.new.items entry) }
+    requires rising { AllPairs (λ e f. e.0 < f.0) tuples.old.entries }
+    requires latest { All (λ e. e.0 % 256 ≡ entry.0 % 256 → e.0 < entry.0) tuples.old.entries }
+    ensures { OnOk result (IsAdded tuples.old.entries tuples.new.entries entry) }
 {
-    let place = place_of(entries.as_slice(), entry.0);
-    Ok(entries.insert(place, entry)?)
+    match tuples.insert(entry.0, entry.1) {
+        Ok(_) => Ok(()),
+        Err(_) => Err(NoMemory),
+    }
 }
 
 /// Adds the tuples of a page, by its text, to those of other pages, and says how many they are: at most 64.
@@ -89,15 +84,16 @@ fn add_entry(
 /// Malformed where the text is that of no page of a state with this next birth number, and else NoMemory where memory
 /// runs out. What was added by then stays.
 pub fn read_page(
-    entries: &mut Vec<(u64, Tuple<Global>)>,
+    alloc: Global,
+    tuples: &mut BTreeMap<u64, Tuple<Global>>,
     text: &[u8],
     page: usize,
     next: u64,
 ) -> Result<u8, Bad>
-    requires rising { AllPairs (λ e f. e.0 < f.0) entries.old.items }
-    requires empty { on_page page entries.old.items ≡ [] }
-    ensures found { OnOk result (IsPageRead page next text.now entries.old.items entries.new.items) }
-    ensures count { IfOk result (λ n. n ≡ length (on_page page entries.new.items)) }
+    requires rising { AllPairs (λ e f. e.0 < f.0) tuples.old.entries }
+    requires empty { on_page page tuples.old.entries ≡ [] }
+    ensures found { OnOk result (IsPageRead page next text.now tuples.old.entries tuples.new.entries) }
+    ensures count { IfOk result (λ n. n ≡ length (on_page page tuples.new.entries)) }
     ensures only { (es : List Entry) → IsPage page next es → text.now ≡ entries_text es → IfErr result (λ bad. bad ≡ Bad.NoMemory) }
 {
     let mut rest = text;
@@ -107,9 +103,9 @@ pub fn read_page(
         if count >= MAX_ON_PAGE {
             return Err(Bad::Malformed);
         }
-        let (entry, after) = read_entry_of(*entries.allocator(), rest, page, least, next)?;
+        let (entry, after) = read_entry_of(alloc, rest, page, least, next)?;
         least = entry.0 + 1;
-        add_entry(entries, entry)?;
+        add_entry(tuples, entry)?;
         count += 1;
         rest = after;
     }

@@ -1,20 +1,26 @@
 //! The space and its operations.
 
-ghost use Rattle.std.specs.Prelude.{◌≡◌, ◌^◌, ◌<◌, ◌≤◌, false, length, remove, slice_index_or, position, is_some, OnOk, OnErr, IfOk, IfErr, MatchResult, IsTrue, ◌↔◌, ℕ, map};
+ghost use Rattle.std.specs.Prelude.{◌≡◌, ◌+◌, ◌%◌, ◌^◌, ◌<◌, ◌≤◌, false, length, find, option_map, is_some, OnOk, OnErr, IfOk, IfErr, IfSome, MatchResult, IsTrue, ◌↔◌, ℕ, map};
+ghost use Rattle.std.specs.Ordering.{nat_cmp};
+ghost use Rattle.std.specs.Map.{lookup, remove_entry};
+ghost use Rattle.std.specs.BTreeMap.{is_at};
 ghost use Rattle.tuple_tree.specs.Values.{IsTuple};
 ghost use Rattle.tuple_codec.specs.Operations.{cas, rd_all};
 ghost use Rattle.template_match.specs.Tests.{is_match};
 ghost use Rattle.tuple_codec.specs.OperationView.{operation_of, outcome_of};
+ghost use Rattle.space.specs.Candidates.{candidates_of};
 ghost use Rattle.space.specs.Applying.{outcome, tuples_after, first_match, found_or_absent, has_room, is_read_only};
 ghost use Rattle.space.specs.Pages.{page_text, header_text, ArePages};
 ghost use Rattle.space.specs.Reading.{ArePagesOf};
-ghost use Rattle.space.specs.Births.{SpaceState, IsState, empty_state, tuples_of, state_after, with_birth, with_tuple, without_match};
+ghost use Rattle.space.specs.Births.{SpaceState, IsState, empty_state, birth_of, tuples_of, state_after, with_birth, with_tuple, without_match};
 
 use crate::births::{PAGES, empty_pages, next_birth};
-use crate::matching::{copies_of_matches, index_of_match};
-use crate::pages::{HEADER_LEN, header_of, text_of_page};
+use crate::index::Index;
+use crate::matching::{copies_of_matches, oldest_match};
+use crate::pages::{HEADER_LEN, header_of, text_of};
 use crate::reading::{read_header, read_page};
 use std::alloc::{Allocator, Global};
+use std::collections::BTreeMap;
 use std::marker::Model;
 use thiserror::Error;
 use tuple_codec::{Answer, Bad, Max, Op};
@@ -49,24 +55,25 @@ impl From<NoMemory> for PeekFault {
 #[derive(Drop)]
 pub struct Space {
     alloc: Global,
-    entries: Vec<(u64, Tuple<Global>)>,
+    tuples: BTreeMap<u64, Tuple<Global>>,
     next: u64,
     // How many tuples lie on each page, so that a birth number is found without a look at the tuples.
     page_counts: [u8; PAGES],
+    index: Index,
 }
 
 impl Model for Space {
     ghost use Rattle.std.specs.Prelude.{◌≡◌};
     ghost use Rattle.space.specs.Births.{SpaceState, space_code};
-    ghost use Rattle.space.specs.Counted.{IsCounted};
+    ghost use Rattle.space.specs.Counted.{IsIndexed};
 
     ghost Value = { SpaceState };
 
     ghost coded = { space_code };
 
-    ghost view = { λ a. record { entries = a.entries.items; next = a.next } };
+    ghost view = { λ a. record { entries = a.tuples.entries; next = a.next } };
 
-    ghost invariant = { λ a. IsCounted a.entries.items a.next a.page_counts };
+    ghost invariant = { λ a. IsIndexed a.tuples.entries a.next a.page_counts a.index };
 }
 
 impl Space {
@@ -77,9 +84,10 @@ impl Space {
     {
         Space {
             alloc,
-            entries: Vec::new(alloc),
+            tuples: BTreeMap::new(alloc),
             next: 0,
             page_counts: empty_pages(),
+            index: Index::new(alloc),
         }
     }
 
@@ -116,19 +124,21 @@ impl Space {
         ensures found { IfOk result (λ s. ArePagesOf next (map (λ page. page.now) pages.now) s) }
         ensures only { (s : SpaceState) → ArePagesOf next (map (λ page. page.now) pages.now) s → IfErr result (λ bad. bad ≡ Bad.NoMemory) }
     {
-        let mut entries = Vec::new(alloc);
+        let mut tuples = BTreeMap::new(alloc);
         let mut page_counts = empty_pages();
         for (page, text) in pages.iter().enumerate() {
-            page_counts[page] = read_page(&mut entries, text, page, next)?;
+            page_counts[page] = read_page(alloc, &mut tuples, text, page, next)?;
         }
-        if entries.len() > MAX_TUPLES {
+        if tuples.len() > MAX_TUPLES {
             return Err(Bad::Malformed);
         }
+        let index = Index::of(alloc, &tuples)?;
         Ok(Space {
             alloc,
-            entries,
+            tuples,
             next,
             page_counts,
+            index,
         })
     }
 
@@ -137,7 +147,7 @@ impl Space {
         ensures value { result ≡ length (tuples_of self.now) }
         ensures bound { result ≤ 8192 }
     {
-        self.entries.len()
+        self.tuples.len()
     }
 
     /// Whether an operation may still be applied: birth numbers stay below 2 to the power of 62.
@@ -153,7 +163,7 @@ impl Space {
         requires { page < PAGES }
         ensures { IfOk result (λ text. text.items ≡ page_text self.now page) }
     {
-        text_of_page(self.alloc, self.entries.as_slice(), page)
+        text_of(self.alloc, &self.tuples, self.index.on_page(page))
     }
 
     /// The text of the header after `number` executed batches: a version byte, the number and the next birth number,
@@ -180,7 +190,11 @@ impl Space {
     {
         note_tuple(&tuple);
         let birth = next_birth(&self.page_counts, self.next);
-        self.entries.push((birth, tuple))?;
+        self.index.add(birth, &tuple)?;
+        if let Err(failed) = self.tuples.insert(birth, tuple) {
+            self.index.remove(birth, &failed.value.1);
+            return Err(NoMemory);
+        }
         self.page_counts[(birth % PAGES as u64) as usize] += 1;
         self.next = birth + 1;
         Ok(())
@@ -201,35 +215,42 @@ impl Space {
         Ok(true)
     }
 
-    fn index_of<A: Allocator>(&self, template: &Template<A>) -> Option<usize>
-        ensures { result ≡ position (λ e. is_match template.now e.1) self.now.entries }
+    /// The births, the oldest first, of the stored tuples that have as many values as the template has fields and, where
+    /// its first field is an actual, that first value. Takes no memory.
+    pub fn candidates<A: Allocator>(&self, template: &Template<A>) -> &[u64]
+        ensures { result.now ≡ candidates_of template.now self.now }
     {
-        index_of_match(self.entries.as_slice(), template)
+        self.index.candidates(template)
     }
 
-    fn copy_at(&self, index: usize) -> Result<Tuple<Global>, NoMemory>
-        requires { index < length self.now.entries }
-        ensures { IfOk result (λ t. t ≡ (slice_index_or self.now.entries index (0, t)).1) }
+    fn oldest_match<A: Allocator>(&self, template: &Template<A>) -> Option<(u64, &Tuple<Global>)>
+        ensures value { option_map (λ x. (x.0, x.1.now)) result ≡ find (λ e. is_match template.now e.1) self.now.entries }
+        ensures valid { IsState self.now }
     {
-        self.entries[index].1.copy_in(self.alloc)
+        oldest_match(&self.tuples, self.candidates(template), template)
     }
 
-    fn remove_at(&mut self, index: usize) -> Tuple<Global>
-        requires { index < length self.old.entries }
-        ensures value { result ≡ (slice_index_or self.old.entries index (0, result)).1 }
-        ensures state { self.new ≡ record { entries = remove self.old.entries index; next = self.old.next } }
+    // Takes the tuple of this birth.
+    fn remove(&mut self, birth: u64) -> Option<Tuple<Global>>
+        ensures value { result ≡ lookup (is_at (nat_cmp birth)) self.old.entries }
+        ensures state { self.new ≡ record { entries = remove_entry (is_at (nat_cmp birth)) self.old.entries; next = self.old.next } }
     {
-        let (birth, tuple) = self.entries.remove(index);
-        self.page_counts[(birth % PAGES as u64) as usize] -= 1;
-        tuple
+        match self.tuples.remove(&birth) {
+            Some(tuple) => {
+                self.index.remove(birth, &tuple);
+                self.page_counts[(birth % PAGES as u64) as usize] -= 1;
+                Some(tuple)
+            }
+            None => None,
+        }
     }
 
     // Reads the oldest match.
     fn read<A: Allocator>(&self, template: &Template<A>) -> Result<Answer<Global>, NoMemory>
         ensures { IfOk result (λ a. outcome_of a ≡ found_or_absent (first_match template.now (tuples_of self.now))) }
     {
-        match self.index_of(template) {
-            Some(index) => Ok(Answer::Found(self.copy_at(index)?)),
+        match self.oldest_match(template) {
+            Some((_, tuple)) => Ok(Answer::Found(tuple.copy_in(self.alloc)?)),
             None => Ok(Answer::Absent),
         }
     }
@@ -242,7 +263,13 @@ impl Space {
     ) -> Result<Answer<Global>, NoMemory>
         ensures { IfOk result (λ a. outcome_of a ≡ outcome (tuples_of self.now) (rd_all max.count template.now)) }
     {
-        let copies = copies_of_matches(self.alloc, self.entries.as_slice(), template, max)?;
+        let copies = copies_of_matches(
+            self.alloc,
+            &self.tuples,
+            self.candidates(template),
+            template,
+            max,
+        )?;
         Ok(Answer::All(copies))
     }
 
@@ -251,8 +278,12 @@ impl Space {
         ensures value { outcome_of result ≡ found_or_absent (first_match template.now (tuples_of self.old)) }
         ensures state { self.new ≡ without_match self.old template.now }
     {
-        match self.index_of(template) {
-            Some(index) => Answer::Found(self.remove_at(index)),
+        let birth = match self.oldest_match(template) {
+            Some((birth, _)) => birth,
+            None => return Answer::Absent,
+        };
+        match self.remove(birth) {
+            Some(tuple) => Answer::Found(tuple),
             None => Answer::Absent,
         }
     }
@@ -260,7 +291,7 @@ impl Space {
     fn has_match<A: Allocator>(&self, template: &Template<A>) -> bool
         ensures { result ≡ is_some (first_match template.now (tuples_of self.now)) }
     {
-        self.index_of(template).is_some()
+        self.oldest_match(template).is_some()
     }
 
     // Adds a copy of the tuple where nothing matches.
@@ -292,11 +323,38 @@ impl Space {
         ensures state { OnOk result (self.new ≡ state_after self.old (operation_of op.now)) }
         ensures tuples { OnOk result (tuples_of self.new ≡ tuples_after (tuples_of self.old) (operation_of op.now)) }
         ensures valid { IsState self.new }
+        ensures next { self.new.next ≤ self.old.next + 256 }
         ensures err { OnErr result (self.new ≡ self.old) }
     {
         let result = self.answer(op);
         self.note_state();
         result
+    }
+
+    /// The page whose text an operation may change. Takes no memory.
+    pub(crate) fn page_changed_by<A: Allocator>(&self, op: &Op<A>) -> Option<usize>
+        requires { self.now.next < 2 ^ 62 }
+        ensures bound { IfSome result (λ page. page < 256) }
+        ensures others { (page : ℕ) → ¬ (result ≡ Some page) → page_text (state_after self.now (operation_of op.now)) page ≡ page_text self.now page }
+    {
+        match op {
+            Op::Out(_) => Some(self.next_page()),
+            Op::Cas(_, _) => Some(self.next_page()),
+            Op::Inp(template) => match self.oldest_match(template) {
+                Some((birth, _)) => Some((birth % PAGES as u64) as usize),
+                None => None,
+            },
+            Op::Rdp(_) | Op::RdAll(_, _) => None,
+        }
+    }
+
+    // The page of the next tuple.
+    fn next_page(&self) -> usize
+        requires { self.now.next < 2 ^ 62 }
+        ensures { result ≡ birth_of self.now % 256 }
+    {
+        let birth = next_birth(&self.page_counts, self.next);
+        (birth % PAGES as u64) as usize
     }
 
     fn answer<A: Allocator>(&mut self, op: &Op<A>) -> Result<Answer<Global>, NoMemory>
@@ -324,7 +382,9 @@ impl Space {
     pub fn peek<A: Allocator>(&self, op: &Op<A>) -> Result<Answer<Global>, PeekFault>
         ensures answer { IfOk result (λ a. outcome_of a ≡ outcome (tuples_of self.now) (operation_of op.now)) }
         ensures not_read_only { (result ≡ Err PeekFault.NotReadOnly) ↔ (is_read_only (operation_of op.now) ≡ false) }
+        ensures valid { IsState self.now }
     {
+        self.note_state();
         match op {
             Op::Rdp(template) => Ok(self.read(template)?),
             Op::RdAll(max, template) => Ok(self.read_all(*max, template)?),

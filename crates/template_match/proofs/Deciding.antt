@@ -17,7 +17,7 @@ beq_decides false true = (λ h. cc, λ e. cc)
 beq_decides false false = (λ h. refl, λ e. refl)
 
 -- plain values by kind
-datum_decides : (x y : Datum) → Decides (datum_eq x y) (x ≡ y)
+pub datum_decides : (x y : Datum) → Decides (datum_eq x y) (x ≡ y)
 datum_decides (number m) (number n) = let d = Decides-int_eq m n in (λ h. ap number (d.0 h), λ e. d.1 cc)
 datum_decides (number m) (text s) = (λ h. cc, λ e. cc)
 datum_decides (number m) (bytes s) = (λ h. cc, λ e. cc)

@@ -1,5 +1,5 @@
 -- Matching from the front, one field at a time.
-use Rattle.std.proofs.Common.{◌≡◌, ◌↔◌, ℕ, ◌<◌, ◌≤◌, List, length, drop, get_or, refl, sym, ◌∙◌, subst, arith}
+use Rattle.std.proofs.Common.{◌≡◌, ◌↔◌, ℕ, zero, suc, ◌<◌, ◌≤◌, List, [], ◌∷◌, length, drop, get_or, refl, sym, ◌∙◌, subst, arith}
 use Rattle.std.proofs.lemmas.List.{at_drop_all}
 use Rattle.tuple_tree.specs.Items.{Item, none, item, how_many, item_levels, levels_in}
 use Rattle.tuple_tree.specs.Values.{Datum, Slot, TupleTree, TemplateTree}
@@ -42,3 +42,12 @@ pub differs : (P : Type 0) (a p : TemplateTree) (f : Item Slot) (b t : TupleTree
 differs P a p f b t v d e m h x =
     let k : P ↔ Matches (item f p) (item v t) = rw (d, e) at h in
     m (k.0 x).0
+
+-- where lists match, so do the fields at each index
+pub each_matches : {A B : Type 0} (fs : List (Field A)) (vs : List (Value B)) (i : ℕ) (f : Field A) (v : Value B) → Matches (template_of fs) (tuple_of vs)
+    → i < length fs → i < length vs → f ≡ get_or fs i f → v ≡ get_or vs i v → FieldMatches (field_of f) (value_of v)
+each_matches [] vs i f v m k l d e = absurd (omega arith)
+each_matches (x ∷ xs) [] i f v m k l d e = absurd (omega arith)
+each_matches (x ∷ xs) (y ∷ ys) zero f v m k l d e =
+    subst (λ g. FieldMatches (field_of g) (value_of v)) (sym d) (subst (λ w. FieldMatches (field_of x) (value_of w)) (sym e) m.0)
+each_matches (x ∷ xs) (y ∷ ys) (suc i) f v m k l d e = each_matches xs ys i f v m.1 (omega arith) (omega arith) d e

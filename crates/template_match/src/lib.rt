@@ -26,6 +26,18 @@ fn is_of_kind<B: Allocator>(kind: Kind, value: &Value<B>) -> bool
     value.kind() == kind
 }
 
+// Whether a field that is no template does not match; of a nested one nothing is said.
+fn plainly_differs<A: Allocator, B: Allocator>(field: &Field<A>, value: &Value<B>) -> bool
+    ensures { IsTrue result → ¬ (FieldMatches (field_of field.now) (value_of value.now)) }
+{
+    match (field, value) {
+        (Field::Actual(a), Value::Atom(b)) => !a.same(b),
+        (Field::Actual(_), Value::Nested(_)) => true,
+        (Field::Formal(kind), value) => !is_of_kind(*kind, value),
+        _ => false,
+    }
+}
+
 /// Whether the template matches the tuple, wherever they lie. Takes no memory.
 pub fn matches<A: Allocator, B: Allocator>(template: &Template<A>, tuple: &Tuple<B>) -> bool
     ensures relation { IsTrue result ↔ Matches template.now tuple.now }
@@ -40,6 +52,12 @@ fn all_match<A: Allocator, B: Allocator>(fields: &[Field<A>], values: &[Value<B>
 {
     if fields.len() != values.len() {
         return false;
+    }
+    // Fields that cost little come before nested ones: of two tuples that share a deep tree a number decides.
+    for k in 0..fields.len() {
+        if plainly_differs(&fields[k], &values[k]) {
+            return false;
+        }
     }
     for i in 0..fields.len() {
         if !field_matches(&fields[i], &values[i]) {

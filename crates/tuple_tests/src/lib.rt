@@ -5,6 +5,8 @@
 #[cfg(test)]
 mod arena;
 #[cfg(test)]
+mod candidates;
+#[cfg(test)]
 mod operations;
 #[cfg(test)]
 mod refusals;

@@ -3,11 +3,17 @@ use Rattle.tuple_tree.specs.Items.{levels_in}
 use Rattle.tuple_tree.specs.TupleView.{value_of}
 use Rattle.tuple_tree.specs.TemplateView.{template_of, field_of}
 use Rattle.tuple_tree.proofs.Viewing.{items_at, never}
-use Rattle.template_match.proofs.Matching.{step, differs, same_lengths, ended, levels_of_field}
+use Rattle.template_match.proofs.Matching.{step, differs, each_matches, same_lengths, ended, levels_of_field}
 use Rattle.template_match.proofs.+matching.Goals as goal
 
 pub all_match-returns-then-fields-values : goal.all_match-returns-then-fields-values
 all_match-returns-then-fields-values g t c = never (λ m. let h = same_lengths c.args.fields.now c.args.values.now m in absurd (omega arith))
+
+pub all_match-returns-then-plainly_differs : goal.all_match-returns-then-plainly_differs
+all_match-returns-then-plainly_differs g t c =
+    never
+    (λ m. c.plainly_differs.ensures c.if-plainly_differs.true
+    (each_matches c.args.fields.now c.args.values.now c.loop-k.k c.index-fields-k.result c.index-values-k.result m (omega arith) (omega arith) c.index-fields-k.is c.index-values-k.is))
 
 pub all_match-returns-then-not-field_matches : goal.all_match-returns-then-not-field_matches
 all_match-returns-then-not-field_matches g t c =

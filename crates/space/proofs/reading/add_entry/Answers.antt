@@ -1,11 +1,9 @@
 use Rattle.std.proofs.Common.{subst, sym}
-use Rattle.space.specs.Reading.{IsAdded, IsPlace}
-use Rattle.space.proofs.Placing.{IsAdded-insert}
+use Rattle.space.specs.Reading.{IsAdded}
+use Rattle.space.proofs.Trees.{IsAdded-inserted}
 use Rattle.space.proofs.reading.add_entry.Goals as goal
 
-pub returns : goal.returns
-returns c =
-    let es = c.args.entries.now.items in
-    let place = c.place_of-place.result in
-    let at = subst (λ xs. IsPlace xs c.args.entry.0 place) c.as_slice.ensures.value c.place_of-place.ensures in
-    subst (λ xs. IsAdded es xs c.args.entry) (sym (c.in_ok-insert.ensures {u = tt}).items) (IsAdded-insert es c.args.entry place c.requires.rising c.requires.latest at)
+pub returns-in-Ok : goal.returns-in-Ok
+returns-in-Ok c =
+    let es = c.args.tuples.now.entries in
+    subst (λ xs. IsAdded es xs c.args.entry) (sym (c.in-Ok.ensures {u = tt}).entries) (IsAdded-inserted es c.args.entry c.requires.rising c.requires.latest)

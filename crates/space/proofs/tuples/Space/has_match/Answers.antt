@@ -1,7 +1,6 @@
-use Rattle.std.proofs.Common.{ap, ◌∙◌}
-use Rattle.std.specs.Prelude.{is_some}
-use Rattle.space.proofs.Finding.{match_some}
+use Rattle.std.proofs.Common.{Some, None, sym, ◌∙◌}
+use Rattle.space.proofs.Finding.{some_seen}
 use Rattle.space.proofs.tuples.Space.has_match.Goals as goal
 
 pub returns : goal.returns
-returns g c = c.is_some.ensures ∙ ap is_some c.index_of.ensures ∙ match_some c.args.self.now c.args.template.now
+returns g c = c.is_some.ensures ∙ some_seen c.args.self.now c.args.template.now (λ x. (x.0, x.1.now)) c.oldest_match.result c.oldest_match.ensures.value

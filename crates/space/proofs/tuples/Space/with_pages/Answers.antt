@@ -8,7 +8,7 @@ use Rattle.space.proofs.tuples.Space.with_pages.Goals as goal
 
 pub loop-page-init : goal.loop-page-init
 loop-page-init c =
-    subst (λ es. ArePagesRead 0 c.args.next (map (λ page. page.now) c.args.pages.now) es c.empty_pages-page_counts.result) (sym c.new-entries.ensures.items)
+    subst (λ es. ArePagesRead 0 c.args.next (map (λ page. page.now) c.args.pages.now) es c.empty_pages-page_counts.result) (sym c.new-tuples.ensures.empty)
     (ArePagesRead-none c.args.next (map (λ page. page.now) c.args.pages.now) c.empty_pages-page_counts.result c.empty_pages-page_counts.ensures.none c.empty_pages-page_counts.ensures.len)
 
 pub returns-in_err-page_counts-clause-only : goal.returns-in_err-page_counts-clause-only
@@ -21,15 +21,15 @@ returns-in_err-page_counts-clause-only c s of =
 
 pub loop-page-preserved : goal.loop-page-preserved
 loop-page-preserved c =
-    ArePagesRead-more c.loop-page.page c.args.next (map (λ page. page.now) c.args.pages.now) (get_or c.args.pages.now c.loop-page.page (record { ref_ptr = (0, 0); now = [] })).now c.loop-page.entries.items c.read_page.new.entries.items c.loop-page.page_counts c.in_ok-page_counts.field-0
+    ArePagesRead-more c.loop-page.page c.args.next (map (λ page. page.now) c.args.pages.now) (get_or c.args.pages.now c.loop-page.page (record { ref_ptr = (0, 0); now = [] })).now c.loop-page.tuples.entries c.read_page.new.tuples.entries c.loop-page.page_counts c.in_ok-page_counts.field-0
     c.loop-page.invariant (omega arith) (get_or-map (λ p. p.now) c.args.pages.now c.loop-page.page (record { ref_ptr = (0, 0); now = [] }) [] (omega arith)) (c.in_ok-page_counts.ensures {u = tt}).found (c.in_ok-page_counts.ensures {u = tt}).count
 
 pub returns-then-len-gt-MAX_TUPLES-clause-only : goal.returns-then-len-gt-MAX_TUPLES-clause-only
 returns-then-len-gt-MAX_TUPLES-clause-only c s of =
     let texts = map (λ page. page.now) c.args.pages.now in
     let end : c.loop-page.page ≡ 256 = omega arith in
-    let read = subst (λ n. ArePagesRead n c.args.next texts c.loop-page.entries.items c.loop-page.page_counts) end c.loop-page.invariant in
-    let same = same_entries c.args.next texts c.loop-page.entries.items c.loop-page.page_counts read s (omega arith) of in
+    let read = subst (λ n. ArePagesRead n c.args.next texts c.loop-page.tuples.entries c.loop-page.page_counts) end c.loop-page.invariant in
+    let same = same_entries c.args.next texts c.loop-page.tuples.entries c.loop-page.page_counts read s (omega arith) of in
     let few = of.state.count in
     absurd (omega (arith, ap length same))
 
@@ -37,12 +37,12 @@ pub invariant_of-result : goal.invariant_of-result
 invariant_of-result c =
     let texts = map (λ page. page.now) c.args.pages.now in
     let end : c.loop-page.page ≡ 256 = omega arith in
-    let read = subst (λ n. ArePagesRead n c.args.next texts c.loop-page.entries.items c.loop-page.page_counts) end c.loop-page.invariant in
-    IsCounted-read c.args.next texts c.loop-page.entries.items c.loop-page.page_counts read (omega arith)
+    let read = subst (λ n. ArePagesRead n c.args.next texts c.loop-page.tuples.entries c.loop-page.page_counts) end c.loop-page.invariant in
+    record { counts = IsCounted-read c.args.next texts c.loop-page.tuples.entries c.loop-page.page_counts read (omega arith); indexed = c.in_ok-index.ensures {u = tt} }
 
 pub returns-clause-found : goal.returns-clause-found
 returns-clause-found c =
     let texts = map (λ page. page.now) c.args.pages.now in
     let end : c.loop-page.page ≡ 256 = omega arith in
-    let read = subst (λ n. ArePagesRead n c.args.next texts c.loop-page.entries.items c.loop-page.page_counts) end c.loop-page.invariant in
-    ArePagesOf-read c.args.next texts c.loop-page.entries.items c.loop-page.page_counts read (omega arith)
+    let read = subst (λ n. ArePagesRead n c.args.next texts c.loop-page.tuples.entries c.loop-page.page_counts) end c.loop-page.invariant in
+    ArePagesOf-read c.args.next texts c.loop-page.tuples.entries c.loop-page.page_counts read (omega arith)

@@ -1,0 +1,107 @@
+-- Births one by one, and the entries that they lead to.
+use Rattle.std.proofs.Common.{◌≡◌, ℕ, suc, ◌+◌, ◌-◌, ◌≤◌, ◌<◌, Bool, true, false, cond, List, [], ◌∷◌, ◌++◌, length, take, drop, get_or, map, Option, Some, None, option_map, refl, sym, ap, subst, ◌∙◌, arith, append-nil, append_assoc}
+use Rattle.std.specs.Prelude.{filter, find, flat_map, option_to_list, All}
+use Rattle.std.specs.Ordering.{nat_cmp}
+use Rattle.std.specs.Str.{bytes_eq}
+use Rattle.std.specs.Map.{lookup}
+use Rattle.std.specs.BTreeMap.{is_at}
+use Rattle.std.proofs.lemmas.List.{at_drop_more, take_more, length_push, map-append}
+use Rattle.std.proofs.lemmas.List.Concat.{flat_map-cons, flat_map-append}
+use Rattle.std.proofs.lemmas.List.Elements.{filter-append}
+use Rattle.tuple_tree.specs.Values.{TupleTree, TemplateTree, IsTuple, IsTemplate}
+use Rattle.template_match.specs.Tests.{is_match}
+use Rattle.space.specs.Births.{Entry}
+use Rattle.space.specs.Candidates.{is_candidate}
+use Rattle.space.specs.Filing.{births_by, first_key}
+use Rattle.space.specs.Found.{found_at, entries_at}
+use Rattle.space.specs.Keys.{template_key}
+use Rattle.space.specs.Pages.{entry_text, entries_text}
+use Rattle.space.proofs.Filing.{filter-same}
+use Rattle.space.proofs.Keying.{closed_key}
+use Rattle.space.proofs.Texts.{entries_text_push}
+
+-- ---- the births of a first value are the candidates
+
+pub first_candidates : (p : TemplateTree) (key : List ℕ) (es : List Entry) → template_key p ≡ Some key → IsTemplate p → All (λ e. IsTuple e.1) es
+    → births_by (λ e. bytes_eq (first_key e) key) es ≡ births_by (λ e. is_candidate p e.1) es
+first_candidates p key es e h valid =
+    ap (map (λ (x : Entry). x.0)) (filter-same (λ (x : Entry). bytes_eq (first_key x) key) (λ x. is_candidate p x.1) es (λ k d l. closed_key p (get_or es k d).1 key e h (valid k d l)))
+
+-- ---- an entry or none
+
+module _ (m : Entry → Bool) where
+  find_before : (xs ys : List Entry) (e : Entry) → find m xs ≡ Some e → find m (xs ++ ys) ≡ Some e
+  find_before [] ys e h = absurd (let g : ⊥ = cc in g)
+  find_before (x ∷ xs) ys e h = go (m x) h (find_before xs ys e)
+    where
+      go : (b : Bool) → cond b (Some x) (find m xs) ≡ Some e → (find m xs ≡ Some e → find m (xs ++ ys) ≡ Some e) → cond b (Some x) (find m (xs ++ ys)) ≡ Some e
+      go true k rest = k
+      go false k rest = rest k
+
+  find_behind : (xs ys : List Entry) → find m xs ≡ None → find m (xs ++ ys) ≡ find m ys
+  find_behind [] ys h = refl
+  find_behind (x ∷ xs) ys h = go (m x) h (find_behind xs ys)
+    where
+      go : (b : Bool) → cond b (Some x) (find m xs) ≡ None → (find m xs ≡ None → find m (xs ++ ys) ≡ find m ys) → cond b (Some x) (find m (xs ++ ys)) ≡ find m ys
+      go true k rest = absurd (let g : ⊥ = cc in g)
+      go false k rest = rest k
+
+pub matching_one : (p : TemplateTree) (es : List Entry) (b : ℕ) → filter (is_match p) (map (λ e. e.1) (found_at es b)) ≡ option_to_list (option_map (λ e. e.1) (find (λ e. is_match p e.1) (found_at es b)))
+matching_one p es b = go (lookup (is_at (nat_cmp b)) es)
+  where
+    one : (t : TupleTree) (a : Bool) → cond a (t ∷ []) [] ≡ option_to_list (option_map (λ (e : Entry). e.1) (cond a (Some (b, t)) None))
+    one t true = refl
+    one t false = refl
+
+    go : (o : Option TupleTree) → filter (is_match p) (map (λ (e : Entry). e.1) (map (λ (t : TupleTree). (b, t)) (option_to_list o))) ≡ option_to_list (option_map (λ (e : Entry). e.1) (find (λ (e : Entry). is_match p e.1) (map (λ (t : TupleTree). (b, t)) (option_to_list o))))
+    go None = refl
+    go (Some t) = one t (is_match p t)
+
+-- ---- one birth more
+
+module _ (es : List Entry) (births : List ℕ) (i b : ℕ) (within : i < length births) (is : b ≡ get_or births i b) where
+  next_entries : entries_at es (drop i births) ≡ found_at es b ++ entries_at es (drop (i + 1) births)
+  next_entries =
+      at_drop_more (entries_at es) births i b within ∙ flat_map-cons (found_at es) (get_or births i b) (drop (i + 1) births)
+      ∙ ap (λ x. found_at es x ++ entries_at es (drop (i + 1) births)) (sym is)
+
+  pub find_here : (m : Entry → Bool) (e : Entry) → Some e ≡ find m (found_at es b) → find m (entries_at es (drop i births)) ≡ Some e
+  find_here m e h = ap (find m) next_entries ∙ find_before m (found_at es b) (entries_at es (drop (i + 1) births)) e (sym h)
+
+  pub find_next : (m : Entry → Bool) → None ≡ find m (found_at es b) → find m (entries_at es (drop i births)) ≡ find m (entries_at es (drop (i + 1) births))
+  find_next m h = ap (find m) next_entries ∙ find_behind m (found_at es b) (entries_at es (drop (i + 1) births)) (sym h)
+
+  matches_next : (p : TemplateTree) (o : Option Entry) → o ≡ find (λ e. is_match p e.1) (found_at es b)
+      → filter (is_match p) (map (λ e. e.1) (entries_at es (drop i births))) ≡ option_to_list (option_map (λ e. e.1) o) ++ filter (is_match p) (map (λ e. e.1) (entries_at es (drop (i + 1) births)))
+  matches_next p o h =
+      let rest : List Entry = entries_at es (drop (i + 1) births) in
+      ap (λ (xs : List Entry). filter (is_match p) (map (λ e. e.1) xs)) next_entries
+      ∙ ap (filter (is_match p)) (map-append (λ (e : Entry). e.1) (found_at es b) rest)
+      ∙ filter-append (is_match p) (map (λ (e : Entry). e.1) (found_at es b)) (map (λ (e : Entry). e.1) rest)
+      ∙ ap (λ ts. ts ++ filter (is_match p) (map (λ (e : Entry). e.1) rest)) (matching_one p es b ∙ ap (λ (x : Option Entry). option_to_list (option_map (λ e. e.1) x)) (sym h))
+
+  pub copied_here : (p : TemplateTree) (t : TupleTree) (n : ℕ) (ys : List TupleTree) → Some (b, t) ≡ find (λ e. is_match p e.1) (found_at es b) → length ys < n
+      → ys ++ take (n - length ys) (filter (is_match p) (map (λ e. e.1) (entries_at es (drop i births)))) ≡ (ys ++ t ∷ []) ++ take (n - length (ys ++ t ∷ [])) (filter (is_match p) (map (λ e. e.1) (entries_at es (drop (i + 1) births))))
+  copied_here p t n ys h l =
+      let rest : List TupleTree = filter (is_match p) (map (λ e. e.1) (entries_at es (drop (i + 1) births))) in
+      let left : ℕ = n - length (ys ++ t ∷ []) in
+      let k : n - length ys ≡ suc left = omega (arith, length_push ys t) in
+      ap (λ zs. ys ++ take (n - length ys) zs) (matches_next p (Some (b, t)) h) ∙ ap (λ j. ys ++ take j (t ∷ rest)) k ∙ sym (append_assoc ys (t ∷ []) (take left rest))
+
+  pub copied_next : (p : TemplateTree) → None ≡ find (λ e. is_match p e.1) (found_at es b)
+      → filter (is_match p) (map (λ e. e.1) (entries_at es (drop i births))) ≡ filter (is_match p) (map (λ e. e.1) (entries_at es (drop (i + 1) births)))
+  copied_next p h = matches_next p None h
+
+  text_next : entries_at es (take (i + 1) births) ≡ entries_at es (take i births) ++ found_at es b
+  text_next =
+      ap (entries_at es) (take_more births i b within) ∙ flat_map-append (found_at es) (take i births) (get_or births i b ∷ [])
+      ∙ ap (λ (xs : List Entry). entries_at es (take i births) ++ xs) (flat_map-cons (found_at es) (get_or births i b) [] ∙ append-nil (found_at es (get_or births i b)) ∙ ap (found_at es) (sym is))
+
+  pub text_here : (t : TupleTree) → Some t ≡ lookup (is_at (nat_cmp b)) es → entries_text (entries_at es (take i births)) ++ entry_text (b, t) ≡ entries_text (entries_at es (take (i + 1) births))
+  text_here t h =
+      sym (ap entries_text (text_next ∙ ap (λ (o : Option TupleTree). entries_at es (take i births) ++ map (λ t. (b, t)) (option_to_list o)) (sym h))
+      ∙ entries_text_push (entries_at es (take i births)) (b, t))
+
+  pub text_gone : None ≡ lookup (is_at (nat_cmp b)) es → entries_text (entries_at es (take i births)) ≡ entries_text (entries_at es (take (i + 1) births))
+  text_gone h =
+      sym (ap entries_text (text_next ∙ ap (λ (o : Option TupleTree). entries_at es (take i births) ++ map (λ t. (b, t)) (option_to_list o)) (sym h) ∙ append-nil (entries_at es (take i births))))

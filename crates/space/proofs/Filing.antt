@@ -1,0 +1,192 @@
+-- Lists of births by keys follow the entries.
+use Rattle.std.proofs.Common.{◌≡◌, ◌≢◌, ℕ, zero, suc, ◌+◌, ◌≤◌, ◌<◌, Bool, true, false, cond, List, [], ◌∷◌, ◌++◌, length, get_or, map, Option, Some, None, refl, sym, ap, subst, ◌∙◌, arith, eq-eqb, append-nil}
+use Rattle.std.specs.Prelude.{◌==◌, All, AllPairs, filter, find, remove, nat_lt, option_to_list, flat_map}
+use Rattle.std.specs.Str.{bytes_eq}
+use Rattle.std.specs.Ordering.{nat_cmp, is_eq}
+use Rattle.std.specs.declared.cmp.Ordering.TheVariants.{Less, Equal, Greater}
+use Rattle.std.specs.Map.{lookup}
+use Rattle.std.specs.BTreeMap.{is_at}
+use Rattle.std.proofs.lemmas.Bool.{ne_eqb, le-ltb}
+use Rattle.std.proofs.lemmas.List.{length-map, map-append, get_or-map}
+use Rattle.std.proofs.lemmas.List.Concat.{flat_map-cons}
+use Rattle.std.proofs.lemmas.List.Elements.{All-head, All-tail, All-cons, All-nil, All-map, All-filter, All-weaker, filter-append}
+use Rattle.std.proofs.lemmas.List.Kept.{AllPairs-filter}
+use Rattle.std.proofs.lemmas.List.Quantifiers.{all_pairs_push}
+use Rattle.tuple_tree.specs.Items.{none}
+use Rattle.tuple_tree.specs.Values.{TupleTree}
+use Rattle.space.specs.Ages.{without}
+use Rattle.space.specs.Births.{Entry}
+use Rattle.space.specs.Filing.{births_at, births_by, IsFiled}
+use Rattle.space.specs.Found.{found_at, entries_at}
+use Rattle.space.specs.declared.lists.Lists.{Lists}
+use Rattle.space.proofs.Ages.{without-last}
+
+-- ---- the births of the entries that pass a test
+
+module _ (test : Entry → Bool) where
+  births_by-cons : (x : Entry) (xs : List Entry) → births_by test (x ∷ xs) ≡ cond (test x) (x.0 ∷ births_by test xs) (births_by test xs)
+  births_by-cons x xs = go (test x)
+    where
+      go : (b : Bool) → map {A = Entry} (λ e. e.0) (cond b (x ∷ filter test xs) (filter test xs)) ≡ cond b (x.0 ∷ births_by test xs) (births_by test xs)
+      go true = refl
+      go false = refl
+
+  pub births_by_push : (es : List Entry) (e : Entry) → births_by test (es ++ e ∷ []) ≡ births_by test es ++ cond (test e) (e.0 ∷ []) []
+  births_by_push es e =
+      ap (map (λ (x : Entry). x.0)) (filter-append test es (e ∷ []))
+      ∙ map-append (λ (x : Entry). x.0) (filter test es) (filter test (e ∷ []))
+      ∙ ap (λ xs. births_by test es ++ xs) (births_by-cons e [])
+
+  pub All-births : (P : ℕ → Type 0) (es : List Entry) → All (λ e. P e.0) es → All P (births_by test es)
+  All-births P es h = All-map P (λ e. e.0) (filter test es) (All-filter test (λ e. P e.0) es h)
+
+  pub rising_births : (es : List Entry) → AllPairs (λ e f. e.0 < f.0) es → AllPairs (λ a b. a < b) (births_by test es)
+  rising_births es h i j d l m =
+      let fs : List Entry = filter test es in
+      let n : length (map {A = Entry} (λ e. e.0) fs) ≡ length fs = length-map fs (λ e. e.0) in
+      let a = get_or-map (λ (e : Entry). e.0) fs i (d, none) d (omega arith) in
+      let b = get_or-map (λ (e : Entry). e.0) fs j (d, none) d (omega arith) in
+      let c = AllPairs-filter (λ e f. e.0 < f.0) test es h i j (d, none) l (omega arith) in
+      omega arith
+
+  births_by-remove-first : (x : Entry) (xs : List Entry) → births_by test xs ≡ cond (test x) (without x.0 (births_by test (x ∷ xs))) (births_by test (x ∷ xs))
+  births_by-remove-first x xs = go (test x) ∙ ap (λ zs. cond (test x) (without x.0 zs) zs) (sym (births_by-cons x xs))
+    where
+      go : (b : Bool) → births_by test xs ≡ cond b (without x.0 (cond b (x.0 ∷ births_by test xs) (births_by test xs))) (cond b (x.0 ∷ births_by test xs) (births_by test xs))
+      go true = sym (ap (λ t. cond t (births_by test xs) (x.0 ∷ without x.0 (births_by test xs))) (eq-eqb x.0 x.0 refl))
+      go false = refl
+
+  pub births_by-remove : (es : List Entry) (i : ℕ) (e : Entry) → AllPairs (λ e f. e.0 < f.0) es → i < length es → e ≡ get_or es i e
+      → births_by test (remove es i) ≡ cond (test e) (without e.0 (births_by test es)) (births_by test es)
+  births_by-remove [] i e h l is = absurd (omega arith)
+  births_by-remove (x ∷ xs) zero e h l is =
+      subst (λ (y : Entry). births_by test xs ≡ cond (test y) (without y.0 (births_by test (x ∷ xs))) (births_by test (x ∷ xs))) (sym is) (births_by-remove-first x xs)
+  births_by-remove (x ∷ xs) (suc i) e h l is =
+      births_by-cons x (remove xs i)
+      ∙ go (test x) (test e) (births_by test xs) (births_by test (remove xs i))
+      (births_by-remove xs i e (λ j k d m n. h (suc j) (suc k) d (omega arith) (omega arith)) (omega arith) is)
+      ∙ ap (λ zs. cond (test e) (without e.0 zs) zs) (sym (births_by-cons x xs))
+    where
+      apart : (x.0 == e.0) ≡ false
+      apart =
+          let less : x.0 < (get_or xs i e).0 = h 0 (suc i) e (omega arith) (omega arith) in
+          let here : e ≡ get_or xs i e = is in
+          let same : e.0 ≡ (get_or xs i e).0 = ap (λ (y : Entry). y.0) here in
+          ne_eqb x.0 e.0 (λ k. omega arith)
+
+      go : (a b : Bool) (ys rs : List ℕ) → rs ≡ cond b (without e.0 ys) ys → cond a (x.0 ∷ rs) rs ≡ cond b (without e.0 (cond a (x.0 ∷ ys) ys)) (cond a (x.0 ∷ ys) ys)
+      go true true ys rs k = ap (λ zs. x.0 ∷ zs) k ∙ sym (ap (λ t. cond t ys (x.0 ∷ without e.0 ys)) apart)
+      go true false ys rs k = ap (λ zs. x.0 ∷ zs) k
+      go false true ys rs k = k
+      go false false ys rs k = k
+
+-- ---- lists of a key
+
+module _ (key_of : Entry → List ℕ) (old : Lists) (es : List Entry) (filed : IsFiled key_of old es) where
+  pub IsFiled-push : (new : Lists) (e : Entry) (key : List ℕ) → key ≡ key_of e
+      → ((q : List ℕ) → births_at new q ≡ births_at old q ++ cond (bytes_eq key q) (e.0 ∷ []) []) → IsFiled key_of new (es ++ e ∷ [])
+  IsFiled-push new e key is h q =
+      h q ∙ ap (λ xs. xs ++ cond (bytes_eq key q) (e.0 ∷ []) []) (filed q)
+      ∙ ap (λ k. births_by (λ x. bytes_eq (key_of x) q) es ++ cond (bytes_eq k q) (e.0 ∷ []) []) is
+      ∙ sym (births_by_push (λ x. bytes_eq (key_of x) q) es e)
+
+  pub IsFiled-same : (new : Lists) → ((q : List ℕ) → births_at new q ≡ births_at old q) → IsFiled key_of new es
+  IsFiled-same new h q = h q ∙ filed q
+
+  pub filed_rising : (q : List ℕ) → AllPairs (λ e f. e.0 < f.0) es → AllPairs (λ a b. a < b) (births_at old q)
+  filed_rising q h = subst (AllPairs (λ a b. a < b)) (sym (filed q)) (rising_births (λ e. bytes_eq (key_of e) q) es h)
+
+  pub IsFiled-remove : (new : Lists) (i : ℕ) (e : Entry) (key : List ℕ) → key ≡ key_of e → AllPairs (λ e f. e.0 < f.0) es → i < length es → e ≡ get_or es i e
+      → (AllPairs (λ a b. a < b) (births_at old key) → (q : List ℕ) → births_at new q ≡ cond (bytes_eq key q) (without e.0 (births_at old q)) (births_at old q))
+      → IsFiled key_of new (remove es i)
+  IsFiled-remove new i e key is rising within here h q =
+      h (filed_rising key rising) q ∙ ap (λ xs. cond (bytes_eq key q) (without e.0 xs) xs) (filed q)
+      ∙ ap (λ k. cond (bytes_eq k q) (without e.0 (births_by (λ x. bytes_eq (key_of x) q) es)) (births_by (λ x. bytes_eq (key_of x) q) es)) is
+      ∙ sym (births_by-remove (λ x. bytes_eq (key_of x) q) es i e rising within here)
+
+  -- a birth is added and taken again
+  pub IsFiled-undone : (mid new : Lists) (birth : ℕ) (key : List ℕ) → AllPairs (λ e f. e.0 < f.0) es → All (λ e. e.0 < birth) es
+      → ((q : List ℕ) → births_at mid q ≡ births_at old q ++ cond (bytes_eq key q) (birth ∷ []) [])
+      → (AllPairs (λ a b. a < b) (births_at mid key) → (q : List ℕ) → births_at new q ≡ cond (bytes_eq key q) (without birth (births_at mid q)) (births_at mid q))
+      → IsFiled key_of new es
+  IsFiled-undone mid new birth key rising newest h k q =
+      k (subst (AllPairs (λ a b. a < b)) (sym (h key)) (pairs (bytes_eq key key))) q
+      ∙ ap (λ xs. cond (bytes_eq key q) (without birth xs) xs) (h q)
+      ∙ back (bytes_eq key q) ∙ filed q
+    where
+      below : (p : List ℕ) → All (λ x. x < birth) (births_at old p)
+      below p = subst (All (λ x. x < birth)) (sym (filed p)) (All-births (λ e. bytes_eq (key_of e) p) (λ x. x < birth) es newest)
+
+      pairs : (b : Bool) → AllPairs (λ a b. a < b) (births_at old key ++ cond b (birth ∷ []) [])
+      pairs true = all_pairs_push (λ a b. a < b) (births_at old key) birth (filed_rising key rising) (below key)
+      pairs false = subst (AllPairs (λ a b. a < b)) (sym (append-nil (births_at old key))) (filed_rising key rising)
+
+      back : (b : Bool) → cond b (without birth (births_at old q ++ cond b (birth ∷ []) [])) (births_at old q ++ cond b (birth ∷ []) []) ≡ births_at old q
+      back true = without-last (births_at old q) birth (below q)
+      back false = append-nil (births_at old q)
+
+-- ---- from births back to entries
+
+pub at_same : (b : ℕ) → is_eq (nat_cmp b b) ≡ true
+at_same b =
+    ap (λ t. is_eq (cond t Less (cond (b == b) Equal Greater))) (le-ltb b b (omega arith))
+    ∙ ap (λ t. is_eq (cond t Equal Greater)) (eq-eqb b b refl)
+
+pub at_other : (a b : ℕ) → a ≢ b → is_eq (nat_cmp a b) ≡ false
+at_other a b ne = go (nat_lt a b)
+  where
+    go : (t : Bool) → is_eq (cond t Less (cond (a == b) Equal Greater)) ≡ false
+    go true = refl
+    go false = ap (λ t. is_eq (cond t Equal Greater)) (ne_eqb a b ne)
+
+-- a look-up finds each entry
+pub each_found : (es : List Entry) → AllPairs (λ e f. e.0 < f.0) es → All (λ e. lookup (is_at (nat_cmp e.0)) es ≡ Some e.1) es
+each_found [] h = All-nil _
+each_found (x ∷ xs) h =
+    All-cons (λ e. lookup (is_at (nat_cmp e.0)) (x ∷ xs) ≡ Some e.1) x xs
+    (ap (λ t. cond t (Some x.1) (lookup (is_at (nat_cmp x.0)) xs)) (at_same x.0))
+    (λ k d l.
+    let less : x.0 < (get_or xs k d).0 = h 0 (suc k) d (omega arith) (omega arith) in
+    ap (λ t. cond t (Some x.1) (lookup (is_at (nat_cmp (get_or xs k d).0)) xs)) (at_other (get_or xs k d).0 x.0 (λ same. omega arith))
+    ∙ each_found xs (λ i j e m n. h (suc i) (suc j) e (omega arith) (omega arith)) k d l)
+
+found_one : (es : List Entry) (e : Entry) → lookup (is_at (nat_cmp e.0)) es ≡ Some e.1 → found_at es e.0 ≡ e ∷ []
+found_one es e h = ap (λ o. map (λ (t : TupleTree). (e.0, t)) (option_to_list o)) h
+
+module _ (test : Entry → Bool) (es : List Entry) where
+  entries_among : (fs : List Entry) → All (λ e. lookup (is_at (nat_cmp e.0)) es ≡ Some e.1) fs → entries_at es (births_by test fs) ≡ filter test fs
+  entries_among [] h = refl
+  entries_among (x ∷ xs) h =
+      ap (entries_at es) (births_by-cons test x xs)
+      ∙ go (test x) (entries_among xs (All-tail (λ e. lookup (is_at (nat_cmp e.0)) es ≡ Some e.1) x xs h))
+    where
+      go : (b : Bool) → entries_at es (births_by test xs) ≡ filter test xs → entries_at es (cond b (x.0 ∷ births_by test xs) (births_by test xs)) ≡ cond b (x ∷ filter test xs) (filter test xs)
+      go true rest =
+          flat_map-cons (found_at es) x.0 (births_by test xs)
+          ∙ ap (λ ys. ys ++ entries_at es (births_by test xs)) (found_one es x (All-head (λ e. lookup (is_at (nat_cmp e.0)) es ≡ Some e.1) x xs h))
+          ∙ ap (λ ys. x ∷ ys) rest
+      go false rest = rest
+
+  pub entries_of_births : AllPairs (λ e f. e.0 < f.0) es → entries_at es (births_by test es) ≡ filter test es
+  entries_of_births h = entries_among es (each_found es h)
+
+-- ---- matches among candidates
+
+implied_false : (a b : Bool) → (a ≡ true → b ≡ true) → b ≡ false → a ≡ false
+implied_false true b h e = absurd (let t : true ≡ false = sym (h refl) ∙ e in cc)
+implied_false false b h e = refl
+
+module _ {X : Type 0} (narrow wide : X → Bool) (within : (x : X) → narrow x ≡ true → wide x ≡ true) where
+  pub find-filter : (xs : List X) → find narrow (filter wide xs) ≡ find narrow xs
+  find-filter [] = refl
+  find-filter (x ∷ xs) = go (wide x) refl (find-filter xs)
+    where
+      go : (b : Bool) → wide x ≡ b → find narrow (filter wide xs) ≡ find narrow xs → find narrow (cond b (x ∷ filter wide xs) (filter wide xs)) ≡ cond (narrow x) (Some x) (find narrow xs)
+      go true e rest = ap (λ o. cond (narrow x) (Some x) o) rest
+      go false e rest = rest ∙ sym (ap (λ b. cond b (Some x) (find narrow xs)) (implied_false (narrow x) (wide x) (within x) e))
+
+pub filter-same : {X : Type 0} (p q : X → Bool) (xs : List X) → All (λ x. p x ≡ q x) xs → filter p xs ≡ filter q xs
+filter-same p q [] h = refl
+filter-same p q (x ∷ xs) h =
+    ap (λ b. cond b (x ∷ filter p xs) (filter p xs)) (All-head (λ y. p y ≡ q y) x xs h)
+    ∙ ap (λ ys. cond (q x) (x ∷ ys) ys) (filter-same p q xs (All-tail (λ y. p y ≡ q y) x xs h))

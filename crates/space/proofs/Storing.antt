@@ -1,0 +1,153 @@
+-- The tables and the index follow the tuples.
+use Rattle.std.proofs.Common.{◌≡◌, ℕ, zero, suc, ◌+◌, ◌-◌, ◌%◌, ◌≤◌, ◌<◌, Bool, true, false, cond, List, [], ◌∷◌, ◌++◌, length, map, get_or, set, Option, Some, None, option_map, refl, sym, ap, subst, ◌∙◌, arith, inl, inr}
+use Rattle.std.specs.Prelude.{◌==◌, ◌&&◌, All, AllPairs, filter, find, remove, nat_lt, is_some}
+use Rattle.std.specs.Ordering.{nat_cmp, is_eq}
+use Rattle.std.specs.Str.{bytes_eq}
+use Rattle.std.specs.Map.{lookup, remove_entry}
+use Rattle.std.specs.BTreeMap.{is_at, insert_entry}
+use Rattle.std.proofs.lemmas.Bool.{cases_eq}
+use Rattle.std.proofs.lemmas.List.{get_or_at, length_push}
+use Rattle.std.proofs.lemmas.List.Quantifiers.{all_pairs_push}
+use Rattle.std.proofs.lemmas.List.Elements.{All-get_or, All-weaker}
+use Rattle.tuple_tree.specs.Items.{none}
+use Rattle.tuple_tree.specs.Values.{TupleTree, TemplateTree, IsTuple}
+use Rattle.template_match.specs.Tests.{is_match}
+use Rattle.space.specs.Applying.{first_match, without_first}
+use Rattle.space.specs.Births.{Entry, SpaceState, IsState, tuples_of, first_passing, birth_of, with_birth}
+use Rattle.space.specs.Candidates.{is_candidate, candidates_of}
+use Rattle.space.specs.Counted.{IsCounted, IsIndexed}
+use Rattle.space.specs.Filing.{births_by, page_key, IsIndexOf}
+use Rattle.space.specs.Found.{entries_at}
+use Rattle.space.specs.Pages.{on_page, entries_text, page_text}
+use Rattle.space.specs.declared.index.Index.{Index}
+use Rattle.space.proofs.Filing.{entries_of_births, find-filter, filter-same, each_found, at_other, at_same}
+use Rattle.space.proofs.Keying.{match_is_candidate}
+use Rattle.space.proofs.Listing.{find-map}
+use Rattle.space.proofs.Trees.{IsTaken, first_taken, removed_by_place, inserted_last}
+use Rattle.space.proofs.Keeping.{IsCounted-push, IsCounted-remove, counted_one, birth_by_counts}
+
+-- ---- what births lead to
+
+module _ (s : SpaceState) (h : IsState s) where
+  -- the oldest match is one of the candidates
+  pub found_among : (p : TemplateTree) → find (λ e. is_match p e.1) (entries_at s.entries (candidates_of p s)) ≡ find (λ e. is_match p e.1) s.entries
+  found_among p =
+      ap (find (λ e. is_match p e.1)) (entries_of_births (λ e. is_candidate p e.1) s.entries h.rising)
+      ∙ find-filter (λ (e : Entry). is_match p e.1) (λ e. is_candidate p e.1) (λ e. match_is_candidate p e.1) s.entries
+
+  pub matches_among : (p : TemplateTree) → filter (is_match p) (map (λ e. e.1) (entries_at s.entries (candidates_of p s))) ≡ filter (is_match p) (tuples_of s)
+  matches_among p =
+      ap (λ (es : List Entry). filter (is_match p) (map (λ e. e.1) es)) (entries_of_births (λ e. is_candidate p e.1) s.entries h.rising)
+      ∙ mapped s.entries
+    where
+      go : (xs ys : List Entry) (e : Entry) (b : Bool) → (is_match p e.1 ≡ true → b ≡ true)
+          → filter (is_match p) (map (λ (x : Entry). x.1) xs) ≡ filter (is_match p) (map (λ (x : Entry). x.1) ys)
+          → filter (is_match p) (map (λ (x : Entry). x.1) (cond b (e ∷ xs) xs)) ≡ filter (is_match p) (e.1 ∷ map (λ (x : Entry). x.1) ys)
+      go xs ys e true k rest = ap (λ zs. cond (is_match p e.1) (e.1 ∷ zs) zs) rest
+      go xs ys e false k rest = last (is_match p e.1) k ∙ ap (λ zs. cond (is_match p e.1) (e.1 ∷ zs) zs) rest
+        where
+          last : (a : Bool) → (a ≡ true → false ≡ true) → filter (is_match p) (map (λ (x : Entry). x.1) xs) ≡ cond a (e.1 ∷ filter (is_match p) (map (λ (x : Entry). x.1) xs)) (filter (is_match p) (map (λ (x : Entry). x.1) xs))
+          last true f = absurd (let g : false ≡ true = f refl in cc)
+          last false f = refl
+
+      mapped : (es : List Entry) → filter (is_match p) (map (λ e. e.1) (filter (λ (e : Entry). is_candidate p e.1) es)) ≡ filter (is_match p) (map (λ e. e.1) es)
+      mapped [] = refl
+      mapped (e ∷ es) = go (filter (λ (x : Entry). is_candidate p x.1) es) es e (is_candidate p e.1) (match_is_candidate p e.1) (mapped es)
+
+  -- the births of a page lead to its tuples
+  pub page_among : (page : ℕ) → entries_text (entries_at s.entries (births_by (λ e. bytes_eq (page_key e) (page ∷ [])) s.entries)) ≡ page_text s page
+  unfolding on_page
+  page_among page =
+      ap entries_text (entries_of_births (λ e. bytes_eq (page_key e) (page ∷ [])) s.entries h.rising
+      ∙ filter-same (λ (e : Entry). bytes_eq (page_key e) (page ∷ [])) (λ e. e.0 % 256 == page) s.entries (λ k d l. both ((get_or s.entries k d).0 % 256 == page)))
+    where
+      both : (b : Bool) → (b && true) ≡ b
+      both true = refl
+      both false = refl
+
+-- ---- the oldest match is taken
+
+lookup_place : (es : List Entry) (b : ℕ) (t : TupleTree) → lookup (is_at (nat_cmp b)) es ≡ Some t → (i : ℕ) × IsTaken es (remove es i) (b, t) i
+lookup_place [] b t h = absurd (let g : ⊥ = cc in g)
+lookup_place (x ∷ xs) b t h = elim (cases_eq b x.0) [
+  | inl same ↦
+      let here : lookup (is_at (nat_cmp b)) (x ∷ xs) ≡ Some x.1 = ap (λ k. cond (is_eq (nat_cmp b k)) (Some x.1) (lookup (is_at (nat_cmp b)) xs)) (sym same) ∙ ap (λ a. cond a (Some x.1) (lookup (is_at (nat_cmp b)) xs)) (at_same b) in
+      let is : t ≡ x.1 = cc in
+      (0, record { within = omega arith; here = rw (same, is) refl; left = refl })
+  | inr other ↦
+      let rest : lookup (is_at (nat_cmp b)) xs ≡ Some t = sym (ap (λ a. cond a (Some x.1) (lookup (is_at (nat_cmp b)) xs)) (at_other b x.0 other)) ∙ h in
+      let p = lookup_place xs b t rest in
+      let within = p.1.within in
+      (suc p.0, record { within = omega arith; here = p.1.here; left = refl })
+]
+
+pub record IsOldest (es rest : List Entry) (b : ℕ) (t : TupleTree) : Type 0 where
+  pub stored : lookup (is_at (nat_cmp b)) es ≡ Some t
+  pub left : remove_entry (is_at (nat_cmp b)) es ≡ rest
+
+pub oldest_taken : (test : Entry → Bool) (es : List Entry) (b : ℕ) (t : TupleTree) → AllPairs (λ e f. e.0 < f.0) es → find test es ≡ Some (b, t) → IsOldest es (without_first test es) b t
+oldest_taken test es b t h f =
+    let p = first_taken test es (b, t) f in
+    let i : ℕ = p.0 in
+    let here : (b, t) ≡ get_or es i (b, t) = p.1.here in
+    record {
+      stored =
+          let l = each_found es h i (b, t) p.1.within in
+          subst (λ (e : Entry). lookup (is_at (nat_cmp e.0)) es ≡ Some e.1) (sym here) l;
+      left = removed_by_place es i b (b, t) h p.1.within (ap (λ (e : Entry). e.0) (sym here)) ∙ sym p.1.left;
+    }
+
+module _ (es : List Entry) (next : ℕ) (counts : List ℕ) (index : Index) (h : IsIndexed es next counts index) (b : ℕ) (t : TupleTree) (stored : lookup (is_at (nat_cmp b)) es ≡ Some t) where
+  pub taken_counted : 1 ≤ get_or counts (b % 256) 0
+  taken_counted = let p = lookup_place es b t stored in counted_one es next counts h.counts p.0 b t p.1.within p.1.here
+
+  pub IsIndexed-taken : (items : List Entry) (new : Index) → length counts ≡ 256 → items ≡ remove_entry (is_at (nat_cmp b)) es
+      → ((fs : List Entry) (i : ℕ) → AllPairs (λ e f. e.0 < f.0) fs → i < length fs → (b, t) ≡ get_or fs i (b, t) → IsIndexOf index fs → IsIndexOf new (remove fs i))
+      → IsIndexed items next (set counts (b % 256) (get_or counts (b % 256) 0 - 1)) new
+  IsIndexed-taken items new long is moved =
+      let p = lookup_place es b t stored in
+      let rising = h.counts.state.rising in
+      let left : items ≡ remove es p.0 = is ∙ removed_by_place es p.0 b (b, t) rising p.1.within (ap (λ (e : Entry). e.0) (sym p.1.here)) in
+      record {
+        counts = IsCounted-remove es next counts h.counts p.0 b t items long p.1.within p.1.here left;
+        indexed = subst (IsIndexOf new) (sym left) (moved es p.0 rising p.1.within p.1.here h.indexed);
+      }
+
+-- ---- a tuple is added
+
+module _ (es : List Entry) (next : ℕ) (counts : List ℕ) (index : Index) (h : IsIndexed es next counts index) (b : ℕ) (newest : next ≤ b) where
+  pub all_older : All (λ e. e.0 < b) es
+  all_older = All-weaker (λ e. e.0 < next) (λ e. e.0 < b) (λ e l. omega arith) es h.counts.state.below_next
+
+  pub IsIndexed-added : (t : TupleTree) (items : List Entry) (new : Index) → length counts ≡ 256 → IsTuple t → length es < 8192
+      → b ≡ first_passing (λ birth. nat_lt (get_or counts (birth % 256) 0) 64) 256 next → items ≡ insert_entry nat_cmp es b t
+      → ((fs : List Entry) → IsIndexOf index fs → IsIndexOf new (fs ++ (b, t) ∷ []))
+      → IsIndexed items (b + 1) (set counts (b % 256) (get_or counts (b % 256) 0 + 1)) new
+  IsIndexed-added t items new long valid room is put moved =
+      let last : items ≡ es ++ (b, t) ∷ [] = put ∙ inserted_last es b t all_older in
+      record {
+        counts = IsCounted-push es next counts h.counts b t items long valid room is last;
+        indexed = subst (IsIndexOf new) (sym last) (moved es h.indexed);
+      }
+
+  pub added_state : (t : TupleTree) (items : List Entry) → b ≡ first_passing (λ birth. nat_lt (get_or counts (birth % 256) 0) 64) 256 next → items ≡ insert_entry nat_cmp es b t
+      → record { entries = items; next = b + 1 } ≡ with_birth (record { entries = es; next = next }) t
+  added_state t items is put =
+      let s : SpaceState = record { entries = es; next = next } in
+      let same : b ≡ birth_of s = is ∙ birth_by_counts es next counts h.counts s refl in
+      ap (λ (xs : List Entry). record { entries = xs; next = b + 1 }) (put ∙ inserted_last es b t all_older)
+      ∙ ap (λ (n : ℕ). record { entries = es ++ (n, t) ∷ []; next = n + 1 }) same
+
+  -- it is taken again where memory ran out
+  pub IsIndexed-undone : (t : TupleTree) (mid new : Index)
+      → ((fs : List Entry) → IsIndexOf index fs → IsIndexOf mid (fs ++ (b, t) ∷ []))
+      → ((fs : List Entry) (i : ℕ) → AllPairs (λ e f. e.0 < f.0) fs → i < length fs → (b, t) ≡ get_or fs i (b, t) → IsIndexOf mid fs → IsIndexOf new (remove fs i))
+      → IsIndexOf new es
+  IsIndexed-undone t mid new added taken = subst (IsIndexOf new) (remove_last es) (taken (es ++ (b, t) ∷ []) (length es) rises (omega (arith, length_push es (b, t))) (sym (get_or_at es (b, t) [] (b, t) (length es) refl)) (added es h.indexed))
+    where
+      rises : AllPairs (λ e f. e.0 < f.0) (es ++ (b, t) ∷ [])
+      rises = all_pairs_push (λ e f. e.0 < f.0) es (b, t) h.counts.state.rising all_older
+
+      remove_last : (xs : List Entry) → remove (xs ++ (b, t) ∷ []) (length xs) ≡ xs
+      remove_last [] = refl
+      remove_last (x ∷ xs) = ap (λ ys. x ∷ ys) (remove_last xs)

@@ -1,0 +1,116 @@
+//! Where the tuples of a page, of a number of fields, and of a first value are found.
+
+ghost use Rattle.std.specs.Prelude.{◌≡◌, ◌<◌, ◌%◌, ◌++◌, ◌∷◌, [], List, ℕ, length, remove, slice_index_or, All, AllPairs, OnOk, OnErr, IfOk};
+ghost use Rattle.tuple_tree.specs.Items.{how_many};
+ghost use Rattle.tuple_tree.specs.Values.{IsTuple};
+ghost use Rattle.space.specs.Births.{Entry};
+ghost use Rattle.space.specs.Candidates.{is_candidate};
+ghost use Rattle.space.specs.Filing.{births_by, page_key, IsIndexOf};
+ghost use Rattle.std.specs.Str.{bytes_eq};
+
+use crate::births::PAGES;
+use crate::keys::{key_of_template, key_of_tuple};
+use crate::lists::Lists;
+use std::alloc::{Allocator, Global};
+use std::collections::BTreeMap;
+use tuple_tree::{NoMemory, Template, Tuple};
+
+/// The births of the stored tuples by their page, by their number of fields, and by that number with the first value.
+#[derive(Drop)]
+pub struct Index {
+    pages: Lists,
+    lengths: Lists,
+    firsts: Lists,
+}
+
+impl Index {
+    /// The index of no tuples. Takes no memory.
+    pub fn new(alloc: Global) -> Index
+        ensures { IsIndexOf result [] }
+    {
+        Index {
+            pages: Lists::new(alloc),
+            lengths: Lists::new(alloc),
+            firsts: Lists::new(alloc),
+        }
+    }
+
+    /// The index of these tuples.
+    pub fn of(alloc: Global, tuples: &BTreeMap<u64, Tuple<Global>>) -> Result<Index, NoMemory>
+        ensures { IfOk result (λ index. IsIndexOf index tuples.now.entries) }
+    {
+        let mut index = Index::new(alloc);
+        for (birth, tuple) in tuples {
+            index.add(*birth, tuple)?;
+        }
+        Ok(index)
+    }
+
+    /// Adds the newest tuple. An `Err` changes nothing.
+    pub fn add(&mut self, birth: u64, tuple: &Tuple<Global>) -> Result<(), NoMemory>
+        ensures ok { OnOk result ((es : List Entry) → IsIndexOf self.old es → IsIndexOf self.new (es ++ (birth, tuple.now) ∷ [])) }
+        ensures err { OnErr result ((es : List Entry) → AllPairs (λ e f. e.0 < f.0) es → All (λ e. e.0 < birth) es → IsIndexOf self.old es → IsIndexOf self.new es) }
+    {
+        let page = [page_of(birth)];
+        self.pages.add(&page, birth)?;
+        let count = [count_of(tuple)];
+        if let Err(failed) = self.lengths.add(&count, birth) {
+            self.pages.remove(&page, birth);
+            return Err(failed);
+        }
+        let first = key_of_tuple(tuple);
+        if let Err(failed) = self.firsts.add(first.as_slice(), birth) {
+            self.lengths.remove(&count, birth);
+            self.pages.remove(&page, birth);
+            return Err(failed);
+        }
+        Ok(())
+    }
+
+    /// Takes a tuple.
+    pub fn remove(&mut self, birth: u64, tuple: &Tuple<Global>)
+        ensures { (es : List Entry) (i : ℕ) → AllPairs (λ e f. e.0 < f.0) es → i < length es → (birth, tuple.now) ≡ slice_index_or es i (birth, tuple.now) → IsIndexOf self.old es → IsIndexOf self.new (remove es i) }
+    {
+        let page = [page_of(birth)];
+        self.pages.remove(&page, birth);
+        let count = [count_of(tuple)];
+        self.lengths.remove(&count, birth);
+        let first = key_of_tuple(tuple);
+        self.firsts.remove(first.as_slice(), birth);
+    }
+
+    /// The births of a page, 0 to 255.
+    pub fn on_page(&self, page: usize) -> &[u64]
+        requires { page < PAGES }
+        ensures { (es : List Entry) → IsIndexOf self.now es → result.now ≡ births_by (λ e. bytes_eq (page_key e) (page ∷ [])) es }
+    {
+        let key = [page as u8];
+        self.pages.get(&key)
+    }
+
+    /// The births of the tuples that a template may match: those of its length and of its first value, where its first
+    /// field is an actual.
+    pub fn candidates<A: Allocator>(&self, template: &Template<A>) -> &[u64]
+        ensures { (es : List Entry) → All (λ e. IsTuple e.1) es → IsIndexOf self.now es → result.now ≡ births_by (λ e. is_candidate template.now e.1) es }
+    {
+        match key_of_template(template) {
+            Some(key) => self.firsts.get(key.as_slice()),
+            None => {
+                let count = [template.len() as u8];
+                self.lengths.get(&count)
+            }
+        }
+    }
+}
+
+fn page_of(birth: u64) -> u8
+    ensures { result ≡ birth % 256 }
+{
+    (birth % PAGES as u64) as u8
+}
+
+fn count_of(tuple: &Tuple<Global>) -> u8
+    ensures { result ≡ how_many tuple.now }
+{
+    tuple.len() as u8
+}

@@ -1,0 +1,79 @@
+//! Lists of births by keys of bytes.
+
+ghost use Rattle.std.specs.Prelude.{◌≡◌, ◌<◌, ◌++◌, ◌∷◌, [], ℕ, List, AllPairs, OnOk, OnErr, IsTrue, if◌then◌else◌};
+ghost use Rattle.std.specs.Str.{bytes_eq};
+ghost use Rattle.space.specs.Ages.{without};
+ghost use Rattle.space.specs.Filing.{births_at};
+
+use crate::birth_list::BirthList;
+use std::alloc::Global;
+use std::collections::HashMap;
+use tuple_tree::NoMemory;
+
+/// A list of births for each key that has births.
+#[derive(Drop)]
+pub struct Lists {
+    alloc: Global,
+    lists: HashMap<Vec<u8>, BirthList>,
+}
+
+impl Lists {
+    /// No births. Takes no memory.
+    pub fn new(alloc: Global) -> Lists
+        ensures { (q : List ℕ) → births_at result q ≡ [] }
+    {
+        Lists {
+            alloc,
+            lists: HashMap::new(alloc),
+        }
+    }
+
+    /// The births of a key, the oldest first.
+    pub fn get(&self, key: &[u8]) -> &[u64]
+        ensures { result.now ≡ births_at self.now key.now }
+    {
+        match self.lists.get(key) {
+            Some(births) => births.as_slice(),
+            None => &[],
+        }
+    }
+
+    /// Adds a birth, the newest one. An `Err` changes nothing.
+    pub fn add(&mut self, key: &[u8], birth: u64) -> Result<(), NoMemory>
+        ensures ok { OnOk result ((q : List ℕ) → births_at self.new q ≡ births_at self.old q ++ (if bytes_eq key.now q then birth ∷ [] else [])) }
+        ensures err { OnErr result ((q : List ℕ) → births_at self.new q ≡ births_at self.old q) }
+    {
+        if let Some(births) = self.lists.get_mut(key) {
+            return births.push(birth);
+        }
+        let births = BirthList::of(self.alloc, birth)?;
+        let key = Vec::from_slice(self.alloc, key)?;
+        match self.lists.insert(key, births) {
+            Ok(_) => Ok(()),
+            Err(_) => Err(NoMemory),
+        }
+    }
+
+    /// Takes a birth from those of a key.
+    pub fn remove(&mut self, key: &[u8], birth: u64)
+        ensures { AllPairs (λ a b. a < b) (births_at self.old key.now) → (q : List ℕ) → births_at self.new q ≡ (if bytes_eq key.now q then without birth (births_at self.old q) else births_at self.old q) }
+    {
+        if self.take(key, birth) {
+            self.lists.remove(key);
+        }
+    }
+
+    // Takes a birth, and says whether it was the only one.
+    fn take(&mut self, key: &[u8], birth: u64) -> bool
+        ensures taken { AllPairs (λ a b. a < b) (births_at self.old key.now) → (q : List ℕ) → births_at self.new q ≡ (if bytes_eq key.now q then without birth (births_at self.old q) else births_at self.old q) }
+        ensures emptied { IsTrue result → births_at self.new key.now ≡ [] }
+    {
+        match self.lists.get_mut(key) {
+            Some(births) => {
+                births.remove(birth);
+                births.as_slice().is_empty()
+            }
+            None => false,
+        }
+    }
+}

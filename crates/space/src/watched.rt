@@ -1,0 +1,85 @@
+//! A space that notes which pages may have changed.
+
+ghost use Rattle.std.specs.Prelude.{◌≡◌, ◌^◌, ◌<◌, ℕ, true, false, OnOk, OnErr, IfOk, slice_index_or};
+ghost use Rattle.tuple_codec.specs.OperationView.{operation_of, outcome_of};
+ghost use Rattle.space.specs.Applying.{outcome};
+ghost use Rattle.space.specs.Births.{IsState, tuples_of, state_after};
+ghost use Rattle.space.specs.Watching.{is_touched, TouchesChanges};
+
+use crate::births::PAGES;
+use crate::tuples::Space;
+use std::alloc::{Allocator, Global};
+use std::marker::Model;
+use tuple_codec::{Answer, Op};
+use tuple_tree::NoMemory;
+
+/// A space, and which of its pages 0 to 255 may have changed since the last [`Watched::untouch`].
+#[derive(Drop)]
+pub struct Watched {
+    space: Space,
+    touched: [bool; PAGES],
+}
+
+impl Model for Watched {
+    ghost use Rattle.space.specs.Watching.{WatchedState, watched_code};
+
+    ghost Value = { WatchedState };
+
+    ghost coded = { watched_code };
+
+    ghost view = { λ a. record { state = a.space; touched = a.touched } };
+}
+
+impl Watched {
+    /// A space whose pages are all touched.
+    pub fn of(space: Space) -> Watched
+        ensures state { result.state ≡ space }
+        ensures all { (page : ℕ) → page < 256 → is_touched result page ≡ true }
+    {
+        Watched {
+            space,
+            touched: [true; PAGES],
+        }
+    }
+
+    /// The space.
+    pub fn space(&self) -> &Space
+        ensures { result.now ≡ self.now.state }
+    {
+        &self.space
+    }
+
+    /// Applies an operation as [`Space::apply`] does. Each page whose text changes is touched afterwards. An `Err` leaves
+    /// the space as it was.
+    pub fn apply<A: Allocator>(&mut self, op: &Op<A>) -> Result<Answer<Global>, NoMemory>
+        requires { self.old.state.next < 2 ^ 62 }
+        ensures answer { IfOk result (λ a. outcome_of a ≡ outcome (tuples_of self.old.state) (operation_of op.now)) }
+        ensures state { OnOk result (self.new.state ≡ state_after self.old.state (operation_of op.now)) }
+        ensures valid { IsState self.new.state }
+        ensures err { OnErr result (self.new.state ≡ self.old.state) }
+        ensures touches { TouchesChanges self.old self.new }
+    {
+        let page = self.space.page_changed_by(op);
+        let result = self.space.apply(op);
+        if let Some(page) = page {
+            self.touched[page] = true;
+        }
+        result
+    }
+
+    /// Whether the text of page `page`, 0 to 255, may differ from that at the last [`Watched::untouch`]. Takes no memory.
+    pub fn touched(&self, page: usize) -> bool
+        requires { page < PAGES }
+        ensures { result ≡ is_touched self.now page }
+    {
+        self.touched[page]
+    }
+
+    /// Begins anew: no page is touched. Takes no memory.
+    pub fn untouch(&mut self)
+        ensures state { self.new.state ≡ self.old.state }
+        ensures none { (page : ℕ) → page < 256 → is_touched self.new page ≡ false }
+    {
+        self.touched = [false; PAGES];
+    }
+}
