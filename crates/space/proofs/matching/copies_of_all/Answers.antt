@@ -1,8 +1,8 @@
-use Rattle.std.proofs.Common.{◌≡◌, ◌++◌, ◌-◌, [], ◌∷◌, length, take, ap, sym, ◌∙◌, arith}
+use Rattle.std.proofs.Common.{◌≡◌, ◌++◌, [], ◌∷◌, ap, sym, ◌∙◌, arith}
 use Rattle.std.specs.Map.Iter.{deref}
 use Rattle.std.proofs.lemmas.List.{length_push}
 use Rattle.std.proofs.lemmas.Map.Iter.{rest_more}
-use Rattle.space.proofs.Among.{copied_first, copied_later}
+use Rattle.space.proofs.Among.{copied_first}
 use Rattle.space.proofs.matching.copies_of_all.Goals as goal
 
 pub loop-tuple-preserved-in-Continue-branch-2 : goal.loop-tuple-preserved-in-Continue-branch-2
