@@ -1,6 +1,6 @@
 -- Births one by one, and the entries that they lead to.
-use Rattle.std.proofs.Common.{◌≡◌, ℕ, suc, ◌+◌, ◌-◌, ◌≤◌, ◌<◌, Bool, true, false, cond, List, [], ◌∷◌, ◌++◌, length, take, drop, get_or, map, Option, Some, None, option_map, refl, sym, ap, subst, ◌∙◌, arith, append-nil, append_assoc}
-use Rattle.std.specs.Prelude.{filter, find, flat_map, option_to_list, All}
+use Rattle.std.proofs.Common.{◌≡◌, ℕ, suc, ◌+◌, ◌-◌, ◌<◌, Bool, true, false, cond, List, [], ◌∷◌, ◌++◌, length, take, drop, get_or, map, Option, Some, None, option_map, refl, sym, ap, ◌∙◌, arith, append-nil, append_assoc}
+use Rattle.std.specs.Prelude.{filter, find, option_to_list, All}
 use Rattle.std.specs.Ordering.{nat_cmp}
 use Rattle.std.specs.Str.{bytes_eq}
 use Rattle.std.specs.Map.{lookup}
@@ -105,3 +105,25 @@ module _ (es : List Entry) (births : List ℕ) (i b : ℕ) (within : i < length 
   pub text_gone : None ≡ lookup (is_at (nat_cmp b)) es → entries_text (entries_at es (take i births)) ≡ entries_text (entries_at es (take (i + 1) births))
   text_gone h =
       sym (ap entries_text (text_next ∙ ap (λ (o : Option TupleTree). entries_at es (take i births) ++ map (λ t. (b, t)) (option_to_list o)) (sym h) ∙ append-nil (entries_at es (take i births))))
+
+-- ---- all entries, one by one
+
+module _ (p : TemplateTree) (t u : List Entry) (x : Entry) (next : t ≡ x ∷ u) where
+  pub found_first : is_match p x.1 ≡ true → find (λ e. is_match p e.1) t ≡ Some x
+  found_first h = ap (find (λ (e : Entry). is_match p e.1)) next ∙ ap (λ (b : Bool). cond b (Some x) (find (λ (e : Entry). is_match p e.1) u)) h
+
+  pub found_later : is_match p x.1 ≡ false → find (λ e. is_match p e.1) t ≡ find (λ e. is_match p e.1) u
+  found_later h = ap (find (λ (e : Entry). is_match p e.1)) next ∙ ap (λ (b : Bool). cond b (Some x) (find (λ (e : Entry). is_match p e.1) u)) h
+
+module _ (p : TemplateTree) (t u : List TupleTree) (x : TupleTree) (next : t ≡ x ∷ u) where
+  pub copied_first : (n : ℕ) (ys : List TupleTree) → is_match p x ≡ true → length ys < n
+      → ys ++ take (n - length ys) (filter (is_match p) t) ≡ (ys ++ x ∷ []) ++ take (n - length (ys ++ x ∷ [])) (filter (is_match p) u)
+  copied_first n ys h l =
+      let rest : List TupleTree = filter (is_match p) u in
+      let left : ℕ = n - length (ys ++ x ∷ []) in
+      let k : n - length ys ≡ suc left = omega (arith, length_push ys x) in
+      ap (λ xs. ys ++ take (n - length ys) (filter (is_match p) xs)) next
+      ∙ ap (λ b. ys ++ take (n - length ys) (cond b (x ∷ rest) rest)) h ∙ ap (λ j. ys ++ take j (x ∷ rest)) k ∙ sym (append_assoc ys (x ∷ []) (take left rest))
+
+  pub copied_later : is_match p x ≡ false → filter (is_match p) t ≡ filter (is_match p) u
+  copied_later h = ap (filter (is_match p)) next ∙ ap (λ b. cond b (x ∷ filter (is_match p) u) (filter (is_match p) u)) h

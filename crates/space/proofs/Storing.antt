@@ -1,6 +1,6 @@
 -- The tables and the index follow the tuples.
-use Rattle.std.proofs.Common.{◌≡◌, ℕ, zero, suc, ◌+◌, ◌-◌, ◌%◌, ◌≤◌, ◌<◌, Bool, true, false, cond, List, [], ◌∷◌, ◌++◌, length, map, get_or, set, Option, Some, None, option_map, refl, sym, ap, subst, ◌∙◌, arith, inl, inr}
-use Rattle.std.specs.Prelude.{◌==◌, ◌&&◌, All, AllPairs, filter, find, remove, nat_lt, is_some}
+use Rattle.std.proofs.Common.{◌≡◌, ℕ, suc, ◌+◌, ◌-◌, ◌%◌, ◌≤◌, ◌<◌, Bool, true, false, cond, List, [], ◌∷◌, ◌++◌, length, map, get_or, set, Some, refl, sym, ap, subst, ◌∙◌, arith, inl, inr}
+use Rattle.std.specs.Prelude.{◌==◌, ◌&&◌, All, AllPairs, filter, find, remove, nat_lt}
 use Rattle.std.specs.Ordering.{nat_cmp, is_eq}
 use Rattle.std.specs.Str.{bytes_eq}
 use Rattle.std.specs.Map.{lookup, remove_entry}
@@ -8,21 +8,19 @@ use Rattle.std.specs.BTreeMap.{is_at, insert_entry}
 use Rattle.std.proofs.lemmas.Bool.{cases_eq}
 use Rattle.std.proofs.lemmas.List.{get_or_at, length_push}
 use Rattle.std.proofs.lemmas.List.Quantifiers.{all_pairs_push}
-use Rattle.std.proofs.lemmas.List.Elements.{All-get_or, All-weaker}
-use Rattle.tuple_tree.specs.Items.{none}
+use Rattle.std.proofs.lemmas.List.Elements.{All-weaker}
 use Rattle.tuple_tree.specs.Values.{TupleTree, TemplateTree, IsTuple}
 use Rattle.template_match.specs.Tests.{is_match}
-use Rattle.space.specs.Applying.{first_match, without_first}
+use Rattle.space.specs.Applying.{without_first}
 use Rattle.space.specs.Births.{Entry, SpaceState, IsState, tuples_of, first_passing, birth_of, with_birth}
 use Rattle.space.specs.Candidates.{is_candidate, candidates_of}
-use Rattle.space.specs.Counted.{IsCounted, IsIndexed}
+use Rattle.space.specs.Counted.{IsIndexed}
 use Rattle.space.specs.Filing.{births_by, page_key, IsIndexOf}
 use Rattle.space.specs.Found.{entries_at}
 use Rattle.space.specs.Pages.{on_page, entries_text, page_text}
 use Rattle.space.specs.declared.index.Index.{Index}
 use Rattle.space.proofs.Filing.{entries_of_births, find-filter, filter-same, each_found, at_other, at_same}
 use Rattle.space.proofs.Keying.{match_is_candidate}
-use Rattle.space.proofs.Listing.{find-map}
 use Rattle.space.proofs.Trees.{IsTaken, first_taken, removed_by_place, inserted_last}
 use Rattle.space.proofs.Keeping.{IsCounted-push, IsCounted-remove, counted_one, birth_by_counts}
 

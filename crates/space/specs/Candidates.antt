@@ -1,7 +1,7 @@
 -- Which stored tuples a template may match, by their number of values and their first value.
 use Rattle.std.specs.Prelude.{ℕ, Bool, true, ◌&&◌, ◌==◌, List, map, filter}
 use Rattle.tuple_tree.specs.Items.{Item, leaf, inner, none, item, how_many}
-use Rattle.tuple_tree.specs.Values.{Datum, Slot, actual, any, formal, TupleTree, TemplateTree}
+use Rattle.tuple_tree.specs.Values.{Slot, actual, any, formal, TupleTree, TemplateTree}
 use Rattle.template_match.specs.Tests.{is_datum}
 use Rattle.space.specs.Births.{SpaceState}
 

@@ -1,9 +1,6 @@
 -- Lists of births by keys of bytes, and the tuples that they lead to.
-use Rattle.std.specs.Prelude.{◌≡◌, ℕ, ◌%◌, Bool, ◌==◌, nat_eq, List, [], ◌∷◌, map, filter, flat_map, option_to_list, Option, Some, None}
+use Rattle.std.specs.Prelude.{◌≡◌, ℕ, ◌%◌, Bool, List, [], ◌∷◌, map, filter, Option, Some, None}
 use Rattle.std.specs.Str.{bytes_eq}
-use Rattle.std.specs.Ordering.{nat_cmp}
-use Rattle.std.specs.Map.{lookup}
-use Rattle.std.specs.BTreeMap.{is_at}
 use Rattle.std.specs.HashMap.{get_by}
 use Rattle.tuple_tree.specs.Items.{how_many}
 use Rattle.space.specs.Births.{Entry}

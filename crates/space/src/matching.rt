@@ -68,3 +68,40 @@ pub fn copies_of_matches<A: Allocator>(
     }
     Ok(copies)
 }
+
+/// The oldest match among all tuples.
+pub fn oldest_of_all<'a, A: Allocator>(
+    tuples: &'a BTreeMap<u64, Tuple<Global>>,
+    template: &Template<A>,
+) -> Option<(u64, &'a Tuple<Global>)>
+    ensures { option_map (λ x. (x.0, x.1.now)) result ≡ find (λ e. is_match template.now e.1) tuples.now.entries }
+{
+    for (birth, tuple) in tuples {
+        if matches(template, tuple) {
+            return Some((*birth, tuple));
+        }
+    }
+    None
+}
+
+/// Copies of the oldest matches among all tuples, so many at the most.
+pub fn copies_of_all<A: Allocator>(
+    alloc: Global,
+    tuples: &BTreeMap<u64, Tuple<Global>>,
+    template: &Template<A>,
+    max: Max,
+) -> Result<Tuples<Global>, NoMemory>
+    ensures { IfOk result (λ copies. copies ≡ take max.count (filter (is_match template.now) (map (λ e. e.1) tuples.now.entries))) }
+{
+    let mut copies = Tuples::new_in(alloc);
+    for tuple in tuples.values() {
+        if copies.len() >= max.count as usize {
+            return Ok(copies);
+        }
+        if matches(template, tuple) {
+            let copy = tuple.copy_in(alloc)?;
+            copies.push(copy)?;
+        }
+    }
+    Ok(copies)
+}

@@ -16,7 +16,7 @@ ghost use Rattle.space.specs.Births.{SpaceState, IsState, empty_state, birth_of,
 
 use crate::births::{PAGES, empty_pages, next_birth};
 use crate::index::Index;
-use crate::matching::{copies_of_matches, oldest_match};
+use crate::matching::{copies_of_all, copies_of_matches, oldest_match, oldest_of_all};
 use crate::pages::{HEADER_LEN, header_of, text_of};
 use crate::reading::{read_header, read_page};
 use std::alloc::{Allocator, Global};
@@ -223,11 +223,20 @@ impl Space {
         self.index.candidates(template)
     }
 
+    // Whether so many candidates are better looked for by a walk over all tuples than one by one.
+    fn are_many(&self, candidates: usize) -> bool {
+        candidates > self.count() / 8
+    }
+
     fn oldest_match<A: Allocator>(&self, template: &Template<A>) -> Option<(u64, &Tuple<Global>)>
         ensures value { option_map (λ x. (x.0, x.1.now)) result ≡ find (λ e. is_match template.now e.1) self.now.entries }
         ensures valid { IsState self.now }
     {
-        oldest_match(&self.tuples, self.candidates(template), template)
+        let births = self.candidates(template);
+        if self.are_many(births.len()) {
+            return oldest_of_all(&self.tuples, template);
+        }
+        oldest_match(&self.tuples, births, template)
     }
 
     // Takes the tuple of this birth.
@@ -263,13 +272,12 @@ impl Space {
     ) -> Result<Answer<Global>, NoMemory>
         ensures { IfOk result (λ a. outcome_of a ≡ outcome (tuples_of self.now) (rd_all max.count template.now)) }
     {
-        let copies = copies_of_matches(
-            self.alloc,
-            &self.tuples,
-            self.candidates(template),
-            template,
-            max,
-        )?;
+        let births = self.candidates(template);
+        if self.are_many(births.len()) {
+            let copies = copies_of_all(self.alloc, &self.tuples, template, max)?;
+            return Ok(Answer::All(copies));
+        }
+        let copies = copies_of_matches(self.alloc, &self.tuples, births, template, max)?;
         Ok(Answer::All(copies))
     }
 

@@ -1,6 +1,5 @@
 use Rattle.std.proofs.Common.{◌≡◌, ◌++◌, ◌-◌, [], ◌∷◌, length, take, get_or, ap, sym, ◌∙◌, arith}
 use Rattle.std.proofs.lemmas.List.{length_push, get_or_default}
-use Rattle.template_match.specs.Tests.{is_match}
 use Rattle.space.proofs.Among.{copied_here, copied_next}
 use Rattle.space.proofs.matching.copies_of_matches.Goals as goal
 use Rattle.space.proofs.matching.copies_of_matches.Goals.{in-Some+in_ok-copy+in_ok-push, in_default}

@@ -1,6 +1,5 @@
-use Rattle.std.proofs.Common.{◌≡◌, [], ◌∷◌, ◌++◌, Some, sym, ap, subst, ◌∙◌, rules}
+use Rattle.std.proofs.Common.{◌≡◌, [], ◌∷◌, Some, sym, ap, subst, rules}
 use Rattle.std.proofs.lemmas.Result.{on_ok_weaker, on_err_weaker}
-use Rattle.std.specs.Str.{bytes_eq}
 use Rattle.space.specs.Filing.{births_at, births_or_none}
 use Rattle.space.specs.declared.lists.Lists.{Lists}
 use Rattle.space.proofs.Listed.{Puts, puts, births_added, births_unchanged}

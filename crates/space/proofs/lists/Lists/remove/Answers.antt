@@ -1,4 +1,4 @@
-use Rattle.std.proofs.Common.{◌≡◌, [], None, ◌∙◌}
+use Rattle.std.proofs.Common.{None, ◌∙◌}
 use Rattle.space.specs.declared.lists.Lists.{Lists}
 use Rattle.space.proofs.Listed.{puts, births_forgotten}
 use Rattle.space.proofs.lists.Lists.remove.Goals as goal

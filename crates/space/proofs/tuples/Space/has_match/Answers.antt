@@ -1,4 +1,4 @@
-use Rattle.std.proofs.Common.{Some, None, sym, ◌∙◌}
+use Rattle.std.proofs.Common.{◌∙◌}
 use Rattle.space.proofs.Finding.{some_seen}
 use Rattle.space.proofs.tuples.Space.has_match.Goals as goal
 

@@ -1,4 +1,4 @@
-use Rattle.std.proofs.Common.{◌≡◌, ◌<◌, ◌≤◌, ◌^◌, ◌%◌, refl, ◌++◌, [], ◌∷◌, List, length, sym, ap, subst, ◌∙◌, arith}
+use Rattle.std.proofs.Common.{◌≡◌, ◌<◌, ◌^◌, ◌%◌, refl, ◌++◌, [], ◌∷◌, List, length, sym, ap, subst, ◌∙◌, arith}
 use Rattle.tuple_tree.specs.Values.{TupleTree}
 use Rattle.space.specs.Births.{Entry, with_birth}
 use Rattle.space.specs.Counted.{IsIndexed}

@@ -13,8 +13,14 @@ returns-clause-value g c =
     let h = c.self.invariant.counts.state in
     let p = c.args.template.now in
     c.oldest_match.ensures
-    ∙ ap (λ bs. find (λ (e : Entry). is_match p e.1) (entries_at s.entries bs)) (c.candidates.ensures ∙ sym (ap (candidates_of p) c.self.view_is))
+    ∙ ap (λ bs. find (λ (e : Entry). is_match p e.1) (entries_at s.entries bs)) (c.candidates-births.ensures ∙ sym (ap (candidates_of p) c.self.view_is))
     ∙ found_among s h p ∙ ap (λ (x : SpaceState). find (λ (e : Entry). is_match p e.1) x.entries) c.self.view_is
 
 pub returns-clause-valid : goal.returns-clause-valid
 returns-clause-valid g c = subst IsState c.self.view_is c.self.invariant.counts.state
+
+pub returns-then-are_many-clause-value : goal.returns-then-are_many-clause-value
+returns-then-are_many-clause-value g c = c.oldest_of_all.ensures ∙ ap (λ (x : SpaceState). find (λ (e : Entry). is_match c.args.template.now e.1) x.entries) c.self.view_is
+
+pub returns-then-are_many-clause-valid : goal.returns-then-are_many-clause-valid
+returns-then-are_many-clause-valid g c = subst IsState c.self.view_is c.self.invariant.counts.state

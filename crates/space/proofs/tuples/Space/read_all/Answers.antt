@@ -14,7 +14,12 @@ returns g c =
     let h = c.self.invariant.counts.state in
     let p = c.args.template.now in
     let n = c.args.max.count in
-    ap all (c.in_ok-copies.ensures {u = tt})
+    ap all (c.in_ok-copies-2.ensures {u = tt})
     ∙ ap (λ ts. all (take n ts))
-    (ap (λ bs. filter (is_match p) (map (λ (e : Entry). e.1) (entries_at s.entries bs))) (c.candidates.ensures ∙ sym (ap (candidates_of p) c.self.view_is))
+    (ap (λ bs. filter (is_match p) (map (λ (e : Entry). e.1) (entries_at s.entries bs))) (c.candidates-births.ensures ∙ sym (ap (candidates_of p) c.self.view_is))
     ∙ matches_among s h p ∙ ap (λ (x : SpaceState). filter (is_match p) (tuples_of x)) c.self.view_is)
+
+pub returns-then-are_many : goal.returns-then-are_many
+returns-then-are_many g c =
+    ap all (c.in_ok-copies.ensures {u = tt})
+    ∙ ap (λ ts. all (take c.args.max.count ts)) (ap (λ (x : SpaceState). filter (is_match c.args.template.now) (tuples_of x)) c.self.view_is)

@@ -1,4 +1,4 @@
-use Rattle.std.proofs.Common.{◌≡◌, Some, None, sym, ap, ◌∙◌}
+use Rattle.std.proofs.Common.{None, sym, ap, ◌∙◌}
 use Rattle.space.specs.Applying.{found_or_absent}
 use Rattle.space.proofs.Finding.{first_of, none_taken, one_taken, one_stored}
 use Rattle.space.proofs.tuples.Space.take.Goals as goal

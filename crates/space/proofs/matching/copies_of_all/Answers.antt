@@ -1,0 +1,22 @@
+use Rattle.std.proofs.Common.{◌≡◌, ◌++◌, [], ◌∷◌, ap, sym, ◌∙◌, arith}
+use Rattle.std.specs.Map.Iter.{deref}
+use Rattle.std.proofs.lemmas.List.{length_push}
+use Rattle.std.proofs.lemmas.Map.Iter.{rest_more}
+use Rattle.space.proofs.Among.{copied_first}
+use Rattle.space.proofs.matching.copies_of_all.Goals as goal
+
+pub loop-tuple-preserved-in-Continue-branch-2 : goal.loop-tuple-preserved-in-Continue-branch-2
+loop-tuple-preserved-in-Continue-branch-2 g c =
+    let p = c.args.template.now in
+    let t = c.loop-tuple.tuple-iterator in
+    let u = c.next.new.self in
+    let x = c.in-Some.tuple.now in
+    let next = rest_more deref t u c.next.result c.in-Some.tuple c.in-Some.is c.next.ensures.steps in
+    let n = c.args.max.count in
+    let ys = c.loop-tuple.copies in
+    let pushed : c.push.new.self ≡ ys ++ x ∷ [] = (c.in_ok-push.ensures {u = tt}).ok ∙ ap (λ y. ys ++ y ∷ []) (c.in_ok-copy.ensures {u = tt}) in
+    rw pushed (record {
+      few = omega (arith, length_push ys x);
+      limit = c.loop-tuple.invariant.limit;
+      same = sym (copied_first p t u x next n ys (sym c.matches.ensures.value ∙ c.if-matches.true) (omega arith)) ∙ c.loop-tuple.invariant.same;
+    })
