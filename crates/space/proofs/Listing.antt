@@ -1,34 +1,9 @@
 -- First matches, and lists without them.
-use Rattle.std.proofs.Common.{◌≡◌, ℕ, suc, ◌+◌, ◌-◌, ◌≤◌, ◌<◌, Bool, true, false, not, cond, List, [], ◌∷◌, ◌++◌, length, take, drop, get_or, map, Some, None, option_map, refl, sym, ap, subst, ◌∙◌, arith, append_assoc}
-use Rattle.std.specs.Prelude.{filter, find, position, nat_lt, remove}
+use Rattle.std.proofs.Common.{◌≡◌, ℕ, suc, ◌+◌, ◌≤◌, ◌<◌, Bool, true, false, not, cond, List, [], ◌∷◌, length, get_or, map, Some, None, option_map, refl, sym, ap, subst, arith}
+use Rattle.std.specs.Prelude.{find, position, nat_lt, remove}
 use Rattle.std.specs.List.{position_or_len}
 use Rattle.std.proofs.lemmas.Bool.{ltb-true, ltb-false}
-use Rattle.std.proofs.lemmas.List.{at_drop_more, length_push}
 use Rattle.space.specs.Applying.{without_first}
-
--- The first n matches, gathered from the front.
-module _ {X Y : Type 0} (f : X → Y) (p : Y → Bool) where
-  next_yes : (xs : List X) (i : ℕ) (x : X) → i < length xs → x ≡ get_or xs i x → p (f x) ≡ true
-      → filter p (map f (drop i xs)) ≡ f x ∷ filter p (map f (drop (i + 1) xs))
-  next_yes xs i x l e t =
-      at_drop_more (λ ys. filter p (map f ys)) xs i x l ∙ ap (λ y. filter p (map f (y ∷ drop (i + 1) xs))) (sym e)
-      ∙ ap (λ b. cond b (f x ∷ filter p (map f (drop (i + 1) xs))) (filter p (map f (drop (i + 1) xs)))) t
-
-  pub matches_yes : (xs : List X) (i : ℕ) (x : X) (n : ℕ) (ys : List Y) → i < length xs → x ≡ get_or xs i x → p (f x) ≡ true → length ys < n
-      → ys ++ take (n - length ys) (filter p (map f (drop i xs))) ≡ (ys ++ f x ∷ []) ++ take (n - length (ys ++ f x ∷ [])) (filter p (map f (drop (i + 1) xs)))
-  matches_yes xs i x n ys l e t m =
-      let rest : List Y = filter p (map f (drop (i + 1) xs)) in
-      let left : ℕ = n - length (ys ++ f x ∷ []) in
-      let k : n - length ys ≡ suc left = omega (arith, length_push ys (f x)) in
-      ap (λ zs. ys ++ take (n - length ys) zs) (next_yes xs i x l e t)
-      ∙ ap (λ j. ys ++ take j (f x ∷ rest)) k
-      ∙ sym (append_assoc ys (f x ∷ []) (take left rest))
-
-  pub matches_no : (xs : List X) (i : ℕ) (x : X) → i < length xs → x ≡ get_or xs i x → p (f x) ≡ false
-      → filter p (map f (drop i xs)) ≡ filter p (map f (drop (i + 1) xs))
-  matches_no xs i x l e t =
-      at_drop_more (λ ys. filter p (map f ys)) xs i x l ∙ ap (λ y. filter p (map f (y ∷ drop (i + 1) xs))) (sym e)
-      ∙ ap (λ b. cond b (f x ∷ filter p (map f (drop (i + 1) xs))) (filter p (map f (drop (i + 1) xs)))) t
 
 module _ {X : Type 0} (p : X → Bool) where
   find_passing : (x : X) (xs : List X) → p x ≡ true → find p (x ∷ xs) ≡ Some x

@@ -1,25 +1,13 @@
 -- A birth is put in its place.
-use Rattle.std.proofs.Common.{◌≡◌, ◌≢◌, ℕ, zero, suc, ◌+◌, ◌%◌, ◌≤◌, ◌<◌, true, false, cond, List, [], ◌∷◌, ◌++◌, length, take, drop, get_or, refl, sym, ap, subst, ◌∙◌, arith, inl, inr, eq-eqb, ltb}
+use Rattle.std.proofs.Common.{◌≡◌, ◌≢◌, ℕ, zero, suc, ◌%◌, ◌≤◌, ◌<◌, true, false, cond, List, [], ◌∷◌, ◌++◌, take, drop, get_or, refl, sym, ap, subst, ◌∙◌, arith, inl, inr, eq-eqb}
 use Rattle.std.specs.Prelude.{◌==◌, All, AllPairs, filter, insert}
-use Rattle.std.specs.List.Sorted.{IsPartitionPoint, IsPartitionedBy}
-use Rattle.std.proofs.lemmas.Bool.{cases_eq, ne_eqb, ltb-true, ltb-false, lt-ltb}
-use Rattle.std.proofs.lemmas.List.{take-append-drop, length-take, length-drop, get_or-take, get_or-drop, append-nil}
+use Rattle.std.proofs.lemmas.Bool.{cases_eq, ne_eqb}
+use Rattle.std.proofs.lemmas.List.{take-append-drop, append-nil}
 use Rattle.std.proofs.lemmas.List.Elements.{All-head, All-tail, All-drop, All-get_or, All-weaker, filter-append}
 use Rattle.space.specs.Births.{Entry}
 use Rattle.space.specs.Pages.{on_page}
 use Rattle.space.specs.Reading.{IsPlace, IsAdded}
 use Rattle.space.proofs.Determining.{Rises, Rises-from_pairs, all_from}
-
-pub place_from_point : (es : List Entry) (birth place : ℕ) → place ≤ length es → IsPartitionPoint (λ e. ltb e.0 birth ≡ true) (λ e. ltb e.0 birth ≡ false) es place → IsPlace es birth place
-place_from_point es birth place bound point = record {
-  bound = bound;
-  before = λ k d l.
-      let n : k < place = omega (arith, length-take place es) in
-      subst (λ x. x.0 < birth) (sym (get_or-take place es k d n)) (ltb-true _ _ (point.0 k d (omega arith) n));
-  behind = λ k d l.
-      let n : place + k < length es = omega (arith, length-drop place es) in
-      subst (λ x. birth ≤ x.0) (sym (get_or-drop place es k d)) (ltb-false _ _ (point.1 (place + k) d (omega arith) n));
-}
 
 pub pairs_from_Rises : (from : ℕ) (es : List Entry) → Rises from es → AllPairs (λ e f. e.0 < f.0) es
 pairs_from_Rises from [] h i j d l m = absurd (omega arith)
@@ -85,10 +73,3 @@ module _ (es : List Entry) (e : Entry) (place : ℕ) (rises : AllPairs (λ x y. 
     rising = pairs_from_Rises 0 (take place es ++ e ∷ drop place es) (Rises-insert 0 es place e (Rises-from_pairs 0 es rises (λ k d l. omega arith)) (omega arith) at.before behind);
     pages = page_added;
   }
-
-pub rising_parted : (es : List Entry) (birth : ℕ) → AllPairs (λ e f. e.0 < f.0) es → IsPartitionedBy (λ e. ltb e.0 birth) es
-rising_parted es birth h i j d l m e =
-    elim (cases_eq i j) [
-      | inl same ↦ subst (λ n. ltb (get_or es n d).0 birth ≡ true) (sym same) e
-      | inr other ↦ let p = h i j d (omega arith) m in let q = ltb-true (get_or es j d).0 birth e in lt-ltb (get_or es i d).0 birth (omega arith)
-    ]

@@ -1,9 +1,12 @@
 -- Lists of births by keys of bytes, and the tuples that they lead to.
-use Rattle.std.specs.Prelude.{◌≡◌, ℕ, ◌%◌, Bool, List, [], ◌∷◌, map, filter, Option, Some, None}
+use Rattle.std.specs.Prelude.{◌≡◌, ℕ, ◌%◌, ◌<◌, Bool, List, [], ◌∷◌, ◌++◌, length, map, filter, remove, slice_index_or, All, AllPairs, Option, Some, None, if◌then◌else◌}
 use Rattle.std.specs.Str.{bytes_eq}
 use Rattle.std.specs.HashMap.{get_by}
 use Rattle.tuple_tree.specs.Items.{how_many}
+use Rattle.tuple_tree.specs.Values.{TemplateTree, IsTuple}
+use Rattle.space.specs.Ages.{without}
 use Rattle.space.specs.Births.{Entry}
+use Rattle.space.specs.Candidates.{is_candidate}
 use Rattle.space.specs.Keys.{tuple_key}
 use Rattle.space.specs.declared.lists.Lists.{Lists}
 use Rattle.space.specs.declared.index.Index.{Index}
@@ -37,3 +40,40 @@ pub record IsIndexOf (index : Index) (es : List Entry) : Type 0 where
   pub pages : IsFiled page_key index.pages es
   pub lengths : IsFiled length_key index.lengths es
   pub firsts : IsFiled first_key index.firsts es
+
+-- a birth is listed, the newest one, under a key
+abbrev pub AddsBirth : List ℕ → ℕ → Lists → Lists → Type 0
+AddsBirth key birth old new = (q : List ℕ) → births_at new q ≡ births_at old q ++ (if bytes_eq key q then birth ∷ [] else [])
+
+-- a birth is taken from those of a key, where these rise
+abbrev pub TakesBirth : List ℕ → ℕ → Lists → Lists → Type 0
+TakesBirth key birth old new =
+    AllPairs (λ a b. a < b) (births_at old key)
+    → (q : List ℕ) → births_at new q ≡ (if bytes_eq key q then without birth (births_at old q) else births_at old q)
+
+-- under each key stands what stood there
+abbrev pub KeepsBirths : Lists → Lists → Type 0
+KeepsBirths old new = (q : List ℕ) → births_at new q ≡ births_at old q
+
+-- an index of entries becomes that of these and a newest one
+abbrev pub Files : Entry → Index → Index → Type 0
+Files e old new = (es : List Entry) → IsIndexOf old es → IsIndexOf new (es ++ e ∷ [])
+
+-- an index of entries older than a birth stays one of them
+abbrev pub FilesNothing : ℕ → Index → Index → Type 0
+FilesNothing birth old new =
+    (es : List Entry) → AllPairs (λ e f. e.0 < f.0) es → All (λ e. e.0 < birth) es → IsIndexOf old es → IsIndexOf new es
+
+-- an index of entries becomes that of these without one of them
+abbrev pub Unfiles : Entry → Index → Index → Type 0
+Unfiles e old new =
+    (es : List Entry) (i : ℕ) → AllPairs (λ e f. e.0 < f.0) es → i < length es → e ≡ slice_index_or es i e
+    → IsIndexOf old es → IsIndexOf new (remove es i)
+
+-- the births of a page
+abbrev pub births_on : ℕ → List Entry → List ℕ
+births_on page es = births_by (λ e. bytes_eq (page_key e) (page ∷ [])) es
+
+-- these births are those of the tuples that the template may match
+abbrev pub AreCandidates : TemplateTree → List ℕ → List Entry → Type 0
+AreCandidates p births es = All (λ e. IsTuple e.1) es → births ≡ births_by (λ e. is_candidate p e.1) es

@@ -1,12 +1,9 @@
 //! Where the tuples of a page, of a number of fields, and of a first value are found.
 
-ghost use Rattle.std.specs.Prelude.{◌≡◌, ◌<◌, ◌%◌, ◌++◌, ◌∷◌, [], List, ℕ, length, remove, slice_index_or, All, AllPairs, OnOk, OnErr, IfOk};
+ghost use Rattle.std.specs.Prelude.{◌≡◌, ◌<◌, ◌%◌, [], List, OnOk, OnErr, IfOk};
 ghost use Rattle.tuple_tree.specs.Items.{how_many};
-ghost use Rattle.tuple_tree.specs.Values.{IsTuple};
 ghost use Rattle.space.specs.Births.{Entry};
-ghost use Rattle.space.specs.Candidates.{is_candidate};
-ghost use Rattle.space.specs.Filing.{births_by, page_key, IsIndexOf};
-ghost use Rattle.std.specs.Str.{bytes_eq};
+ghost use Rattle.space.specs.Filing.{births_on, IsIndexOf, Files, FilesNothing, Unfiles, AreCandidates};
 
 use crate::births::PAGES;
 use crate::keys::{key_of_template, key_of_tuple};
@@ -48,8 +45,8 @@ impl Index {
 
     /// Adds the newest tuple. An `Err` changes nothing.
     pub fn add(&mut self, birth: u64, tuple: &Tuple<Global>) -> Result<(), NoMemory>
-        ensures ok { OnOk result ((es : List Entry) → IsIndexOf self.old es → IsIndexOf self.new (es ++ (birth, tuple.now) ∷ [])) }
-        ensures err { OnErr result ((es : List Entry) → AllPairs (λ e f. e.0 < f.0) es → All (λ e. e.0 < birth) es → IsIndexOf self.old es → IsIndexOf self.new es) }
+        ensures ok { OnOk result (Files (birth, tuple.now) self.old self.new) }
+        ensures err { OnErr result (FilesNothing birth self.old self.new) }
     {
         let page = [page_of(birth)];
         self.pages.add(&page, birth)?;
@@ -69,7 +66,7 @@ impl Index {
 
     /// Takes a tuple.
     pub fn remove(&mut self, birth: u64, tuple: &Tuple<Global>)
-        ensures { (es : List Entry) (i : ℕ) → AllPairs (λ e f. e.0 < f.0) es → i < length es → (birth, tuple.now) ≡ slice_index_or es i (birth, tuple.now) → IsIndexOf self.old es → IsIndexOf self.new (remove es i) }
+        ensures { Unfiles (birth, tuple.now) self.old self.new }
     {
         let page = [page_of(birth)];
         self.pages.remove(&page, birth);
@@ -82,7 +79,7 @@ impl Index {
     /// The births of a page, 0 to 255.
     pub fn on_page(&self, page: usize) -> &[u64]
         requires { page < PAGES }
-        ensures { (es : List Entry) → IsIndexOf self.now es → result.now ≡ births_by (λ e. bytes_eq (page_key e) (page ∷ [])) es }
+        ensures { (es : List Entry) → IsIndexOf self.now es → result.now ≡ births_on page es }
     {
         let key = [page as u8];
         self.pages.get(&key)
@@ -91,7 +88,7 @@ impl Index {
     /// The births of the tuples that a template may match: those of its length and of its first value, where its first
     /// field is an actual.
     pub fn candidates<A: Allocator>(&self, template: &Template<A>) -> &[u64]
-        ensures { (es : List Entry) → All (λ e. IsTuple e.1) es → IsIndexOf self.now es → result.now ≡ births_by (λ e. is_candidate template.now e.1) es }
+        ensures { (es : List Entry) → IsIndexOf self.now es → AreCandidates template.now result.now es }
     {
         match key_of_template(template) {
             Some(key) => self.firsts.get(key.as_slice()),

@@ -1,9 +1,7 @@
 //! Lists of births by keys of bytes.
 
-ghost use Rattle.std.specs.Prelude.{◌≡◌, ◌<◌, ◌++◌, ◌∷◌, [], ℕ, List, AllPairs, OnOk, OnErr, IsTrue, if◌then◌else◌};
-ghost use Rattle.std.specs.Str.{bytes_eq};
-ghost use Rattle.space.specs.Ages.{without};
-ghost use Rattle.space.specs.Filing.{births_at};
+ghost use Rattle.std.specs.Prelude.{◌≡◌, [], ℕ, List, OnOk, OnErr, IsTrue};
+ghost use Rattle.space.specs.Filing.{births_at, AddsBirth, TakesBirth, KeepsBirths};
 
 use crate::birth_list::BirthList;
 use std::alloc::Global;
@@ -40,8 +38,8 @@ impl Lists {
 
     /// Adds a birth, the newest one. An `Err` changes nothing.
     pub fn add(&mut self, key: &[u8], birth: u64) -> Result<(), NoMemory>
-        ensures ok { OnOk result ((q : List ℕ) → births_at self.new q ≡ births_at self.old q ++ (if bytes_eq key.now q then birth ∷ [] else [])) }
-        ensures err { OnErr result ((q : List ℕ) → births_at self.new q ≡ births_at self.old q) }
+        ensures ok { OnOk result (AddsBirth key.now birth self.old self.new) }
+        ensures err { OnErr result (KeepsBirths self.old self.new) }
     {
         if let Some(births) = self.lists.get_mut(key) {
             return births.push(birth);
@@ -56,7 +54,7 @@ impl Lists {
 
     /// Takes a birth from those of a key.
     pub fn remove(&mut self, key: &[u8], birth: u64)
-        ensures { AllPairs (λ a b. a < b) (births_at self.old key.now) → (q : List ℕ) → births_at self.new q ≡ (if bytes_eq key.now q then without birth (births_at self.old q) else births_at self.old q) }
+        ensures { TakesBirth key.now birth self.old self.new }
     {
         if self.take(key, birth) {
             self.lists.remove(key);
@@ -65,7 +63,7 @@ impl Lists {
 
     // Takes a birth, and says whether it was the only one.
     fn take(&mut self, key: &[u8], birth: u64) -> bool
-        ensures taken { AllPairs (λ a b. a < b) (births_at self.old key.now) → (q : List ℕ) → births_at self.new q ≡ (if bytes_eq key.now q then without birth (births_at self.old q) else births_at self.old q) }
+        ensures taken { TakesBirth key.now birth self.old self.new }
         ensures emptied { IsTrue result → births_at self.new key.now ≡ [] }
     {
         match self.lists.get_mut(key) {

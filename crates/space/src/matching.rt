@@ -1,8 +1,7 @@
 //! Matches among stored tuples.
 
-ghost use Rattle.std.specs.Prelude.{◌≡◌, find, map, take, filter, option_map, IfOk};
-ghost use Rattle.template_match.specs.Tests.{is_match};
-ghost use Rattle.space.specs.Found.{found_at, entries_at};
+ghost use Rattle.std.specs.Prelude.{◌≡◌, take, option_map, IfOk};
+ghost use Rattle.space.specs.Found.{found_at, entries_at, oldest_in, matches_in};
 
 use std::alloc::{Allocator, Global};
 use std::collections::BTreeMap;
@@ -16,7 +15,7 @@ fn match_at<'a, A: Allocator>(
     birth: u64,
     template: &Template<A>,
 ) -> Option<&'a Tuple<Global>>
-    ensures { option_map (λ t. (birth, t.now)) result ≡ find (λ e. is_match template.now e.1) (found_at tuples.now.entries birth) }
+    ensures { option_map (λ t. (birth, t.now)) result ≡ oldest_in template.now (found_at tuples.now.entries birth) }
 {
     match tuples.get(&birth) {
         Some(tuple) => {
@@ -36,7 +35,7 @@ pub fn oldest_match<'a, A: Allocator>(
     births: &[u64],
     template: &Template<A>,
 ) -> Option<(u64, &'a Tuple<Global>)>
-    ensures { option_map (λ x. (x.0, x.1.now)) result ≡ find (λ e. is_match template.now e.1) (entries_at tuples.now.entries births.now) }
+    ensures { option_map (λ x. (x.0, x.1.now)) result ≡ oldest_in template.now (entries_at tuples.now.entries births.now) }
 {
     for birth in births {
         if let Some(tuple) = match_at(tuples, *birth, template) {
@@ -54,7 +53,7 @@ pub fn copies_of_matches<A: Allocator>(
     template: &Template<A>,
     max: Max,
 ) -> Result<Tuples<Global>, NoMemory>
-    ensures { IfOk result (λ copies. copies ≡ take max.count (filter (is_match template.now) (map (λ e. e.1) (entries_at tuples.now.entries births.now)))) }
+    ensures { IfOk result (λ copies. copies ≡ take max.count (matches_in template.now (entries_at tuples.now.entries births.now))) }
 {
     let mut copies = Tuples::new_in(alloc);
     for birth in births {
@@ -74,7 +73,7 @@ pub fn oldest_of_all<'a, A: Allocator>(
     tuples: &'a BTreeMap<u64, Tuple<Global>>,
     template: &Template<A>,
 ) -> Option<(u64, &'a Tuple<Global>)>
-    ensures { option_map (λ x. (x.0, x.1.now)) result ≡ find (λ e. is_match template.now e.1) tuples.now.entries }
+    ensures { option_map (λ x. (x.0, x.1.now)) result ≡ oldest_in template.now tuples.now.entries }
 {
     for (birth, tuple) in tuples {
         if matches(template, tuple) {
@@ -91,7 +90,7 @@ pub fn copies_of_all<A: Allocator>(
     template: &Template<A>,
     max: Max,
 ) -> Result<Tuples<Global>, NoMemory>
-    ensures { IfOk result (λ copies. copies ≡ take max.count (filter (is_match template.now) (map (λ e. e.1) tuples.now.entries))) }
+    ensures { IfOk result (λ copies. copies ≡ take max.count (matches_in template.now tuples.now.entries)) }
 {
     let mut copies = Tuples::new_in(alloc);
     for tuple in tuples.values() {

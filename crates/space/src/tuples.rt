@@ -1,17 +1,18 @@
 //! The space and its operations.
 
-ghost use Rattle.std.specs.Prelude.{◌≡◌, ◌+◌, ◌%◌, ◌^◌, ◌<◌, ◌≤◌, false, length, find, option_map, is_some, OnOk, OnErr, IfOk, IfErr, IfSome, MatchResult, IsTrue, ◌↔◌, ℕ, map};
+ghost use Rattle.std.specs.Prelude.{◌≡◌, ◌+◌, ◌%◌, ◌^◌, ◌<◌, ◌≤◌, false, length, option_map, is_some, OnOk, OnErr, IfOk, IfErr, IfSome, MatchResult, IsTrue, ◌↔◌, ℕ, map};
 ghost use Rattle.std.specs.Ordering.{nat_cmp};
 ghost use Rattle.std.specs.Map.{lookup, remove_entry};
 ghost use Rattle.std.specs.BTreeMap.{is_at};
 ghost use Rattle.tuple_tree.specs.Values.{IsTuple};
 ghost use Rattle.tuple_codec.specs.Operations.{cas, rd_all};
-ghost use Rattle.template_match.specs.Tests.{is_match};
 ghost use Rattle.tuple_codec.specs.OperationView.{operation_of, outcome_of};
 ghost use Rattle.space.specs.Candidates.{candidates_of};
 ghost use Rattle.space.specs.Applying.{outcome, tuples_after, first_match, found_or_absent, has_room, is_read_only};
 ghost use Rattle.space.specs.Pages.{page_text, header_text, ArePages};
 ghost use Rattle.space.specs.Reading.{ArePagesOf};
+ghost use Rattle.space.specs.Found.{oldest_in};
+ghost use Rattle.space.specs.Watching.{KeepsPage};
 ghost use Rattle.space.specs.Births.{SpaceState, IsState, empty_state, birth_of, tuples_of, state_after, with_birth, with_tuple, without_match};
 
 use crate::births::{PAGES, empty_pages, next_birth};
@@ -215,8 +216,8 @@ impl Space {
         Ok(true)
     }
 
-    /// The births, the oldest first, of the stored tuples that have as many values as the template has fields and, where
-    /// its first field is an actual, that first value. Takes no memory.
+    /// The births, the oldest first, of the stored tuples that have as many values as the template has fields and,
+    /// where its first field is an actual, that first value. Takes no memory.
     pub fn candidates<A: Allocator>(&self, template: &Template<A>) -> &[u64]
         ensures { result.now ≡ candidates_of template.now self.now }
     {
@@ -229,7 +230,7 @@ impl Space {
     }
 
     fn oldest_match<A: Allocator>(&self, template: &Template<A>) -> Option<(u64, &Tuple<Global>)>
-        ensures value { option_map (λ x. (x.0, x.1.now)) result ≡ find (λ e. is_match template.now e.1) self.now.entries }
+        ensures value { option_map (λ x. (x.0, x.1.now)) result ≡ oldest_in template.now self.now.entries }
         ensures valid { IsState self.now }
     {
         let births = self.candidates(template);
@@ -242,7 +243,7 @@ impl Space {
     // Takes the tuple of this birth.
     fn remove(&mut self, birth: u64) -> Option<Tuple<Global>>
         ensures value { result ≡ lookup (is_at (nat_cmp birth)) self.old.entries }
-        ensures state { self.new ≡ record { entries = remove_entry (is_at (nat_cmp birth)) self.old.entries; next = self.old.next } }
+        ensures state { self.new ≡ record self.old { entries = remove_entry (is_at (nat_cmp birth)) self.old.entries } }
     {
         match self.tuples.remove(&birth) {
             Some(tuple) => {
@@ -343,7 +344,7 @@ impl Space {
     pub(crate) fn page_changed_by<A: Allocator>(&self, op: &Op<A>) -> Option<usize>
         requires { self.now.next < 2 ^ 62 }
         ensures bound { IfSome result (λ page. page < 256) }
-        ensures others { (page : ℕ) → ¬ (result ≡ Some page) → page_text (state_after self.now (operation_of op.now)) page ≡ page_text self.now page }
+        ensures others { (page : ℕ) → ¬ (result ≡ Some page) → KeepsPage self.now (operation_of op.now) page }
     {
         match op {
             Op::Out(_) => Some(self.next_page()),

@@ -49,8 +49,8 @@ impl Watched {
         &self.space
     }
 
-    /// Applies an operation as [`Space::apply`] does. Each page whose text changes is touched afterwards. An `Err` leaves
-    /// the space as it was.
+    /// Applies an operation as [`Space::apply`] does. Each page whose text changes is touched afterwards. An `Err`
+    /// leaves the space as it was.
     pub fn apply<A: Allocator>(&mut self, op: &Op<A>) -> Result<Answer<Global>, NoMemory>
         requires { self.old.state.next < 2 ^ 62 }
         ensures answer { IfOk result (λ a. outcome_of a ≡ outcome (tuples_of self.old.state) (operation_of op.now)) }
@@ -67,7 +67,8 @@ impl Watched {
         result
     }
 
-    /// Whether the text of page `page`, 0 to 255, may differ from that at the last [`Watched::untouch`]. Takes no memory.
+    /// Whether the text of page `page`, 0 to 255, may differ from that at the last [`Watched::untouch`]. Takes no
+    /// memory.
     pub fn touched(&self, page: usize) -> bool
         requires { page < PAGES }
         ensures { result ≡ is_touched self.now page }
