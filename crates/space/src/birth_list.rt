@@ -67,16 +67,32 @@ impl BirthList {
         self.remove_at(place);
     }
 
-    // Takes the birth at this place.
+    // Takes the birth at this place. The shorter side moves.
     fn remove_at(&mut self, place: usize)
         requires { place < length self.old }
         ensures { self.new ≡ remove self.old place }
     {
-        if place > 0 {
+        if place >= self.as_slice().len() / 2 {
             self.births.remove(self.taken + place);
-            return;
+        } else {
+            self.move_up(place);
+            self.trim();
         }
+    }
+
+    // Moves the births before this place up over the one there.
+    fn move_up(&mut self, place: usize)
+        requires { place < length self.old }
+        ensures { self.new ≡ remove self.old place }
+    {
+        self.births[self.taken..self.taken + place + 1].rotate_right(1);
         self.taken += 1;
+    }
+
+    // Drops the places of those that were taken once these are more than half of all.
+    fn trim(&mut self)
+        ensures { self.new ≡ self.old }
+    {
         if self.taken > self.births.len() / 2 {
             self.births.drain(..self.taken);
             self.taken = 0;
