@@ -1,11 +1,10 @@
 -- Births in order of age, without one of them.
-use Rattle.std.proofs.Common.{◌≡◌, ◌≢◌, ℕ, zero, suc, ◌+◌, ◌<◌, true, false, cond, List, [], ◌∷◌, ◌++◌, length, drop, get_or, refl, sym, ap, subst, ◌∙◌, arith, inl, inr, eq-eqb, ltb}
+use Rattle.std.proofs.Common.{◌≡◌, ◌≢◌, ℕ, zero, suc, ◌+◌, ◌-◌, ◌<◌, true, false, cond, List, [], ◌∷◌, ◌++◌, length, drop, take, append_assoc, get_or, refl, sym, ap, subst, ◌∙◌, arith, inl, inr, eq-eqb, ltb}
 use Rattle.std.specs.Prelude.{◌==◌, All, AllPairs, remove}
 use Rattle.std.specs.List.Sorted.{IsPartitionPoint, IsPartitionedBy}
 use Rattle.std.proofs.lemmas.Bool.{cases_eq, cases_lt, ne_eqb, ltb-true, ltb-false, lt-ltb}
 use Rattle.std.proofs.lemmas.List.Elements.{All-head, All-tail}
-use Rattle.std.proofs.lemmas.List.{drop-drop, drop-take, drop_at, length-append, length-drop, length-take, length-take-le, take-take}
-use Rattle.std.proofs.Common.{take, append_assoc, ◌-◌}
+use Rattle.std.proofs.lemmas.List.{drop-drop, drop_at, length-drop, length-take, length-take-le, take-take}
 use borrow.Rule.Slice.PartMut.{mid_of, put_mid}
 use Rattle.space.specs.Ages.{without}
 
@@ -25,14 +24,6 @@ without-none [] b h = refl
 without-none (x ∷ xs) b h =
     ap (λ t. cond t xs (x ∷ without b xs)) (ne_eqb x b (All-head (λ y. y ≢ b) x xs h))
     ∙ ap (λ ys. x ∷ ys) (without-none xs b (All-tail (λ y. y ≢ b) x xs h))
-
--- the newest birth is taken again
-pub without-last : (xs : List ℕ) (b : ℕ) → All (λ x. x < b) xs → without b (xs ++ b ∷ []) ≡ xs
-without-last [] b h = ap (λ t. cond t [] (b ∷ [])) (eq-eqb b b refl)
-without-last (x ∷ xs) b h =
-    let l = All-head (λ y. y < b) x xs h in
-    ap (λ t. cond t (xs ++ b ∷ []) (x ∷ without b (xs ++ b ∷ []))) (ne_eqb x b (λ same. omega arith))
-    ∙ ap (λ ys. x ∷ ys) (without-last xs b (All-tail (λ y. y < b) x xs h))
 
 -- a birth that isn't at its place is nowhere
 pub absent : (xs : List ℕ) (b place : ℕ) → AllPairs (λ a b. a < b) xs → IsPartitionPoint (λ x. ltb x b ≡ true) (λ x. ltb x b ≡ false) xs place

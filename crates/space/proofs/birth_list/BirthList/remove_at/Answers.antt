@@ -1,4 +1,4 @@
-use Rattle.std.proofs.Common.{◌≡◌, ◌<◌, ◌+◌, drop, length, refl, subst, sym, ap, ◌∙◌, arith}
+use Rattle.std.proofs.Common.{◌<◌, ◌+◌, drop, length, refl, subst, sym, ap, ◌∙◌, arith}
 use Rattle.std.proofs.lemmas.List.{length-drop}
 use Rattle.std.specs.Prelude.{remove}
 use Rattle.space.proofs.Ages.{drop-remove}
@@ -8,6 +8,7 @@ pub returns-then-place-as_slice : goal.returns-then-place-as_slice
 returns-then-place-as_slice c =
     let xs = c.self.inside.births.items in
     let a = c.self.inside.taken in
-    let within = subst (λ s. c.args.place < length s) (sym c.self.view_is) c.requires in
-    let l : a + c.args.place < length xs = omega (arith, length-drop a xs) in
-    ap (drop a) c.remove.ensures.items ∙ drop-remove xs a c.args.place (a + c.args.place) refl l ∙ ap (λ s. remove s c.args.place) c.self.view_is
+    let p = c.args.place in
+    let within = subst (λ s. p < length s.births) (sym c.self.view_is) c.requires in
+    let l : a + p < length xs = omega (arith, length-drop a xs) in
+    ap (drop a) c.remove.ensures.items ∙ drop-remove xs a p (a + p) refl l ∙ ap (λ s. remove s.births p) c.self.view_is
