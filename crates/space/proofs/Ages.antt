@@ -1,9 +1,11 @@
 -- Births in order of age, without one of them.
-use Rattle.std.proofs.Common.{◌≡◌, ◌≢◌, ℕ, zero, suc, ◌+◌, ◌<◌, true, false, cond, List, [], ◌∷◌, ◌++◌, length, drop, get_or, refl, sym, ap, subst, ◌∙◌, arith, inl, inr, eq-eqb, ltb}
+use Rattle.std.proofs.Common.{◌≡◌, ◌≢◌, ℕ, zero, suc, ◌+◌, ◌-◌, ◌<◌, true, false, cond, List, [], ◌∷◌, ◌++◌, length, drop, take, append_assoc, get_or, refl, sym, ap, subst, ◌∙◌, arith, inl, inr, eq-eqb, ltb}
 use Rattle.std.specs.Prelude.{◌==◌, All, AllPairs, remove}
 use Rattle.std.specs.List.Sorted.{IsPartitionPoint, IsPartitionedBy}
 use Rattle.std.proofs.lemmas.Bool.{cases_eq, cases_lt, ne_eqb, ltb-true, ltb-false, lt-ltb}
 use Rattle.std.proofs.lemmas.List.Elements.{All-head, All-tail}
+use Rattle.std.proofs.lemmas.List.{drop-drop, drop_at, length-drop, length-take, length-take-le, take-take}
+use borrow.Rule.Slice.PartMut.{mid_of, put_mid}
 use Rattle.space.specs.Ages.{without}
 
 -- the birth at a place is taken
@@ -22,14 +24,6 @@ without-none [] b h = refl
 without-none (x ∷ xs) b h =
     ap (λ t. cond t xs (x ∷ without b xs)) (ne_eqb x b (All-head (λ y. y ≢ b) x xs h))
     ∙ ap (λ ys. x ∷ ys) (without-none xs b (All-tail (λ y. y ≢ b) x xs h))
-
--- the newest birth is taken again
-pub without-last : (xs : List ℕ) (b : ℕ) → All (λ x. x < b) xs → without b (xs ++ b ∷ []) ≡ xs
-without-last [] b h = ap (λ t. cond t [] (b ∷ [])) (eq-eqb b b refl)
-without-last (x ∷ xs) b h =
-    let l = All-head (λ y. y < b) x xs h in
-    ap (λ t. cond t (xs ++ b ∷ []) (x ∷ without b (xs ++ b ∷ []))) (ne_eqb x b (λ same. omega arith))
-    ∙ ap (λ ys. x ∷ ys) (without-last xs b (All-tail (λ y. y < b) x xs h))
 
 -- a birth that isn't at its place is nowhere
 pub absent : (xs : List ℕ) (b place : ℕ) → AllPairs (λ a b. a < b) xs → IsPartitionPoint (λ x. ltb x b ≡ true) (λ x. ltb x b ≡ false) xs place
@@ -61,7 +55,27 @@ drop-remove [] (suc a) p n e l = absurd (omega arith)
 drop-remove (x ∷ xs) (suc a) p zero e l = absurd (omega arith)
 drop-remove (x ∷ xs) (suc a) p (suc n) e l = drop-remove xs a p n (omega arith) (omega arith)
 
-pub drop-one : (xs : List ℕ) (a : ℕ) → a < length xs → drop (suc a) xs ≡ remove (drop a xs) 0
-drop-one [] a l = absurd (omega arith)
-drop-one (x ∷ xs) zero l = refl
-drop-one (x ∷ xs) (suc a) l = drop-one xs a (omega arith)
+remove-parts : (xs : List ℕ) (p : ℕ) → p < length xs → take p xs ++ drop (suc p) xs ≡ remove xs p
+remove-parts [] p l = absurd (omega arith)
+remove-parts (x ∷ xs) zero l = refl
+remove-parts (x ∷ xs) (suc p) l = ap (λ ys. x ∷ ys) (remove-parts xs p (omega arith))
+
+-- after `xs[a..a + k].rotate_right(1)`, which brings the last one of the part to its front
+pub drop-rotated : (xs ys : List ℕ) (a p k : ℕ) → k ≡ p + 1 → a + p < length xs
+    → (let part = mid_of a k xs in ys ≡ drop (length part - 1) part ++ take (length part - 1) part)
+    → drop (a + 1) (put_mid a k xs ys) ≡ remove (drop a xs) p
+drop-rotated xs ys a p k e l turned =
+    let rest = drop a xs in
+    let part = take k rest in
+    let long : length rest ≡ length xs - a = length-drop a xs in
+    let size : length part ≡ p + 1 = omega (arith, length-take k rest) in
+    let last : length part - 1 ≡ p = omega arith in
+    let one : length (drop p part) ≡ 1 = omega (arith, length-drop p part) in
+    let front : take p part ≡ take p rest = take-take p k rest (omega arith) in
+    let whole : put_mid a k xs ys ≡ take a xs ++ (drop p part ++ (take p rest ++ drop k rest)) =
+    ap (λ l. take a xs ++ (l ++ drop k rest)) (turned ∙ ap (λ n. drop n part ++ take n part) last)
+    ∙ ap (λ l. take a xs ++ l) (append_assoc (drop p part) _ _ ∙ ap (λ l. drop p part ++ (l ++ drop k rest)) front) in
+    let past : drop a (put_mid a k xs ys) ≡ drop p part ++ (take p rest ++ drop k rest) =
+    ap (drop a) whole ∙ drop_at (take a xs) _ a (length-take-le a xs (omega arith)) in
+    sym (drop-drop 1 a _) ∙ ap (drop 1) past ∙ drop_at (drop p part) _ 1 one
+    ∙ ap (λ n. take p rest ++ drop n rest) (let n : k ≡ suc p = omega arith in n) ∙ remove-parts rest p (omega arith)

@@ -1,5 +1,5 @@
 -- Lists of births by keys follow the entries.
-use Rattle.std.proofs.Common.{◌≡◌, ◌≢◌, ℕ, zero, suc, ◌<◌, Bool, true, false, cond, List, [], ◌∷◌, ◌++◌, length, get_or, map, Some, refl, sym, ap, subst, ◌∙◌, arith, eq-eqb, append-nil}
+use Rattle.std.proofs.Common.{◌≡◌, ◌≢◌, ℕ, zero, suc, ◌<◌, Bool, true, false, cond, List, [], ◌∷◌, ◌++◌, length, get_or, map, Some, refl, sym, ap, subst, ◌∙◌, arith, eq-eqb}
 use Rattle.std.specs.Prelude.{◌==◌, All, AllPairs, filter, find, remove, nat_lt, option_to_list}
 use Rattle.std.specs.Str.{bytes_eq}
 use Rattle.std.specs.Ordering.{nat_cmp, is_eq}
@@ -11,7 +11,6 @@ use Rattle.std.proofs.lemmas.List.{length-map, map-append, get_or-map}
 use Rattle.std.proofs.lemmas.List.Concat.{flat_map-cons}
 use Rattle.std.proofs.lemmas.List.Elements.{All-head, All-tail, All-cons, All-nil, All-map, All-filter, filter-append}
 use Rattle.std.proofs.lemmas.List.Kept.{AllPairs-filter}
-use Rattle.std.proofs.lemmas.List.Quantifiers.{all_pairs_push}
 use Rattle.tuple_tree.specs.Items.{none}
 use Rattle.tuple_tree.specs.Values.{TupleTree}
 use Rattle.space.specs.Ages.{without}
@@ -19,7 +18,6 @@ use Rattle.space.specs.Births.{Entry}
 use Rattle.space.specs.Filing.{births_at, births_by, IsFiled}
 use Rattle.space.specs.Found.{found_at, entries_at}
 use Rattle.space.specs.declared.lists.Lists.{Lists}
-use Rattle.space.proofs.Ages.{without-last}
 
 -- ---- the births of the entries that pass a test
 
@@ -103,27 +101,6 @@ module _ (key_of : Entry → List ℕ) (old : Lists) (es : List Entry) (filed : 
       h (filed_rising key rising) q ∙ ap (λ xs. cond (bytes_eq key q) (without e.0 xs) xs) (filed q)
       ∙ ap (λ k. cond (bytes_eq k q) (without e.0 (births_by (λ x. bytes_eq (key_of x) q) es)) (births_by (λ x. bytes_eq (key_of x) q) es)) is
       ∙ sym (births_by-remove (λ x. bytes_eq (key_of x) q) es i e rising within here)
-
-  -- a birth is added and taken again
-  pub IsFiled-undone : (mid new : Lists) (birth : ℕ) (key : List ℕ) → AllPairs (λ e f. e.0 < f.0) es → All (λ e. e.0 < birth) es
-      → ((q : List ℕ) → births_at mid q ≡ births_at old q ++ cond (bytes_eq key q) (birth ∷ []) [])
-      → (AllPairs (λ a b. a < b) (births_at mid key) → (q : List ℕ) → births_at new q ≡ cond (bytes_eq key q) (without birth (births_at mid q)) (births_at mid q))
-      → IsFiled key_of new es
-  IsFiled-undone mid new birth key rising newest h k q =
-      k (subst (AllPairs (λ a b. a < b)) (sym (h key)) (pairs (bytes_eq key key))) q
-      ∙ ap (λ xs. cond (bytes_eq key q) (without birth xs) xs) (h q)
-      ∙ back (bytes_eq key q) ∙ filed q
-    where
-      below : (p : List ℕ) → All (λ x. x < birth) (births_at old p)
-      below p = subst (All (λ x. x < birth)) (sym (filed p)) (All-births (λ e. bytes_eq (key_of e) p) (λ x. x < birth) es newest)
-
-      pairs : (b : Bool) → AllPairs (λ a b. a < b) (births_at old key ++ cond b (birth ∷ []) [])
-      pairs true = all_pairs_push (λ a b. a < b) (births_at old key) birth (filed_rising key rising) (below key)
-      pairs false = subst (AllPairs (λ a b. a < b)) (sym (append-nil (births_at old key))) (filed_rising key rising)
-
-      back : (b : Bool) → cond b (without birth (births_at old q ++ cond b (birth ∷ []) [])) (births_at old q ++ cond b (birth ∷ []) []) ≡ births_at old q
-      back true = without-last (births_at old q) birth (below q)
-      back false = append-nil (births_at old q)
 
 -- ---- from births back to entries
 

@@ -6,8 +6,6 @@ use Rattle.std.specs.Str.{bytes_eq}
 use Rattle.std.specs.Map.{lookup, remove_entry}
 use Rattle.std.specs.BTreeMap.{is_at, insert_entry}
 use Rattle.std.proofs.lemmas.Bool.{cases_eq}
-use Rattle.std.proofs.lemmas.List.{get_or_at, length_push}
-use Rattle.std.proofs.lemmas.List.Quantifiers.{all_pairs_push}
 use Rattle.std.proofs.lemmas.List.Elements.{All-weaker}
 use Rattle.tuple_tree.specs.Values.{TupleTree, TemplateTree, IsTuple}
 use Rattle.template_match.specs.Tests.{is_match}
@@ -114,7 +112,7 @@ module _ (es : List Entry) (next : ℕ) (counts : List ℕ) (index : Index) (h :
 -- ---- a tuple is added
 
 module _ (es : List Entry) (next : ℕ) (counts : List ℕ) (index : Index) (h : IsIndexed es next counts index) (b : ℕ) (newest : next ≤ b) where
-  pub all_older : All (λ e. e.0 < b) es
+  all_older : All (λ e. e.0 < b) es
   all_older = All-weaker (λ e. e.0 < next) (λ e. e.0 < b) (λ e l. omega arith) es h.counts.state.below_next
 
   pub IsIndexed-added : (t : TupleTree) (items : List Entry) (new : Index) → length counts ≡ 256 → IsTuple t → length es < 8192
@@ -135,17 +133,3 @@ module _ (es : List Entry) (next : ℕ) (counts : List ℕ) (index : Index) (h :
       let same : b ≡ birth_of s = is ∙ birth_by_counts es next counts h.counts s refl in
       ap (λ (xs : List Entry). record { entries = xs; next = b + 1 }) (put ∙ inserted_last es b t all_older)
       ∙ ap (λ (n : ℕ). record { entries = es ++ (n, t) ∷ []; next = n + 1 }) same
-
-  -- it is taken again where memory ran out
-  pub IsIndexed-undone : (t : TupleTree) (mid new : Index)
-      → ((fs : List Entry) → IsIndexOf index fs → IsIndexOf mid (fs ++ (b, t) ∷ []))
-      → ((fs : List Entry) (i : ℕ) → AllPairs (λ e f. e.0 < f.0) fs → i < length fs → (b, t) ≡ get_or fs i (b, t) → IsIndexOf mid fs → IsIndexOf new (remove fs i))
-      → IsIndexOf new es
-  IsIndexed-undone t mid new added taken = subst (IsIndexOf new) (remove_last es) (taken (es ++ (b, t) ∷ []) (length es) rises (omega (arith, length_push es (b, t))) (sym (get_or_at es (b, t) [] (b, t) (length es) refl)) (added es h.indexed))
-    where
-      rises : AllPairs (λ e f. e.0 < f.0) (es ++ (b, t) ∷ [])
-      rises = all_pairs_push (λ e f. e.0 < f.0) es (b, t) h.counts.state.rising all_older
-
-      remove_last : (xs : List Entry) → remove (xs ++ (b, t) ∷ []) (length xs) ≡ xs
-      remove_last [] = refl
-      remove_last (x ∷ xs) = ap (λ ys. x ∷ ys) (remove_last xs)

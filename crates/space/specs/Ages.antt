@@ -1,7 +1,18 @@
 -- Births in order of age.
-use Rattle.std.specs.Prelude.{ℕ, ◌==◌, List}
+use Rattle.std.specs.Prelude.{ℕ, ◌==◌, List, refl}
+use Rattle.std.specs.Coded.{Coded, code_by, coded×, coded_list, coded_ℕ}
 use Rattle.space.specs.Applying.{without_first}
 
 -- the births without this one
 abbrev pub without : ℕ → List ℕ → List ℕ
 without birth births = without_first (λ other. other == birth) births
+
+-- births, the oldest first, and how many more fit behind them
+pub record ListedBirths : Type 0 where
+  pub births : List ℕ
+  pub room : ℕ
+
+-- listed births as the pair of their fields
+abbrev pub listed_code : Coded ListedBirths
+listed_code =
+    code_by (List ℕ × ℕ) (coded× (coded_list coded_ℕ) coded_ℕ) (λ l. (l.births, l.room)) (λ p. record { births = p.0; room = p.1 }) (λ _. refl)

@@ -4,20 +4,28 @@ use Rattle.std.specs.Str.{bytes_eq}
 use Rattle.std.specs.HashMap.{get_by}
 use Rattle.tuple_tree.specs.Items.{how_many}
 use Rattle.tuple_tree.specs.Values.{TemplateTree, IsTuple}
-use Rattle.space.specs.Ages.{without}
+use Rattle.space.specs.Ages.{without, ListedBirths}
 use Rattle.space.specs.Births.{Entry}
 use Rattle.space.specs.Candidates.{is_candidate}
 use Rattle.space.specs.Keys.{tuple_key}
 use Rattle.space.specs.declared.lists.Lists.{Lists}
 use Rattle.space.specs.declared.index.Index.{Index}
 
-abbrev pub births_or_none : Option (List ℕ) → List ℕ
+abbrev pub births_or_none : Option ListedBirths → List ℕ
 births_or_none None = []
-births_or_none (Some births) = births
+births_or_none (Some list) = list.births
 
 -- the births that are listed under a key
 abbrev pub births_at : Lists → List ℕ → List ℕ
 births_at l key = births_or_none (get_by (λ k. bytes_eq key k.items) l.lists)
+
+abbrev pub room_or_none : Option ListedBirths → ℕ
+room_or_none None = 0
+room_or_none (Some list) = list.room
+
+-- how many more births fit under a key
+abbrev pub room_at : Lists → List ℕ → ℕ
+room_at l key = room_or_none (get_by (λ k. bytes_eq key k.items) l.lists)
 
 -- the births of the entries that pass a test
 abbrev pub births_by : (Entry → Bool) → List Entry → List ℕ
@@ -55,14 +63,19 @@ TakesBirth key birth old new =
 abbrev pub KeepsBirths : Lists → Lists → Type 0
 KeepsBirths old new = (q : List ℕ) → births_at new q ≡ births_at old q
 
+-- one more birth fits under each key of an entry
+abbrev pub HasRoom : Entry → Index → Type 0
+HasRoom e index =
+    (0 < room_at index.pages (page_key e)) × (0 < room_at index.lengths (length_key e))
+    × (0 < room_at index.firsts (first_key e))
+
 -- an index of entries becomes that of these and a newest one
 abbrev pub Files : Entry → Index → Index → Type 0
 Files e old new = (es : List Entry) → IsIndexOf old es → IsIndexOf new (es ++ e ∷ [])
 
--- an index of entries older than a birth stays one of them
-abbrev pub FilesNothing : ℕ → Index → Index → Type 0
-FilesNothing birth old new =
-    (es : List Entry) → AllPairs (λ e f. e.0 < f.0) es → All (λ e. e.0 < birth) es → IsIndexOf old es → IsIndexOf new es
+-- an index of entries stays one of them
+abbrev pub FilesNothing : Index → Index → Type 0
+FilesNothing old new = (es : List Entry) → IsIndexOf old es → IsIndexOf new es
 
 -- an index of entries becomes that of these without one of them
 abbrev pub Unfiles : Entry → Index → Index → Type 0

@@ -1,6 +1,6 @@
 //! Births in order of age.
 
-ghost use Rattle.std.specs.Prelude.{◌≡◌, ◌<◌, ◌++◌, ◌∷◌, [], drop, length, remove, AllPairs, OnOk, OnErr, IfOk, IsTrue, ◌↔◌};
+ghost use Rattle.std.specs.Prelude.{◌≡◌, ◌<◌, ◌++◌, ◌∷◌, [], length, remove, AllPairs, OnOk, IfOk};
 ghost use Rattle.space.specs.Ages.{without};
 
 use std::alloc::Global;
@@ -16,48 +16,56 @@ pub struct BirthList {
 }
 
 impl Model for BirthList {
-    ghost use Rattle.std.specs.Prelude.{ℕ, List};
-    ghost use Rattle.std.specs.Coded.{coded_list, coded_ℕ};
+    ghost use Rattle.space.specs.Ages.{ListedBirths, listed_code};
 
-    ghost Value = { List ℕ };
+    ghost Value = { ListedBirths };
 
-    ghost coded = { coded_list coded_ℕ };
+    ghost coded = { listed_code };
 
-    ghost use Rattle.std.specs.Prelude.{drop, ◌≤◌, length};
+    ghost use Rattle.std.specs.Prelude.{drop, ◌-◌, ◌≤◌, length, vec_len, vec_capacity};
 
-    ghost view = { λ a. drop a.taken a.births.items };
+    ghost view = { λ a. record { births = drop a.taken a.births.items; room = vec_capacity a.births - vec_len a.births } };
 
     ghost invariant = { λ a. a.taken ≤ length a.births.items };
 }
 
 impl BirthList {
-    /// The list of one birth.
-    pub fn of(alloc: Global, birth: u64) -> Result<BirthList, NoMemory>
-        ensures { IfOk result (λ births. births ≡ birth ∷ []) }
+    /// The list of no births, with room for one.
+    pub fn with_room(alloc: Global) -> Result<BirthList, NoMemory>
+        ensures births { IfOk result (λ list. list.births ≡ []) }
+        ensures room { IfOk result (λ list. 0 < list.room) }
     {
         let mut births = Vec::new(alloc);
-        births.push(birth)?;
+        births.reserve(1)?;
         Ok(BirthList { births, taken: 0 })
     }
 
     /// The births.
     pub fn as_slice(&self) -> &[u64]
-        ensures { result.now ≡ self.now }
+        ensures { result.now ≡ self.now.births }
     {
         &self.births[self.taken..]
     }
 
-    /// Adds a birth at the end. An `Err` changes nothing.
-    pub fn push(&mut self, birth: u64) -> Result<(), NoMemory>
-        ensures ok { OnOk result (self.new ≡ self.old ++ birth ∷ []) }
-        ensures err { OnErr result (self.new ≡ self.old) }
+    /// Makes room for one more birth.
+    pub fn reserve(&mut self) -> Result<(), NoMemory>
+        ensures births { self.new.births ≡ self.old.births }
+        ensures ok { OnOk result (0 < self.new.room) }
     {
-        Ok(self.births.push(birth)?)
+        Ok(self.births.reserve(1)?)
+    }
+
+    /// Adds a birth at the end, where there is room.
+    pub fn push(&mut self, birth: u64)
+        requires { 0 < self.old.room }
+        ensures { self.new.births ≡ self.old.births ++ birth ∷ [] }
+    {
+        self.births.push_reserved(birth);
     }
 
     /// Takes a birth, where it is there.
     pub fn remove(&mut self, birth: u64)
-        ensures { AllPairs (λ a b. a < b) self.old → self.new ≡ without birth self.old }
+        ensures { AllPairs (λ a b. a < b) self.old.births → self.new.births ≡ without birth self.old.births }
     {
         let births = self.as_slice();
         let place = births.partition_point(|other| *other < birth);
@@ -67,16 +75,32 @@ impl BirthList {
         self.remove_at(place);
     }
 
-    // Takes the birth at this place.
+    // Takes the birth at this place. The shorter side moves.
     fn remove_at(&mut self, place: usize)
-        requires { place < length self.old }
-        ensures { self.new ≡ remove self.old place }
+        requires { place < length self.old.births }
+        ensures { self.new.births ≡ remove self.old.births place }
     {
-        if place > 0 {
+        if place >= self.as_slice().len() / 2 {
             self.births.remove(self.taken + place);
-            return;
+        } else {
+            self.move_up(place);
+            self.trim();
         }
+    }
+
+    // Moves the births before this place up over the one there.
+    fn move_up(&mut self, place: usize)
+        requires { place < length self.old.births }
+        ensures { self.new.births ≡ remove self.old.births place }
+    {
+        self.births[self.taken..self.taken + place + 1].rotate_right(1);
         self.taken += 1;
+    }
+
+    // Drops the places of those that were taken once these are more than half of all.
+    fn trim(&mut self)
+        ensures { self.new.births ≡ self.old.births }
+    {
         if self.taken > self.births.len() / 2 {
             self.births.drain(..self.taken);
             self.taken = 0;

@@ -1,9 +1,9 @@
 //! Where the tuples of a page, of a number of fields, and of a first value are found.
 
-ghost use Rattle.std.specs.Prelude.{◌≡◌, ◌<◌, ◌%◌, [], List, OnOk, OnErr, IfOk};
+ghost use Rattle.std.specs.Prelude.{◌≡◌, ◌<◌, ◌%◌, [], List, OnOk, IfOk};
 ghost use Rattle.tuple_tree.specs.Items.{how_many};
 ghost use Rattle.space.specs.Births.{Entry};
-ghost use Rattle.space.specs.Filing.{births_on, IsIndexOf, Files, FilesNothing, Unfiles, AreCandidates};
+ghost use Rattle.space.specs.Filing.{births_on, IsIndexOf, HasRoom, Files, FilesNothing, Unfiles, AreCandidates};
 
 use crate::births::PAGES;
 use crate::keys::{key_of_template, key_of_tuple};
@@ -38,30 +38,41 @@ impl Index {
     {
         let mut index = Index::new(alloc);
         for (birth, tuple) in tuples {
-            index.add(*birth, tuple)?;
+            index.reserve(*birth, tuple)?;
+            index.add(*birth, tuple);
         }
         Ok(index)
     }
 
-    /// Adds the newest tuple. An `Err` changes nothing.
-    pub fn add(&mut self, birth: u64, tuple: &Tuple<Global>) -> Result<(), NoMemory>
-        ensures ok { OnOk result (Files (birth, tuple.now) self.old self.new) }
-        ensures err { OnErr result (FilesNothing birth self.old self.new) }
+    /// Makes room for a tuple. What is listed stays, also at an `Err`.
+    pub fn reserve<A: Allocator>(&mut self, birth: u64, tuple: &Tuple<A>) -> Result<(), NoMemory>
+        ensures ok { OnOk result (HasRoom (birth, tuple.now) self.new) }
+        ensures kept { FilesNothing self.old self.new }
     {
-        let page = [page_of(birth)];
-        self.pages.add(&page, birth)?;
-        let count = [count_of(tuple)];
-        if let Err(failed) = self.lengths.add(&count, birth) {
-            self.pages.remove(&page, birth);
-            return Err(failed);
-        }
+        self.pages.reserve(&[page_of(birth)])?;
+        self.lengths.reserve(&[count_of(tuple)])?;
+        // Last, since the keys of first values are without end: an `Err` leaves no list at a new one.
         let first = key_of_tuple(tuple);
-        if let Err(failed) = self.firsts.add(first.as_slice(), birth) {
-            self.lengths.remove(&count, birth);
-            self.pages.remove(&page, birth);
-            return Err(failed);
-        }
-        Ok(())
+        self.firsts.reserve(first.as_slice())
+    }
+
+    /// Adds the newest tuple, where there is room.
+    pub fn add<A: Allocator>(&mut self, birth: u64, tuple: &Tuple<A>)
+        requires { HasRoom (birth, tuple.now) self.old }
+        ensures { Files (birth, tuple.now) self.old self.new }
+    {
+        self.pages.add(&[page_of(birth)], birth);
+        self.lengths.add(&[count_of(tuple)], birth);
+        let first = key_of_tuple(tuple);
+        self.firsts.add(first.as_slice(), birth);
+    }
+
+    /// Lets go of the room for a tuple's first value where no tuple has it. The 256 pages and 33 lengths keep theirs.
+    pub fn prune<A: Allocator>(&mut self, tuple: &Tuple<A>)
+        ensures { FilesNothing self.old self.new }
+    {
+        let first = key_of_tuple(tuple);
+        self.firsts.prune(first.as_slice());
     }
 
     /// Takes a tuple.
@@ -106,7 +117,7 @@ fn page_of(birth: u64) -> u8
     (birth % PAGES as u64) as u8
 }
 
-fn count_of(tuple: &Tuple<Global>) -> u8
+fn count_of<A: Allocator>(tuple: &Tuple<A>) -> u8
     ensures { result ≡ how_many tuple.now }
 {
     tuple.len() as u8

@@ -1,14 +1,14 @@
 //! Lists of births by keys of bytes.
 
-ghost use Rattle.std.specs.Prelude.{◌≡◌, [], ℕ, List, OnOk, OnErr, IsTrue};
-ghost use Rattle.space.specs.Filing.{births_at, AddsBirth, TakesBirth, KeepsBirths};
+ghost use Rattle.std.specs.Prelude.{◌≡◌, ◌<◌, [], ℕ, List, OnOk, IsTrue};
+ghost use Rattle.space.specs.Filing.{births_at, room_at, AddsBirth, TakesBirth, KeepsBirths};
 
 use crate::birth_list::BirthList;
 use std::alloc::Global;
 use std::collections::HashMap;
 use tuple_tree::NoMemory;
 
-/// A list of births for each key that has births.
+/// A list of births for each key that has births, or room for one.
 #[derive(Drop)]
 pub struct Lists {
     alloc: Global,
@@ -36,19 +36,39 @@ impl Lists {
         }
     }
 
-    /// Adds a birth, the newest one. An `Err` changes nothing.
-    pub fn add(&mut self, key: &[u8], birth: u64) -> Result<(), NoMemory>
-        ensures ok { OnOk result (AddsBirth key.now birth self.old self.new) }
-        ensures err { OnErr result (KeepsBirths self.old self.new) }
+    /// Makes room for one more birth at a key. A key that has no list gets an empty one.
+    pub fn reserve(&mut self, key: &[u8]) -> Result<(), NoMemory>
+        ensures ok { OnOk result (0 < room_at self.new key.now) }
+        ensures births { KeepsBirths self.old self.new }
     {
         if let Some(births) = self.lists.get_mut(key) {
-            return births.push(birth);
+            return births.reserve();
         }
-        let births = BirthList::of(self.alloc, birth)?;
+        let births = BirthList::with_room(self.alloc)?;
         let key = Vec::from_slice(self.alloc, key)?;
         match self.lists.insert(key, births) {
             Ok(_) => Ok(()),
             Err(_) => Err(NoMemory),
+        }
+    }
+
+    /// Adds a birth, the newest one, where there is room.
+    pub fn add(&mut self, key: &[u8], birth: u64)
+        requires { 0 < room_at self.old key.now }
+        ensures { AddsBirth key.now birth self.old self.new }
+    {
+        match self.lists.get_mut(key) {
+            Some(births) => births.push(birth),
+            None => unreachable!(),
+        }
+    }
+
+    /// Lets a list go that has no births.
+    pub fn prune(&mut self, key: &[u8])
+        ensures { KeepsBirths self.old self.new }
+    {
+        if self.get(key).is_empty() {
+            self.lists.remove(key);
         }
     }
 

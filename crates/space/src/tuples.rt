@@ -182,20 +182,22 @@ impl Space {
         let _next = self.next;
     }
 
-    // Adds a tuple as the newest one. An `Err` changes nothing.
-    fn insert(&mut self, tuple: Tuple<Global>) -> Result<(), NoMemory>
+    // Adds a copy of the tuple as the newest one. An `Err` changes nothing.
+    fn insert<A: Allocator>(&mut self, tuple: &Tuple<A>) -> Result<(), NoMemory>
         requires births { self.old.next < 2 ^ 62 }
         requires room { length self.old.entries < 8192 }
-        ensures ok { OnOk result (self.new ≡ with_birth self.old tuple) }
+        ensures ok { OnOk result (self.new ≡ with_birth self.old tuple.now) }
         ensures err { OnErr result (self.new ≡ self.old) }
     {
-        note_tuple(&tuple);
+        note_tuple(tuple);
+        let copy = tuple.copy_in(self.alloc)?;
         let birth = next_birth(&self.page_counts, self.next);
-        self.index.add(birth, &tuple)?;
-        if let Err(failed) = self.tuples.insert(birth, tuple) {
-            self.index.remove(birth, &failed.value.1);
+        self.index.reserve(birth, tuple)?;
+        if let Err(_) = self.tuples.insert(birth, copy) {
+            self.index.prune(tuple);
             return Err(NoMemory);
         }
+        self.index.add(birth, tuple);
         self.page_counts[(birth % PAGES as u64) as usize] += 1;
         self.next = birth + 1;
         Ok(())
@@ -211,8 +213,7 @@ impl Space {
         if self.count() >= MAX_TUPLES {
             return Ok(false);
         }
-        let copy = tuple.copy_in(self.alloc)?;
-        self.insert(copy)?;
+        self.insert(tuple)?;
         Ok(true)
     }
 
@@ -403,7 +404,7 @@ impl Space {
 }
 
 // Each tuple that the program holds is within the limits.
-fn note_tuple(tuple: &Tuple<Global>)
+fn note_tuple<A: Allocator>(tuple: &Tuple<A>)
     ensures { IsTuple tuple.now }
 {
     let _depth = tuple.depth();

@@ -26,4 +26,4 @@ returns c rising =
     let same = c.as_slice-births.ensures in
     let place = c.partition_point-place.result in
     c.remove_at.ensures
-    ∙ sym (without-at c.args.self.now place c.args.birth rising (subst (λ zs. place < length zs) same c.if-place-births.false) (subst (λ zs. get_or zs place 0 ≡ c.args.birth) same c.if-births-place.false))
+    ∙ sym (without-at c.args.self.now.births place c.args.birth rising (subst (λ zs. place < length zs) same c.if-place-births.false) (subst (λ zs. get_or zs place 0 ≡ c.args.birth) same c.if-births-place.false))
