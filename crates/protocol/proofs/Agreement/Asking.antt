@@ -23,14 +23,15 @@ use Rattle.protocol.proofs.Words.Options.{and_then_some, give_if_some, some_inje
 use Rattle.protocol.proofs.Words.Linking.{heard_said}
 use Rattle.protocol.proofs.Agreement.Voting.{RightAt, right_always}
 use Rattle.protocol.proofs.Agreement.Marks.{takes, proposes, Proposes, selected_in}
-use Rattle.protocol.proofs.Agreement.Signed.{change_was_said, each_has}
+use Rattle.protocol.proofs.Agreement.Signed.{change_was_said}
 use Rattle.protocol.proofs.Agreement.Changes.{proposed}
-use Rattle.protocol.proofs.Words.Lists.{every_has, some_of_has, passes_change, stands_at, some_below}
+use Rattle.protocol.proofs.Words.Lists.{passes_change, stands_at, some_below}
 use Rattle.protocol.proofs.Agreement.Staying.{selected, Selected, member_of}
 use Rattle.protocol.proofs.Agreement.Executing.{logged_text}
 use Rattle.protocol.proofs.Agreement.States.{correct_of}
 use Rattle.protocol.proofs.Agreement.Offers.{entry_batch}
 use Rattle.protocol.specs.Replica.Certificates.{batch_from}
+use Rattle.protocol.proofs.Words.Elements.{every_has, some_of_has, each_has}
 
 -- a correct replica got the frame, genuine to itself, alone or carried
 unfoldable pub AsksFrame : Configuration → List ℕ → List Entry → Entry → Type 0

@@ -24,7 +24,7 @@ use Rattle.protocol.specs.System.Trace.{Has}
 use Rattle.protocol.specs.System.Schedule.{is_party, sealed_bytes}
 use Rattle.protocol.specs.Evidence.FirstOperation.{IsFrom, SealedFramesAreHeard}
 use Rattle.protocol.proofs.Words.Spelled.{frames_are_spelled, bodies_are_said, bytes_are_heard}
-use Rattle.protocol.proofs.Evidence.FirstFramesSpelled.{spelled_bytes}
+use Rattle.protocol.proofs.Words.FramesBytes.{spelled_bytes}
 
 -- ---- the entries of a proof
 

@@ -21,8 +21,8 @@ use Rattle.protocol.specs.Evidence.Examples.{four}
 use Rattle.protocol.specs.Evidence.FirstOperation.{FirstFrames, IsFrom, AreFirstFrames, first_answer}
 use Rattle.protocol.proofs.Points.Legality.{executed_number}
 use Rattle.protocol.proofs.Points.Keeping.{executed_times}
-use Rattle.protocol.proofs.Words.Lists.{has_of_any}
 use Rattle.protocol.proofs.Words.Options.{some_injective}
+use Rattle.protocol.proofs.Words.Elements.{has_of_any}
 
 abbrev pub point_of : State → List Ran → List Call → Point
 point_of st ran waiting = record { state = st; snapshots = opening ∷ []; ran = ran; waiting = waiting }

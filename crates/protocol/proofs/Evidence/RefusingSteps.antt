@@ -7,9 +7,9 @@ use Rattle.protocol.specs.System.Trace.Entry.{Invoke, Got, Tick, Executed, Insta
 use Rattle.protocol.specs.Space.Linear.{points}
 use Rattle.protocol.specs.System.Schedule.{Acceptance, acceptances}
 use Rattle.protocol.specs.Evidence.RefusedSteps.{ReportsExist, IsAcceptance, ReportsAll, ReportsNoOther, Rise, ReportsInOrder, ReportsAreLinear, FirstOperationIsReported}
-use Rattle.protocol.proofs.Agreement.States.{has_reverse}
 use Rattle.protocol.proofs.Points.Whole.{points_are_linear}
 use Rattle.protocol.proofs.Evidence.FirstPoint.{first_operation_has_its_point}
+use Rattle.protocol.proofs.Words.Elements.{has_reverse}
 
 pub reports_exist : ReportsExist
 reports_exist c trace = (reverse (acceptances trace), points c trace, record { accepted_are = refl; points_are = refl })

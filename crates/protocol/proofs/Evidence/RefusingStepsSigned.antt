@@ -24,8 +24,8 @@ use Rattle.protocol.specs.System.Schedule.{meant_for, signed_bytes}
 use Rattle.protocol.specs.Replica.RightReplica.{others}
 use Rattle.protocol.specs.Evidence.RefusedSteps.{SignedFramesAreHeard}
 use Rattle.protocol.proofs.Words.Spelled.{frames_are_spelled, bodies_are_said, bytes_are_heard}
-use Rattle.protocol.proofs.Evidence.FirstFramesBytes.{no_bytes, bytes_more}
-use Rattle.protocol.proofs.Evidence.FirstFramesSpelled.{spelled_bytes}
+use Rattle.protocol.proofs.Words.PartsBytes.{no_bytes, bytes_more}
+use Rattle.protocol.proofs.Words.FramesBytes.{spelled_bytes}
 use Rattle.protocol.proofs.Evidence.FirstFrames.{is_digest}
 
 -- ---- a signature is of bytes

@@ -6,7 +6,8 @@ use Rattle.wire.specs.Messages.{NewViewData, ViewChangeData, MarkData as Mark, C
 use Rattle.protocol.specs.System.Trace.{Has, Each}
 use Rattle.protocol.specs.Replica.Selection.{may_select}
 use Rattle.protocol.specs.Evidence.Refused.{SoManyHave, SaysNothingAgainst, SaysForIt, SaysNothing}
-use Rattle.protocol.specs.Evidence.RefusedMarks.{SpellsChange, IsBounded}
+use Rattle.protocol.specs.Evidence.RefusedMarks.{SpellsChange}
+use Rattle.protocol.specs.Laws.Bounds.{IsBounded}
 
 -- the frames spell these view changes, each signed by its sender
 abbrev pub AreSigned : Configuration → List (List ℕ) → List (ℕ × ViewChangeData) → Type 0
