@@ -15,3 +15,4 @@ pub mod Plain
 pub mod Bounds
 pub mod PartsBytes
 pub mod FramesBytes
+pub mod Posting

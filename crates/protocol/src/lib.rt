@@ -35,7 +35,7 @@ pub mod refused_runs;
 pub mod refused_steps;
 pub mod selected;
 
-ghost use Rattle.protocol.specs.Laws.Histories.{FramesAreSpelled, BodiesAreSaid, BytesAreHeard, PreparedAgree, CommittedStays, CommittedAgree, ExecutedAgree, PagesDetermine, BatchesLeaveStates, StatesAreExecuted, StatesAgree, StableAgree, InstalledAgree, StartsAgree, LinearOfSafe, WeakIsOneSpace, NoneBegins, FirstViewStays};
+ghost use Rattle.protocol.specs.Laws.Histories.{FramesAreSpelled, BodiesAreSaid, BytesAreHeard, PostedMaySend, PreparedAgree, CommittedStays, CommittedAgree, ExecutedAgree, PagesDetermine, BatchesLeaveStates, StatesAreExecuted, StatesAgree, StableAgree, InstalledAgree, StartsAgree, LinearOfSafe, WeakIsOneSpace, NoneBegins, FirstViewStays};
 ghost use Rattle.protocol.specs.Evidence.FirstOperation.{SealedFramesAreHeard};
 ghost use Rattle.protocol.specs.Evidence.RefusedSteps.{SignedFramesAreHeard};
 ghost use Rattle.protocol.specs.Laws.Runs.{PointsAreLinear, NoneRunsTwice, AcceptedAtLevels, LevelsOfSafe, WeakAnswersAreOneSpace, RunsAreLinear};
@@ -56,6 +56,11 @@ pub fn sealed_frames_are_heard()
 /// What a replica signs with one of its leaves, each party hears.
 pub fn signed_frames_are_heard()
     ensures heard { SignedFramesAreHeard }
+{}
+
+/// What a replica posts for those it is for, over frames that it has seen, it may send where it may say the message.
+pub fn posted_frames_may_be_sent()
+    ensures may { PostedMaySend }
 {}
 
 /// What two correct replicas hold prepared in one view for one number has one digest (Castro and Liskov, TOCS 2002, on
