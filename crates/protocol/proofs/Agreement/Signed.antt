@@ -5,7 +5,7 @@ use Rattle.protocol.specs.System.Configuration.{Configuration, is_correct, is_co
 use Rattle.wire.specs.Messages.{BodyData as Body, MessageData as Message, NewViewData, ViewChangeData, view_change as ViewChange, new_view as NewView}
 use Rattle.wire.specs.Words.{carried, requests_of_all}
 use Rattle.protocol.specs.System.Frames.{said, opened, heard, signed_body}
-use Rattle.protocol.specs.System.Trace.{Entry, party_of, history_of, Once, Always, SendsBody, IsFromSender, IsUnforgedAt, Unforged, frames_in, carried_by, Each, Has}
+use Rattle.protocol.specs.System.Trace.{Entry, party_of, history_of, Once, Always, SendsBody, IsFromSender, IsUnforgedAt, Unforged, frames_in, carried_by, Has}
 use Rattle.protocol.specs.System.Trace.Entry.{Invoke, Got, Tick, Executed, Installed, Sent, Accepted}
 use Rattle.protocol.specs.Replica.Certificates.{new_view_in, new_view_from, taken}
 use Rattle.protocol.specs.Replica.Selection.{changes_of, signed_change, change_in, change_by, list_of}
@@ -17,6 +17,7 @@ use Rattle.protocol.proofs.Words.Linking.{Speaks, opened_said, signed_opened, he
 use Rattle.protocol.proofs.Agreement.Voting.{RightAt, right_always, correct_replica, speaks_as_itself}
 use Rattle.protocol.proofs.Agreement.Marks.{takes, begins}
 use Rattle.protocol.proofs.Words.Elements.{each_has, has_left}
+use Rattle.wire.specs.Lists.{Each}
 
 -- ---- what was seen was said
 

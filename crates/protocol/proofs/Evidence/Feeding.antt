@@ -4,7 +4,7 @@ use Rattle.std.proofs.lemmas.List.{append-nil, reverse-append}
 use Rattle.std.proofs.lemmas.Grind.{reverse_onto}
 use Rattle.std.proofs.lemmas.Option.{slice_get_within}
 use Rattle.protocol.specs.System.Configuration.{Configuration}
-use Rattle.protocol.specs.System.Trace.{Entry, is_output, Each, AreOutputs}
+use Rattle.protocol.specs.System.Trace.{Entry, is_output, AreOutputs}
 use Rattle.protocol.specs.System.Trace.Entry.{Invoke, Got, Tick}
 use Rattle.protocol.specs.System.Schedule.{Step, World, Goes, AtInput, new_world, with_entry, with_frame, sealed_bytes, signed_bytes, IsAllowed, Feeds}
 use Rattle.protocol.specs.System.Schedule.Step.{calls, deliver, feed, seal, sign, ticks}
@@ -14,6 +14,7 @@ use Rattle.protocol.specs.Evidence.Fed.{CallsAreFed, DeliveriesAreFed, BytesAreF
 use Rattle.protocol.proofs.Evidence.RefusingRunsSchedules.{past_of}
 use Rattle.protocol.proofs.Evidence.RefusingStepsAllowed.{allowed}
 use Rattle.protocol.proofs.Words.Elements.{each_append}
+use Rattle.wire.specs.Lists.{Each}
 
 -- ---- one schedule behind another
 

@@ -19,8 +19,7 @@ use Rattle.wire.proofs.Lengths.{tuple_spelling_length, template_spelling_length}
 use Rattle.wire.proofs.Telling.{reads_requests}
 use Rattle.authenticator.specs.Membership.{sends}
 use Rattle.authenticator.specs.Sealing.{sealed_for}
-use Rattle.protocol.specs.System.Configuration.{Configuration, IsConfiguration, replicas}
-use Rattle.protocol.specs.System.Frames.{members}
+use Rattle.protocol.specs.System.Configuration.{Configuration, IsConfiguration, replicas, members}
 use Rattle.protocol.specs.Replica.RightReplica.{others}
 use Rattle.protocol.specs.System.Schedule.{sealed_bytes}
 use Rattle.protocol.specs.Evidence.Examples.{four}

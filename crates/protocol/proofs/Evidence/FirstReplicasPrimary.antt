@@ -9,7 +9,7 @@ use Rattle.wire.specs.declared.terms.Mode.TheVariants as modes
 use Rattle.wire.specs.Messages.{BodyData as Body, pre_prepare as PrePrepare}
 use Rattle.wire.specs.Words.{requests_of}
 use Rattle.protocol.specs.System.Frames.{heard}
-use Rattle.protocol.specs.System.Trace.{Entry, Once, Has, Each}
+use Rattle.protocol.specs.System.Trace.{Entry, Once, Has}
 use Rattle.protocol.specs.System.Trace.Entry.{Got, Executed, Sent}
 use Rattle.protocol.specs.Replica.Certificates.{are_genuine, Committed}
 use Rattle.protocol.specs.Replica.State.{Call, call_of, opening, last_time}
@@ -25,6 +25,7 @@ use Rattle.protocol.proofs.Evidence.FirstReplicasSteps.{Part, asks, proposes, pr
 use Rattle.protocol.proofs.Evidence.FirstReplicasEvents as events
 use Rattle.protocol.proofs.Evidence.FirstReplicasEvents.{IsSender}
 use Rattle.protocol.proofs.Words.Plain.{taken_none}
+use Rattle.wire.specs.Lists.{Each}
 
 first_sender : IsSender 0 1
 first_sender = record { within = omega arith; gets = refl }

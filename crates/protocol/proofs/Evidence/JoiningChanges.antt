@@ -13,8 +13,8 @@ use Rattle.authenticator.specs.Membership.{Membership, has_sender}
 use Rattle.authenticator.specs.Authentic.{mac_of}
 use Rattle.signing.specs.Signatures.{public_key}
 use Rattle.signing.specs.Heard.{signs, has_signature, signed_body as signed_among}
-use Rattle.protocol.specs.System.Configuration.{Configuration}
-use Rattle.protocol.specs.System.Frames.{frame_of, said, heard, members, signed_body, IsSealed}
+use Rattle.protocol.specs.System.Configuration.{Configuration, members}
+use Rattle.protocol.specs.System.Frames.{frame_of, said, heard, signed_body, IsSealed}
 use Rattle.protocol.specs.System.Trace.{Entry, Has}
 use Rattle.protocol.specs.System.Trace.Entry.{Got, Sent}
 use Rattle.protocol.specs.Replica.Selection.{is_within, change_in}

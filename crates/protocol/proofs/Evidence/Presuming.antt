@@ -10,7 +10,7 @@ use Rattle.tuple_codec.specs.Operations.{Operation, IsOperation}
 use Rattle.partition_tree.specs.Digests.{inner_digests, page_digests}
 use Rattle.wire.specs.Messages.{BodyData as Body, MessageData as Message, request as Request, pre_prepare as PrePrepare, prepare as Prepare, commit as Commit, checkpoint as Checkpoint, view_change as ViewChange, new_view as NewView, reply as Reply, fetch as Fetch, meta as Meta, page as Page}
 use Rattle.protocol.specs.System.Configuration.{Configuration, IsConfiguration, replicas, is_replica, is_client, is_faulty_replica, is_correct_replica, is_correct_client, is_correct}
-use Rattle.protocol.specs.System.Trace.{Entry, party_of, is_output, history_of, Always, Has, Each, Once, SendsBody, IsFromSender, frames_in}
+use Rattle.protocol.specs.System.Trace.{Entry, party_of, is_output, history_of, Always, Has, Once, SendsBody, IsFromSender, frames_in}
 use Rattle.protocol.specs.System.Trace.Entry.{Invoke, Got, Tick, Executed, Installed, Sent, Accepted}
 use Rattle.protocol.specs.Replica.State.{State, opening, page_text, all_pages}
 use Rattle.protocol.specs.Replica.RightReplica.{waiting_after, Point, Leaves, May, Moves, IsHeld, GetsPage}
@@ -24,6 +24,7 @@ use Rattle.protocol.specs.Evidence.Premises.{WidestIsValid, NarrowestIsValid, Re
 use Rattle.protocol.proofs.Words.Temporal.{once_weaker, always_weaker, always_in_history}
 use Rattle.protocol.proofs.Words.Options.{some_injective}
 use Rattle.protocol.proofs.Words.Linking.{heard_said}
+use Rattle.wire.specs.Lists.{Each}
 
 -- ---- configurations
 

@@ -8,12 +8,13 @@ use Rattle.protocol.specs.System.Configuration.{Configuration, is_client}
 use Rattle.wire.specs.declared.terms.Mode.TheVariants as modes
 use Rattle.wire.specs.Messages.{BodyData as Body, request as Request}
 use Rattle.protocol.specs.System.Frames.{heard}
-use Rattle.protocol.specs.System.Trace.{Entry, Has, Each}
+use Rattle.protocol.specs.System.Trace.{Entry, Has}
 use Rattle.protocol.specs.System.Trace.Entry.{Invoke, Got, Tick, Executed, Installed, Sent, Accepted}
 use Rattle.protocol.specs.Replica.State.{State, Call, call_in, execute, last_time}
 use Rattle.protocol.specs.Replica.RightReplica.{Point, May, Moves, is_newer, with_waiting, waiting_after, still_waiting}
 use Rattle.protocol.specs.Evidence.RefusedChanges.{is_other, WaitsOnceGot, WaitsOverFrames, WaitsUntilRun, WaitsNoLonger}
 use Rattle.protocol.proofs.Words.Elements.{every_has, each_with, has_left, has_right, has_weaker}
+use Rattle.wire.specs.Lists.{Each}
 
 -- ---- lists
 

@@ -5,7 +5,7 @@ use mathlib.Core.List.{reverse_aux}
 use Rattle.std.proofs.lemmas.Bool.{leb-true, le-leb}
 use Rattle.protocol.specs.System.Configuration.{Configuration}
 use Rattle.wire.specs.Messages.{ViewChangeData, MarkData as Mark, meta as Meta, page as Page}
-use Rattle.protocol.specs.System.Trace.{Entry, Has, Each}
+use Rattle.protocol.specs.System.Trace.{Entry, Has}
 use Rattle.protocol.specs.System.Trace.Entry.{Invoke, Got, Tick, Executed, Installed, Sent, Accepted}
 use Rattle.protocol.specs.Replica.Certificates.{low}
 use Rattle.protocol.specs.Replica.State.{State, opening, execute, page_text}
@@ -16,6 +16,7 @@ use Rattle.protocol.proofs.Points.Legality.{executed_number}
 use Rattle.protocol.proofs.Evidence.Refusing.{says_may}
 use Rattle.protocol.proofs.Evidence.RefusingChanges.{new_change}
 use Rattle.protocol.proofs.Words.Elements.{has_some, each_filtered, each_has, each_mapped, each_turned, each_weaker, has_filtered, has_mapped}
+use Rattle.wire.specs.Lists.{Each}
 
 -- ---- lists
 

@@ -11,7 +11,7 @@ use Rattle.protocol.specs.System.Configuration.{Configuration, is_correct}
 use Rattle.protocol.specs.System.Frames.{frame_of}
 use Rattle.wire.specs.Messages.{FrameData as Frame}
 use Rattle.std.specs.Option.{option_map_or}
-use Rattle.protocol.specs.System.Trace.{Entry, is_output, Has, Each}
+use Rattle.protocol.specs.System.Trace.{Entry, is_output, Has}
 use Rattle.protocol.specs.System.Trace.Entry.{Invoke, Got, Tick, Executed, Installed, Sent, Accepted}
 use Rattle.protocol.specs.System.Schedule.{Step, Made, World, Goes, AtInput, new_world, made_by, meant_for, is_delivered, next_receiver, next_pair, pending, IsAllowed, Feeds}
 use Rattle.protocol.specs.System.Schedule.Step.{calls, deliver, feed, seal, sign, ticks, flush}
@@ -19,6 +19,7 @@ use Rattle.protocol.specs.System.Schedule.Goes.{ends, gives, called, delivers, g
 use Rattle.protocol.specs.Evidence.RefusedRuns.{IsInputOf, feeds_input, FeedsEachStep, calls_for, invokes_for, FeedsEachCall, ticks_for, is_tick_of, FeedsEachTick, StopsInRuns, is_sent, StopsAtNoSent, Gets, FlushDeliversAll, FlushDeliversSent}
 use Rattle.protocol.proofs.Words.Options.{some_injective}
 use Rattle.protocol.proofs.Words.Elements.{some_of_has, has_reverse, each_has}
+use Rattle.wire.specs.Lists.{Each}
 
 -- ---- each step is fed
 

@@ -18,8 +18,7 @@ use Rattle.signing.specs.Signatures.{public_key, signed_bit, sibling_digest, sig
 use Rattle.signing.proofs.Signed.{signature_of-verifies}
 use Rattle.signing.proofs.Heard.{verifies-Decides, signed_is_heard, signer_is_heard}
 use Rattle.signing.specs.Heard.{signed_body as signed_among}
-use Rattle.protocol.specs.System.Configuration.{Configuration, replicas, is_replica}
-use Rattle.protocol.specs.System.Frames.{members}
+use Rattle.protocol.specs.System.Configuration.{Configuration, replicas, is_replica, members}
 use Rattle.protocol.specs.System.Schedule.{meant_for, signed_bytes}
 use Rattle.protocol.specs.Replica.RightReplica.{others}
 use Rattle.protocol.specs.Evidence.RefusedSteps.{SignedFramesAreHeard}

@@ -4,7 +4,8 @@ use Rattle.std.proofs.lemmas.Bool.{and_parts, and_from, or_left, or_right}
 use Rattle.std.proofs.lemmas.List.{reverse-reverse}
 use Rattle.std.specs.List.{list_all, list_any}
 use mathlib.Core.List.{reverse_aux}
-use Rattle.protocol.specs.System.Trace.{Has, Each}
+use Rattle.protocol.specs.System.Trace.{Has}
+use Rattle.wire.specs.Lists.{Each}
 
 -- ---- some element
 

@@ -10,8 +10,8 @@ use Rattle.wire.specs.Words.{said as body_spelled}
 use Rattle.wire.proofs.Telling.{reads_said}
 use Rattle.signing.specs.Heard.{heard as heard_among, signed_body as signed_among}
 use Rattle.signing.proofs.Heard.{heard_was_opened, signed_is_heard}
-use Rattle.protocol.specs.System.Configuration.{Configuration, is_correct}
-use Rattle.protocol.specs.System.Frames.{said, members, opened, from_another, heard, signed_body}
+use Rattle.protocol.specs.System.Configuration.{Configuration, is_correct, members}
+use Rattle.protocol.specs.System.Frames.{said, opened, from_another, heard, signed_body}
 use Rattle.protocol.specs.System.Trace.{Entry, party_of, history_of, Once, Always, SendsBody, IsUnforgedAt, Unforged, Hears}
 use Rattle.protocol.specs.System.Trace.Entry.{Invoke, Got, Tick, Executed, Installed, Sent, Accepted}
 use Rattle.protocol.proofs.Words.Options.{and_then_some, give_if_some}

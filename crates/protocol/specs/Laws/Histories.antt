@@ -1,14 +1,14 @@
 -- The laws over all safe histories: what bytes say, agreement on batches, states and roots, and the first view.
 use Rattle.std.specs.Prelude.{◌≡◌, ◌≢◌, ◌↔◌, ℕ, ◌^◌, ◌≤◌, ◌<◌, ◌⊎◌, true, List, length, Some}
 use Rattle.sha2.specs.Sha256.{sha256}
-use Rattle.protocol.specs.System.Configuration.{Configuration, IsConfiguration, is_correct, is_correct_replica, is_correct_client}
+use Rattle.protocol.specs.System.Configuration.{Configuration, IsConfiguration, is_correct, is_correct_replica, is_correct_client, members}
 use Rattle.tuple_tree.specs.Values.{AreBytes}
 use Rattle.wire.specs.Messages.{BodyData as Body, MessageData as Message, FrameData as Frame, NewViewData, ViewChangeData, view_change as ViewChange}
 use Rattle.wire.specs.Spelling.{SpellsFrame}
 use Rattle.wire.specs.Words.{carried}
 use Rattle.signing.specs.Heard.{heard as heard_among, signed_body as signed_among}
-use Rattle.protocol.specs.System.Frames.{members, frame_of, said, opened, heard, signed_body, IsPosted}
-use Rattle.protocol.specs.System.Trace.{Entry, party_of, history_of, Once, Always, Has, Each, SendsBody, Unforged}
+use Rattle.protocol.specs.System.Frames.{frame_of, said, opened, heard, signed_body, IsPosted}
+use Rattle.protocol.specs.System.Trace.{Entry, party_of, history_of, Once, Always, Has, SendsBody, Unforged}
 use Rattle.protocol.specs.System.Trace.Entry.{Installed}
 use Rattle.protocol.specs.Replica.Certificates.{Prepared, Committed, view, taken, batch_begun}
 use Rattle.protocol.specs.Replica.RightReplica.{Point, HasSeen, SafeReplica, HadQuorum, StartsAt, MaySay, IsFor, MaySend}
@@ -16,6 +16,7 @@ use Rattle.protocol.specs.Client.RightClient.{SafeClient, SafeWeakClient}
 use Rattle.protocol.specs.Space.Linear.{points, IsLinear, Item, Legal, Covers}
 use Rattle.protocol.specs.Replica.State.{State, IsState, opening, after_batches, page_text, root_of}
 use Rattle.protocol.specs.System.Texts.{NoCollision, StoodAt, ExecutesBatch, AreExecuted}
+use Rattle.wire.specs.Lists.{Each}
 
 -- ---- bytes
 

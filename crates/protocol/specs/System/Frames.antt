@@ -7,11 +7,10 @@ use Rattle.wire.specs.declared.terms.Mode.TheVariants as modes
 use Rattle.wire.specs.Messages.{BodyData as Body, MessageData as Message, ProofData as Proof, macs, signature, FrameData as Frame}
 use Rattle.wire.specs.Reading.{frame_of as frame_spelled}
 use Rattle.wire.specs.Words.{said as body_spelled}
-use Rattle.authenticator.specs.Membership.{Membership}
 use Rattle.authenticator.specs.Authentic.{mac_of}
 use Rattle.signing.specs.Heard.{has_signature, heard as heard_among, signed_body as signed_among}
 use Rattle.quorum.specs.Votes.{give_if}
-use Rattle.protocol.specs.System.Configuration.{Configuration}
+use Rattle.protocol.specs.System.Configuration.{Configuration, members}
 
 -- what is read, where the list is of bytes
 abbrev pub of_bytes : {A : Type 0} → (List ℕ → Option A) → List ℕ → Option A
@@ -23,10 +22,6 @@ frame_of bytes = of_bytes frame_spelled bytes
 
 unfoldable pub said : List ℕ → Option Body
 said bytes = of_bytes body_spelled bytes
-
--- who takes part
-abbrev pub members : Configuration → Membership
-members c = record { seed = c.seed; faults = c.faults; clients = c.clients }
 
 -- what a party can take from bytes: the body of a frame that is authentic to it, or signed where it is to be signed
 unfoldable pub opened : Configuration → ℕ → List ℕ → Option Body
