@@ -9,7 +9,8 @@
 //! laws of agreement over all views (`prepared_agree`, `committed_stays`, `committed_agree`, `executed_agree`,
 //! `states_agree`, `roots_agree`), `accepted_at_levels`, `none_runs_twice`, and the same laws for parties of which
 //! only safety is known (`safe_histories_are_linear`, `weak_histories_are_one_space`,
-//! `safe_histories_accept_at_levels`). `bytes_are_read` ties what the definitions read to the grammar of frames.
+//! `safe_histories_accept_at_levels`). `bytes_are_read` ties what the definitions read to the grammar of frames, and
+//! `posted_frames_may_be_sent` what a replica posts to what it may send.
 //!
 //! The other modules show what the definitions accept and refuse: the first operation of a client at four replicas,
 //! with the bytes of all its frames, is a run, unforged and fed by its schedule ([`accepted`], [`clients`]); over a

@@ -19,11 +19,11 @@ use Rattle.protocol.specs.Replica.State.{State, Call, Ran, call_in, call_of, ope
 use Rattle.protocol.specs.Replica.RightReplica.{Point, first_point, waiting_after, with_waiting, still_waiting, snapshots_after, executed_point, IsFor, IsAddressed, HasSeen, MaySay, MaySend}
 use Rattle.protocol.specs.Evidence.Examples.{four}
 use Rattle.protocol.specs.Evidence.FirstOperation.{FirstFrames, IsFrom, AreFirstFrames, first_answer}
-use Rattle.protocol.proofs.Points.Legality.{executed_number}
 use Rattle.protocol.proofs.Points.Keeping.{executed_times}
 use Rattle.protocol.proofs.Words.Options.{some_injective}
 use Rattle.protocol.proofs.Words.Elements.{has_of_any}
 use Rattle.wire.specs.Lists.{Each}
+use Rattle.protocol.proofs.Words.Leaving.{executed_number}
 
 abbrev pub point_of : State → List Ran → List Call → Point
 point_of st ran waiting = record { state = st; snapshots = opening ∷ []; ran = ran; waiting = waiting }

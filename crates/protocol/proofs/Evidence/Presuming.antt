@@ -19,9 +19,9 @@ use Rattle.protocol.specs.System.Texts.IsText.{null, batch, part, held, page_of,
 use Rattle.protocol.specs.System.Texts.IsUnder.{inner, top}
 use Rattle.protocol.specs.Client.RightClient.{open_call, last_call, MayInput, IsClient, IsWeakClient}
 use Rattle.protocol.specs.Replica.Owed.{IsReplica}
-use Rattle.protocol.specs.System.Run.{Follows, IsRunOf}
+use Rattle.protocol.specs.System.Run.{IsRunOf}
 use Rattle.protocol.specs.Evidence.Premises.{WidestIsValid, NarrowestIsValid, ReplicasAreCorrect, ClientsAreCorrect, CorrectAreBoth, EachIsPrimary, PrimariesReturn, RunsHaveReplicas, RunsHaveClients, WeakRunsHaveReplicas, WeakRunsHaveClients, RunsGoOn, WeakRunsGoOn, ReplicasGoOn, RunsTakeCalls, WeakRunsTakeCalls, OthersAreUnforged, MayBeGot, FramesMayBeGot, FaultyHearAnything, IsOpeningText, HasText, BringsText, is_page, is_quiet, TextsAreFew}
-use Rattle.protocol.proofs.Words.Temporal.{once_weaker, always_weaker, always_in_history}
+use Rattle.protocol.proofs.Words.Temporal.{once_weaker, always_weaker, always_in_history, input_follows}
 use Rattle.protocol.proofs.Words.Options.{some_injective}
 use Rattle.protocol.proofs.Words.Linking.{heard_said}
 use Rattle.wire.specs.Lists.{Each}
@@ -176,10 +176,6 @@ pub weak_runs_have_clients : WeakRunsHaveClients
 weak_runs_have_clients c trace run = run.clients
 
 -- a run and one more input of a correct party
-input_follows : (e : Entry) (trace : List Entry) → is_output e ≡ false → Follows trace e
-input_follows e [] is = is
-input_follows e (before ∷ past) is = λ out. let bad : false ≡ true = sym is ∙ out in absurd cc
-
 run_goes_on : (IsIts : ℕ → List Entry → Type 0) (c : Configuration) (e : Entry) (trace : List Entry) → IsRunOf IsIts c trace
     → is_correct c (party_of e) ≡ true → is_output e ≡ false
     → ((q : ℕ) → party_of e ≡ q → is_correct_replica c q ≡ true → IsReplica c q (history_of q trace) → IsReplica c q (e ∷ history_of q trace))

@@ -32,11 +32,10 @@ use Rattle.protocol.proofs.Agreement.Marks.{Selects, selects, selected_in, takes
 use Rattle.protocol.proofs.Words.Lists.{passes_change, change_there, largest_of-has, stands_at, some_below}
 use Rattle.protocol.proofs.Points.Reading.{latest_heard}
 use Rattle.protocol.proofs.Points.Ordering.{latest_ordered}
-use Rattle.protocol.proofs.Points.Legality.{executed_number}
 use Rattle.protocol.proofs.Agreement.Changes.{change_target, target_grows}
 use Rattle.protocol.proofs.Agreement.Offers.{offer_in, offers_kept, marks_above}
 use Rattle.protocol.proofs.Words.Linking.{heard_opened, Speaks}
-use Rattle.protocol.proofs.Words.Leaving.{none_kept}
+use Rattle.protocol.proofs.Words.Leaving.{none_kept, executed_number}
 use Rattle.protocol.proofs.Words.Paging.{header_at}
 use Rattle.space.specs.Pages.{header_text}
 use Rattle.space.specs.Births.{SpaceState}

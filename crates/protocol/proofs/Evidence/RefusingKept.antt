@@ -12,11 +12,11 @@ use Rattle.protocol.specs.Replica.State.{State, opening, execute, page_text}
 use Rattle.protocol.specs.Replica.RightReplica.{MayMeta, MayPage, IsNewViewChange, kept_states, checkpoint_of, digests_at, Point, Leaves, May, Moves, Executes}
 use Rattle.protocol.specs.Evidence.RefusedChanges.{SendsNewChange}
 use Rattle.protocol.specs.Evidence.RefusedKept.{GivesNoLowDigests, GivesNoLowPages, Installs, HasSnapshot, ChangesFromLowMark, ListsNoneBelow, ListsSnapshots, ListsEachSnapshot, CheckpointsAscend}
-use Rattle.protocol.proofs.Points.Legality.{executed_number}
 use Rattle.protocol.proofs.Evidence.Refusing.{says_may}
 use Rattle.protocol.proofs.Evidence.RefusingChanges.{new_change}
 use Rattle.protocol.proofs.Words.Elements.{has_some, each_filtered, each_has, each_mapped, each_turned, each_weaker, has_filtered, has_mapped}
 use Rattle.wire.specs.Lists.{Each}
+use Rattle.protocol.proofs.Words.Leaving.{executed_number}
 
 -- ---- lists
 

@@ -18,13 +18,13 @@ use Rattle.protocol.specs.Replica.RightReplica.{Leaves, May, Moves}
 use Rattle.protocol.specs.System.Texts.{ExecutesBatch}
 use Rattle.protocol.specs.Space.Linear.{Item, Placing, NoneTwice, ordered_point, ordered_points, first_position, batch_of, comes_before, insert_point, sorted}
 use Rattle.protocol.proofs.Words.Options.{and_then_some, some_injective}
-use Rattle.protocol.proofs.Points.Legality.{none_points, none_later, executed_number}
+use Rattle.protocol.proofs.Points.Legality.{none_points, none_later}
 use Rattle.protocol.proofs.Agreement.States.{GoodAll}
 use Rattle.protocol.proofs.Points.Running.{Run, state_by, batch_is, is_by}
 use Rattle.protocol.proofs.Points.Sorting.{AllOf, all_weaker, all_filter, all_append, insert_all, sorted_all}
 use Rattle.protocol.specs.Replica.State.{ran_call}
 use Rattle.protocol.specs.Replica.RightReplica.{waiting_after}
-use Rattle.protocol.proofs.Words.Leaving.{last_put, none_kept, opening_is}
+use Rattle.protocol.proofs.Words.Leaving.{last_put, none_kept, opening_is, executed_number}
 use Rattle.protocol.proofs.Words.Elements.{has_either, has_left, has_right}
 
 -- ---- what ran in n batches from the number k on

@@ -27,7 +27,7 @@ use Rattle.protocol.proofs.Points.Reading.{Runs, correct_client, own_entries}
 use Rattle.protocol.specs.Replica.State.{after_batches, ran_call}
 use Rattle.protocol.specs.Replica.RightReplica.{executed_point, waiting_after, reply_of}
 use Rattle.protocol.specs.System.Texts.{NoCollision}
-use Rattle.protocol.proofs.Words.Leaving.{last_put, none_kept}
+use Rattle.protocol.proofs.Words.Leaving.{last_put, none_kept, executed_number}
 use Rattle.protocol.specs.Laws.Histories.{IsStateOf}
 use Rattle.protocol.proofs.Agreement.States.{GoodHere, states_agree}
 use Rattle.tuple_codec.specs.Spelling.{outcome_spelling}
@@ -75,10 +75,6 @@ ran_number c k st (frame ∷ frames) ran h = go (call_of c frame) h (ran_number 
 executed_bounded : (c : Configuration) (st : State) (batch : List ℕ) → AreAtMost st.number st → AreAtMost (suc st.number) (execute c st batch)
 unfolding execute
 executed_bounded c st batch most = frames_at_most c (suc st.number) st (requests_of batch) (λ client kept h. let m = most client kept h in omega arith)
-
-executed_number : (c : Configuration) (st : State) (batch : List ℕ) → (execute c st batch).number ≡ suc st.number
-unfolding execute
-executed_number c st batch = refl
 
 none_at_most : AreAtMost 0 opening
 none_at_most client kept h = absurd (let none : None ≡ Some kept = sym (none_kept client) ∙ h in cc)

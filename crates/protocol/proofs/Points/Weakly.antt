@@ -24,7 +24,7 @@ use Rattle.protocol.proofs.Agreement.Voting.{correct_replica}
 use Rattle.protocol.proofs.Agreement.States.{once_append, always_append, correct_of}
 use Rattle.protocol.proofs.Points.Reading.{asking, correct_client, own_entries}
 use Rattle.protocol.proofs.Points.Ordering.{ordering, latest_ordered}
-use Rattle.protocol.proofs.Points.Legality.{item_of, legal_ran, map_items, ran_items, executed_tuples, executed_number}
+use Rattle.protocol.proofs.Points.Legality.{item_of, legal_ran, map_items, ran_items, executed_tuples}
 use Rattle.protocol.proofs.Points.Running.{Run, given_executed, once_run}
 use Rattle.protocol.proofs.Points.Sorting.{AllOf, all_weaker, all_append, all_has}
 use Rattle.protocol.proofs.Points.Ran.{FromFrame, ran_frames, has_map_all}
@@ -44,6 +44,7 @@ use Rattle.protocol.specs.Laws.Runs.{WeakAnswersAreOneSpace, NoneRunsTwice}
 use Rattle.protocol.proofs.Words.Reacting.{is_replica_right, is_weak_right}
 use Rattle.protocol.specs.Laws.Runs
 use Rattle.protocol.proofs.Words.Elements.{has_left, has_some, has_right}
+use Rattle.protocol.proofs.Words.Leaving.{executed_number}
 
 -- ---- all that ran, at one position
 
