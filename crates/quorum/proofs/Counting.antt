@@ -66,7 +66,7 @@ count_mono p q (suc n) h =
     go false true below f = omega arith
     go false false below f = omega arith
 
--- where all pass the one that pass the other, as many pass
+-- where two tests are the same on each number, as many pass
 pub count_same : (p q : ℕ → Bool) → ((s : ℕ) → p s ≡ q s) → (n : ℕ) → count_below p n ≡ count_below q n
 count_same p q h zero = refl
 count_same p q h (suc n) = ap (λ (b : Bool). cond b (suc (count_below p n)) (count_below p n)) (h n) ∙ ap (λ (m : ℕ). cond (q n) (suc m) m) (count_same p q h n)

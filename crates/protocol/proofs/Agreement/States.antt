@@ -137,8 +137,6 @@ once_from Q [] h = h
 once_from Q (e ∷ past) (inl h) = h
 once_from Q (e ∷ past) (inr h) = inr (once_from Q past h)
 
--- ---- lists of snapshots
-
 -- ---- parts of a trace
 
 pub once_append : (R : List Entry → Entry → Type 0) (pre xs : List Entry) → Once R xs → Once R (pre ++ xs)

@@ -14,8 +14,6 @@ use Rattle.protocol.specs.Evidence.Refused.{SoManyHave, SaysNothingAgainst, Says
 use Rattle.protocol.proofs.Words.Elements.{all_where, any_of_has, has_weaker}
 use Rattle.protocol.proofs.Words.Lists.{later, first_less, change_of}
 
--- ---- lists
-
 -- ---- the order of the senders
 
 above_first : (x : ℕ × ViewChangeData) (xs : List (ℕ × ViewChangeData)) → ascending (x ∷ xs) ≡ true → All (λ y. x.0 < y.0) xs
