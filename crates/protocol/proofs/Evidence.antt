@@ -19,8 +19,6 @@ pub mod FirstClient
 pub mod FirstRun
 pub mod FirstScheduleMoves
 pub mod FirstSchedule
-pub mod FirstFramesBytes
-pub mod FirstFramesSpelled
 pub mod FirstFramesSealed
 pub mod FirstFrames
 pub mod RefusingRuns

@@ -4,9 +4,15 @@ pub mod Options
 pub mod Modes
 pub mod Linking
 pub mod Spelled
+pub mod Elements
 pub mod Lists
 pub mod Bodies
 pub mod Leaving
 pub mod Paging
 pub mod Roots
 pub mod Reacting
+pub mod Plain
+pub mod Bounds
+pub mod PartsBytes
+pub mod FramesBytes
+pub mod Posting

@@ -9,7 +9,8 @@
 //! laws of agreement over all views (`prepared_agree`, `committed_stays`, `committed_agree`, `executed_agree`,
 //! `states_agree`, `roots_agree`), `accepted_at_levels`, `none_runs_twice`, and the same laws for parties of which
 //! only safety is known (`safe_histories_are_linear`, `weak_histories_are_one_space`,
-//! `safe_histories_accept_at_levels`). `bytes_are_read` ties what the definitions read to the grammar of frames.
+//! `safe_histories_accept_at_levels`). `bytes_are_read` ties what the definitions read to the grammar of frames, and
+//! `posted_frames_may_be_sent` what a replica posts to what it may send.
 //!
 //! The other modules show what the definitions accept and refuse: the first operation of a client at four replicas,
 //! with the bytes of all its frames, is a run, unforged and fed by its schedule ([`accepted`], [`clients`]); over a
@@ -35,7 +36,7 @@ pub mod refused_runs;
 pub mod refused_steps;
 pub mod selected;
 
-ghost use Rattle.protocol.specs.Laws.Histories.{FramesAreSpelled, BodiesAreSaid, BytesAreHeard, PreparedAgree, CommittedStays, CommittedAgree, ExecutedAgree, PagesDetermine, BatchesLeaveStates, StatesAreExecuted, StatesAgree, StableAgree, InstalledAgree, StartsAgree, LinearOfSafe, WeakIsOneSpace, NoneBegins, FirstViewStays};
+ghost use Rattle.protocol.specs.Laws.Histories.{FramesAreSpelled, BodiesAreSaid, BytesAreHeard, PostedMaySend, PreparedAgree, CommittedStays, CommittedAgree, ExecutedAgree, PagesDetermine, BatchesLeaveStates, StatesAreExecuted, StatesAgree, StableAgree, InstalledAgree, StartsAgree, LinearOfSafe, WeakIsOneSpace, NoneBegins, FirstViewStays};
 ghost use Rattle.protocol.specs.Evidence.FirstOperation.{SealedFramesAreHeard};
 ghost use Rattle.protocol.specs.Evidence.RefusedSteps.{SignedFramesAreHeard};
 ghost use Rattle.protocol.specs.Laws.Runs.{PointsAreLinear, NoneRunsTwice, AcceptedAtLevels, LevelsOfSafe, WeakAnswersAreOneSpace, RunsAreLinear};
@@ -56,6 +57,11 @@ pub fn sealed_frames_are_heard()
 /// What a replica signs with one of its leaves, each party hears.
 pub fn signed_frames_are_heard()
     ensures heard { SignedFramesAreHeard }
+{}
+
+/// What a replica posts for those it is for, over frames that it has seen, it may send where it may say the message.
+pub fn posted_frames_may_be_sent()
+    ensures may { PostedMaySend }
 {}
 
 /// What two correct replicas hold prepared in one view for one number has one digest (Castro and Liskov, TOCS 2002, on

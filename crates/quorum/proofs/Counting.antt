@@ -1,5 +1,5 @@
 -- Laws of counts.
-use Rattle.std.proofs.Common.{◌≡◌, ℕ, zero, suc, ◌+◌, ◌*◌, ◌≤◌, ◌<◌, Bool, true, false, cond, ◌&&◌, ◌||◌, not, ◌==◌, List, [], ◌∷◌, length, eqb-true, refl, arith}
+use Rattle.std.proofs.Common.{◌≡◌, ℕ, zero, suc, ◌+◌, ◌*◌, ◌≤◌, ◌<◌, Bool, true, false, cond, ◌&&◌, ◌||◌, not, ◌==◌, List, [], ◌∷◌, length, eqb-true, refl, ap, ◌∙◌, arith}
 use Rattle.std.proofs.lemmas.Bool.{eqb-false}
 use Rattle.quorum.specs.Quorum.{count_below, member, QuorumsMeet, OneIsCorrect}
 
@@ -65,6 +65,11 @@ count_mono p q (suc n) h =
     go true false below f = absurd (let e : false ≡ true = f refl in cc)
     go false true below f = omega arith
     go false false below f = omega arith
+
+-- where two tests are the same on each number, as many pass
+pub count_same : (p q : ℕ → Bool) → ((s : ℕ) → p s ≡ q s) → (n : ℕ) → count_below p n ≡ count_below q n
+count_same p q h zero = refl
+count_same p q h (suc n) = ap (λ (b : Bool). cond b (suc (count_below p n)) (count_below p n)) (h n) ∙ ap (λ (m : ℕ). cond (q n) (suc m) m) (count_same p q h n)
 
 -- one more passes where a is let in
 pub count_with : (p : ℕ → Bool) (a n : ℕ) → a < n → suc (count_below (λ s. not (s == a) && p s) n) ≤ count_below (λ s. (s == a) || p s) n

@@ -10,7 +10,7 @@ use Rattle.wire.specs.Messages.{BodyData as Body, MessageData as Message, NewVie
 use Rattle.wire.specs.Words.{carried, requests_of}
 use Rattle.wire.specs.Reading.{requests_at}
 use Rattle.protocol.specs.System.Frames.{said, heard, reads_only}
-use Rattle.protocol.specs.System.Trace.{Entry, party_of, history_of, Once, Always, Unforged, frames_in, carried_by, Each, Has}
+use Rattle.protocol.specs.System.Trace.{Entry, party_of, history_of, Once, Always, Unforged, frames_in, carried_by, Has}
 use Rattle.protocol.specs.System.Trace.Entry.{Invoke, Got, Tick, Executed, Installed, Sent, Accepted}
 use Rattle.protocol.specs.Replica.Certificates.{proposal, begun_proposal, entry_proposal, logged, taken, batch_begun, are_genuine, is_in_marks, low}
 use Rattle.protocol.specs.Replica.Selection.{changes_of, count_in, passes_by, vouches, may_select, may_stand, may_stand_at, may_be_null, is_null, is_weak_quorum, is_quorum, agrees}
@@ -23,14 +23,16 @@ use Rattle.protocol.proofs.Words.Options.{and_then_some, give_if_some, some_inje
 use Rattle.protocol.proofs.Words.Linking.{heard_said}
 use Rattle.protocol.proofs.Agreement.Voting.{RightAt, right_always}
 use Rattle.protocol.proofs.Agreement.Marks.{takes, proposes, Proposes, selected_in}
-use Rattle.protocol.proofs.Agreement.Signed.{change_was_said, each_has}
+use Rattle.protocol.proofs.Agreement.Signed.{change_was_said}
 use Rattle.protocol.proofs.Agreement.Changes.{proposed}
-use Rattle.protocol.proofs.Words.Lists.{every_has, some_of_has, passes_change, stands_at, some_below}
+use Rattle.protocol.proofs.Words.Lists.{passes_change, stands_at, some_below}
 use Rattle.protocol.proofs.Agreement.Staying.{selected, Selected, member_of}
 use Rattle.protocol.proofs.Agreement.Executing.{logged_text}
 use Rattle.protocol.proofs.Agreement.States.{correct_of}
 use Rattle.protocol.proofs.Agreement.Offers.{entry_batch}
 use Rattle.protocol.specs.Replica.Certificates.{batch_from}
+use Rattle.protocol.proofs.Words.Elements.{every_has, some_of_has, each_has}
+use Rattle.wire.specs.Lists.{Each}
 
 -- a correct replica got the frame, genuine to itself, alone or carried
 unfoldable pub AsksFrame : Configuration → List ℕ → List Entry → Entry → Type 0

@@ -1,5 +1,5 @@
 -- From the commits that a replica counts to what the committers had prepared.
-use Rattle.std.proofs.Common.{◌≡◌, ℕ, true, List, ◌∷◌, Option, Some, None, refl, sym, ap, ◌∙◌, subst, arith, ◌&&◌, eqb-true}
+use Rattle.std.proofs.Common.{◌≡◌, ℕ, true, List, [], ◌∷◌, ◌++◌, Option, Some, None, refl, sym, ap, ◌∙◌, subst, arith, ◌&&◌, eqb-true}
 use Rattle.std.specs.Prelude.{◌==◌}
 use Rattle.std.proofs.lemmas.Bool.{and_parts}
 use Rattle.sha2.specs.Sha256.{sha256}
@@ -55,6 +55,11 @@ prepared_stays c me v i batch e past p =
     let had = p.backups in
     record { logged = logged_stays c me v i batch e past p.logged; backups = omega arith }
 
+-- over all later entries
+pub prepared_remains : (c : Configuration) (me v i : ℕ) (batch : List ℕ) (later past : List Entry) → Prepared c me past v i batch → Prepared c me (later ++ past) v i batch
+prepared_remains c me v i batch [] past h = h
+prepared_remains c me v i batch (e ∷ later) past h = prepared_stays c me v i batch e (later ++ past) (prepared_remains c me v i batch later past h)
+
 -- ---- a commit that is counted was of what was prepared
 
 pub record Commits (c : Configuration) (me v i : ℕ) (d : List ℕ) (past : List Entry) : Type 0 where
@@ -63,7 +68,7 @@ pub record Commits (c : Configuration) (me v i : ℕ) (d : List ℕ) (past : Lis
   pub prepared : Prepared c me past v i batch
   pub digest_is : sha256 batch ≡ d
 
-says_prepared : (c : Configuration) (me v i : ℕ) (d : List ℕ) (past : List Entry) (e : Entry) → RightAt c me past e → Speaks (committing me v i d) past e → Commits c me v i d past
+pub says_prepared : (c : Configuration) (me v i : ℕ) (d : List ℕ) (past : List Entry) (e : Entry) → RightAt c me past e → Speaks (committing me v i d) past e → Commits c me v i d past
 says_prepared c me v i d past (Sent p bytes) r h = go r.may.body (some_injective r.may.body (committing me v i d) (sym r.may.says ∙ h)) r.may.say
   where
     go : (body : Body) → body ≡ committing me v i d → MaySay c me past r.point (Sent p bytes) bytes body.message → Commits c me v i d past

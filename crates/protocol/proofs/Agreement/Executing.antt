@@ -1,5 +1,5 @@
 -- Executed batches of one number are one.
-use Rattle.std.proofs.Common.{◌≡◌, ℕ, zero, suc, ◌-◌, inl, inr, Bool, true, false, cond, List, [], ◌∷◌, slice_get, Some, None, refl, subst, arith, ◌&&◌}
+use Rattle.std.proofs.Common.{◌≡◌, ℕ, zero, suc, ◌-◌, inl, inr, Bool, true, false, cond, List, [], ◌∷◌, ◌++◌, slice_get, Some, None, refl, subst, arith, ◌&&◌}
 use Rattle.std.specs.Prelude.{◌==◌, nat_lt}
 use Rattle.sha2.specs.Sha256.{sha256}
 use Rattle.quorum.proofs.Counting.{count_mono}
@@ -31,6 +31,10 @@ committed_later c me v i a e past k =
     (λ s l h. digest_stays (sha256 a) (commit_of c me past v i s) (commit_of c me (e ∷ past) v i s) (λ x. commit_stays c me v i s x e past) h) in
     let had = k.commits in
     record { prepared = prepared_stays c me v i a e past k.prepared; commits = omega arith; own = commit_stays c me v i me (sha256 a) e past k.own }
+
+pub committed_remains : (c : Configuration) (me v i : ℕ) (a : List ℕ) (later past : List Entry) → Committed c me past v i a → Committed c me (later ++ past) v i a
+committed_remains c me v i a [] past h = h
+committed_remains c me v i a (e ∷ later) past h = committed_later c me v i a e (later ++ past) (committed_remains c me v i a later past h)
 
 -- ---- what is executed is committed
 

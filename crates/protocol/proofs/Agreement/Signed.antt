@@ -1,11 +1,11 @@
 -- What a correct replica signed, and stands in a new view, that replica sent.
-use Rattle.std.proofs.Common.{◌≡◌, ℕ, inl, inr, Bool, true, false, cond, List, [], ◌∷◌, ◌++◌, map, Option, Some, None, refl, sym, ap, ap₂, ◌∙◌, subst, eqb-true}
+use Rattle.std.proofs.Common.{◌≡◌, ℕ, inl, inr, Bool, true, false, cond, List, [], ◌∷◌, map, Option, Some, None, refl, sym, ap, ap₂, ◌∙◌, subst, eqb-true}
 use Rattle.std.specs.Prelude.{◌==◌, ⊤}
 use Rattle.protocol.specs.System.Configuration.{Configuration, is_correct, is_correct_replica}
 use Rattle.wire.specs.Messages.{BodyData as Body, MessageData as Message, NewViewData, ViewChangeData, view_change as ViewChange, new_view as NewView}
 use Rattle.wire.specs.Words.{carried, requests_of_all}
 use Rattle.protocol.specs.System.Frames.{said, opened, heard, signed_body}
-use Rattle.protocol.specs.System.Trace.{Entry, party_of, history_of, Once, Always, SendsBody, IsFromSender, IsUnforgedAt, Unforged, frames_in, carried_by, Each, Has}
+use Rattle.protocol.specs.System.Trace.{Entry, party_of, history_of, Once, Always, SendsBody, IsFromSender, IsUnforgedAt, Unforged, frames_in, carried_by, Has}
 use Rattle.protocol.specs.System.Trace.Entry.{Invoke, Got, Tick, Executed, Installed, Sent, Accepted}
 use Rattle.protocol.specs.Replica.Certificates.{new_view_in, new_view_from, taken}
 use Rattle.protocol.specs.Replica.Selection.{changes_of, signed_change, change_in, change_by, list_of}
@@ -16,18 +16,8 @@ use Rattle.protocol.proofs.Words.Options.{and_then_some, some_injective}
 use Rattle.protocol.proofs.Words.Linking.{Speaks, opened_said, signed_opened, heard_said, sent_spoken}
 use Rattle.protocol.proofs.Agreement.Voting.{RightAt, right_always, correct_replica, speaks_as_itself}
 use Rattle.protocol.proofs.Agreement.Marks.{takes, begins}
-
--- ---- words on lists
-
-pub each_has : (P : List ℕ → Type 0) (xs : List (List ℕ)) (x : List ℕ) → Each P xs → Has (λ y. y ≡ x) xs → P x
-each_has P [] x a h = absurd h
-each_has P (y ∷ ys) x a (inl h) = subst P h a.0
-each_has P (y ∷ ys) x a (inr h) = each_has P ys x a.1 h
-
-has_append : (xs ys : List (List ℕ)) (x : List ℕ) → Has (λ y. y ≡ x) xs → Has (λ y. y ≡ x) (xs ++ ys)
-has_append [] ys x h = absurd h
-has_append (y ∷ xs) ys x (inl h) = inl h
-has_append (y ∷ xs) ys x (inr h) = inr (has_append xs ys x h)
+use Rattle.protocol.proofs.Words.Elements.{each_has, has_left}
+use Rattle.wire.specs.Lists.{Each}
 
 -- ---- what was seen was said
 
@@ -115,7 +105,7 @@ change_frame c (frame ∷ frames) s vc h = go (signed_change c frame) refl h (ch
 
 begin_seen : (new : NewViewData) (bytes : List ℕ) (whole : List ℕ) (body : Body) → said whole ≡ Some body → body.message ≡ NewView new → Has (λ x. x ≡ bytes) new.changes
     → Has (λ x. x ≡ bytes) (carried_by whole)
-begin_seen new bytes whole body is message h = rw is (rw message (has_append new.changes (requests_of_all new.batches) bytes h))
+begin_seen new bytes whole body is message h = rw is (rw message (has_left (λ y. y ≡ bytes) new.changes (requests_of_all new.batches) h))
 
 taken_seen : (c : Configuration) (new : NewViewData) (bytes : List ℕ) → Has (λ x. x ≡ bytes) new.changes → (past : List Entry) (e : Entry) → Takes c new past e → HasSeen bytes past e
 taken_seen c new bytes h past e t = go e (takes c 0 past e new t).brought

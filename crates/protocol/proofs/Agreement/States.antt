@@ -1,9 +1,8 @@
 -- Each state of a correct replica is the state of the executed batches.
-use Rattle.std.proofs.Common.{◌≡◌, ℕ, zero, suc, ◌+◌, ◌*◌, ◌%◌, ◌^◌, ◌≤◌, ◌<◌, ◌⊎◌, inl, inr, Bool, true, false, cond, List, [], ◌∷◌, ◌++◌, length, take, map, reverse, filter, refl, sym, ap, ◌∙◌, subst, arith, ◌&&◌, ◌||◌, Option, Some, None, eqb-true, eq-eqb, bytes_eq, append_assoc, not}
+use Rattle.std.proofs.Common.{◌≡◌, ℕ, zero, suc, ◌+◌, ◌*◌, ◌%◌, ◌^◌, ◌≤◌, ◌<◌, ◌⊎◌, inl, inr, Bool, true, false, cond, List, [], ◌∷◌, ◌++◌, length, take, map, reverse, refl, sym, ap, ◌∙◌, subst, arith, ◌&&◌, ◌||◌, Option, Some, None, eqb-true, eq-eqb, bytes_eq, append_assoc, not}
 use Rattle.std.specs.Prelude.{◌==◌, nat_lt, nat_le}
 use Rattle.std.proofs.lemmas.Bool.{and_parts, and_from, or_cases, leb-true, lt-ltb, not_from_false}
 use Rattle.std.proofs.lemmas.Slice.Eq.{bytes_eq-Decides}
-use mathlib.Core.List.{reverse_aux}
 use Rattle.quorum.proofs.Counting.{some_more, count_members}
 use Rattle.quorum.specs.Quorum.{count_below}
 use Rattle.protocol.specs.System.Configuration.{Configuration, IsConfiguration, is_replica, is_faulty_replica, is_correct_replica, is_number}
@@ -23,7 +22,7 @@ use Rattle.protocol.proofs.Words.Options.{and_then_some, give_if_some, some_inje
 use Rattle.protocol.proofs.Words.Linking.{Speaks, heard_said}
 use Rattle.protocol.proofs.Agreement.Voting.{RightAt, right_always, once_right, Brings, brought_was_said}
 use Rattle.protocol.proofs.Agreement.Signed.{changing, change_was_said}
-use Rattle.protocol.proofs.Words.Lists.{has_some, some_of_has, passes_change}
+use Rattle.protocol.proofs.Words.Lists.{passes_change}
 use Rattle.protocol.proofs.Agreement.Marks.{takes, selected_in}
 use Rattle.protocol.proofs.Agreement.Staying.{selected}
 use Rattle.protocol.proofs.Agreement.Agreeing.{once_some}
@@ -32,6 +31,7 @@ use Rattle.protocol.proofs.Words.Paging.{pages_determine}
 use Rattle.protocol.proofs.Words.Leaving.{batches_leave_states}
 use Rattle.protocol.proofs.Agreement.Executing.{executor, executed_committed}
 use Rattle.protocol.proofs.Agreement.Changes.{NewChangeAt, change_is_new, logged_within}
+use Rattle.protocol.proofs.Words.Elements.{has_some, some_of_has, has_filter, has_map, has_reverse}
 
 -- ---- states of executed batches
 
@@ -136,38 +136,6 @@ once_from : (Q : List Entry → Entry → Type 0) (xs : List Entry) → Once (λ
 once_from Q [] h = h
 once_from Q (e ∷ past) (inl h) = h
 once_from Q (e ∷ past) (inr h) = inr (once_from Q past h)
-
--- ---- lists of snapshots
-
-has_reverse_aux : {A : Type 0} (P : A → Type 0) (xs ys : List A) → Has P (reverse_aux xs ys) → Has P xs ⊎ Has P ys
-has_reverse_aux P [] ys h = inr h
-has_reverse_aux P (x ∷ xs) ys h = go (has_reverse_aux P xs (x ∷ ys) h)
-  where
-    go : Has P xs ⊎ (P x ⊎ Has P ys) → (P x ⊎ Has P xs) ⊎ Has P ys
-    go (inl k) = inl (inr k)
-    go (inr (inl k)) = inl (inl k)
-    go (inr (inr k)) = inr k
-
-pub has_reverse : {A : Type 0} (P : A → Type 0) (xs : List A) → Has P (reverse xs) → Has P xs
-has_reverse P xs h = go (has_reverse_aux P xs [] h)
-  where
-    go : Has P xs ⊎ ⊥ → Has P xs
-    go (inl k) = k
-    go (inr k) = absurd k
-
-has_filter : {A : Type 0} (P : A → Type 0) (test : A → Bool) (xs : List A) → Has P (filter test xs) → Has P xs
-has_filter P test [] h = h
-has_filter P test (x ∷ xs) h = go (test x) h (has_filter P test xs)
-  where
-    go : (b : Bool) → Has P (cond b (x ∷ filter test xs) (filter test xs)) → (Has P (filter test xs) → Has P xs) → P x ⊎ Has P xs
-    go true (inl k) below = inl k
-    go true (inr k) below = inr (below k)
-    go false k below = inr (below k)
-
-has_map : {A B : Type 0} (P : B → Type 0) (f : A → B) (xs : List A) → Has P (map f xs) → Has (λ x. P (f x)) xs
-has_map P f [] h = h
-has_map P f (x ∷ xs) (inl h) = inl h
-has_map P f (x ∷ xs) (inr h) = inr (has_map P f xs h)
 
 -- ---- parts of a trace
 

@@ -20,9 +20,10 @@ use Rattle.protocol.proofs.Agreement.Marks.{takes, selected_in, selects}
 use Rattle.protocol.proofs.Agreement.Signed.{change_was_said}
 use Rattle.protocol.proofs.Agreement.Commits.{voter_commits}
 use Rattle.protocol.proofs.Agreement.Changes.{Claimed, Pledged, pledged, proposed}
-use Rattle.protocol.proofs.Words.Lists.{has_some, every_has, some_of_has, every_change, passes_change, largest_of-ge, get_there, stands_at, some_below}
+use Rattle.protocol.proofs.Words.Lists.{every_change, passes_change, largest_of-ge, get_there, stands_at, some_below}
 use Rattle.protocol.proofs.Agreement.Settling.{Settled, settled_logged}
 use Rattle.protocol.proofs.Agreement.Agreeing.{prepared_agree, has_digest_is}
+use Rattle.protocol.proofs.Words.Elements.{every_has, has_some, some_of_has}
 
 -- ---- what the rules of a new view give
 

@@ -144,10 +144,10 @@ pub logged_stays : (c : Configuration) (me v i : ℕ) (batch : List ℕ) (e : En
 unfolding logged
 logged_stays c me v i batch e past h = given_stays (λ earlier e. proposal c me earlier e v i) batch e past h
 
-logs_stay : (c : Configuration) (me v i : ℕ) (digest : List ℕ) (e : Entry) (past : List Entry) → Logs c me v i digest past → Logs c me v i digest (e ∷ past)
+pub logs_stay : (c : Configuration) (me v i : ℕ) (digest : List ℕ) (e : Entry) (past : List Entry) → Logs c me v i digest past → Logs c me v i digest (e ∷ past)
 logs_stay c me v i digest e past h = record { batch = h.batch; is_logged = logged_stays c me v i h.batch e past h.is_logged; digest = h.digest }
 
-says_logged : (c : Configuration) (me v i : ℕ) (d : List ℕ) (past : List Entry) (e : Entry) → RightAt c me past e → Speaks (preparing me v i d) past e → Logs c me v i d past
+pub says_logged : (c : Configuration) (me v i : ℕ) (d : List ℕ) (past : List Entry) (e : Entry) → RightAt c me past e → Speaks (preparing me v i d) past e → Logs c me v i d past
 says_logged c me v i d past (Sent p bytes) r h = go r.may.body (some_injective r.may.body (preparing me v i d) (sym r.may.says ∙ h)) r.may.say
   where
     go : (body : Body) → body ≡ preparing me v i d → MaySay c me past r.point (Sent p bytes) bytes body.message → Logs c me v i d past

@@ -22,13 +22,14 @@ use Rattle.protocol.specs.Evidence.ExamplesOfKept.{KeptReplyGoesAgain}
 use Rattle.protocol.proofs.Points.Keeping.{executed_kept}
 use Rattle.protocol.proofs.Words.Options.{some_injective}
 use Rattle.protocol.proofs.Evidence.FirstReplicasStages.{Stage, got, sent, stage_request, stage_reply}
-use Rattle.protocol.proofs.Evidence.FirstReplicasOwing.{ready, count_same, is_prepared, prepared_ready}
+use Rattle.protocol.proofs.Evidence.FirstReplicasOwing.{ready, is_prepared, prepared_ready}
 use Rattle.protocol.proofs.Evidence.FirstReplicasSteps as steps
 use Rattle.protocol.proofs.Evidence.FirstReplicasSteps.{Part, point_of, asks, replies, the_call, after, done}
 use Rattle.protocol.proofs.Evidence.FirstReplicasEvents as events
 use Rattle.protocol.proofs.Evidence.FirstReplicas.{first, second, third}
 use Rattle.protocol.proofs.Evidence.FirstReplicasBackup as backup
 use Rattle.protocol.proofs.Evidence.FirstReplicasPrimary as primary
+use Rattle.quorum.proofs.Counting.{count_same}
 
 module _ (o : Part) where
   abbrev op : Operation

@@ -20,7 +20,8 @@ use Rattle.protocol.specs.Evidence.ExamplesOfAnswers.{IsAnswer, FirstFetchIsAnsw
 use Rattle.protocol.proofs.Evidence.FirstBatch.{still}
 use Rattle.protocol.proofs.Words.Options.{some_injective}
 use Rattle.protocol.proofs.Evidence.FirstReplicasStages.{none, Stage, first_stage, got, sent, stage_fetch, stage_meta}
-use Rattle.protocol.proofs.Evidence.FirstReplicasOwing.{count_same, logs_it, is_prepared}
+use Rattle.protocol.proofs.Evidence.FirstReplicasOwing.{logs_it, is_prepared}
+use Rattle.quorum.proofs.Counting.{count_same}
 
 low_first : (c : Configuration) (me : ℕ) → low c me [] ≡ 0
 unfolding low

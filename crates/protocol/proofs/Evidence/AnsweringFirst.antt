@@ -20,7 +20,8 @@ use Rattle.protocol.specs.Evidence.Examples.{four}
 use Rattle.protocol.specs.Evidence.ExamplesOfAnswers.{IsAnswer, FirstReadIsAnswered}
 use Rattle.protocol.proofs.Words.Options.{some_injective}
 use Rattle.protocol.proofs.Evidence.FirstReplicasStages.{none, Stage, first_stage, got, sent, stage_request, stage_reply}
-use Rattle.protocol.proofs.Evidence.FirstReplicasOwing.{count_same, logs_it, is_prepared}
+use Rattle.protocol.proofs.Evidence.FirstReplicasOwing.{logs_it, is_prepared}
+use Rattle.quorum.proofs.Counting.{count_same}
 
 module _ (clients : ℕ) (seed : List ℕ) (me client timestamp : ℕ) (op : Operation) (read reply : List ℕ) where
   abbrev c : Configuration

@@ -1,36 +1,26 @@
--- What a history certifies stays, is in the marks, and has the own commit.
-use Rattle.std.specs.Option.{option_map_or}
-use Rattle.std.proofs.Common.{◌≡◌, ℕ, ◌+◌, ◌*◌, ◌^◌, ◌≤◌, ◌<◌, ◌⊎◌, inl, inr, Bool, true, false, cond, ◌&&◌, List, [], ◌∷◌, ◌++◌, refl, sym, ap, ◌∙◌, subst, arith, Option, Some, None, eqb-true}
+-- What a history certifies is in the marks, and has the own commit.
+use Rattle.std.proofs.Common.{◌≡◌, ℕ, ◌+◌, ◌*◌, ◌^◌, ◌≤◌, ◌<◌, ◌⊎◌, inl, inr, Bool, true, false, cond, ◌&&◌, List, ◌∷◌, refl, sym, ap, ◌∙◌, subst, arith, Some, None, eqb-true}
 use Rattle.std.specs.Prelude.{◌==◌, nat_lt, nat_le, option_and_then}
 use Rattle.std.proofs.lemmas.Bool.{and_parts, leb-true, ltb-true}
 use Rattle.sha2.specs.Sha256.{sha256}
 use Rattle.quorum.specs.Votes.{give_if}
 use Rattle.protocol.specs.System.Configuration.{Configuration, primary, span, is_number}
-use Rattle.wire.specs.Messages.{BodyData as Body, MessageData as Message, MarkData as Mark, NewViewData, pre_prepare as PrePrepare}
+use Rattle.wire.specs.Messages.{BodyData as Body, MessageData as Message, NewViewData, pre_prepare as PrePrepare}
 use Rattle.protocol.specs.System.Frames.{heard}
 use Rattle.protocol.specs.System.Trace.{Entry, party_of, history_of, Once, SendsBody}
 use Rattle.protocol.specs.System.Trace.Entry.{Invoke, Got, Tick, Executed, Installed, Sent, Accepted}
-use Rattle.protocol.specs.Replica.Certificates.{view, target, is_later, is_active_in, new_view_in, new_view_from, taken, checkpoint_from, checkpoint_in, is_stable, stable_at, installed_at, started_at, low, is_in_marks, are_genuine, batch_from, batch_begun, proposal, entry_proposal, logged, commit_from, vote_in, commit_of}
+use Rattle.protocol.specs.Replica.Certificates.{view, target, is_later, is_active_in, new_view_in, new_view_from, taken, checkpoint_from, low, is_in_marks, are_genuine, batch_from, batch_begun, proposal, entry_proposal, logged, commit_from, vote_in, commit_of}
 use Rattle.protocol.specs.Replica.RightReplica.{Point, MaySay, MaySend, MayPrePrepare, May}
 use Rattle.protocol.specs.Laws.Histories.{Takes}
-use Rattle.protocol.specs.Evidence.Certified.{Brings, ExecutesWithOwnCommit, ExecutesNotByOthersAlone, ExecutesWhatItCommits, TakesLater, TakesInOrder, LogsInMarks, LogsWhatBegins, PreparedRemains, CommittedRemains}
+use Rattle.protocol.specs.Evidence.Certified.{Brings, ExecutesWithOwnCommit, ExecutesNotByOthersAlone, ExecutesWhatItCommits, TakesLater, TakesInOrder, LogsInMarks, LogsWhatBegins}
 use Rattle.protocol.proofs.Words.Temporal.{once_weaker, once_stays_from, once_in_trace}
 use Rattle.protocol.proofs.Words.Options.{and_then_some, give_if_some, some_injective, or_else_cases, given_once}
 use Rattle.protocol.proofs.Agreement.Voting.{right_always}
 use Rattle.protocol.proofs.Agreement.Marks.{takes, view_grows}
-use Rattle.protocol.proofs.Agreement.Commits.{committing, commit_source, prepared_stays, CommitsAt, voter_commits}
-use Rattle.protocol.proofs.Agreement.Executing.{committed_later, executed_committed}
+use Rattle.protocol.proofs.Agreement.Commits.{committing, commit_source, CommitsAt, voter_commits}
+use Rattle.protocol.proofs.Agreement.Executing.{executed_committed}
 use Rattle.protocol.proofs.Agreement.Offers.{entry_batch, begun_place}
-
--- ---- certificates stay
-
-pub prepared_remains : PreparedRemains
-prepared_remains c me v i batch [] past h = h
-prepared_remains c me v i batch (e ∷ later) past h = prepared_stays c me v i batch e (later ++ past) (prepared_remains c me v i batch later past h)
-
-pub committed_remains : CommittedRemains
-committed_remains c me v i batch [] past h = h
-committed_remains c me v i batch (e ∷ later) past h = committed_later c me v i batch e (later ++ past) (committed_remains c me v i batch later past h)
+use Rattle.protocol.proofs.Words.Plain.{low_same}
 
 -- ---- the own commit
 
@@ -91,15 +81,6 @@ in_marks c h i m =
     let p = and_parts (nat_lt h i && nat_le i (h + span c)) (is_number i) m in
     let q = and_parts (nat_lt h i) (nat_le i (h + span c)) p.0 in
     (ltb-true h i q.0, leb-true i (h + span c) q.1, ltb-true i (2 ^ 48) p.1)
-
--- what is no checkpoint, no installation and no new view leaves the low mark
-low_same : (c : Configuration) (me : ℕ) (past : List Entry) (e : Entry) → checkpoint_in c e ≡ None → installed_at e ≡ 0 → new_view_in c e ≡ None → low c me (e ∷ past) ≡ low c me past
-unfolding low
-low_same c me past e no_checkpoint no_installation no_view =
-    let stable : stable_at c me past e ≡ 0 = ap (λ (o : Option (ℕ × Mark)). option_map_or (λ (x : ℕ × Mark). cond (is_stable c me (e ∷ past) x.1) x.1.number 0) o 0) no_checkpoint in
-    let started : started_at c past e ≡ 0 =
-    ap (λ (o : Option NewViewData). option_map_or (λ (new : NewViewData). new.start) (option_and_then (λ (new : NewViewData). give_if (is_later (view c past) (target past) new) new) o) 0) no_view in
-    omega arith
 
 -- what proposes a batch is no checkpoint and no new view
 abbrev IsOther : Configuration → Body → Type 0

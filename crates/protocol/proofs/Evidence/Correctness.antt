@@ -12,9 +12,8 @@ use Rattle.protocol.specs.System.Configuration.{Configuration}
 use Rattle.protocol.specs.System.Frames.{frame_of, said, reads_only}
 use Rattle.protocol.specs.System.Trace.{Entry, party_of, Always}
 use Rattle.protocol.specs.System.Trace.Entry.{Sent}
-use Rattle.protocol.specs.Replica.RightReplica.{Point, Leaves}
 use Rattle.protocol.specs.Client.RightClient.{OpenCall, open_call, Reaction, reaction, weak_reaction, MayAccept, MayWeaklyAccept, MayAsk, MayClient, RightBy}
-use Rattle.protocol.specs.Evidence.Correct.{ReplicasHaveOwn, ClientsHaveOwn, SealsRequests, AsksItsCall, ReplicasAreSafe, ClientsAreSafe, WeakClientsAreSafe}
+use Rattle.protocol.specs.Evidence.Correct.{ClientsHaveOwn, SealsRequests, AsksItsCall, ReplicasAreSafe, ClientsAreSafe, WeakClientsAreSafe}
 use Rattle.protocol.proofs.Words.Reacting.{is_replica_right, is_client_right, is_weak_right}
 use Rattle.protocol.proofs.Evidence.RefusingRuns.{Asked, asked_by}
 
@@ -28,13 +27,6 @@ pub weak_clients_are_safe : WeakClientsAreSafe
 weak_clients_are_safe c me history right = is_weak_right c me history right
 
 -- ---- own entries
-
-leaves_own : (c : Configuration) (me : ℕ) (xs : List Entry) (point : Point) → Leaves c me xs point → Always (λ past e. party_of e ≡ me) xs
-leaves_own c me [] point h = tt
-leaves_own c me (e ∷ past) point h = (h.2.own, leaves_own c me past h.0 h.1)
-
-pub replicas_have_own : ReplicasHaveOwn
-replicas_have_own c me history right = let safe = is_replica_right c me history right in leaves_own c me history safe.0 safe.1
 
 right_own : (Accepting : List Entry → ℕ → Outcome → Type 0) (me : ℕ) (xs : List Entry) → RightBy Accepting me xs → Always (λ past e. party_of e ≡ me) xs
 right_own Accepting me [] h = tt

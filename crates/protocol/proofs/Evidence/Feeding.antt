@@ -4,7 +4,7 @@ use Rattle.std.proofs.lemmas.List.{append-nil, reverse-append}
 use Rattle.std.proofs.lemmas.Grind.{reverse_onto}
 use Rattle.std.proofs.lemmas.Option.{slice_get_within}
 use Rattle.protocol.specs.System.Configuration.{Configuration}
-use Rattle.protocol.specs.System.Trace.{Entry, is_output, Each, AreOutputs}
+use Rattle.protocol.specs.System.Trace.{Entry, is_output, AreOutputs}
 use Rattle.protocol.specs.System.Trace.Entry.{Invoke, Got, Tick}
 use Rattle.protocol.specs.System.Schedule.{Step, World, Goes, AtInput, new_world, with_entry, with_frame, sealed_bytes, signed_bytes, IsAllowed, Feeds}
 use Rattle.protocol.specs.System.Schedule.Step.{calls, deliver, feed, seal, sign, ticks}
@@ -13,6 +13,8 @@ use Rattle.protocol.specs.Evidence.RefusedSteps.{MayCome}
 use Rattle.protocol.specs.Evidence.Fed.{CallsAreFed, DeliveriesAreFed, BytesAreFed, TicksAreFed, SealedAreMade, SignedAreMade}
 use Rattle.protocol.proofs.Evidence.RefusingRunsSchedules.{past_of}
 use Rattle.protocol.proofs.Evidence.RefusingStepsAllowed.{allowed}
+use Rattle.protocol.proofs.Words.Elements.{each_append}
+use Rattle.wire.specs.Lists.{Each}
 
 -- ---- one schedule behind another
 
@@ -39,10 +41,6 @@ joins c w u v _ _ (flushed {entries = entries} j p g) more later i h = flushed (
 outputs_come : (c : Configuration) (w : World) (outputs : List Entry) → AreOutputs outputs → (v : World) × Goes c w [] outputs v
 outputs_come c w [] h = (w, ends)
 outputs_come c w (e ∷ outputs) h = let r = outputs_come c (with_entry c w e) outputs h.1 in (r.0, gives h.0 r.1)
-
-each_append : (P : Entry → Type 0) (xs ys : List Entry) → Each P xs → Each P ys → Each P (xs ++ ys)
-each_append P [] ys h k = k
-each_append P (x ∷ xs) ys h k = (h.0, each_append P xs ys h.1 k)
 
 pub each_reverse : (P : Entry → Type 0) (xs : List Entry) → Each P xs → Each P (reverse xs)
 each_reverse P [] h = tt

@@ -5,18 +5,19 @@ use Rattle.std.specs.Option.{option_map_or}
 use Rattle.std.proofs.lemmas.Slice.Eq.{bytes_eq-Decides}
 use Rattle.sha2.specs.Sha256.{sha256}
 use Rattle.quorum.specs.Quorum.{count_below}
-use Rattle.quorum.specs.Votes.{has_digest, or_else, give_if}
+use Rattle.quorum.specs.Votes.{has_digest, or_else}
 use Rattle.protocol.specs.System.Configuration.{Configuration}
-use Rattle.wire.specs.Messages.{BodyData as Body, MessageData as Message, ProofData as Proof, macs, signature, NewViewData, request as Request, pre_prepare as PrePrepare, prepare as Prepare, commit as Commit, reply as Reply, fetch as Fetch, meta as Meta}
+use Rattle.wire.specs.Messages.{BodyData as Body, MessageData as Message, ProofData as Proof, macs, signature, pre_prepare as PrePrepare, prepare as Prepare, commit as Commit}
 use Rattle.protocol.specs.System.Frames.{receivers_of, said, heard}
 use Rattle.protocol.specs.System.Trace.{Entry}
 use Rattle.protocol.specs.System.Trace.Entry.{Got, Executed, Sent}
-use Rattle.protocol.specs.Replica.Certificates.{view, view_after, target, low, new_view_in, new_view_from, change_sent, checkpoint_in, installed_at, taken, is_active_in, counts_at, logged, proposal, prepare_of, prepare_from, commit_of, commit_from, vote_in, first_given, Prepared, Committed, checkpoint_from, change_from, is_in_marks, is_later, batch_begun, begun_proposal, entry_proposal}
+use Rattle.protocol.specs.Replica.Certificates.{view, target, low, taken, is_active_in, counts_at, logged, prepare_of, prepare_from, commit_of, commit_from, vote_in, first_given, Prepared, Committed, is_in_marks, batch_begun, begun_proposal, entry_proposal}
 use Rattle.protocol.specs.Replica.RightReplica.{others, IsFor, IsAddressed, Point, first_point, Leaves, SafeReplica, MaySend, executed_point, waiting_after}
 use Rattle.protocol.specs.Evidence.Examples.{four, IsFirstBatch, FirstBatchExecutes}
 use Rattle.protocol.proofs.Agreement.Voting.{logged_stays}
 use Rattle.protocol.proofs.Agreement.Commits.{prepare_stays, prepared_stays}
 use Rattle.protocol.proofs.Agreement.Executing.{commit_stays}
+use Rattle.protocol.proofs.Words.Plain.{Plain, heard_plain, said_plain, taken_none, plain_view, plain_target, plain_low}
 
 pub same_digest : (d : List ℕ) → has_digest d (Some d) ≡ true
 same_digest d = (bytes_eq-Decides d d).1 refl
@@ -44,13 +45,7 @@ three_of_four p a b d = go (p 0) (p 1) (p 2) (p 3) a b d
     go true false y z e f g = absurd cc
     go true true false z e f g = absurd cc
 
--- ---- ordering messages, requests and replies change no view and no mark
-
-pub record Plain (c : Configuration) (past : List Entry) (e : Entry) : Type 0 where
-  pub view : new_view_in c e ≡ None
-  pub change : change_sent e ≡ 0
-  pub checkpoint : checkpoint_in c e ≡ None
-  pub installed : installed_at e ≡ 0
+-- ---- a past of plain entries
 
 abbrev pub AllPlain : Configuration → List Entry → Type 0
 AllPlain c [] = Rattle.std.specs.Prelude.⊤
@@ -66,68 +61,11 @@ unfolding view low
 still c me [] p = record { view_is = refl; target_is = refl; low_is = refl }
 still c me (e ∷ past) p =
     let s = still c me past p.1 in
-    let n : taken c past e ≡ None = ap (option_and_then (λ (new : NewViewData). Rattle.quorum.specs.Votes.give_if (Rattle.protocol.specs.Replica.Certificates.is_later (view c past) (target past) new) new)) p.0.view in
-    let start_is : option_map_or (λ (new : NewViewData). new.start) (taken c past e) 0 ≡ 0 = ap (λ (o : Option NewViewData). option_map_or (λ (new : NewViewData). new.start) o 0) n in
-    let stable_is : Rattle.protocol.specs.Replica.Certificates.stable_at c me past e ≡ 0 = stable (checkpoint_in c e) p.0.checkpoint in
-    let v = s.view_is in let t = s.target_is in let l = s.low_is in let a = p.0.change in let i = p.0.installed in
     record {
-      view_is = ap (view_after (view c past) (target past)) p.0.view ∙ s.view_is;
-      target_is = omega arith;
-      low_is = omega arith;
+      view_is = plain_view c past e p.0 ∙ s.view_is;
+      target_is = plain_target c past e p.0 ∙ s.target_is;
+      low_is = plain_low c me past e p.0 ∙ s.low_is;
     }
-  where
-    stable : (o : Option (ℕ × _)) → o ≡ None → option_map_or (λ x. cond (Rattle.protocol.specs.Replica.Certificates.is_stable c me (e ∷ past) x.1) x.1.number 0) o 0 ≡ 0
-    stable None is = refl
-    stable (Some x) is = absurd cc
-
-abbrev pub IsPlain : Message → Type 0
-IsPlain message = elim message [ Request t mode op ↦ ⊤ | PrePrepare v i batch ↦ ⊤ | Prepare v i digest ↦ ⊤ | Commit v i digest ↦ ⊤ | Reply client t mode number answer ↦ ⊤ | Fetch k level index ↦ ⊤ | Meta k level index digests ↦ ⊤ | _ ↦ ⊥ ]
-
-none_begins : (c : Configuration) (sender : ℕ) (message : Message) → IsPlain message → new_view_from c (record { sender = sender; message = message }) ≡ None
-none_begins c sender (Request t mode op) h = refl
-none_begins c sender (PrePrepare v i batch) h = refl
-none_begins c sender (Prepare v i digest) h = refl
-none_begins c sender (Commit v i digest) h = refl
-none_begins c sender (Reply client t mode number answer) h = refl
-none_begins c sender (Fetch k level index) h = refl
-none_begins c sender (Meta k level index digests) h = refl
-none_begins c sender _ h = absurd h
-
-none_checks : (sender : ℕ) (message : Message) → IsPlain message → checkpoint_from (record { sender = sender; message = message }) ≡ None
-none_checks sender (Request t mode op) h = refl
-none_checks sender (PrePrepare v i batch) h = refl
-none_checks sender (Prepare v i digest) h = refl
-none_checks sender (Commit v i digest) h = refl
-none_checks sender (Reply client t mode number answer) h = refl
-none_checks sender (Fetch k level index) h = refl
-none_checks sender (Meta k level index digests) h = refl
-none_checks sender _ h = absurd h
-
-none_changes : (sender : ℕ) (message : Message) → IsPlain message → change_from (record { sender = sender; message = message }) ≡ 0
-none_changes sender (Request t mode op) h = refl
-none_changes sender (PrePrepare v i batch) h = refl
-none_changes sender (Prepare v i digest) h = refl
-none_changes sender (Commit v i digest) h = refl
-none_changes sender (Reply client t mode number answer) h = refl
-none_changes sender (Fetch k level index) h = refl
-none_changes sender (Meta k level index digests) h = refl
-none_changes sender _ h = absurd h
-
-pub heard_plain : (c : Configuration) (past : List Entry) (p : ℕ) (bytes : List ℕ) (body : Body) → heard c p bytes ≡ Some body → IsPlain body.message → Plain c past (Got p bytes)
-heard_plain c past p bytes body h o = record {
-  view = ap (option_and_then (new_view_from c)) h ∙ none_begins c body.sender body.message o;
-  change = refl;
-  checkpoint = ap (option_and_then checkpoint_from) h ∙ none_checks body.sender body.message o;
-  installed = refl;
-}
-
-pub said_plain : (c : Configuration) (past : List Entry) (p : ℕ) (bytes : List ℕ) (body : Body) → said bytes ≡ Some body → IsPlain body.message → Plain c past (Sent p bytes)
-said_plain c past p bytes body h o = record {
-  view = ap (option_and_then (new_view_from c)) h ∙ none_begins c body.sender body.message o;
-  change = ap (λ (b : Option Body). option_map_or change_from b 0) h ∙ none_changes body.sender body.message o;
-  checkpoint = ap (option_and_then checkpoint_from) h ∙ none_checks body.sender body.message o;
-  installed = refl;
-}
 
 module _ (clients : ℕ) (seed batch a b d e f g : List ℕ) (x : IsFirstBatch (four clients seed) batch a b d e f g) where
   abbrev c : Configuration
@@ -187,7 +125,7 @@ module _ (clients : ℕ) (seed batch a b d e f g : List ℕ) (x : IsFirstBatch (
       or_else_second (Some z) later y h k = absurd cc
 
       no_view : taken c [] (Got 1 a) ≡ None
-      no_view = ap (option_and_then (λ (new : NewViewData). give_if (is_later (view c []) (target []) new) new)) plain1.0.view
+      no_view = taken_none c [] (Got 1 a) plain1.0
 
       nothing_begun : (m : Bool) → cond m (option_and_then (batch_begun 0 1) (taken c [] (Got 1 a))) None ≡ None
       nothing_begun true = ap (option_and_then (batch_begun 0 1)) no_view

@@ -19,14 +19,13 @@ use Rattle.wire.proofs.Lengths.{tuple_spelling_length, template_spelling_length}
 use Rattle.wire.proofs.Telling.{reads_requests}
 use Rattle.authenticator.specs.Membership.{sends}
 use Rattle.authenticator.specs.Sealing.{sealed_for}
-use Rattle.protocol.specs.System.Configuration.{Configuration, IsConfiguration, replicas}
-use Rattle.protocol.specs.System.Frames.{members}
+use Rattle.protocol.specs.System.Configuration.{Configuration, IsConfiguration, replicas, members}
 use Rattle.protocol.specs.Replica.RightReplica.{others}
 use Rattle.protocol.specs.System.Schedule.{sealed_bytes}
 use Rattle.protocol.specs.Evidence.Examples.{four}
 use Rattle.protocol.specs.System.Trace.{Has}
 use Rattle.protocol.specs.Evidence.FirstOperation.{FirstFrames, AreFirstFrames, first_answer, FirstFramesExist}
-use Rattle.protocol.proofs.Evidence.FirstFramesBytes.{no_bytes, bytes_4}
+use Rattle.protocol.proofs.Words.PartsBytes.{no_bytes, bytes_4}
 use Rattle.protocol.proofs.Evidence.FirstFramesSealed.{MaySeal, sealed_length, sealed_spells, sealed_is_heard}
 
 -- ---- lengths

@@ -18,13 +18,13 @@ use Rattle.authenticator.proofs.Entries.{entries-have}
 use Rattle.authenticator.proofs.Lengths.{length-hmac_of}
 use Rattle.authenticator.proofs.Sealing.{sealed-spells}
 use Rattle.signing.proofs.Heard.{opened_is_heard}
-use Rattle.protocol.specs.System.Configuration.{Configuration, IsConfiguration, replicas, is_replica, is_client}
-use Rattle.protocol.specs.System.Frames.{members, heard}
+use Rattle.protocol.specs.System.Configuration.{Configuration, IsConfiguration, replicas, is_replica, is_client, members}
+use Rattle.protocol.specs.System.Frames.{heard}
 use Rattle.protocol.specs.System.Trace.{Has}
 use Rattle.protocol.specs.System.Schedule.{is_party, sealed_bytes}
 use Rattle.protocol.specs.Evidence.FirstOperation.{IsFrom, SealedFramesAreHeard}
 use Rattle.protocol.proofs.Words.Spelled.{frames_are_spelled, bodies_are_said, bytes_are_heard}
-use Rattle.protocol.proofs.Evidence.FirstFramesSpelled.{spelled_bytes}
+use Rattle.protocol.proofs.Words.FramesBytes.{spelled_bytes}
 
 -- ---- the entries of a proof
 

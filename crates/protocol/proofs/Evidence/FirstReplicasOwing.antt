@@ -1,5 +1,5 @@
 -- What a replica owes at an input of the first operation, from the facts before and behind the event.
-use Rattle.std.proofs.Common.{◌≡◌, ◌≢◌, ℕ, zero, suc, ◌+◌, ◌≤◌, ◌⊎◌, inl, inr, Bool, true, false, cond, ◌&&◌, List, [], ◌∷◌, refl, sym, ap, ◌∙◌, subst, arith, Some, None, eqb-true}
+use Rattle.std.proofs.Common.{◌≡◌, ◌≢◌, ℕ, suc, ◌+◌, ◌≤◌, ◌⊎◌, inl, inr, Bool, true, false, ◌&&◌, List, [], ◌∷◌, refl, sym, ap, ◌∙◌, subst, arith, Some, None, eqb-true}
 use Rattle.std.specs.Prelude.{◌==◌, ◌%◌, nat_le, ⊤}
 use Rattle.std.proofs.lemmas.Bool.{and_parts, leb-true, le-leb, false_from_ne_true}
 use Rattle.sha2.specs.Sha256.{sha256}
@@ -22,10 +22,7 @@ use Rattle.protocol.proofs.Evidence.FirstBatch.{still, same_digest}
 use Rattle.protocol.proofs.Evidence.FirstReplicasStages.{here, only_here, Stage}
 use Rattle.protocol.proofs.Words.Options.{some_injective, give_if_some}
 use Rattle.protocol.proofs.Words.Leaving.{none_kept}
-
-pub count_same : (p q : ℕ → Bool) → ((s : ℕ) → p s ≡ q s) → (n : ℕ) → count_below p n ≡ count_below q n
-count_same p q h zero = refl
-count_same p q h (suc n) = ap (λ (b : Bool). cond b (suc (count_below p n)) (count_below p n)) (h n) ∙ ap (λ (m : ℕ). cond (q n) (suc m) m) (count_same p q h n)
+use Rattle.quorum.proofs.Counting.{count_same}
 
 digest_if : (b : Bool) (d : List ℕ) → has_digest d (give_if b d) ≡ b
 digest_if true d = same_digest d

@@ -9,7 +9,7 @@ use Rattle.wire.specs.declared.terms.Mode.TheVariants as modes
 use Rattle.wire.specs.Messages.{BodyData as Body, pre_prepare as PrePrepare}
 use Rattle.wire.specs.Words.{requests_of}
 use Rattle.protocol.specs.System.Frames.{heard}
-use Rattle.protocol.specs.System.Trace.{Entry, Once, Has, Each}
+use Rattle.protocol.specs.System.Trace.{Entry, Once, Has}
 use Rattle.protocol.specs.System.Trace.Entry.{Got, Executed, Sent}
 use Rattle.protocol.specs.Replica.Certificates.{are_genuine, Committed}
 use Rattle.protocol.specs.Replica.State.{Call, call_of, opening, last_time}
@@ -18,12 +18,14 @@ use Rattle.protocol.specs.Replica.Owed.{IsOfView, BeginsViewWith, HasRequest, Is
 use Rattle.protocol.specs.Evidence.Examples.{four}
 use Rattle.protocol.specs.Evidence.FirstOperation.{FirstFrames, AreFirstFrames}
 use Rattle.protocol.proofs.Words.Options.{some_injective}
-use Rattle.protocol.proofs.Evidence.FirstReplicasStages.{none, and_of, Stage, first_stage, got, sent, takes_none, stage_request, stage_pre_prepare}
+use Rattle.protocol.proofs.Evidence.FirstReplicasStages.{none, and_of, Stage, first_stage, got, sent, stage_request, stage_pre_prepare}
 use Rattle.protocol.proofs.Evidence.FirstReplicasOwing.{Due, logs_it, committed_full}
 use Rattle.protocol.proofs.Evidence.FirstReplicasSteps as steps
 use Rattle.protocol.proofs.Evidence.FirstReplicasSteps.{Part, asks, proposes, prepares, commits, the_call, waits, ran, done}
 use Rattle.protocol.proofs.Evidence.FirstReplicasEvents as events
 use Rattle.protocol.proofs.Evidence.FirstReplicasEvents.{IsSender}
+use Rattle.protocol.proofs.Words.Plain.{taken_none}
+use Rattle.wire.specs.Lists.{Each}
 
 first_sender : IsSender 0 1
 first_sender = record { within = omega arith; gets = refl }
@@ -154,7 +156,7 @@ module _ (clients : ℕ) (seed : List ℕ) (op : Operation) (batch : List ℕ) (
   is_numbered now p k st own call (inr h) = absurd h
 
   not_begun : (v : ℕ) (b : List ℕ) → Once (BeginsViewWith c v b) h1 → ⊥
-  not_begun v b (inl begun) = let bad : Some begun.0 ≡ None = sym begun.1 ∙ takes_none clients seed batch 0 [] (Got 0 w.request) s1.plain.0 in absurd cc
+  not_begun v b (inl begun) = let bad : Some begun.0 ≡ None = sym begun.1 ∙ taken_none c [] (Got 0 w.request) s1.plain.0 in absurd cc
   not_begun v b (inr h) = h
 
   not_numbered : (v client timestamp : ℕ) → IsNumbered c 0 h1 v client timestamp → ⊥

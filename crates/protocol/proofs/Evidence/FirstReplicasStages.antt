@@ -6,13 +6,15 @@ use Rattle.std.proofs.lemmas.Bool.{and_parts, eqb-false, ne_eqb}
 use Rattle.sha2.specs.Sha256.{sha256}
 use Rattle.quorum.specs.Votes.{or_else, give_if}
 use Rattle.protocol.specs.System.Configuration.{Configuration, primary}
-use Rattle.wire.specs.Messages.{BodyData as Body, NewViewData, MarkData as Mark, request as Request, pre_prepare as PrePrepare, prepare as Prepare, commit as Commit, reply as Reply, fetch as Fetch, meta as Meta}
+use Rattle.wire.specs.Messages.{BodyData as Body, MarkData as Mark, request as Request, pre_prepare as PrePrepare, prepare as Prepare, commit as Commit, reply as Reply, fetch as Fetch, meta as Meta}
 use Rattle.protocol.specs.System.Frames.{said, heard}
 use Rattle.protocol.specs.System.Trace.{Entry}
 use Rattle.protocol.specs.System.Trace.Entry.{Got, Executed, Sent}
-use Rattle.protocol.specs.Replica.Certificates.{brought, view, target, low, taken, is_active_in, is_in_marks, is_later, counts_at, are_genuine, logged, proposal, begun_proposal, entry_proposal, batch_begun, batch_from, prepare_of, prepare_from, commit_of, commit_from, vote_in, checkpoints_of, with_checkpoint, checkpoint_in}
+use Rattle.protocol.specs.Replica.Certificates.{brought, low, is_active_in, is_in_marks, counts_at, are_genuine, logged, proposal, batch_from, prepare_of, prepare_from, commit_of, commit_from, vote_in, checkpoints_of, with_checkpoint, checkpoint_in}
 use Rattle.protocol.specs.Evidence.Examples.{four}
-use Rattle.protocol.proofs.Evidence.FirstBatch.{Plain, AllPlain, still, IsPlain, heard_plain, said_plain}
+use Rattle.protocol.proofs.Evidence.FirstBatch.{AllPlain, still}
+use Rattle.protocol.proofs.Words.Options.{or_else_alone}
+use Rattle.protocol.proofs.Words.Plain.{Plain, IsPlain, heard_plain, said_plain, plain_proposal}
 
 -- the one place that is used: number 1 in view 0
 abbrev pub here : ℕ → ℕ → Bool
@@ -37,10 +39,6 @@ eq_flip a b = go (b == a) refl
 pub only_here : (v i : ℕ) → here v i ≡ true → (v ≡ 0) × (i ≡ 1)
 only_here v i h = let p = and_parts (v == 0) (i == 1) h in (eqb-true v 0 p.0, eqb-true i 1 p.1)
 
-or_nothing : (o later : Option (List ℕ)) → later ≡ None → or_else o later ≡ o
-or_nothing None later h = h
-or_nothing (Some x) later h = refl
-
 one_more : (h a b : Bool) (d : List ℕ) → or_else (give_if (h && a) d) (give_if (h && b) d) ≡ give_if (h && (a || b)) d
 one_more true true b d = refl
 one_more true false b d = refl
@@ -49,10 +47,6 @@ one_more false a b d = refl
 nothing_if : (n : Bool) (o : Option (List ℕ)) → o ≡ None → cond n o None ≡ None
 nothing_if true o h = h
 nothing_if false o h = refl
-
-or_second : (o later : Option (List ℕ)) → o ≡ None → or_else o later ≡ later
-or_second None later h = refl
-or_second (Some x) later h = absurd cc
 
 -- what counts wherever it is given at all
 counted : (n b : Bool) (d : List ℕ) → (b ≡ true → n ≡ true) → cond n (give_if b d) None ≡ give_if b d
@@ -130,16 +124,6 @@ module _ (clients : ℕ) (seed batch : List ℕ) (me : ℕ) where
   gives_none past e body x v i vote h =
       nothing_if (counts_at c me past e v i) (option_and_then vote (brought c e)) (ap (option_and_then vote) x.brings ∙ h)
 
-  pub takes_none : (past : List Entry) (e : Entry) → Plain c past e → taken c past e ≡ None
-  takes_none past e q = ap (option_and_then (λ (new : NewViewData). give_if (is_later (view c past) (target past) new) new)) q.view
-
-  begins_none : (past : List Entry) (e : Entry) → Plain c past e → (v i : ℕ) → begun_proposal c me past e v i ≡ None
-  begins_none past e q v i = nothing_if (is_in_marks c (low c me (e ∷ past)) i) (option_and_then (batch_begun v i) (taken c past e)) (ap (option_and_then (batch_begun v i)) (takes_none past e q))
-
-  -- no new view, so no batch but that of a pre-prepare
-  proposes : (past : List Entry) (e : Entry) → Plain c past e → (v i : ℕ) → proposal c me past e v i ≡ vote_in c me past e (batch_from c me v i) v i
-  proposes past e q v i = or_second (begun_proposal c me past e v i) (entry_proposal c me past e v i) (begins_none past e q v i)
-
   -- ---- the facts behind an entry
 
   log_next : (past : List Entry) (e : Entry) (v i : ℕ) → logged c me (e ∷ past) v i ≡ or_else (logged c me past v i) (proposal c me past e v i)
@@ -176,7 +160,7 @@ module _ (clients : ℕ) (seed batch : List ℕ) (me : ℕ) where
     checkpoints_are = λ s. checkpoints_next past e s ∙ ap (λ (o : Option (ℕ × Mark)). with_checkpoint s o (checkpoints_of c past s)) q.checkpoint ∙ st.checkpoints_are s;
     logged_is = λ v i.
         log_next past e v i ∙ ap (λ (o : Option (List ℕ)). or_else o (proposal c me past e v i)) (st.logged_is v i)
-        ∙ ap (or_else (give_if (here v i && l) batch)) (proposes past e q v i) ∙ logs v i;
+        ∙ ap (or_else (give_if (here v i && l) batch)) (plain_proposal c me past e v i q) ∙ logs v i;
     prepare_is = λ v i s.
         prepare_next past e v i s ∙ ap (λ (o : Option (List ℕ)). or_else o (vote_in c me past e (prepare_from c s v i) v i)) (st.prepare_is v i s) ∙ prepares v i s;
     commit_is = λ v i s.
@@ -187,7 +171,7 @@ module _ (clients : ℕ) (seed batch : List ℕ) (me : ℕ) where
   pub stage_executed : (past : List Entry) (r n : ℕ) (b : List ℕ) (l : Bool) (p k : ℕ → Bool) → Stage past l p k → Stage (Executed r n b ∷ past) l p k
   stage_executed past r n b l p k st =
       carry past (Executed r n b) l l p p k k st (record { view = refl; change = refl; checkpoint = refl; installed = refl })
-      (λ v i. or_nothing (give_if (here v i && l) batch) None refl) (λ v i s. or_nothing (give_if (here v i && p s) (sha256 batch)) None refl) (λ v i s. or_nothing (give_if (here v i && k s) (sha256 batch)) None refl)
+      (λ v i. or_else_alone (give_if (here v i && l) batch) None refl) (λ v i s. or_else_alone (give_if (here v i && p s) (sha256 batch)) None refl) (λ v i s. or_else_alone (give_if (here v i && k s) (sha256 batch)) None refl)
 
   -- nor does a request or a reply
   pub stage_request : (past : List Entry) (e : Entry) (sender t : ℕ) (mode : _) (op : _) (l : Bool) (p k : ℕ → Bool) → Stage past l p k
@@ -195,18 +179,18 @@ module _ (clients : ℕ) (seed batch : List ℕ) (me : ℕ) where
   stage_request past e sender t mode op l p k st x =
       let body : Body = record { sender = sender; message = Request t mode op } in
       carry past e l l p p k k st x.plain
-      (λ v i. or_nothing (give_if (here v i && l) batch) (vote_in c me past e (batch_from c me v i) v i) (gives_none past e body x v i (batch_from c me v i) refl))
-      (λ v i s. or_nothing (give_if (here v i && p s) (sha256 batch)) (vote_in c me past e (prepare_from c s v i) v i) (gives_none past e body x v i (prepare_from c s v i) refl))
-      (λ v i s. or_nothing (give_if (here v i && k s) (sha256 batch)) (vote_in c me past e (commit_from s v i) v i) (gives_none past e body x v i (commit_from s v i) refl))
+      (λ v i. or_else_alone (give_if (here v i && l) batch) (vote_in c me past e (batch_from c me v i) v i) (gives_none past e body x v i (batch_from c me v i) refl))
+      (λ v i s. or_else_alone (give_if (here v i && p s) (sha256 batch)) (vote_in c me past e (prepare_from c s v i) v i) (gives_none past e body x v i (prepare_from c s v i) refl))
+      (λ v i s. or_else_alone (give_if (here v i && k s) (sha256 batch)) (vote_in c me past e (commit_from s v i) v i) (gives_none past e body x v i (commit_from s v i) refl))
 
   pub stage_reply : (past : List Entry) (e : Entry) (sender client t number : ℕ) (mode : _) (answer : _) (l : Bool) (p k : ℕ → Bool) → Stage past l p k
       → Brings past e (record { sender = sender; message = Reply client t mode number answer }) → Stage (e ∷ past) l p k
   stage_reply past e sender client t number mode answer l p k st x =
       let body : Body = record { sender = sender; message = Reply client t mode number answer } in
       carry past e l l p p k k st x.plain
-      (λ v i. or_nothing (give_if (here v i && l) batch) (vote_in c me past e (batch_from c me v i) v i) (gives_none past e body x v i (batch_from c me v i) refl))
-      (λ v i s. or_nothing (give_if (here v i && p s) (sha256 batch)) (vote_in c me past e (prepare_from c s v i) v i) (gives_none past e body x v i (prepare_from c s v i) refl))
-      (λ v i s. or_nothing (give_if (here v i && k s) (sha256 batch)) (vote_in c me past e (commit_from s v i) v i) (gives_none past e body x v i (commit_from s v i) refl))
+      (λ v i. or_else_alone (give_if (here v i && l) batch) (vote_in c me past e (batch_from c me v i) v i) (gives_none past e body x v i (batch_from c me v i) refl))
+      (λ v i s. or_else_alone (give_if (here v i && p s) (sha256 batch)) (vote_in c me past e (prepare_from c s v i) v i) (gives_none past e body x v i (prepare_from c s v i) refl))
+      (λ v i s. or_else_alone (give_if (here v i && k s) (sha256 batch)) (vote_in c me past e (commit_from s v i) v i) (gives_none past e body x v i (commit_from s v i) refl))
 
   -- nor does a fetch, or digests
   pub stage_fetch : (past : List Entry) (e : Entry) (sender number index : ℕ) (level : _) (l : Bool) (p k : ℕ → Bool) → Stage past l p k
@@ -214,18 +198,18 @@ module _ (clients : ℕ) (seed batch : List ℕ) (me : ℕ) where
   stage_fetch past e sender number index level l p k st x =
       let body : Body = record { sender = sender; message = Fetch number level index } in
       carry past e l l p p k k st x.plain
-      (λ v i. or_nothing (give_if (here v i && l) batch) (vote_in c me past e (batch_from c me v i) v i) (gives_none past e body x v i (batch_from c me v i) refl))
-      (λ v i s. or_nothing (give_if (here v i && p s) (sha256 batch)) (vote_in c me past e (prepare_from c s v i) v i) (gives_none past e body x v i (prepare_from c s v i) refl))
-      (λ v i s. or_nothing (give_if (here v i && k s) (sha256 batch)) (vote_in c me past e (commit_from s v i) v i) (gives_none past e body x v i (commit_from s v i) refl))
+      (λ v i. or_else_alone (give_if (here v i && l) batch) (vote_in c me past e (batch_from c me v i) v i) (gives_none past e body x v i (batch_from c me v i) refl))
+      (λ v i s. or_else_alone (give_if (here v i && p s) (sha256 batch)) (vote_in c me past e (prepare_from c s v i) v i) (gives_none past e body x v i (prepare_from c s v i) refl))
+      (λ v i s. or_else_alone (give_if (here v i && k s) (sha256 batch)) (vote_in c me past e (commit_from s v i) v i) (gives_none past e body x v i (commit_from s v i) refl))
 
   pub stage_meta : (past : List Entry) (e : Entry) (sender number index : ℕ) (level : _) (digests : _) (l : Bool) (p k : ℕ → Bool) → Stage past l p k
       → Brings past e (record { sender = sender; message = Meta number level index digests }) → Stage (e ∷ past) l p k
   stage_meta past e sender number index level digests l p k st x =
       let body : Body = record { sender = sender; message = Meta number level index digests } in
       carry past e l l p p k k st x.plain
-      (λ v i. or_nothing (give_if (here v i && l) batch) (vote_in c me past e (batch_from c me v i) v i) (gives_none past e body x v i (batch_from c me v i) refl))
-      (λ v i s. or_nothing (give_if (here v i && p s) (sha256 batch)) (vote_in c me past e (prepare_from c s v i) v i) (gives_none past e body x v i (prepare_from c s v i) refl))
-      (λ v i s. or_nothing (give_if (here v i && k s) (sha256 batch)) (vote_in c me past e (commit_from s v i) v i) (gives_none past e body x v i (commit_from s v i) refl))
+      (λ v i. or_else_alone (give_if (here v i && l) batch) (vote_in c me past e (batch_from c me v i) v i) (gives_none past e body x v i (batch_from c me v i) refl))
+      (λ v i s. or_else_alone (give_if (here v i && p s) (sha256 batch)) (vote_in c me past e (prepare_from c s v i) v i) (gives_none past e body x v i (prepare_from c s v i) refl))
+      (λ v i s. or_else_alone (give_if (here v i && k s) (sha256 batch)) (vote_in c me past e (commit_from s v i) v i) (gives_none past e body x v i (commit_from s v i) refl))
 
   -- the primary's pre-prepare logs the batch
   pub batch_given : are_genuine c me batch ≡ true → (v i : ℕ) → batch_from c me v i (record { sender = 0; message = PrePrepare 0 1 batch }) ≡ give_if (here v i && true) batch
@@ -240,8 +224,8 @@ module _ (clients : ℕ) (seed batch : List ℕ) (me : ℕ) where
       let body : Body = record { sender = 0; message = PrePrepare 0 1 batch } in
       carry past e false true p p k k st x.plain
       (λ v i. ap (or_else (give_if (here v i && false) batch)) (gives past e body x v i (batch_from c me v i) true batch (batch_given genuine v i)) ∙ one_more (here v i) false true batch)
-      (λ v i s. or_nothing (give_if (here v i && p s) (sha256 batch)) (vote_in c me past e (prepare_from c s v i) v i) (gives_none past e body x v i (prepare_from c s v i) refl))
-      (λ v i s. or_nothing (give_if (here v i && k s) (sha256 batch)) (vote_in c me past e (commit_from s v i) v i) (gives_none past e body x v i (commit_from s v i) refl))
+      (λ v i s. or_else_alone (give_if (here v i && p s) (sha256 batch)) (vote_in c me past e (prepare_from c s v i) v i) (gives_none past e body x v i (prepare_from c s v i) refl))
+      (λ v i s. or_else_alone (give_if (here v i && k s) (sha256 batch)) (vote_in c me past e (commit_from s v i) v i) (gives_none past e body x v i (commit_from s v i) refl))
 
   -- a backup's prepare counts as its
   pub prepare_given : (r : ℕ) → not (r == 0) ≡ true → (v i s : ℕ) → prepare_from c s v i (record { sender = r; message = Prepare 0 1 (sha256 batch) }) ≡ give_if (here v i && (s == r)) (sha256 batch)
@@ -257,9 +241,9 @@ module _ (clients : ℕ) (seed batch : List ℕ) (me : ℕ) where
   stage_prepare past e r l p k backup st x =
       let body : Body = record { sender = r; message = Prepare 0 1 (sha256 batch) } in
       carry past e l l p (and_of p r) k k st x.plain
-      (λ v i. or_nothing (give_if (here v i && l) batch) (vote_in c me past e (batch_from c me v i) v i) (gives_none past e body x v i (batch_from c me v i) refl))
+      (λ v i. or_else_alone (give_if (here v i && l) batch) (vote_in c me past e (batch_from c me v i) v i) (gives_none past e body x v i (batch_from c me v i) refl))
       (λ v i s. ap (or_else (give_if (here v i && p s) (sha256 batch))) (gives past e body x v i (prepare_from c s v i) (s == r) (sha256 batch) (prepare_given r backup v i s)) ∙ one_more (here v i) (p s) (s == r) (sha256 batch))
-      (λ v i s. or_nothing (give_if (here v i && k s) (sha256 batch)) (vote_in c me past e (commit_from s v i) v i) (gives_none past e body x v i (commit_from s v i) refl))
+      (λ v i s. or_else_alone (give_if (here v i && k s) (sha256 batch)) (vote_in c me past e (commit_from s v i) v i) (gives_none past e body x v i (commit_from s v i) refl))
 
   pub commit_given : (r v i s : ℕ) → commit_from s v i (record { sender = r; message = Commit 0 1 (sha256 batch) }) ≡ give_if (here v i && (s == r)) (sha256 batch)
   commit_given r v i s =
@@ -273,6 +257,6 @@ module _ (clients : ℕ) (seed batch : List ℕ) (me : ℕ) where
   stage_commit past e r l p k st x =
       let body : Body = record { sender = r; message = Commit 0 1 (sha256 batch) } in
       carry past e l l p p k (and_of k r) st x.plain
-      (λ v i. or_nothing (give_if (here v i && l) batch) (vote_in c me past e (batch_from c me v i) v i) (gives_none past e body x v i (batch_from c me v i) refl))
-      (λ v i s. or_nothing (give_if (here v i && p s) (sha256 batch)) (vote_in c me past e (prepare_from c s v i) v i) (gives_none past e body x v i (prepare_from c s v i) refl))
+      (λ v i. or_else_alone (give_if (here v i && l) batch) (vote_in c me past e (batch_from c me v i) v i) (gives_none past e body x v i (batch_from c me v i) refl))
+      (λ v i s. or_else_alone (give_if (here v i && p s) (sha256 batch)) (vote_in c me past e (prepare_from c s v i) v i) (gives_none past e body x v i (prepare_from c s v i) refl))
       (λ v i s. ap (or_else (give_if (here v i && k s) (sha256 batch))) (gives past e body x v i (commit_from s v i) (s == r) (sha256 batch) (commit_given r v i s)) ∙ one_more (here v i) (k s) (s == r) (sha256 batch))

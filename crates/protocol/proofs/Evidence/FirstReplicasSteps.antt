@@ -12,17 +12,18 @@ use Rattle.wire.specs.declared.terms.Mode.TheVariants as modes
 use Rattle.wire.specs.Messages.{BodyData as Body, MessageData as Message, FrameData as Frame, macs, request as Request, pre_prepare as PrePrepare, prepare as Prepare, commit as Commit, reply as Reply}
 use Rattle.wire.specs.Words.{carried, requests_of}
 use Rattle.protocol.specs.System.Frames.{heard, IsSealed, receivers_of}
-use Rattle.protocol.specs.System.Trace.{Entry, Once, Has, Each}
+use Rattle.protocol.specs.System.Trace.{Entry, Once, Has}
 use Rattle.protocol.specs.System.Trace.Entry.{Sent}
 use Rattle.protocol.specs.Replica.Certificates.{are_genuine}
 use Rattle.protocol.specs.Replica.State.{State, Call, Ran, call_in, call_of, opening, execute, kept_by, last_time, run_frame, run_call, ran_in, ran_by}
 use Rattle.protocol.specs.Replica.RightReplica.{Point, first_point, waiting_after, with_waiting, still_waiting, snapshots_after, executed_point, IsFor, IsAddressed, HasSeen, MaySay, MaySend}
 use Rattle.protocol.specs.Evidence.Examples.{four}
 use Rattle.protocol.specs.Evidence.FirstOperation.{FirstFrames, IsFrom, AreFirstFrames, first_answer}
-use Rattle.protocol.proofs.Points.Legality.{executed_number}
 use Rattle.protocol.proofs.Points.Keeping.{executed_times}
-use Rattle.protocol.proofs.Words.Lists.{has_of_any}
 use Rattle.protocol.proofs.Words.Options.{some_injective}
+use Rattle.protocol.proofs.Words.Elements.{has_of_any}
+use Rattle.wire.specs.Lists.{Each}
+use Rattle.protocol.proofs.Words.Leaving.{executed_number}
 
 abbrev pub point_of : State → List Ran → List Call → Point
 point_of st ran waiting = record { state = st; snapshots = opening ∷ []; ran = ran; waiting = waiting }

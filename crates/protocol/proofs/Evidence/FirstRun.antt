@@ -6,7 +6,7 @@ use Rattle.std.specs.Option.{option_map_or}
 use Rattle.std.proofs.lemmas.Bool.{and_parts, ltb-true, leb-true, ne_eqb}
 use Rattle.tuple_codec.specs.Operations.{Operation}
 use Rattle.protocol.specs.System.Configuration.{Configuration, IsConfiguration, is_replica, is_client, is_correct_client, is_correct}
-use Rattle.protocol.specs.System.Trace.{Entry, party_of, is_output, history_of, Always, Once, Each, SendsBody, IsFromSender, IsUnforgedAt, Unforged, carried_by}
+use Rattle.protocol.specs.System.Trace.{Entry, party_of, is_output, history_of, Always, Once, SendsBody, IsFromSender, IsUnforgedAt, Unforged, carried_by}
 use Rattle.protocol.specs.System.Trace.Entry.{Sent}
 use Rattle.protocol.specs.System.Frames.{said}
 use Rattle.wire.specs.Messages.{BodyData as Body}
@@ -21,6 +21,7 @@ use Rattle.protocol.proofs.Words.Linking.{opened_said}
 use Rattle.protocol.proofs.Evidence.FirstScheduleMoves.{or_cases, is_known, known_correct, Row, Move, moves, row, entry_of, moves_make, is_row}
 use Rattle.protocol.proofs.Evidence.FirstScheduleMoves.Move.{asks, sends, gets, runs, accepts}
 use Rattle.protocol.proofs.Evidence.FirstClient
+use Rattle.wire.specs.Lists.{Each}
 
 -- ---- parties
 

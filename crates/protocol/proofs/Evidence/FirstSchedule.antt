@@ -11,7 +11,7 @@ use Rattle.quorum.specs.Votes.{or_else}
 use Rattle.wire.specs.Messages.{FrameData as Frame, ProofData as Proof, MacData, macs, signature}
 use Rattle.protocol.specs.System.Configuration.{Configuration, IsConfiguration, is_correct}
 use Rattle.protocol.specs.System.Frames.{receivers_of}
-use Rattle.protocol.specs.System.Trace.{Entry, Each}
+use Rattle.protocol.specs.System.Trace.{Entry}
 use Rattle.protocol.specs.System.Trace.Entry.{Invoke, Got, Executed, Sent}
 use Rattle.protocol.specs.System.Schedule.{calls, flush, Made, meant_for, made_by, World, new_world, with_entry, is_delivered, next_receiver, next_pair, pending, Goes, Feeds}
 use Rattle.protocol.specs.System.Schedule.Goes.{ends, gives, called, delivers, flushes, flushed}
@@ -19,6 +19,7 @@ use Rattle.protocol.specs.Evidence.Examples.{four}
 use Rattle.protocol.specs.Evidence.FirstOperation.{FirstFrames, AreFirstFrames, IsFrom, first_trace, FirstOperationIsFed}
 use Rattle.protocol.proofs.Evidence.FirstScheduleMoves.{is_known, known_correct, Row, Move, moves, row, entry_of, is_row, are_known}
 use Rattle.protocol.proofs.Evidence.FirstScheduleMoves.Move.{asks, sends, gets, runs, accepts}
+use Rattle.wire.specs.Lists.{Each}
 
 -- ---- what comes next where all receivers are correct
 

@@ -11,11 +11,12 @@ use Rattle.wire.specs.declared.terms.Mode.TheVariants as modes
 use Rattle.wire.specs.Messages.{MessageData as Message, request as Request, pre_prepare as PrePrepare, prepare as Prepare, commit as Commit, reply as Reply}
 use Rattle.wire.specs.Words.{carried}
 use Rattle.protocol.specs.System.Configuration.{Configuration, is_correct}
-use Rattle.protocol.specs.System.Trace.{Entry, Each}
+use Rattle.protocol.specs.System.Trace.{Entry}
 use Rattle.protocol.specs.System.Trace.Entry.{Invoke, Got, Executed, Sent, Accepted}
 use Rattle.protocol.specs.Replica.RightReplica.{others}
 use Rattle.protocol.specs.Evidence.Examples.{four}
 use Rattle.protocol.specs.Evidence.FirstOperation.{FirstFrames, AreFirstFrames, IsFrom, first_answer, first_trace}
+use Rattle.wire.specs.Lists.{Each}
 
 -- ---- the four replicas and client 0 take part, each of them correct
 

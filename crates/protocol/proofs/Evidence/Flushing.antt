@@ -12,8 +12,8 @@ use Rattle.protocol.specs.System.Schedule.{Step, Made, World, Goes, with_entry, 
 use Rattle.protocol.specs.System.Schedule.Step.{deliver, flush}
 use Rattle.protocol.specs.System.Schedule.Goes.{ends, gives, called, delivers, gets, ticked, seals, signs, flushes, flushed}
 use Rattle.protocol.specs.Evidence.Fed.{IsNext, with_delivery, FlushDeliversNext, FlushDeliversNoOther, FlushEnds}
-use Rattle.protocol.proofs.Words.Lists.{some_of_has}
 use Rattle.protocol.proofs.Words.Options.{some_injective}
+use Rattle.protocol.proofs.Words.Elements.{some_of_has}
 
 -- ---- the test of what is left
 

@@ -4,7 +4,7 @@ use Rattle.std.specs.Prelude.{◌==◌}
 use Rattle.std.proofs.lemmas.List.{reverse-append, reverse-reverse}
 use Rattle.quorum.specs.Votes.{or_else}
 use Rattle.protocol.specs.System.Configuration.{Configuration, is_correct}
-use Rattle.protocol.specs.System.Trace.{Entry, Each}
+use Rattle.protocol.specs.System.Trace.{Entry}
 use Rattle.protocol.specs.System.Trace.Entry.{Got}
 use Rattle.protocol.specs.System.Schedule.{Made, World, Goes, AtInput, new_world, is_delivered, next_receiver, next_pair, pending}
 use Rattle.protocol.specs.System.Schedule.Step.{flush}
@@ -13,6 +13,7 @@ use Rattle.protocol.specs.Evidence.Fed.{with_delivery, IsGot, FlushesAreFed}
 use Rattle.protocol.proofs.Words.Options.{some_injective}
 use Rattle.protocol.proofs.Evidence.Feeding.{joins, each_reverse}
 use Rattle.protocol.proofs.Evidence.Flushing.{left, not_left, pending_next, flush_delivers_next}
+use Rattle.wire.specs.Lists.{Each}
 
 -- ---- how many receivers a frame is left for, and all frames; the frames are numbered from k on
 

@@ -13,8 +13,8 @@ use Rattle.authenticator.specs.Membership.{Membership, has_sender}
 use Rattle.authenticator.specs.Authentic.{mac_of}
 use Rattle.signing.specs.Signatures.{public_key}
 use Rattle.signing.specs.Heard.{signs, has_signature, signed_body as signed_among}
-use Rattle.protocol.specs.System.Configuration.{Configuration}
-use Rattle.protocol.specs.System.Frames.{frame_of, said, heard, members, signed_body, IsSealed}
+use Rattle.protocol.specs.System.Configuration.{Configuration, members}
+use Rattle.protocol.specs.System.Frames.{frame_of, said, heard, signed_body, IsSealed}
 use Rattle.protocol.specs.System.Trace.{Entry, Has}
 use Rattle.protocol.specs.System.Trace.Entry.{Got, Sent}
 use Rattle.protocol.specs.Replica.Selection.{is_within, change_in}
@@ -23,11 +23,11 @@ use Rattle.protocol.specs.Replica.RightReplica.{first_point, IsPreparedList, IsP
 use Rattle.protocol.specs.Replica.Owed.{Owes, IsReplica, NumbersOnce, change_taken, latest_change}
 use Rattle.protocol.specs.Evidence.Examples.{four}
 use Rattle.protocol.specs.Evidence.ExamplesOfChanges.{beginning_change, ChangesInBeginning, ViewChangesAreJoined}
-use Rattle.protocol.proofs.Evidence.FirstBatch.{Plain, Still, still}
-use Rattle.protocol.proofs.Evidence.FirstReplicasStages.{takes_none}
+use Rattle.protocol.proofs.Evidence.FirstBatch.{Still, still}
 use Rattle.protocol.proofs.Words.Linking.{opened_said, signed_opened, signed_heard}
 use Rattle.protocol.proofs.Words.Options.{some_injective}
 use Rattle.protocol.proofs.Evidence.JoiningChangesOwing.{IsOfChange, Due, owes, none_logged, none_checked, same_checkpoints, logs_nothing, moves_nothing}
+use Rattle.protocol.proofs.Words.Plain.{Plain, taken_none}
 
 -- ---- a signed frame is sealed, and for all
 
@@ -102,10 +102,10 @@ module _ (clients : ℕ) (seed : List ℕ) (me one other : ℕ) (first second ow
     -- ---- nothing is logged
 
     logs1 : (v i : ℕ) → logged c me h1 v i ≡ None
-    logs1 v i = logs_nothing c me [] (Got me first) (changing one) (hears one first first_other x) tt (takes_none clients seed [] me [] (Got me first) (plain [] one first first_other x)) v i ∙ none_logged c me v i
+    logs1 v i = logs_nothing c me [] (Got me first) (changing one) (hears one first first_other x) tt (taken_none c [] (Got me first) (plain [] one first first_other x)) v i ∙ none_logged c me v i
 
     logs2 : (v i : ℕ) → logged c me h2 v i ≡ None
-    logs2 v i = logs_nothing c me h1 (Got me second) (changing other) (hears other second second_other y) tt (takes_none clients seed [] me h1 (Got me second) (plain h1 other second second_other y)) v i ∙ logs1 v i
+    logs2 v i = logs_nothing c me h1 (Got me second) (changing other) (hears other second second_other y) tt (taken_none c h1 (Got me second) (plain h1 other second second_other y)) v i ∙ logs1 v i
 
     takes_own : taken c h2 (Sent me own) ≡ None
     takes_own = ap (option_and_then (λ (new : NewViewData). Rattle.quorum.specs.Votes.give_if (is_later (view c h2) (target h2) new) new)) (ap (option_and_then (new_view_from c)) says)

@@ -18,7 +18,7 @@ use Rattle.protocol.specs.Replica.State.{Call, opening, call_in}
 use Rattle.protocol.specs.Replica.RightReplica.{Point, first_point, waiting_after, with_waiting, Executes}
 use Rattle.protocol.specs.Replica.Owed.{Gives, AtOutputs, NumbersOnce, IsDropped, Owes}
 use Rattle.protocol.specs.Evidence.Examples.{four}
-use Rattle.protocol.proofs.Words.Options.{some_injective}
+use Rattle.protocol.proofs.Words.Options.{some_injective, or_else_alone}
 
 -- messages of a view change
 abbrev pub IsOfChange : Message → Type 0
@@ -50,10 +50,6 @@ pub none_if : (b : Bool) (o : Option (List ℕ)) → o ≡ None → cond b o Non
 none_if true o h = h
 none_if false o h = refl
 
-or_none : (o later : Option (List ℕ)) → later ≡ None → or_else o later ≡ o
-or_none None later h = h
-or_none (Some x) later h = refl
-
 no_batch : (c : Configuration) (me v i sender : ℕ) (message : Message) → IsNoProposal message → batch_from c me v i (record { sender = sender; message = message }) ≡ None
 no_batch c me v i sender (ViewChange vc) h = refl
 no_batch c me v i sender (NewView new) h = refl
@@ -83,14 +79,14 @@ pub logs_begun : (c : Configuration) (me : ℕ) (past : List Entry) (e : Entry) 
     → logged c me (e ∷ past) v i ≡ or_else (logged c me past v i) (begun_proposal c me past e v i)
 logs_begun c me past e body is h v i =
     log_next c me past e v i
-    ∙ ap (or_else (logged c me past v i)) (ap (or_else (begun_proposal c me past e v i)) (entry_none c me past e body is h v i) ∙ or_none (begun_proposal c me past e v i) None refl)
+    ∙ ap (or_else (logged c me past v i)) (ap (or_else (begun_proposal c me past e v i)) (entry_none c me past e body is h v i) ∙ or_else_alone (begun_proposal c me past e v i) None refl)
 
 -- nothing, where no new view is taken
 pub logs_nothing : (c : Configuration) (me : ℕ) (past : List Entry) (e : Entry) (body : Body) → brought c e ≡ Some body → IsNoProposal body.message → taken c past e ≡ None → (v i : ℕ)
     → logged c me (e ∷ past) v i ≡ logged c me past v i
 logs_nothing c me past e body is h none v i =
     logs_begun c me past e body is h v i
-    ∙ or_none (logged c me past v i) (begun_proposal c me past e v i)
+    ∙ or_else_alone (logged c me past v i) (begun_proposal c me past e v i)
     (none_if (is_in_marks c (low c me (e ∷ past)) i) (option_and_then (batch_begun v i) (taken c past e)) (ap (option_and_then (batch_begun v i)) none))
 
 -- ---- the points

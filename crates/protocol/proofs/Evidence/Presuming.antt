@@ -10,7 +10,7 @@ use Rattle.tuple_codec.specs.Operations.{Operation, IsOperation}
 use Rattle.partition_tree.specs.Digests.{inner_digests, page_digests}
 use Rattle.wire.specs.Messages.{BodyData as Body, MessageData as Message, request as Request, pre_prepare as PrePrepare, prepare as Prepare, commit as Commit, checkpoint as Checkpoint, view_change as ViewChange, new_view as NewView, reply as Reply, fetch as Fetch, meta as Meta, page as Page}
 use Rattle.protocol.specs.System.Configuration.{Configuration, IsConfiguration, replicas, is_replica, is_client, is_faulty_replica, is_correct_replica, is_correct_client, is_correct}
-use Rattle.protocol.specs.System.Trace.{Entry, party_of, is_output, history_of, Always, Has, Each, Once, SendsBody, IsFromSender, frames_in}
+use Rattle.protocol.specs.System.Trace.{Entry, party_of, is_output, history_of, Always, Has, Once, SendsBody, IsFromSender, frames_in}
 use Rattle.protocol.specs.System.Trace.Entry.{Invoke, Got, Tick, Executed, Installed, Sent, Accepted}
 use Rattle.protocol.specs.Replica.State.{State, opening, page_text, all_pages}
 use Rattle.protocol.specs.Replica.RightReplica.{waiting_after, Point, Leaves, May, Moves, IsHeld, GetsPage}
@@ -19,11 +19,12 @@ use Rattle.protocol.specs.System.Texts.IsText.{null, batch, part, held, page_of,
 use Rattle.protocol.specs.System.Texts.IsUnder.{inner, top}
 use Rattle.protocol.specs.Client.RightClient.{open_call, last_call, MayInput, IsClient, IsWeakClient}
 use Rattle.protocol.specs.Replica.Owed.{IsReplica}
-use Rattle.protocol.specs.System.Run.{Follows, IsRunOf}
+use Rattle.protocol.specs.System.Run.{IsRunOf}
 use Rattle.protocol.specs.Evidence.Premises.{WidestIsValid, NarrowestIsValid, ReplicasAreCorrect, ClientsAreCorrect, CorrectAreBoth, EachIsPrimary, PrimariesReturn, RunsHaveReplicas, RunsHaveClients, WeakRunsHaveReplicas, WeakRunsHaveClients, RunsGoOn, WeakRunsGoOn, ReplicasGoOn, RunsTakeCalls, WeakRunsTakeCalls, OthersAreUnforged, MayBeGot, FramesMayBeGot, FaultyHearAnything, IsOpeningText, HasText, BringsText, is_page, is_quiet, TextsAreFew}
-use Rattle.protocol.proofs.Words.Temporal.{once_weaker, always_weaker, always_in_history}
+use Rattle.protocol.proofs.Words.Temporal.{once_weaker, always_weaker, always_in_history, input_follows}
 use Rattle.protocol.proofs.Words.Options.{some_injective}
 use Rattle.protocol.proofs.Words.Linking.{heard_said}
+use Rattle.wire.specs.Lists.{Each}
 
 -- ---- configurations
 
@@ -175,10 +176,6 @@ pub weak_runs_have_clients : WeakRunsHaveClients
 weak_runs_have_clients c trace run = run.clients
 
 -- a run and one more input of a correct party
-input_follows : (e : Entry) (trace : List Entry) → is_output e ≡ false → Follows trace e
-input_follows e [] is = is
-input_follows e (before ∷ past) is = λ out. let bad : false ≡ true = sym is ∙ out in absurd cc
-
 run_goes_on : (IsIts : ℕ → List Entry → Type 0) (c : Configuration) (e : Entry) (trace : List Entry) → IsRunOf IsIts c trace
     → is_correct c (party_of e) ≡ true → is_output e ≡ false
     → ((q : ℕ) → party_of e ≡ q → is_correct_replica c q ≡ true → IsReplica c q (history_of q trace) → IsReplica c q (e ∷ history_of q trace))

@@ -29,14 +29,13 @@ use Rattle.protocol.proofs.Words.Temporal.{once_weaker, once_stays_from}
 use Rattle.protocol.proofs.Words.Options.{and_then_some, give_if_some, some_injective}
 use Rattle.protocol.proofs.Agreement.Voting.{right_always, logged_stays}
 use Rattle.protocol.proofs.Agreement.Marks.{Selects, selects, selected_in, takes}
-use Rattle.protocol.proofs.Words.Lists.{has_some, every_has, passes_change, change_there, has_of_any, largest_of-has, stands_at, some_below}
+use Rattle.protocol.proofs.Words.Lists.{passes_change, change_there, largest_of-has, stands_at, some_below}
 use Rattle.protocol.proofs.Points.Reading.{latest_heard}
 use Rattle.protocol.proofs.Points.Ordering.{latest_ordered}
-use Rattle.protocol.proofs.Points.Legality.{executed_number}
 use Rattle.protocol.proofs.Agreement.Changes.{change_target, target_grows}
 use Rattle.protocol.proofs.Agreement.Offers.{offer_in, offers_kept, marks_above}
 use Rattle.protocol.proofs.Words.Linking.{heard_opened, Speaks}
-use Rattle.protocol.proofs.Words.Leaving.{none_kept}
+use Rattle.protocol.proofs.Words.Leaving.{none_kept, executed_number}
 use Rattle.protocol.proofs.Words.Paging.{header_at}
 use Rattle.space.specs.Pages.{header_text}
 use Rattle.space.specs.Births.{SpaceState}
@@ -44,6 +43,7 @@ use Rattle.space.proofs.Determining.{number_split}
 use Rattle.std.specs.Int.{w64, to_be_bytes}
 use Rattle.protocol.specs.Replica.RightReplica.{IsInstalled, IsHeld}
 use Rattle.quorum.specs.Votes.{give_if}
+use Rattle.protocol.proofs.Words.Elements.{has_of_any, every_has, has_some}
 
 -- what the newest frame says, a right replica may say
 pub says_may : (c : Configuration) (me : ℕ) (bytes : List ℕ) (body : Body) (past : List Entry) (right : SafeReplica c me (Sent me bytes ∷ past)) → said bytes ≡ Some body

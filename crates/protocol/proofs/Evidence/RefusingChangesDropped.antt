@@ -23,10 +23,10 @@ use Rattle.protocol.specs.Replica.Owed.{Owes, Counts, IsReplica, IsNoOlder, chan
 use Rattle.protocol.specs.Evidence.RefusedChanges.{Answers, GotChange, IsNoRoot, DropsWrites, DropsRequestsOfReplicas, DropsOldRequests, DropsPassedRequests, DropsPrePreparesOfBackups, DropsPrePreparesWhileInactive, DropsPrePreparesOutsideMarks, DropsSecondPrePrepares, DropsPreparesOfPrimaries, DropsPreparesWhileInactive, DropsSecondPrepares, DropsCommitsWhileInactive, DropsSecondCommits, DropsLowCheckpoints, DropsCheckpointsOfNoNumber, DropsSecondCheckpoints, DropsPassedCheckpoints, DropsLowChanges, DropsUnboundChanges, DropsPassedChanges, DropsNewViews, DropsFetches, DropsLowDigests, DropsLowPages, DropsOtherRoots, DropsOtherDigests, DropsOtherPages}
 use Rattle.protocol.proofs.Words.Temporal.{once_weaker, once_stays_from}
 use Rattle.protocol.proofs.Words.Options.{give_if_some, some_injective}
-use Rattle.protocol.proofs.Words.Lists.{has_some}
 use Rattle.protocol.proofs.Agreement.Marks.{view_grows}
 use Rattle.protocol.proofs.Words.Reacting.{proceeds_leaves}
 use Rattle.protocol.proofs.Evidence.Refusing.{newest_state}
+use Rattle.protocol.proofs.Words.Elements.{has_some}
 
 -- ---- an input that is answered counts
 

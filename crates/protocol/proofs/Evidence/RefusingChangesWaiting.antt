@@ -8,28 +8,15 @@ use Rattle.protocol.specs.System.Configuration.{Configuration, is_client}
 use Rattle.wire.specs.declared.terms.Mode.TheVariants as modes
 use Rattle.wire.specs.Messages.{BodyData as Body, request as Request}
 use Rattle.protocol.specs.System.Frames.{heard}
-use Rattle.protocol.specs.System.Trace.{Entry, Has, Each}
+use Rattle.protocol.specs.System.Trace.{Entry, Has}
 use Rattle.protocol.specs.System.Trace.Entry.{Invoke, Got, Tick, Executed, Installed, Sent, Accepted}
 use Rattle.protocol.specs.Replica.State.{State, Call, call_in, execute, last_time}
 use Rattle.protocol.specs.Replica.RightReplica.{Point, May, Moves, is_newer, with_waiting, waiting_after, still_waiting}
 use Rattle.protocol.specs.Evidence.RefusedChanges.{is_other, WaitsOnceGot, WaitsOverFrames, WaitsUntilRun, WaitsNoLonger}
-use Rattle.protocol.proofs.Words.Lists.{every_has}
+use Rattle.protocol.proofs.Words.Elements.{every_has, each_with, has_left, has_right, has_weaker}
+use Rattle.wire.specs.Lists.{Each}
 
 -- ---- lists
-
-has_later : {A : Type 0} (P : A → Type 0) (xs ys : List A) → Has P ys → Has P (xs ++ ys)
-has_later P [] ys h = h
-has_later P (x ∷ xs) ys h = inr (has_later P xs ys h)
-
-has_sooner : {A : Type 0} (P : A → Type 0) (xs ys : List A) → Has P xs → Has P (xs ++ ys)
-has_sooner P [] ys h = absurd h
-has_sooner P (x ∷ xs) ys (inl h) = inl h
-has_sooner P (x ∷ xs) ys (inr h) = inr (has_sooner P xs ys h)
-
-has_weaker : {A : Type 0} (P Q : A → Type 0) → ((x : A) → P x → Q x) → (xs : List A) → Has P xs → Has Q xs
-has_weaker P Q f [] h = h
-has_weaker P Q f (x ∷ xs) (inl h) = inl (f x h)
-has_weaker P Q f (x ∷ xs) (inr h) = inr (has_weaker P Q f xs h)
 
 has_filtered : {A : Type 0} (test : A → Bool) (xs : List A) (x : A) → test x ≡ true → Has (λ y. y ≡ x) xs → Has (λ y. y ≡ x) (filter test xs)
 has_filtered test [] x t h = absurd h
@@ -57,10 +44,6 @@ each_kept P test (x ∷ xs) h = go (test x) (each_kept P test xs h.1)
     go true below = (h.0, below)
     go false below = below
 
-each_with : {A : Type 0} (P : A → Type 0) (xs : List A) (y : A) → Each P xs → P y → Each P (xs ++ y ∷ [])
-each_with P [] y h p = (p, tt)
-each_with P (x ∷ xs) y h p = (h.0, each_with P xs y h.1 p)
-
 -- ---- a request that is got
 
 newest_of : (calls : List Call) (call : Call) → Each (λ (x : Call). x.client ≡ call.client → x.timestamp < call.timestamp) calls → list_all (is_newer call) calls ≡ true
@@ -77,7 +60,7 @@ waits_once_got c me k timestamp op bytes past hears small newest point leaves =
     let n = newest old leaves.1 in
     subst (λ (calls : List Call). Has (λ x. x ≡ call) calls) (sym (ap (λ (q : Point). q.waiting) leaves.2.moves ∙ after old))
     (subst (λ (b : Bool). Has (λ x. x ≡ call) (cond b (filter (λ (other : Call). not (other.client == call.client)) old.waiting ++ call ∷ []) old.waiting)) (sym (taken old n.0 n.1))
-    (has_later (λ x. x ≡ call) (filter (λ (other : Call). not (other.client == call.client)) old.waiting) (call ∷ []) (inl refl)))
+    (has_right (λ x. x ≡ call) (filter (λ (other : Call). not (other.client == call.client)) old.waiting) (call ∷ []) (inl refl)))
   where
     call : Call
     call = record { client = k; timestamp = timestamp; op = op }
@@ -117,10 +100,10 @@ over_request st waiting call new h = go (nat_lt (last_time st new.client) new.ti
         pick : (b : Bool) → (call.client == new.client) ≡ b → (not b || nat_lt call.timestamp new.timestamp) ≡ true
             → Has (WaitsOrNewer call) (filter (λ (other : Call). not (other.client == new.client)) waiting ++ new ∷ [])
         pick true e t =
-            has_later (WaitsOrNewer call) (filter (λ (other : Call). not (other.client == new.client)) waiting) (new ∷ [])
+            has_right (WaitsOrNewer call) (filter (λ (other : Call). not (other.client == new.client)) waiting) (new ∷ [])
             (inl (inr (sym (eqb-true call.client new.client e), ltb-true call.timestamp new.timestamp t)))
         pick false e t =
-            has_sooner (WaitsOrNewer call) (filter (λ (other : Call). not (other.client == new.client)) waiting) (new ∷ [])
+            has_left (WaitsOrNewer call) (filter (λ (other : Call). not (other.client == new.client)) waiting) (new ∷ [])
             (has_weaker (λ x. x ≡ call) (WaitsOrNewer call) (λ x same. inl same) (filter (λ (other : Call). not (other.client == new.client)) waiting)
             (has_filtered (λ (other : Call). not (other.client == new.client)) waiting call (ap not e) h))
 

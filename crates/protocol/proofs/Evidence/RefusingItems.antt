@@ -11,13 +11,8 @@ use Rattle.protocol.specs.System.Trace.{Entry, Once, Always, Has, frames_in}
 use Rattle.protocol.specs.System.Trace.Entry.{Invoke, Got, Tick, Executed, Installed, Sent, Accepted}
 use Rattle.protocol.specs.Space.Linear.{Item, LegalFrom, Invokes, Accepts, Asks, NoneTwice, NeverFall}
 use Rattle.protocol.specs.Evidence.RefusedItems.{left_by, AnswersAsOneSpace, ListsWhatIsAccepted, ListsWhatIsCalled, IsAskedAt, ListsWhatIsAsked, ListsNoneTwice, PlacesInOrder, PlacesBehindCalls, PlacesBeforeAcceptances, LinearIsAllThree, OneSpaceIsBoth}
-use Rattle.protocol.proofs.Words.Lists.{has_some}
 use Rattle.protocol.proofs.Words.Temporal.{once_weaker}
-
-pub has_weaker : {A : Type 0} (P Q : A → Type 0) → ((x : A) → P x → Q x) → (xs : List A) → Has P xs → Has Q xs
-has_weaker P Q f [] h = h
-has_weaker P Q f (x ∷ xs) (inl h) = inl (f x h)
-has_weaker P Q f (x ∷ xs) (inr h) = inr (has_weaker P Q f xs h)
+use Rattle.protocol.proofs.Words.Elements.{has_some, has_weaker}
 
 has_got : (P : Item → Type 0) (i : ℕ) (items : List Item) (x : Item) → slice_get items i ≡ Some x → P x → Has P items
 has_got P i [] x get p = absurd cc

@@ -10,7 +10,8 @@ use Rattle.protocol.specs.System.Trace.{Entry, Once, Has}
 use Rattle.protocol.specs.System.Trace.Entry.{Invoke, Accepted}
 use Rattle.protocol.specs.Space.Linear.{Item, LegalFrom, Invokes, Asks, NoneTwice, NeverFall, IsLinear}
 use Rattle.protocol.specs.Evidence.RefusedItems.{WritesAreSeen, ReadsAreNotEarly}
-use Rattle.protocol.proofs.Evidence.RefusingItems.{has_weaker, behind, lowest}
+use Rattle.protocol.proofs.Evidence.RefusingItems.{behind, lowest}
+use Rattle.protocol.proofs.Words.Elements.{has_weaker}
 
 module _ (c : Configuration) (writer reader : ℕ) (t : TupleTree) (p : TemplateTree) (differ : writer ≢ reader)
     (right_writer : is_correct_client c (256 + writer) ≡ true) (right_reader : is_correct_client c (256 + reader) ≡ true) where

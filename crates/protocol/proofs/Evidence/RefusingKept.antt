@@ -5,54 +5,20 @@ use mathlib.Core.List.{reverse_aux}
 use Rattle.std.proofs.lemmas.Bool.{leb-true, le-leb}
 use Rattle.protocol.specs.System.Configuration.{Configuration}
 use Rattle.wire.specs.Messages.{ViewChangeData, MarkData as Mark, meta as Meta, page as Page}
-use Rattle.protocol.specs.System.Trace.{Entry, Has, Each}
+use Rattle.protocol.specs.System.Trace.{Entry, Has}
 use Rattle.protocol.specs.System.Trace.Entry.{Invoke, Got, Tick, Executed, Installed, Sent, Accepted}
 use Rattle.protocol.specs.Replica.Certificates.{low}
 use Rattle.protocol.specs.Replica.State.{State, opening, execute, page_text}
 use Rattle.protocol.specs.Replica.RightReplica.{MayMeta, MayPage, IsNewViewChange, kept_states, checkpoint_of, digests_at, Point, Leaves, May, Moves, Executes}
 use Rattle.protocol.specs.Evidence.RefusedChanges.{SendsNewChange}
 use Rattle.protocol.specs.Evidence.RefusedKept.{GivesNoLowDigests, GivesNoLowPages, Installs, HasSnapshot, ChangesFromLowMark, ListsNoneBelow, ListsSnapshots, ListsEachSnapshot, CheckpointsAscend}
-use Rattle.protocol.proofs.Points.Legality.{executed_number}
-use Rattle.protocol.proofs.Words.Lists.{has_some}
 use Rattle.protocol.proofs.Evidence.Refusing.{says_may}
 use Rattle.protocol.proofs.Evidence.RefusingChanges.{new_change}
+use Rattle.protocol.proofs.Words.Elements.{has_some, each_filtered, each_has, each_mapped, each_turned, each_weaker, has_filtered, has_mapped}
+use Rattle.wire.specs.Lists.{Each}
+use Rattle.protocol.proofs.Words.Leaving.{executed_number}
 
 -- ---- lists
-
-each_has : {A : Type 0} (P : A → Type 0) (xs : List A) (x : A) → Each P xs → Has (λ y. y ≡ x) xs → P x
-each_has P [] x e h = absurd h
-each_has P (y ∷ ys) x e (inl h) = subst P h e.0
-each_has P (y ∷ ys) x e (inr h) = each_has P ys x e.1 h
-
-each_weaker : {A : Type 0} (P Q : A → Type 0) → ((x : A) → P x → Q x) → (xs : List A) → Each P xs → Each Q xs
-each_weaker P Q f [] e = tt
-each_weaker P Q f (x ∷ xs) e = (f x e.0, each_weaker P Q f xs e.1)
-
-each_filtered : {A : Type 0} (P Q : A → Type 0) (test : A → Bool) → ((x : A) → test x ≡ true → P x → Q x) → (xs : List A) → Each P xs → Each Q (filter test xs)
-each_filtered P Q test f [] e = tt
-each_filtered P Q test f (x ∷ xs) e = go (test x) refl (each_filtered P Q test f xs e.1)
-  where
-    go : (b : Bool) → test x ≡ b → Each Q (filter test xs) → Each Q (cond b (x ∷ filter test xs) (filter test xs))
-    go true t below = (f x t e.0, below)
-    go false t below = below
-
-each_turned : {A : Type 0} (P : A → Type 0) (xs ys : List A) → Each P xs → Each P ys → Each P (reverse_aux xs ys)
-each_turned P [] ys e f = f
-each_turned P (x ∷ xs) ys e f = each_turned P xs (x ∷ ys) e.1 (e.0, f)
-
-each_mapped : {A B : Type 0} (P : B → Type 0) (f : A → B) (xs : List A) → Each (λ x. P (f x)) xs → Each P (map f xs)
-each_mapped P f [] e = tt
-each_mapped P f (x ∷ xs) e = (e.0, each_mapped P f xs e.1)
-
-has_filtered : {A : Type 0} (P : A → Type 0) (test : A → Bool) → ((x : A) → P x → test x ≡ true) → (xs : List A) → Has P xs → Has P (filter test xs)
-has_filtered P test f [] h = h
-has_filtered P test f (x ∷ xs) h = go (test x) refl h (has_filtered P test f xs)
-  where
-    go : (b : Bool) → test x ≡ b → P x ⊎ Has P xs → (Has P xs → Has P (filter test xs)) → Has P (cond b (x ∷ filter test xs) (filter test xs))
-    go true t (inl k) below = inl k
-    go true t (inr k) below = inr (below k)
-    go false t (inl k) below = absurd (let bad : false ≡ true = sym t ∙ f x k in cc)
-    go false t (inr k) below = below k
 
 has_turned : {A : Type 0} (P : A → Type 0) (xs ys : List A) → Has P xs ⊎ Has P ys → Has P (reverse_aux xs ys)
 has_turned P [] ys (inl h) = absurd h
@@ -60,11 +26,6 @@ has_turned P [] ys (inr h) = h
 has_turned P (x ∷ xs) ys (inl (inl h)) = has_turned P xs (x ∷ ys) (inr (inl h))
 has_turned P (x ∷ xs) ys (inl (inr h)) = has_turned P xs (x ∷ ys) (inl h)
 has_turned P (x ∷ xs) ys (inr h) = has_turned P xs (x ∷ ys) (inr (inr h))
-
-has_mapped : {A B : Type 0} (P : B → Type 0) (f : A → B) (xs : List A) → Has (λ x. P (f x)) xs → Has P (map f xs)
-has_mapped P f [] h = h
-has_mapped P f (x ∷ xs) (inl h) = inl h
-has_mapped P f (x ∷ xs) (inr h) = inr (has_mapped P f xs h)
 
 -- ---- which states there are
 

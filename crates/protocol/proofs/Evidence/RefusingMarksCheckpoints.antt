@@ -5,12 +5,13 @@ use Rattle.std.proofs.lemmas.Bool.{eqb-false, ltb-false, ltb-true, lt-ltb}
 use Rattle.quorum.specs.Votes.{give_if}
 use Rattle.protocol.specs.System.Configuration.{Configuration, is_number}
 use Rattle.wire.specs.Messages.{MessageData as Message, MarkData as Mark, checkpoint as Checkpoint}
-use Rattle.protocol.specs.System.Trace.{Entry, Once, Has, Each}
+use Rattle.protocol.specs.System.Trace.{Entry, Once, Has}
 use Rattle.protocol.specs.System.Trace.Entry.{Invoke, Got, Tick, Executed, Installed, Sent, Accepted}
 use Rattle.protocol.specs.Replica.Certificates.{brought, checkpoint_from, checkpoint_in, insert_checkpoint, with_checkpoint, checkpoints_of}
 use Rattle.protocol.specs.Evidence.RefusedMarks.{BringsCheckpoint, FirstCheckpointCounts, NewCheckpointCounts, CheckpointsStay, CheckpointsAreFew, CheckpointsDescend, CheckpointsWereBrought}
 use Rattle.protocol.proofs.Words.Options.{and_then_some, give_if_some}
 use Rattle.protocol.proofs.Evidence.RefusingMarksLow.{marked, checkpoints_with, no_checkpoints}
+use Rattle.wire.specs.Lists.{Each}
 
 -- ---- lists that descend
 

@@ -14,9 +14,9 @@ use Rattle.protocol.specs.Replica.Selection.{is_quorum}
 use Rattle.protocol.specs.Replica.Certificates.{taken, checkpoint_in, insert_checkpoint, with_checkpoint, checkpoints_of, says_checkpoint, count_checkpoints, is_stable, stable_at, installed_at, started_at, low}
 use Rattle.protocol.specs.Evidence.RefusedMarks.{IsStable, InstallsNumber, IsMarkAt, LowIsNoLower, LowIsMarked}
 use Rattle.protocol.proofs.Words.Temporal.{once_weaker, once_stays_from}
-use Rattle.protocol.proofs.Words.Lists.{has_of_any}
 use Rattle.protocol.proofs.Agreement.Marks.{low_grows, takes}
 use Rattle.protocol.proofs.Agreement.States.{has_insert, has_take, is_mark}
+use Rattle.protocol.proofs.Words.Elements.{has_of_any}
 
 -- ---- what is said
 

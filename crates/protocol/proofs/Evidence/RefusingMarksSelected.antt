@@ -1,19 +1,22 @@
 -- The definitions refuse a new view over wrong view changes.
-use Rattle.std.specs.List.{list_all, list_any}
-use Rattle.std.proofs.Common.{◌≡◌, ◌^◌, ℕ, zero, suc, ◌+◌, ◌*◌, ◌%◌, ◌≤◌, ◌<◌, ◌⊎◌, inl, inr, true, ◌&&◌, List, [], ◌∷◌, length, map, bytes_eq, slice_get, refl, ap, ◌∙◌, subst, arith, Option, Some, None, eqb-true}
+use Rattle.std.specs.List.{list_any}
+use Rattle.std.proofs.Common.{◌≡◌, ℕ, zero, suc, ◌+◌, ◌*◌, ◌≤◌, ◌<◌, ◌⊎◌, inl, inr, true, ◌&&◌, List, [], ◌∷◌, length, map, bytes_eq, slice_get, refl, ap, ◌∙◌, subst, arith, Option, Some, None, eqb-true}
 use Rattle.std.specs.Prelude.{◌==◌, nat_le, nat_lt}
 use Rattle.std.proofs.lemmas.Bool.{and_parts, leb-true, ltb-true}
 use Rattle.std.proofs.lemmas.Slice.Eq.{bytes_eq-Decides}
-use Rattle.protocol.specs.System.Configuration.{Configuration, span, is_number}
-use Rattle.wire.specs.Messages.{BodyData as Body, MessageData as Message, ViewChangeData, NewViewData, MarkData as Mark, ClaimData as Claim, view_change as ViewChange}
+use Rattle.protocol.specs.System.Configuration.{Configuration}
+use Rattle.wire.specs.Messages.{BodyData as Body, MessageData as Message, ViewChangeData, NewViewData, MarkData as Mark, view_change as ViewChange}
 use Rattle.protocol.specs.System.Frames.{signed_body}
 use Rattle.protocol.specs.System.Trace.{Has}
-use Rattle.protocol.specs.Replica.Selection.{is_quorum, is_weak_quorum, signed_change, change_in, changes_of, list_of, count_in, ascending, is_claim_within, is_checkpoint_within, is_within}
-use Rattle.protocol.specs.Evidence.RefusedMarks.{SpellsChange, IsClaimBounded, IsCheckpointBounded, IsBounded, TakesWellFounded}
+use Rattle.protocol.specs.Replica.Selection.{is_quorum, is_weak_quorum, signed_change, change_in, changes_of, list_of, count_in, ascending, is_within}
+use Rattle.protocol.specs.Evidence.RefusedMarks.{SpellsChange, TakesWellFounded}
 use Rattle.protocol.proofs.Words.Options.{and_then_some, some_injective}
-use Rattle.protocol.proofs.Words.Lists.{every_has, has_of_any}
 use Rattle.protocol.proofs.Agreement.Marks.{Selects, selects, selected_in, takes}
 use Rattle.protocol.proofs.Evidence.Refusing.{has_from}
+use Rattle.protocol.proofs.Words.Elements.{has_of_any, every_has}
+use Rattle.protocol.proofs.Words.Lists.{no_longer}
+use Rattle.std.proofs.lemmas.List.{length-map}
+use Rattle.protocol.proofs.Words.Bounds.{bounded}
 
 -- ---- what is carried
 
@@ -29,15 +32,6 @@ spelled c bytes x h =
     let r = and_then_some change_in (signed_body c bytes) x h in
     r.1 ∙ ap Some (change_is r.0.sender r.0.message x r.2)
 
-pub no_longer : {A : Type 0} (xs : List (Option A)) → length (list_of xs) ≤ length xs
-no_longer [] = omega arith
-no_longer (None ∷ xs) = let r = no_longer xs in omega arith
-no_longer (Some x ∷ xs) = let r = no_longer xs in omega arith
-
-pub length_map : (c : Configuration) (xs : List (List ℕ)) → length (map (signed_change c) xs) ≡ length xs
-length_map c [] = refl
-length_map c (x ∷ xs) = ap suc (length_map c xs)
-
 -- as many as were carried: each of these is one
 each_is_one : (c : Configuration) (frames : List (List ℕ)) (bytes : List ℕ) → length (list_of (map (signed_change c) frames)) ≡ length frames → Has (λ x. x ≡ bytes) frames
     → (s : ℕ) × (vc : ViewChangeData) × SpellsChange c bytes s vc
@@ -49,7 +43,7 @@ each_is_one c (frame ∷ frames) bytes long h = go (signed_change c frame) refl 
         → (s : ℕ) × (vc : ViewChangeData) × SpellsChange c bytes s vc
     go None is long h below =
         let most = no_longer (map (signed_change c) frames) in
-        let same = length_map c frames in
+        let same = length-map frames (signed_change c) in
         absurd (omega arith)
     go (Some x) is long (inl here) below = (x.0, x.1, subst (λ (b : List ℕ). SpellsChange c b x.0 x.1) here (spelled c frame x is))
     go (Some x) is long (inr there) below = below (omega arith) there
@@ -87,46 +81,6 @@ ascends (x ∷ xs) h zero (suc j) a b less first second =
 ascends (x ∷ []) h (suc i) (suc j) a b less first second = absurd cc
 ascends (x ∷ y ∷ ys) h (suc i) (suc j) a b less first second =
     ascends (y ∷ ys) (and_parts (nat_lt x.0 y.0) (ascending (y ∷ ys)) h).1 i j a b (omega arith) first second
-
--- ---- the bounds
-
-claim_bounded : (c : Configuration) (vc : ViewChangeData) (claim : Claim) → is_claim_within c vc claim ≡ true → IsClaimBounded c vc claim
-claim_bounded c vc claim h =
-    let n = and_parts (nat_lt claim.view vc.view && nat_lt vc.low claim.number && nat_le claim.number (vc.low + span c)) (is_number claim.number) h in
-    let w = and_parts (nat_lt claim.view vc.view && nat_lt vc.low claim.number) (nat_le claim.number (vc.low + span c)) n.0 in
-    let a = and_parts (nat_lt claim.view vc.view) (nat_lt vc.low claim.number) w.0 in
-    record {
-      earlier = ltb-true claim.view vc.view a.0;
-      above = ltb-true vc.low claim.number a.1;
-      within = leb-true claim.number (vc.low + span c) w.1;
-      number = ltb-true claim.number (2 ^ 48) n.1;
-    }
-
-checkpoint_bounded : (c : Configuration) (vc : ViewChangeData) (mark : Mark) → is_checkpoint_within c vc mark ≡ true → IsCheckpointBounded c vc mark
-checkpoint_bounded c vc mark h =
-    let n = and_parts (nat_le vc.low mark.number && nat_le mark.number (vc.low + span c) && (mark.number % c.period == 0)) (is_number mark.number) h in
-    let m = and_parts (nat_le vc.low mark.number && nat_le mark.number (vc.low + span c)) (mark.number % c.period == 0) n.0 in
-    let w = and_parts (nat_le vc.low mark.number) (nat_le mark.number (vc.low + span c)) m.0 in
-    record {
-      from = leb-true vc.low mark.number w.0;
-      within = leb-true mark.number (vc.low + span c) w.1;
-      multiple = eqb-true (mark.number % c.period) 0 m.1;
-      number = ltb-true mark.number (2 ^ 48) n.1;
-    }
-
-pub bounded : (c : Configuration) (vc : ViewChangeData) → is_within c vc ≡ true → IsBounded c vc
-bounded c vc h =
-    let k = and_parts (is_number vc.view && is_number vc.low && list_all (is_claim_within c vc) vc.prepared && list_all (is_claim_within c vc) vc.pre_prepared) (list_all (is_checkpoint_within c vc) vc.checkpoints) h in
-    let q = and_parts (is_number vc.view && is_number vc.low && list_all (is_claim_within c vc) vc.prepared) (list_all (is_claim_within c vc) vc.pre_prepared) k.0 in
-    let p = and_parts (is_number vc.view && is_number vc.low) (list_all (is_claim_within c vc) vc.prepared) q.0 in
-    let n = and_parts (is_number vc.view) (is_number vc.low) p.0 in
-    record {
-      view = ltb-true vc.view (2 ^ 48) n.0;
-      low = ltb-true vc.low (2 ^ 48) n.1;
-      prepared = λ claim has. claim_bounded c vc claim (every_has (is_claim_within c vc) vc.prepared claim p.1 has);
-      pre_prepared = λ claim has. claim_bounded c vc claim (every_has (is_claim_within c vc) vc.pre_prepared claim q.1 has);
-      checkpoints = λ mark has. checkpoint_bounded c vc mark (every_has (is_checkpoint_within c vc) vc.checkpoints mark k.1 has);
-    }
 
 -- ---- the start
 

@@ -1,5 +1,5 @@
 -- The definitions refuse a correct replica that goes on and leaves undone what an event owes.
-use Rattle.std.proofs.Common.{◌≡◌, ℕ, suc, ◌+◌, ◌≤◌, arith, ◌<◌, ◌⊎◌, inl, inr, Bool, true, false, List, [], ◌∷◌, ◌++◌, reverse, refl, sym, ap, subst}
+use Rattle.std.proofs.Common.{◌≡◌, ℕ, suc, ◌+◌, ◌≤◌, arith, ◌<◌, inl, inr, Bool, true, false, List, [], ◌∷◌, ◌++◌, reverse, refl, sym, ap, subst}
 use Rattle.std.specs.Prelude.{AllPairs, Some, None}
 use Rattle.std.proofs.lemmas.List.{reverse-reverse}
 use mathlib.Core.List.{reverse_aux}
@@ -18,6 +18,7 @@ use Rattle.protocol.specs.Replica.Owed.{AtOutputs, HasRequest, IsNumbered, AreDi
 use Rattle.protocol.specs.Evidence.Refused.{GoesOn, NumbersNoneTwice, NumbersNoneTogether, AnswersReads, AnswersDigestFetches, AnswersPageFetches, AnswersAgain, AnswersRan, PreparesLogged, CommitsPrepared, ExecutesCommitted, NumbersWaiting, FetchesAhead, SendsCheckpoints}
 use Rattle.protocol.proofs.Words.Reacting.{one_of, proceeds_leaves}
 use Rattle.protocol.proofs.Evidence.Refusing.{newest_state}
+use Rattle.protocol.proofs.Words.Elements.{has_reverse, has_reversed}
 
 -- ---- the event of a replica that goes on
 
@@ -84,25 +85,6 @@ event_of c me outputs input past g = go g.is_replica
         (Owes c me rest g.next p.outputs (reverse p.outputs ++ g.next ∷ rest) p.proceeds.0 p.new × Proceeds c me rest [] p.proceeds.0 p.proceeds.0) p.proceeds.2 in
         at_end p.proceeds.0 k.1
     go (inr h) = absurd h.1
-
-has_reverse_aux : (P : Entry → Type 0) (xs ys : List Entry) → Has P (reverse_aux xs ys) → Has P xs ⊎ Has P ys
-has_reverse_aux P [] ys h = inr h
-has_reverse_aux P (x ∷ xs) ys h = go (has_reverse_aux P xs (x ∷ ys) h)
-  where
-    go : Has P xs ⊎ (P x ⊎ Has P ys) → (P x ⊎ Has P xs) ⊎ Has P ys
-    go (inl k) = inl (inr k)
-    go (inr (inl k)) = inl (inl k)
-    go (inr (inr k)) = inr k
-
-has_reverse : (P : Entry → Type 0) (xs : List Entry) → Has P (reverse xs) → Has P xs
-has_reverse P xs h = go (has_reverse_aux P xs [] h)
-  where
-    go : Has P xs ⊎ ⊥ → Has P xs
-    go (inl k) = k
-    go (inr k) = absurd k
-
-has_reversed : (P : Entry → Type 0) (xs : List Entry) → Has P xs → Has P (reverse xs)
-has_reversed P xs h = has_reverse P (reverse xs) (subst (λ (ys : List Entry). Has P ys) (sym (reverse-reverse xs)) h)
 
 -- ---- what is answered
 

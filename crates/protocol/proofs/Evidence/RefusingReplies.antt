@@ -12,10 +12,10 @@ use Rattle.protocol.specs.Replica.State.{State, Call, Ran, call_of, runs, kept_b
 use Rattle.protocol.specs.Replica.RightReplica.{Point, Leaves, May, Moves, MayReply, reply_of}
 use Rattle.protocol.specs.Replica.Owed.{HasRequest}
 use Rattle.protocol.specs.Evidence.Refused.{RepliesOfExecuted, ExecutesRequest, NoInstallation, IsReplyOf}
-use Rattle.protocol.proofs.Words.Lists.{has_some}
-use Rattle.protocol.proofs.Points.Keeping.{Keeps, frames_kept, executed_kept, has_either}
+use Rattle.protocol.proofs.Points.Keeping.{Keeps, frames_kept, executed_kept}
 use Rattle.protocol.proofs.Words.Leaving.{none_kept}
 use Rattle.protocol.proofs.Evidence.Refusing.{says_may, is_reply}
+use Rattle.protocol.proofs.Words.Elements.{has_either, has_some}
 
 -- what ran is of one of the frames, and is kept under the number
 record RanOf (c : Configuration) (k : ℕ) (frames : List (List ℕ)) (x : Ran) : Type 0 where

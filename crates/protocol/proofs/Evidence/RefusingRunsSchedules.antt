@@ -11,15 +11,15 @@ use Rattle.protocol.specs.System.Configuration.{Configuration, is_correct}
 use Rattle.protocol.specs.System.Frames.{frame_of}
 use Rattle.wire.specs.Messages.{FrameData as Frame}
 use Rattle.std.specs.Option.{option_map_or}
-use Rattle.protocol.specs.System.Trace.{Entry, is_output, Has, Each}
+use Rattle.protocol.specs.System.Trace.{Entry, is_output, Has}
 use Rattle.protocol.specs.System.Trace.Entry.{Invoke, Got, Tick, Executed, Installed, Sent, Accepted}
 use Rattle.protocol.specs.System.Schedule.{Step, Made, World, Goes, AtInput, new_world, made_by, meant_for, is_delivered, next_receiver, next_pair, pending, IsAllowed, Feeds}
 use Rattle.protocol.specs.System.Schedule.Step.{calls, deliver, feed, seal, sign, ticks, flush}
 use Rattle.protocol.specs.System.Schedule.Goes.{ends, gives, called, delivers, gets, ticked, seals, signs, flushes, flushed}
 use Rattle.protocol.specs.Evidence.RefusedRuns.{IsInputOf, feeds_input, FeedsEachStep, calls_for, invokes_for, FeedsEachCall, ticks_for, is_tick_of, FeedsEachTick, StopsInRuns, is_sent, StopsAtNoSent, Gets, FlushDeliversAll, FlushDeliversSent}
-use Rattle.protocol.proofs.Words.Lists.{some_of_has}
 use Rattle.protocol.proofs.Words.Options.{some_injective}
-use Rattle.protocol.proofs.Agreement.States.{has_reverse}
+use Rattle.protocol.proofs.Words.Elements.{some_of_has, has_reverse, each_has}
+use Rattle.wire.specs.Lists.{Each}
 
 -- ---- each step is fed
 
@@ -347,11 +347,6 @@ frame_done c delivered first (x ∷ frames) (suc k) made none h =
     rest_none None e = e
     rest_none (Some y) e = absurd cc
 
-each_at : (P : ℕ × ℕ → Type 0) (xs : List (ℕ × ℕ)) (x : ℕ × ℕ) → Each P xs → Has (λ y. y ≡ x) xs → P x
-each_at P [] x a h = absurd h
-each_at P (y ∷ ys) x a (inl h) = subst P h a.0
-each_at P (y ∷ ys) x a (inr h) = each_at P ys x a.1 h
-
 pub flush_delivers_all : FlushDeliversAll
 flush_delivers_all c steps i q made trace feeds is has correct =
     let v = feeds.0 in
@@ -361,7 +356,7 @@ flush_delivers_all c steps i q made trace feeds is has correct =
     let was : is_delivered v.delivered i q ≡ true = receiver_done c v.delivered i q made.receivers left has correct in
     let at = some_of_has (λ (x : ℕ × ℕ). (x.0 == i) && (x.1 == q)) v.delivered was in
     let p = and_parts (at.0.0 == i) (at.0.1 == q) at.2 in
-    let done : IsDone v.frames v.past at.0 = each_at (IsDone v.frames v.past) v.delivered at.0 (all_done c new_world v (steps ++ flush ∷ []) (reverse trace) feeds.1 tt) at.1 in
+    let done : IsDone v.frames v.past at.0 = each_has (IsDone v.frames v.past) v.delivered at.0 (all_done c new_world v (steps ++ flush ∷ []) (reverse trace) feeds.1 tt) at.1 in
     let frame : slice_get v.frames i ≡ Some done.0 = subst (λ (n : ℕ). slice_get v.frames n ≡ Some done.0) (eqb-true at.0.0 i p.0) done.1 in
     let same : done.0 ≡ made = some_injective done.0 made (sym frame ∙ is) in
     let got : Has (Gets q done.0.bytes) v.past = subst (λ (n : ℕ). Has (Gets n done.0.bytes) v.past) (eqb-true at.0.1 q p.1) done.2 in

@@ -2,14 +2,15 @@
 use Rattle.std.proofs.Common.{◌≡◌, ℕ, suc, ◌≤◌, ◌<◌, inl, inr, List, [], ◌∷◌, length, refl, sym, subst, ◌∙◌, arith, reverse}
 use Rattle.std.proofs.lemmas.List.{reverse-reverse}
 use mathlib.Core.List.{reverse_aux}
-use Rattle.protocol.specs.System.Trace.{Entry, Once, Has, Each}
+use Rattle.protocol.specs.System.Trace.{Entry, Once, Has}
 use Rattle.protocol.specs.System.Trace.Entry.{Invoke, Got, Tick, Executed, Installed, Sent, Accepted}
 use Rattle.protocol.specs.Space.Linear.{points}
 use Rattle.protocol.specs.System.Schedule.{Acceptance, acceptances}
 use Rattle.protocol.specs.Evidence.RefusedSteps.{ReportsExist, IsAcceptance, ReportsAll, ReportsNoOther, Rise, ReportsInOrder, ReportsAreLinear, FirstOperationIsReported}
-use Rattle.protocol.proofs.Agreement.States.{has_reverse}
 use Rattle.protocol.proofs.Points.Whole.{points_are_linear}
 use Rattle.protocol.proofs.Evidence.FirstPoint.{first_operation_has_its_point}
+use Rattle.protocol.proofs.Words.Elements.{has_reverse}
+use Rattle.wire.specs.Lists.{Each}
 
 pub reports_exist : ReportsExist
 reports_exist c trace = (reverse (acceptances trace), points c trace, record { accepted_are = refl; points_are = refl })

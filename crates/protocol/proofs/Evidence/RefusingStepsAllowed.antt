@@ -2,7 +2,7 @@
 -- such a frame undelivered.
 use Rattle.std.proofs.Common.{◌≡◌, ℕ, zero, suc, ◌⊎◌, inl, inr, Bool, true, false, List, [], ◌∷◌, ◌++◌, length, take, slice_get, refl, sym, ap, ◌∙◌, subst, ◌||◌, Some, reverse}
 use Rattle.protocol.specs.System.Configuration.{Configuration, is_replica, is_client}
-use Rattle.protocol.specs.System.Trace.{Entry, Always, Has, Each, is_output}
+use Rattle.protocol.specs.System.Trace.{Entry, Always, Has, is_output}
 use Rattle.protocol.specs.System.Trace.Entry.{Invoke, Got, Tick, Executed, Installed, Sent, Accepted}
 use Rattle.protocol.specs.System.Schedule.{Step, Made, World, Goes, AtInput, new_world, made_by, sealed_bytes, signed_bytes, AreReceivers, IsAllowed}
 use Rattle.protocol.specs.System.Schedule.Step.{calls, deliver, feed, seal, sign, ticks, flush}
@@ -10,6 +10,7 @@ use Rattle.protocol.specs.System.Schedule.Goes.{ends, gives, called, delivers, g
 use Rattle.protocol.specs.Evidence.RefusedSteps.{MayBeFed, FeedsWhatMayBeFed, ArePartiesInOrder, MayMake, FeedsWhatMayBeMade, FlushDeliversSealed, FlushDeliversSigned, SealedIsNewest, SignedIsNewest, MayCome, StopsAtNone, StopsAtEach}
 use Rattle.protocol.proofs.Words.Options.{some_injective}
 use Rattle.protocol.proofs.Evidence.RefusingRunsSchedules.{past_of, flush_delivers_all}
+use Rattle.wire.specs.Lists.{Each}
 
 -- ---- what is fed
 

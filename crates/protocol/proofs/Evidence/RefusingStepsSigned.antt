@@ -18,14 +18,13 @@ use Rattle.signing.specs.Signatures.{public_key, signed_bit, sibling_digest, sig
 use Rattle.signing.proofs.Signed.{signature_of-verifies}
 use Rattle.signing.proofs.Heard.{verifies-Decides, signed_is_heard, signer_is_heard}
 use Rattle.signing.specs.Heard.{signed_body as signed_among}
-use Rattle.protocol.specs.System.Configuration.{Configuration, replicas, is_replica}
-use Rattle.protocol.specs.System.Frames.{members}
+use Rattle.protocol.specs.System.Configuration.{Configuration, replicas, is_replica, members}
 use Rattle.protocol.specs.System.Schedule.{meant_for, signed_bytes}
 use Rattle.protocol.specs.Replica.RightReplica.{others}
 use Rattle.protocol.specs.Evidence.RefusedSteps.{SignedFramesAreHeard}
 use Rattle.protocol.proofs.Words.Spelled.{frames_are_spelled, bodies_are_said, bytes_are_heard}
-use Rattle.protocol.proofs.Evidence.FirstFramesBytes.{no_bytes, bytes_more}
-use Rattle.protocol.proofs.Evidence.FirstFramesSpelled.{spelled_bytes}
+use Rattle.protocol.proofs.Words.PartsBytes.{no_bytes, bytes_more}
+use Rattle.protocol.proofs.Words.FramesBytes.{spelled_bytes}
 use Rattle.protocol.proofs.Evidence.FirstFrames.{is_digest}
 
 -- ---- a signature is of bytes

@@ -11,13 +11,16 @@ use Rattle.wire.specs.Messages.{NewViewData, ViewChangeData, MarkData as Mark, C
 use Rattle.protocol.specs.System.Trace.{Has}
 use Rattle.protocol.specs.Replica.Selection.{is_quorum, is_weak_quorum, signed_change, changes_of, list_of, count_in, ascending, is_within, is_start, agrees, vouches, may_stand_at, may_be_null, null_batch, is_null, may_stand, may_all_stand, largest, largest_of, how_many, may_select}
 use Rattle.protocol.specs.Evidence.Refused.{SaysNothingAgainst, SaysForIt, SaysNothing}
-use Rattle.protocol.specs.Evidence.RefusedMarks.{IsBounded}
 use Rattle.protocol.specs.Evidence.Selected.{AreSigned, SomePrepared, MayStand, IsSelected, NewViewsMeetTheRules}
-use Rattle.protocol.proofs.Words.Lists.{largest_ge, stands_at, some_below}
+use Rattle.protocol.proofs.Words.Lists.{largest_ge, stands_at, some_below, no_longer}
 use Rattle.protocol.proofs.Agreement.Marks.{Selects, selects, largest_of-le}
 use Rattle.protocol.proofs.Evidence.Refusing.{have_of_count, says_nothing_against, says_for_it, says_nothing}
-use Rattle.protocol.proofs.Evidence.RefusingMarksSelected.{spelled, no_longer, length_map, bounded, lists}
-use Rattle.protocol.proofs.Evidence.SelectedTests.{each_of_all, all_of_each, pairs_of_ascending, ascending_of_pairs, count_of_have, within_of_bounded, agrees_of, vouches_of, nothing_of, listed_of}
+use Rattle.protocol.proofs.Evidence.RefusingMarksSelected.{spelled, lists}
+use Rattle.protocol.proofs.Evidence.SelectedTests.{pairs_of_ascending, ascending_of_pairs, count_of_have, agrees_of, vouches_of, nothing_of, listed_of}
+use Rattle.protocol.proofs.Words.Elements.{all_of_each, each_of_all}
+use Rattle.std.proofs.lemmas.List.{length-map}
+use Rattle.protocol.specs.Laws.Bounds.{IsBounded}
+use Rattle.protocol.proofs.Words.Bounds.{bounded, within_of_bounded}
 
 -- ---- what is carried
 
@@ -30,7 +33,7 @@ are_signed c (frame ∷ frames) long = go (signed_change c frame) refl long (are
         → AreSigned c (frame ∷ frames) (list_of (o ∷ map (signed_change c) frames))
     go None is long below =
         let most = no_longer (map (signed_change c) frames) in
-        let same = length_map c frames in
+        let same = length-map frames (signed_change c) in
         absurd (omega arith)
     go (Some x) is long below = (spelled c frame x is, below (omega arith))
 

@@ -1,52 +1,20 @@
 -- The tests of the rules of a new view hold exactly where their relations do.
 use Rattle.std.specs.List.{list_all, list_any, AllPairs, All}
-use Rattle.std.proofs.Common.{◌≡◌, ◌^◌, ℕ, zero, suc, not, ◌+◌, ◌%◌, ◌≤◌, ◌<◌, ◌⊎◌, inl, inr, Bool, true, false, List, [], ◌∷◌, bytes_eq, Some, refl, ap, ◌∙◌, subst, arith, ◌&&◌, ◌||◌, eqb-true, eq-eqb}
+use Rattle.std.proofs.Common.{◌≡◌, ℕ, zero, suc, not, ◌≤◌, ◌<◌, ◌⊎◌, inl, inr, Bool, true, false, List, [], ◌∷◌, bytes_eq, refl, ap, ◌∙◌, arith, ◌&&◌, ◌||◌, eqb-true, eq-eqb}
 use Rattle.std.specs.Prelude.{◌==◌, nat_le, nat_lt}
-use Rattle.std.proofs.lemmas.Bool.{and_parts, and_from, or_left, or_right, le-leb, lt-ltb, ne_eqb, ltb-true}
+use Rattle.std.proofs.lemmas.Bool.{and_from, or_left, or_right, le-leb, lt-ltb}
 use Rattle.std.proofs.lemmas.Slice.Eq.{bytes_eq-Decides}
 use Rattle.std.proofs.lemmas.List.Kept.{AllPairs-cons}
 use Rattle.quorum.proofs.Counting.{count_mono}
-use Rattle.protocol.specs.System.Configuration.{Configuration, replicas, span, is_number}
+use Rattle.protocol.specs.System.Configuration.{Configuration, replicas}
 use Rattle.wire.specs.Messages.{ViewChangeData, MarkData as Mark, ClaimData as Claim}
-use Rattle.protocol.specs.System.Trace.{Has, Each}
-use Rattle.protocol.specs.Replica.Selection.{change_by, passes_by, count_in, agrees, vouches, ascending, is_claim_within, is_checkpoint_within, is_within}
+use Rattle.protocol.specs.System.Trace.{Has}
+use Rattle.protocol.specs.Replica.Selection.{passes_by, count_in, agrees, vouches, ascending}
 use Rattle.protocol.specs.Evidence.Refused.{SoManyHave, SaysNothingAgainst, SaysForIt, SaysNothing}
-use Rattle.protocol.specs.Evidence.RefusedMarks.{IsClaimBounded, IsCheckpointBounded, IsBounded}
-
--- ---- lists
-
-pub each_of_all : {A : Type 0} (P : A → Type 0) (test : A → Bool) → ((x : A) → test x ≡ true → P x) → (xs : List A) → list_all test xs ≡ true → Each P xs
-each_of_all P test f [] h = tt
-each_of_all P test f (x ∷ xs) h =
-    let p = and_parts (test x) (list_all test xs) h in
-    (f x p.0, each_of_all P test f xs p.1)
-
-pub all_of_each : {A : Type 0} (P : A → Type 0) (test : A → Bool) → ((x : A) → P x → test x ≡ true) → (xs : List A) → Each P xs → list_all test xs ≡ true
-all_of_each P test f [] h = refl
-all_of_each P test f (x ∷ xs) h = and_from (test x) (list_all test xs) (f x h.0) (all_of_each P test f xs h.1)
-
-pub all_where : {A : Type 0} (test : A → Bool) (xs : List A) → ((x : A) → Has (λ y. y ≡ x) xs → test x ≡ true) → list_all test xs ≡ true
-all_where test [] f = refl
-all_where test (x ∷ xs) f = and_from (test x) (list_all test xs) (f x (inl refl)) (all_where test xs (λ y has. f y (inr has)))
-
-pub any_of_has : {A : Type 0} (P : A → Type 0) (test : A → Bool) → ((x : A) → P x → test x ≡ true) → (xs : List A) → Has P xs → list_any test xs ≡ true
-any_of_has P test f [] h = absurd h
-any_of_has P test f (x ∷ xs) (inl h) = or_left (test x) (list_any test xs) (f x h)
-any_of_has P test f (x ∷ xs) (inr h) = or_right (test x) (list_any test xs) (any_of_has P test f xs h)
-
-pub has_weaker : {A : Type 0} (P Q : A → Type 0) → ((x : A) → P x → Q x) → (xs : List A) → Has P xs → Has Q xs
-has_weaker P Q f [] h = absurd h
-has_weaker P Q f (x ∷ xs) (inl h) = inl (f x h)
-has_weaker P Q f (x ∷ xs) (inr h) = inr (has_weaker P Q f xs h)
+use Rattle.protocol.proofs.Words.Elements.{all_where, any_of_has, has_weaker}
+use Rattle.protocol.proofs.Words.Lists.{later, first_less, change_of}
 
 -- ---- the order of the senders
-
-later : (x : ℕ × ViewChangeData) (xs : List (ℕ × ViewChangeData)) → ascending (x ∷ xs) ≡ true → ascending xs ≡ true
-later x [] h = refl
-later x (y ∷ ys) h = (and_parts (nat_lt x.0 y.0) (ascending (y ∷ ys)) h).1
-
-first_less : (x y : ℕ × ViewChangeData) (ys : List (ℕ × ViewChangeData)) → ascending (x ∷ y ∷ ys) ≡ true → x.0 < y.0
-first_less x y ys h = ltb-true x.0 y.0 (and_parts (nat_lt x.0 y.0) (ascending (y ∷ ys)) h).0
 
 above_first : (x : ℕ × ViewChangeData) (xs : List (ℕ × ViewChangeData)) → ascending (x ∷ xs) ≡ true → All (λ y. x.0 < y.0) xs
 above_first x [] h k d l = absurd (omega arith)
@@ -67,25 +35,6 @@ ascending_of_pairs (x ∷ y ∷ ys) h =
     and_from (nat_lt x.0 y.0) (ascending (y ∷ ys)) (lt-ltb x.0 y.0 (h 0 1 x (omega arith) (omega arith)))
     (ascending_of_pairs (y ∷ ys) (λ i j d less within. h (suc i) (suc j) d (omega arith) (omega arith)))
 
-below_rest : (x : ℕ × ViewChangeData) (xs : List (ℕ × ViewChangeData)) (s : ℕ) (vc : ViewChangeData) → ascending (x ∷ xs) ≡ true → Has (λ y. y ≡ (s, vc)) xs → x.0 < s
-below_rest x [] s vc h has = absurd has
-below_rest x (y ∷ ys) s vc h (inl same) = subst (λ (z : ℕ × ViewChangeData). x.0 < z.0) same (first_less x y ys h)
-below_rest x (y ∷ ys) s vc h (inr rest) =
-    let first = first_less x y ys h in
-    let more = below_rest y ys s vc (later x (y ∷ ys) h) rest in
-    omega arith
-
--- what a replica has in the set is the first of its view changes there
-change_of : (xs : List (ℕ × ViewChangeData)) (s : ℕ) (vc : ViewChangeData) → ascending xs ≡ true → Has (λ y. y ≡ (s, vc)) xs → change_by xs s ≡ Some vc
-change_of [] s vc h has = absurd has
-change_of (x ∷ xs) s vc h (inl same) =
-    let own : (x.0 == s) ≡ true = eq-eqb x.0 s (ap (λ (z : ℕ × ViewChangeData). z.0) same) in
-    rw own (ap (λ (z : ℕ × ViewChangeData). Some z.1) same)
-change_of (x ∷ xs) s vc h (inr rest) =
-    let less = below_rest x xs s vc h rest in
-    let other : (x.0 == s) ≡ false = ne_eqb x.0 s (λ e. absurd (omega arith)) in
-    rw other (change_of xs s vc (later x xs h) rest)
-
 -- ---- how many replicas
 
 pub count_of_have : (c : Configuration) (set : List (ℕ × ViewChangeData)) (count : ℕ) (test : ViewChangeData → Bool) (P : ViewChangeData → Type 0) → ((vc : ViewChangeData) → P vc → test vc ≡ true)
@@ -99,34 +48,6 @@ count_of_have c set count test P f order have =
     passes s x =
         let is = change_of set s x.0 order x.1 in
         rw is (f x.0 x.2)
-
--- ---- the bounds
-
-claim_within : (c : Configuration) (vc : ViewChangeData) (claim : Claim) → IsClaimBounded c vc claim → is_claim_within c vc claim ≡ true
-claim_within c vc claim b =
-    and_from (nat_lt claim.view vc.view && nat_lt vc.low claim.number && nat_le claim.number (vc.low + span c)) (is_number claim.number)
-    (and_from (nat_lt claim.view vc.view && nat_lt vc.low claim.number) (nat_le claim.number (vc.low + span c))
-    (and_from (nat_lt claim.view vc.view) (nat_lt vc.low claim.number) (lt-ltb claim.view vc.view b.earlier) (lt-ltb vc.low claim.number b.above))
-    (le-leb claim.number (vc.low + span c) b.within))
-    (lt-ltb claim.number (2 ^ 48) b.number)
-
-checkpoint_within : (c : Configuration) (vc : ViewChangeData) (mark : Mark) → IsCheckpointBounded c vc mark → is_checkpoint_within c vc mark ≡ true
-checkpoint_within c vc mark b =
-    and_from (nat_le vc.low mark.number && nat_le mark.number (vc.low + span c) && (mark.number % c.period == 0)) (is_number mark.number)
-    (and_from (nat_le vc.low mark.number && nat_le mark.number (vc.low + span c)) (mark.number % c.period == 0)
-    (and_from (nat_le vc.low mark.number) (nat_le mark.number (vc.low + span c)) (le-leb vc.low mark.number b.from) (le-leb mark.number (vc.low + span c) b.within))
-    (eq-eqb (mark.number % c.period) 0 b.multiple))
-    (lt-ltb mark.number (2 ^ 48) b.number)
-
-pub within_of_bounded : (c : Configuration) (vc : ViewChangeData) → IsBounded c vc → is_within c vc ≡ true
-within_of_bounded c vc b =
-    and_from (is_number vc.view && is_number vc.low && list_all (is_claim_within c vc) vc.prepared && list_all (is_claim_within c vc) vc.pre_prepared) (list_all (is_checkpoint_within c vc) vc.checkpoints)
-    (and_from (is_number vc.view && is_number vc.low && list_all (is_claim_within c vc) vc.prepared) (list_all (is_claim_within c vc) vc.pre_prepared)
-    (and_from (is_number vc.view && is_number vc.low) (list_all (is_claim_within c vc) vc.prepared)
-    (and_from (is_number vc.view) (is_number vc.low) (lt-ltb vc.view (2 ^ 48) b.view) (lt-ltb vc.low (2 ^ 48) b.low))
-    (all_where (is_claim_within c vc) vc.prepared (λ claim has. claim_within c vc claim (b.prepared claim has))))
-    (all_where (is_claim_within c vc) vc.pre_prepared (λ claim has. claim_within c vc claim (b.pre_prepared claim has))))
-    (all_where (is_checkpoint_within c vc) vc.checkpoints (λ mark has. checkpoint_within c vc mark (b.checkpoints mark has)))
 
 -- ---- what a view change says of a number
 

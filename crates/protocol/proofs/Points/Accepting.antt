@@ -10,7 +10,7 @@ use Rattle.protocol.specs.System.Configuration.{Configuration, is_replica, is_co
 use Rattle.wire.specs.declared.terms.Mode.TheVariants as modes
 use Rattle.wire.specs.Messages.{BodyData as Body, MessageData as Message, reply as Reply}
 use Rattle.protocol.specs.System.Frames.{heard, mode_of, reads_only}
-use Rattle.protocol.specs.System.Trace.{Entry, party_of, history_of, Once, Always, Has, Hears}
+use Rattle.protocol.specs.System.Trace.{Entry, party_of, history_of, Once, Always, Hears}
 use Rattle.protocol.specs.System.Trace.Entry.{Invoke, Got, Tick, Executed, Installed, Sent, Accepted}
 use Rattle.space.specs.Applying.{is_read_only, outcome}
 use Rattle.protocol.specs.Replica.State.{State, Ran, opening, tuples, kept_of, execute}
@@ -23,7 +23,6 @@ use Rattle.quorum.specs.Votes.{give_if, or_else}
 use Rattle.protocol.proofs.Words.Temporal.{once_weaker, once_always, once_in_trace, once_in_history}
 use Rattle.protocol.proofs.Words.Options.{some_injective, given_stays, give_if_some, and_then_some}
 use Rattle.protocol.proofs.Words.Linking.{Speaks, heard_was_said}
-use Rattle.protocol.proofs.Words.Lists.{has_some}
 use Rattle.protocol.proofs.Agreement.Voting.{RightAt, once_right, correct_replica}
 use Rattle.protocol.proofs.Agreement.States.{GoodHere, GoodAll, states_agree, correct_of, once_append}
 use Rattle.protocol.proofs.Points.Reading.{own_entries, asking, correct_client, latest_heard, last_of, last_of-history, read_level_after, read_level_before}
@@ -40,6 +39,7 @@ use Rattle.protocol.proofs.Words.Temporal.{once_stays}
 use Rattle.tuple_codec.specs.Operations.{Outcome, IsOutcome, Operation}
 use Rattle.tuple_codec.specs.Spelling.{outcome_spelling}
 use Rattle.protocol.specs.Space.Linear.{invoke_past}
+use Rattle.protocol.proofs.Words.Elements.{has_some, has_weaker}
 
 -- ---- a run with right clients
 
@@ -282,11 +282,6 @@ read_replied c trace s p t number answer run correct client r =
 -- an ordered reply is of a request that ran
 abbrev pub Answers : ℕ → ℕ → ℕ → Outcome → ℕ → Ran → Type 0
 Answers p t number answer j x = (256 + x.call.client ≡ p) × (x.call.timestamp ≡ t) × (x.kept.outcome ≡ answer) × (number ≡ j)
-
-has_weaker : {A : Type 0} (P Q : A → Type 0) → ((x : A) → P x → Q x) → (xs : List A) → Has P xs → Has Q xs
-has_weaker P Q f [] h = h
-has_weaker P Q f (x ∷ xs) (inl h) = inl (f x h)
-has_weaker P Q f (x ∷ xs) (inr h) = inr (has_weaker P Q f xs h)
 
 ran_by-weaker : (c : Configuration) (xs : List Entry) (st : State) (k n : ℕ) (P Q : ℕ → Ran → Type 0) → ((j : ℕ) (x : Ran) → P j x → Q j x) → RanBy c xs st k n P → RanBy c xs st k n Q
 ran_by-weaker c xs st k zero P Q f h = h

@@ -18,7 +18,6 @@ use Rattle.quorum.specs.Votes.{give_if}
 use Rattle.protocol.proofs.Words.Temporal.{once_weaker, once_always, once_once, once_in_history, once_in_trace}
 use Rattle.protocol.proofs.Words.Options.{and_then_some, some_injective, given_once, give_if_some}
 use Rattle.protocol.proofs.Words.Linking.{Speaks, heard_opened, heard_said, sent_spoken}
-use Rattle.protocol.proofs.Agreement.Signed.{each_has}
 use Rattle.protocol.proofs.Agreement.Voting.{correct_replica}
 use Rattle.protocol.proofs.Agreement.States.{once_append}
 use Rattle.protocol.proofs.Agreement.Executing.{executor, executed_committed}
@@ -27,6 +26,7 @@ use Rattle.protocol.proofs.Points.Reading.{Runs, own_entries, asking, correct_cl
 use Rattle.protocol.proofs.Points.Running.{Run, run_earlier, batch_is, level_executed}
 use Rattle.protocol.proofs.Points.Ran.{Source}
 use Rattle.tuple_codec.specs.Operations.{Operation}
+use Rattle.protocol.proofs.Words.Elements.{each_has}
 
 -- ---- an entry, and what lies around it
 

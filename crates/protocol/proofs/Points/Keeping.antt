@@ -18,13 +18,14 @@ use Rattle.protocol.specs.Replica.RightReplica.{Leaves, May, Moves}
 use Rattle.protocol.specs.System.Texts.{ExecutesBatch}
 use Rattle.protocol.specs.Space.Linear.{Item, Placing, NoneTwice, ordered_point, ordered_points, first_position, batch_of, comes_before, insert_point, sorted}
 use Rattle.protocol.proofs.Words.Options.{and_then_some, some_injective}
-use Rattle.protocol.proofs.Points.Legality.{none_points, none_later, executed_number}
+use Rattle.protocol.proofs.Points.Legality.{none_points, none_later}
 use Rattle.protocol.proofs.Agreement.States.{GoodAll}
 use Rattle.protocol.proofs.Points.Running.{Run, state_by, batch_is, is_by}
 use Rattle.protocol.proofs.Points.Sorting.{AllOf, all_weaker, all_filter, all_append, insert_all, sorted_all}
 use Rattle.protocol.specs.Replica.State.{ran_call}
 use Rattle.protocol.specs.Replica.RightReplica.{waiting_after}
-use Rattle.protocol.proofs.Words.Leaving.{last_put, none_kept, opening_is}
+use Rattle.protocol.proofs.Words.Leaving.{last_put, none_kept, opening_is, executed_number}
+use Rattle.protocol.proofs.Words.Elements.{has_either, has_left, has_right}
 
 -- ---- what ran in n batches from the number k on
 
@@ -122,15 +123,6 @@ ran_here c k st (frame ∷ frames) x h = go (call_of c frame) h (ran_here c k (r
     go None h below = below h
     go (Some call) h below = test call (runs st call) (ran_in c k (run_frame c k st frame) frames) below h
 
-pub has_either : {A : Type 0} (P : A → Type 0) (xs ys : List A) → Has P (xs ++ ys) → Has P xs ⊎ Has P ys
-has_either P [] ys h = inr h
-has_either P (x ∷ xs) ys (inl h) = inl (inl h)
-has_either P (x ∷ xs) ys (inr h) = go (has_either P xs ys h)
-  where
-    go : Has P xs ⊎ Has P ys → (P x ⊎ Has P xs) ⊎ Has P ys
-    go (inl k) = inl (inr k)
-    go (inr k) = inr k
-
 module _ (c : Configuration) (xs : List Entry) (run : Run c xs) (r : ℕ) (correct : is_correct_replica c r ≡ true) where
   pub rans_ran : (history : List Entry) → ((k : ℕ) (b : List ℕ) → Once (ExecutesBatch c k b) history → Once (ExecutesBatch c k b) xs) → GoodAll c xs r history
       → (point : RightReplica.Point) → Leaves c r history point → (x : Ran) → Has (λ y. y ≡ x) point.ran → RanBy c xs opening 1 point.state.number (IsRun x)
@@ -180,15 +172,6 @@ pub record IsRanPoint (c : Configuration) (trace : List Entry) (Q : ℕ → Ran 
   pub is : x ≡ ordered_point position number ran
   pub place : first_position c trace number ≡ Some position
   pub holds : Q number ran
-
-pub has_left : {A : Type 0} (P : A → Type 0) (xs ys : List A) → Has P xs → Has P (xs ++ ys)
-has_left P [] ys h = absurd h
-has_left P (x ∷ xs) ys (inl h) = inl h
-has_left P (x ∷ xs) ys (inr h) = inr (has_left P xs ys h)
-
-pub has_right : {A : Type 0} (P : A → Type 0) (xs ys : List A) → Has P ys → Has P (xs ++ ys)
-has_right P [] ys h = h
-has_right P (x ∷ xs) ys h = inr (has_right P xs ys h)
 
 pub ran_point : (c : Configuration) (trace : List Entry) (st : State) (k n more : ℕ) (Q : ℕ → Ran → Type 0) → ((j : ℕ) (x : Ran) → Q j x → (q : ℕ) × (first_position c trace j ≡ Some q)) → n ≤ more
     → RanBy c trace st k n Q → Has (IsRanPoint c trace Q) (ordered_points c trace st k more)

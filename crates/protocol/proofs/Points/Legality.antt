@@ -12,6 +12,7 @@ use Rattle.protocol.proofs.Points.Levels.{level_below}
 use Rattle.space.proofs.Keeping.{tuples_of-state_after}
 use Rattle.tuple_tree.specs.Values.{TupleTree}
 use Rattle.protocol.specs.Replica.State.{ran_call}
+use Rattle.protocol.proofs.Words.Leaving.{executed_number}
 
 abbrev pub item_of : ℕ → ℕ → Ran → Item
 item_of position k ran = (ordered_point position k ran).item
@@ -67,10 +68,6 @@ ran_items position k (x ∷ xs) = ap (λ t. item_of position k x ∷ t) (ran_ite
 pub executed_tuples : (c : Configuration) (st : State) (batch : List ℕ) → tuples (execute c st batch) ≡ tuples (fold (run_frame c (suc st.number)) st (requests_of batch))
 unfolding execute
 executed_tuples c st batch = refl
-
-pub executed_number : (c : Configuration) (st : State) (batch : List ℕ) → (execute c st batch).number ≡ suc st.number
-unfolding execute
-executed_number c st batch = refl
 
 -- the ordered requests of all batches whose level comes are legal, one after another
 pub legal_ordered : (c : Configuration) (trace : List Entry) (st : State) (k more : ℕ) → k ≡ suc st.number → LegalFrom (tuples st) (map (λ (x : Placing). x.item) (ordered_points c trace st k more))

@@ -22,17 +22,17 @@ use Rattle.protocol.proofs.Words.Temporal.{once_weaker, once_always, once_stays}
 use Rattle.protocol.proofs.Words.Options.{and_then_some, give_if_some, some_injective}
 use Rattle.protocol.proofs.Words.Linking.{Speaks, heard_was_said}
 use Rattle.protocol.proofs.Agreement.Voting.{RightAt, once_right, correct_replica}
-use Rattle.protocol.proofs.Words.Lists.{has_some}
 use Rattle.protocol.proofs.Points.Levels.{reached_grows, reached_history, number_reached, level_after}
 use Rattle.protocol.proofs.Points.Reading.{Runs, correct_client, own_entries}
 use Rattle.protocol.specs.Replica.State.{after_batches, ran_call}
 use Rattle.protocol.specs.Replica.RightReplica.{executed_point, waiting_after, reply_of}
 use Rattle.protocol.specs.System.Texts.{NoCollision}
-use Rattle.protocol.proofs.Words.Leaving.{last_put, none_kept}
+use Rattle.protocol.proofs.Words.Leaving.{last_put, none_kept, executed_number}
 use Rattle.protocol.specs.Laws.Histories.{IsStateOf}
 use Rattle.protocol.proofs.Agreement.States.{GoodHere, states_agree}
 use Rattle.tuple_codec.specs.Spelling.{outcome_spelling}
 use Rattle.tuple_codec.specs.Operations.{Outcome}
+use Rattle.protocol.proofs.Words.Elements.{has_some, has_either}
 
 -- each kept number is at most k
 abbrev pub AreAtMost : ℕ → State → Type 0
@@ -76,19 +76,6 @@ executed_bounded : (c : Configuration) (st : State) (batch : List ℕ) → AreAt
 unfolding execute
 executed_bounded c st batch most = frames_at_most c (suc st.number) st (requests_of batch) (λ client kept h. let m = most client kept h in omega arith)
 
-executed_number : (c : Configuration) (st : State) (batch : List ℕ) → (execute c st batch).number ≡ suc st.number
-unfolding execute
-executed_number c st batch = refl
-
-has_either : (x : Ran) (xs ys : List Ran) → Has (λ y. y ≡ x) (xs ++ ys) → Has (λ y. y ≡ x) xs ⊎ Has (λ y. y ≡ x) ys
-has_either x [] ys h = inr h
-has_either x (z ∷ xs) ys (inl h) = inl (inl h)
-has_either x (z ∷ xs) ys (inr h) = go (has_either x xs ys h)
-  where
-    go : Has (λ y. y ≡ x) xs ⊎ Has (λ y. y ≡ x) ys → Has (λ y. y ≡ x) (z ∷ xs) ⊎ Has (λ y. y ≡ x) ys
-    go (inl k) = inl (inr k)
-    go (inr k) = inr k
-
 none_at_most : AreAtMost 0 opening
 none_at_most client kept h = absurd (let none : None ≡ Some kept = sym (none_kept client) ∙ h in cc)
 
@@ -115,7 +102,7 @@ ran_at_most c r (e ∷ past) point h x k = go e h.2.may h.2.moves (ran_at_most c
     go (Sent p bytes) may move below = subst (λ (q : RightReplica.Point). x.kept.number ≤ q.state.number) (sym move) (below (at h.0 move))
     go (Invoke y z w) may move below = absurd may
     go (Accepted y z w) may move below = absurd may
-    go (Executed p j batch) may move below = pick (has_either x h.0.ran (ran_in c j h.0.state (requests_of batch)) (at (executed_point c h.0 j batch) move))
+    go (Executed p j batch) may move below = pick (has_either (λ y. y ≡ x) h.0.ran (ran_in c j h.0.state (requests_of batch)) (at (executed_point c h.0 j batch) move))
       where
         number : point.state.number ≡ suc h.0.state.number
         number = ap (λ (q : RightReplica.Point). q.state.number) move ∙ executed_number c h.0.state batch

@@ -12,12 +12,13 @@ use Rattle.protocol.specs.Space.Linear.{Placing, ordered_point, ordered_points, 
 use Rattle.quorum.specs.Votes.{give_if, or_else}
 use Rattle.protocol.proofs.Words.Options.{some_injective}
 use Rattle.protocol.proofs.Points.Levels.{level_below}
-use Rattle.protocol.proofs.Points.Legality.{executed_tuples, executed_number}
+use Rattle.protocol.proofs.Points.Legality.{executed_tuples}
 use Rattle.protocol.proofs.Points.Running.{state_by}
 use Rattle.protocol.proofs.Points.Sorting.{AllOf, all_weaker, all_append, Ascends, IsOrdered, after_item, tuples_at, early}
 use Rattle.space.proofs.Keeping.{tuples_of-state_after}
 use Rattle.tuple_tree.specs.Values.{TupleTree}
 use Rattle.protocol.specs.Replica.State.{ran_call}
+use Rattle.protocol.proofs.Words.Leaving.{executed_number}
 
 -- ---- the first position of a level
 

@@ -20,13 +20,14 @@ use Rattle.protocol.proofs.Points.Levels.{level_stays}
 use Rattle.protocol.proofs.Points.Running.{Run, state_by, level_executed, executed_greatest}
 use Rattle.protocol.proofs.Points.Sorting.{AllOf, all_weaker, Stands, IsReadAt, tuples_at}
 use Rattle.protocol.proofs.Points.Ran.{place_lower, tuples_by}
-use Rattle.protocol.proofs.Points.Keeping.{IsRanPoint, ran_point, has_right, Differ, AllDiffer}
+use Rattle.protocol.proofs.Points.Keeping.{IsRanPoint, ran_point, Differ, AllDiffer}
 use Rattle.protocol.proofs.Points.Invoking.{once_within, opened_invoked, invoked_in_trace, one_invocation}
 use Rattle.protocol.proofs.Points.Accepting.{Accepting, accepting, accepted_once, accepted_level, accepted_place, read_before, embedded, replied, read_replied, ordered_replied, voted, Voted, Answers, IsSpaceAnswer, FullRun, full_earlier}
 use Rattle.protocol.specs.Space.Linear.{last_executed}
 use Rattle.tuple_tree.specs.Values.{TupleTree}
 use Rattle.tuple_codec.specs.Operations.{Outcome, Operation}
 use Rattle.protocol.specs.Space.Linear.{invoke_past}
+use Rattle.protocol.proofs.Words.Elements.{has_right}
 
 abbrev pub read_of : Configuration → List Entry → ℕ → OpenCall → Outcome → List Entry → Vote → Placing
 read_of c trace p call a past vote = record {

@@ -129,7 +129,7 @@ module _ (place : ℕ → Option ℕ) where
           pick (inl l) = omega arith
           pick (inr l) = let n = l.0 in omega arith
 
-  ordered_first : (o x : Placing) → IsOrdered place o → Stands place x → o.number ≤ x.number → comes_before o x ≡ true
+  pub ordered_first : (o x : Placing) → IsOrdered place o → Stands place x → o.number ≤ x.number → comes_before o x ≡ true
   ordered_first o x s t l = go (comes_before o x) refl
     where
       same : o.number ≡ x.number → o.item.position ≤ x.item.position
@@ -231,7 +231,7 @@ unfolding insert_each
 each_all P [] rs a b = b
 each_all P (o ∷ os) rs a b = insert_all P o (insert_each os rs) a.0 (each_all P os rs a.1 b)
 
-insert_front : (o : Placing) (ys : List Placing) → AllOf (λ y. comes_before o y ≡ true) ys → insert_point o ys ≡ o ∷ ys
+pub insert_front : (o : Placing) (ys : List Placing) → AllOf (λ y. comes_before o y ≡ true) ys → insert_point o ys ≡ o ∷ ys
 insert_front o [] a = refl
 insert_front o (y ∷ ys) a = go (comes_before o y) a.0
   where

@@ -20,16 +20,15 @@ use Rattle.protocol.specs.Space.Linear.{Item, LegalFrom, Invokes, Accepts, Asks,
 use Rattle.protocol.specs.Laws.Histories.{AreReplicasSafe, AreClientsWeak, IsOneSpace, WeakIsOneSpace}
 use Rattle.protocol.proofs.Words.Temporal.{once_weaker, once_in_history}
 use Rattle.protocol.proofs.Words.Linking.{heard_was_said}
-use Rattle.protocol.proofs.Words.Lists.{has_some}
 use Rattle.protocol.proofs.Agreement.Voting.{correct_replica}
 use Rattle.protocol.proofs.Agreement.States.{once_append, always_append, correct_of}
 use Rattle.protocol.proofs.Points.Reading.{asking, correct_client, own_entries}
 use Rattle.protocol.proofs.Points.Ordering.{ordering, latest_ordered}
-use Rattle.protocol.proofs.Points.Legality.{item_of, legal_ran, map_items, ran_items, executed_tuples, executed_number}
+use Rattle.protocol.proofs.Points.Legality.{item_of, legal_ran, map_items, ran_items, executed_tuples}
 use Rattle.protocol.proofs.Points.Running.{Run, given_executed, once_run}
 use Rattle.protocol.proofs.Points.Sorting.{AllOf, all_weaker, all_append, all_has}
 use Rattle.protocol.proofs.Points.Ran.{FromFrame, ran_frames, has_map_all}
-use Rattle.protocol.proofs.Points.Keeping.{RanBy, Later, AllDiffer, Full, opening_full, has_left, has_right, none_twice, frames_differ, executed_full, executed_times}
+use Rattle.protocol.proofs.Points.Keeping.{RanBy, Later, AllDiffer, Full, opening_full, none_twice, frames_differ, executed_full, executed_times}
 use Rattle.protocol.proofs.Points.Invoking.{once_split, At, once_within, asked_op, invoked_in_trace, asks_said, asks_request, call_body, executed_asked}
 use Rattle.protocol.proofs.Points.Accepting.{Answers, replied, ordered_replied, accepts_own, heard_answer, newest_answer}
 use Rattle.protocol.proofs.Points.Whole.{has_items, has_at}
@@ -44,6 +43,8 @@ use Rattle.std.specs.Option.{option_map_or}
 use Rattle.protocol.specs.Laws.Runs.{WeakAnswersAreOneSpace, NoneRunsTwice}
 use Rattle.protocol.proofs.Words.Reacting.{is_replica_right, is_weak_right}
 use Rattle.protocol.specs.Laws.Runs
+use Rattle.protocol.proofs.Words.Elements.{has_left, has_some, has_right}
+use Rattle.protocol.proofs.Words.Leaving.{executed_number}
 
 -- ---- all that ran, at one position
 

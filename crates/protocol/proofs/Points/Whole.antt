@@ -14,12 +14,11 @@ use Rattle.protocol.specs.System.Texts.{NoCollision}
 use Rattle.protocol.specs.Space.Linear.{Item, Placing, Legal, IsLinear, Invokes, Accepts, Asks, first_position, read_points, is_double, sorted, insert_point, comes_before, points}
 use Rattle.protocol.specs.Laws.Histories.{LinearOfSafe, IsSafeTrace}
 use Rattle.protocol.proofs.Words.Temporal.{once_weaker, once_in_history}
-use Rattle.protocol.proofs.Words.Lists.{has_some}
 use Rattle.protocol.proofs.Points.Legality.{legal_ordered}
 use Rattle.protocol.proofs.Points.Running.{Run}
 use Rattle.protocol.proofs.Points.Sorting.{AllOf, all_weaker, all_both, all_append, all_filter, all_has, sorted_all, Changes, IsOrdered, Stands, IsRight, read_same, sorted_legal, sorted_never_fall}
 use Rattle.protocol.proofs.Points.Ran.{Source, ordered_sources, source_ordered, points_ascend, points_from, has_map_all}
-use Rattle.protocol.proofs.Points.Keeping.{IsRanPoint, has_left, has_right, Differ, AllDiffer, differ_filter, differ_append, differ_sorted, differ_same, none_twice, points_differ, opening_full}
+use Rattle.protocol.proofs.Points.Keeping.{IsRanPoint, Differ, AllDiffer, differ_filter, differ_append, differ_sorted, differ_same, none_twice, points_differ, opening_full}
 use Rattle.protocol.proofs.Points.Invoking.{once_split, one_invocation, ran_asked, ran_invoked}
 use Rattle.protocol.proofs.Points.Accepting.{FullRun, full_part, Accepting, accepting, Answers, accepted_place, accepted_level, read_before, full_earlier}
 use Rattle.protocol.proofs.Points.Readings.{read_of, MadeAt, KindAt, reads_made, made_read, made_kind, one_kind, reads_differ, all_ordered, ReadFacts, read_facts, read_bound, ordered_has}
@@ -28,6 +27,7 @@ use Rattle.tuple_codec.specs.Operations.{Operation, Outcome}
 use Rattle.protocol.specs.System.Run.{IsRun}
 use Rattle.protocol.specs.Laws.Runs.{PointsAreLinear, RunsAreLinear, AcceptedAtLevels, LevelsOfSafe, AtItsLevel}
 use Rattle.protocol.proofs.Words.Reacting.{is_replica_right, is_client_right}
+use Rattle.protocol.proofs.Words.Elements.{has_left, has_some, has_right}
 
 -- ---- lists
 

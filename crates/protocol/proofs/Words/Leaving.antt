@@ -190,3 +190,9 @@ leaves_from c (batch ∷ batches) st below is =
 
 pub batches_leave_states : BatchesLeaveStates
 batches_leave_states c batches valid few = let l : 0 + length batches < 2 ^ 48 = omega arith in leaves_from c batches opening l opening_is
+
+-- ---- the number
+
+pub executed_number : (c : Configuration) (st : State) (batch : List ℕ) → (execute c st batch).number ≡ suc st.number
+unfolding execute
+executed_number c st batch = refl

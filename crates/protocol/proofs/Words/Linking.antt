@@ -5,15 +5,16 @@ use Rattle.std.specs.List.{list_all}
 use Rattle.std.proofs.lemmas.Bool.{and_parts, ltb-true, not-true, eqb-false, ne_eqb}
 use Rattle.tuple_tree.specs.Values.{AreBytes}
 use Rattle.tuple_codec.proofs.Readers.{guard_holds}
-use Rattle.wire.specs.Messages.{BodyData as Body}
+use Rattle.wire.specs.Messages.{BodyData as Body, MessageData as Message}
 use Rattle.wire.specs.Words.{said as body_spelled}
 use Rattle.wire.proofs.Telling.{reads_said}
 use Rattle.signing.specs.Heard.{heard as heard_among, signed_body as signed_among}
 use Rattle.signing.proofs.Heard.{heard_was_opened, signed_is_heard}
-use Rattle.protocol.specs.System.Configuration.{Configuration, is_correct}
-use Rattle.protocol.specs.System.Frames.{said, members, opened, from_another, heard, signed_body}
+use Rattle.protocol.specs.System.Configuration.{Configuration, is_correct, members}
+use Rattle.protocol.specs.System.Frames.{said, opened, from_another, heard, signed_body}
 use Rattle.protocol.specs.System.Trace.{Entry, party_of, history_of, Once, Always, SendsBody, IsUnforgedAt, Unforged, Hears}
 use Rattle.protocol.specs.System.Trace.Entry.{Invoke, Got, Tick, Executed, Installed, Sent, Accepted}
+use Rattle.protocol.specs.Replica.Owed.{IsSaying}
 use Rattle.protocol.proofs.Words.Options.{and_then_some, give_if_some}
 use Rattle.protocol.proofs.Words.Temporal.{once_weaker, once_always, once_once, once_in_history, once_in_trace}
 
@@ -21,6 +22,16 @@ use Rattle.protocol.proofs.Words.Temporal.{once_weaker, once_always, once_once, 
 abbrev pub Speaks : Body → List Entry → Entry → Type 0
 Speaks body past (Sent p bytes) = said bytes ≡ Some body
 Speaks body past _ = ⊥
+
+-- what is said in an event is spoken
+pub saying_speaks : (me : ℕ) (message : Message) (past : List Entry) (e : Entry) → IsSaying me message e → Speaks (record { sender = me; message = message }) past e
+saying_speaks me message past (Sent p bytes) h = h
+saying_speaks me message past (Invoke x y z) h = absurd h
+saying_speaks me message past (Got x y) h = absurd h
+saying_speaks me message past (Tick x) h = absurd h
+saying_speaks me message past (Executed x y z) h = absurd h
+saying_speaks me message past (Installed x y z) h = absurd h
+saying_speaks me message past (Accepted x y z) h = absurd h
 
 pub are_bytes : (bs : List ℕ) → list_all (λ b. nat_lt b 256) bs ≡ true → AreBytes bs
 are_bytes [] h i = omega arith

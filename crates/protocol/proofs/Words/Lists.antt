@@ -1,34 +1,15 @@
 -- Laws of the words on lists that the rules of a new view use.
-use Rattle.std.proofs.Common.{◌≡◌, ℕ, zero, suc, ◌+◌, ◌≤◌, ◌<◌, ◌⊎◌, inl, inr, Bool, true, false, cond, max, List, [], ◌∷◌, length, slice_get, Option, Some, None, refl, sym, ap₂, subst, arith, ◌||◌, eqb-true}
+use Rattle.std.proofs.Common.{◌≡◌, ℕ, zero, suc, ◌+◌, ◌≤◌, ◌<◌, inl, inr, Bool, true, false, cond, max, List, [], ◌∷◌, length, slice_get, Option, Some, None, refl, sym, ap, ap₂, subst, arith, eqb-true, eq-eqb}
 use Rattle.std.specs.Prelude.{◌==◌, nat_lt, nat_le}
 use Rattle.std.specs.Option.{option_map_or}
-use Rattle.std.proofs.lemmas.Bool.{and_parts, le-leb, ltb-true}
+use Rattle.std.proofs.lemmas.Bool.{and_parts, le-leb, ltb-true, ne_eqb}
 use Rattle.quorum.proofs.Counting.{some_more}
 use Rattle.quorum.specs.Quorum.{count_below}
 use Rattle.protocol.specs.System.Configuration.{Configuration}
 use Rattle.wire.specs.Messages.{ViewChangeData, ClaimData as Claim}
-use Rattle.std.specs.List.{list_all, list_any}
-use Rattle.protocol.specs.Replica.Selection.{change_by, passes_by, largest, largest_of, may_stand, may_all_stand}
+use Rattle.std.specs.List.{list_all}
+use Rattle.protocol.specs.Replica.Selection.{change_by, passes_by, largest, largest_of, may_stand, may_all_stand, ascending, list_of}
 use Rattle.protocol.specs.System.Trace.{Has}
-
-pub has_some : {A : Type 0} (P : A → Type 0) (xs : List A) → Has P xs → (x : A) × Has (λ y. y ≡ x) xs × P x
-has_some P [] h = absurd h
-has_some P (x ∷ xs) (inl h) = (x, inl refl, h)
-has_some P (x ∷ xs) (inr h) = let r = has_some P xs h in (r.0, inr r.1, r.2)
-
-pub every_has : {A : Type 0} (test : A → Bool) (xs : List A) (x : A) → list_all test xs ≡ true → Has (λ y. y ≡ x) xs → test x ≡ true
-every_has test [] x e h = absurd h
-every_has test (y ∷ ys) x e (inl h) = subst (λ z. test z ≡ true) h (and_parts (test y) (list_all test ys) e).0
-every_has test (y ∷ ys) x e (inr h) = every_has test ys x (and_parts (test y) (list_all test ys) e).1 h
-
-pub some_of_has : {A : Type 0} (test : A → Bool) (xs : List A) → list_any test xs ≡ true → (x : A) × Has (λ y. y ≡ x) xs × (test x ≡ true)
-some_of_has test [] h = absurd cc
-some_of_has test (x ∷ xs) h = go (test x) refl h (some_of_has test xs)
-  where
-    go : (b : Bool) → test x ≡ b → (b || list_any test xs) ≡ true
-        → (list_any test xs ≡ true → (y : _) × Has (λ z. z ≡ y) xs × (test y ≡ true)) → (y : _) × Has (λ z. z ≡ y) (x ∷ xs) × (test y ≡ true)
-    go true e k below = (x, inl refl, e)
-    go false e k below = let r = below k in (r.0, inr r.1, r.2)
 
 pub every_change : (test : ViewChangeData → Bool) (set : List (ℕ × ViewChangeData)) (s : ℕ) (vc : ViewChangeData) → list_all (λ x. test x.1) set ≡ true → change_by set s ≡ Some vc → test vc ≡ true
 every_change test [] s vc e h = absurd cc
@@ -88,14 +69,6 @@ change_there (x ∷ xs) s vc h = go (x.0 == s) refl h (change_there xs s vc)
         inl (ap₂ (λ (m : ℕ) (y : ViewChangeData). let r : ℕ × ViewChangeData = (m, y) in r) n i)
     go false own k below = inr (below k)
 
-pub has_of_any : {A : Type 0} (P : A → Type 0) (test : A → Bool) → ((x : A) → test x ≡ true → P x) → (xs : List A) → list_any test xs ≡ true → Has P xs
-has_of_any P test f [] h = absurd cc
-has_of_any P test f (x ∷ xs) h = go (test x) refl h (has_of_any P test f xs)
-  where
-    go : (b : Bool) → test x ≡ b → (b || list_any test xs) ≡ true → (list_any test xs ≡ true → Has P xs) → P x ⊎ Has P xs
-    go true e k below = inl (f x e)
-    go false e k below = inr (below k)
-
 pub get_there : (xs : List (List ℕ)) (k : ℕ) → k < length xs → (x : List ℕ) × (slice_get xs k ≡ Some x)
 get_there [] k l = absurd (omega arith)
 get_there (y ∷ ys) zero l = (y, refl)
@@ -125,3 +98,38 @@ some_below test n h =
     let more : count_below (λ x. false) n < count_below test n = omega arith in
     let r = some_more test (λ x. false) n more in
     (r.0, r.1, r.3)
+
+-- ---- the order of the senders
+
+pub later : (x : ℕ × ViewChangeData) (xs : List (ℕ × ViewChangeData)) → ascending (x ∷ xs) ≡ true → ascending xs ≡ true
+later x [] h = refl
+later x (y ∷ ys) h = (and_parts (nat_lt x.0 y.0) (ascending (y ∷ ys)) h).1
+
+pub first_less : (x y : ℕ × ViewChangeData) (ys : List (ℕ × ViewChangeData)) → ascending (x ∷ y ∷ ys) ≡ true → x.0 < y.0
+first_less x y ys h = ltb-true x.0 y.0 (and_parts (nat_lt x.0 y.0) (ascending (y ∷ ys)) h).0
+
+pub below_rest : (x : ℕ × ViewChangeData) (xs : List (ℕ × ViewChangeData)) (s : ℕ) (vc : ViewChangeData) → ascending (x ∷ xs) ≡ true → Has (λ y. y ≡ (s, vc)) xs → x.0 < s
+below_rest x [] s vc h has = absurd has
+below_rest x (y ∷ ys) s vc h (inl same) = subst (λ (z : ℕ × ViewChangeData). x.0 < z.0) same (first_less x y ys h)
+below_rest x (y ∷ ys) s vc h (inr rest) =
+    let first = first_less x y ys h in
+    let more = below_rest y ys s vc (later x (y ∷ ys) h) rest in
+    omega arith
+
+-- what a replica has in the set is the first of its view changes there
+pub change_of : (xs : List (ℕ × ViewChangeData)) (s : ℕ) (vc : ViewChangeData) → ascending xs ≡ true → Has (λ y. y ≡ (s, vc)) xs → change_by xs s ≡ Some vc
+change_of [] s vc h has = absurd has
+change_of (x ∷ xs) s vc h (inl same) =
+    let own : (x.0 == s) ≡ true = eq-eqb x.0 s (ap (λ (z : ℕ × ViewChangeData). z.0) same) in
+    rw own (ap (λ (z : ℕ × ViewChangeData). Some z.1) same)
+change_of (x ∷ xs) s vc h (inr rest) =
+    let less = below_rest x xs s vc h rest in
+    let other : (x.0 == s) ≡ false = ne_eqb x.0 s (λ e. absurd (omega arith)) in
+    rw other (change_of xs s vc (later x xs h) rest)
+
+-- ---- what a new view carries
+
+pub no_longer : {A : Type 0} (xs : List (Option A)) → length (list_of xs) ≤ length xs
+no_longer [] = omega arith
+no_longer (None ∷ xs) = let r = no_longer xs in omega arith
+no_longer (Some x ∷ xs) = let r = no_longer xs in omega arith

@@ -9,6 +9,14 @@ pub or_else_first : {A : Type 0} (o later : Option A) (x : A) → o ≡ Some x �
 or_else_first None later x e = absurd cc
 or_else_first (Some y) later x e = e
 
+pub or_else_second : {A : Type 0} (o later : Option A) → o ≡ None → or_else o later ≡ later
+or_else_second None later h = refl
+or_else_second (Some x) later h = absurd cc
+
+pub or_else_alone : {A : Type 0} (o later : Option A) → later ≡ None → or_else o later ≡ o
+or_else_alone None later h = h
+or_else_alone (Some x) later h = refl
+
 pub or_else_cases : {A : Type 0} (o later : Option A) (x : A) → or_else o later ≡ Some x → (o ≡ Some x) ⊎ (later ≡ Some x)
 or_else_cases None later x e = inr e
 or_else_cases (Some y) later x e = inl e

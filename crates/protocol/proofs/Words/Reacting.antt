@@ -7,7 +7,7 @@ use Rattle.protocol.specs.System.Frames.{mode_of}
 use Rattle.protocol.proofs.Words.Modes.{reads_mode}
 use Rattle.protocol.specs.System.Configuration.{Configuration}
 use Rattle.wire.specs.Messages.{request as Request}
-use Rattle.protocol.specs.System.Trace.{Entry, party_of, is_output, either}
+use Rattle.protocol.specs.System.Trace.{Entry, party_of, is_output, Always, either}
 use Rattle.protocol.specs.System.Trace.Entry.{Invoke, Got, Tick, Executed, Installed, Sent, Accepted}
 use Rattle.protocol.specs.Client.RightClient.{OpenCall, open_call, Vote, newest_vote, is_complete, went_ordered, is_answered, Reaction, fallback, on_reply, on_got, reaction, is_weakly_complete, weakly_on_got, weak_reaction, IsReaction, MayInput, Reacts, IsClientBy, IsClient, IsWeakClient, MayAccept, MayWeaklyAccept, MayClient, RightBy, SafeClient, SafeWeakClient}
 use Rattle.protocol.specs.Client.RightClient.Reaction.{nothing, asks, accepts}
@@ -285,3 +285,11 @@ is_replica_right c me (e ∷ past) (inr h) = go e h.0 h.1 (is_replica_right c me
     go (Installed x y z) own i r = absurd i
     go (Sent x y) own i r = absurd i
     go (Accepted x y z) own i r = absurd i
+
+leaves_own : (c : Configuration) (me : ℕ) (xs : List Entry) (point : Point) → Leaves c me xs point → Always (λ past e. party_of e ≡ me) xs
+leaves_own c me [] point h = tt
+leaves_own c me (e ∷ past) point h = (h.2.own, leaves_own c me past h.0 h.1)
+
+-- it has entries of its own alone
+pub replicas_have_own : (c : Configuration) (me : ℕ) (history : List Entry) → IsReplica c me history → Always (λ past e. party_of e ≡ me) history
+replicas_have_own c me history right = let safe = is_replica_right c me history right in leaves_own c me history safe.0 safe.1

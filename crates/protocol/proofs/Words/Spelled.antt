@@ -8,9 +8,10 @@ use Rattle.wire.specs.Reading.{frame_of as frame_spelled}
 use Rattle.wire.specs.Words.{said as body_spelled}
 use Rattle.wire.proofs.Telling.{reads_frames, reads_said}
 use Rattle.signing.specs.Heard.{heard as heard_among, signed_body as signed_among}
-use Rattle.protocol.specs.System.Frames.{of_bytes, members, frame_of, said, opened, signed_body}
+use Rattle.protocol.specs.System.Frames.{of_bytes, frame_of, said, opened, signed_body}
 use Rattle.protocol.proofs.Words.Linking.{heard_opened, opened_heard}
 use Rattle.protocol.specs.Laws.Histories.{FramesAreSpelled, BodiesAreSaid, BytesAreHeard}
+use Rattle.protocol.specs.System.Configuration.{members}
 
 all_bytes : (bs : List ℕ) → AreBytes bs → list_all (λ b. nat_lt b 256) bs ≡ true
 all_bytes [] h = refl

@@ -1,7 +1,8 @@
 -- Laws of `Once`, `Always` and histories.
-use Rattle.std.proofs.Common.{◌≡◌, ℕ, ◌⊎◌, inl, inr, Bool, true, false, cond, List, [], ◌∷◌, eqb-true, refl, ◌==◌}
+use Rattle.std.proofs.Common.{◌≡◌, ℕ, ◌⊎◌, inl, inr, Bool, true, false, cond, List, [], ◌∷◌, eqb-true, refl, sym, ◌∙◌, ◌==◌}
 use Rattle.std.proofs.lemmas.Bool.{eqb-false}
-use Rattle.protocol.specs.System.Trace.{Entry, party_of, history_of, Once, Always}
+use Rattle.protocol.specs.System.Trace.{Entry, party_of, is_output, history_of, Once, Always}
+use Rattle.protocol.specs.System.Run.{Follows}
 
 pub once_weaker : (P Q : List Entry → Entry → Type 0) → ((past : List Entry) (e : Entry) → P past e → Q past e) → (xs : List Entry) → Once P xs → Once Q xs
 once_weaker P Q f [] h = h
@@ -95,3 +96,8 @@ always_in_history Q p (e ∷ xs) a = go (party_of e == p) refl (always_in_histor
     go : (b : Bool) → (party_of e == p) ≡ b → Always (λ past e. Q e) (history_of p xs) → Always (λ past e. Q e) (cond b (e ∷ history_of p xs) (history_of p xs))
     go true is below = (a.0 (eqb-true (party_of e) p is), below)
     go false is below = below
+
+-- an input follows anything
+pub input_follows : (e : Entry) (trace : List Entry) → is_output e ≡ false → Follows trace e
+input_follows e [] is = is
+input_follows e (before ∷ past) is = λ out. let bad : false ≡ true = sym is ∙ out in absurd cc

@@ -10,8 +10,8 @@ use Rattle.space.specs.Applying.{is_read_only}
 use Rattle.quorum.specs.Quorum.{count_below}
 use Rattle.quorum.specs.Votes.{give_if}
 use Rattle.protocol.specs.System.Configuration.{Configuration, replicas}
-use Rattle.wire.specs.Messages.{BodyData as Body, FrameData as Frame, MessageData as Message, request as Request, reply as Reply}
-use Rattle.protocol.specs.System.Frames.{reads_only, mode_of, frame_of, said, heard, IsSealed, receivers_of}
+use Rattle.wire.specs.Messages.{BodyData as Body, MessageData as Message, request as Request, reply as Reply}
+use Rattle.protocol.specs.System.Frames.{reads_only, mode_of, said, heard, IsPosted}
 use Rattle.protocol.specs.System.Trace.{Entry, party_of, is_output, Always, either}
 use Rattle.protocol.specs.System.Trace.Entry.{Invoke, Got, Tick, Sent, Accepted}
 use Rattle.protocol.specs.Replica.Selection.{is_quorum, is_weak_quorum}
@@ -159,9 +159,8 @@ weak_reaction c me (_ ∷ past) = nothing
 -- ---- histories
 
 -- the bytes are a request of the call, sealed for all replicas
-pub record IsRequest (c : Configuration) (me : ℕ) (read_only : Bool) (call : OpenCall) (bytes : List ℕ) : Type 0 where
-  pub says : said bytes ≡ Some (record { sender = me; message = Request call.timestamp (mode_of read_only) call.op })
-  pub is_sealed : (frame : Frame) → frame_of bytes ≡ Some frame → IsSealed c frame × (receivers_of frame.proof ≡ range_with_len 0 (replicas c))
+abbrev pub IsRequest : Configuration → ℕ → Bool → OpenCall → List ℕ → Type 0
+IsRequest c me read_only call bytes = IsPosted c me (Request call.timestamp (mode_of read_only) call.op) (range_with_len 0 (replicas c)) bytes
 
 -- the outputs of an event, the oldest first, are what the client gives
 abbrev pub IsReaction : Configuration → ℕ → Reaction → List Entry → Type 0

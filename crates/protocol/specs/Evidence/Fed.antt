@@ -3,11 +3,12 @@
 use Rattle.std.specs.Prelude.{◌≡◌, ℕ, ◌+◌, ◌<◌, true, false, List, [], ◌∷◌, ◌++◌, slice_get, Some, None, ⊤}
 use Rattle.tuple_codec.specs.Operations.{Operation, IsOperation}
 use Rattle.protocol.specs.System.Configuration.{Configuration, is_correct, is_correct_client}
-use Rattle.protocol.specs.System.Trace.{Entry, history_of, is_output, Has, Each, AreOutputs}
+use Rattle.protocol.specs.System.Trace.{Entry, history_of, is_output, Has, AreOutputs}
 use Rattle.protocol.specs.System.Trace.Entry.{Invoke, Got, Tick}
 use Rattle.protocol.specs.Client.RightClient.{open_call}
 use Rattle.protocol.specs.System.Schedule.{Step, calls, deliver, feed, seal, sign, ticks, flush, Made, World, sealed_bytes, signed_bytes, Goes, Feeds}
 use Rattle.protocol.specs.Evidence.RefusedSteps.{MayMake}
+use Rattle.wire.specs.Lists.{Each}
 
 -- ---- inputs
 

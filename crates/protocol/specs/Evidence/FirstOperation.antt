@@ -9,8 +9,8 @@ use Rattle.wire.specs.Messages.{FrameData as Frame, MessageData as Message, MacD
 use Rattle.wire.specs.Spelling.{IsMessage, is_signed, frame_limit, body_spelling}
 use Rattle.wire.specs.Words.{requests_of}
 use Rattle.authenticator.specs.Membership.{sends}
-use Rattle.protocol.specs.System.Configuration.{Configuration, IsConfiguration, replicas}
-use Rattle.protocol.specs.System.Frames.{members, frame_of, said, heard, IsSealed, receivers_of}
+use Rattle.protocol.specs.System.Configuration.{Configuration, IsConfiguration, replicas, members}
+use Rattle.protocol.specs.System.Frames.{frame_of, said, heard, IsSealed, receivers_of}
 use Rattle.protocol.specs.System.Trace.{Entry, history_of, Has, Unforged}
 use Rattle.protocol.specs.System.Trace.Entry.{Invoke, Got, Executed, Sent, Accepted}
 use Rattle.protocol.specs.Replica.Certificates.{Committed}

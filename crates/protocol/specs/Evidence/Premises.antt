@@ -8,7 +8,7 @@ use Rattle.partition_tree.specs.Digests.{inner_digests, page_digests}
 use Rattle.wire.specs.Messages.{BodyData as Body, MessageData as Message, pre_prepare as PrePrepare, new_view as NewView, meta as Meta, page as Page}
 use Rattle.protocol.specs.System.Configuration.{Configuration, IsConfiguration, replicas, is_correct_replica, is_correct_client, is_correct, primary}
 use Rattle.protocol.specs.System.Frames.{said, opened}
-use Rattle.protocol.specs.System.Trace.{Entry, history_of, Once, Always, Has, Each, frames_in, SendsBody, Unforged}
+use Rattle.protocol.specs.System.Trace.{Entry, history_of, Once, Always, Has, frames_in, SendsBody, Unforged}
 use Rattle.protocol.specs.System.Trace.Entry.{Invoke, Got, Tick, Executed, Installed, Sent}
 use Rattle.protocol.specs.Replica.Selection.{null_batch}
 use Rattle.protocol.specs.Replica.State.{opening, page_text, pages_of}
@@ -17,6 +17,7 @@ use Rattle.protocol.specs.System.Texts.{IsText}
 use Rattle.protocol.specs.Client.RightClient.{open_call, last_call, IsClient, IsWeakClient}
 use Rattle.protocol.specs.Replica.Owed.{IsReplica}
 use Rattle.protocol.specs.System.Run.{IsRun, IsWeakRun}
+use Rattle.wire.specs.Lists.{Each}
 
 -- ---- configurations
 

@@ -10,7 +10,7 @@ use Rattle.wire.specs.declared.terms.Level.{Level}
 use Rattle.wire.specs.declared.terms.Level.TheVariants as levels
 use Rattle.wire.specs.Messages.{MessageData as Message, ViewChangeData, NewViewData, MarkData as Mark, ClaimData as Claim, request as Request, pre_prepare as PrePrepare, prepare as Prepare, commit as Commit, checkpoint as Checkpoint, view_change as ViewChange, new_view as NewView, fetch as Fetch, meta as Meta, page as Page}
 use Rattle.protocol.specs.System.Frames.{said, heard}
-use Rattle.protocol.specs.System.Trace.{Entry, Once, Has, Each, Hears}
+use Rattle.protocol.specs.System.Trace.{Entry, Once, Has, Hears}
 use Rattle.protocol.specs.System.Trace.Entry.{Invoke, Got, Sent}
 use Rattle.protocol.specs.Replica.Selection.{signed_change, is_within}
 use Rattle.protocol.specs.Replica.Certificates.{low, view, is_active_in, is_in_marks, logged, prepare_of, commit_of, checkpoints_of, taken}
@@ -20,6 +20,7 @@ use Rattle.protocol.specs.Client.RightClient.{OpenCall, open_call}
 use Rattle.protocol.specs.Replica.Owed.{IsSaying, IsReplica}
 use Rattle.protocol.specs.Evidence.Refused.{AtEachPoint, EachKept, newest_number}
 use Rattle.protocol.specs.Evidence.RefusedRuns.{IsAnyClient}
+use Rattle.wire.specs.Lists.{Each}
 
 -- ---- view changes
 

@@ -1,42 +1,21 @@
 -- Small histories that the definitions of a new view's view changes, of the low mark and of checkpoints refuse.
-use Rattle.std.specs.Prelude.{◌≡◌, ℕ, ◌+◌, ◌*◌, ◌%◌, ◌^◌, ◌≤◌, ◌<◌, ◌⊎◌, true, Bool, List, [], ◌∷◌, length, slice_get, Some}
+use Rattle.std.specs.Prelude.{◌≡◌, ℕ, ◌+◌, ◌*◌, ◌^◌, ◌≤◌, ◌<◌, ◌⊎◌, true, Bool, List, [], ◌∷◌, length, slice_get, Some}
 use Rattle.quorum.specs.Quorum.{count_below}
 use Rattle.protocol.specs.System.Configuration.{Configuration, replicas}
-use Rattle.wire.specs.Messages.{ViewChangeData, NewViewData, MarkData as Mark, ClaimData as Claim, checkpoint as Checkpoint, view_change as ViewChange}
+use Rattle.wire.specs.Messages.{ViewChangeData, NewViewData, MarkData as Mark, checkpoint as Checkpoint, view_change as ViewChange}
 use Rattle.protocol.specs.System.Frames.{said, heard, signed_body}
 use Rattle.protocol.specs.System.Trace.{Entry, Once, Has}
 use Rattle.protocol.specs.System.Trace.Entry.{Got, Installed, Sent}
 use Rattle.protocol.specs.Replica.Selection.{changes_of}
 use Rattle.protocol.specs.Replica.Certificates.{taken, checkpoints_of, low}
 use Rattle.protocol.specs.Evidence.Refused.{HasFrom}
+use Rattle.protocol.specs.Laws.Bounds.{IsBounded}
 
 -- ---- the view changes of a new view
 
 -- the bytes spell a signed view change
 abbrev pub SpellsChange : Configuration → List ℕ → ℕ → ViewChangeData → Type 0
 SpellsChange c bytes s vc = signed_body c bytes ≡ Some (record { sender = s; message = ViewChange vc })
-
--- a claim within the bounds of its view change
-pub record IsClaimBounded (c : Configuration) (vc : ViewChangeData) (claim : Claim) : Type 0 where
-  pub earlier : claim.view < vc.view
-  pub above : vc.low < claim.number
-  pub within : claim.number ≤ vc.low + 2 * c.period
-  pub number : claim.number < 2 ^ 48
-
--- a checkpoint within the bounds of its view change
-pub record IsCheckpointBounded (c : Configuration) (vc : ViewChangeData) (mark : Mark) : Type 0 where
-  pub from : vc.low ≤ mark.number
-  pub within : mark.number ≤ vc.low + 2 * c.period
-  pub multiple : mark.number % c.period ≡ 0
-  pub number : mark.number < 2 ^ 48
-
--- a view change within its bounds
-pub record IsBounded (c : Configuration) (vc : ViewChangeData) : Type 0 where
-  pub view : vc.view < 2 ^ 48
-  pub low : vc.low < 2 ^ 48
-  pub prepared : (claim : Claim) → Has (λ x. x ≡ claim) vc.prepared → IsClaimBounded c vc claim
-  pub pre_prepared : (claim : Claim) → Has (λ x. x ≡ claim) vc.pre_prepared → IsClaimBounded c vc claim
-  pub checkpoints : (mark : Mark) → Has (λ x. x ≡ mark) vc.checkpoints → IsCheckpointBounded c vc mark
 
 -- With bytes that are no signed view change, a sender twice or out of order, a view change for another view or beyond its
 -- bounds, a start below the low mark of all but 2f, or one that only f list: such a new view is not taken.

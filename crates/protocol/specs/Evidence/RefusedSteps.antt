@@ -5,7 +5,7 @@ use Rattle.wire.specs.Messages.{BodyData as Body, MessageData as Message, FrameD
 use Rattle.wire.specs.Spelling.{IsMessage, is_signed, frame_limit, body_spelling}
 use Rattle.protocol.specs.System.Configuration.{Configuration, IsConfiguration, is_replica, is_client, is_correct, is_correct_client}
 use Rattle.protocol.specs.System.Frames.{frame_of, said, heard, signed_body, IsSealed}
-use Rattle.protocol.specs.System.Trace.{Entry, history_of, Once, Always, Has, Each, Unforged}
+use Rattle.protocol.specs.System.Trace.{Entry, history_of, Once, Always, Has, Unforged}
 use Rattle.protocol.specs.System.Trace.Entry.{Invoke, Got, Tick, Accepted}
 use Rattle.protocol.specs.Client.RightClient.{open_call}
 use Rattle.protocol.specs.System.Texts.{NoCollision}
@@ -16,6 +16,7 @@ use Rattle.protocol.specs.Replica.RightReplica.{others}
 use Rattle.protocol.specs.Evidence.RefusedRuns.{Gets}
 use Rattle.protocol.specs.Evidence.Examples.{four}
 use Rattle.protocol.specs.Evidence.FirstOperation.{FirstFrames, AreFirstFrames, first_answer, first_item, first_trace}
+use Rattle.wire.specs.Lists.{Each}
 
 -- ---- a report
 

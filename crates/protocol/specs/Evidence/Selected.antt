@@ -3,10 +3,12 @@ use Rattle.std.specs.Prelude.{◌≡◌, ◌↔◌, ℕ, suc, ◌+◌, ◌*◌, 
 use Rattle.sha2.specs.Sha256.{sha256}
 use Rattle.protocol.specs.System.Configuration.{Configuration}
 use Rattle.wire.specs.Messages.{NewViewData, ViewChangeData, MarkData as Mark, ClaimData as Claim}
-use Rattle.protocol.specs.System.Trace.{Has, Each}
+use Rattle.protocol.specs.System.Trace.{Has}
 use Rattle.protocol.specs.Replica.Selection.{may_select}
 use Rattle.protocol.specs.Evidence.Refused.{SoManyHave, SaysNothingAgainst, SaysForIt, SaysNothing}
-use Rattle.protocol.specs.Evidence.RefusedMarks.{SpellsChange, IsBounded}
+use Rattle.protocol.specs.Evidence.RefusedMarks.{SpellsChange}
+use Rattle.protocol.specs.Laws.Bounds.{IsBounded}
+use Rattle.wire.specs.Lists.{Each}
 
 -- the frames spell these view changes, each signed by its sender
 abbrev pub AreSigned : Configuration → List (List ℕ) → List (ℕ × ViewChangeData) → Type 0

@@ -1,20 +1,22 @@
 -- The laws over all safe histories: what bytes say, agreement on batches, states and roots, and the first view.
 use Rattle.std.specs.Prelude.{◌≡◌, ◌≢◌, ◌↔◌, ℕ, ◌^◌, ◌≤◌, ◌<◌, ◌⊎◌, true, List, length, Some}
 use Rattle.sha2.specs.Sha256.{sha256}
-use Rattle.protocol.specs.System.Configuration.{Configuration, IsConfiguration, is_correct, is_correct_replica, is_correct_client}
+use Rattle.protocol.specs.System.Configuration.{Configuration, IsConfiguration, is_correct, is_correct_replica, is_correct_client, members}
 use Rattle.tuple_tree.specs.Values.{AreBytes}
-use Rattle.wire.specs.Messages.{BodyData as Body, FrameData as Frame, NewViewData, ViewChangeData, view_change as ViewChange}
+use Rattle.wire.specs.Messages.{BodyData as Body, MessageData as Message, FrameData as Frame, NewViewData, ViewChangeData, view_change as ViewChange}
 use Rattle.wire.specs.Spelling.{SpellsFrame}
+use Rattle.wire.specs.Words.{carried}
 use Rattle.signing.specs.Heard.{heard as heard_among, signed_body as signed_among}
-use Rattle.protocol.specs.System.Frames.{members, frame_of, said, opened, heard, signed_body}
+use Rattle.protocol.specs.System.Frames.{frame_of, said, opened, heard, signed_body, IsPosted}
 use Rattle.protocol.specs.System.Trace.{Entry, party_of, history_of, Once, Always, Has, SendsBody, Unforged}
 use Rattle.protocol.specs.System.Trace.Entry.{Installed}
 use Rattle.protocol.specs.Replica.Certificates.{Prepared, Committed, view, taken, batch_begun}
-use Rattle.protocol.specs.Replica.RightReplica.{SafeReplica, HadQuorum, StartsAt}
+use Rattle.protocol.specs.Replica.RightReplica.{Point, HasSeen, SafeReplica, HadQuorum, StartsAt, MaySay, IsFor, MaySend}
 use Rattle.protocol.specs.Client.RightClient.{SafeClient, SafeWeakClient}
 use Rattle.protocol.specs.Space.Linear.{points, IsLinear, Item, Legal, Covers}
 use Rattle.protocol.specs.Replica.State.{State, IsState, opening, after_batches, page_text, root_of}
 use Rattle.protocol.specs.System.Texts.{NoCollision, StoodAt, ExecutesBatch, AreExecuted}
+use Rattle.wire.specs.Lists.{Each}
 
 -- ---- bytes
 
@@ -36,6 +38,14 @@ pub record IsAsHeard (c : Configuration) (bytes : List ℕ) : Type 0 where
 -- It is so on any bytes.
 abbrev pub BytesAreHeard : Type 0
 BytesAreHeard = (c : Configuration) (bytes : List ℕ) → AreBytes bytes → IsAsHeard c bytes
+
+-- What a replica posts for those it is for, over frames that it has seen, it may send where it may say the message.
+abbrev pub PostedMaySend : Type 0
+PostedMaySend =
+    (c : Configuration) (me : ℕ) (past : List Entry) (point : Point) (e : Entry) (bytes receivers : List ℕ) (message : Message)
+    → IsPosted c me message receivers bytes → IsFor c me past message receivers
+    → Each (λ frame. Once (HasSeen frame) past) (carried message) → MaySay c me past point e bytes message
+    → MaySend c me past point e bytes
 
 -- ---- agreement
 

@@ -17,13 +17,14 @@ use Rattle.wire.specs.Spelling.{has_children}
 use Rattle.wire.specs.Messages.{BodyData as Body, MessageData as Message, NewViewData, MarkData as Mark, request as Request, pre_prepare as PrePrepare, prepare as Prepare, commit as Commit, checkpoint as Checkpoint, view_change as ViewChange, new_view as NewView, reply as Reply, fetch as Fetch, meta as Meta, page as Page}
 use Rattle.wire.specs.Words.{requests_of}
 use Rattle.protocol.specs.System.Frames.{frame_of, said, heard, receivers_of}
-use Rattle.protocol.specs.System.Trace.{Entry, party_of, is_output, Once, Has, Each, either, Hears}
+use Rattle.protocol.specs.System.Trace.{Entry, party_of, is_output, Once, Has, either, Hears}
 use Rattle.protocol.specs.System.Trace.Entry.{Got, Tick, Sent}
 use Rattle.protocol.specs.Replica.Selection.{is_quorum, signed_change, is_within}
 use Rattle.protocol.specs.Replica.Certificates.{greatest, view, is_active_in, taken, checkpoints_of, count_checkpoints, low, is_in_marks, entry_proposal, logged, prepare_from, commit_from, vote_in, prepare_of, commit_of, Prepared, Committed}
 use Rattle.reply_cache.specs.Replies.{Kept}
 use Rattle.protocol.specs.Replica.State.{State, Call, call_of, Ran, kept_of, last_time, tuples, root_of, page_text}
 use Rattle.protocol.specs.Replica.RightReplica.{Point, first_point, reply_of, IsStep, KeptState, Executes, IsRootWanted, digests_at}
+use Rattle.wire.specs.Lists.{Each}
 
 -- ---- words on outputs
 

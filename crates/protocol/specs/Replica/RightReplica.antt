@@ -16,12 +16,13 @@ use Rattle.wire.specs.declared.terms.Level.TheVariants as levels
 use Rattle.wire.specs.Messages.{BodyData as Body, FrameData as Frame, MessageData as Message, ProofData as Proof, macs, signature, ViewChangeData, NewViewData, MarkData as Mark, ClaimData as Claim, request as Request, pre_prepare as PrePrepare, prepare as Prepare, commit as Commit, checkpoint as Checkpoint, view_change as ViewChange, new_view as NewView, reply as Reply, fetch as Fetch, meta as Meta, page as Page}
 use Rattle.wire.specs.Words.{carried, requests_of}
 use Rattle.protocol.specs.System.Frames.{frame_of, said, heard, IsSealed, receivers_of}
-use Rattle.protocol.specs.System.Trace.{Entry, party_of, Once, Has, Each, frames_in, Hears}
+use Rattle.protocol.specs.System.Trace.{Entry, party_of, Once, Has, frames_in, Hears}
 use Rattle.protocol.specs.System.Trace.Entry.{Invoke, Got, Tick, Executed, Installed, Sent, Accepted}
 use Rattle.protocol.specs.Replica.Selection.{is_quorum}
 use Rattle.protocol.specs.Replica.Certificates.{view, target, is_active_in, taken, count_checkpoints, low, is_in_marks, are_genuine, logged, Prepared, Committed}
 use Rattle.reply_cache.specs.Replies.{Kept}
 use Rattle.protocol.specs.Replica.State.{State, IsState, Call, call_in, Ran, opening, execute, root_of, pages_of, page_text, kept_of, last_time, tuples, ran_in}
+use Rattle.wire.specs.Lists.{Each}
 
 -- ---- words on pasts
 

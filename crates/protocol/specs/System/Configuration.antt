@@ -1,6 +1,7 @@
 -- The configuration: how many replicas may be faulty, which are, and what all are given (Castro and Liskov, TOCS 2002,
 -- on the system model: 3f + 1 replicas, of which at most f are faulty).
-use Rattle.std.specs.Prelude.{◌≡◌, ◌≢◌, ℕ, ◌+◌, ◌-◌, ◌*◌, ◌%◌, ◌^◌, ◌≤◌, ◌<◌, Bool, ◌&&◌, ◌||◌, not, List, length, nat_lt, nat_le, All, AllPairs}
+use Rattle.std.specs.Prelude.{◌≡◌, ◌≢◌, ℕ, ◌+◌, ◌-◌, ◌*◌, ◌%◌, ◌^◌, ◌≤◌, ◌<◌, Bool, ◌&&◌, ◌||◌, not, List, length, nat_lt, All, AllPairs}
+use Rattle.authenticator.specs.Membership.{Membership, is_replica as is_member_replica, is_client as is_member_client}
 use Rattle.quorum.specs.Quorum.{member}
 
 -- Numbers of replicas are 0 to 3f, of clients 0 to clients - 1. The period is the number of batches from one checkpoint
@@ -12,6 +13,10 @@ pub record Configuration : Type 0 where
   pub period : ℕ
   pub faulty_replicas : List ℕ
   pub faulty_clients : List ℕ
+
+-- who takes part, as keys and hearing know it
+abbrev pub members : Configuration → Membership
+members c = record { seed = c.seed; faults = c.faults; clients = c.clients }
 
 -- how many replicas there are
 abbrev pub replicas : Configuration → ℕ
@@ -36,10 +41,10 @@ pub record IsConfiguration (c : Configuration) : Type 0 where
 
 -- whether a party is a replica, or a client; a faulty replica, or a correct one; a correct client; or correct at all
 abbrev pub is_replica : Configuration → ℕ → Bool
-is_replica c p = nat_lt p (replicas c)
+is_replica c p = is_member_replica (members c) p
 
 abbrev pub is_client : Configuration → ℕ → Bool
-is_client c p = nat_le 256 p && nat_lt p (256 + c.clients)
+is_client c p = is_member_client (members c) p
 
 abbrev pub is_faulty_replica : Configuration → ℕ → Bool
 is_faulty_replica c = member c.faulty_replicas

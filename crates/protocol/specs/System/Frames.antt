@@ -1,17 +1,16 @@
 -- What the bytes of a trace spell, and what a party takes from them: the words of the crates wire, authenticator and
 -- signing, for a configuration. Bytes are lists of numbers here, and a list that is not of bytes spells nothing.
-use Rattle.std.specs.Prelude.{◌≡◌, ℕ, Bool, true, false, not, List, [], map, nat_lt, ◌==◌, if◌then◌else◌, Option, None, option_and_then, All}
+use Rattle.std.specs.Prelude.{◌≡◌, ℕ, Bool, true, false, not, List, [], map, nat_lt, ◌==◌, if◌then◌else◌, Option, Some, None, option_and_then, All}
 use Rattle.std.specs.List.{list_all}
 use Rattle.wire.specs.declared.terms.Mode.{Mode}
 use Rattle.wire.specs.declared.terms.Mode.TheVariants as modes
-use Rattle.wire.specs.Messages.{BodyData as Body, ProofData as Proof, macs, signature, FrameData as Frame}
+use Rattle.wire.specs.Messages.{BodyData as Body, MessageData as Message, ProofData as Proof, macs, signature, FrameData as Frame}
 use Rattle.wire.specs.Reading.{frame_of as frame_spelled}
 use Rattle.wire.specs.Words.{said as body_spelled}
-use Rattle.authenticator.specs.Membership.{Membership}
 use Rattle.authenticator.specs.Authentic.{mac_of}
 use Rattle.signing.specs.Heard.{has_signature, heard as heard_among, signed_body as signed_among}
 use Rattle.quorum.specs.Votes.{give_if}
-use Rattle.protocol.specs.System.Configuration.{Configuration}
+use Rattle.protocol.specs.System.Configuration.{Configuration, members}
 
 -- what is read, where the list is of bytes
 abbrev pub of_bytes : {A : Type 0} → (List ℕ → Option A) → List ℕ → Option A
@@ -23,10 +22,6 @@ frame_of bytes = of_bytes frame_spelled bytes
 
 unfoldable pub said : List ℕ → Option Body
 said bytes = of_bytes body_spelled bytes
-
--- who takes part
-abbrev pub members : Configuration → Membership
-members c = record { seed = c.seed; faults = c.faults; clients = c.clients }
 
 -- what a party can take from bytes: the body of a frame that is authentic to it, or signed where it is to be signed
 unfoldable pub opened : Configuration → ℕ → List ℕ → Option Body
@@ -53,6 +48,11 @@ IsSealed c frame = elim frame.proof [ macs entries ↦ All (λ x. x.mac ≡ mac_
 abbrev pub receivers_of : Proof → List ℕ
 receivers_of (macs entries) = map (λ x. x.receiver) entries
 receivers_of (signature s) = []
+
+-- The bytes are a frame of the party's own that says this, sealed for these receivers; a signed one names none.
+pub record IsPosted (c : Configuration) (me : ℕ) (message : Message) (receivers bytes : List ℕ) : Type 0 where
+  pub says : said bytes ≡ Some (record { sender = me; message = message })
+  pub is_sealed : (frame : Frame) → frame_of bytes ≡ Some frame → IsSealed c frame × (receivers_of frame.proof ≡ receivers)
 
 -- ---- the two modes of a request as a truth value: whether it is read-only
 

@@ -7,6 +7,7 @@ use Rattle.protocol.specs.System.Configuration.{Configuration, is_correct}
 use Rattle.wire.specs.Messages.{BodyData as Body}
 use Rattle.wire.specs.Words.{carried}
 use Rattle.protocol.specs.System.Frames.{said, opened, heard}
+use Rattle.wire.specs.Lists.{Each}
 
 -- What happens at the correct parties. A client stands with its number here, and 256 above it as a party.
 pub data Entry : Type 0 where
@@ -50,11 +51,6 @@ Always P (e ∷ past) = P past e × Always P past
 abbrev pub Has : {A : Type 0} → (A → Type 0) → List A → Type 0
 Has P [] = ⊥
 Has P (x ∷ xs) = P x ⊎ Has P xs
-
--- each element of the list; by recursion on it, so that a list that is known gives a product
-abbrev pub Each : {A : Type 0} → (A → Type 0) → List A → Type 0
-Each P [] = ⊤
-Each P (x ∷ xs) = P x × Each P xs
 
 -- there is no input among the entries
 abbrev pub AreOutputs : List Entry → Type 0

@@ -1,5 +1,6 @@
-use Rattle.protocol.proofs.Evidence.Certifying
+use Rattle.protocol.proofs.Agreement.Commits
+use Rattle.protocol.proofs.Agreement.Executing
 use Rattle.protocol.proofs.certified.certificates_stay.Goals as goal
 
 pub returns : goal.returns
-returns c = record { prepared = Certifying.prepared_remains; committed = Certifying.committed_remains }
+returns c = record { prepared = Commits.prepared_remains; committed = Executing.committed_remains }
