@@ -5,20 +5,21 @@
 //! `local`, over any reader and writer whose bytes are known: at Ok what is written is the result lines of the run
 //! over the lines read; at a refused line those of the lines before it, and the fault is its number and refusal; at
 //! want of memory or a reader's error those of some lines in front. `show` writes the tuple that the digits spell, and
-//! refuses exactly where they spell none. The texts of standard error and the statuses follow from the faults. Results
-//! are held back only while a whole line is at hand, so that nobody waits for an answer that is there; in which order
-//! reads and writes come is tested.
+//! refuses exactly where they spell none. The texts of standard error and the statuses follow from the faults, and the
+//! status of words that are no request from why they are none. Results are held back only while a whole line is at
+//! hand, so that nobody waits for an answer that is there; in which order reads and writes come is tested.
 #![tactic(auto)]
+
+ghost use Rattle.std.specs.Prelude.{◌≡◌};
+ghost use Rattle.btspace.specs.Complaints.{status_of};
 
 mod complaints;
 mod input;
 mod local;
 mod pieces;
 mod show;
-mod words;
 
-use clap::Error;
-use clap::error::ErrorKind;
+use command_line::{NoRequest, Request, read_words};
 use complaints::Complaint;
 use local::local;
 use show::show;
@@ -26,7 +27,6 @@ use std::io::Read;
 use std::process::ExitCode;
 use std::rt::{Env, Files};
 use std::{fs, io};
-use words::{Request, read_words};
 
 // A pipe can't always be opened by this path, as where the program runs as another user than its maker's. So it is
 // taken for the standard input that the program has already.
@@ -46,10 +46,10 @@ fn act_on_words<R: Files + Env + Input + Print + Eprint + AllocGlobal>(rt: &R) -
         Ok(words) => words,
         Err(_) => return complain(rt, Complaint::Stopped),
     };
-    match read_words(rt.alloc(), words.as_slice()) {
+    match read_words(rt, words.as_slice()) {
         Ok(Request::Local { script }) => run_script(rt, script),
         Ok(Request::Show { digits }) => print_tuple(rt, digits),
-        Err(error) => print_words_error(rt, &error),
+        Err(why) => end_words(rt, why),
     }
 }
 
@@ -93,19 +93,23 @@ fn refuse_words<R: Eprint>(rt: &R, error: &io::Error) -> u8 {
     2
 }
 
-// The text of `clap`: help and the version go to standard output, and else it is standard error's.
-fn print_words_error<R: Print + Eprint>(rt: &R, error: &Error) -> u8 {
-    if error.kind() == ErrorKind::OutOfMemory {
-        return complain(rt, Complaint::Stopped);
+// What there was to print of the words is printed.
+fn end_words<R: Eprint>(rt: &R, why: NoRequest) -> u8
+    ensures shown { why ≡ NoRequest.Shown → result ≡ 0 }
+    ensures wrong { why ≡ NoRequest.Wrong → result ≡ 2 }
+    ensures stopped { why ≡ NoRequest.Stopped → result ≡ 3 }
+{
+    match why {
+        NoRequest::Shown => 0,
+        NoRequest::Wrong => 2,
+        NoRequest::Stopped => complain(rt, Complaint::Stopped),
     }
-    if error.print(rt).is_err() {
-        return complain(rt, Complaint::Stopped);
-    }
-    if error.use_stderr() { 2 } else { 0 }
 }
 
 // What can't be said on standard error is left unsaid: the status tells it too.
-fn complain<R: Eprint>(rt: &R, complaint: Complaint<'_>) -> u8 {
+fn complain<R: Eprint>(rt: &R, complaint: Complaint<'_>) -> u8
+    ensures { result ≡ status_of complaint.entry }
+{
     let _ = eprintln!(rt; "{complaint}");
     complaint.status()
 }

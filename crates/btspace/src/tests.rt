@@ -1,14 +1,12 @@
-//! Worked scripts, digits and words.
+//! Worked scripts and digits.
 
 mod rows;
 mod turns;
+mod words;
 
 use crate::complaints::Complaint;
 use crate::local::{LocalFault, local};
 use crate::show::{ShowFault, show};
-use crate::words::{Request, read_words};
-use clap::error::ErrorKind;
-use std::alloc::Global;
 use std::io::{self, Read, Write};
 use std::test::Fail;
 use tuple_text::LineFault;
@@ -192,37 +190,6 @@ fn shows_tuples(rt: HostRuntime) {
         let given = show_ending(show(rt.alloc(), digits, &mut written));
         assert_eq!(rt; given, ending, "{digits}");
         assert!(rt; written.as_slice() == text.as_bytes(), "{digits}");
-    }
-}
-
-fn request_of<'a>(alloc: Global, words: &'a [&'a str]) -> Result<Request<'a>, ErrorKind> {
-    match read_words(alloc, words) {
-        Ok(request) => Ok(request),
-        Err(error) => Err(error.kind()),
-    }
-}
-
-#[test]
-fn reads_words(rt: HostRuntime) {
-    let alloc = rt.alloc();
-    match request_of(alloc, &["btspace", "local", "a.bts"]) {
-        Ok(Request::Local { script }) => assert!(rt; script == "a.bts"),
-        _ => assert!(rt; false),
-    }
-    match request_of(alloc, &["btspace", "show", "00"]) {
-        Ok(Request::Show { digits }) => assert!(rt; digits == "00"),
-        _ => assert!(rt; false),
-    }
-    assert!(rt; request_of(alloc, &["btspace"]).is_err());
-    assert!(rt; request_of(alloc, &["btspace", "show"]).is_err());
-    assert!(rt; request_of(alloc, &["btspace", "local", "a", "b"]).is_err());
-    match request_of(alloc, &["btspace", "--help"]) {
-        Err(kind) => assert_eq!(rt; kind, ErrorKind::DisplayHelp),
-        Ok(_) => assert!(rt; false),
-    }
-    match request_of(alloc, &["btspace", "--version"]) {
-        Err(kind) => assert_eq!(rt; kind, ErrorKind::DisplayVersion),
-        Ok(_) => assert!(rt; false),
     }
 }
 

@@ -1,0 +1,188 @@
+//! The words of the command line, and what is printed of them.
+
+use command_line::{NoRequest, Request, read_words};
+use std::alloc::Global;
+use std::cell::RefCell;
+use std::fmt::Display;
+use std::io::{self, Write};
+
+// What was printed on standard output and on standard error, while they are open.
+#[derive(Drop)]
+struct Console {
+    is_open: bool,
+    output: RefCell<Vec<u8>>,
+    errors: RefCell<Vec<u8>>,
+}
+
+impl Console {
+    fn new(alloc: Global, is_open: bool) -> Console {
+        Console {
+            is_open,
+            output: RefCell::new(Vec::new(alloc)),
+            errors: RefCell::new(Vec::new(alloc)),
+        }
+    }
+
+    fn put<D: Display + Drop>(
+        &self,
+        stream: &RefCell<Vec<u8>>,
+        value: D,
+        end: &str,
+    ) -> io::Result<()> {
+        if !self.is_open {
+            return Err(io::Error::from(io::ErrorKind::BrokenPipe));
+        }
+        match stream.try_borrow_mut() {
+            Ok(mut text) => write!(text, "{value}{end}"),
+            Err(_) => Err(io::Error::from(io::ErrorKind::ResourceBusy)),
+        }
+    }
+}
+
+impl Print for Console {
+    fn print<D: Display + Drop>(&self, value: D) -> io::Result<()> {
+        self.put(&self.output, value, "")
+    }
+
+    fn println<D: Display + Drop>(&self, value: D) -> io::Result<()> {
+        self.put(&self.output, value, "\n")
+    }
+
+    fn write_all(&self, _bytes: &[u8]) -> io::Result<()> {
+        Err(io::Error::from(io::ErrorKind::Unsupported))
+    }
+}
+
+impl Eprint for Console {
+    fn eprint<D: Display + Drop>(&self, value: D) -> io::Result<()> {
+        self.put(&self.errors, value, "")
+    }
+
+    fn eprintln<D: Display + Drop>(&self, value: D) -> io::Result<()> {
+        self.put(&self.errors, value, "\n")
+    }
+}
+
+fn holds(stream: &RefCell<Vec<u8>>, text: &str) -> bool {
+    match stream.try_borrow() {
+        Ok(printed) => printed.as_slice() == text.as_bytes(),
+        Err(_) => false,
+    }
+}
+
+// Words, why they are no request, and what is printed on standard output and on standard error: texts in the layout of
+// Rust's clap 4.
+#[derive(Clone, Copy)]
+struct Row {
+    words: &'static [&'static str],
+    why: NoRequest,
+    output: &'static str,
+    errors: &'static str,
+}
+
+const ROWS: [Row; 6] = [
+    Row {
+        words: &["btspace", "--help"],
+        why: NoRequest::Shown,
+        output: "A tuple space
+
+Usage: btspace <COMMAND>
+
+Commands:
+  local  Runs a script on a space of its own and prints a result line for each operation
+  show   Prints the tuple that is encoded by these bytes
+
+Options:
+  -h, --help     Print help
+  -V, --version  Print version
+",
+        errors: "",
+    },
+    Row {
+        words: &["btspace", "show", "-h"],
+        why: NoRequest::Shown,
+        output: "Prints the tuple that is encoded by these bytes
+
+Usage: btspace show <HEX>
+
+Arguments:
+  <HEX>  The bytes of a tuple, two hexadecimal digits a byte
+
+Options:
+  -h, --help  Print help
+",
+        errors: "",
+    },
+    Row {
+        words: &["btspace", "--version"],
+        why: NoRequest::Shown,
+        output: "btspace 0.1.0\n",
+        errors: "",
+    },
+    Row {
+        words: &["btspace"],
+        why: NoRequest::Wrong,
+        output: "",
+        errors: "error: 'btspace' requires a subcommand but one was not provided
+  [subcommands: local, show]
+
+Usage: btspace <COMMAND>
+
+For more information, try '--help'.
+",
+    },
+    Row {
+        words: &["btspace", "show"],
+        why: NoRequest::Wrong,
+        output: "",
+        errors: "error: the following required arguments were not provided:
+  <HEX>
+
+Usage: btspace show <HEX>
+
+For more information, try '--help'.
+",
+    },
+    Row {
+        words: &["btspace", "local", "a", "b"],
+        why: NoRequest::Wrong,
+        output: "",
+        errors: "error: unexpected argument 'b' found
+
+Usage: btspace local <SCRIPT>
+
+For more information, try '--help'.
+",
+    },
+];
+
+fn is_printed(alloc: Global, row: &Row) -> bool {
+    let console = Console::new(alloc, true);
+    let read = read_words(&(&console, alloc), row.words);
+    read == Err(row.why) && holds(&console.output, row.output) && holds(&console.errors, row.errors)
+}
+
+fn is_stopped(alloc: Global, words: &[&str]) -> bool {
+    let console = Console::new(alloc, false);
+    read_words(&(&console, alloc), words) == Err(NoRequest::Stopped)
+}
+
+#[test]
+fn prints_help_and_mistakes(rt: HostRuntime) {
+    for row in ROWS {
+        let is_right = is_printed(rt.alloc(), &row) && is_stopped(rt.alloc(), row.words);
+        assert!(rt; is_right, "{}{}", row.output, row.errors);
+    }
+}
+
+fn asks_for(alloc: Global, words: &[&str], request: Request<'_>) -> bool {
+    read_words(&(Console::new(alloc, true), alloc), words) == Ok(request)
+}
+
+#[test]
+fn reads_words(rt: HostRuntime) {
+    let local = Request::Local { script: "a.bts" };
+    assert!(rt; asks_for(rt.alloc(), &["btspace", "local", "a.bts"], local));
+    let show = Request::Show { digits: "00" };
+    assert!(rt; asks_for(rt.alloc(), &["btspace", "show", "00"], show));
+}

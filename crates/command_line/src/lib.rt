@@ -1,0 +1,106 @@
+//! The words of the command line, read by `clap`.
+//!
+//! What is public here has no type of `clap`, so that the program above is proved without loading it.
+//!
+//! # What is proved
+//!
+//! `read_words` is safe and returns, on any words. Where it has no request, `Stopped` comes of want of memory or of a
+//! text that can't be printed alone; else help and the version are `Shown`, and all other errors of `clap` are `Wrong`
+//! (`say`). Which words are a request, and the texts, are tested by the program.
+#![tactic(auto)]
+
+ghost use Rattle.std.specs.Prelude.{◌≡◌, ◌≢◌, ◌⊎◌};
+ghost use Rattle.clap.specs.Values.{kind_of};
+
+use clap::error::ErrorKind;
+use clap::{Arg, Command, Error};
+use std::alloc::{AllocError, Global};
+use std::convert::AsStr;
+
+/// What the words ask for.
+#[derive(Clone, Copy, Debug, PartialEq, Eq)]
+pub enum Request<'a> {
+    /// The script at this path is to be run.
+    Local { script: &'a str },
+    /// The tuple of these digits is to be shown.
+    Show { digits: &'a str },
+}
+
+/// Why there is no request.
+#[derive(Clone, Copy, Debug, PartialEq, Eq)]
+pub enum NoRequest {
+    /// Help or the version was asked for, and stands on standard output.
+    Shown,
+    /// The words are wrong, and standard error says how.
+    Wrong,
+    /// Memory ran out, or the text can't be printed.
+    Stopped,
+}
+
+/// Reads the words, of which the first is the program's name. What they ask of `clap`, and what is wrong with them, is
+/// printed here.
+pub fn read_words<'a, R: Print + Eprint + AllocGlobal, S: AsStr>(
+    rt: &R,
+    words: &'a [S],
+) -> Result<Request<'a>, NoRequest> {
+    match request_of(rt.alloc(), words) {
+        Ok(request) => Ok(request),
+        Err(error) => Err(say(rt, &error)),
+    }
+}
+
+// Help and the version come as an error, as `clap` has it.
+fn request_of<'a, S: AsStr>(alloc: Global, words: &'a [S]) -> Result<Request<'a>, Error> {
+    let mut program = program(alloc)?;
+    let matches = program.try_get_matches_from_mut(words)?;
+    if let Some((name, given)) = matches.subcommand() {
+        if name == "local" {
+            if let Some(script) = given.get_str("SCRIPT") {
+                return Ok(Request::Local { script });
+            }
+        } else if let Some(digits) = given.get_str("HEX") {
+            return Ok(Request::Show { digits });
+        }
+    }
+    Err(program.error(ErrorKind::MissingSubcommand, "a subcommand is missing")?)
+}
+
+fn program<'a>(alloc: Global) -> Result<Command<'a>, AllocError> {
+    let script = Arg::new(alloc, "SCRIPT")
+        .required(true)
+        .help("The file of the script, a line for each operation");
+    let local = Command::new(alloc, "local")
+        .about("Runs a script on a space of its own and prints a result line for each operation")
+        .arg(script)?;
+    let digits = Arg::new(alloc, "HEX")
+        .required(true)
+        .help("The bytes of a tuple, two hexadecimal digits a byte");
+    let show = Command::new(alloc, "show")
+        .about("Prints the tuple that is encoded by these bytes")
+        .arg(digits)?;
+    Command::new(alloc, "btspace")
+        .version("0.1.0")
+        .about("A tuple space")
+        .subcommand_required(true)
+        .disable_help_subcommand(true)
+        .subcommand(local)?
+        .subcommand(show)
+}
+
+// Help and the version go to standard output, and what is wrong to standard error.
+fn say<R: Print + Eprint>(rt: &R, error: &Error) -> NoRequest
+    ensures memory { kind_of error.now ≡ ErrorKind.OutOfMemory → result ≡ NoRequest.Stopped }
+    ensures shown { result ≡ NoRequest.Shown → (kind_of error.now ≡ ErrorKind.DisplayHelp)
+        ⊎ (kind_of error.now ≡ ErrorKind.DisplayVersion) }
+    ensures wrong { result ≡ NoRequest.Wrong → (kind_of error.now ≢ ErrorKind.DisplayHelp)
+        × (kind_of error.now ≢ ErrorKind.DisplayVersion) }
+{
+    if error.kind() == ErrorKind::OutOfMemory || error.print(rt).is_err() {
+        return NoRequest::Stopped;
+    }
+    if error.use_stderr() {
+        NoRequest::Wrong
+    } else {
+        NoRequest::Shown
+    }
+}
