@@ -137,6 +137,10 @@ follows free (b ∷ bs) = if b == 41 then got false (b ∷ bs) else (if free the
 unfoldable pub turn : Bool → Reading Bool
 turn free bs = blanks free bs >>= follows
 
+-- whether an item follows n others, for which there has to be room
+unfoldable pub further : (ℕ → Stop) → ℕ → Bool → Reading Bool
+further why n free bs = turn free bs >>= λ on rest. if on && (n == 32) then full why rest else got on rest
+
 -- What follows the items of t up to the closing parenthesis, with room for so many more.
 module _ {T X : Type 0} (why : ℕ → Stop) (add : T → X → T) (one : Reading X) where
   abbrev pub items : ℕ → Bool → T → Reading T
@@ -181,9 +185,6 @@ module _ {L : Type 0} (length_of : L → ℕ) where
     unfoldable pub item_at : ℕ → Reading (Option (Item L))
     item_at zero bs = look 40 (λ u. stop TooDeep u) leaf_item bs
     item_at (suc levels) bs = look 40 (λ u. list (no_room begins levels) (item_at levels) u >>= λ t rest. got (option_map inner t) rest) leaf_item bs
-
-    unfoldable pub list_at : ℕ → Reading (Option (Items L))
-    list_at levels bs = list (no_room begins levels) (item_at levels) bs
 
     unfoldable pub items_at : ℕ → Reading (Option (Items L))
     items_at levels bs = items (no_room begins levels) kept_with (item_at levels) 32 true (Some none) bs

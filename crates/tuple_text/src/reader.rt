@@ -3,12 +3,13 @@
 ghost use Rattle.std.specs.Prelude.{◌≡◌, ◌+◌, ◌-◌, ◌≤◌, ◌<◌, ◌^◌, codes, true, length, pos, IfOk, IfErr, OnOk, IsTrue, ◌↔◌, Option, option_map};
 ghost use Rattle.tuple_tree.specs.Values.{TupleTree, TemplateTree, datum_length, slot_length};
 ghost use Rattle.tuple_tree.specs.Values as values;
+ghost use Rattle.tuple_tree.specs.Items.{inner};
 ghost use Rattle.tuple_tree.specs.AtomView.{datum_of};
 ghost use Rattle.tuple_tree.specs.TupleView.{value_of};
 ghost use Rattle.tuple_tree.specs.TemplateView.{field_of};
 ghost use Rattle.tuple_codec.specs.OperationView.{operation_of};
 ghost use Rattle.tuple_text.specs.Texts.{AreBlanks};
-ghost use Rattle.tuple_text.specs.Reading.{fault_at, blanks, word, gap, finish, digits, positive, signed, numeral, datum, kind, named, behind_b, behind_t, slot, slot_item, turn, follows, full, no_room, got, stop, begins_datum, begins_slot, opens, kept_with, item_at, list_at, items_at, tuple, template, argument, ending, last, operation, line, out_line, inp_line, cas_line, rdp_line, all_line, rd_line, lone_template, Gives};
+ghost use Rattle.tuple_text.specs.Reading.{fault_at, blanks, word, gap, finish, digits, positive, signed, numeral, datum, kind, named, behind_b, behind_t, slot, slot_item, turn, follows, full, no_room, got, stop, begins_datum, begins_slot, opens, kept_with, leaf_item, item_at, items_at, further, tuple, template, argument, ending, last, operation, line, out_line, inp_line, cas_line, rdp_line, all_line, rd_line, lone_template, Gives};
 ghost use Rattle.tuple_text.specs.Reading as Reading;
 
 use crate::faults::LineFault;
@@ -349,34 +350,50 @@ impl<'a> Reader<'a> {
         matches!(self.rest, [b'(', ..])
     }
 
+    // A value that is no tuple, which is never too long.
+    fn kept_atom(&mut self, alloc: Global) -> Result<Option<Value<Global>>, Stop>
+        ensures { Gives (option_map value_of) result (leaf_item datum_length begins_datum datum self.old.rest.now) self.new.rest.now }
+    {
+        let atom = self.atom(alloc)?;
+        Ok(Some(Value::Atom(atom)))
+    }
+
+    // The tuple as a value, behind its closing parenthesis.
+    fn closed_value(&mut self, tuple: Option<Tuple<Global>>) -> Result<Option<Value<Global>>, Stop>
+        ensures { Gives (option_map value_of) result (named (codes ")") (option_map inner tuple) self.old.rest.now) self.new.rest.now }
+    {
+        self.word(b")")?;
+        match tuple {
+            Some(tuple) => Ok(Some(tuple.into_value())),
+            None => Ok(None),
+        }
+    }
+
     // A value with at most so many levels; `None` where its encoding is too long.
     #[cycle(value)]
     fn value(&mut self, alloc: Global, levels: usize) -> Result<Option<Value<Global>>, Stop>
         ensures { Gives (option_map value_of) result (item_at datum_length begins_datum datum levels self.old.rest.now) self.new.rest.now }
     {
         if !self.opens() {
-            let atom = self.atom(alloc)?;
-            return Ok(Some(Value::Atom(atom)));
+            return self.kept_atom(alloc);
         }
         if levels == 0 {
             return Err(Stop::TooDeep);
         }
-        match self.list(alloc, levels - 1)? {
-            Some(tuple) => Ok(Some(tuple.into_value())),
-            None => Ok(None),
-        }
+        self.word(b"(")?;
+        let tuple = self.values(alloc, levels - 1)?;
+        self.closed_value(tuple)
     }
 
-    // A nested tuple with so many levels below it.
-    #[tactic(auto, unfolding(crate::specs::Reading::list_at, crate::specs::Reading::items_at))]
-    #[cycle(value)]
-    fn list(&mut self, alloc: Global, levels: usize) -> Result<Option<Tuple<Global>>, Stop>
-        ensures { Gives (λ t. t) result (list_at datum_length begins_datum datum levels self.old.rest.now) self.new.rest.now }
+    // Whether a further value follows so many others, for which there has to be room.
+    fn value_follows(&mut self, levels: usize, count: usize, free: bool) -> Result<bool, Stop>
+        ensures { Gives (λ on. on) result (further (no_room begins_datum levels) count free self.old.rest.now) self.new.rest.now }
     {
-        self.word(b"(")?;
-        let tuple = self.values(alloc, levels)?;
-        self.word(b")")?;
-        Ok(tuple)
+        let follows = self.turn(free)?;
+        if follows && count == MAX_FIELDS {
+            return Err(self.full_tuple(levels));
+        }
+        Ok(follows)
     }
 
     // The values up to the closing parenthesis, which is left. Those of a tuple that is too long are judged on.
@@ -387,10 +404,7 @@ impl<'a> Reader<'a> {
         let mut tuple = Some(Tuple::new_in(alloc));
         let mut count = 0;
         let mut free = true;
-        while self.turn(free)? {
-            if count == MAX_FIELDS {
-                return Err(self.full_tuple(levels));
-            }
+        while self.value_follows(levels, count, free)? {
             let value = self.value(alloc, levels)?;
             tuple = with_value(tuple, value)?;
             count += 1;
@@ -424,34 +438,53 @@ impl<'a> Reader<'a> {
         self.close_tuple(tuple)
     }
 
+    // A field that is no template, which is never too long.
+    fn kept_field(&mut self, alloc: Global) -> Result<Option<Field<Global>>, Stop>
+        ensures { Gives (option_map field_of) result (leaf_item slot_length begins_slot slot self.old.rest.now) self.new.rest.now }
+    {
+        let field = self.plain_field(alloc)?;
+        Ok(Some(field))
+    }
+
+    // The template as a field, behind its closing parenthesis.
+    fn closed_field(
+        &mut self,
+        template: Option<Template<Global>>,
+    ) -> Result<Option<Field<Global>>, Stop>
+        ensures { Gives (option_map field_of) result (named (codes ")") (option_map inner template) self.old.rest.now) self.new.rest.now }
+    {
+        self.word(b")")?;
+        match template {
+            Some(template) => Ok(Some(template.into_field())),
+            None => Ok(None),
+        }
+    }
+
     // A field with at most so many levels; `None` where its encoding is too long.
     #[cycle(field)]
     fn field(&mut self, alloc: Global, levels: usize) -> Result<Option<Field<Global>>, Stop>
         ensures { Gives (option_map field_of) result (item_at slot_length begins_slot slot levels self.old.rest.now) self.new.rest.now }
     {
         if !self.opens() {
-            let field = self.plain_field(alloc)?;
-            return Ok(Some(field));
+            return self.kept_field(alloc);
         }
         if levels == 0 {
             return Err(Stop::TooDeep);
         }
-        match self.nested(alloc, levels - 1)? {
-            Some(template) => Ok(Some(template.into_field())),
-            None => Ok(None),
-        }
+        self.word(b"(")?;
+        let template = self.fields(alloc, levels - 1)?;
+        self.closed_field(template)
     }
 
-    // A nested template with so many levels below it.
-    #[tactic(auto, unfolding(crate::specs::Reading::list_at, crate::specs::Reading::items_at))]
-    #[cycle(field)]
-    fn nested(&mut self, alloc: Global, levels: usize) -> Result<Option<Template<Global>>, Stop>
-        ensures { Gives (λ p. p) result (list_at slot_length begins_slot slot levels self.old.rest.now) self.new.rest.now }
+    // Whether a further field follows so many others, for which there has to be room.
+    fn field_follows(&mut self, levels: usize, count: usize, free: bool) -> Result<bool, Stop>
+        ensures { Gives (λ on. on) result (further (no_room begins_slot levels) count free self.old.rest.now) self.new.rest.now }
     {
-        self.word(b"(")?;
-        let template = self.fields(alloc, levels)?;
-        self.word(b")")?;
-        Ok(template)
+        let follows = self.turn(free)?;
+        if follows && count == MAX_FIELDS {
+            return Err(self.full_template(levels));
+        }
+        Ok(follows)
     }
 
     // The fields up to the closing parenthesis, which is left. Those of a template that is too long are judged on.
@@ -462,10 +495,7 @@ impl<'a> Reader<'a> {
         let mut template = Some(Template::new_in(alloc));
         let mut count = 0;
         let mut free = true;
-        while self.turn(free)? {
-            if count == MAX_FIELDS {
-                return Err(self.full_template(levels));
-            }
+        while self.field_follows(levels, count, free)? {
             let field = self.field(alloc, levels)?;
             template = with_field(template, field)?;
             count += 1;

@@ -1,23 +1,18 @@
-use Rattle.std.proofs.Common.{◌≡◌, ◌≤◌, ◌+◌, ◌-◌, ◌*◌}
+use Rattle.std.proofs.Common.{◌+◌, ◌-◌, ◌*◌}
 use Rattle.tuple_tree.specs.Values.{datum_length}
-use Rattle.tuple_text.specs.Reading.{items, item_at, items_at, kept_with, no_room, begins_datum, datum}
+use Rattle.tuple_text.specs.Reading.{item_at, items_at, kept_with, no_room, begins_datum, datum}
+use Rattle.tuple_text.proofs.Steps.{SoFar}
 use Rattle.tuple_text.proofs.reader.Reader.+value.Given as goal
 
 abbrev pub decreases-value : goal.decreases-value
-decreases-value l = 3 * l.levels
+decreases-value l = 2 * l.levels
 
 abbrev pub decreases-values : goal.decreases-values
-decreases-values l = 3 * l.levels + 1
-
-abbrev pub decreases-list : goal.decreases-list
-decreases-list l = 3 * l.levels + 2
+decreases-values l = 2 * l.levels + 1
 
 abbrev pub invariant-values-loop-tuple : goal.invariant-values-loop-tuple
-invariant-values-loop-tuple l = record {
-  count : l.count ≤ 32;
-  reads : items (no_room begins_datum l.levels) (kept_with datum_length) (item_at datum_length begins_datum datum l.levels) (32 - l.count) l.free l.tuple l.self.rest.now
-      ≡ items_at datum_length begins_datum datum l.levels l.initial.self.rest.now;
-}
+invariant-values-loop-tuple l =
+    SoFar (no_room begins_datum l.levels) (kept_with datum_length) (item_at datum_length begins_datum datum l.levels) l.count l.free l.tuple l.self.rest.now (items_at datum_length begins_datum datum l.levels l.initial.self.rest.now)
 
 abbrev pub decreases-values-loop-tuple : goal.decreases-values-loop-tuple
 decreases-values-loop-tuple l = 33 - l.count
