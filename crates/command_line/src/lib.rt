@@ -1,6 +1,6 @@
 //! The words of the command line, read by `clap`.
 //!
-//! What is public here has no type of `clap`, so that the program above is proved without loading it.
+//! What is public here has no type of `clap`, so that what those types cost to prove is paid here alone.
 //!
 //! # What is proved
 //!
