@@ -1,12 +1,12 @@
 //! The words of the command line, read by `clap`.
 //!
-//! What is public here has no type of `clap`, so that the program above is proved without loading it.
+//! What is public here has no type of `clap`, so that what those types cost to prove is paid here alone.
 //!
 //! # What is proved
 //!
-//! `read_words` is safe and returns, on any words. Where it has no request, `Stopped` comes of want of memory or of a
-//! text that can't be printed alone; else help and the version are `Shown`, and all other errors of `clap` are `Wrong`
-//! (`say`). Which words are a request, and the texts, are tested by the program.
+//! `read_words` is safe and returns, on any words. Of the errors of `clap` want of memory gives `Stopped`, only help and
+//! the version give `Shown`, and neither of them gives `Wrong` (`say`). Which words are a request, that not all others
+//! are `Stopped`, and what is printed is tested in `btspace`.
 #![tactic(auto)]
 
 ghost use Rattle.std.specs.Prelude.{◌≡◌, ◌≢◌, ◌⊎◌};
@@ -37,8 +37,8 @@ pub enum NoRequest {
     Stopped,
 }
 
-/// Reads the words, of which the first is the program's name. What they ask of `clap`, and what is wrong with them, is
-/// printed here.
+/// Reads the words, of which the first is the program's name. Help and the version, where they ask for these, are
+/// printed, and so is what is wrong with them.
 pub fn read_words<'a, R: Print + Eprint + AllocGlobal, S: AsStr>(
     rt: &R,
     words: &'a [S],
