@@ -1,6 +1,7 @@
 -- Births in order of age, without one of them.
-use Rattle.std.proofs.Common.{◌≡◌, ◌≢◌, ℕ, zero, suc, ◌+◌, ◌<◌, true, false, cond, List, [], ◌∷◌, length, drop, get_or, refl, sym, ap, subst, ◌∙◌, arith, inl, inr, eq-eqb, ltb}
+use Rattle.std.proofs.Common.{◌≡◌, ◌≢◌, ℕ, zero, suc, ◌+◌, ◌-◌, ◌<◌, true, false, cond, List, [], ◌∷◌, ◌++◌, length, take, drop, get_or, refl, sym, ap, subst, ◌∙◌, arith, inl, inr, eq-eqb, ltb}
 use Rattle.std.specs.Prelude.{◌==◌, All, AllPairs, remove}
+use Rattle.std.specs.List.{copy_within}
 use Rattle.std.specs.List.Sorted.{IsPartitionPoint, IsPartitionedBy}
 use Rattle.std.proofs.lemmas.Bool.{cases_eq, cases_lt, ne_eqb, ltb-true, ltb-false, lt-ltb}
 use Rattle.std.proofs.lemmas.List.Elements.{All-head, All-tail}
@@ -53,7 +54,18 @@ drop-remove [] (suc a) p n e l = absurd (omega arith)
 drop-remove (x ∷ xs) (suc a) p zero e l = absurd (omega arith)
 drop-remove (x ∷ xs) (suc a) p (suc n) e l = drop-remove xs a p n (omega arith) (omega arith)
 
-pub drop-one : (xs : List ℕ) (a : ℕ) → a < length xs → drop (suc a) xs ≡ remove (drop a xs) 0
-drop-one [] a l = absurd (omega arith)
-drop-one (x ∷ xs) zero l = refl
-drop-one (x ∷ xs) (suc a) l = drop-one xs a (omega arith)
+-- those before a place move up by one
+shifted : (xs : List ℕ) (a p n m : ℕ) → n ≡ p → m ≡ suc (a + p) → a + p < length xs
+    → drop (suc a) ((take (suc a) xs ++ take n (drop a xs)) ++ drop m xs) ≡ remove (drop a xs) p
+shifted [] a p n m e f l = absurd (omega arith)
+shifted (x ∷ xs) zero p n m e f l =
+    let g : m ≡ suc p = omega arith in
+    ap (λ k. take k (x ∷ xs) ++ drop m (x ∷ xs)) e ∙ ap (λ k. take p (x ∷ xs) ++ drop k (x ∷ xs)) g
+shifted (x ∷ xs) (suc a) p n zero e f l = absurd (omega arith)
+shifted (x ∷ xs) (suc a) p n (suc m) e f l = shifted xs a p n m e (omega arith) (omega arith)
+
+pub drop-shifted : (xs : List ℕ) (a p : ℕ) → a + p < length xs → drop (a + 1) (copy_within xs a (a + p) (a + 1)) ≡ remove (drop a xs) p
+drop-shifted xs a p l =
+    let n : ℕ = (a + p) - a in
+    let next : suc a ≡ a + 1 = omega arith in
+    subst (λ j. drop j ((take j xs ++ take n (drop a xs)) ++ drop (a + 1 + n) xs) ≡ remove (drop a xs) p) next (shifted xs a p n (a + 1 + n) (omega arith) (omega arith) l)

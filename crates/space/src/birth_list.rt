@@ -75,15 +75,17 @@ impl BirthList {
         self.remove_at(place);
     }
 
-    // Takes the birth at this place.
+    // Takes the birth at this place. The shorter side moves.
     fn remove_at(&mut self, place: usize)
         requires { place < length self.old.births }
         ensures { self.new.births ≡ remove self.old.births place }
     {
-        if place > 0 {
-            self.births.remove(self.taken + place);
+        let at = self.taken + place;
+        if place >= self.births.len() - at {
+            self.births.remove(at);
             return;
         }
+        self.births.copy_within(self.taken..at, self.taken + 1);
         self.taken += 1;
         if self.taken > self.births.len() / 2 {
             self.births.drain(..self.taken);
