@@ -63,6 +63,10 @@ TakesBirth key birth old new =
 abbrev pub KeepsBirths : Lists → Lists → Type 0
 KeepsBirths old new = (q : List ℕ) → births_at new q ≡ births_at old q
 
+-- a key that has no births has no room
+abbrev pub LetsGo : List ℕ → Lists → Lists → Type 0
+LetsGo key old new = births_at old key ≡ [] → room_at new key ≡ 0
+
 -- one more birth fits under each key of an entry
 abbrev pub HasRoom : Entry → Index → Type 0
 HasRoom e index =

@@ -3,7 +3,8 @@
 ghost use Rattle.std.specs.Prelude.{◌≡◌, ◌<◌, ◌%◌, [], List, OnOk, IfOk};
 ghost use Rattle.tuple_tree.specs.Items.{how_many};
 ghost use Rattle.space.specs.Births.{Entry};
-ghost use Rattle.space.specs.Filing.{births_on, IsIndexOf, HasRoom, Files, FilesNothing, Unfiles, AreCandidates};
+ghost use Rattle.space.specs.Filing.{births_on, IsIndexOf, HasRoom, LetsGo, Files, FilesNothing, Unfiles, AreCandidates};
+ghost use Rattle.space.specs.Keys.{tuple_key};
 
 use crate::births::PAGES;
 use crate::keys::{key_of_template, key_of_tuple};
@@ -69,7 +70,8 @@ impl Index {
 
     /// Lets go of the room for a tuple's first value where no tuple has it. The 256 pages and 33 lengths keep theirs.
     pub fn prune<A: Allocator>(&mut self, tuple: &Tuple<A>)
-        ensures { FilesNothing self.old self.new }
+        ensures kept { FilesNothing self.old self.new }
+        ensures gone { LetsGo (tuple_key tuple.now) self.old.firsts self.new.firsts }
     {
         let first = key_of_tuple(tuple);
         self.firsts.prune(first.as_slice());

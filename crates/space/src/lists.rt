@@ -1,7 +1,7 @@
 //! Lists of births by keys of bytes.
 
 ghost use Rattle.std.specs.Prelude.{◌≡◌, ◌<◌, [], ℕ, List, OnOk, IsTrue};
-ghost use Rattle.space.specs.Filing.{births_at, room_at, AddsBirth, TakesBirth, KeepsBirths};
+ghost use Rattle.space.specs.Filing.{births_at, room_at, AddsBirth, TakesBirth, KeepsBirths, LetsGo};
 
 use crate::birth_list::BirthList;
 use std::alloc::Global;
@@ -65,7 +65,8 @@ impl Lists {
 
     /// Lets a list go that has no births.
     pub fn prune(&mut self, key: &[u8])
-        ensures { KeepsBirths self.old self.new }
+        ensures kept { KeepsBirths self.old self.new }
+        ensures gone { LetsGo key.now self.old self.new }
     {
         if self.get(key).is_empty() {
             self.lists.remove(key);

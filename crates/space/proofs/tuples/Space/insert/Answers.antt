@@ -49,7 +49,7 @@ invariant_of-self-in-Err g c =
     let es = c.self.inside.tuples.entries in
     let h = c.self.invariant in
     subst (λ xs. IsIndexed xs c.self.inside.next c.self.inside.page_counts c.prune.new.self) (sym (c.in-Err.ensures {u = tt}).err)
-    (record { counts = h.counts; indexed = c.prune.ensures es (c.reserve.ensures.kept es h.indexed) })
+    (record { counts = h.counts; indexed = c.prune.ensures.kept es (c.reserve.ensures.kept es h.indexed) })
 
 pub add-requires : goal.add-requires
 add-requires g c = (c.in_ok-reserve.ensures {u = tt}).ok
