@@ -102,7 +102,9 @@ impl BirthList {
         ensures { self.new.births ≡ self.old.births }
     {
         if self.taken > self.births.len() / 2 {
-            self.births.drain(..self.taken);
+            let left = self.births.len() - self.taken;
+            self.births.copy_within(self.taken.., 0);
+            self.births.truncate(left);
             self.taken = 0;
         }
     }
