@@ -4,7 +4,7 @@
 //!
 //! # What is proved
 //!
-//! `read_words` is safe and returns, on any words. Of the errors of `clap` want of memory gives `Stopped`, only help and
+//! `read_words` is safe and returns, on any words. Of `clap`'s errors want of memory gives `Stopped`, only help and
 //! the version give `Shown`, and neither of them gives `Wrong` (`say`). Which words are a request, that not all others
 //! are `Stopped`, and what is printed is tested in `btspace`.
 #![tactic(auto)]
