@@ -5,11 +5,12 @@ use Rattle.std.proofs.Math.Bool.{or-true}
 use Rattle.std.proofs.lemmas.Bool.{and_from, eq-eqb}
 use Rattle.std.proofs.lemmas.Slice.Eq.{bytes_eq-Decides}
 use Rattle.std.proofs.lemmas.List.{map-append, take_more}
-use Rattle.wire.specs.declared.terms.Party.{Party}
+use Rattle.terms.specs.declared.parties.Party.{Party}
 use Rattle.authenticator.specs.Keys.{mac_between}
 use Rattle.authenticator.specs.Sealing.{entry_for}
 use Rattle.wire.specs.declared.frames.ReceiverMac.{ReceiverMac}
-use Rattle.wire.specs.Views.{mac_data, party_number}
+use Rattle.terms.specs.Parties.{party_number}
+use Rattle.wire.specs.Views.{mac_data}
 use Rattle.authenticator.specs.Authentic.{has_mac, is_mac_for}
 
 -- at an entry, and behind it

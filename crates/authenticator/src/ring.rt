@@ -5,13 +5,15 @@ ghost use Rattle.std.specs.Int.{w16, to_be_bytes};
 ghost use Rattle.authenticator.specs.Mac.{block_key};
 ghost use Rattle.authenticator.specs.Keys.{key_between, mac_between, signing_seed};
 ghost use Rattle.authenticator.specs.Membership.{has_sender};
-ghost use Rattle.wire.specs.Views.{body_data, party_number};
+ghost use Rattle.terms.specs.Parties.{party_number};
+ghost use Rattle.wire.specs.Views.{body_data};
 
 use crate::mac::{Key, hmac};
 use std::alloc::Global;
 use std::collections::HashMap;
 use std::marker::Model;
-use wire::{Body, Message, Party};
+use terms::{FIRST_CLIENT, Party};
+use wire::{Body, Message};
 
 /// The keys between the parties of one configuration, each derived when it is first needed and then kept.
 #[derive(Drop)]
@@ -59,7 +61,7 @@ impl Ring {
     {
         let sender = body.sender.number();
         match &body.message {
-            Message::Request(_) => sender >= 256 && sender - 256 < self.clients,
+            Message::Request(_) => sender >= FIRST_CLIENT && sender - FIRST_CLIENT < self.clients,
             _ => sender <= 3 * u16::from(self.faults),
         }
     }

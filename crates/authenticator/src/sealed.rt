@@ -6,7 +6,8 @@ ghost use Rattle.wire.specs.Messages.{FrameData};
 ghost use Rattle.wire.specs.Spelling.{SpellsFrame, IsMac};
 ghost use Rattle.wire.specs.Lists.{Each};
 ghost use Rattle.authenticator.specs.Sealing.{IsSealable, IsTooLong, entry_for, sealed_for};
-ghost use Rattle.wire.specs.Views.{body_data, frame_data, party_number, mac_data};
+ghost use Rattle.terms.specs.Parties.{party_number};
+ghost use Rattle.wire.specs.Views.{body_data, frame_data, mac_data};
 ghost use Rattle.authenticator.specs.Authentic.{has_mac, is_mac_for};
 ghost use Rattle.authenticator.specs.Opening.{Opens, Refuses, may_open, refusal};
 
@@ -14,11 +15,11 @@ use crate::mac::same;
 use crate::ring::Ring;
 use arrayvec::ArrayVec;
 use std::alloc::Global;
+use terms::{NoMemory, Party};
 use thiserror::Error;
-use tuple_tree::NoMemory;
 use wire::{
-    Body, Frame, MAX_RECEIVERS, Party, Proof, ReceiverMac, WireFault, begin_frame, body_bytes,
-    decode, put_proof,
+    Body, Frame, MAX_RECEIVERS, Proof, ReceiverMac, WireFault, begin_frame, body_bytes, decode,
+    put_proof,
 };
 
 /// Why a frame was refused.

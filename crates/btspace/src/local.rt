@@ -16,10 +16,10 @@ use crate::pieces::ReadFault;
 use space::Space;
 use std::alloc::Global;
 use std::io::{self, BufReader, Read, Write};
+use terms::NoMemory;
 use thiserror::Error;
 use tuple_codec::Op;
 use tuple_text::{LineFault, write_answer};
-use tuple_tree::NoMemory;
 
 // The number of the first line that is one too many.
 const LINES_END: u64 = 1 << 48;

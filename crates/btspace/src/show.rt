@@ -6,10 +6,11 @@ ghost use Rattle.btspace.specs.Shown.{DigitsSpell, GivesNone, ShowFails, Shows};
 use hex::FromHexError;
 use std::alloc::{AllocFailed, Global};
 use std::io::{self, Write};
+use terms::NoMemory;
 use thiserror::Error;
 use tuple_codec::{Bad, decode_tuple};
 use tuple_text::write_tuple;
-use tuple_tree::{NoMemory, Tuple};
+use tuple_tree::Tuple;
 
 /// Why no tuple was shown.
 #[derive(Debug, Drop, Error)]

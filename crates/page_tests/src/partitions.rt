@@ -1,8 +1,9 @@
 //! Worked digests, a kept snapshot, and memory refused.
 
-use partition_tree::{Digest, Level, NoMemory, PAGES, Snapshot, Tree};
+use partition_tree::{PAGES, Snapshot, Tree};
 use std::alloc::Global;
 use std::test::Fail;
+use terms::{Digest, Level, NoMemory};
 
 // A page that holds one tuple, of the number 1, with birth number 0.
 const FIRST_TEXT: &[u8; 18] = b"\0\0\0\0\0\0\0\0\x01\x01\0\0\0\0\0\0\0\x01";

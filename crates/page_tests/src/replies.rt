@@ -3,8 +3,9 @@
 use reply_cache::{CLIENTS, ReplyCache};
 use std::alloc::{AllocError, Global};
 use std::test::Fail;
+use terms::NoMemory;
 use tuple_codec::{Answer, Bad};
-use tuple_tree::{Atom, NoMemory, Tuple, Value};
+use tuple_tree::{Atom, Tuple, Value};
 
 // The answer `done` to a first request that ran in the first batch.
 const DONE: &[u8; 17] = b"\0\0\0\0\0\0\0\x01\0\0\0\0\0\0\0\x011";

@@ -2,9 +2,10 @@
 
 ghost use Rattle.std.specs.Prelude.{◌<◌};
 
-use partition_tree::{Digest, Level, NoMemory, Page, Tree};
+use partition_tree::{Page, Tree};
 use std::alloc::{AllocError, Global};
 use std::test::Fail;
+use terms::{Digest, Level, NoMemory};
 
 // The digests were computed by Python's hashlib, where pages = [b''] * 1024, and then for SEVERAL_ROOT and
 // SEVERAL_PART, which is parts[0], with the pages of `several` set:

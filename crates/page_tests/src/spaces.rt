@@ -5,8 +5,8 @@ ghost use Rattle.std.specs.Prelude.{◌<◌};
 use space::{PAGES, Space};
 use std::alloc::{AllocError, Global};
 use std::test::Fail;
+use terms::NoMemory;
 use tuple_codec::{Bad, Op, decode_op};
-use tuple_tree::NoMemory;
 
 // The tuple `(1)` with birth number 0.
 const FIRST: &[u8; 18] = b"\0\0\0\0\0\0\0\0\x01\x01\0\0\0\0\0\0\0\x01";

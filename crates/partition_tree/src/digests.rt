@@ -5,12 +5,10 @@ ghost use Rattle.sha2.specs.Sha256.{sha256};
 ghost use Rattle.partition_tree.specs.Digests as spec;
 
 use sha2::{Digest as _, Sha256};
+use terms::Digest;
 
 /// How many children the root and each inner part have.
 pub const CHILDREN: usize = 32;
-
-/// A SHA-256 digest (FIPS 180-4).
-pub type Digest = [u8; 32];
 
 /// The SHA-256 digest of a page's text.
 pub fn digest(text: &[u8]) -> Digest

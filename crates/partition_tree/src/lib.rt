@@ -16,13 +16,11 @@
 #![tactic(auto)]
 
 mod digests;
-mod no_memory;
 mod page;
 mod part;
 mod parts;
 mod tree;
 
-pub use digests::{CHILDREN, Digest, digest, digest_of_children};
-pub use no_memory::NoMemory;
+pub use digests::{CHILDREN, digest, digest_of_children};
 pub use page::Page;
-pub use tree::{Level, PAGES, Snapshot, Tree};
+pub use tree::{PAGES, Snapshot, Tree};

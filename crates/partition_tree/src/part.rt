@@ -5,11 +5,11 @@ ghost use Rattle.std.specs.Arc.{arc_slice_items};
 ghost use Rattle.sha2.specs.Sha256.{sha256};
 ghost use Rattle.partition_tree.specs.Parts.{part_digest};
 
-use crate::digests::{CHILDREN, Digest, digest, digest_of_children};
-use crate::no_memory::NoMemory;
+use crate::digests::{CHILDREN, digest, digest_of_children};
 use std::alloc::{AllocError, Global};
 use std::marker::Model;
 use std::sync::ArcSlice;
+use terms::{Digest, NoMemory};
 
 /// The texts of 32 pages, each behind an owner of its own that others may share, and their digests.
 #[derive(Drop)]

@@ -5,11 +5,11 @@ ghost use Rattle.std.specs.Arc.{arc_value, arc_slice_items};
 ghost use Rattle.partition_tree.specs.Changes.{AreKnown, IsKept, pages_with};
 ghost use Rattle.partition_tree.specs.Parts.{AreFull, pages_of, parts_of, part_digest};
 
-use crate::digests::{CHILDREN, Digest};
-use crate::no_memory::NoMemory;
+use crate::digests::CHILDREN;
 use crate::page::Page;
 use crate::part::Part;
 use std::sync::{Arc, ArcSlice};
+use terms::{Digest, NoMemory};
 
 /// Puts a text in the place of a page's, in a copy of the part where others share it.
 pub fn put(part: &mut Arc<Part>, child: usize, text: ArcSlice<u8>) -> Result<(), NoMemory>

@@ -5,26 +5,17 @@ ghost use Rattle.partition_tree.specs.Digests.{root_of, empty_pages};
 ghost use Rattle.partition_tree.specs.Levels.{parts_at, children_of};
 ghost use Rattle.partition_tree.specs.Changes.{pages_with};
 
-use crate::digests::{CHILDREN, Digest, digest_of_children};
-use crate::no_memory::NoMemory;
+use crate::digests::{CHILDREN, digest_of_children};
 use crate::page::Page;
 use crate::part::Part;
 use crate::parts::{change_all, put, renewed};
 use std::alloc::Global;
 use std::marker::Model;
 use std::sync::{Arc, ArcSlice};
+use terms::{Digest, Level, NoMemory};
 
 /// How many pages there are.
 pub const PAGES: usize = 1024;
-
-/// A level of the tree above its pages.
-#[derive(Clone, Copy, Debug, PartialEq, Eq)]
-pub enum Level {
-    /// The whole, whose children are the inner parts.
-    Root,
-    /// The inner parts, whose children are pages.
-    Inner,
-}
 
 /// The pages 0 to 1,023, each a text of any length in bytes, under a tree of digests. Trees and snapshots share the
 /// parts that are the same in them, so what is set in one is set in a copy of the page's part, with the other texts of
@@ -84,6 +75,7 @@ impl Tree {
         match level {
             Level::Root => &self.inner,
             Level::Inner => self.parts[index].digests(),
+            Level::Page => unreachable!(),
         }
     }
 

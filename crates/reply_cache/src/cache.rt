@@ -11,8 +11,9 @@ ghost use Rattle.reply_cache.specs.Pages.{page_text, ArePages};
 use crate::pages::{put_reply, read_reply};
 use std::alloc::Global;
 use std::marker::Model;
+use terms::NoMemory;
 use tuple_codec::{Answer, Bad};
-use tuple_tree::{NoMemory, Tuple};
+use tuple_tree::Tuple;
 
 /// How many clients there are at the most.
 pub const CLIENTS: usize = 256;

@@ -13,8 +13,8 @@ ghost use Rattle.reply_cache.specs.Reading.{SpellsReply};
 use crate::cache::Reply;
 use byteorder::{BigEndian, ByteOrder};
 use std::alloc::Global;
+use terms::NoMemory;
 use tuple_codec::{Answer, Bad, decode_result, encode_result};
-use tuple_tree::NoMemory;
 
 // How many bytes stand before the answer.
 const NUMBERS_LEN: usize = 16;

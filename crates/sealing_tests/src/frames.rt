@@ -9,15 +9,16 @@ use authenticator::{OpenFault, Opened, Ring, SealFault};
 use sha2::{Digest, Sha256};
 use std::alloc::{AllocError, Global};
 use std::test::Fail;
+use terms::{ClientId, Mode, Party, ReplicaId, Timestamp};
 use tuple_codec::{Bad, Op, decode_op};
 use tuple_tree::{Atom, Value};
-use wire::{Body, ClientId, Frame, Message, Mode, Party, Proof, ReceiverMac, Request, Timestamp};
+use wire::{Body, Frame, Message, Proof, ReceiverMac, Request};
 
 const REPLICAS: [Party; 4] = [
-    Party::Replica(0),
-    Party::Replica(1),
-    Party::Replica(2),
-    Party::Replica(3),
+    Party::Replica(ReplicaId(0)),
+    Party::Replica(ReplicaId(1)),
+    Party::Replica(ReplicaId(2)),
+    Party::Replica(ReplicaId(3)),
 ];
 
 const CLIENT: Party = Party::Client(ClientId { number: 0 });
@@ -73,22 +74,22 @@ type Row<'a> = (Party, Party, &'a str);
 // 41 || be16 from || be64 1 || 00 || 21 01 01 || be64 1.
 const ROWS: [Row<'static>; 4] = [
     (
-        Party::Replica(0),
-        Party::Replica(1),
+        Party::Replica(ReplicaId(0)),
+        Party::Replica(ReplicaId(1)),
         "5fc0b9193f67d74cc43c1fd5ff8c36d278d05b8629523bd931b4bddf63301d79",
     ),
     (
-        Party::Replica(1),
-        Party::Replica(0),
+        Party::Replica(ReplicaId(1)),
+        Party::Replica(ReplicaId(0)),
         "eb1094b7c2ad3aa760c26ec2a344a6af643dc5b412c6e1228e2765fdca1c8d02",
     ),
     (
         CLIENT,
-        Party::Replica(3),
+        Party::Replica(ReplicaId(3)),
         "2f6a2ac079126dac5169d5a05779c513f6778f2a6e1e5e8d95037ceb02c1ca1f",
     ),
     (
-        Party::Replica(3),
+        Party::Replica(ReplicaId(3)),
         CLIENT,
         "1856a86079d4a70e1e718732b34ceadadb928b30b7e78d406609ecc4e56f51b0",
     ),
@@ -153,7 +154,7 @@ fn each_receiver_has_its_own_entry(rt: HostRuntime) -> Result<(), Fail> {
     // The last byte of the entry for replica 1.
     frame[96] ^= 1;
     for (replica, expected) in [(0, None), (1, Some(OpenFault::BadMac)), (2, None)] {
-        let fault = refusal(&mut ring, rt.alloc(), &frame, Party::Replica(replica));
+        let fault = refusal(&mut ring, rt.alloc(), &frame, Party::Replica(ReplicaId(replica)));
         assert!(rt; fault == expected, "{replica}");
     }
     Ok(())
@@ -178,7 +179,7 @@ fn refusals_come_in_order(rt: HostRuntime) -> Result<(), Fail> {
     let mut ring = ring(rt.alloc());
     // Neither is the sender known nor the entry there.
     let expected = [Some(OpenFault::UnknownSender), Some(OpenFault::Malformed)];
-    for sender in [REPLICAS[0], CLIENTS[2], Party::Replica(9)] {
+    for sender in [REPLICAS[0], CLIENTS[2], Party::Replica(ReplicaId(9))] {
         assert!(rt; faults_of(&mut ring, rt.alloc(), sender)? == expected);
     }
     Ok(())

@@ -4,7 +4,7 @@ use crate::codes::{is_code, seed};
 use authenticator::{Key, hmac, same, signing_seed};
 use hex::FromHex;
 use sha2::{Digest, Sha256};
-use wire::Party;
+use terms::{Party, ReplicaId};
 
 // Tests take codes by calls without a contract, so that their proofs don't compute them.
 fn code_of(key: &[u8], text: &[u8]) -> [u8; 32] {
@@ -111,5 +111,5 @@ fn each_byte_counts(rt: HostRuntime) {
 #[test]
 fn a_replica_has_a_seed_of_signatures(rt: HostRuntime) {
     let expected = "b1d311e8c0d6c6f194e1d70c6d592c078636435b2a225a82262305bed1fb2986";
-    assert!(rt; is_code(signing_seed(&seed(), Party::Replica(2)), expected));
+    assert!(rt; is_code(signing_seed(&seed(), Party::Replica(ReplicaId(2))), expected));
 }

@@ -9,7 +9,7 @@ use signing::{
 };
 use std::alloc::{AllocError, Global};
 use std::test::Fail;
-use wire::Party;
+use terms::{Party, ReplicaId};
 
 const PUBLIC: &str = "25e441d2b6f59c4bf7210fe82ef554ad9ab38cd474492b4ea132304f6118d5ee";
 
@@ -137,14 +137,14 @@ const PUBLIC_OF_2: &str = "dcff933adeb0d86920aaf05cc53c0b3533f358a52eececea5f9df
 
 // Whether replica 2 alone has signed this text alone.
 fn is_of_replica_2(keys: &mut PublicKeys, signature: &[u8]) -> bool {
-    keys.verify(Party::Replica(2), b"text", signature)
-        && !keys.verify(Party::Replica(1), b"text", signature)
-        && !keys.verify(Party::Replica(2), b"texu", signature)
+    keys.verify(Party::Replica(ReplicaId(2)), b"text", signature)
+        && !keys.verify(Party::Replica(ReplicaId(1)), b"text", signature)
+        && !keys.verify(Party::Replica(ReplicaId(2)), b"texu", signature)
 }
 
 #[test]
 fn public_keys_of_replicas(rt: HostRuntime) -> Result<(), Fail> {
-    let mut signer = Signer::from_seed(&signing_seed(&seed(), Party::Replica(2)));
+    let mut signer = Signer::from_seed(&signing_seed(&seed(), Party::Replica(ReplicaId(2))));
     let signature = signer.sign(rt.alloc(), b"text")?;
     let mut keys = PublicKeys::new(rt.alloc(), &seed());
     assert!(rt; is_of_replica_2(&mut keys, signature.as_slice()));
@@ -156,7 +156,7 @@ fn public_keys_of_replicas(rt: HostRuntime) -> Result<(), Fail> {
 fn keys_without_room(rt: HostRuntime) {
     let mut keys = PublicKeys::new(rt.alloc(), &seed());
     for _ in 0..2 {
-        assert!(rt; is_code(keys.public(Party::Replica(2)), PUBLIC_OF_2));
+        assert!(rt; is_code(keys.public(Party::Replica(ReplicaId(2))), PUBLIC_OF_2));
     }
 }
 

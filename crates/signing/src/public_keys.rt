@@ -5,7 +5,8 @@ ghost use Rattle.authenticator.specs.Keys.{signing_seed};
 ghost use Rattle.signing.specs.Heard.{has_signature};
 ghost use Rattle.signing.specs.Signatures.{public_key, Verifies};
 ghost use Rattle.wire.specs.Spelling.{SpellsFrame};
-ghost use Rattle.wire.specs.Views.{frame_data, party_number};
+ghost use Rattle.terms.specs.Parties.{party_number};
+ghost use Rattle.wire.specs.Views.{frame_data};
 
 use crate::signature::{is_signature, verify_bytes};
 use crate::tree::KeyTree;
@@ -13,7 +14,8 @@ use authenticator::signing_seed;
 use std::alloc::Global;
 use std::collections::HashMap;
 use std::marker::Model;
-use wire::{Frame, Party, Proof, body_bytes};
+use terms::Party;
+use wire::{Frame, Proof, body_bytes};
 
 /// The public keys of the replicas of one configuration. Each is derived from the configuration's seed when something
 /// is first verified by it, which takes as long as a tree of keys, and is then kept.

@@ -5,7 +5,7 @@ ghost use Rattle.space.specs.Ages.{without};
 
 use std::alloc::Global;
 use std::marker::Model;
-use tuple_tree::NoMemory;
+use terms::NoMemory;
 
 /// Births, the oldest first. The oldest one is taken without a move of the others.
 #[derive(Drop)]

@@ -11,7 +11,8 @@ use crate::keys::{key_of_template, key_of_tuple};
 use crate::lists::Lists;
 use std::alloc::{Allocator, Global};
 use std::collections::BTreeMap;
-use tuple_tree::{NoMemory, Template, Tuple};
+use terms::NoMemory;
+use tuple_tree::{Template, Tuple};
 
 /// The births of the stored tuples by their page, by their number of fields, and by that number with the first value.
 #[derive(Drop)]

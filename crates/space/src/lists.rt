@@ -6,7 +6,7 @@ ghost use Rattle.space.specs.Filing.{births_at, room_at, AddsBirth, TakesBirth, 
 use crate::birth_list::BirthList;
 use std::alloc::Global;
 use std::collections::HashMap;
-use tuple_tree::NoMemory;
+use terms::NoMemory;
 
 /// A list of births for each key that has births, or room for one.
 #[derive(Drop)]

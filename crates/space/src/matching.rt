@@ -6,8 +6,9 @@ ghost use Rattle.space.specs.Found.{found_at, entries_at, oldest_in, matches_in}
 use std::alloc::{Allocator, Global};
 use std::collections::BTreeMap;
 use template_match::matches;
+use terms::NoMemory;
 use tuple_codec::{Max, Tuples};
-use tuple_tree::{NoMemory, Template, Tuple};
+use tuple_tree::{Template, Tuple};
 
 // The tuple of this birth, where it matches.
 fn match_at<'a, A: Allocator>(

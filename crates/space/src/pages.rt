@@ -8,8 +8,9 @@ ghost use Rattle.space.specs.Pages.{entry_text, entries_text};
 use byteorder::{BigEndian, ByteOrder};
 use std::alloc::Global;
 use std::collections::BTreeMap;
+use terms::NoMemory;
 use tuple_codec::encode_tuple;
-use tuple_tree::{NoMemory, Tuple};
+use tuple_tree::Tuple;
 
 /// How many bytes a header has.
 pub const HEADER_LEN: usize = 17;

@@ -11,8 +11,9 @@ use crate::pages::{HEADER_LEN, VERSION};
 use byteorder::{BigEndian, ByteOrder};
 use std::alloc::Global;
 use std::collections::BTreeMap;
+use terms::NoMemory;
 use tuple_codec::{Bad, decode_tuple};
-use tuple_tree::{NoMemory, Tuple};
+use tuple_tree::Tuple;
 
 // The numbers of batches end here.
 const NUMBERS_END: u64 = 1 << 48;

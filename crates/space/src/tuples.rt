@@ -23,9 +23,10 @@ use crate::reading::{read_header, read_page};
 use std::alloc::{Allocator, Global};
 use std::collections::BTreeMap;
 use std::marker::Model;
+use terms::NoMemory;
 use thiserror::Error;
 use tuple_codec::{Answer, Bad, Max, Op};
-use tuple_tree::{NoMemory, Template, Tuple};
+use tuple_tree::{Template, Tuple};
 
 /// How many tuples a space holds at the most.
 pub const MAX_TUPLES: usize = 8192;

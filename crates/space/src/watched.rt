@@ -10,8 +10,8 @@ use crate::births::PAGES;
 use crate::tuples::Space;
 use std::alloc::{Allocator, Global};
 use std::marker::Model;
+use terms::NoMemory;
 use tuple_codec::{Answer, Op};
-use tuple_tree::NoMemory;
 
 /// A space, and which of its pages 0 to 255 may have changed since the last [`Watched::untouch`].
 #[derive(Drop)]

@@ -3,9 +3,10 @@
 use std::alloc::{AllocError, Global};
 use std::string::String;
 use std::test::Fail;
+use terms::NoMemory;
 use tuple_codec::{Answer, Tuples};
 use tuple_text::{write_answer, write_tuple, written_is_read, written_is_text};
-use tuple_tree::{Atom, NoMemory, Tuple, Value};
+use tuple_tree::{Atom, Tuple, Value};
 
 fn text_of(alloc: Global, text: &str) -> Result<Value<Global>, AllocError> {
     let text = String::from_str(alloc, text)?;

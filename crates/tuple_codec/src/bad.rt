@@ -1,8 +1,8 @@
 //! Why bytes are not read.
 
 use std::alloc::AllocError;
+use terms::NoMemory;
 use thiserror::Error;
-use tuple_tree::NoMemory;
 
 /// Why bytes are not read.
 #[derive(Clone, Copy, Debug, PartialEq, Eq, Error)]

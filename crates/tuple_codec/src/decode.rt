@@ -14,7 +14,8 @@ ghost use Rattle.tuple_codec.specs.Reading.{read_as, byte_at, datum_at, slot_at,
 use crate::bad::Bad;
 use crate::reading::{behind, frame, read_byte, read_flag, read_number, read_string, read_text};
 use std::alloc::Allocator;
-use tuple_tree::{Atom, Field, Kind, MAX_FIELDS, NoMemory, Refusal, Template, Tuple, Value};
+use terms::NoMemory;
+use tuple_tree::{Atom, Field, Kind, MAX_FIELDS, Refusal, Template, Tuple, Value};
 
 /// The tuple at the front, and how many bytes spell it.
 ///

@@ -12,7 +12,8 @@ use crate::decode::{next_byte, read_template, read_tuple};
 use crate::operations::{Answer, MAX_ANSWERS, Max, Op, Tuples};
 use crate::reading::read_flag;
 use std::alloc::Allocator;
-use tuple_tree::{NoMemory, Tuple};
+use terms::NoMemory;
+use tuple_tree::Tuple;
 
 /// The operation at the front, and how many bytes spell it.
 ///

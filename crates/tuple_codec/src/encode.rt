@@ -16,7 +16,8 @@ ghost use Rattle.tuple_codec.specs.Spelling as Spelling;
 use crate::operations::{Answer, Max, Op, Tuples};
 use byteorder::{BigEndian, ByteOrder};
 use std::alloc::Allocator;
-use tuple_tree::{Atom, Field, Kind, NoMemory, Template, Tuple, Value};
+use terms::NoMemory;
+use tuple_tree::{Atom, Field, Kind, Template, Tuple, Value};
 
 /// Appends the spelling of the tuple: a count, and then each value behind its tag. An `Err` leaves the bytes as they
 /// were.

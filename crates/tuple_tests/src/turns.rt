@@ -1,11 +1,12 @@
 //! Calls of the trees and of the codec, which answer whether all was right, or that memory ran out.
 
 use std::alloc::Allocator;
+use terms::NoMemory;
 use tuple_codec::{
     Bad, decode_op, decode_result, decode_template, decode_tuple, encode_op, encode_result,
     encode_template, encode_tuple,
 };
-use tuple_tree::{Atom, Field, NoMemory, Refusal, Template, Tuple, Value};
+use tuple_tree::{Atom, Field, Refusal, Template, Tuple, Value};
 
 // `(1 ("a" x09))`.
 const TUPLE: [u8; 20] = [2, 1, 0, 0, 0, 0, 0, 0, 0, 1, 5, 2, 2, 0, 1, 97, 3, 0, 1, 9];

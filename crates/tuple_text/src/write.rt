@@ -15,8 +15,9 @@ ghost use Rattle.tuple_text.specs.Written.{item_written, items_written, tuple_wr
 
 use itoa::Buffer;
 use std::alloc::Allocator;
+use terms::NoMemory;
 use tuple_codec::{Answer, Tuples};
-use tuple_tree::{Atom, NoMemory, Tuple, Value};
+use tuple_tree::{Atom, Tuple, Value};
 
 /// Appends the text of the tuple: its values in parentheses, one blank between them. An `Err` leaves the bytes as they
 /// were.

@@ -4,9 +4,9 @@ ghost use Rattle.std.specs.Prelude.{◌≡◌, ◌+◌, ◌≤◌, IfOk, IsTrue,
 ghost use Rattle.tuple_tree.specs.Values.{datum_kind, datum_length, IsDatum, AreBytes};
 ghost use Rattle.tuple_tree.specs.AtomView.{datum_of};
 
-use crate::limits::NoMemory;
 use std::alloc::Allocator;
 use std::string::String;
+use terms::NoMemory;
 
 /// The kinds of values.
 #[derive(Clone, Copy, Debug, PartialEq, Eq)]

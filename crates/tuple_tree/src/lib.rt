@@ -19,6 +19,6 @@ mod templates;
 mod tuples;
 
 pub use atoms::{Atom, Kind};
-pub use limits::{MAX_DEPTH, MAX_FIELDS, MAX_LEN, NoMemory, Refusal, Refused};
+pub use limits::{MAX_DEPTH, MAX_FIELDS, MAX_LEN, Refusal, Refused};
 pub use templates::{Field, PushedField, Template};
 pub use tuples::{Pushed, Tuple, Value};

@@ -3,7 +3,6 @@
 ghost use Rattle.std.specs.Prelude.{◌≡◌, ◌≢◌, ◌+◌, ◌<◌, ◌≤◌, max, MatchResult};
 ghost use Rattle.tuple_tree.specs.Limits.{RefusesSize};
 
-use std::alloc::{AllocError, AllocFailed};
 use thiserror::Error;
 
 /// How many items a list has at the most, at each level.
@@ -26,23 +25,6 @@ pub enum Refusal {
     TooLong,
     #[error("out of memory")]
     NoMemory,
-}
-
-/// Memory ran out.
-#[derive(Clone, Copy, Debug, PartialEq, Eq, Error)]
-#[error("out of memory")]
-pub struct NoMemory;
-
-impl From<AllocError> for NoMemory {
-    fn from(_failed: AllocError) -> NoMemory {
-        NoMemory
-    }
-}
-
-impl<T: Drop> From<AllocFailed<T>> for NoMemory {
-    fn from(_failed: AllocFailed<T>) -> NoMemory {
-        NoMemory
-    }
 }
 
 /// What was refused, and why.

@@ -7,9 +7,10 @@ ghost use Rattle.tuple_tree.specs.Values.{slot_length, IsSlot, IsTemplate};
 ghost use Rattle.tuple_tree.specs.TemplateView.{field_of, template_of};
 
 use crate::atoms::{Atom, Kind};
-use crate::limits::{Extent, NoMemory, Refusal, Refused};
+use crate::limits::{Extent, Refusal, Refused};
 use std::alloc::Allocator;
 use std::marker::Model;
+use terms::NoMemory;
 
 /// A field of a template.
 #[cycle(template)]

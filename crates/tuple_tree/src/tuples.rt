@@ -7,9 +7,10 @@ ghost use Rattle.tuple_tree.specs.Values.{kind_of, datum_length, IsDatum, IsTupl
 ghost use Rattle.tuple_tree.specs.TupleView.{value_of, tuple_of};
 
 use crate::atoms::{Atom, Kind};
-use crate::limits::{Extent, NoMemory, Refusal, Refused};
+use crate::limits::{Extent, Refusal, Refused};
 use std::alloc::Allocator;
 use std::marker::Model;
+use terms::NoMemory;
 
 /// A value of a tuple.
 #[cycle(tuple)]

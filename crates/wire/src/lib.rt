@@ -24,7 +24,6 @@ mod put_lists;
 mod reading;
 mod sealing;
 mod sizes;
-mod terms;
 
 pub use bodies::encode;
 pub use decoding::decode;
@@ -38,4 +37,3 @@ pub use messages::{
     Prepare, Reply, Request, ViewChange,
 };
 pub use sealing::{begin_frame, body_bytes, encode_frame, put_proof};
-pub use terms::{ClientId, Digest, Level, Mode, Number, Party, Timestamp, View};

@@ -8,7 +8,7 @@ ghost use Rattle.wire.specs.Counts.{ViewChangeFits, NewViewFits};
 
 use crate::messages::{Batch, Claim, Mark, NewView, ViewChange};
 use crate::put::{put_piece, put_u16, put_u64};
-use tuple_tree::NoMemory;
+use terms::NoMemory;
 
 /// Appends the fields of the view change.
 pub fn put_view_change(change: &ViewChange, out: &mut Vec<u8>) -> Result<(), NoMemory>

@@ -11,7 +11,7 @@ use crate::frames::{
 };
 use std::alloc::{AllocError, Global};
 use std::test::Fail;
-use tuple_tree::NoMemory;
+use terms::NoMemory;
 use wire::{Body, Frame, WireFault, body_bytes, decode, encode, encode_frame};
 
 fn is_body(alloc: Global, body: &Body, text: &[u8]) -> Result<bool, NoMemory>

@@ -5,8 +5,8 @@ use Rattle.std.specs.Option.{option_map_or}
 use Rattle.tuple_codec.specs.Operations.{Operation}
 use Rattle.space.specs.Applying.{outcome, is_read_only}
 use Rattle.protocol.specs.System.Configuration.{Configuration}
-use Rattle.wire.specs.declared.terms.Mode.TheVariants as modes
-use Rattle.wire.specs.declared.terms.Level.TheVariants as levels
+use Rattle.terms.specs.declared.order.Mode.TheVariants as modes
+use Rattle.terms.specs.declared.state.Level.TheVariants as levels
 use Rattle.wire.specs.Messages.{BodyData as Body, MessageData as Message, ProofData as Proof, MarkData as Mark, macs, signature, request as Request, pre_prepare as PrePrepare, reply as Reply, fetch as Fetch}
 use Rattle.protocol.specs.System.Frames.{heard, reads_only, receivers_of}
 use Rattle.protocol.specs.System.Trace.{Entry, Has}

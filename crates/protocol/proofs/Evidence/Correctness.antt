@@ -2,8 +2,8 @@
 use Rattle.std.proofs.Common.{◌≡◌, ℕ, inl, inr, true, List, [], ◌∷◌, ap, subst, Some}
 use Rattle.std.specs.Prelude.{All}
 use Rattle.space.specs.Applying.{is_read_only}
-use Rattle.wire.specs.declared.terms.Mode.{Mode}
-use Rattle.wire.specs.declared.terms.Mode.TheVariants as modes
+use Rattle.terms.specs.declared.order.Mode.{Mode}
+use Rattle.terms.specs.declared.order.Mode.TheVariants as modes
 use Rattle.wire.specs.Messages.{FrameData as Frame, MessageData as Message, ProofData as Proof, MacData, macs, signature, request as Request}
 use Rattle.authenticator.specs.Authentic.{mac_of}
 use Rattle.signing.specs.Heard.{has_signature}

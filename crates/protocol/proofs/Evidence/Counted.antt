@@ -5,8 +5,8 @@ use Rattle.std.proofs.lemmas.Bool.{and_parts}
 use Rattle.quorum.specs.Votes.{give_if}
 use Rattle.tuple_codec.specs.Operations.{Outcome}
 use Rattle.protocol.specs.System.Configuration.{Configuration}
-use Rattle.wire.specs.declared.terms.Mode.{Mode}
-use Rattle.wire.specs.declared.terms.Mode.TheVariants as modes
+use Rattle.terms.specs.declared.order.Mode.{Mode}
+use Rattle.terms.specs.declared.order.Mode.TheVariants as modes
 use Rattle.wire.specs.Messages.{BodyData as Body, MessageData as Message, reply as Reply}
 use Rattle.protocol.specs.System.Frames.{heard, reads_only}
 use Rattle.protocol.specs.System.Trace.{Entry, Hears}

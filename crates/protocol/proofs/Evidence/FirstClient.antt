@@ -9,7 +9,7 @@ use Rattle.quorum.specs.Quorum.{count_below}
 use Rattle.quorum.specs.Votes.{give_if}
 use Rattle.std.specs.List.{range_with_len}
 use Rattle.std.proofs.lemmas.Bool.{eq-eqb}
-use Rattle.wire.specs.declared.terms.Mode.TheVariants as modes
+use Rattle.terms.specs.declared.order.Mode.TheVariants as modes
 use Rattle.wire.specs.Messages.{BodyData as Body, FrameData as Frame, reply as Reply}
 use Rattle.protocol.specs.System.Configuration.{Configuration}
 use Rattle.protocol.specs.System.Frames.{heard, IsSealed, receivers_of}

@@ -10,7 +10,7 @@ use Rattle.tuple_codec.specs.Operations.{Operation, out, rdp, inp, cas, rd_all, 
 use Rattle.tuple_codec.specs.Spelling.{tuple_spelling, template_spelling, operation_spelling, outcome_spelling}
 use Rattle.tuple_codec.proofs.Readers.{bytes_append}
 use Rattle.space.specs.Applying.{is_read_only}
-use Rattle.wire.specs.declared.terms.Mode.TheVariants as modes
+use Rattle.terms.specs.declared.order.Mode.TheVariants as modes
 use Rattle.wire.specs.Lists.{Each, ascends}
 use Rattle.wire.specs.Messages.{BodyData as Body, MessageData as Message, request as Request, pre_prepare as PrePrepare, prepare as Prepare, commit as Commit, reply as Reply}
 use Rattle.wire.specs.Spelling.{IsDigest, IsMessage, IsBatch, IsCarried, is_ordered_request, is_signed, piece, pieces_spelling, fields_spelling, body_spelling, frame_limit}

@@ -6,7 +6,7 @@ use Rattle.std.proofs.lemmas.Bool.{both_ways}
 use Rattle.sha2.specs.Sha256.{sha256}
 use Rattle.tuple_codec.specs.Operations.{Operation}
 use Rattle.protocol.specs.System.Configuration.{Configuration, IsConfiguration}
-use Rattle.wire.specs.declared.terms.Mode.TheVariants as modes
+use Rattle.terms.specs.declared.order.Mode.TheVariants as modes
 use Rattle.wire.specs.Messages.{prepare as Prepare}
 use Rattle.protocol.specs.System.Frames.{heard}
 use Rattle.protocol.specs.System.Trace.{Entry}

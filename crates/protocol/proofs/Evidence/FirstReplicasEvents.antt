@@ -7,7 +7,7 @@ use Rattle.sha2.specs.Sha256.{sha256}
 use Rattle.quorum.specs.Votes.{give_if}
 use Rattle.tuple_codec.specs.Operations.{Operation}
 use Rattle.protocol.specs.System.Configuration.{Configuration}
-use Rattle.wire.specs.declared.terms.Mode.TheVariants as modes
+use Rattle.terms.specs.declared.order.Mode.TheVariants as modes
 use Rattle.wire.specs.Messages.{BodyData as Body, MessageData as Message, pre_prepare as PrePrepare, commit as Commit, reply as Reply}
 use Rattle.protocol.specs.System.Frames.{said, heard}
 use Rattle.protocol.specs.System.Trace.{Entry, Has}

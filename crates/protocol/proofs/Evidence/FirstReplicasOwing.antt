@@ -6,8 +6,8 @@ use Rattle.sha2.specs.Sha256.{sha256}
 use Rattle.quorum.specs.Quorum.{count_below}
 use Rattle.quorum.specs.Votes.{has_digest, give_if}
 use Rattle.protocol.specs.System.Configuration.{Configuration, primary}
-use Rattle.wire.specs.declared.terms.Mode.TheVariants as modes
-use Rattle.wire.specs.declared.terms.Level.TheVariants as levels
+use Rattle.terms.specs.declared.order.Mode.TheVariants as modes
+use Rattle.terms.specs.declared.state.Level.TheVariants as levels
 use Rattle.wire.specs.Messages.{BodyData as Body, MessageData as Message, MarkData as Mark, request as Request, pre_prepare as PrePrepare, prepare as Prepare, commit as Commit, fetch as Fetch}
 use Rattle.protocol.specs.System.Frames.{heard, reads_only}
 use Rattle.protocol.specs.System.Trace.{Entry, Has}

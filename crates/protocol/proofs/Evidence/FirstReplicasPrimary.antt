@@ -5,7 +5,7 @@ use Rattle.std.proofs.lemmas.Bool.{both_ways}
 use Rattle.tuple_codec.specs.Operations.{Operation}
 use Rattle.reply_cache.specs.Replies.{no_replies}
 use Rattle.protocol.specs.System.Configuration.{Configuration, IsConfiguration}
-use Rattle.wire.specs.declared.terms.Mode.TheVariants as modes
+use Rattle.terms.specs.declared.order.Mode.TheVariants as modes
 use Rattle.wire.specs.Messages.{BodyData as Body, pre_prepare as PrePrepare}
 use Rattle.wire.specs.Words.{requests_of}
 use Rattle.protocol.specs.System.Frames.{heard}

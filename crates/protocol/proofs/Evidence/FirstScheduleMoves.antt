@@ -7,7 +7,7 @@ use Rattle.std.proofs.lemmas.Bool.{lt-ltb}
 use Rattle.quorum.specs.Quorum.{member}
 use Rattle.sha2.specs.Sha256.{sha256}
 use Rattle.tuple_codec.specs.Operations.{Operation}
-use Rattle.wire.specs.declared.terms.Mode.TheVariants as modes
+use Rattle.terms.specs.declared.order.Mode.TheVariants as modes
 use Rattle.wire.specs.Messages.{MessageData as Message, request as Request, pre_prepare as PrePrepare, prepare as Prepare, commit as Commit, reply as Reply}
 use Rattle.wire.specs.Words.{carried}
 use Rattle.protocol.specs.System.Configuration.{Configuration, is_correct}

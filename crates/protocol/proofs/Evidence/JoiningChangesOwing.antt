@@ -6,8 +6,8 @@ use Rattle.sha2.specs.Sha256.{sha256}
 use Rattle.quorum.specs.Votes.{or_else}
 use Rattle.quorum.proofs.Counting.{count_none}
 use Rattle.protocol.specs.System.Configuration.{Configuration, primary}
-use Rattle.wire.specs.declared.terms.Mode.TheVariants as modes
-use Rattle.wire.specs.declared.terms.Level.TheVariants as levels
+use Rattle.terms.specs.declared.order.Mode.TheVariants as modes
+use Rattle.terms.specs.declared.state.Level.TheVariants as levels
 use Rattle.wire.specs.Messages.{BodyData as Body, MessageData as Message, MarkData as Mark, request as Request, prepare as Prepare, view_change as ViewChange, new_view as NewView, fetch as Fetch}
 use Rattle.protocol.specs.System.Frames.{heard}
 use Rattle.protocol.specs.System.Trace.{Entry, Has}

@@ -8,8 +8,8 @@ use Rattle.tuple_codec.specs.Operations.{Operation}
 use Rattle.partition_tree.specs.Digests.{digest_of_children}
 use Rattle.quorum.specs.Votes.{give_if}
 use Rattle.protocol.specs.System.Configuration.{Configuration, primary, is_number}
-use Rattle.wire.specs.declared.terms.Mode.TheVariants as modes
-use Rattle.wire.specs.declared.terms.Level.TheVariants as levels
+use Rattle.terms.specs.declared.order.Mode.TheVariants as modes
+use Rattle.terms.specs.declared.state.Level.TheVariants as levels
 use Rattle.wire.specs.Messages.{BodyData as Body, MessageData as Message, ViewChangeData, MarkData as Mark, request as Request, pre_prepare as PrePrepare, prepare as Prepare, commit as Commit, checkpoint as Checkpoint, view_change as ViewChange, new_view as NewView, fetch as Fetch, meta as Meta, page as Page}
 use Rattle.protocol.specs.System.Frames.{heard}
 use Rattle.protocol.specs.System.Trace.{Entry, Has}

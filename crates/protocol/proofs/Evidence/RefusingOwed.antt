@@ -11,7 +11,7 @@ use Rattle.protocol.specs.Replica.RightReplica.{Point, Leaves, Executes}
 use Rattle.wire.specs.Words.{requests_of}
 use Rattle.protocol.specs.System.Frames.{said}
 use Rattle.wire.specs.Messages.{pre_prepare as PrePrepare, checkpoint as Checkpoint, reply as Reply}
-use Rattle.wire.specs.declared.terms.Mode.TheVariants as modes
+use Rattle.terms.specs.declared.order.Mode.TheVariants as modes
 use Rattle.tuple_codec.specs.Operations.{Outcome}
 use Rattle.protocol.specs.Replica.Certificates.{logged, Committed}
 use Rattle.protocol.specs.Replica.Owed.{AtOutputs, HasRequest, IsNumbered, AreDifferent, NumbersOnce, Owes, Proceeds, IsReplica, Gives}

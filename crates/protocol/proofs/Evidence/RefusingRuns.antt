@@ -13,8 +13,8 @@ use Rattle.tuple_codec.specs.Spelling.{outcome_spelling}
 use Rattle.quorum.specs.Quorum.{count_below}
 use Rattle.quorum.proofs.Counting.{count_mono}
 use Rattle.protocol.specs.System.Configuration.{Configuration, replicas}
-use Rattle.wire.specs.declared.terms.Mode.{Mode}
-use Rattle.wire.specs.declared.terms.Mode.TheVariants as modes
+use Rattle.terms.specs.declared.order.Mode.{Mode}
+use Rattle.terms.specs.declared.order.Mode.TheVariants as modes
 use Rattle.wire.specs.Messages.{BodyData as Body, FrameData as Frame, MacData, macs, MessageData as Message, ClaimData as Claim, request as Request, view_change as ViewChange, new_view as NewView, reply as Reply}
 use Rattle.protocol.specs.System.Frames.{frame_of, said, heard, reads_only, mode_of, receivers_of}
 use Rattle.protocol.specs.System.Trace.{Entry, party_of, is_output, Once, Always, Has, AreOutputs, Hears, either}

@@ -2,8 +2,8 @@
 use Rattle.std.proofs.Common.{◌≡◌, ℕ, inl, inr, Bool, false, List, [], ◌∷◌, refl, ap, arith, Option, Some, None}
 use Rattle.partition_tree.specs.Digests.{digest_of_children}
 use Rattle.protocol.specs.System.Configuration.{Configuration}
-use Rattle.wire.specs.declared.terms.Level.{Level}
-use Rattle.wire.specs.declared.terms.Level.TheVariants as levels
+use Rattle.terms.specs.declared.state.Level.{Level}
+use Rattle.terms.specs.declared.state.Level.TheVariants as levels
 use Rattle.wire.specs.Messages.{BodyData as Body, checkpoint as Checkpoint, meta as Meta, page as Page}
 use Rattle.protocol.specs.System.Frames.{heard}
 use Rattle.protocol.specs.System.Trace.{Entry, Once, Hears}

@@ -4,9 +4,9 @@ use Rattle.std.specs.Prelude.{nat_le, option_and_then, ⊤}
 use Rattle.std.specs.Option.{option_map_or}
 use Rattle.quorum.specs.Quorum.{count_below}
 use Rattle.protocol.specs.System.Configuration.{Configuration}
-use Rattle.wire.specs.declared.terms.Mode.TheVariants as modes
-use Rattle.wire.specs.declared.terms.Level.{Level}
-use Rattle.wire.specs.declared.terms.Level.TheVariants as levels
+use Rattle.terms.specs.declared.order.Mode.TheVariants as modes
+use Rattle.terms.specs.declared.state.Level.{Level}
+use Rattle.terms.specs.declared.state.Level.TheVariants as levels
 use Rattle.wire.specs.Messages.{BodyData as Body, FrameData as Frame, MessageData as Message, request as Request, pre_prepare as PrePrepare, checkpoint as Checkpoint, fetch as Fetch, meta as Meta, page as Page}
 use Rattle.protocol.specs.System.Frames.{said, heard, IsSealed, receivers_of}
 use Rattle.protocol.specs.System.Trace.{Entry, Has}

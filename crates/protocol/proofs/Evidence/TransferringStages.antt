@@ -8,7 +8,7 @@ use Rattle.std.proofs.lemmas.Slice.Eq.{bytes_eq-Decides}
 use Rattle.quorum.specs.Quorum.{count_below}
 use Rattle.quorum.specs.Votes.{or_else, give_if}
 use Rattle.protocol.specs.System.Configuration.{Configuration}
-use Rattle.wire.specs.declared.terms.Level.{Level}
+use Rattle.terms.specs.declared.state.Level.{Level}
 use Rattle.wire.specs.Messages.{BodyData as Body, MessageData as Message, NewViewData, MarkData as Mark, checkpoint as Checkpoint, fetch as Fetch, meta as Meta, page as Page}
 use Rattle.protocol.specs.System.Frames.{said, heard}
 use Rattle.protocol.specs.System.Trace.{Entry}

@@ -7,7 +7,7 @@ use Rattle.protocol.specs.Replica.RightReplica
 use Rattle.protocol.proofs.Points.Running
 use Rattle.quorum.specs.Quorum.{count_below}
 use Rattle.protocol.specs.System.Configuration.{Configuration, is_replica, is_correct_replica, is_correct_client}
-use Rattle.wire.specs.declared.terms.Mode.TheVariants as modes
+use Rattle.terms.specs.declared.order.Mode.TheVariants as modes
 use Rattle.wire.specs.Messages.{BodyData as Body, MessageData as Message, reply as Reply}
 use Rattle.protocol.specs.System.Frames.{heard, mode_of, reads_only}
 use Rattle.protocol.specs.System.Trace.{Entry, party_of, history_of, Once, Always, Hears}

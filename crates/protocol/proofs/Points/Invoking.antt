@@ -3,10 +3,10 @@ use Rattle.std.proofs.Common.{◌≡◌, ℕ, suc, ◌+◌, ◌-◌, ◌≤◌, 
 use Rattle.std.specs.Prelude.{nat_lt, nat_le}
 use Rattle.std.proofs.lemmas.Bool.{and_parts, leb-true}
 use Rattle.protocol.specs.System.Configuration.{Configuration, is_client, is_correct, is_correct_client}
-use Rattle.wire.specs.declared.terms.Mode.TheVariants as modes
+use Rattle.terms.specs.declared.order.Mode.TheVariants as modes
 use Rattle.wire.specs.Messages.{BodyData as Body, MessageData as Message, request as Request}
 use Rattle.wire.specs.Words.{requests_of}
-use Rattle.wire.specs.declared.terms.Mode.{Mode}
+use Rattle.terms.specs.declared.order.Mode.{Mode}
 use Rattle.protocol.specs.System.Frames.{reads_only, mode_of, said, heard}
 use Rattle.protocol.specs.System.Trace.{Entry, party_of, history_of, Once, Always, frames_in, SendsBody, IsFromSender, IsUnforgedAt, Has}
 use Rattle.protocol.specs.System.Trace.Entry.{Invoke, Got, Tick, Executed, Installed, Sent, Accepted}

@@ -4,10 +4,10 @@ use Rattle.std.specs.Int.{w16, w32, w64, to_be_bytes}
 use Rattle.tuple_tree.specs.Values.{AreBytes}
 use Rattle.tuple_codec.specs.Spelling.{operation_spelling, outcome_spelling}
 use Rattle.tuple_codec.proofs.Readers.{bytes_append}
-use Rattle.wire.specs.declared.terms.Mode.{Mode}
-use Rattle.wire.specs.declared.terms.Mode.TheVariants as modes
-use Rattle.wire.specs.declared.terms.Level.{Level}
-use Rattle.wire.specs.declared.terms.Level.TheVariants as levels
+use Rattle.terms.specs.declared.order.Mode.{Mode}
+use Rattle.terms.specs.declared.order.Mode.TheVariants as modes
+use Rattle.terms.specs.declared.state.Level.{Level}
+use Rattle.terms.specs.declared.state.Level.TheVariants as levels
 use Rattle.wire.specs.Lists.{Each, each_spelling}
 use Rattle.wire.specs.Messages.{MarkData, ClaimData, ViewChangeData, NewViewData, MessageData, request, pre_prepare, prepare, commit, checkpoint, view_change, new_view, reply, fetch, meta, page, MacData, ProofData, macs, signature, FrameData}
 use Rattle.wire.specs.Spelling.{mode_byte, level_byte, mark_spelling, claim_spelling, piece, pieces_spelling, marks_spelling, claims_spelling, view_change_spelling, batches_spelling, new_view_spelling, message_type, fields_spelling, body_spelling, mac_spelling, proof_spelling, frame_spelling, IsDigest, IsMark, IsClaim, IsViewChange, IsPlain, IsMac, IsProof, IsFrameOf, is_ordered_request, is_view_change, IsCarried, IsBatch, IsNewView, IsMessage, SpellsFrame}

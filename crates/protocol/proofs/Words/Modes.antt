@@ -1,7 +1,7 @@
 -- The two modes are the two truth values.
 use Rattle.std.proofs.Common.{◌≡◌, Bool, true, false, refl}
-use Rattle.wire.specs.declared.terms.Mode.{Mode}
-use Rattle.wire.specs.declared.terms.Mode.TheVariants as modes
+use Rattle.terms.specs.declared.order.Mode.{Mode}
+use Rattle.terms.specs.declared.order.Mode.TheVariants as modes
 use Rattle.protocol.specs.System.Frames.{reads_only, mode_of}
 
 pub mode_is : (mode : Mode) (b : Bool) → reads_only mode ≡ b → mode ≡ mode_of b

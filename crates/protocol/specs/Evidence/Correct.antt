@@ -1,8 +1,8 @@
 -- What holds of each history of a correct party.
 use Rattle.std.specs.Prelude.{◌≡◌, ℕ, ◌⊎◌, true, List, ◌∷◌, Some, All}
 use Rattle.space.specs.Applying.{is_read_only}
-use Rattle.wire.specs.declared.terms.Mode.{Mode}
-use Rattle.wire.specs.declared.terms.Mode.TheVariants as modes
+use Rattle.terms.specs.declared.order.Mode.{Mode}
+use Rattle.terms.specs.declared.order.Mode.TheVariants as modes
 use Rattle.wire.specs.Messages.{FrameData as Frame, MacData, macs, request as Request}
 use Rattle.authenticator.specs.Authentic.{mac_of}
 use Rattle.protocol.specs.System.Configuration.{Configuration}

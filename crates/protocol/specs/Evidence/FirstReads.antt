@@ -2,7 +2,7 @@
 -- read, and what is answered, is left open.
 use Rattle.std.specs.Prelude.{◌≡◌, ℕ, ◌+◌, ◌<◌, List, [], ◌∷◌, ◌++◌, reverse, Some}
 use Rattle.tuple_codec.specs.Operations.{Operation, Outcome}
-use Rattle.wire.specs.declared.terms.Mode.TheVariants as modes
+use Rattle.terms.specs.declared.order.Mode.TheVariants as modes
 use Rattle.wire.specs.Messages.{reply as Reply}
 use Rattle.protocol.specs.System.Configuration.{Configuration, IsConfiguration}
 use Rattle.protocol.specs.System.Frames.{heard}

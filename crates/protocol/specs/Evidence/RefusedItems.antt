@@ -4,7 +4,7 @@ use Rattle.tuple_tree.specs.Values.{TupleTree, TemplateTree}
 use Rattle.tuple_codec.specs.Operations.{out, rdp, Outcome, done, found, absent}
 use Rattle.template_match.specs.Tests.{is_match}
 use Rattle.space.specs.Applying.{outcome, tuples_after}
-use Rattle.wire.specs.declared.terms.Mode.TheVariants as modes
+use Rattle.terms.specs.declared.order.Mode.TheVariants as modes
 use Rattle.wire.specs.Messages.{request as Request}
 use Rattle.protocol.specs.System.Configuration.{Configuration, is_correct_replica, is_correct_client}
 use Rattle.protocol.specs.System.Frames.{heard}

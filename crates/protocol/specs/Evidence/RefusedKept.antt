@@ -2,7 +2,7 @@
 -- checkpoints than those of the kept states.
 use Rattle.std.specs.Prelude.{◌≡◌, ℕ, ◌%◌, ◌≤◌, ◌<◌, ◌⊎◌, List, ◌∷◌, slice_get, Some}
 use Rattle.protocol.specs.System.Configuration.{Configuration}
-use Rattle.wire.specs.declared.terms.Level.{Level}
+use Rattle.terms.specs.declared.state.Level.{Level}
 use Rattle.wire.specs.Messages.{ViewChangeData, MarkData as Mark, meta as Meta, page as Page}
 use Rattle.protocol.specs.System.Frames.{said}
 use Rattle.protocol.specs.System.Trace.{Entry, Once, Has}

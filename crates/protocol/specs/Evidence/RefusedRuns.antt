@@ -5,8 +5,8 @@ use Rattle.tuple_codec.specs.Operations.{Operation, Outcome}
 use Rattle.tuple_codec.specs.Spelling.{outcome_spelling}
 use Rattle.quorum.specs.Quorum.{count_below}
 use Rattle.protocol.specs.System.Configuration.{Configuration, replicas, is_correct}
-use Rattle.wire.specs.declared.terms.Mode.{Mode}
-use Rattle.wire.specs.declared.terms.Mode.TheVariants as modes
+use Rattle.terms.specs.declared.order.Mode.{Mode}
+use Rattle.terms.specs.declared.order.Mode.TheVariants as modes
 use Rattle.wire.specs.Messages.{FrameData as Frame, MacData, macs, ViewChangeData, NewViewData, ClaimData as Claim, request as Request, view_change as ViewChange, new_view as NewView, reply as Reply}
 use Rattle.protocol.specs.System.Frames.{frame_of, said, heard, reads_only}
 use Rattle.protocol.specs.System.Trace.{Entry, party_of, is_output, Once, Has, AreOutputs, Hears}

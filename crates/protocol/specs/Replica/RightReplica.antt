@@ -9,10 +9,10 @@ use Rattle.tuple_codec.specs.Operations.{Operation, Outcome}
 use Rattle.space.specs.Applying.{outcome, is_read_only}
 use Rattle.partition_tree.specs.Digests.{inner_digests, page_digests}
 use Rattle.protocol.specs.System.Configuration.{Configuration, replicas, primary, is_number}
-use Rattle.wire.specs.declared.terms.Mode.{Mode}
-use Rattle.wire.specs.declared.terms.Mode.TheVariants as modes
-use Rattle.wire.specs.declared.terms.Level.{Level}
-use Rattle.wire.specs.declared.terms.Level.TheVariants as levels
+use Rattle.terms.specs.declared.order.Mode.{Mode}
+use Rattle.terms.specs.declared.order.Mode.TheVariants as modes
+use Rattle.terms.specs.declared.state.Level.{Level}
+use Rattle.terms.specs.declared.state.Level.TheVariants as levels
 use Rattle.wire.specs.Messages.{BodyData as Body, FrameData as Frame, MessageData as Message, ProofData as Proof, macs, signature, ViewChangeData, NewViewData, MarkData as Mark, ClaimData as Claim, request as Request, pre_prepare as PrePrepare, prepare as Prepare, commit as Commit, checkpoint as Checkpoint, view_change as ViewChange, new_view as NewView, reply as Reply, fetch as Fetch, meta as Meta, page as Page}
 use Rattle.wire.specs.Words.{carried, requests_of}
 use Rattle.protocol.specs.System.Frames.{frame_of, said, heard, IsSealed, receivers_of}

@@ -8,7 +8,7 @@ use Rattle.quorum.specs.Quorum.{count_below}
 use Rattle.quorum.specs.Votes.{give_if}
 use Rattle.protocol.specs.Replica.Selection.{null_batch}
 use Rattle.protocol.specs.System.Configuration.{Configuration, replicas, is_correct_replica, is_correct_client}
-use Rattle.wire.specs.declared.terms.Mode.TheVariants as modes
+use Rattle.terms.specs.declared.order.Mode.TheVariants as modes
 use Rattle.wire.specs.Messages.{request as Request}
 use Rattle.wire.specs.Words.{requests_of}
 use Rattle.protocol.specs.System.Frames.{heard}

@@ -2,8 +2,8 @@
 -- signing, for a configuration. Bytes are lists of numbers here, and a list that is not of bytes spells nothing.
 use Rattle.std.specs.Prelude.{◌≡◌, ℕ, Bool, true, false, not, List, [], map, nat_lt, ◌==◌, if◌then◌else◌, Option, Some, None, option_and_then, All}
 use Rattle.std.specs.List.{list_all}
-use Rattle.wire.specs.declared.terms.Mode.{Mode}
-use Rattle.wire.specs.declared.terms.Mode.TheVariants as modes
+use Rattle.terms.specs.declared.order.Mode.{Mode}
+use Rattle.terms.specs.declared.order.Mode.TheVariants as modes
 use Rattle.wire.specs.Messages.{BodyData as Body, MessageData as Message, ProofData as Proof, macs, signature, FrameData as Frame}
 use Rattle.wire.specs.Reading.{frame_of as frame_spelled}
 use Rattle.wire.specs.Words.{said as body_spelled}

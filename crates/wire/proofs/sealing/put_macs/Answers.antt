@@ -1,7 +1,8 @@
 use Rattle.std.proofs.Common.{◌≡◌, ◌++◌, ◌∙◌, ap, refl, map, length, vec_len, rules}
 use Rattle.std.specs.Int.{w16, to_be_bytes}
 use Rattle.wire.specs.Lists.{each_spelling}
-use Rattle.wire.specs.Views.{party_number, mac_data}
+use Rattle.terms.specs.Parties.{party_number}
+use Rattle.wire.specs.Views.{mac_data}
 use Rattle.wire.specs.Spelling.{mac_spelling}
 use Rattle.wire.proofs.Appending.{two, one_more, none_left, kept_more}
 use Rattle.wire.proofs.sealing.put_macs.Goals as goal

@@ -1,5 +1,6 @@
 use Rattle.std.proofs.Common.{◌≡◌, ◌∙◌, Some, ap}
-use Rattle.wire.specs.Views.{frame_data, party_number}
+use Rattle.terms.specs.Parties.{party_number}
+use Rattle.wire.specs.Views.{frame_data}
 use Rattle.authenticator.specs.Opening.{refusal}
 use Rattle.authenticator.proofs.Refusing.{refused, opened, not_refused}
 use Rattle.authenticator.proofs.ring.Ring.open.Goals as goal

@@ -2,7 +2,8 @@ use Rattle.std.proofs.Common.{◌≡◌, ◌<◌, ◌+◌, ◌^◌, ◌*◌, ◌
 use Rattle.std.proofs.lemmas.List.{append-nil, length-map}
 use Rattle.wire.specs.Spelling.{body_spelling, piece, proof_spelling}
 use Rattle.wire.specs.Messages.{macs}
-use Rattle.wire.specs.Views.{body_data, mac_data, message_data, party_number}
+use Rattle.terms.specs.Parties.{party_number}
+use Rattle.wire.specs.Views.{body_data, mac_data, message_data}
 use Rattle.authenticator.specs.Sealing.{entry_for}
 use Rattle.authenticator.proofs.Frames.{piece-short}
 use Rattle.authenticator.proofs.Sealing.{counts_fit, sealed-over, sealed-short, sealed-spells, sealed-too_long}

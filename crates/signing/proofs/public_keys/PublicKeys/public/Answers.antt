@@ -1,5 +1,5 @@
 use Rattle.std.proofs.Common.{◌≡◌, ◌∙◌, ap, sym}
-use Rattle.wire.specs.Views.{party_number}
+use Rattle.terms.specs.Parties.{party_number}
 use Rattle.authenticator.specs.Keys.{signing_seed}
 use Rattle.signing.specs.Signatures.{public_key}
 use Rattle.signing.proofs.Keeping.{keys_fit-put}
