@@ -7,7 +7,7 @@ use Rattle.std.proofs.lemmas.Slice.Eq.{bytes_eq-Decides}
 use Rattle.std.proofs.Math.Bool.{or-true}
 use Rattle.wire.specs.Messages.{BodyData, ProofData, signature, FrameData}
 use Rattle.wire.specs.Spelling.{SpellsFrame, body_spelling, is_signed, proof_is_signed}
-use Rattle.wire.specs.Reading.{frame_of}
+use Rattle.wire.specs.Reading.{frame_read}
 use Rattle.wire.proofs.Carriers.{frame_of_again, frame_of_found}
 use Rattle.authenticator.specs.Authentic.{is_authentic}
 use Rattle.authenticator.specs.Keys.{signing_seed}
@@ -81,7 +81,7 @@ is_heard_of m party frame = by_kind (is_signed frame.body.message) (has_sender m
 pub opened_is_heard : OpenedIsHeard
 unfolding heard
 opened_is_heard m party bytes frame opens signed =
-    passes (is_heard m party) (frame_of bytes) frame (frame_of_again bytes frame opens.spelled)
+    passes (is_heard m party) (frame_read bytes) frame (frame_of_again bytes frame opens.spelled)
     (is_heard_of m party frame opens.sender signed by_macs)
   where
     by_macs : is_signed frame.body.message ≡ false → is_authentic m.seed party frame ≡ true
@@ -92,7 +92,7 @@ opened_is_heard m party bytes frame opens signed =
 pub heard_was_opened : HeardWasOpened
 unfolding heard
 heard_was_opened m party bytes body are h =
-    let from = comes_of (is_heard m party) (frame_of bytes) body h in
+    let from = comes_of (is_heard m party) (frame_read bytes) body h in
     let frame = from.0 in
     let spelled : SpellsFrame bytes frame = frame_of_found bytes frame are from.1 in
     let parts = and_parts _ _ from.2 in
@@ -112,25 +112,25 @@ heard_was_opened m party bytes body are h =
 pub signed_is_heard : SignedIsHeard
 unfolding heard signed_body
 signed_is_heard m party bytes body h =
-    let from = comes_of (λ frame. is_signed frame.body.message && (has_sender m frame.body && has_signature m.seed frame)) (frame_of bytes) body h in
+    let from = comes_of (λ frame. is_signed frame.body.message && (has_sender m frame.body && has_signature m.seed frame)) (frame_read bytes) body h in
     let parts = and_parts _ _ from.2 in
     let more = and_parts _ _ parts.1 in
-    passes (is_heard m party) (frame_of bytes) from.0 from.1 (is_heard_of m party from.0 more.0 (λ _. more.1) (λ plain. absurd (true≢false (sym parts.0 ∙ plain)))) ∙ ap Some from.3
+    passes (is_heard m party) (frame_read bytes) from.0 from.1 (is_heard_of m party from.0 more.0 (λ _. more.1) (λ plain. absurd (true≢false (sym parts.0 ∙ plain)))) ∙ ap Some from.3
 
 pub heard_was_signed : HeardWasSigned
 unfolding heard signed_body
 heard_was_signed m party bytes body h signed =
-    let from = comes_of (is_heard m party) (frame_of bytes) body h in
+    let from = comes_of (is_heard m party) (frame_read bytes) body h in
     let parts = and_parts _ _ from.2 in
     let kind : is_signed from.0.body.message ≡ true = rw from.3 signed in
     let kinds = of_kind (is_signed from.0.body.message) (is_authentic m.seed party from.0) (has_signature m.seed from.0) parts.1 in
-    passes (λ frame. is_signed frame.body.message && (has_sender m frame.body && has_signature m.seed frame)) (frame_of bytes) from.0 from.1
+    passes (λ frame. is_signed frame.body.message && (has_sender m frame.body && has_signature m.seed frame)) (frame_read bytes) from.0 from.1
     (and_from _ _ kind (and_from _ _ parts.0 (kinds.0 kind))) ∙ ap Some from.3
 
 pub signer_is_heard : SignerIsHeard
 unfolding signed_body
 signer_is_heard m bytes body leaf within known spelled =
-    passes (λ frame. is_signed frame.body.message && (has_sender m frame.body && has_signature m.seed frame)) (frame_of bytes)
+    passes (λ frame. is_signed frame.body.message && (has_sender m frame.body && has_signature m.seed frame)) (frame_read bytes)
     (record { body = body; proof = signature (signature_of (signing_seed m.seed body.sender) leaf (body_spelling body)) })
     (frame_of_again bytes _ spelled)
     (and_from _ _ (sym spelled.valid.proved) (and_from _ _ known

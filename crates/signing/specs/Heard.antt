@@ -4,7 +4,7 @@
 use Rattle.std.specs.Prelude.{ℕ, Bool, false, ◌&&◌, if◌then◌else◌, List, Option, Some, None, option_and_then}
 use Rattle.wire.specs.Messages.{BodyData, ProofData, macs, signature, FrameData}
 use Rattle.wire.specs.Spelling.{body_spelling, is_signed}
-use Rattle.wire.specs.Reading.{frame_of}
+use Rattle.wire.specs.Reading.{frame_read}
 use Rattle.authenticator.specs.Membership.{Membership, has_sender}
 use Rattle.authenticator.specs.Authentic.{is_authentic}
 use Rattle.authenticator.specs.Keys.{signing_seed}
@@ -26,10 +26,10 @@ is_heard m party frame =
 
 -- the body that a party hears from the bytes
 unfoldable pub heard : Membership → ℕ → List ℕ → Option BodyData
-heard m party bytes = option_and_then (λ frame. if is_heard m party frame then Some frame.body else None) (frame_of bytes)
+heard m party bytes = option_and_then (λ frame. if is_heard m party frame then Some frame.body else None) (frame_read bytes)
 
 -- the body of a view change or new view, whoever gets the bytes
 unfoldable pub signed_body : Membership → List ℕ → Option BodyData
 signed_body m bytes =
     option_and_then (λ frame. if is_signed frame.body.message && (has_sender m frame.body && has_signature m.seed frame) then Some frame.body else None)
-    (frame_of bytes)
+    (frame_read bytes)

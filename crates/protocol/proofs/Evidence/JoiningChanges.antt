@@ -7,7 +7,7 @@ use Rattle.std.proofs.lemmas.Bool.{and_parts, ne_eqb}
 use Rattle.tuple_codec.proofs.Readers.{guard_holds}
 use Rattle.wire.specs.Messages.{BodyData as Body, FrameData as Frame, ProofData as Proof, ViewChangeData, NewViewData, macs, signature, pre_prepare as PrePrepare, view_change as ViewChange}
 use Rattle.wire.specs.Spelling.{is_signed, body_spelling}
-use Rattle.wire.specs.Reading.{frame_of as frame_spelled}
+use Rattle.wire.specs.Reading.{frame_read as frame_spelled}
 use Rattle.authenticator.specs.Keys.{signing_seed}
 use Rattle.authenticator.specs.Membership.{Membership, has_sender}
 use Rattle.authenticator.specs.Authentic.{mac_of}

@@ -10,7 +10,7 @@ use Rattle.tuple_codec.specs.Reading.{Reader, byte_at}
 use Rattle.tuple_codec.proofs.Readers.{bind_some, guard_holds}
 use Rattle.wire.specs.Messages.{BodyData as Body, MessageData as Message, FrameData as Frame, request as Request, pre_prepare as PrePrepare, prepare as Prepare, commit as Commit, checkpoint as Checkpoint, view_change as ViewChange, new_view as NewView, reply as Reply, fetch as Fetch, meta as Meta, page as Page}
 use Rattle.wire.specs.Spelling.{IsMessage}
-use Rattle.wire.specs.Reading.{frame_of as frame_spelled, passing, if_it, more_at, anyhow, piece_at, is_request, requests_at}
+use Rattle.wire.specs.Reading.{frame_read as frame_spelled, passing, if_it, more_at, anyhow, piece_at, is_request, requests_at}
 use Rattle.wire.specs.Words.{said as body_spelled, requests_of}
 use Rattle.wire.proofs.Carriers.{frame_of_found}
 use Rattle.protocol.specs.System.Configuration.{Configuration}

@@ -4,7 +4,7 @@ use Rattle.std.specs.Prelude.{nat_lt}
 use Rattle.std.specs.List.{list_all}
 use Rattle.std.proofs.lemmas.Bool.{and_from, lt-ltb}
 use Rattle.tuple_tree.specs.Values.{AreBytes}
-use Rattle.wire.specs.Reading.{frame_of as frame_spelled}
+use Rattle.wire.specs.Reading.{frame_read as frame_spelled}
 use Rattle.wire.specs.Words.{said as body_spelled}
 use Rattle.wire.proofs.Telling.{reads_frames, reads_said}
 use Rattle.signing.specs.Heard.{heard as heard_among, signed_body as signed_among}

@@ -5,7 +5,7 @@ use Rattle.std.specs.List.{list_all}
 use Rattle.terms.specs.declared.order.Mode.{Mode}
 use Rattle.terms.specs.declared.order.Mode.TheVariants as modes
 use Rattle.wire.specs.Messages.{BodyData as Body, MessageData as Message, ProofData as Proof, macs, signature, FrameData as Frame}
-use Rattle.wire.specs.Reading.{frame_of as frame_spelled}
+use Rattle.wire.specs.Reading.{frame_read as frame_spelled}
 use Rattle.wire.specs.Words.{said as body_spelled}
 use Rattle.authenticator.specs.Authentic.{mac_of}
 use Rattle.signing.specs.Heard.{has_signature, heard as heard_among, signed_body as signed_among}
