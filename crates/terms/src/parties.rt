@@ -1,7 +1,6 @@
 //! Who takes part.
 
-ghost use Rattle.std.specs.Prelude.{◌≡◌, ◌≤◌};
-ghost use Rattle.terms.specs.Parties.{party_number};
+ghost use Rattle.std.specs.Prelude.{◌≤◌};
 
 /// The number in frames of client 0. Replicas have the numbers below it.
 pub const FIRST_CLIENT: u16 = 256;
@@ -25,6 +24,9 @@ pub enum Party {
 }
 
 impl Party {
+    ghost use Rattle.std.specs.Prelude.{◌≡◌};
+    ghost use Rattle.terms.specs.Parties.{party_number};
+
     /// The number by which this party stands in frames.
     pub fn number(self) -> u16
         ensures { result ≡ party_number self }

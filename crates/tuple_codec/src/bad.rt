@@ -1,6 +1,6 @@
 //! Why bytes are not read.
 
-use std::alloc::AllocError;
+use std::alloc::{AllocError, AllocFailed};
 use terms::NoMemory;
 use thiserror::Error;
 
@@ -21,6 +21,17 @@ impl From<AllocError> for Bad {
     ghost from_gives = { λ _ e. e ≡ NoMemory };
 
     fn from(_failed: AllocError) -> Bad {
+        Bad::NoMemory
+    }
+}
+
+impl<T: Drop> From<AllocFailed<T>> for Bad {
+    ghost use Rattle.tuple_codec.specs.declared.bad.Bad.TheVariants.{NoMemory};
+    ghost use Rattle.std.specs.Prelude.{◌≡◌};
+
+    ghost from_gives = { λ _ e. e ≡ NoMemory };
+
+    fn from(_failed: AllocFailed<T>) -> Bad {
         Bad::NoMemory
     }
 }
