@@ -65,13 +65,13 @@ refusal_so m party frame = ap (λ known. by_tests known (may_open m.seed party f
 
 module _ (m : Membership) (party : ℕ) (bytes : List ℕ) (header : HeaderData) (has : HasHeader bytes header) where
   by_header : (o : Option OpenFault) → o ≡ header_refusal m party header → o ≡ refusal m party has.0
-  by_header o e = e ∙ ap (header_refusal m party) has.1.1 ∙ refusal_so m party has.0
+  by_header o e = e ∙ ap (header_refusal m party) has.2 ∙ refusal_so m party has.0
 
   pub header_refused : (fault : OpenFault) → Some fault ≡ header_refusal m party header → Refuses m party bytes fault
-  header_refused fault e = refused m party bytes has.0 has.1.0 fault (by_header (Some fault) e)
+  header_refused fault e = refused m party bytes has.0 has.1 fault (by_header (Some fault) e)
 
   pub header_opened : (frame : FrameData) → SpellsFrame bytes frame → None ≡ header_refusal m party header → Opens m party bytes frame
-  header_opened frame s e = subst (Opens m party bytes) (one_frame bytes has.0 frame has.1.0 s) (opened m party bytes has.0 has.1.0 (by_header None e))
+  header_opened frame s e = subst (Opens m party bytes) (one_frame bytes has.0 frame has.1 s) (opened m party bytes has.0 has.1 (by_header None e))
 
   pub header_not_refused : (fault : OpenFault) (other : FrameData) → Some fault ≡ header_refusal m party header → Opens m party bytes other → ⊥
-  header_not_refused fault other e o = not_refused m party bytes has.0 has.1.0 fault other (by_header (Some fault) e) o (one_frame bytes has.0 other has.1.0 o.spelled)
+  header_not_refused fault other e o = not_refused m party bytes has.0 has.1 fault other (by_header (Some fault) e) o (one_frame bytes has.0 other has.1 o.spelled)

@@ -31,21 +31,21 @@ module _ (m : Membership) (party : ℕ) (bytes : List ℕ) (header : HeaderData)
 
   pub heard_by_header : (other : FrameData) → SpellsFrame bytes other → signature_holds m.seed header ≡ true → heard m party bytes ≡ Some other.body
   heard_by_header other s h =
-      let k : signature_holds m.seed (header_of frame) ≡ true = ap (signature_holds m.seed) (sym o.1.1) ∙ h in
-      let e : frame ≡ other = one_frame bytes frame other o.1.0.spelled s in
-      opened_is_heard m party bytes frame o.1.0
-      (λ signed. holds m.seed (body_spelling frame.body) frame.body.sender frame.proof k (o.1.0.spelled.valid.proved ∙ signed))
+      let k : signature_holds m.seed (header_of frame) ≡ true = ap (signature_holds m.seed) (sym o.2) ∙ h in
+      let e : frame ≡ other = one_frame bytes frame other o.1.spelled s in
+      opened_is_heard m party bytes frame o.1
+      (λ signed. holds m.seed (body_spelling frame.body) frame.body.sender frame.proof k (o.1.spelled.valid.proved ∙ signed))
       ∙ ap (λ f. Some f.body) e
 
   pub unsigned_by_header : signature_holds m.seed header ≡ false → HasNoSignature m party bytes
   unsigned_by_header h =
-      let f = fails m.seed (body_spelling frame.body) frame.body.sender frame.proof (ap (signature_holds m.seed) (sym o.1.1) ∙ h) in
-      record { frame = frame; opens = o.1.0; signed = sym o.1.0.spelled.valid.proved ∙ f.0; unsigned = f.1 }
+      let f = fails m.seed (body_spelling frame.body) frame.body.sender frame.proof (ap (signature_holds m.seed) (sym o.2) ∙ h) in
+      record { frame = frame; opens = o.1; signed = sym o.1.spelled.valid.proved ∙ f.0; unsigned = f.1 }
 
   pub not_heard : AreBytes bytes → signature_holds m.seed header ≡ false → (body : BodyData) → heard m party bytes ≡ Some body → ⊥
   not_heard h holds body e =
       let w = heard_was_opened m party bytes body h e in
-      let same : w.frame ≡ frame = one_frame bytes w.frame frame w.opens.spelled o.1.0.spelled in
+      let same : w.frame ≡ frame = one_frame bytes w.frame frame w.opens.spelled o.1.spelled in
       let u = unsigned_by_header holds in
       let signed : has_signature m.seed frame ≡ true = ap (has_signature m.seed) (sym same) ∙ w.signed (ap (λ f. is_signed f.body.message) same ∙ u.signed) in
       let g : true ≡ false = sym signed ∙ u.unsigned in
