@@ -1,5 +1,5 @@
 -- What a header that may be opened says of hearing.
-use Rattle.std.proofs.Common.{◌≡◌, ℕ, Bool, true, false, List, Some, ap, sym, refl, subst, ◌∙◌}
+use Rattle.std.proofs.Common.{◌≡◌, ℕ, true, false, List, Some, IsTrue, ap, sym, refl, ◌∙◌}
 use Rattle.tuple_tree.specs.Values.{AreBytes}
 use Rattle.wire.specs.Messages.{BodyData, FrameData, ProofData, macs, signature}
 use Rattle.wire.specs.Spelling.{SpellsFrame, is_signed, proof_is_signed, body_spelling}
@@ -43,10 +43,14 @@ module _ (m : Membership) (party : ℕ) (bytes : List ℕ) (header : HeaderData)
       record { frame = frame; opens = o.1; signed = sym o.1.spelled.valid.proved ∙ f.0; unsigned = f.1 }
 
   pub not_heard : AreBytes bytes → signature_holds m.seed header ≡ false → (body : BodyData) → heard m party bytes ≡ Some body → ⊥
-  not_heard h holds body e =
+  not_heard h fails body e =
       let w = heard_was_opened m party bytes body h e in
       let same : w.frame ≡ frame = one_frame bytes w.frame frame w.opens.spelled o.1.spelled in
-      let u = unsigned_by_header holds in
-      let signed : has_signature m.seed frame ≡ true = ap (has_signature m.seed) (sym same) ∙ w.signed (ap (λ f. is_signed f.body.message) same ∙ u.signed) in
-      let g : true ≡ false = sym signed ∙ u.unsigned in
-      let k : ⊥ = cc in k
+      contradict (unsigned_by_header fails) w.frame same w.signed
+    where
+      contradict : (u : HasNoSignature m party bytes) (other : FrameData) → other ≡ frame → (IsTrue (is_signed other.body.message) → IsTrue (has_signature m.seed other)) → ⊥
+      contradict u other same signed =
+          let mine : u.frame ≡ other = one_frame bytes u.frame frame u.opens.spelled o.1.spelled ∙ sym same in
+          let s : has_signature m.seed u.frame ≡ true = ap (has_signature m.seed) mine ∙ signed (ap (λ f. is_signed f.body.message) (sym mine) ∙ u.signed) in
+          let g : true ≡ false = sym s ∙ u.unsigned in
+          let k : ⊥ = cc in k

@@ -1,8 +1,8 @@
 -- The refusals of opening as those of hearing.
 use Rattle.authenticator.specs.declared.sealed.OpenFault.{OpenFault}
 use Rattle.authenticator.specs.declared.sealed.OpenFault.TheVariants as open_faults
-use Rattle.signing.specs.declared.heard.HearFault.{HearFault}
-use Rattle.signing.specs.declared.heard.HearFault.TheVariants as faults
+use Rattle.signing.specs.declared.hear_fault.HearFault.{HearFault}
+use Rattle.signing.specs.declared.hear_fault.HearFault.TheVariants as faults
 
 abbrev pub hear_fault : OpenFault → HearFault
 hear_fault open_faults.TooLarge = faults.TooLarge

@@ -7,8 +7,8 @@ use Rattle.authenticator.specs.declared.sealed.OpenFault.TheVariants as open_fau
 use Rattle.authenticator.specs.Keys.{signing_seed}
 use Rattle.authenticator.specs.Membership.{Membership}
 use Rattle.authenticator.specs.Opening.{Opens, Refuses as RefusesToOpen}
-use Rattle.signing.specs.declared.heard.HearFault.{HearFault}
-use Rattle.signing.specs.declared.heard.HearFault.TheVariants as faults
+use Rattle.signing.specs.declared.hear_fault.HearFault.{HearFault}
+use Rattle.signing.specs.declared.hear_fault.HearFault.TheVariants as faults
 use Rattle.signing.specs.Signatures.{public_key, verifies}
 use Rattle.signing.specs.Heard.{has_signature, heard}
 

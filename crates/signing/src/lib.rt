@@ -13,8 +13,9 @@
 //! proof.
 #![tactic(auto)]
 
-mod heard;
-mod hearing;
+mod from_bytes;
+mod hear_fault;
+mod heard_frame;
 mod laws;
 mod public_keys;
 mod secrets;
@@ -22,8 +23,9 @@ mod signature;
 mod signer;
 mod tree;
 
-pub use heard::{HearFault, Heard};
-pub use hearing::hear;
+pub use from_bytes::hear;
+pub use hear_fault::HearFault;
+pub use heard_frame::HeardFrame;
 pub use laws::{hearing, verifying_is_decided};
 pub use public_keys::PublicKeys;
 pub use signature::{SIGNATURE_LEN, Signature, verify, verify_bytes};

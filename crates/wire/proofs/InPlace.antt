@@ -1,5 +1,5 @@
 -- Steps of judging bytes in their place.
-use Rattle.std.proofs.Common.{◌≡◌, ◌↔◌, ℕ, zero, suc, nat_le, ◌+◌, ◌-◌, ◌<◌, ◌≤◌, Bool, true, false, ◌||◌, ◌&&◌, cond, List, [], ◌∷◌, ◌++◌, length, Option, Some, None, is_some, option_map, ap, sym, refl, ◌∙◌, arith}
+use Rattle.std.proofs.Common.{◌≡◌, ◌↔◌, ℕ, zero, suc, ◌+◌, ◌-◌, ◌<◌, ◌≤◌, Bool, true, false, ◌||◌, ◌&&◌, cond, List, [], ◌∷◌, ◌++◌, length, Option, Some, None, is_some, option_map, ap, sym, refl, ◌∙◌, arith}
 use Rattle.std.proofs.lemmas.Bool.{ne_eqb, lt-leb}
 use lib.Dec.{eqb, leb}
 use Rattle.tuple_tree.specs.Values.{AreBytes}
@@ -10,14 +10,13 @@ use Rattle.tuple_codec.specs.Reading.{◌>>=◌, Reader, read_as, rest_of, byte_
 use Rattle.tuple_codec.proofs.Readers.{parts}
 use Rattle.tuple_codec.proofs.OperationLaws.{operation_reads, outcome_reads}
 use Rattle.terms.specs.declared.order.Mode.{Mode}
-use Rattle.wire.specs.Lists.{listed}
-use Rattle.wire.specs.Messages.{MessageData, request, pre_prepare, prepare, commit, checkpoint, view_change, new_view, reply, fetch, meta, page, BodyData, ProofData, FrameData}
+use Rattle.wire.specs.Messages.{MessageData, request, pre_prepare, prepare, commit, checkpoint, view_change, new_view, reply, fetch, meta, page, BodyData, ProofData}
 use Rattle.wire.specs.Spelling.{message_type, body_spelling, is_signed, sender_before}
 use Rattle.wire.specs.Faults.{limit_at}
 use Rattle.wire.specs.Headers.{HeaderData, header_of, asks}
 use Rattle.wire.specs.Judging.{ends}
 use Rattle.wire.specs.Reading.{passing, more_at, follows, anyhow, if_it, all_of, proof_of, message_by, body_of, frame_read, piece_at, is_change, is_over, of_some, over_in, mode_at, client_at, digest_at, digests_at, batches_at, request_at, reply_at, page_at}
-use Rattle.wire.proofs.Parts.{number_2_reads, number_8_reads, mode_reads, piece_reads}
+use Rattle.wire.proofs.Parts.{number_8_reads, mode_reads, piece_reads}
 use Rattle.wire.proofs.Carrying.{is_none, some_of, whole_test}
 use Rattle.wire.proofs.Plain.{client_reads}
 use Rattle.wire.proofs.Carriers.{body_of_found}

@@ -29,6 +29,6 @@ returns-in_err-proof c =
 pub returns : goal.returns
 returns c =
     let there = header_there c.args.bytes.now c.in_ok-text.text.now c.in_ok-text.rest.now c.in_ok-text.ensures c.in_ok-kind.kind c.in_ok-kind.behind.now c.in_ok-kind.ensures c.in_ok-number.number c.in_ok-number.fields.now c.in_ok-number.ensures
-        (λ i. omega (arith, c.type_inv.bytes i)) (sym c.is_message.ensures ∙ c.if-not-is_message.false) _ (omega (arith, c.requires))
-        (ap (λ b. proof_of b c.in_ok-text.rest.now) (sym c.is_signed.ensures) ∙ c.in_ok-proof.ensures) in
+    (λ i. omega (arith, c.type_inv.bytes i)) (sym c.is_message.ensures ∙ c.if-not-is_message.false) _ (omega (arith, c.requires))
+    (ap (λ b. proof_of b c.in_ok-text.rest.now) (sym c.is_signed.ensures) ∙ c.in_ok-proof.ensures) in
     there ∙ from_sender _ _ _ _ _ c.party-sender.ensures

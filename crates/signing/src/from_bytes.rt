@@ -1,4 +1,4 @@
-//! What a party hears.
+//! From bytes to what a party hears.
 
 ghost use Rattle.std.specs.Prelude.{◌≡◌, IfOk, IfErr, MatchResult, IsTrue};
 ghost use Rattle.terms.specs.Parties.{party_number};
@@ -8,7 +8,8 @@ ghost use Rattle.wire.specs.Headers.{header_data};
 ghost use Rattle.signing.specs.Heard.{heard};
 ghost use Rattle.signing.specs.Hearing.{Refuses, signature_holds};
 
-use crate::heard::{HearFault, Heard};
+use crate::hear_fault::HearFault;
+use crate::heard_frame::HeardFrame;
 use crate::public_keys::PublicKeys;
 use authenticator::Ring;
 use std::alloc::Global;
@@ -28,7 +29,7 @@ pub fn hear<'b>(
     publics: &mut PublicKeys,
     bytes: &'b [u8],
     me: Party,
-) -> Result<Heard<'b>, HearFault>
+) -> Result<HeardFrame<'b>, HearFault>
     requires { publics.old ≡ ring.old.seed }
     ensures heard { IfOk result (λ h. heard ring.old (party_number me) bytes.now ≡ Some (body_data h.frame.body)) }
     ensures carried { IfOk result (λ h. h.bytes.now ≡ bytes.now) }
@@ -42,7 +43,7 @@ pub fn hear<'b>(
         return Err(HearFault::BadSignature);
     }
     let frame = decode_judged(alloc, bytes)?;
-    Ok(Heard { bytes, frame })
+    Ok(HeardFrame { bytes, frame })
 }
 
 // Whether a signature, where the frame has one, is its sender's.

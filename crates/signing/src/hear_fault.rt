@@ -1,20 +1,8 @@
-//! What a party hears, and why it doesn't.
-
-ghost use Rattle.wire.specs.Spelling.{SpellsFrame};
-ghost use Rattle.wire.specs.Views.{frame_data};
+//! Why a party hears nothing.
 
 use authenticator::OpenFault;
 use terms::NoMemory;
 use thiserror::Error;
-use wire::Frame;
-
-/// A frame that a party hears, with its bytes, so that what carries it on need not write it again.
-#[derive(Drop)]
-pub struct Heard<'b> {
-    pub bytes: &'b [u8],
-    pub frame: Frame,
-    ghost spelled: { SpellsFrame bytes.now (frame_data frame) },
-}
 
 /// Why a party hears nothing.
 #[derive(Clone, Copy, Debug, PartialEq, Eq, Error)]
@@ -58,7 +46,7 @@ impl From<OpenFault> for HearFault {
 
 impl From<NoMemory> for HearFault {
     ghost use Rattle.std.specs.Prelude.{◌≡◌};
-    ghost use Rattle.signing.specs.declared.heard.HearFault.TheVariants.{NoMemory as no_memory};
+    ghost use Rattle.signing.specs.declared.hear_fault.HearFault.TheVariants.{NoMemory as no_memory};
 
     ghost from_gives = { λ _ e. e ≡ no_memory };
 
