@@ -4,7 +4,11 @@ use Rattle.wire.specs.Messages.{FrameData}
 use Rattle.wire.specs.Spelling.{SpellsFrame}
 use Rattle.authenticator.specs.declared.sealed.OpenFault.{OpenFault}
 use Rattle.authenticator.specs.declared.sealed.OpenFault.TheVariants as faults
-use Rattle.authenticator.specs.Membership.{Membership, has_sender}
+use Rattle.wire.specs.Messages.{MessageData, request, pre_prepare, prepare, commit, checkpoint, view_change, new_view, reply, fetch, meta, page}
+use Rattle.wire.specs.Headers.{HeaderData, header_of, asks, HasHeader}
+use Rattle.wire.proofs.Whole.{one_frame}
+use Rattle.authenticator.specs.Headers.{takes_part, header_refusal}
+use Rattle.authenticator.specs.Membership.{Membership, sends, has_sender}
 use Rattle.authenticator.specs.Opening.{Opens, Refuses, may_open, refusal}
 
 abbrev by_tests : Bool → Bool → Option OpenFault
@@ -40,3 +44,34 @@ module _ (m : Membership) (party : ℕ) (bytes : List ℕ) (frame : FrameData) (
       let proved : may_open m.seed party frame ≡ true = ap (may_open m.seed party) same ∙ o.proved in
       let none : refusal m party frame ≡ None = rw (known, proved) refl in
       let g : ⊥ = cc in g
+
+-- ---- by the header
+
+pub sends_so : (m : Membership) (party : ℕ) (message : MessageData) → takes_part m party (asks message) ≡ sends m party message
+sends_so m party (request timestamp mode operation) = refl
+sends_so m party (pre_prepare view number batch) = refl
+sends_so m party (prepare view number digest) = refl
+sends_so m party (commit view number digest) = refl
+sends_so m party (checkpoint number root) = refl
+sends_so m party (view_change c) = refl
+sends_so m party (new_view n) = refl
+sends_so m party (reply client timestamp kind number outcome) = refl
+sends_so m party (fetch number level index) = refl
+sends_so m party (meta number level index digests) = refl
+sends_so m party (page number index text) = refl
+
+refusal_so : (m : Membership) (party : ℕ) (frame : FrameData) → header_refusal m party (header_of frame) ≡ refusal m party frame
+refusal_so m party frame = ap (λ known. by_tests known (may_open m.seed party frame)) (sends_so m frame.body.sender frame.body.message)
+
+module _ (m : Membership) (party : ℕ) (bytes : List ℕ) (header : HeaderData) (has : HasHeader bytes header) where
+  by_header : (o : Option OpenFault) → o ≡ header_refusal m party header → o ≡ refusal m party has.0
+  by_header o e = e ∙ ap (header_refusal m party) has.2 ∙ refusal_so m party has.0
+
+  pub header_refused : (fault : OpenFault) → Some fault ≡ header_refusal m party header → Refuses m party bytes fault
+  header_refused fault e = refused m party bytes has.0 has.1 fault (by_header (Some fault) e)
+
+  pub header_opened : (frame : FrameData) → SpellsFrame bytes frame → None ≡ header_refusal m party header → Opens m party bytes frame
+  header_opened frame s e = subst (Opens m party bytes) (one_frame bytes has.0 frame has.1 s) (opened m party bytes has.0 has.1 (by_header None e))
+
+  pub header_not_refused : (fault : OpenFault) (other : FrameData) → Some fault ≡ header_refusal m party header → Opens m party bytes other → ⊥
+  header_not_refused fault other e o = not_refused m party bytes has.0 has.1 fault other (by_header (Some fault) e) o (one_frame bytes has.0 other has.1 o.spelled)

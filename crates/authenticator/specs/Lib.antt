@@ -1,3 +1,4 @@
+pub mod Headers
 pub mod Authentic
 pub mod Faults
 pub mod Kept

@@ -3,6 +3,7 @@ use Rattle.std.specs.Prelude.{ℕ, Bool, ◌||◌, IsTrue, ◌≡◌, false, Lis
 use Rattle.wire.specs.Messages.{FrameData}
 use Rattle.wire.specs.Spelling.{SpellsFrame, proof_is_signed}
 use Rattle.wire.specs.Faults.{IsTooLarge}
+use Rattle.wire.specs.Headers.{HeaderData, header_of}
 use Rattle.authenticator.specs.declared.sealed.OpenFault.{OpenFault}
 use Rattle.authenticator.specs.declared.sealed.OpenFault.TheVariants as faults
 use Rattle.authenticator.specs.Membership.{Membership, has_sender}
@@ -24,6 +25,10 @@ pub record Opens (m : Membership) (party : ℕ) (bytes : List ℕ) (frame : Fram
   pub sender : IsTrue (has_sender m frame.body)
   pub proved : IsTrue (may_open m.seed party frame)
 
+-- They are one with this header.
+abbrev pub OpensWith : Membership → ℕ → List ℕ → HeaderData → Type 0
+OpensWith m party bytes header = (frame : FrameData) × Opens m party bytes frame × (header ≡ header_of frame)
+
 -- The bytes are a frame, but from no party that sends such messages.
 pub record HasNoSender (m : Membership) (bytes : List ℕ) : Type 0 where
   pub frame : FrameData
@@ -43,4 +48,4 @@ Refuses m party bytes faults.TooLarge = IsTooLarge bytes
 Refuses m party bytes faults.Malformed = ¬ IsTooLarge bytes × ((frame : FrameData) → ¬ SpellsFrame bytes frame)
 Refuses m party bytes faults.UnknownSender = HasNoSender m bytes
 Refuses m party bytes faults.BadMac = HasNoMac m party bytes
-Refuses m party bytes faults.NoMemory = Unit {0}
+Refuses m party bytes faults.NoMemory = (frame : FrameData) × Opens m party bytes frame

@@ -4,6 +4,7 @@ ghost use Rattle.std.specs.Prelude.{◌≡◌, ◌∷◌, ◌++◌, ◌<◌};
 ghost use Rattle.std.specs.Int.{w16, to_be_bytes};
 ghost use Rattle.authenticator.specs.Mac.{block_key};
 ghost use Rattle.authenticator.specs.Keys.{key_between, mac_between, signing_seed};
+ghost use Rattle.authenticator.specs.Headers.{takes_part};
 ghost use Rattle.authenticator.specs.Membership.{has_sender};
 ghost use Rattle.terms.specs.Parties.{party_number};
 ghost use Rattle.wire.specs.Views.{body_data};
@@ -59,10 +60,21 @@ impl Ring {
     pub fn has_sender(&self, body: &Body) -> bool
         ensures { result ≡ has_sender self.now (body_data body.now) }
     {
-        let sender = body.sender.number();
-        match &body.message {
-            Message::Request(_) => sender >= FIRST_CLIENT && sender - FIRST_CLIENT < self.clients,
-            _ => sender <= 3 * u16::from(self.faults),
+        let is_request = match &body.message {
+            Message::Request(_) => true,
+            _ => false,
+        };
+        self.takes_part(body.sender.number(), is_request)
+    }
+
+    /// The same by the sender's number and whether the message is a request.
+    pub(crate) fn takes_part(&self, sender: u16, is_request: bool) -> bool
+        ensures { result ≡ takes_part self.now sender is_request }
+    {
+        if is_request {
+            sender >= FIRST_CLIENT && sender - FIRST_CLIENT < self.clients
+        } else {
+            sender <= 3 * u16::from(self.faults)
         }
     }
 

@@ -1,6 +1,6 @@
 //! Frames that parties seal for each other and open.
 
-ghost use Rattle.std.specs.Prelude.{◌≡◌, ◌↔◌, ◌+◌, ℕ, List, ◌++◌, IfOk, IfErr, IsTrue, MatchResult, map};
+ghost use Rattle.std.specs.Prelude.{◌≡◌, ◌≢◌, ◌↔◌, ◌+◌, ℕ, List, ◌++◌, IsOk, IfOk, IfErr, IsTrue, MatchResult, map};
 ghost use Rattle.std.specs.Prelude.{◌≤◌, length};
 ghost use Rattle.wire.specs.Messages.{FrameData};
 ghost use Rattle.wire.specs.Spelling.{SpellsFrame, IsMac};
@@ -9,7 +9,9 @@ ghost use Rattle.authenticator.specs.Sealing.{IsSealable, IsTooLong, entry_for, 
 ghost use Rattle.terms.specs.Parties.{party_number};
 ghost use Rattle.wire.specs.Views.{body_data, frame_data, mac_data};
 ghost use Rattle.authenticator.specs.Authentic.{has_mac, is_mac_for};
-ghost use Rattle.authenticator.specs.Opening.{Opens, Refuses, may_open, refusal};
+ghost use Rattle.authenticator.specs.Opening.{Opens, OpensWith, Refuses};
+ghost use Rattle.authenticator.specs.Headers.{has_proof, header_refusal};
+ghost use Rattle.wire.specs.Headers.{header_data};
 
 use crate::mac::same;
 use crate::ring::Ring;
@@ -18,8 +20,8 @@ use std::alloc::Global;
 use terms::{NoMemory, Party};
 use thiserror::Error;
 use wire::{
-    Body, Frame, MAX_RECEIVERS, Proof, ReceiverMac, WireFault, begin_frame, body_bytes, decode,
-    put_proof,
+    Body, Frame, Header, MAX_RECEIVERS, NoFrame, Proof, ProofBytes, ReceiverMac, WireFault,
+    begin_frame, body_bytes, decode_judged, judge, put_proof,
 };
 
 /// Why a frame was refused.
@@ -64,18 +66,28 @@ impl From<NoMemory> for SealFault {
     }
 }
 
-impl From<WireFault> for OpenFault {
+impl From<NoFrame> for OpenFault {
     ghost use Rattle.std.specs.Prelude.{◌≡◌};
     ghost use Rattle.authenticator.specs.Faults.{open_fault};
 
     ghost from_gives = { λ fault e. e ≡ open_fault fault };
 
-    fn from(fault: WireFault) -> OpenFault {
+    fn from(fault: NoFrame) -> OpenFault {
         match fault {
-            WireFault::TooLarge => OpenFault::TooLarge,
-            WireFault::Malformed => OpenFault::Malformed,
-            WireFault::NoMemory => OpenFault::NoMemory,
+            NoFrame::TooLarge => OpenFault::TooLarge,
+            NoFrame::Malformed => OpenFault::Malformed,
         }
+    }
+}
+
+impl From<NoMemory> for OpenFault {
+    ghost use Rattle.std.specs.Prelude.{◌≡◌};
+    ghost use Rattle.authenticator.specs.declared.sealed.OpenFault.TheVariants.{NoMemory as no_memory};
+
+    ghost from_gives = { λ _ e. e ≡ no_memory };
+
+    fn from(_failed: NoMemory) -> OpenFault {
+        OpenFault::NoMemory
     }
 }
 
@@ -137,48 +149,59 @@ impl Ring {
 
     /// The frame that the bytes spell, where its sender takes part and may send such a message, and its proof has the
     /// right entry for `me` or is a signature, which is not tested here. The first refusal that applies is given, in
-    /// the order of [`OpenFault`]; want of memory may come before any of them.
+    /// the order of [`OpenFault`]: bytes that are refused take no memory, and so want of it comes last.
     pub fn open(&mut self, alloc: Global, bytes: &[u8], me: Party) -> Result<Opened, OpenFault>
         ensures opened { IfOk result (λ o. Opens self.old (party_number me) bytes.now (frame_data o.frame)) }
         ensures all { (f : FrameData) → Opens self.old (party_number me) bytes.now f → MatchResult result (λ o. frame_data o.frame ≡ f) (λ e. e ≡ OpenFault.NoMemory) }
         ensures refused { IfErr result (Refuses self.old (party_number me) bytes.now) }
         ensures same { self.new ≡ self.old }
     {
-        let frame = decode(alloc, bytes)?;
-        match self.refusal(&frame, bytes, me.number()) {
+        self.judge(bytes, me)?;
+        let frame = decode_judged(alloc, bytes)?;
+        Ok(Opened { frame })
+    }
+
+    /// The header of a frame that `me` may open. The first refusal that applies is given, in the order of
+    /// [`OpenFault`], and never want of memory: this takes none.
+    pub fn judge<'b>(&mut self, bytes: &'b [u8], me: Party) -> Result<Header<'b>, OpenFault>
+        ensures opened { IfOk result (λ header. OpensWith self.old (party_number me) bytes.now (header_data header)) }
+        ensures all { (f : FrameData) → Opens self.old (party_number me) bytes.now f → IsOk result }
+        ensures refused { IfErr result (Refuses self.old (party_number me) bytes.now) }
+        ensures memory { IfErr result (λ e. e ≢ OpenFault.NoMemory) }
+        ensures same { self.new ≡ self.old }
+    {
+        let header = judge(bytes)?;
+        match self.refusal(&header, me.number()) {
             Some(fault) => Err(fault),
-            None => Ok(Opened { frame }),
+            None => Ok(header),
         }
     }
 
-    // Why the party refuses the frame, which the bytes spell, where it does.
-    fn refusal(&mut self, frame: &Frame, bytes: &[u8], party: u16) -> Option<OpenFault>
-        requires { SpellsFrame bytes.now (frame_data frame.now) }
-        ensures value { result ≡ refusal self.old party (frame_data frame.now) }
+    // Why the party refuses a frame of this header, where it does.
+    fn refusal(&mut self, header: &Header<'_>, party: u16) -> Option<OpenFault>
+        ensures value { result ≡ header_refusal self.old party (header_data header.now) }
         ensures same { self.new ≡ self.old }
     {
-        if !self.has_sender(&frame.body) {
+        if !self.takes_part(header.sender.number(), header.is_request) {
             return Some(OpenFault::UnknownSender);
         }
-        if !self.may_open(frame, bytes, party) {
+        if !self.has_proof(header, party) {
             return Some(OpenFault::BadMac);
         }
         None
     }
 
-    // Whether the proof of the frame, which the bytes spell, has the right entry for the party or is a signature.
-    fn may_open(&mut self, frame: &Frame, bytes: &[u8], party: u16) -> bool
-        requires { SpellsFrame bytes.now (frame_data frame.now) }
-        ensures value { result ≡ may_open self.old.seed party (frame_data frame.now) }
+    // Whether the proof has the right entry for the party or is a signature.
+    fn has_proof(&mut self, header: &Header<'_>, party: u16) -> bool
+        ensures value { result ≡ has_proof self.old.seed party (header_data header.now) }
         ensures same { self.new ≡ self.old }
     {
-        match &frame.proof {
-            Proof::Macs(entries) => {
-                let sender = frame.body.sender.number();
-                let mac = self.mac(sender, party, body_bytes(bytes));
+        match &header.proof {
+            ProofBytes::Macs(entries) => {
+                let mac = self.mac(header.sender.number(), party, header.text);
                 has_mac(entries, party, &mac)
             },
-            Proof::Signature(_) => true,
+            ProofBytes::Signature(_) => true,
         }
     }
 }

@@ -1,3 +1,4 @@
+pub mod Opened
 pub mod Heard
 pub mod Keeping
 pub mod Joining

@@ -1,4 +1,6 @@
+pub mod Faults
 pub mod Heard
+pub mod Hearing
 pub mod Joined
 pub mod Lamport
 pub mod Laws

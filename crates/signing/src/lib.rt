@@ -8,9 +8,14 @@
 //!
 //! What was signed verifies, a `Signer` uses no leaf twice, `verify` is exactly its definition. `hearing` says that a
 //! party hears exactly the frames that open and, where they have to be signed, have their sender's signature; a view
-//! change or new view is heard by all or by none. That nobody else can sign is no claim of a proof.
+//! change or new view is heard by all or by none. `hear` gives what is heard, in one call from the bytes on, and else
+//! the first refusal that applies; bytes that are refused take no memory. That nobody else can sign is no claim of a
+//! proof.
 #![tactic(auto)]
 
+mod from_bytes;
+mod hear_fault;
+mod heard_frame;
 mod laws;
 mod public_keys;
 mod secrets;
@@ -18,6 +23,9 @@ mod signature;
 mod signer;
 mod tree;
 
+pub use from_bytes::hear;
+pub use hear_fault::HearFault;
+pub use heard_frame::HeardFrame;
 pub use laws::{hearing, verifying_is_decided};
 pub use public_keys::PublicKeys;
 pub use signature::{SIGNATURE_LEN, Signature, verify, verify_bytes};

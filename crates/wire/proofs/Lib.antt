@@ -1,3 +1,4 @@
+pub mod InPlace
 pub mod Forms
 pub mod Parts
 pub mod Framing

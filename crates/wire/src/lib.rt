@@ -16,8 +16,11 @@ mod decoding;
 mod fault;
 mod fields;
 mod frames;
+mod headers;
+mod judging;
 mod laws;
 mod messages;
+mod oversize;
 mod proving;
 mod put;
 mod put_lists;
@@ -26,11 +29,13 @@ mod sealing;
 mod sizes;
 
 pub use bodies::encode;
-pub use decoding::decode;
-pub use fault::WireFault;
+pub use decoding::{decode, decode_judged};
+pub use fault::{NoFrame, WireFault};
 pub use frames::{
     Frame, MAX_FRAME, MAX_RECEIVERS, MAX_VIEW_CHANGE, Proof, ReceiverMac, SIGNATURE_LEN,
 };
+pub use headers::{Header, ProofBytes};
+pub use judging::judge;
 pub use laws::{carries_frames, one_spelling, reads_what_is_spelled};
 pub use messages::{
     Batch, Body, Checkpoint, Claim, Commit, Fetch, Mark, Message, Meta, NewView, Page, PrePrepare,

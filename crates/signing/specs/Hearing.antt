@@ -1,0 +1,37 @@
+-- Why a party hears nothing from bytes.
+use Rattle.std.specs.Prelude.{◌≡◌, ℕ, Bool, true, false, IsTrue, List, Some}
+use Rattle.wire.specs.Messages.{BodyData, ProofData, macs, signature, FrameData}
+use Rattle.wire.specs.Spelling.{is_signed}
+use Rattle.wire.specs.Headers.{HeaderData}
+use Rattle.authenticator.specs.declared.sealed.OpenFault.TheVariants as open_faults
+use Rattle.authenticator.specs.Keys.{signing_seed}
+use Rattle.authenticator.specs.Membership.{Membership}
+use Rattle.authenticator.specs.Opening.{Opens, Refuses as RefusesToOpen}
+use Rattle.signing.specs.declared.hear_fault.HearFault.{HearFault}
+use Rattle.signing.specs.declared.hear_fault.HearFault.TheVariants as faults
+use Rattle.signing.specs.Signatures.{public_key, verifies}
+use Rattle.signing.specs.Heard.{has_signature, heard}
+
+-- The bytes are a frame that the party may open, and that is to be signed, but not with its sender's signature.
+pub record HasNoSignature (m : Membership) (party : ℕ) (bytes : List ℕ) : Type 0 where
+  pub frame : FrameData
+  pub opens : Opens m party bytes frame
+  pub signed : IsTrue (is_signed frame.body.message)
+  pub unsigned : has_signature m.seed frame ≡ false
+
+-- The earlier refusal goes before a later one.
+abbrev pub Refuses : Membership → ℕ → List ℕ → HearFault → Type 0
+Refuses m party bytes faults.TooLarge = RefusesToOpen m party bytes open_faults.TooLarge
+Refuses m party bytes faults.Malformed = RefusesToOpen m party bytes open_faults.Malformed
+Refuses m party bytes faults.UnknownSender = RefusesToOpen m party bytes open_faults.UnknownSender
+Refuses m party bytes faults.BadMac = RefusesToOpen m party bytes open_faults.BadMac
+Refuses m party bytes faults.BadSignature = HasNoSignature m party bytes
+Refuses m party bytes faults.NoMemory = (body : BodyData) × (heard m party bytes ≡ Some body)
+
+-- a signature of the text is its sender's; MACs are judged elsewhere
+abbrev pub proof_holds : List ℕ → ℕ → List ℕ → ProofData → Bool
+proof_holds seed sender text (macs entries) = true
+proof_holds seed sender text (signature s) = verifies (public_key (signing_seed seed sender)) text s
+
+abbrev pub signature_holds : List ℕ → HeaderData → Bool
+signature_holds seed h = proof_holds seed h.sender h.text h.proof

@@ -1,0 +1,58 @@
+//! From bytes to what a party hears.
+
+ghost use Rattle.std.specs.Prelude.{◌≡◌, IfOk, IfErr, MatchResult, IsTrue};
+ghost use Rattle.terms.specs.Parties.{party_number};
+ghost use Rattle.wire.specs.Messages.{BodyData};
+ghost use Rattle.wire.specs.Views.{body_data};
+ghost use Rattle.wire.specs.Headers.{header_data};
+ghost use Rattle.signing.specs.Heard.{heard};
+ghost use Rattle.signing.specs.Hearing.{Refuses, signature_holds};
+
+use crate::hear_fault::HearFault;
+use crate::heard_frame::HeardFrame;
+use crate::public_keys::PublicKeys;
+use authenticator::Ring;
+use std::alloc::Global;
+use terms::Party;
+use wire::{Header, ProofBytes, decode_judged};
+
+/// What `me` hears from the bytes: a frame whose sender takes part and may send such a message, with the right MAC for
+/// `me`, or signed by its sender where it is a view change or a new view. The keys and the ring are of one seed.
+///
+/// # Errors
+///
+/// The first that applies, in the order of [`HearFault`]. Bytes that are refused take no memory, so want of it comes
+/// last.
+pub fn hear<'b>(
+    alloc: Global,
+    ring: &mut Ring,
+    publics: &mut PublicKeys,
+    bytes: &'b [u8],
+    me: Party,
+) -> Result<HeardFrame<'b>, HearFault>
+    requires { publics.old ≡ ring.old.seed }
+    ensures heard { IfOk result (λ h. heard ring.old (party_number me) bytes.now ≡ Some (body_data h.frame.body)) }
+    ensures carried { IfOk result (λ h. h.bytes.now ≡ bytes.now) }
+    ensures all { (body : BodyData) → heard ring.old (party_number me) bytes.now ≡ Some body → MatchResult result (λ h. body_data h.frame.body ≡ body) (λ e. e ≡ HearFault.NoMemory) }
+    ensures refused { IfErr result (Refuses ring.old (party_number me) bytes.now) }
+    ensures ring { ring.new ≡ ring.old }
+    ensures publics { publics.new ≡ publics.old }
+{
+    let header = ring.judge(bytes, me)?;
+    if !signature_holds(publics, &header) {
+        return Err(HearFault::BadSignature);
+    }
+    let frame = decode_judged(alloc, bytes)?;
+    Ok(HeardFrame { bytes, frame })
+}
+
+// Whether a signature, where the frame has one, is its sender's.
+fn signature_holds(publics: &mut PublicKeys, header: &Header<'_>) -> bool
+    ensures value { result ≡ signature_holds publics.old (header_data header.now) }
+    ensures same { publics.new ≡ publics.old }
+{
+    match &header.proof {
+        ProofBytes::Macs(_) => true,
+        ProofBytes::Signature(signature) => publics.verify(header.sender, header.text, signature),
+    }
+}

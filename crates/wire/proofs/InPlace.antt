@@ -1,0 +1,300 @@
+-- Steps of judging bytes in their place.
+use Rattle.std.proofs.Common.{◌≡◌, ◌↔◌, ℕ, zero, suc, ◌+◌, ◌-◌, ◌<◌, ◌≤◌, Bool, true, false, ◌||◌, ◌&&◌, cond, List, [], ◌∷◌, ◌++◌, length, Option, Some, None, is_some, option_map, ap, sym, refl, ◌∙◌, arith}
+use Rattle.std.proofs.lemmas.Bool.{ne_eqb, lt-leb}
+use lib.Dec.{eqb, leb}
+use Rattle.tuple_tree.specs.Values.{AreBytes}
+use Rattle.tuple_codec.specs.Operations.{Operation, IsOperation, Outcome, IsOutcome}
+use Rattle.tuple_codec.specs.Spelling.{SpellsOperation, operation_spelling, SpellsOutcome, outcome_spelling}
+use Rattle.tuple_codec.specs.Gives.{Yields}
+use Rattle.tuple_codec.specs.Reading.{◌>>=◌, Reader, read_as, rest_of, byte_at, number_of, operation_at, outcome_at}
+use Rattle.tuple_codec.proofs.Readers.{parts}
+use Rattle.tuple_codec.proofs.OperationLaws.{operation_reads, outcome_reads}
+use Rattle.terms.specs.declared.order.Mode.{Mode}
+use Rattle.wire.specs.Messages.{MessageData, request, pre_prepare, prepare, commit, checkpoint, view_change, new_view, reply, fetch, meta, page, BodyData, ProofData}
+use Rattle.wire.specs.Spelling.{message_type, body_spelling, is_signed, sender_before}
+use Rattle.wire.specs.Faults.{limit_at}
+use Rattle.wire.specs.Headers.{HeaderData, header_of, asks}
+use Rattle.wire.specs.Judging.{ends}
+use Rattle.wire.specs.Reading.{passing, more_at, follows, anyhow, if_it, all_of, proof_of, message_by, body_of, frame_read, piece_at, is_change, is_over, of_some, over_in, mode_at, client_at, digest_at, digests_at, batches_at, request_at, reply_at, page_at}
+use Rattle.wire.proofs.Parts.{number_8_reads, mode_reads, piece_reads}
+use Rattle.wire.proofs.Carrying.{is_none, some_of, whole_test}
+use Rattle.wire.proofs.Plain.{client_reads}
+use Rattle.wire.proofs.Carriers.{body_of_found}
+use Rattle.wire.proofs.Whole.{no_piece, body_fails, proof_fails, all_there}
+use Rattle.tuple_codec.specs.declared.bad.Bad.TheVariants as bad
+
+-- ---- what ends
+
+at_end : {A : Type 0} (x : A) (rest : List ℕ) → eqb (length rest) 0 ≡ is_some (all_of (Some (x, rest)))
+at_end x [] = refl
+at_end x (b ∷ bs) = ne_eqb (suc (length bs)) 0 (λ e. omega (arith, e))
+
+pub whole : {A : Type 0} (at : Reader A) (bs : List ℕ) → ends (rest_of (at bs)) ≡ is_some (all_of (at bs))
+whole at bs = cases (at bs)
+  where
+    cases : {A : Type 0} (o : Option (A × List ℕ)) → ends (rest_of o) ≡ is_some (all_of o)
+    cases None = refl
+    cases (Some x) = at_end x.0 x.1
+
+-- what yields a thing is the thing
+pub yielded : {X Y : Type 0} (view : X → Y) (r : Option X) (o : Option Y) → Yields view r o → option_map view r ≡ o
+yielded view None o e = sym e
+yielded view (Some x) o e = sym e
+
+-- another value of what is read
+pub as_whole : {A B : Type 0} (f : A → B) (at : Reader A) (bs : List ℕ) → is_some (all_of (at bs)) ≡ is_some (all_of (read_as f at bs))
+as_whole f at bs = cases f (at bs)
+  where
+    ended : {A B : Type 0} (x : A) (y : B) (rest : List ℕ) → is_some (all_of (Some (x, rest))) ≡ is_some (all_of (Some (y, rest)))
+    ended x y [] = refl
+    ended x y (b ∷ bs) = refl
+
+    cases : {A B : Type 0} (f : A → B) (o : Option (A × List ℕ)) → is_some (all_of o) ≡ is_some (all_of (o >>= λ x. Some (f x.0, x.1)))
+    cases f None = refl
+    cases f (Some x) = ended x.0 (f x.0) x.1
+
+-- ---- requests, replies and pages
+
+-- what is read behind something is read with it
+abbrev behind : {A B : Type 0} → A → Option (B × List ℕ) → Option ((A × B) × List ℕ)
+behind x o = o >>= λ y. Some ((x, y.0), y.1)
+
+abbrev requested : Option ((ℕ × (Mode × Operation)) × List ℕ) → Option (MessageData × List ℕ)
+requested o = o >>= λ p. Some (request p.0.0 p.0.1.0 p.0.1.1, p.1)
+
+abbrev replied : Option ((ℕ × (ℕ × (Mode × (ℕ × Outcome)))) × List ℕ) → Option (MessageData × List ℕ)
+replied o = o >>= λ p. Some (reply p.0.0 p.0.1.0 p.0.1.1.0 p.0.1.1.1.0 p.0.1.1.1.1, p.1)
+
+pub request_no_time : (fs : List ℕ) → number_of 8 fs ≡ None → false ≡ is_some (all_of (request_at fs))
+unfolding request_at
+request_no_time fs e = sym (rw e refl)
+
+pub request_no_mode : (fs rest : List ℕ) (t : ℕ) → number_of 8 fs ≡ Some (t, rest) → mode_at rest ≡ None → false ≡ is_some (all_of (request_at fs))
+unfolding request_at
+request_no_mode fs rest t e f = sym (rw (e, f) refl)
+
+pub request_whole : (fs rest op : List ℕ) (t : ℕ) (m : Mode) (b : Bool) → AreBytes fs → number_of 8 fs ≡ Some (t, rest) → mode_at rest ≡ Some (m, op) → (b ≡ true) ↔ ((o : Operation) × SpellsOperation op o) → b ≡ is_some (all_of (request_at fs))
+unfolding request_at
+request_whole fs rest op t m b h e f law =
+    let r = number_8_reads.found fs rest t h e in
+    let n = mode_reads.found rest op m r.0.bytes f in
+    whole_test IsOperation operation_spelling operation_at operation_reads op b n.0.bytes law ∙ sym (rw (e, f) (cases (operation_at op)))
+  where
+    ended : (o : Operation) (rest : List ℕ) → is_some (all_of (Some (request t m o, rest))) ≡ is_some (all_of (Some (o, rest)))
+    ended o [] = refl
+    ended o (x ∷ xs) = refl
+
+    cases : (o : Option (Operation × List ℕ)) → is_some (all_of (requested (behind t (behind m o)))) ≡ is_some (all_of o)
+    cases None = refl
+    cases (Some x) = ended x.0 x.1
+
+pub reply_no_client : (fs : List ℕ) → client_at fs ≡ None → false ≡ is_some (all_of (reply_at fs))
+unfolding reply_at
+reply_no_client fs e = sym (rw e refl)
+
+module _ (fs r : List ℕ) (client : ℕ) (d : client_at fs ≡ Some (client, r)) where
+  pub reply_no_time : number_of 8 r ≡ None → false ≡ is_some (all_of (reply_at fs))
+  unfolding reply_at
+  reply_no_time e = sym (rw (d, e) refl)
+
+  module _ (s : List ℕ) (t : ℕ) (e : number_of 8 r ≡ Some (t, s)) where
+    pub reply_no_mode : mode_at s ≡ None → false ≡ is_some (all_of (reply_at fs))
+    unfolding reply_at
+    reply_no_mode f = sym (rw (d, e, f) refl)
+
+    module _ (u : List ℕ) (m : Mode) (f : mode_at s ≡ Some (m, u)) where
+      pub reply_no_number : number_of 8 u ≡ None → false ≡ is_some (all_of (reply_at fs))
+      unfolding reply_at
+      reply_no_number g = sym (rw (d, e, f, g) refl)
+
+      pub reply_whole : AreBytes fs → (answer : List ℕ) (n : ℕ) (b : Bool) → number_of 8 u ≡ Some (n, answer) → (b ≡ true) ↔ ((o : Outcome) × SpellsOutcome answer o) → b ≡ is_some (all_of (reply_at fs))
+      unfolding reply_at
+      reply_whole h answer n b g law =
+          let c = client_reads.found fs r client h d in
+          let v = number_8_reads.found r s t c.0.bytes e in
+          let w = mode_reads.found s u m v.0.bytes f in
+          let x = number_8_reads.found u answer n w.0.bytes g in
+          whole_test IsOutcome outcome_spelling outcome_at outcome_reads answer b x.0.bytes law ∙ sym (rw (d, e, f, g) (cases (outcome_at answer)))
+        where
+          ended : (o : Outcome) (rest : List ℕ) → is_some (all_of (Some (reply client t m n o, rest))) ≡ is_some (all_of (Some (o, rest)))
+          ended o [] = refl
+          ended o (y ∷ ys) = refl
+
+          cases : (o : Option (Outcome × List ℕ)) → is_some (all_of (replied (behind client (behind t (behind m (behind n o)))))) ≡ is_some (all_of o)
+          cases None = refl
+          cases (Some y) = ended y.0 y.1
+
+pub page_uncounted : (fs : List ℕ) → number_of 8 fs ≡ None → false ≡ is_some (all_of (page_at fs))
+unfolding page_at
+page_uncounted fs e = sym (rw e refl)
+
+pub page_unplaced : (fs rest : List ℕ) (n : ℕ) → number_of 8 fs ≡ Some (n, rest) → number_of 2 rest ≡ None → false ≡ is_some (all_of (page_at fs))
+unfolding page_at
+page_unplaced fs rest n e f = sym (rw (e, f) refl)
+
+pub page_whole : (fs rest : List ℕ) (n i : ℕ) (text : List ℕ) → number_of 8 fs ≡ Some (n, rest) → number_of 2 rest ≡ Some (i, text) → leb i 1023 ≡ is_some (all_of (page_at fs))
+unfolding page_at
+page_whole fs rest n i text e f = sym (rw (e, f) (cases (leb i 1023)))
+  where
+    placed : Option (ℕ × List ℕ) → Option ((ℕ × ℕ) × List ℕ)
+    placed o = o >>= λ y. Some ((n, y.0), y.1)
+
+    cases : (b : Bool) → is_some (all_of (placed (if_it b (i, text)) >>= λ p. Some (page p.0.0 p.0.1 p.1, []))) ≡ b
+    cases true = refl
+    cases false = refl
+
+-- ---- lists, whatever was read of them
+
+module _ {A : Type 0} (at : Reader A) where
+  pub skip_stops : (n i : ℕ) (bs : List ℕ) → i < n → at bs ≡ None → rest_of (more_at at anyhow (n - i) [] bs) ≡ None
+  skip_stops n i bs p e = let s : n - i ≡ suc (n - (i + 1)) = omega arith in rw s (rw e refl)
+
+  pub skip_ended : (n i : ℕ) (bs : List ℕ) → n ≤ i → rest_of (more_at at anyhow (n - i) [] bs) ≡ Some bs
+  skip_ended n i bs p = let s : n - i ≡ 0 = omega arith in rw s refl
+
+pub digests_are : (n : ℕ) (bs : List ℕ) → digests_at n bs ≡ more_at digest_at anyhow n [] bs
+unfolding digests_at
+digests_are n bs = refl
+
+pub batches_uncounted : (bs : List ℕ) → byte_at bs ≡ None → batches_at bs ≡ None
+unfolding batches_at
+batches_uncounted bs e = rw e refl
+
+pub batches_many : (bs front : List ℕ) (n : ℕ) → byte_at bs ≡ Some (n, front) → 32 < n → batches_at bs ≡ None
+unfolding batches_at
+batches_many bs front n e p = let l : leb n 32 ≡ false = lt-leb n 32 p in rw (e, l) refl
+
+-- ---- view changes that are too long, of which only the last is known
+
+follows_end : {A : Type 0} (before : A → A → Bool) (xs : List A) (x y : A) → follows before (xs ++ x ∷ []) y ≡ before x y
+follows_end before [] x y = refl
+follows_end before (w ∷ []) x y = refl
+follows_end before (w ∷ v ∷ ws) x y = follows_end before (v ∷ ws) x y
+
+of_some_same : (f g : List ℕ × List ℕ → Bool) → ((y : List ℕ × List ℕ) → f y ≡ g y) → (o : Option (List ℕ × List ℕ)) → of_some f o ≡ of_some g o
+of_some_same f g h None = refl
+of_some_same f g h (Some y) = h y
+
+abbrev next_in : ℕ → List (List ℕ) → List ℕ × List ℕ → Bool
+next_in n xs y = follows sender_before xs y.0 && over_in n (xs ++ y.0 ∷ []) y.1
+
+next_same : (n : ℕ) (xs ys : List (List ℕ)) (x : List ℕ) → ((xs ys : List (List ℕ)) (x bs : List ℕ) → over_in n (xs ++ x ∷ []) bs ≡ over_in n (ys ++ x ∷ []) bs)
+    → (y : List ℕ × List ℕ) → next_in n (xs ++ x ∷ []) y ≡ next_in n (ys ++ x ∷ []) y
+next_same n xs ys x h y =
+    ap (λ b. b && over_in n ((xs ++ x ∷ []) ++ y.0 ∷ []) y.1) (follows_end sender_before xs x y.0 ∙ sym (follows_end sender_before ys x y.0))
+    ∙ ap (λ b. follows sender_before (ys ++ x ∷ []) y.0 && b) (h (xs ++ x ∷ []) (ys ++ x ∷ []) y.0 y.1)
+
+over_last : (n : ℕ) (xs ys : List (List ℕ)) (x bs : List ℕ) → over_in n (xs ++ x ∷ []) bs ≡ over_in n (ys ++ x ∷ []) bs
+over_last zero xs ys x bs = refl
+over_last (suc n) xs ys x bs =
+    ap (λ b. cond (is_over bs) true b) (of_some_same (next_in n (xs ++ x ∷ [])) (next_in n (ys ++ x ∷ [])) (next_same n xs ys x (over_last n)) (passing is_change piece_at bs))
+
+module _ (n i : ℕ) (xs : List (List ℕ)) (bs : List ℕ) (l : i < n) where
+  turn : over_in (n - i) xs bs ≡ cond (is_over bs) true (of_some (λ x. follows sender_before xs x.0 && over_in (n - (i + 1)) (xs ++ x.0 ∷ []) x.1) (passing is_change piece_at bs))
+  turn = let s : n - i ≡ suc (n - (i + 1)) = omega arith in ap (λ k. over_in k xs bs) s
+
+  pub over_here : is_over bs ≡ true → over_in (n - i) xs bs ≡ true
+  over_here e = turn ∙ rw e refl
+
+  pub no_change : is_over bs ≡ false → passing is_change piece_at bs ≡ None → over_in (n - i) xs bs ≡ false
+  no_change e f = turn ∙ rw (e, f) refl
+
+  module _ (x after : List ℕ) (e : is_over bs ≡ false) (f : passing is_change piece_at bs ≡ Some (x, after)) where
+    pub disorder : follows sender_before xs x ≡ false → over_in (n - i) xs bs ≡ false
+    disorder g = turn ∙ rw (e, f, g) refl
+
+    pub over_goes_on : follows sender_before xs x ≡ true → over_in (n - (i + 1)) (x ∷ []) after ≡ over_in (n - i) xs bs
+    over_goes_on g = over_last (n - (i + 1)) [] xs x after ∙ sym (turn ∙ rw (e, f, g) refl)
+
+pub over_done : (n i : ℕ) (xs : List (List ℕ)) (bs : List ℕ) → n ≤ i → over_in (n - i) xs bs ≡ false
+over_done n i xs bs l = let s : n - i ≡ 0 = omega arith in rw s refl
+
+-- ---- the header
+
+pub from_sender : (s u : ℕ) (b : Bool) (t : List ℕ) (p : ProofData) → u ≡ s
+    → ◌≡◌ {A = Option HeaderData} (Some (record { sender = s; is_request = b; text = t; proof = p })) (Some (record { sender = u; is_request = b; text = t; proof = p }))
+from_sender s u b t p e = ap (λ n. made n b t p) (sym e)
+  where
+    made : ℕ → Bool → List ℕ → ProofData → Option HeaderData
+    made n b t p = Some (record { sender = n; is_request = b; text = t; proof = p })
+
+type_asks : (m : MessageData) → asks m ≡ eqb (message_type m) 0x41
+type_asks (request timestamp mode operation) = refl
+type_asks (pre_prepare view number batch) = refl
+type_asks (prepare view number digest) = refl
+type_asks (commit view number digest) = refl
+type_asks (checkpoint number root) = refl
+type_asks (view_change c) = refl
+type_asks (new_view n) = refl
+type_asks (reply client timestamp kind number outcome) = refl
+type_asks (fetch number level index) = refl
+type_asks (meta number level index digests) = refl
+type_asks (page number index text) = refl
+
+type_signed : (m : MessageData) → is_signed m ≡ (eqb (message_type m) 0x46 || eqb (message_type m) 0x47)
+type_signed (request timestamp mode operation) = refl
+type_signed (pre_prepare view number batch) = refl
+type_signed (prepare view number digest) = refl
+type_signed (commit view number digest) = refl
+type_signed (checkpoint number root) = refl
+type_signed (view_change c) = refl
+type_signed (new_view n) = refl
+type_signed (reply client timestamp kind number outcome) = refl
+type_signed (fetch number level index) = refl
+type_signed (meta number level index digests) = refl
+type_signed (page number index text) = refl
+
+abbrev none_of : (bs : List ℕ) → frame_read bs ≡ None → option_map header_of (frame_read bs) ≡ None
+none_of bs e = ap (option_map header_of) e
+
+pub no_text : (bs : List ℕ) → piece_at bs ≡ None → option_map header_of (frame_read bs) ≡ None
+no_text bs e = none_of bs (no_piece bs e)
+
+module _ (bs text proof : List ℕ) (e : piece_at bs ≡ Some (text, proof)) where
+  no_body : body_of text ≡ None → option_map header_of (frame_read bs) ≡ None
+  no_body f = none_of bs (body_fails bs text proof bad.Malformed e f)
+
+  pub no_type : byte_at text ≡ None → option_map header_of (frame_read bs) ≡ None
+  unfolding body_of
+  no_type f = no_body (rw f refl)
+
+  module _ (k : ℕ) (behind : List ℕ) (f : byte_at text ≡ Some (k, behind)) where
+    pub no_sender : number_of 2 behind ≡ None → option_map header_of (frame_read bs) ≡ None
+    unfolding body_of
+    no_sender g = no_body (rw (f, g) refl)
+
+    module _ (s : ℕ) (fields : List ℕ) (g : number_of 2 behind ≡ Some (s, fields)) where
+      pub no_message : is_some (message_by k fields) ≡ false → option_map header_of (frame_read bs) ≡ None
+      unfolding body_of
+      no_message m = let none : message_by k fields ≡ None = is_none (message_by k fields) m in no_body (rw (f, g, none) refl)
+
+      module _ (h : AreBytes bs) (m : is_some (message_by k fields) ≡ true) where
+        abbrev message : MessageData
+        message = (some_of (message_by k fields) m).0
+
+        abbrev body : BodyData
+        body = record { sender = s; message = message }
+
+        body_there : body_of text ≡ Some body
+        unfolding body_of
+        body_there = let there : message_by k fields ≡ Some message = (some_of (message_by k fields) m).1 in rw (f, g, there) refl
+
+        text_is : text ≡ body_spelling body
+        text_is = let p = piece_reads.found bs proof text h e in (body_of_found text body p.1.1 body_there).spelled
+
+        type_is : k ≡ message_type message
+        type_is = (parts (sym f ∙ ap byte_at text_is)).0
+
+        signed_is : (eqb k 0x46 || eqb k 0x47) ≡ is_signed message
+        signed_is = ap (λ k. eqb k 0x46 || eqb k 0x47) type_is ∙ sym (type_signed message)
+
+        pub no_proof : proof_of (eqb k 0x46 || eqb k 0x47) proof ≡ None → option_map header_of (frame_read bs) ≡ None
+        no_proof q = none_of bs (proof_fails bs text proof body bad.Malformed e body_there (ap (λ b. proof_of b proof) (sym signed_is) ∙ q))
+
+        pub header_there : (p : ProofData) → length bs ≤ limit_at bs → proof_of (eqb k 0x46 || eqb k 0x47) proof ≡ Some p
+            → option_map header_of (frame_read bs) ≡ Some (record { sender = s; is_request = eqb k 0x41; text = text; proof = p })
+        header_there p short q =
+            let made : ℕ → Bool → List ℕ → ProofData → HeaderData = λ s b t p. record { sender = s; is_request = b; text = t; proof = p } in
+            ap (option_map header_of) (all_there bs text proof body p h short e body_there (ap (λ b. proof_of b proof) (sym signed_is) ∙ q))
+            ∙ ap (λ b. Some (made s b (body_spelling body) p)) (type_asks message ∙ ap (λ k. eqb k 0x41) (sym type_is))
+            ∙ ap (λ t. Some (made s (eqb k 0x41) t p)) (sym text_is)

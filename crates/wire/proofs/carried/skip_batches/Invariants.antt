@@ -1,0 +1,7 @@
+use Rattle.std.proofs.Common.{◌≡◌, ◌-◌, []}
+use Rattle.tuple_codec.specs.Reading.{rest_of}
+use Rattle.wire.specs.Reading.{more_at, anyhow, batch_at}
+use Rattle.wire.proofs.carried.skip_batches.Given as goal
+
+abbrev pub invariant-loop-i : goal.invariant-loop-i
+invariant-loop-i l = rest_of (more_at (batch_at 0) anyhow (l.count - l._i) [] l.rest) ≡ rest_of (more_at (batch_at 0) anyhow l.count [] l.initial.rest)

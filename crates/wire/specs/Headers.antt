@@ -1,0 +1,53 @@
+-- What a frame says of itself before it is read into memory: who sent it, and what proves which text.
+use Rattle.std.specs.Prelude.{◌≡◌, ℕ, Bool, true, false, List}
+use Rattle.terms.specs.Parties.{party_number}
+use Rattle.wire.specs.declared.headers.Header.{Header}
+use Rattle.wire.specs.declared.headers.ProofBytes.{ProofBytes}
+use Rattle.wire.specs.declared.headers.ProofBytes.TheVariants as proof_bytes
+use Rattle.wire.specs.Messages.{MessageData, request, ProofData, macs, signature, FrameData}
+use Rattle.wire.specs.Views.{mac_data}
+use Rattle.wire.specs.Spelling.{body_spelling, SpellsFrame}
+use Rattle.std.specs.Prelude.{map}
+
+pub record HeaderData : Type 0 where
+  pub sender : ℕ
+  pub is_request : Bool
+  pub text : List ℕ
+  pub proof : ProofData
+
+-- whether the message is a request, which clients send
+abbrev pub asks : MessageData → Bool
+asks (request timestamp mode operation) = true
+asks _ = false
+
+abbrev pub header_of : FrameData → HeaderData
+header_of f =
+    record {
+      sender = f.body.sender;
+      is_request = asks f.body.message;
+      text = body_spelling f.body;
+      proof = f.proof;
+    }
+
+-- The bytes spell a frame.
+abbrev pub IsFrame : List ℕ → Type 0
+IsFrame bytes = (frame : FrameData) × SpellsFrame bytes frame
+
+-- They spell one with this header.
+abbrev pub HasHeader : List ℕ → HeaderData → Type 0
+HasHeader bytes header = (frame : FrameData) × SpellsFrame bytes frame × (header ≡ header_of frame)
+
+-- ---- of the program
+
+abbrev pub proof_bytes_data : ProofBytes → ProofData
+proof_bytes_data (proof_bytes.Macs ms) = macs (map mac_data ms.items)
+proof_bytes_data (proof_bytes.Signature s) = signature s.now
+
+abbrev pub header_data : Header → HeaderData
+header_data h =
+    record {
+      sender = party_number h.sender;
+      is_request = h.is_request;
+      text = h.text.now;
+      proof = proof_bytes_data h.proof;
+    }
