@@ -3,7 +3,7 @@ use Rattle.std.proofs.Common.{◌≡◌, ℕ, ◌-◌, ◌≤◌, List, [], ◌+
 use Rattle.std.proofs.lemmas.List.{take_at, take-append-drop, length-drop}
 use Rattle.tuple_tree.specs.Values.{AreBytes, IsDatum, IsSlot, datum_length, slot_length, IsTuple, IsTemplate}
 use Rattle.tuple_codec.specs.Reading.{Reader, datum_at, slot_at, tuple_at, template_at}
-use Rattle.tuple_codec.specs.Spelling.{Spells, datum_spelling, slot_spelling, tuple_spelling, template_spelling}
+use Rattle.tuple_codec.specs.Spelling.{Spells, FrontSpells, datum_spelling, slot_spelling, tuple_spelling, template_spelling}
 use Rattle.tuple_codec.specs.Gives.{Fails}
 use Rattle.tuple_codec.specs.declared.bad.Bad.{Bad}
 use Rattle.tuple_codec.specs.declared.bad.Bad.TheVariants as bad
@@ -24,6 +24,10 @@ module _ {V : Type 0} (IsValue : V → Type 0) (spelling : V → List ℕ) (at :
       let f = reads.found bs rest v h e in
       let n : length (spelling v) ≡ length bs - length rest = omega (arith, ap length f.0.whole, length-append (spelling v) rest) in
       record { valid = f.1; spelled = ap (take (length bs - length rest)) f.0.whole ∙ take_at (spelling v) rest (length bs - length rest) n }
+
+  -- what is read stands at the front
+  pub front : (bs rest : List ℕ) (v : V) → AreBytes bs → at bs ≡ Some (v, rest) → FrontSpells IsValue spelling bs
+  front bs rest v h e = (v, length bs - length rest, omega arith, spelled bs rest v h e)
 
   -- where the first k bytes are spelled so, that is what is read
   pub only : (bs : List ℕ) (v : V) (k : ℕ) → Spells IsValue spelling (take k bs) v → at bs ≡ Some (v, drop k bs)

@@ -8,3 +8,4 @@ pub mod Grammar
 pub mod OperationLaws
 pub mod Skipping
 pub mod Putting
+pub mod Several

@@ -6,10 +6,11 @@ use Rattle.tuple_tree.specs.Items.{Item, leaf, inner, none, with_last}
 use Rattle.tuple_tree.specs.Values.{AreBytes}
 use Rattle.tuple_codec.specs.Operations.{cas}
 use Rattle.tuple_codec.specs.Reading.{◌>>=◌, Reader, read_as, rest_of, more, byte_at, items_with, item_at, items_at, framed, tuple_at, template_at, cas_at, with_tuple, tuples_at}
-use Rattle.tuple_codec.specs.Spelling.{Spells}
+use Rattle.tuple_codec.specs.Spelling.{Spells, FrontSpells}
+use Rattle.tuple_codec.specs.declared.bad.Bad.TheVariants as bad
 use Rattle.tuple_codec.proofs.Readers.{Found}
 use Rattle.tuple_codec.proofs.Steps.{step, frame_read, at_leaf, at_five, inner_below}
-use Rattle.tuple_codec.proofs.Grammar.{Reads, all_spelled, all_read}
+use Rattle.tuple_codec.proofs.Grammar.{Reads, front, only_err, all_spelled, all_read}
 
 pub rest_some : {A : Type 0} (o : Option (A × List ℕ)) (rest : List ℕ) → rest_of o ≡ Some rest → (x : A) × (o ≡ Some (x, rest))
 rest_some None rest e = absurd (let g : ⊥ = cc in g)
@@ -83,6 +84,14 @@ skip_both bs after e =
 pub skip_both_fails : (bs : List ℕ) → rest_of (template_at bs) ≡ None → rest_of (cas_at bs) ≡ None
 unfolding cas_at
 skip_both_fails bs e = ap (λ o. rest_of (o >>= λ p. read_as (cas p.0) tuple_at p.1)) (rest_none (template_at bs) e)
+
+-- What is skipped stands at the front, and where nothing is skipped nothing does.
+module _ {V : Type 0} (IsValue : V → Type 0) (spelling : V → List ℕ) (at : Reader V) (reads : Reads IsValue spelling at) where
+  pub front_there : (bs rest : List ℕ) → AreBytes bs → rest_of (at bs) ≡ Some rest → FrontSpells IsValue spelling bs
+  front_there bs rest h e = let x = rest_some (at bs) rest e in front IsValue spelling at reads bs rest x.0 h x.1
+
+  pub front_none : (bs : List ℕ) (v : V) (k : ℕ) → rest_of (at bs) ≡ None → Spells IsValue spelling (take k bs) v → bad.Malformed ≡ bad.NoMemory
+  front_none bs v k h s = only_err IsValue spelling at reads bs bad.Malformed v k (rest_none (at bs) h) s
 
 nil : (xs : List ℕ) → length xs ≡ 0 → xs ≡ []
 nil [] e = refl

@@ -1,6 +1,6 @@
 -- The bytes of tuples, templates, operations and outcomes. Each value has one spelling: a count and then the items of
 -- a list, each item behind its tag. Numbers are big-endian.
-use Rattle.std.specs.Prelude.{◌≡◌, ℕ, Bool, true, false, List, [], ◌∷◌, ◌++◌, length}
+use Rattle.std.specs.Prelude.{◌≡◌, ℕ, ◌≤◌, Bool, true, false, List, [], ◌∷◌, ◌++◌, length, take}
 use Rattle.std.specs.Int.{w16, w64, to_be_bytes, cast_unsigned}
 use Rattle.tuple_tree.specs.Items.{Item, leaf, inner, Items, none, item, how_many}
 use Rattle.tuple_tree.specs.Values.{Datum, number, text, bytes, truth, Slot, actual, any, formal, TupleTree, TemplateTree, IsTuple, IsTemplate}
@@ -92,3 +92,20 @@ SpellsOperation bs o = Spells IsOperation operation_spelling bs o
 
 abbrev pub SpellsOutcome : List ℕ → Outcome → Type 0
 SpellsOutcome bs r = Spells IsOutcome outcome_spelling bs r
+
+-- Some front of the bytes spells a value, within the limits: there are a value and a length, not beyond the bytes, so
+-- that the first bytes, so many of them, spell the value.
+abbrev pub FrontSpells : {V : Type 0} → (V → Type 0) → (V → List ℕ) → List ℕ → Type 0
+FrontSpells {V = V} IsValue spelling bs = (v : V) × (k : ℕ) × (k ≤ length bs) × Spells IsValue spelling (take k bs) v
+
+abbrev pub FrontSpellsTuple : List ℕ → Type 0
+FrontSpellsTuple bs = FrontSpells IsTuple tuple_spelling bs
+
+abbrev pub FrontSpellsTemplate : List ℕ → Type 0
+FrontSpellsTemplate bs = FrontSpells IsTemplate template_spelling bs
+
+abbrev pub FrontSpellsOperation : List ℕ → Type 0
+FrontSpellsOperation bs = FrontSpells IsOperation operation_spelling bs
+
+abbrev pub FrontSpellsOutcome : List ℕ → Type 0
+FrontSpellsOutcome bs = FrontSpells IsOutcome outcome_spelling bs

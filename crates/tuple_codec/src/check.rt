@@ -1,4 +1,4 @@
-//! Whether bytes spell an operation or an answer. Nothing here takes memory.
+//! Whether bytes spell a tuple, a template, an operation or an answer. Nothing here takes memory.
 
 ghost use Rattle.std.specs.Prelude.{◌≡◌, ◌+◌, ◌*◌, ◌≤◌, length, IsTrue, ◌↔◌};
 ghost use Rattle.tuple_codec.specs.Operations.{Operation, Outcome};
@@ -32,7 +32,7 @@ pub fn is_result(bytes: &[u8]) -> bool
 
 // Each of these gives the bytes behind what stands at the front.
 #[tactic(auto, unfolding(crate::specs::Reading::operation_at))]
-fn skip_op(bytes: &[u8]) -> Option<&[u8]>
+pub fn skip_op(bytes: &[u8]) -> Option<&[u8]>
     ensures { Yields (λ rest. rest.now) result (rest_of (operation_at bytes.now)) }
 {
     let (tag, rest) = read_byte(bytes)?;
@@ -74,7 +74,7 @@ fn skip_rd_all(bytes: &[u8]) -> Option<&[u8]>
 }
 
 #[tactic(auto, unfolding(crate::specs::Reading::outcome_at))]
-fn skip_answer(bytes: &[u8]) -> Option<&[u8]>
+pub fn skip_answer(bytes: &[u8]) -> Option<&[u8]>
     ensures { Yields (λ rest. rest.now) result (rest_of (outcome_at bytes.now)) }
 {
     let (tag, rest) = read_byte(bytes)?;
@@ -115,7 +115,7 @@ fn skip_tuples(bytes: &[u8]) -> Option<&[u8]>
     Some(rest)
 }
 
-fn skip_tuple(bytes: &[u8]) -> Option<&[u8]>
+pub fn skip_tuple(bytes: &[u8]) -> Option<&[u8]>
     ensures { Yields (λ rest. rest.now) result (rest_of (tuple_at bytes.now)) }
 {
     let front = frame(bytes);
@@ -125,7 +125,7 @@ fn skip_tuple(bytes: &[u8]) -> Option<&[u8]>
     }
 }
 
-fn skip_template(bytes: &[u8]) -> Option<&[u8]>
+pub fn skip_template(bytes: &[u8]) -> Option<&[u8]>
     ensures { Yields (λ rest. rest.now) result (rest_of (template_at bytes.now)) }
 {
     let front = frame(bytes);

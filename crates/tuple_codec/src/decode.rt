@@ -1,6 +1,6 @@
 //! From bytes to tuples and templates.
 
-ghost use Rattle.std.specs.Prelude.{◌≡◌, ◌+◌, ◌*◌, ◌≤◌, length, take, ℕ, IfOk, MatchResult, OnOk};
+ghost use Rattle.std.specs.Prelude.{◌≡◌, ◌+◌, ◌*◌, ◌≤◌, length, take, ℕ, IfOk, IfErr, MatchResult, OnOk};
 ghost use Rattle.std.specs.Int.{w64, cast_signed};
 ghost use Rattle.tuple_tree.specs.Items.{leaf, with_last};
 ghost use Rattle.tuple_tree.specs.Values.{actual, text, bytes as byte_string, TupleTree, TemplateTree, IsTuple, IsTemplate};
@@ -8,10 +8,11 @@ ghost use Rattle.tuple_tree.specs.AtomView.{datum_of};
 ghost use Rattle.tuple_tree.specs.TupleView.{value_of};
 ghost use Rattle.tuple_tree.specs.TemplateView.{field_of};
 ghost use Rattle.tuple_codec.specs.Gives.{Gives};
-ghost use Rattle.tuple_codec.specs.Spelling.{SpellsTuple, SpellsTemplate};
+ghost use Rattle.tuple_codec.specs.Spelling.{SpellsTuple, SpellsTemplate, FrontSpellsTuple, FrontSpellsTemplate};
 ghost use Rattle.tuple_codec.specs.Reading.{read_as, byte_at, datum_at, slot_at, item_at, items_at, tuple_at, template_at};
 
 use crate::bad::Bad;
+use crate::check::{skip_template, skip_tuple};
 use crate::reading::{behind, frame, read_byte, read_flag, read_number, read_string, read_text};
 use std::alloc::Allocator;
 use terms::NoMemory;
@@ -28,7 +29,13 @@ pub fn decode_tuple<A: Allocator + Clone>(alloc: A, bytes: &[u8]) -> Result<(Tup
 
     // What is spelled so is read, unless memory runs out.
     ensures only { (t : TupleTree) (k : ℕ) → k ≤ length bytes.now → SpellsTuple (take k bytes.now) t → MatchResult result (λ x. (x.0 ≡ t) × (x.1 ≡ k)) (λ e. e ≡ Bad.NoMemory) }
+
+    // Memory runs out only where some front of the bytes is spelled so.
+    ensures memory { IfErr result (λ bad. bad ≡ Bad.NoMemory → FrontSpellsTuple bytes.now) }
 {
+    let Some(_) = skip_tuple(bytes) else {
+        return Err(Bad::Malformed);
+    };
     match read_tuple(&alloc, bytes) {
         Ok((tuple, rest)) => Ok((tuple, bytes.len() - rest.len())),
         Err(bad) => Err(bad),
@@ -49,7 +56,13 @@ pub fn decode_template<A: Allocator + Clone>(
 
     // What is spelled so is read, unless memory runs out.
     ensures only { (p : TemplateTree) (k : ℕ) → k ≤ length bytes.now → SpellsTemplate (take k bytes.now) p → MatchResult result (λ x. (x.0 ≡ p) × (x.1 ≡ k)) (λ e. e ≡ Bad.NoMemory) }
+
+    // Memory runs out only where some front of the bytes is spelled so.
+    ensures memory { IfErr result (λ bad. bad ≡ Bad.NoMemory → FrontSpellsTemplate bytes.now) }
 {
+    let Some(_) = skip_template(bytes) else {
+        return Err(Bad::Malformed);
+    };
     match read_template(&alloc, bytes) {
         Ok((template, rest)) => Ok((template, bytes.len() - rest.len())),
         Err(bad) => Err(bad),

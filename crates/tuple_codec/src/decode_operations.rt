@@ -1,13 +1,14 @@
 //! From bytes to operations and answers.
 
-ghost use Rattle.std.specs.Prelude.{◌≡◌, ◌≢◌, ◌+◌, ◌<◌, ◌≤◌, length, take, ℕ, IfOk, MatchResult, OnOk};
+ghost use Rattle.std.specs.Prelude.{◌≡◌, ◌≢◌, ◌+◌, ◌<◌, ◌≤◌, length, take, ℕ, IfOk, IfErr, MatchResult, OnOk};
 ghost use Rattle.tuple_codec.specs.Operations.{Operation, out, rdp, inp, Outcome, found as found_one, swapped as was_swapped, all};
 ghost use Rattle.tuple_codec.specs.OperationView.{operation_of, outcome_of};
 ghost use Rattle.tuple_codec.specs.Gives.{Gives};
-ghost use Rattle.tuple_codec.specs.Spelling.{SpellsOperation, SpellsOutcome};
+ghost use Rattle.tuple_codec.specs.Spelling.{SpellsOperation, SpellsOutcome, FrontSpellsOperation, FrontSpellsOutcome};
 ghost use Rattle.tuple_codec.specs.Reading.{read_as, tuple_at, template_at, flag_at, cas_at, rd_all_at, operation_behind, operation_at, tuples_at, outcome_behind, outcome_at, with_tuple};
 
 use crate::bad::Bad;
+use crate::check::{skip_answer, skip_op};
 use crate::decode::{next_byte, read_template, read_tuple};
 use crate::operations::{Answer, MAX_ANSWERS, Max, Op, Tuples};
 use crate::reading::read_flag;
@@ -27,7 +28,13 @@ pub fn decode_op<A: Allocator + Clone>(alloc: A, bytes: &[u8]) -> Result<(Op<A>,
 
     // What is spelled so is read, unless memory runs out.
     ensures only { (o : Operation) (k : ℕ) → k ≤ length bytes.now → SpellsOperation (take k bytes.now) o → MatchResult result (λ x. (operation_of x.0 ≡ o) × (x.1 ≡ k)) (λ e. e ≡ Bad.NoMemory) }
+
+    // Memory runs out only where some front of the bytes is spelled so.
+    ensures memory { IfErr result (λ bad. bad ≡ Bad.NoMemory → FrontSpellsOperation bytes.now) }
 {
+    let Some(_) = skip_op(bytes) else {
+        return Err(Bad::Malformed);
+    };
     match read_op(&alloc, bytes) {
         Ok((op, rest)) => Ok((op, bytes.len() - rest.len())),
         Err(bad) => Err(bad),
@@ -48,7 +55,13 @@ pub fn decode_result<A: Allocator + Clone>(
 
     // What is spelled so is read, unless memory runs out.
     ensures only { (r : Outcome) (k : ℕ) → k ≤ length bytes.now → SpellsOutcome (take k bytes.now) r → MatchResult result (λ x. (outcome_of x.0 ≡ r) × (x.1 ≡ k)) (λ e. e ≡ Bad.NoMemory) }
+
+    // Memory runs out only where some front of the bytes is spelled so.
+    ensures memory { IfErr result (λ bad. bad ≡ Bad.NoMemory → FrontSpellsOutcome bytes.now) }
 {
+    let Some(_) = skip_answer(bytes) else {
+        return Err(Bad::Malformed);
+    };
     match read_answer(&alloc, bytes) {
         Ok((answer, rest)) => Ok((answer, bytes.len() - rest.len())),
         Err(bad) => Err(bad),

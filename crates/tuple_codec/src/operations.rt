@@ -1,10 +1,12 @@
 //! Operations on a tuple space and their answers (Bessani and others, DepSpace, EuroSys 2008, section 3).
 
-ghost use Rattle.std.specs.Prelude.{◌≡◌, ◌+◌, ◌<◌, ◌≤◌, [], ◌∷◌, ◌++◌, length, map, OnOk, OnErr, IfErr, SomeIff, IsSome, IfSome, ◌↔◌};
+ghost use Rattle.std.specs.Prelude.{◌≡◌, ◌+◌, ◌<◌, ◌≤◌, [], ◌∷◌, ◌++◌, length, map, OnOk, OnErr, IfOk, IfErr, SomeIff, IsSome, IfSome, ◌↔◌};
+ghost use Rattle.tuple_tree.specs.Values.{IsTuple, IsTemplate};
 ghost use Rattle.tuple_codec.specs.Operations.{AreTuples};
 
 use std::alloc::{AllocFailed, Allocator};
 use std::marker::Model;
+use terms::NoMemory;
 use tuple_tree::{Template, Tuple};
 
 /// How many tuples one answer has at the most.
@@ -86,6 +88,28 @@ impl<A: Allocator> Tuples<A> {
     {
         self.tuples.push(tuple)
     }
+
+    /// Equal tuples under another allocator.
+    pub fn copy_in<B: Allocator + Clone>(&self, alloc: B) -> Result<Tuples<B>, NoMemory>
+        ensures { IfOk result (λ copies. copies ≡ self.now) }
+    {
+        let tuples = copy_tuples(self.tuples.as_slice(), &alloc)?;
+        Ok(Tuples { tuples })
+    }
+}
+
+fn copy_tuples<A: Allocator, B: Allocator + Clone>(
+    tuples: &[Tuple<A>],
+    alloc: &B,
+) -> Result<Vec<Tuple<B>, B>, NoMemory>
+    ensures { IfOk result (λ copies. copies.items ≡ tuples.now) }
+{
+    let mut copies = Vec::with_capacity(alloc.clone()?, tuples.len())?;
+    for tuple in tuples {
+        let copy = tuple.copy_in(alloc.clone()?)?;
+        copies.push(copy)?;
+    }
+    Ok(copies)
 }
 
 /// An operation on a tuple space.
@@ -103,6 +127,31 @@ pub enum Op<A: Allocator> {
     RdAll(Max, Template<A>),
 }
 
+impl<A: Allocator> Op<A> {
+    ghost use Rattle.tuple_codec.specs.Operations.{IsOperation};
+    ghost use Rattle.tuple_codec.specs.OperationView.{operation_of};
+
+    /// Each operation that the program holds is within the limits. Does nothing, and takes no memory: it is called
+    /// where a proof needs the fact.
+    pub fn note_valid(&self)
+        ensures { IsOperation (operation_of self.now) }
+    {
+        match self {
+            Op::Out(tuple) => note_tuple(tuple),
+            Op::Rdp(template) => note_template(template),
+            Op::Inp(template) => note_template(template),
+            Op::Cas(template, tuple) => {
+                note_template(template);
+                note_tuple(tuple);
+            }
+            Op::RdAll(max, template) => {
+                let _max = *max;
+                note_template(template);
+            }
+        }
+    }
+}
+
 /// What an operation answers.
 #[derive(Drop)]
 pub enum Answer<A: Allocator> {
@@ -115,4 +164,58 @@ pub enum Answer<A: Allocator> {
     Full,
     /// The space doesn't know the operation.
     Refused,
+}
+
+impl<A: Allocator> Answer<A> {
+    ghost use Rattle.std.specs.Prelude.{◌≡◌, IfOk};
+    ghost use Rattle.tuple_codec.specs.Operations.{IsOutcome};
+    ghost use Rattle.tuple_codec.specs.OperationView.{outcome_of};
+
+    /// An equal answer under another allocator.
+    pub fn copy_in<B: Allocator + Clone>(&self, alloc: B) -> Result<Answer<B>, NoMemory>
+        ensures { IfOk result (λ copy. outcome_of copy ≡ outcome_of self.now) }
+    {
+        match self {
+            Answer::Done => Ok(Answer::Done),
+            Answer::Found(tuple) => Ok(Answer::Found(tuple.copy_in(alloc)?)),
+            Answer::Absent => Ok(Answer::Absent),
+            Answer::Swapped(swapped) => Ok(Answer::Swapped(*swapped)),
+            Answer::All(tuples) => Ok(Answer::All(tuples.copy_in(alloc)?)),
+            Answer::Full => Ok(Answer::Full),
+            Answer::Refused => Ok(Answer::Refused),
+        }
+    }
+
+    /// Each answer that the program holds is within the limits. Does nothing, and takes no memory: it is called where
+    /// a proof needs the fact.
+    pub fn note_valid(&self)
+        ensures { IsOutcome (outcome_of self.now) }
+    {
+        match self {
+            Answer::Found(tuple) => note_tuple(tuple),
+            Answer::All(tuples) => note_tuples(tuples.as_slice()),
+            Answer::Done | Answer::Absent | Answer::Swapped(_) | Answer::Full | Answer::Refused =>
+                {}
+        }
+    }
+}
+
+fn note_tuples<A: Allocator>(tuples: &[Tuple<A>])
+    ensures { AreTuples tuples.now }
+{
+    for tuple in tuples {
+        note_tuple(tuple);
+    }
+}
+
+fn note_tuple<A: Allocator>(tuple: &Tuple<A>)
+    ensures { IsTuple tuple.now }
+{
+    let _depth = tuple.depth();
+}
+
+fn note_template<A: Allocator>(template: &Template<A>)
+    ensures { IsTemplate template.now }
+{
+    let _depth = template.depth();
 }

@@ -131,7 +131,8 @@ fn op<A: Allocator + Clone>(alloc: A, bytes: &[u8]) -> Result<bool, Bad> {
 
 fn answer<A: Allocator + Clone>(alloc: A, bytes: &[u8]) -> Result<bool, Bad> {
     let (answer, len) = decode_result(alloc.clone()?, bytes)?;
+    let copy = answer.copy_in(alloc.clone()?)?;
     let mut out = Vec::from_elem(alloc, 9u8, 1)?;
-    let encoded = encode_result(&answer, &mut out);
+    let encoded = encode_result(&copy, &mut out);
     Ok(spelled(encoded, &out, bytes)? && len == bytes.len())
 }

@@ -5,6 +5,7 @@ use Rattle.tuple_codec.proofs.OperationLaws.{operation_reads}
 use Rattle.tuple_codec.specs.Spelling.{operation_spelling}
 use Rattle.tuple_codec.specs.Reading.{operation_at}
 use Rattle.tuple_codec.proofs.Grammar.{shorter, spelled, only_ok, only_err}
+use Rattle.tuple_codec.proofs.Skipping.{front_there, front_none}
 use Rattle.tuple_codec.proofs.decode_operations.decode_op.Goals as goal
 
 pub overflow_sub-result : goal.overflow_sub-result
@@ -18,3 +19,9 @@ returns-in-Ok-clause-only g c t k p s = only_ok IsOperation operation_spelling o
 
 pub returns-clause-only : goal.returns-clause-only
 returns-clause-only g c t k p s = only_err IsOperation operation_spelling operation_at operation_reads c.args.bytes.now c.in-Err.bad t k c.in-Err.ensures s
+
+pub returns-in_default-clause-only : goal.returns-in_default-clause-only
+returns-in_default-clause-only g c t k p s = front_none IsOperation operation_spelling operation_at operation_reads c.args.bytes.now t k c.in_default.ensures s
+
+pub returns-clause-memory : goal.returns-clause-memory
+returns-clause-memory g c e = front_there IsOperation operation_spelling operation_at operation_reads c.args.bytes.now _ (λ i. omega (arith, c.type_inv.bytes i)) c.in-Some.ensures

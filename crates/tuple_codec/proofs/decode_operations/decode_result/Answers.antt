@@ -5,6 +5,7 @@ use Rattle.tuple_codec.proofs.OperationLaws.{outcome_reads}
 use Rattle.tuple_codec.specs.Spelling.{outcome_spelling}
 use Rattle.tuple_codec.specs.Reading.{outcome_at}
 use Rattle.tuple_codec.proofs.Grammar.{shorter, spelled, only_ok, only_err}
+use Rattle.tuple_codec.proofs.Skipping.{front_there, front_none}
 use Rattle.tuple_codec.proofs.decode_operations.decode_result.Goals as goal
 
 pub overflow_sub-result : goal.overflow_sub-result
@@ -18,3 +19,9 @@ returns-in-Ok-clause-only g c t k p s = only_ok IsOutcome outcome_spelling outco
 
 pub returns-clause-only : goal.returns-clause-only
 returns-clause-only g c t k p s = only_err IsOutcome outcome_spelling outcome_at outcome_reads c.args.bytes.now c.in-Err.bad t k c.in-Err.ensures s
+
+pub returns-in_default-clause-only : goal.returns-in_default-clause-only
+returns-in_default-clause-only g c t k p s = front_none IsOutcome outcome_spelling outcome_at outcome_reads c.args.bytes.now t k c.in_default.ensures s
+
+pub returns-clause-memory : goal.returns-clause-memory
+returns-clause-memory g c e = front_there IsOutcome outcome_spelling outcome_at outcome_reads c.args.bytes.now _ (λ i. omega (arith, c.type_inv.bytes i)) c.in-Some.ensures

@@ -1,0 +1,132 @@
+//! Bytes that are whole but for one inner fault. The answer is that they are malformed, with plenty of memory and with
+//! none.
+
+use linked_list_allocator::LocalHeap;
+use std::alloc::Allocator;
+use std::test::Fail;
+use tuple_codec::{Bad, decode_op, decode_result, decode_template, decode_tuple};
+
+#[derive(Clone, Copy)]
+enum Sort {
+    Tuple,
+    Template,
+    Op,
+    Answer,
+}
+
+type Row<'a> = (Sort, &'a [u8]);
+
+// As many bytes as the counts in them ask for, and one of them wrong.
+const FAULTS: [Row<'static>; 20] = [
+    // a ninth level
+    (
+        Sort::Tuple,
+        b"\x01\x05\x01\x05\x01\x05\x01\x05\x01\x05\x01\x05\x01\x05\x01\x05\x00",
+    ),
+    (
+        Sort::Template,
+        b"\x01\x05\x01\x05\x01\x05\x01\x05\x01\x05\x01\x05\x01\x05\x01\x05\x00",
+    ),
+    (
+        Sort::Op,
+        b"\x21\x01\x05\x01\x05\x01\x05\x01\x05\x01\x05\x01\x05\x01\x05\x01\x05\x00",
+    ),
+    (
+        Sort::Answer,
+        b"\x32\x01\x05\x01\x05\x01\x05\x01\x05\x01\x05\x01\x05\x01\x05\x01\x05\x00",
+    ),
+    // 33 values, in a tuple in a tuple
+    (Sort::Tuple, NESTED_33),
+    // 33 fields
+    (Sort::Template, FIELDS_33),
+    // an rdAll of 65 tuples, and of none
+    (Sort::Op, b"\x25\x41\x01\x10"),
+    (Sort::Op, b"\x25\x00\x01\x10"),
+    // an answer of 65 tuples
+    (Sort::Answer, TUPLES_65),
+    // a truth value of 02, behind a text and a number
+    (Sort::Tuple, b"\x02\x02\x00\x01k\x04\x02"),
+    (
+        Sort::Template,
+        b"\x02\x01\x00\x00\x00\x00\x00\x00\x00\x01\x04\x02",
+    ),
+    (Sort::Op, b"\x24\x01\x12\x02\x02\x00\x01k\x04\x02"),
+    (Sort::Answer, b"\x34\x02"),
+    // a text that isn't UTF-8, behind a text that is
+    (Sort::Tuple, b"\x02\x02\x00\x01k\x02\x00\x02\xc3\x28"),
+    (Sort::Op, b"\x23\x02\x02\x00\x01k\x02\x00\x01\xff"),
+    (
+        Sort::Answer,
+        b"\x35\x02\x01\x02\x00\x01k\x01\x02\x00\x01\xff",
+    ),
+    // an unknown tag
+    (Sort::Tuple, b"\x02\x02\x00\x01k\x06"),
+    (Sort::Template, b"\x02\x02\x00\x01k\x16"),
+    (Sort::Op, b"\x26\x01\x02\x00\x01k"),
+    (Sort::Answer, b"\x38"),
+];
+
+// `((true ..))` with 33 truth values.
+const NESTED_33: &[u8] = &[
+    1, 5, 33, 4, 1, 4, 1, 4, 1, 4, 1, 4, 1, 4, 1, 4, 1, 4, 1, 4, 1, 4, 1, 4, 1, 4, 1, 4, 1, 4, 1,
+    4, 1, 4, 1, 4, 1, 4, 1, 4, 1, 4, 1, 4, 1, 4, 1, 4, 1, 4, 1, 4, 1, 4, 1, 4, 1, 4, 1, 4, 1, 4, 1,
+    4, 1, 4, 1, 4, 1,
+];
+
+// `(* ..)` with 33 fields.
+const FIELDS_33: &[u8] = &[
+    33, 0x10, 0x10, 0x10, 0x10, 0x10, 0x10, 0x10, 0x10, 0x10, 0x10, 0x10, 0x10, 0x10, 0x10, 0x10,
+    0x10, 0x10, 0x10, 0x10, 0x10, 0x10, 0x10, 0x10, 0x10, 0x10, 0x10, 0x10, 0x10, 0x10, 0x10, 0x10,
+    0x10, 0x10,
+];
+
+// `all 65 () ..`.
+const TUPLES_65: &[u8] = &[
+    0x35, 65, 0, 0, 0, 0, 0, 0, 0, 0, 0, 0, 0, 0, 0, 0, 0, 0, 0, 0, 0, 0, 0, 0, 0, 0, 0, 0, 0, 0,
+    0, 0, 0, 0, 0, 0, 0, 0, 0, 0, 0, 0, 0, 0, 0, 0, 0, 0, 0, 0, 0, 0, 0, 0, 0, 0, 0, 0, 0, 0, 0, 0,
+    0, 0, 0, 0, 0,
+];
+
+// The same values without a fault.
+const WHOLE: [Row<'static>; 4] = [
+    (
+        Sort::Tuple,
+        b"\x01\x05\x01\x05\x01\x05\x01\x05\x01\x05\x01\x05\x01\x05\x00",
+    ),
+    (Sort::Template, b"\x02\x02\x00\x01k\x15"),
+    (Sort::Op, b"\x24\x01\x12\x02\x02\x00\x01k\x04\x01"),
+    (Sort::Answer, b"\x35\x02\x01\x02\x00\x01k\x01\x02\x00\x01l"),
+];
+
+// Why the bytes aren't read; `None` where they are.
+fn refusal<A: Allocator + Clone>(alloc: A, (sort, bytes): Row<'_>) -> Option<Bad> {
+    match sort {
+        Sort::Tuple => decode_tuple(alloc, bytes).err(),
+        Sort::Template => decode_template(alloc, bytes).err(),
+        Sort::Op => decode_op(alloc, bytes).err(),
+        Sort::Answer => decode_result(alloc, bytes).err(),
+    }
+}
+
+#[test]
+fn inner_faults_with_plenty_of_memory(rt: HostRuntime) {
+    for row in FAULTS {
+        assert_eq!(rt; refusal(rt.alloc(), row), Some(Bad::Malformed));
+    }
+    for row in WHOLE {
+        assert_eq!(rt; refusal(rt.alloc(), row), None);
+    }
+}
+
+// A heap of no bytes refuses whatever it is asked for.
+#[test]
+fn inner_faults_without_memory(rt: HostRuntime) -> Result<(), Fail> {
+    let heap = LocalHeap::new(rt.alloc(), 0)?;
+    for row in FAULTS {
+        assert_eq!(rt; refusal(&heap, row), Some(Bad::Malformed));
+    }
+    for row in WHOLE {
+        assert_eq!(rt; refusal(&heap, row), Some(Bad::NoMemory));
+    }
+    Ok(())
+}
