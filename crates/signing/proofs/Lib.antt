@@ -1,5 +1,4 @@
 pub mod Heard
-pub mod Keeping
 pub mod Joining
 pub mod Nodes
 pub mod Parts
