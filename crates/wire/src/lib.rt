@@ -9,6 +9,7 @@
 //! are only carried here.
 #![tactic(auto)]
 
+mod batches;
 mod bodies;
 mod carried;
 mod changes;
@@ -25,7 +26,9 @@ mod reading;
 mod sealing;
 mod sizes;
 
+pub use batches::{is_ordered_request, requests};
 pub use bodies::encode;
+pub use carried::MAX_REQUESTS;
 pub use decoding::decode;
 pub use fault::WireFault;
 pub use frames::{
