@@ -154,7 +154,12 @@ fn each_receiver_has_its_own_entry(rt: HostRuntime) -> Result<(), Fail> {
     // The last byte of the entry for replica 1.
     frame[96] ^= 1;
     for (replica, expected) in [(0, None), (1, Some(OpenFault::BadMac)), (2, None)] {
-        let fault = refusal(&mut ring, rt.alloc(), &frame, Party::Replica(ReplicaId(replica)));
+        let fault = refusal(
+            &mut ring,
+            rt.alloc(),
+            &frame,
+            Party::Replica(ReplicaId(replica)),
+        );
         assert!(rt; fault == expected, "{replica}");
     }
     Ok(())

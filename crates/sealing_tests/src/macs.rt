@@ -111,5 +111,10 @@ fn each_byte_counts(rt: HostRuntime) {
 #[test]
 fn a_replica_has_a_seed_of_signatures(rt: HostRuntime) {
     let expected = "b1d311e8c0d6c6f194e1d70c6d592c078636435b2a225a82262305bed1fb2986";
-    assert!(rt; is_code(signing_seed(&seed(), Party::Replica(ReplicaId(2))), expected));
+    assert!(rt;
+        is_code(
+            signing_seed(&seed(), Party::Replica(ReplicaId(2))),
+            expected
+        )
+    );
 }

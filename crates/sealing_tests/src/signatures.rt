@@ -9,6 +9,7 @@ use signing::{
 };
 use std::alloc::{AllocError, Global};
 use std::test::Fail;
+use std::thread::join;
 use terms::{Party, ReplicaId};
 
 const PUBLIC: &str = "25e441d2b6f59c4bf7210fe82ef554ad9ab38cd474492b4ea132304f6118d5ee";
@@ -136,7 +137,7 @@ fn keys_are_spent(rt: HostRuntime) -> Result<(), Fail> {
 const PUBLIC_OF_2: &str = "dcff933adeb0d86920aaf05cc53c0b3533f358a52eececea5f9df5aa8b305905";
 
 // Whether replica 2 alone has signed this text alone.
-fn is_of_replica_2(keys: &mut PublicKeys, signature: &[u8]) -> bool {
+fn is_of_replica_2(keys: &PublicKeys, signature: &[u8]) -> bool {
     keys.verify(Party::Replica(ReplicaId(2)), b"text", signature)
         && !keys.verify(Party::Replica(ReplicaId(1)), b"text", signature)
         && !keys.verify(Party::Replica(ReplicaId(2)), b"texu", signature)
@@ -146,18 +147,23 @@ fn is_of_replica_2(keys: &mut PublicKeys, signature: &[u8]) -> bool {
 fn public_keys_of_replicas(rt: HostRuntime) -> Result<(), Fail> {
     let mut signer = Signer::from_seed(&signing_seed(&seed(), Party::Replica(ReplicaId(2))));
     let signature = signer.sign(rt.alloc(), b"text")?;
-    let mut keys = PublicKeys::new(rt.alloc(), &seed());
-    assert!(rt; is_of_replica_2(&mut keys, signature.as_slice()));
+    let keys = PublicKeys::new(rt.alloc(), &seed())?;
+    assert!(rt; is_of_replica_2(&keys, signature.as_slice()));
     Ok(())
 }
 
-// Passes whichever allocation is refused: a key for which there is no room is derived again.
+fn is_key_of_2(keys: &PublicKeys) -> bool {
+    is_code(keys.public(Party::Replica(ReplicaId(2))), PUBLIC_OF_2)
+}
+
+// Two owners in two threads, and then one of them again, when the key is kept.
 #[test]
-fn keys_without_room(rt: HostRuntime) {
-    let mut keys = PublicKeys::new(rt.alloc(), &seed());
-    for _ in 0..2 {
-        assert!(rt; is_code(keys.public(Party::Replica(ReplicaId(2))), PUBLIC_OF_2));
-    }
+fn threads_share_public_keys(rt: HostRuntime) -> Result<(), Fail> {
+    let keys = PublicKeys::new(rt.alloc(), &seed())?;
+    let shared = keys.share()?;
+    let (here, there) = join(&rt, || is_key_of_2(&keys), || is_key_of_2(&shared));
+    assert!(rt; here && there && is_key_of_2(&shared));
+    Ok(())
 }
 
 // Whether bytes that begin with this one are a signature, and come back then.

@@ -5,6 +5,5 @@ pub mod Joined
 pub mod Lamport
 pub mod Laws
 pub mod Merkle
-pub mod Replicas
 pub mod Signatures
 pub mod Signing

@@ -1,6 +1,6 @@
 //! The public keys of a configuration's replicas.
 
-ghost use Rattle.std.specs.Prelude.{◌≡◌, ◌↔◌, IsTrue};
+ghost use Rattle.std.specs.Prelude.{◌≡◌, ◌↔◌, IsTrue, IfOk, IfSome};
 ghost use Rattle.authenticator.specs.Keys.{signing_seed};
 ghost use Rattle.signing.specs.Heard.{has_signature};
 ghost use Rattle.signing.specs.Signatures.{public_key, Verifies};
@@ -12,69 +12,106 @@ use crate::signature::{is_signature, verify_bytes};
 use crate::tree::KeyTree;
 use authenticator::signing_seed;
 use std::alloc::Global;
-use std::collections::HashMap;
+use std::array;
 use std::marker::Model;
-use terms::Party;
+use std::sync::{Arc, OnceLock};
+use terms::{NoMemory, Party};
 use wire::{Frame, Proof, body_bytes};
 
+/// The most replicas of a configuration.
+const MAX_REPLICAS: usize = 10;
+
+// A public key with what it is derived from, since no contract knows what a lock holds but by its type.
+#[derive(Clone, Copy, Drop)]
+struct Derived {
+    seed: [u8; 32],
+    signer: u16,
+    key: [u8; 32],
+    ghost right: { key ≡ public_key (signing_seed seed signer) },
+}
+
+impl Derived {
+    fn new(seed: &[u8; 32], signer: Party) -> Derived
+        ensures { result.key ≡ public_key (signing_seed seed.now (party_number signer)) }
+    {
+        Derived {
+            seed: *seed,
+            signer: signer.number(),
+            key: KeyTree::new(&signing_seed(seed, signer)).public(),
+        }
+    }
+
+    // The key, where it is this replica's under this seed.
+    fn key_of(&self, seed: &[u8; 32], signer: Party) -> Option<[u8; 32]>
+        ensures { IfSome result (λ key.
+            key ≡ public_key (signing_seed seed.now (party_number signer))) }
+    {
+        if self.seed == *seed && self.signer == signer.number() {
+            Some(self.key)
+        } else {
+            None
+        }
+    }
+}
+
 /// The public keys of the replicas of one configuration. Each is derived from the configuration's seed when something
-/// is first verified by it, which takes as long as a tree of keys, and is then kept.
+/// is first verified by it, which takes as long as a tree of keys, and is then kept for all that share these keys, in
+/// any threads. Where two threads need it first at once, each derives it.
 #[derive(Drop)]
 pub struct PublicKeys {
     seed: [u8; 32],
-    kept: HashMap<u16, [u8; 32]>,
+    kept: Arc<[OnceLock<Derived>; MAX_REPLICAS]>,
 }
 
 impl Model for PublicKeys {
     ghost use Rattle.std.specs.Prelude.{ℕ, List};
-    ghost use Rattle.signing.specs.Replicas.{KeysFit};
 
     ghost Value = { List ℕ };
 
     ghost view = { λ k. k.seed };
-
-    ghost invariant = { λ k. KeysFit k.seed k.kept };
 }
 
 impl PublicKeys {
-    /// The public keys of a configuration's seed. It takes no memory and derives nothing yet.
-    pub fn new(alloc: Global, seed: &[u8; 32]) -> PublicKeys
-        ensures { result ≡ seed.now }
+    /// The public keys of a configuration's seed. It derives nothing yet, and later calls take no memory.
+    pub fn new(alloc: Global, seed: &[u8; 32]) -> Result<PublicKeys, NoMemory>
+        ensures { IfOk result (λ keys. keys ≡ seed.now) }
     {
-        PublicKeys {
-            seed: *seed,
-            kept: HashMap::new(alloc),
-        }
+        let kept = Arc::new(alloc, array::from_fn(|_| OnceLock::new()))?;
+        Ok(PublicKeys { seed: *seed, kept })
+    }
+
+    /// The same keys for one more owner: what one of them derives, all have.
+    pub fn share(&self) -> Result<PublicKeys, NoMemory>
+        ensures { IfOk result (λ keys. keys ≡ self.now) }
+    {
+        let kept = Arc::try_clone(&self.kept)?;
+        Ok(PublicKeys {
+            seed: self.seed,
+            kept,
+        })
     }
 
     /// The public key of a replica.
-    pub fn public(&mut self, signer: Party) -> [u8; 32]
-        ensures key { result ≡ public_key (signing_seed self.old (party_number signer)) }
-        ensures same { self.new ≡ self.old }
+    pub fn public(&self, signer: Party) -> [u8; 32]
+        ensures key { result ≡ public_key (signing_seed self.now (party_number signer)) }
     {
-        let number = signer.number();
-        if let Some(key) = self.kept.get(&number) {
-            return *key;
+        match self.kept_key(signer) {
+            Some(key) => key,
+            None => self.derive(signer),
         }
-        let key = KeyTree::new(&signing_seed(&self.seed, signer)).public();
-        // A key for which there is no room is derived again.
-        let _ = self.kept.insert(number, key);
-        key
     }
 
     /// Whether the bytes are a signature of the text by a replica. For bytes of another form no key is derived.
-    pub fn verify(&mut self, signer: Party, text: &[u8], signature: &[u8]) -> bool
-        ensures verified { IsTrue result ↔ Verifies (public_key (signing_seed self.old (party_number signer))) text.now signature.now }
-        ensures same { self.new ≡ self.old }
+    pub fn verify(&self, signer: Party, text: &[u8], signature: &[u8]) -> bool
+        ensures verified { IsTrue result ↔ Verifies (public_key (signing_seed self.now (party_number signer))) text.now signature.now }
     {
         is_signature(signature) && verify_bytes(&self.public(signer), text, signature)
     }
 
     /// Whether the frame, which the bytes spell, has a signature of its body by its sender.
-    pub fn has_signature(&mut self, frame: &Frame, bytes: &[u8]) -> bool
+    pub fn has_signature(&self, frame: &Frame, bytes: &[u8]) -> bool
         requires { SpellsFrame bytes.now (frame_data frame.now) }
-        ensures signed { result ≡ has_signature self.old (frame_data frame.now) }
-        ensures same { self.new ≡ self.old }
+        ensures signed { result ≡ has_signature self.now (frame_data frame.now) }
     {
         match &frame.proof {
             Proof::Macs(_) => false,
@@ -82,5 +119,24 @@ impl PublicKeys {
                 self.verify(frame.body.sender, body_bytes(bytes), signature)
             },
         }
+    }
+
+    fn kept_key(&self, signer: Party) -> Option<[u8; 32]>
+        ensures { IfSome result (λ key.
+            key ≡ public_key (signing_seed self.now (party_number signer))) }
+    {
+        let place = self.kept.get(usize::from(signer.number()))?;
+        place.get()?.key_of(&self.seed, signer)
+    }
+
+    // Derives a key, and keeps it unless another thread keeps it just now or no replica has this number.
+    fn derive(&self, signer: Party) -> [u8; 32]
+        ensures { result ≡ public_key (signing_seed self.now (party_number signer)) }
+    {
+        let derived = Derived::new(&self.seed, signer);
+        if let Some(place) = self.kept.get(usize::from(signer.number())) {
+            let _ = place.try_set(derived);
+        }
+        derived.key
     }
 }

@@ -9,6 +9,7 @@
 //! are only carried here.
 #![tactic(auto)]
 
+mod batches;
 mod bodies;
 mod carried;
 mod changes;
@@ -28,7 +29,9 @@ mod reading;
 mod sealing;
 mod sizes;
 
+pub use batches::{is_ordered_request, requests};
 pub use bodies::encode;
+pub use carried::MAX_REQUESTS;
 pub use decoding::{decode, decode_judged};
 pub use fault::{NoFrame, WireFault};
 pub use frames::{

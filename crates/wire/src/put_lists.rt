@@ -65,20 +65,21 @@ pub fn put_new_view(new_view: &NewView, out: &mut Vec<u8>) -> Result<(), NoMemor
     ensures { OnOk result (out.new.items ≡ out.old.items ++ new_view_spelling (new_view_data new_view.now)) }
 {
     put_u64(new_view.view.0, out)?;
-    put_changes(&new_view.changes, out)?;
+    put_frames(&new_view.changes, out)?;
     put_u64(new_view.start.0, out)?;
     out.extend_from_slice(&new_view.root)?;
     put_batches(&new_view.batches, out)
 }
 
-fn put_changes(changes: &[Vec<u8>], out: &mut Vec<u8>) -> Result<(), NoMemory>
-    requires few { length (map (λ c. c.items) changes.now) < 2 ^ 8 }
-    requires short { Each (λ frame. length frame < 2 ^ 32) (map (λ c. c.items) changes.now) }
-    ensures { OnOk result (out.new.items ≡ out.old.items ++ pieces_spelling (map (λ c. c.items) changes.now)) }
+/// Appends frames, each behind its length, behind their count.
+pub fn put_frames(frames: &[Vec<u8>], out: &mut Vec<u8>) -> Result<(), NoMemory>
+    requires few { length (map (λ f. f.items) frames.now) < 2 ^ 8 }
+    requires short { Each (λ frame. length frame < 2 ^ 32) (map (λ f. f.items) frames.now) }
+    ensures { OnOk result (out.new.items ≡ out.old.items ++ pieces_spelling (map (λ f. f.items) frames.now)) }
 {
-    out.push(changes.len() as u8)?;
-    for change in changes {
-        put_piece(change, out)?;
+    out.push(frames.len() as u8)?;
+    for frame in frames {
+        put_piece(frame, out)?;
     }
     Ok(())
 }

@@ -9,13 +9,12 @@ use Rattle.signing.specs.Signatures.{public_key, verifies}
 use Rattle.signing.proofs.Heard.{signs-signature, verifies-Decides}
 use Rattle.signing.proofs.public_keys.PublicKeys.has_signature.Goals as goal
 
-pub returns-in-Signature-clause-signed : goal.returns-in-Signature-clause-signed
-returns-in-Signature-clause-signed c =
+pub returns-in-Signature : goal.returns-in-Signature
+returns-in-Signature c =
     let body = body_data c.args.frame.now.body in
     let public = public_key (signing_seed c.args.self.now (party_number c.args.frame.now.body.sender)) in
     let text : c.body_bytes.result.now ≡ body_spelling body =
     c.body_bytes.ensures.text (body_spelling body) (proof_spelling (proof_data c.args.frame.now.proof)) (body-short c.args.bytes.now (frame_data c.args.frame.now) c.requires) c.requires.spelled in
     let tested : c.verify.result ≡ verifies public c.body_bytes.result.now c.deref.result.now =
     same_from_decides c.verify.result (verifies public c.body_bytes.result.now c.deref.result.now) c.verify.ensures.verified (verifies-Decides public c.body_bytes.result.now c.deref.result.now) in
-    tested
-    ∙ rw (text, c.deref.ensures.value) (signs-signature public (body_spelling body) c.in-Signature.signature.items (proof_data c.args.frame.now.proof) (ap proof_data c.in-Signature.is))
+    record { signed = tested ∙ rw (text, c.deref.ensures.value) (signs-signature public (body_spelling body) c.in-Signature.signature.items (proof_data c.args.frame.now.proof) (ap proof_data c.in-Signature.is)) }

@@ -1,0 +1,87 @@
+//! The text of a batch, made of request frames, and the frames in it.
+
+ghost use Rattle.std.specs.Prelude.{◌≡◌, ◌↔◌, ◌≤◌, IsTrue, length, map, IfOk};
+ghost use Rattle.tuple_codec.specs.Gives.{Yields};
+ghost use Rattle.wire.specs.Lists.{Each};
+ghost use Rattle.wire.specs.Reading.{passing, piece_at, is_request, requests_at};
+ghost use Rattle.wire.specs.Spelling.{IsCarried, is_ordered_request, pieces_spelling};
+ghost use Rattle.wire.specs.Words.{requests_of};
+
+use crate::carried::{MAX_REQUESTS, is_request_frame};
+use crate::messages::Batch;
+use crate::put_lists::put_frames;
+use crate::reading::{read_byte, read_piece};
+use arrayvec::ArrayVec;
+use std::alloc::Global;
+use terms::NoMemory;
+
+impl Batch {
+    /// The batch of these request frames, in order.
+    #[tactic(auto, using(crate::proofs::Requesting::are_short))]
+    pub fn of(alloc: Global, frames: &[Vec<u8>]) -> Result<Batch, NoMemory>
+        requires few { length frames.now ≤ 16 }
+        requires each { Each (IsCarried is_ordered_request) (map (λ f. f.items) frames.now) }
+        ensures text { IfOk result (λ batch.
+            batch.text.items ≡ pieces_spelling (map (λ f. f.items) frames.now)) }
+        ensures requests { IfOk result (λ batch.
+            requests_of batch.text.items ≡ map (λ f. f.items) frames.now) }
+    {
+        let mut text = Vec::new(alloc);
+        put_frames(frames, &mut text)?;
+        Ok(Batch { text })
+    }
+}
+
+/// Whether the bytes, whole, are a frame of an ordered request, as batches have them. Takes no memory.
+pub fn is_ordered_request(frame: &[u8]) -> bool
+    ensures { IsTrue result ↔ IsCarried is_ordered_request frame.now }
+{
+    is_request_frame(frame)
+}
+
+/// The request frames of a batch's text, in order and in their places. A text that is no batch has none. Takes no
+/// memory.
+#[tactic(auto, using(crate::proofs::Requesting::no_batch, crate::proofs::Requesting::spare, crate::proofs::Requesting::whole, crate::proofs::Requesting::at_most_16))]
+pub fn requests(text: &[u8]) -> ArrayVec<&[u8], MAX_REQUESTS>
+    ensures frames { map (λ frame. frame.now) result.items ≡ requests_of text.now }
+    ensures few { length (requests_of text.now) ≤ 16 }
+{
+    let Some((requests, rest)) = read_requests(text) else {
+        return ArrayVec::new();
+    };
+    if rest.is_empty() {
+        requests
+    } else {
+        ArrayVec::new()
+    }
+}
+
+fn read_request(bytes: &[u8]) -> Option<(&[u8], &[u8])>
+    ensures { Yields (λ x. (x.0.now, x.1.now)) result (passing is_request piece_at bytes.now) }
+{
+    let (frame, rest) = read_piece(bytes)?;
+    if !is_request_frame(frame) {
+        return None;
+    }
+    Some((frame, rest))
+}
+
+// The requests of a batch at the front, and the rest.
+#[tactic(auto, unfolding(crate::specs::Reading::requests_at))]
+fn read_requests(bytes: &[u8]) -> Option<(ArrayVec<&[u8], MAX_REQUESTS>, &[u8])>
+    ensures { Yields (λ x. (map (λ f. f.now) x.0.items, x.1.now)) result
+        (requests_at 0 bytes.now) }
+{
+    let (count, front) = read_byte(bytes)?;
+    if count as usize > MAX_REQUESTS {
+        return None;
+    }
+    let mut requests = ArrayVec::new();
+    let mut rest = front;
+    for _i in 0..count {
+        let (frame, after) = read_request(rest)?;
+        requests.push(frame);
+        rest = after;
+    }
+    Some((requests, rest))
+}
