@@ -1,5 +1,5 @@
 -- What is sealed is heard.
-use Rattle.std.proofs.Common.{◌≡◌, ℕ, suc, sym, subst, ◌+◌, ◌^◌, ◌<◌, ◌≤◌, inl, inr, Bool, true, false, List, [], ◌∷◌, map, length, Contains, All, AllPairs, Some, refl, ap, ◌∙◌, ◌*◌, arith, ◌||◌, length-append}
+use Rattle.std.proofs.Common.{◌≡◌, ℕ, suc, sym, subst, ◌+◌, ◌^◌, ◌<◌, ◌≤◌, inl, inr, Bool, true, false, List, [], ◌∷◌, map, length, Contains, All, AllPairs, Some, refl, ap, ◌*◌, arith, ◌||◌, length-append}
 use Rattle.std.specs.Prelude.{nat_lt, nat_le}
 use Rattle.std.proofs.lemmas.Bool.{and_parts, and_from, ltb-true, lt-ltb}
 use Rattle.std.specs.Int.{w32, to_be_bytes}
