@@ -9,9 +9,12 @@ pub record Membership : Type 0 where
   pub faults : ℕ
   pub clients : ℕ
 
--- of f faulty ones there are 3 f + 1 in all
+-- how many replicas there are: of f faulty ones 3 f + 1 in all
+abbrev pub replicas : Membership → ℕ
+replicas m = 3 * m.faults + 1
+
 abbrev pub is_replica : Membership → ℕ → Bool
-is_replica m party = nat_lt party (3 * m.faults + 1)
+is_replica m party = nat_lt party (replicas m)
 
 abbrev pub is_client : Membership → ℕ → Bool
 is_client m party = nat_le 256 party && nat_lt party (256 + m.clients)

@@ -3,7 +3,6 @@ pub mod Temporal
 pub mod Options
 pub mod Modes
 pub mod Linking
-pub mod Spelled
 pub mod Elements
 pub mod Lists
 pub mod Bodies
@@ -13,6 +12,4 @@ pub mod Roots
 pub mod Reacting
 pub mod Plain
 pub mod Bounds
-pub mod PartsBytes
-pub mod FramesBytes
 pub mod Posting

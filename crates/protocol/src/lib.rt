@@ -9,8 +9,8 @@
 //! laws of agreement over all views (`prepared_agree`, `committed_stays`, `committed_agree`, `executed_agree`,
 //! `states_agree`, `roots_agree`), `accepted_at_levels`, `none_runs_twice`, and the same laws for parties of which
 //! only safety is known (`safe_histories_are_linear`, `weak_histories_are_one_space`,
-//! `safe_histories_accept_at_levels`). `bytes_are_read` ties what the definitions read to the grammar of frames, and
-//! `posted_frames_may_be_sent` what a replica posts to what it may send.
+//! `safe_histories_accept_at_levels`). `posted_frames_may_be_sent` ties what a replica posts to what it may send. What
+//! bytes spell, and what is heard from them, the definitions take from the crates `wire` and `signing`.
 //!
 //! The other modules show what the definitions accept and refuse: the first operation of a client at four replicas,
 //! with the bytes of all its frames, is a run, unforged and fed by its schedule ([`accepted`], [`clients`]); over a
@@ -36,18 +36,10 @@ pub mod refused_runs;
 pub mod refused_steps;
 pub mod selected;
 
-ghost use Rattle.protocol.specs.Laws.Histories.{FramesAreSpelled, BodiesAreSaid, BytesAreHeard, PostedMaySend, PreparedAgree, CommittedStays, CommittedAgree, ExecutedAgree, PagesDetermine, BatchesLeaveStates, StatesAreExecuted, StatesAgree, StableAgree, InstalledAgree, StartsAgree, LinearOfSafe, WeakIsOneSpace, NoneBegins, FirstViewStays};
+ghost use Rattle.protocol.specs.Laws.Histories.{PostedMaySend, PreparedAgree, CommittedStays, CommittedAgree, ExecutedAgree, PagesDetermine, BatchesLeaveStates, StatesAreExecuted, StatesAgree, StableAgree, InstalledAgree, StartsAgree, LinearOfSafe, WeakIsOneSpace, NoneBegins, FirstViewStays};
 ghost use Rattle.protocol.specs.Evidence.FirstOperation.{SealedFramesAreHeard};
 ghost use Rattle.protocol.specs.Evidence.RefusedSteps.{SignedFramesAreHeard};
 ghost use Rattle.protocol.specs.Laws.Runs.{PointsAreLinear, NoneRunsTwice, AcceptedAtLevels, LevelsOfSafe, WeakAnswersAreOneSpace, RunsAreLinear};
-
-/// What the definitions read from bytes is what the frame's grammar says, and what a party hears as authentic or
-/// signed.
-pub fn bytes_are_read()
-    ensures frames { FramesAreSpelled }
-    ensures bodies { BodiesAreSaid }
-    ensures heard { BytesAreHeard }
-{}
 
 /// What a party of the configuration seals for others, each of them hears.
 pub fn sealed_frames_are_heard()

@@ -1,21 +1,21 @@
 -- What is heard.
-use Rattle.std.proofs.Common.{◌≡◌, refl, ℕ, Bool, true, false, ◌&&◌, cond, if◌then◌else◌, List, Option, Some, None, ap, sym, ◌∙◌, subst}
+use Rattle.std.proofs.Common.{◌≡◌, ◌≢◌, refl, ℕ, Bool, true, false, ◌&&◌, cond, if◌then◌else◌, List, Option, Some, None, ap, sym, ◌∙◌, subst}
 use Rattle.std.specs.Bool.{Decides}
-use Rattle.std.specs.Prelude.{option_and_then}
-use Rattle.std.proofs.lemmas.Bool.{true≢false, and_parts, and_from, eqb-true, eq-eqb, ltb-true, lt-ltb}
+use Rattle.std.specs.Prelude.{option_and_then, not, ◌==◌}
+use Rattle.std.proofs.lemmas.Bool.{true≢false, and_parts, and_from, not-true, eqb-true, eqb-false, eq-eqb, ne_eqb, ltb-true, lt-ltb}
 use Rattle.std.proofs.lemmas.Slice.Eq.{bytes_eq-Decides}
 use Rattle.std.proofs.Math.Bool.{or-true}
 use Rattle.wire.specs.Messages.{BodyData, ProofData, signature, FrameData}
 use Rattle.wire.specs.Spelling.{SpellsFrame, body_spelling, is_signed, proof_is_signed}
-use Rattle.wire.specs.Reading.{frame_read}
-use Rattle.wire.proofs.Carriers.{frame_of_again, frame_of_found}
+use Rattle.wire.specs.Words.{frame_of}
+use Rattle.wire.proofs.Saying.{reads_frames}
 use Rattle.authenticator.specs.Authentic.{is_authentic}
 use Rattle.authenticator.specs.Keys.{signing_seed}
 use Rattle.authenticator.specs.Membership.{Membership, has_sender}
 use Rattle.authenticator.specs.Opening.{may_open}
 use Rattle.signing.specs.Signatures.{Verifies, verifies, shown_root, signature_of}
-use Rattle.signing.specs.Heard.{signs, has_signature, is_heard, heard, signed_body}
-use Rattle.signing.specs.Laws.{OpenedIsHeard, HeardWasOpened, SignedIsHeard, HeardWasSigned, SignerIsHeard}
+use Rattle.signing.specs.Heard.{signs, has_signature, is_from_another, is_heard, heard, signed_body}
+use Rattle.signing.specs.Laws.{OpenedIsHeard, HeardWasOpened, SignedIsHeard, HeardWasSigned, SignedWasSigned, SignerIsHeard}
 use Rattle.signing.proofs.Signed.{signature_of-verifies}
 
 -- the test is the relation
@@ -71,18 +71,30 @@ of_kind : (signed right own : Bool) → (if signed then own else right) ≡ true
 of_kind true right own h = (λ _. h, λ no_way. absurd cc)
 of_kind false right own h = (λ no_way. absurd cc, λ _. h)
 
-is_heard_of : (m : Membership) (party : ℕ) (frame : FrameData) → has_sender m frame.body ≡ true
+from_another : (m : Membership) (party : ℕ) (body : BodyData) → has_sender m body ≡ true → body.sender ≢ party → is_from_another m party body ≡ true
+from_another m party body known other = and_from (has_sender m body) (not (body.sender == party)) known (rw (ne_eqb body.sender party other) refl)
+
+parts_of_another : (m : Membership) (party : ℕ) (body : BodyData) → is_from_another m party body ≡ true → (has_sender m body ≡ true) × (body.sender ≢ party)
+parts_of_another m party body h =
+    let parts = and_parts (has_sender m body) (not (body.sender == party)) h in
+    (parts.0, eqb-false body.sender party (not-true (body.sender == party) parts.1))
+
+is_heard_of : (m : Membership) (party : ℕ) (frame : FrameData) → is_from_another m party frame.body ≡ true
     → (is_signed frame.body.message ≡ true → has_signature m.seed frame ≡ true)
     → (is_signed frame.body.message ≡ false → is_authentic m.seed party frame ≡ true) → is_heard m party frame ≡ true
-is_heard_of m party frame = by_kind (is_signed frame.body.message) (has_sender m frame.body) (is_authentic m.seed party frame) (has_signature m.seed frame)
+is_heard_of m party frame = by_kind (is_signed frame.body.message) (is_from_another m party frame.body) (is_authentic m.seed party frame) (has_signature m.seed frame)
+
+-- what makes a body a signed one
+abbrev is_signed_by : Membership → FrameData → Bool
+is_signed_by m frame = is_signed frame.body.message && (has_sender m frame.body && has_signature m.seed frame)
 
 -- ---- the laws
 
 pub opened_is_heard : OpenedIsHeard
 unfolding heard
-opened_is_heard m party bytes frame opens signed =
-    passes (is_heard m party) (frame_read bytes) frame (frame_of_again bytes frame opens.spelled)
-    (is_heard_of m party frame opens.sender signed by_macs)
+opened_is_heard m party bytes frame opens other signed =
+    passes (is_heard m party) (frame_of bytes) frame ((reads_frames bytes frame).1 opens.spelled)
+    (is_heard_of m party frame (from_another m party frame.body opens.sender other) signed by_macs)
   where
     by_macs : is_signed frame.body.message ≡ false → is_authentic m.seed party frame ≡ true
     by_macs plain =
@@ -91,17 +103,19 @@ opened_is_heard m party bytes frame opens signed =
 
 pub heard_was_opened : HeardWasOpened
 unfolding heard
-heard_was_opened m party bytes body are h =
-    let from = comes_of (is_heard m party) (frame_read bytes) body h in
+heard_was_opened m party bytes body h =
+    let from = comes_of (is_heard m party) (frame_of bytes) body h in
     let frame = from.0 in
-    let spelled : SpellsFrame bytes frame = frame_of_found bytes frame are from.1 in
+    let spelled : SpellsFrame bytes frame = (reads_frames bytes frame).0 from.1 in
     let parts = and_parts _ _ from.2 in
+    let another = parts_of_another m party frame.body parts.0 in
     let kinds = of_kind (is_signed frame.body.message) (is_authentic m.seed party frame) (has_signature m.seed frame) parts.1 in
     record {
       frame = frame;
-      opens = record { spelled = spelled; sender = parts.0; proved = proved frame spelled kinds.1 (is_signed frame.body.message) refl };
+      opens = record { spelled = spelled; sender = another.0; proved = proved frame spelled kinds.1 (is_signed frame.body.message) refl };
       signed = kinds.0;
       body_is = from.3;
+      other = subst (λ (b : BodyData). b.sender ≢ party) from.3 another.1;
     }
   where
     proved : (frame : FrameData) → SpellsFrame bytes frame → (is_signed frame.body.message ≡ false → is_authentic m.seed party frame ≡ true)
@@ -111,27 +125,43 @@ heard_was_opened m party bytes body are h =
 
 pub signed_is_heard : SignedIsHeard
 unfolding heard signed_body
-signed_is_heard m party bytes body h =
-    let from = comes_of (λ frame. is_signed frame.body.message && (has_sender m frame.body && has_signature m.seed frame)) (frame_read bytes) body h in
+signed_is_heard m party bytes body h other =
+    let from = comes_of (is_signed_by m) (frame_of bytes) body h in
     let parts = and_parts _ _ from.2 in
     let more = and_parts _ _ parts.1 in
-    passes (is_heard m party) (frame_read bytes) from.0 from.1 (is_heard_of m party from.0 more.0 (λ _. more.1) (λ plain. absurd (true≢false (sym parts.0 ∙ plain)))) ∙ ap Some from.3
+    let another = from_another m party from.0.body more.0 (subst (λ (b : BodyData). b.sender ≢ party) (sym from.3) other) in
+    passes (is_heard m party) (frame_of bytes) from.0 from.1 (is_heard_of m party from.0 another (λ _. more.1) (λ plain. absurd (true≢false (sym parts.0 ∙ plain)))) ∙ ap Some from.3
 
 pub heard_was_signed : HeardWasSigned
 unfolding heard signed_body
 heard_was_signed m party bytes body h signed =
-    let from = comes_of (is_heard m party) (frame_read bytes) body h in
+    let from = comes_of (is_heard m party) (frame_of bytes) body h in
     let parts = and_parts _ _ from.2 in
+    let known = (parts_of_another m party from.0.body parts.0).0 in
     let kind : is_signed from.0.body.message ≡ true = rw from.3 signed in
     let kinds = of_kind (is_signed from.0.body.message) (is_authentic m.seed party from.0) (has_signature m.seed from.0) parts.1 in
-    passes (λ frame. is_signed frame.body.message && (has_sender m frame.body && has_signature m.seed frame)) (frame_read bytes) from.0 from.1
-    (and_from _ _ kind (and_from _ _ parts.0 (kinds.0 kind))) ∙ ap Some from.3
+    passes (is_signed_by m) (frame_of bytes) from.0 from.1 (and_from _ _ kind (and_from _ _ known (kinds.0 kind))) ∙ ap Some from.3
+
+pub signed_was_signed : SignedWasSigned
+unfolding signed_body
+signed_was_signed m bytes body h =
+    let from = comes_of (is_signed_by m) (frame_of bytes) body h in
+    let parts = and_parts _ _ from.2 in
+    let more = and_parts _ _ parts.1 in
+    record {
+      frame = from.0;
+      spelled = (reads_frames bytes from.0).0 from.1;
+      sender = more.0;
+      to_sign = parts.0;
+      signed = more.1;
+      body_is = from.3;
+    }
 
 pub signer_is_heard : SignerIsHeard
 unfolding signed_body
 signer_is_heard m bytes body leaf within known spelled =
-    passes (λ frame. is_signed frame.body.message && (has_sender m frame.body && has_signature m.seed frame)) (frame_read bytes)
+    passes (is_signed_by m) (frame_of bytes)
     (record { body = body; proof = signature (signature_of (signing_seed m.seed body.sender) leaf (body_spelling body)) })
-    (frame_of_again bytes _ spelled)
+    ((reads_frames bytes _).1 spelled)
     (and_from _ _ (sym spelled.valid.proved) (and_from _ _ known
     ((verifies-Decides _ (body_spelling body) _).1 (signature_of-verifies (signing_seed m.seed body.sender) (body_spelling body) leaf within))))

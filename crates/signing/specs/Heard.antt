@@ -1,10 +1,11 @@
 -- What a party hears: the bodies of frames that their senders made, as it can tell (Castro and Liskov, Practical
 -- Byzantine fault tolerance and proactive recovery, TOCS 2002, on the authentication of messages). View changes and new
--- views count only with a signature that verifies, since others carry them on.
-use Rattle.std.specs.Prelude.{ℕ, Bool, false, ◌&&◌, if◌then◌else◌, List, Option, Some, None, option_and_then}
+-- views count only with a signature that verifies, since others carry them on. A frame that a party gets in its own name
+-- counts for nothing, whoever made it: its own messages count when they are sent.
+use Rattle.std.specs.Prelude.{ℕ, Bool, false, ◌&&◌, not, ◌==◌, if◌then◌else◌, List, Option, Some, None, option_and_then}
 use Rattle.wire.specs.Messages.{BodyData, ProofData, macs, signature, FrameData}
 use Rattle.wire.specs.Spelling.{body_spelling, is_signed}
-use Rattle.wire.specs.Reading.{frame_read}
+use Rattle.wire.specs.Words.{frame_of}
 use Rattle.authenticator.specs.Membership.{Membership, has_sender}
 use Rattle.authenticator.specs.Authentic.{is_authentic}
 use Rattle.authenticator.specs.Keys.{signing_seed}
@@ -19,17 +20,21 @@ signs public text (signature s) = verifies public text s
 abbrev pub has_signature : List ℕ → FrameData → Bool
 has_signature seed frame = signs (public_key (signing_seed seed frame.body.sender)) (body_spelling frame.body) frame.proof
 
--- the frame comes from a party that sends such messages, as the receiver can tell
+-- the body comes from another party, that sends such messages
+abbrev pub is_from_another : Membership → ℕ → BodyData → Bool
+is_from_another m party body = has_sender m body && not (body.sender == party)
+
+-- and the frame was made by that party, as the receiver can tell
 abbrev pub is_heard : Membership → ℕ → FrameData → Bool
 is_heard m party frame =
-    has_sender m frame.body && (if is_signed frame.body.message then has_signature m.seed frame else is_authentic m.seed party frame)
+    is_from_another m party frame.body && (if is_signed frame.body.message then has_signature m.seed frame else is_authentic m.seed party frame)
 
 -- the body that a party hears from the bytes
 unfoldable pub heard : Membership → ℕ → List ℕ → Option BodyData
-heard m party bytes = option_and_then (λ frame. if is_heard m party frame then Some frame.body else None) (frame_read bytes)
+heard m party bytes = option_and_then (λ frame. if is_heard m party frame then Some frame.body else None) (frame_of bytes)
 
--- the body of a view change or new view, whoever gets the bytes
+-- the body of a view change or new view, whoever gets the bytes, its sender too
 unfoldable pub signed_body : Membership → List ℕ → Option BodyData
 signed_body m bytes =
     option_and_then (λ frame. if is_signed frame.body.message && (has_sender m frame.body && has_signature m.seed frame) then Some frame.body else None)
-    (frame_read bytes)
+    (frame_of bytes)

@@ -1,6 +1,5 @@
 -- What the words on hearing come to.
-use Rattle.std.specs.Prelude.{◌≡◌, ◌<◌, ℕ, IsTrue, List, Some}
-use Rattle.tuple_tree.specs.Values.{AreBytes}
+use Rattle.std.specs.Prelude.{◌≡◌, ◌≢◌, ◌<◌, ℕ, IsTrue, List, Some}
 use Rattle.wire.specs.Messages.{BodyData, FrameData, signature}
 use Rattle.wire.specs.Spelling.{SpellsFrame, body_spelling, is_signed}
 use Rattle.authenticator.specs.Keys.{signing_seed}
@@ -9,34 +8,49 @@ use Rattle.authenticator.specs.Opening.{Opens}
 use Rattle.signing.specs.Signatures.{signature_of}
 use Rattle.signing.specs.Heard.{has_signature, heard, signed_body}
 
--- a frame that opens is heard, where it is not to be signed or has its sender's signature
+-- a frame of another party that opens is heard, where it is not to be signed or has its sender's signature
 abbrev pub OpenedIsHeard : Type 0
 OpenedIsHeard =
-    (m : Membership) (party : ℕ) (bytes : List ℕ) (frame : FrameData) → Opens m party bytes frame
+    (m : Membership) (party : ℕ) (bytes : List ℕ) (frame : FrameData) → Opens m party bytes frame → frame.body.sender ≢ party
     → (IsTrue (is_signed frame.body.message) → IsTrue (has_signature m.seed frame)) → heard m party bytes ≡ Some frame.body
 
--- the bytes are a frame of this body that opens, with its sender's signature where it is to be signed
+-- the bytes are a frame of this body that opens, with its sender's signature where it is to be signed, and the sender is
+-- another party
 pub record OpensAs (m : Membership) (party : ℕ) (bytes : List ℕ) (body : BodyData) : Type 0 where
   pub frame : FrameData
   pub opens : Opens m party bytes frame
   pub signed : IsTrue (is_signed frame.body.message) → IsTrue (has_signature m.seed frame)
   pub body_is : frame.body ≡ body
+  pub other : body.sender ≢ party
 
 -- nothing else is heard
 abbrev pub HeardWasOpened : Type 0
-HeardWasOpened =
-    (m : Membership) (party : ℕ) (bytes : List ℕ) (body : BodyData) → AreBytes bytes → heard m party bytes ≡ Some body
-    → OpensAs m party bytes body
+HeardWasOpened = (m : Membership) (party : ℕ) (bytes : List ℕ) (body : BodyData) → heard m party bytes ≡ Some body → OpensAs m party bytes body
 
--- a signed body is heard by each party
+-- a signed body is heard by each party but its sender
 abbrev pub SignedIsHeard : Type 0
-SignedIsHeard = (m : Membership) (party : ℕ) (bytes : List ℕ) (body : BodyData) → signed_body m bytes ≡ Some body → heard m party bytes ≡ Some body
+SignedIsHeard =
+    (m : Membership) (party : ℕ) (bytes : List ℕ) (body : BodyData) → signed_body m bytes ≡ Some body → body.sender ≢ party
+    → heard m party bytes ≡ Some body
 
 -- a view change or new view that is heard is signed
 abbrev pub HeardWasSigned : Type 0
 HeardWasSigned =
     (m : Membership) (party : ℕ) (bytes : List ℕ) (body : BodyData) → heard m party bytes ≡ Some body → IsTrue (is_signed body.message)
     → signed_body m bytes ≡ Some body
+
+-- the bytes are a frame of this body, which is to be signed, with its sender's signature
+pub record IsSignedFrame (m : Membership) (bytes : List ℕ) (body : BodyData) : Type 0 where
+  pub frame : FrameData
+  pub spelled : SpellsFrame bytes frame
+  pub sender : IsTrue (has_sender m frame.body)
+  pub to_sign : IsTrue (is_signed frame.body.message)
+  pub signed : IsTrue (has_signature m.seed frame)
+  pub body_is : frame.body ≡ body
+
+-- nothing else is a signed body
+abbrev pub SignedWasSigned : Type 0
+SignedWasSigned = (m : Membership) (bytes : List ℕ) (body : BodyData) → signed_body m bytes ≡ Some body → IsSignedFrame m bytes body
 
 -- what a party signs with one of its 64 leaves is a signed body
 abbrev pub SignerIsHeard : Type 0

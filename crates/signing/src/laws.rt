@@ -2,19 +2,20 @@
 
 ghost use Rattle.std.specs.Prelude.{◌↔◌, List, ℕ, IsTrue};
 ghost use Rattle.signing.specs.Signatures.{Verifies, verifies};
-ghost use Rattle.signing.specs.Laws.{HeardWasOpened, HeardWasSigned, OpenedIsHeard, SignedIsHeard, SignerIsHeard};
+ghost use Rattle.signing.specs.Laws.{HeardWasOpened, HeardWasSigned, OpenedIsHeard, SignedIsHeard, SignedWasSigned, SignerIsHeard};
 
 /// The test of a signature is true exactly where it verifies.
 pub fn verifying_is_decided()
     ensures { (public text signature : List ℕ) → IsTrue (verifies public text signature) ↔ Verifies public text signature }
 {}
 
-/// A party hears exactly the frames that open and, where they are to be signed, have their sender's signature. View
-/// changes and new views are heard by all parties or by none.
+/// A party hears exactly the frames of others that open and, where they are to be signed, have their sender's
+/// signature. View changes and new views are heard by all parties but their sender or by none.
 pub fn hearing()
     ensures opened_is_heard { OpenedIsHeard }
     ensures heard_was_opened { HeardWasOpened }
     ensures signed_is_heard { SignedIsHeard }
     ensures heard_was_signed { HeardWasSigned }
+    ensures signed_was_signed { SignedWasSigned }
     ensures signer_is_heard { SignerIsHeard }
 {}

@@ -7,10 +7,10 @@
 //! # What is proved
 //!
 //! What was signed verifies, a `Signer` uses no leaf twice, `verify` is exactly its definition. `hearing` says that a
-//! party hears exactly the frames that open and, where they have to be signed, have their sender's signature; a view
-//! change or new view is heard by all or by none. `hear` gives what is heard, in one call from the bytes on, and else
-//! the first refusal that applies; bytes that are refused take no memory. That nobody else can sign is no claim of a
-//! proof.
+//! party hears exactly the frames of others that open and, where they have to be signed, have their sender's signature;
+//! a view change or new view is heard by all others or by none. `hear` gives what is heard, in one call from the bytes
+//! on, and else the first refusal that applies; bytes that are refused take no memory. That nobody else can sign is no
+//! claim of a proof.
 #![tactic(auto)]
 
 mod from_bytes;

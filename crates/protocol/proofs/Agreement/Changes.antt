@@ -6,7 +6,7 @@ use Rattle.std.proofs.lemmas.Bool.{and_parts, and_from, leb-true, lt-ltb, le-leb
 use Rattle.sha2.specs.Sha256.{sha256}
 use Rattle.protocol.specs.System.Configuration.{Configuration, span, is_number}
 use Rattle.wire.specs.Messages.{BodyData as Body, MessageData as Message, ViewChangeData, ClaimData as Claim, commit as Commit, view_change as ViewChange}
-use Rattle.protocol.specs.System.Frames.{said}
+use Rattle.wire.specs.Words.{said}
 use Rattle.protocol.specs.System.Trace.{Entry, Once, Always, Has}
 use Rattle.protocol.specs.System.Trace.Entry.{Invoke, Got, Tick, Executed, Installed, Sent, Accepted}
 use Rattle.protocol.specs.Replica.Certificates.{logged, target, is_in_marks, low, Prepared, proposal, taken, batch_begun, view, entry_proposal, change_from}

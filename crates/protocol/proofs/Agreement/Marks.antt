@@ -3,9 +3,10 @@ use Rattle.std.proofs.Common.{◌≡◌, ℕ, zero, suc, ◌+◌, ◌-◌, ◌�
 use Rattle.std.specs.Prelude.{◌==◌, nat_lt, nat_le, ◌^◌}
 use Rattle.std.specs.Option.{option_map_or}
 use Rattle.std.proofs.lemmas.Bool.{and_parts, ltb-true, leb-true}
-use Rattle.protocol.specs.System.Configuration.{Configuration, span, primary, is_number}
+use Rattle.protocol.specs.System.Configuration.{Configuration, span, primary, is_number, members}
 use Rattle.wire.specs.Messages.{BodyData as Body, MessageData as Message, NewViewData, ViewChangeData, ClaimData as Claim, new_view as NewView}
-use Rattle.protocol.specs.System.Frames.{said, heard}
+use Rattle.signing.specs.Heard.{heard}
+use Rattle.wire.specs.Words.{said}
 use Rattle.protocol.specs.System.Trace.{Entry}
 use Rattle.protocol.specs.System.Trace.Entry.{Invoke, Got, Tick, Executed, Installed, Sent, Accepted}
 use Rattle.protocol.specs.Replica.Certificates.{view, view_after, target, taken, new_view_in, new_view_from, low, batch_begun, is_later}
@@ -175,7 +176,7 @@ proposes c v i new batch h = go ((new.view == v) && nat_lt new.start i) refl h
     go false e h = absurd cc
 
 pub selected_in : (c : Configuration) (e : Entry) (new : NewViewData) → new_view_in c e ≡ Some new → may_select c new ≡ true
-selected_in c (Got p bytes) new h = let r = and_then_some (new_view_from c) (heard c p bytes) new h in (begins c r.0 new r.2).selected
+selected_in c (Got p bytes) new h = let r = and_then_some (new_view_from c) (heard (members c) p bytes) new h in (begins c r.0 new r.2).selected
 selected_in c (Sent p bytes) new h = let r = and_then_some (new_view_from c) (said bytes) new h in (begins c r.0 new r.2).selected
 selected_in c (Invoke x y z) new h = absurd cc
 selected_in c (Tick x) new h = absurd cc

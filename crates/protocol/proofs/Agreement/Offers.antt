@@ -3,9 +3,10 @@
 use Rattle.std.proofs.Common.{◌≡◌, ℕ, ◌+◌, ◌^◌, ◌≤◌, ◌<◌, ◌⊎◌, inl, inr, Bool, true, false, cond, List, [], ◌∷◌, Option, Some, None, refl, sym, ap, ◌∙◌, subst, arith, ◌&&◌, eqb-true}
 use Rattle.std.specs.Prelude.{option_and_then, ◌==◌, nat_lt, nat_le}
 use Rattle.std.proofs.lemmas.Bool.{and_parts, and_cases, ltb-true, ltb-false, leb-false}
-use Rattle.protocol.specs.System.Configuration.{Configuration, span, primary, is_number}
+use Rattle.protocol.specs.System.Configuration.{Configuration, span, primary, is_number, members}
 use Rattle.wire.specs.Messages.{BodyData as Body, MessageData as Message, NewViewData, pre_prepare as PrePrepare, new_view as NewView}
-use Rattle.protocol.specs.System.Frames.{said, heard}
+use Rattle.signing.specs.Heard.{heard}
+use Rattle.wire.specs.Words.{said}
 use Rattle.protocol.specs.System.Trace.{Entry, Once, Always}
 use Rattle.protocol.specs.System.Trace.Entry.{Invoke, Got, Tick, Executed, Installed, Sent, Accepted}
 use Rattle.quorum.specs.Votes.{or_else, give_if}
@@ -51,7 +52,7 @@ begun_offer v i new batch sender message is h = rw is h
 
 taken_offer : (c : Configuration) (me v i : ℕ) (past : List Entry) (batch : List ℕ) (e : Entry) (new : NewViewData) → new_view_in c e ≡ Some new → batch_begun v i new ≡ Some batch → Offers c me v i batch past e
 taken_offer c me v i past batch (Got p bytes) new h b =
-    let r = and_then_some (new_view_from c) (heard c p bytes) new h in
+    let r = and_then_some (new_view_from c) (heard (members c) p bytes) new h in
     let g = begins c r.0 new r.2 in
     record { body = r.0; brings = r.1; sender_is = g.sender_is ∙ ap (primary c) (proposes c v i new batch b).view_is; offers = begun_offer v i new batch r.0.sender r.0.message g.message_is b }
 taken_offer c me v i past batch (Sent p bytes) new h b =

@@ -1,10 +1,10 @@
 -- What a correct replica signed, and stands in a new view, that replica sent.
 use Rattle.std.proofs.Common.{◌≡◌, ℕ, inl, inr, Bool, true, false, cond, List, [], ◌∷◌, map, Option, Some, None, refl, sym, ap, ap₂, ◌∙◌, subst, eqb-true}
 use Rattle.std.specs.Prelude.{◌==◌, ⊤}
-use Rattle.protocol.specs.System.Configuration.{Configuration, is_correct, is_correct_replica}
+use Rattle.protocol.specs.System.Configuration.{Configuration, is_correct, is_correct_replica, members}
 use Rattle.wire.specs.Messages.{BodyData as Body, MessageData as Message, NewViewData, ViewChangeData, view_change as ViewChange, new_view as NewView}
-use Rattle.wire.specs.Words.{carried, requests_of_all}
-use Rattle.protocol.specs.System.Frames.{said, opened, heard, signed_body}
+use Rattle.wire.specs.Words.{carried, requests_of_all, said}
+use Rattle.signing.specs.Heard.{heard, signed_body}
 use Rattle.protocol.specs.System.Trace.{Entry, party_of, history_of, Once, Always, SendsBody, IsFromSender, IsUnforgedAt, Unforged, frames_in, carried_by, Has}
 use Rattle.protocol.specs.System.Trace.Entry.{Invoke, Got, Tick, Executed, Installed, Sent, Accepted}
 use Rattle.protocol.specs.Replica.Certificates.{new_view_in, new_view_from, taken}
@@ -13,7 +13,7 @@ use Rattle.protocol.specs.Replica.RightReplica.{HasSeen}
 use Rattle.protocol.specs.Laws.Histories.{AreReplicasSafe, Takes}
 use Rattle.protocol.proofs.Words.Temporal.{once_weaker, once_in_history, always_sees, always_in_history}
 use Rattle.protocol.proofs.Words.Options.{and_then_some, some_injective}
-use Rattle.protocol.proofs.Words.Linking.{Speaks, opened_said, signed_opened, heard_said, sent_spoken}
+use Rattle.protocol.proofs.Words.Linking.{Speaks, heard_said, signed_said, sent_spoken}
 use Rattle.protocol.proofs.Agreement.Voting.{RightAt, right_always, correct_replica, speaks_as_itself}
 use Rattle.protocol.proofs.Agreement.Marks.{takes, begins}
 use Rattle.protocol.proofs.Words.Elements.{each_has, has_left}
@@ -22,7 +22,7 @@ use Rattle.wire.specs.Lists.{Each}
 -- ---- what was seen was said
 
 abbrev pub SaidIfSigned : Configuration → List Entry → List ℕ → Type 0
-SaidIfSigned c trace bytes = (body : Body) → signed_body c bytes ≡ Some body → is_correct_replica c body.sender ≡ true → Once (Speaks body) (history_of body.sender trace)
+SaidIfSigned c trace bytes = (body : Body) → signed_body (members c) bytes ≡ Some body → is_correct_replica c body.sender ≡ true → Once (Speaks body) (history_of body.sender trace)
 
 abbrev pub GotsSaid : Configuration → List Entry → Entry → Type 0
 GotsSaid c trace (Got p whole) = (bytes : List ℕ) → Has (λ x. x ≡ bytes) (frames_in whole) → SaidIfSigned c trace bytes
@@ -36,10 +36,9 @@ gots_said c trace q unforged correct =
     step : (past : List Entry) (e : Entry) → IsUnforgedAt c past e → ((R : List Entry → Entry → Type 0) → Once R past → Once R trace) → party_of e ≡ q → GotsSaid c trace e
     step past (Got p whole) u emb own = λ bytes has body signed from.
         let mine : is_correct c p ≡ true = rw own correct in
-        let takes : opened c p bytes ≡ Some body = signed_opened c bytes body signed p in
         let frames : Each (IsFromSender c p past) (frames_in whole) = u mine in
         let one : IsFromSender c p past bytes = each_has (IsFromSender c p past) (frames_in whole) bytes frames has in
-        let sends = one body takes (correct_replica c body.sender from) in
+        let sends = one.signed body signed (correct_replica c body.sender from) in
         once_in_history (Speaks body) body.sender trace
         (once_weaker (SendsBody body) (λ past e. (party_of e ≡ body.sender) × Speaks body (history_of body.sender past) e)
         (sent_spoken body) trace (emb (SendsBody body) sends))
@@ -56,7 +55,7 @@ seen_was_said c trace q [] emb right gots bytes h = absurd h
 seen_was_said c trace q (e ∷ past) emb right gots bytes (inr h) = seen_was_said c trace q past (λ R k. emb R (inr k)) right.1 gots.1 bytes h
 seen_was_said c trace q (Got p whole ∷ past) emb right gots bytes (inl h) = gots.0 bytes h
 seen_was_said c trace q (Sent p whole ∷ past) emb right gots bytes (inl (inl is)) = λ body signed from.
-    let says : said bytes ≡ Some body = opened_said c 0 bytes body (signed_opened c bytes body signed 0) in
+    let says : said bytes ≡ Some body = signed_said c bytes body signed in
     let here : said whole ≡ Some body = rw is says in
     let mine : body.sender ≡ q = speaks_as_itself c q body past (Sent p whole) right.0 here in
     subst (λ (x : ℕ). Once (Speaks body) (history_of x trace)) (sym mine) (emb (Speaks body) (inl here))
@@ -112,7 +111,7 @@ taken_seen c new bytes h past e t = go e (takes c 0 past e new t).brought
   where
     go : (e : Entry) → new_view_in c e ≡ Some new → HasSeen bytes past e
     go (Got p whole) b =
-        let r = and_then_some (new_view_from c) (heard c p whole) new b in
+        let r = and_then_some (new_view_from c) (heard (members c) p whole) new b in
         let is : said whole ≡ Some r.0 = heard_said c p whole r.0 r.1 in
         inr (begin_seen new bytes whole r.0 is (begins c r.0 new r.2).message_is h)
     go (Sent p whole) b =
@@ -131,8 +130,8 @@ pub change_was_said : (c : Configuration) (trace : List Entry) (q s : ℕ) (new 
 change_was_said c trace q s new vc right unforged correct from taken is =
     let r = right q correct in
     let f = change_frame c new.changes s vc is in
-    let t = and_then_some change_in (signed_body c f.0) (s, vc) f.2 in
-    let body : signed_body c f.0 ≡ Some (changing s vc) = t.1 ∙ ap Some (change_is t.0.sender t.0.message s vc t.2) in
+    let t = and_then_some change_in (signed_body (members c) f.0) (s, vc) f.2 in
+    let body : signed_body (members c) f.0 ≡ Some (changing s vc) = t.1 ∙ ap Some (change_is t.0.sender t.0.message s vc t.2) in
     let seen : Once (HasSeen f.0) (history_of q trace) = once_weaker (Takes c new) (HasSeen f.0) (taken_seen c new f.0 f.1) (history_of q trace) taken in
     seen_was_said c trace q (history_of q trace) (λ R h. h) (right_always c q (history_of q trace) r.0 r.1)
     (gots_said c trace q unforged (correct_replica c q correct)) f.0 seen (changing s vc) body from

@@ -3,9 +3,9 @@ use Rattle.std.proofs.Common.{◌≡◌, ℕ, ◌⊎◌, inl, inr, Bool, true, f
 use Rattle.std.specs.Prelude.{option_and_then, ◌==◌}
 use Rattle.std.proofs.lemmas.Bool.{and_parts}
 use Rattle.sha2.specs.Sha256.{sha256}
-use Rattle.protocol.specs.System.Configuration.{Configuration, is_correct, is_correct_replica, primary}
+use Rattle.protocol.specs.System.Configuration.{Configuration, is_correct, is_correct_replica, primary, members}
 use Rattle.wire.specs.Messages.{BodyData as Body, MessageData as Message, prepare as Prepare}
-use Rattle.protocol.specs.System.Frames.{heard}
+use Rattle.signing.specs.Heard.{heard}
 use Rattle.protocol.specs.System.Trace.{Entry, party_of, history_of, Once, Always, Unforged, Hears}
 use Rattle.protocol.specs.System.Trace.Entry.{Invoke, Got, Tick, Executed, Installed, Sent, Accepted}
 use Rattle.protocol.specs.Replica.Certificates.{proposal, logged, prepare_from, vote_in, prepare_of, brought, counts_at}
@@ -104,7 +104,7 @@ pub correct_replica : (c : Configuration) (p : ℕ) → is_correct_replica c p �
 correct_replica c p h = rw h refl
 
 brings_either : (c : Configuration) (p : ℕ) (body : Body) (past : List Entry) (e : Entry) → party_of e ≡ p → Brings c body past e → Hears c p body past e ⊎ Speaks body past e
-brings_either c p body past (Got q bytes) own h = inl (subst (λ (x : ℕ). heard c x bytes ≡ Some body) own h)
+brings_either c p body past (Got q bytes) own h = inl (subst (λ (x : ℕ). heard (members c) x bytes ≡ Some body) own h)
 brings_either c p body past (Sent q bytes) own h = inr h
 brings_either c p body past (Invoke x y z) own h = absurd cc
 brings_either c p body past (Tick x) own h = absurd cc

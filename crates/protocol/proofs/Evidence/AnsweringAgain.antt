@@ -7,8 +7,9 @@ use Rattle.reply_cache.specs.Replies.{Kept, no_replies}
 use Rattle.terms.specs.declared.order.Mode.TheVariants as modes
 use Rattle.terms.specs.declared.state.Level.TheVariants as levels
 use Rattle.wire.specs.Messages.{BodyData as Body, MarkData as Mark, request as Request, reply as Reply, fetch as Fetch}
-use Rattle.protocol.specs.System.Configuration.{Configuration}
-use Rattle.protocol.specs.System.Frames.{heard, reads_only}
+use Rattle.protocol.specs.System.Configuration.{Configuration, members}
+use Rattle.signing.specs.Heard.{heard}
+use Rattle.protocol.specs.System.Frames.{reads_only}
 use Rattle.protocol.specs.System.Trace.{Entry}
 use Rattle.protocol.specs.System.Trace.Entry.{Got, Sent}
 use Rattle.protocol.specs.Replica.Certificates.{says_checkpoint, checkpoints_of, count_checkpoints, Prepared}
@@ -62,7 +63,7 @@ module _ (o : Part) where
   last_is : last_time (after c batch) 0 ≡ 1
   last_is = ap (λ (k : Option Kept). option_map_or (λ (x : Kept). x.timestamp) k 0) kept_is
 
-  hears : heard c me w.request ≡ Some (asks op)
+  hears : heard (members c) me w.request ≡ Some (asks op)
   hears = steps.hears_request o
 
   -- the request waits no more
@@ -95,13 +96,13 @@ module _ (o : Part) where
 
     -- ---- what is heard is the request
 
-    heard_is : (body : Body) → heard c me w.request ≡ Some body → asks op ≡ body
+    heard_is : (body : Body) → heard (members c) me w.request ≡ Some body → asks op ≡ body
     heard_is body h = some_injective (asks op) body (sym hears ∙ h)
 
     abbrev IsOrdered : Body → Type 0
     IsOrdered body = elim body.message [ Request t mode o ↦ (body.sender ≡ 256) × (reads_only mode ≡ false) | _ ↦ ⊥ ]
 
-    is_ordered : (body : Body) → heard c me w.request ≡ Some body → IsOrdered body
+    is_ordered : (body : Body) → heard (members c) me w.request ≡ Some body → IsOrdered body
     is_ordered body h = subst IsOrdered (heard_is body h) (refl, refl)
 
     -- ---- what is owed

@@ -2,12 +2,13 @@
 use Rattle.std.proofs.Common.{◌≡◌, ℕ, ◌+◌, Bool, true, false, ◌⊎◌, inl, inr, List, [], ◌∷◌, refl, sym, ap, ◌∙◌, subst, Option, Some}
 use Rattle.std.specs.Prelude.{option_and_then}
 use Rattle.std.specs.Option.{option_map_or}
-use Rattle.protocol.specs.System.Configuration.{Configuration}
+use Rattle.protocol.specs.System.Configuration.{Configuration, members}
 use Rattle.terms.specs.declared.order.Mode.TheVariants as modes
 use Rattle.terms.specs.declared.state.Level.{Level}
 use Rattle.terms.specs.declared.state.Level.TheVariants as levels
 use Rattle.wire.specs.Messages.{BodyData as Body, FrameData as Frame, ProofData as Proof, MarkData as Mark, macs, signature, request as Request, pre_prepare as PrePrepare, fetch as Fetch, meta as Meta}
-use Rattle.protocol.specs.System.Frames.{heard, receivers_of, frame_of}
+use Rattle.signing.specs.Heard.{heard}
+use Rattle.wire.specs.Words.{receivers_of, frame_of}
 use Rattle.protocol.specs.System.Trace.{Entry, Has}
 use Rattle.protocol.specs.System.Trace.Entry.{Got, Sent}
 use Rattle.protocol.specs.Replica.Certificates.{low, says_checkpoint, checkpoints_of, count_checkpoints}
@@ -40,14 +41,14 @@ module _ (clients : ℕ) (seed : List ℕ) (me other : ℕ) (fetch digests : Lis
   abbrev now : List Entry
   now = Sent me digests ∷ Got me fetch ∷ []
 
-  module _ (hears : heard c me fetch ≡ Some asked) (frame : Frame) (spells : frame_of digests ≡ Some frame) (a : IsAnswer c me other answer.message digests) where
+  module _ (hears : heard (members c) me fetch ≡ Some asked) (frame : Frame) (spells : frame_of digests ≡ Some frame) (a : IsAnswer c me other answer.message digests) where
     behind : Stage clients seed [] me (Got me fetch ∷ []) false none none
     behind = stage_fetch clients seed [] me [] (Got me fetch) other 0 0 levels.Root false none none (first_stage clients seed [] me) (got clients seed [] me [] fetch asked tt hears tt)
 
     stage : Stage clients seed [] me now false none none
     stage = stage_meta clients seed [] me (Got me fetch ∷ []) (Sent me digests) me 0 0 levels.Root (digests_at opening levels.Root 0) false none none behind (sent clients seed [] me (Got me fetch ∷ []) digests answer a.says tt)
 
-    heard_is : (body : Body) → heard c me fetch ≡ Some body → asked ≡ body
+    heard_is : (body : Body) → heard (members c) me fetch ≡ Some body → asked ≡ body
     heard_is body h = some_injective asked body (sym hears ∙ h)
 
     no_quorum : (mark : Mark) → is_quorum c (count_checkpoints c now mark) ≡ true → ⊥
@@ -63,7 +64,7 @@ module _ (clients : ℕ) (seed : List ℕ) (me other : ℕ) (fetch digests : Lis
     abbrev IsFetch : Body → Type 0
     IsFetch body = elim body.message [ Fetch k level index ↦ (body.sender ≡ other) × (k ≡ 0) × (level ≡ levels.Root) × (index ≡ 0) | _ ↦ ⊥ ]
 
-    only_fetch : (body : Body) → heard c me fetch ≡ Some body → IsFetch body
+    only_fetch : (body : Body) → heard (members c) me fetch ≡ Some body → IsFetch body
     only_fetch body h = subst IsFetch (heard_is body h) (refl, refl, refl, refl)
 
     same_bytes : (bytes : List ℕ) → Got me fetch ≡ Got me bytes → fetch ≡ bytes
@@ -110,7 +111,7 @@ module _ (clients : ℕ) (seed : List ℕ) (me other : ℕ) (fetch digests : Lis
       fetched_digests = λ s k index level children asks st kept. gives s k index level st (only_fetch (record { sender = s; message = Fetch k level index }) asks) (kept_is k st kept);
       fetched_page = λ s k index asks st kept. absurd (root_page (only_fetch (record { sender = s; message = Fetch k levels.Page index }) asks).2);
       fetches = λ k root quorum above newer. absurd (no_quorum (record { number = k; digest = root }) quorum);
-      dropped = λ bytes same drops. absurd (drops asked (subst (λ (bs : List ℕ). heard c me bs ≡ Some asked) (same_bytes bytes same) hears) (kept_at [] (low_first c me) (λ st. Rattle.std.specs.Prelude.⊤) tt));
+      dropped = λ bytes same drops. absurd (drops asked (subst (λ (bs : List ℕ). heard (members c) me bs ≡ Some asked) (same_bytes bytes same) hears) (kept_at [] (low_first c me) (λ st. Rattle.std.specs.Prelude.⊤) tt));
     }
 
     quiet : first_point ≡ record first_point { ran = []; waiting = waiting_after c me first_point fetch }

@@ -4,11 +4,13 @@ use Rattle.std.specs.Prelude.{option_and_then}
 use Rattle.std.specs.Option.{option_map_or}
 use Rattle.tuple_codec.specs.Operations.{Operation}
 use Rattle.space.specs.Applying.{outcome, is_read_only}
-use Rattle.protocol.specs.System.Configuration.{Configuration}
+use Rattle.protocol.specs.System.Configuration.{Configuration, members}
 use Rattle.terms.specs.declared.order.Mode.TheVariants as modes
 use Rattle.terms.specs.declared.state.Level.TheVariants as levels
 use Rattle.wire.specs.Messages.{BodyData as Body, MessageData as Message, ProofData as Proof, MarkData as Mark, macs, signature, request as Request, pre_prepare as PrePrepare, reply as Reply, fetch as Fetch}
-use Rattle.protocol.specs.System.Frames.{heard, reads_only, receivers_of}
+use Rattle.signing.specs.Heard.{heard}
+use Rattle.wire.specs.Words.{receivers_of}
+use Rattle.protocol.specs.System.Frames.{reads_only}
 use Rattle.protocol.specs.System.Trace.{Entry, Has}
 use Rattle.protocol.specs.System.Trace.Entry.{Got, Sent}
 use Rattle.protocol.specs.Replica.Certificates.{says_checkpoint, checkpoints_of, count_checkpoints}
@@ -36,14 +38,14 @@ module _ (clients : ℕ) (seed : List ℕ) (me client timestamp : ℕ) (op : Ope
   abbrev now : List Entry
   now = Sent me reply ∷ Got me read ∷ []
 
-  module _ (hears : heard c me read ≡ Some asked) (is : is_read_only op ≡ true) (a : IsAnswer c me client answer.message reply) where
+  module _ (hears : heard (members c) me read ≡ Some asked) (is : is_read_only op ≡ true) (a : IsAnswer c me client answer.message reply) where
     behind : Stage clients seed [] me (Got me read ∷ []) false none none
     behind = stage_request clients seed [] me [] (Got me read) client timestamp modes.ReadOnly op false none none (first_stage clients seed [] me) (got clients seed [] me [] read asked tt hears tt)
 
     stage : Stage clients seed [] me now false none none
     stage = stage_reply clients seed [] me (Got me read ∷ []) (Sent me reply) me client timestamp 0 modes.ReadOnly (outcome [] op) false none none behind (sent clients seed [] me (Got me read ∷ []) reply answer a.says tt)
 
-    heard_is : (other : Body) → heard c me read ≡ Some other → asked ≡ other
+    heard_is : (other : Body) → heard (members c) me read ≡ Some other → asked ≡ other
     heard_is other h = some_injective asked other (sym hears ∙ h)
 
     no_quorum : (mark : Mark) → is_quorum c (count_checkpoints c now mark) ≡ true → ⊥
@@ -56,7 +58,7 @@ module _ (clients : ℕ) (seed : List ℕ) (me client timestamp : ℕ) (op : Ope
     abbrev IsRead : Body → Type 0
     IsRead body = elim body.message [ Request t mode o ↦ reads_only mode ≡ true | _ ↦ ⊥ ]
 
-    only_read : (other : Body) → heard c me read ≡ Some other → IsRead other
+    only_read : (other : Body) → heard (members c) me read ≡ Some other → IsRead other
     only_read other h = subst IsRead (heard_is other h) refl
 
     same_bytes : (bytes : List ℕ) → Got me read ≡ Got me bytes → read ≡ bytes
@@ -84,7 +86,7 @@ module _ (clients : ℕ) (seed : List ℕ) (me client timestamp : ℕ) (op : Ope
       fetched_digests = λ s k index level children asks st kept. absurd (only_read (record { sender = s; message = Fetch k level index }) asks);
       fetched_page = λ s k index asks st kept. absurd (only_read (record { sender = s; message = Fetch k levels.Page index }) asks);
       fetches = λ k root quorum above newer. absurd (no_quorum (record { number = k; digest = root }) quorum);
-      dropped = λ bytes same drops. absurd (drops asked (subst (λ (bs : List ℕ). heard c me bs ≡ Some asked) (same_bytes bytes same) hears) is);
+      dropped = λ bytes same drops. absurd (drops asked (subst (λ (bs : List ℕ). heard (members c) me bs ≡ Some asked) (same_bytes bytes same) hears) is);
     }
 
     quiet : first_point ≡ record first_point { ran = []; waiting = waiting_after c me first_point read }

@@ -4,9 +4,9 @@ use Rattle.std.specs.Prelude.{◌==◌, nat_lt, nat_le, option_and_then}
 use Rattle.std.proofs.lemmas.Bool.{and_parts, leb-true, ltb-true}
 use Rattle.sha2.specs.Sha256.{sha256}
 use Rattle.quorum.specs.Votes.{give_if}
-use Rattle.protocol.specs.System.Configuration.{Configuration, primary, span, is_number}
+use Rattle.protocol.specs.System.Configuration.{Configuration, primary, span, is_number, members}
 use Rattle.wire.specs.Messages.{BodyData as Body, MessageData as Message, NewViewData, pre_prepare as PrePrepare}
-use Rattle.protocol.specs.System.Frames.{heard}
+use Rattle.signing.specs.Heard.{heard}
 use Rattle.protocol.specs.System.Trace.{Entry, party_of, history_of, Once, SendsBody}
 use Rattle.protocol.specs.System.Trace.Entry.{Invoke, Got, Tick, Executed, Installed, Sent, Accepted}
 use Rattle.protocol.specs.Replica.Certificates.{view, target, is_later, is_active_in, new_view_in, new_view_from, taken, checkpoint_from, low, is_in_marks, are_genuine, batch_from, batch_begun, proposal, entry_proposal, logged, commit_from, vote_in, commit_of}
@@ -91,7 +91,7 @@ proposal_other : (c : Configuration) (me v i : ℕ) (batch : List ℕ) (sender :
 proposal_other c me v i batch sender (PrePrepare w number b) h = (refl, refl)
 proposal_other c me v i batch sender _ h = absurd cc
 
-no_view_heard : (c : Configuration) (p : ℕ) (bytes : List ℕ) (body : Body) → heard c p bytes ≡ Some body → new_view_from c body ≡ None → new_view_in c (Got p bytes) ≡ None
+no_view_heard : (c : Configuration) (p : ℕ) (bytes : List ℕ) (body : Body) → heard (members c) p bytes ≡ Some body → new_view_from c body ≡ None → new_view_in c (Got p bytes) ≡ None
 no_view_heard c p bytes body hears other = ap (option_and_then (new_view_from c)) hears ∙ other
 
 -- the number that a right replica proposes a batch for is in the marks

@@ -9,7 +9,8 @@ use Rattle.authenticator.specs.Authentic.{mac_of}
 use Rattle.signing.specs.Heard.{has_signature}
 use Rattle.tuple_codec.specs.Operations.{Outcome}
 use Rattle.protocol.specs.System.Configuration.{Configuration}
-use Rattle.protocol.specs.System.Frames.{frame_of, said, reads_only}
+use Rattle.wire.specs.Words.{frame_of, said}
+use Rattle.protocol.specs.System.Frames.{reads_only}
 use Rattle.protocol.specs.System.Trace.{Entry, party_of, Always}
 use Rattle.protocol.specs.System.Trace.Entry.{Sent}
 use Rattle.protocol.specs.Client.RightClient.{OpenCall, open_call, Reaction, reaction, weak_reaction, MayAccept, MayWeaklyAccept, MayAsk, MayClient, RightBy}

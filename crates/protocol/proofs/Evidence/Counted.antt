@@ -4,11 +4,12 @@ use Rattle.std.specs.Prelude.{◌==◌, option_and_then}
 use Rattle.std.proofs.lemmas.Bool.{and_parts}
 use Rattle.quorum.specs.Votes.{give_if}
 use Rattle.tuple_codec.specs.Operations.{Outcome}
-use Rattle.protocol.specs.System.Configuration.{Configuration}
+use Rattle.protocol.specs.System.Configuration.{Configuration, members}
 use Rattle.terms.specs.declared.order.Mode.{Mode}
 use Rattle.terms.specs.declared.order.Mode.TheVariants as modes
 use Rattle.wire.specs.Messages.{BodyData as Body, MessageData as Message, reply as Reply}
-use Rattle.protocol.specs.System.Frames.{heard, reads_only}
+use Rattle.signing.specs.Heard.{heard}
+use Rattle.protocol.specs.System.Frames.{reads_only}
 use Rattle.protocol.specs.System.Trace.{Entry, Hears}
 use Rattle.protocol.specs.System.Trace.Entry.{Invoke, Got, Tick, Executed, Installed, Sent, Accepted}
 use Rattle.protocol.specs.Client.RightClient.{Vote, vote_of, later_vote, latest}
@@ -36,7 +37,7 @@ other modes.ReadOnly modes.Ordered number answer earlier differ = refl
 -- a vote on another call, or of another replica or mode
 left : (c : Configuration) (me s timestamp : ℕ) (mode : Mode) (p : ℕ) (bytes : List ℕ) (past : List Entry) (earlier : Option Vote)
     → ((number : ℕ) (answer : Outcome) → Hears c me (record { sender = s; message = Reply me timestamp mode number answer }) past (Got p bytes) → ⊥)
-    → (o : Option Body) → heard c me bytes ≡ o → later_vote (reads_only mode) (option_and_then (vote_of me timestamp s) o) earlier ≡ earlier
+    → (o : Option Body) → heard (members c) me bytes ≡ o → later_vote (reads_only mode) (option_and_then (vote_of me timestamp s) o) earlier ≡ earlier
 left c me s timestamp mode p bytes past earlier never None hears = refl
 left c me s timestamp mode p bytes past earlier never (Some body) hears = go body.message refl
   where
@@ -57,7 +58,7 @@ left c me s timestamp mode p bytes past earlier never (Some body) hears = go bod
 
 pub latest_stays : LatestStays
 unfolding latest
-latest_stays c me s timestamp mode (Got p bytes) past no_call never = left c me s timestamp mode p bytes past (latest c me past timestamp (reads_only mode) s) never (heard c me bytes) refl
+latest_stays c me s timestamp mode (Got p bytes) past no_call never = left c me s timestamp mode p bytes past (latest c me past timestamp (reads_only mode) s) never (heard (members c) me bytes) refl
 latest_stays c me s timestamp mode (Invoke k t op) past no_call never = absurd (no_call k t op refl)
 latest_stays c me s timestamp mode (Tick p) past no_call never = refl
 latest_stays c me s timestamp mode (Executed r k batch) past no_call never = refl

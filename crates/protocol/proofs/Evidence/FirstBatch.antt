@@ -6,9 +6,10 @@ use Rattle.std.proofs.lemmas.Slice.Eq.{bytes_eq-Decides}
 use Rattle.sha2.specs.Sha256.{sha256}
 use Rattle.quorum.specs.Quorum.{count_below}
 use Rattle.quorum.specs.Votes.{has_digest, or_else}
-use Rattle.protocol.specs.System.Configuration.{Configuration}
+use Rattle.protocol.specs.System.Configuration.{Configuration, members}
 use Rattle.wire.specs.Messages.{BodyData as Body, MessageData as Message, ProofData as Proof, macs, signature, pre_prepare as PrePrepare, prepare as Prepare, commit as Commit}
-use Rattle.protocol.specs.System.Frames.{receivers_of, said, heard}
+use Rattle.signing.specs.Heard.{heard}
+use Rattle.wire.specs.Words.{receivers_of, said}
 use Rattle.protocol.specs.System.Trace.{Entry}
 use Rattle.protocol.specs.System.Trace.Entry.{Got, Executed, Sent}
 use Rattle.protocol.specs.Replica.Certificates.{view, target, low, taken, is_active_in, counts_at, logged, prepare_of, prepare_from, commit_of, commit_from, vote_in, first_given, Prepared, Committed, is_in_marks, batch_begun, begun_proposal, entry_proposal}
@@ -148,8 +149,8 @@ module _ (clients : ℕ) (seed batch a b d e f g : List ℕ) (x : IsFirstBatch (
   abbrev give : (Body → Option (List ℕ)) → List Entry → Entry → Option (List ℕ)
   give vote past e = vote_in c 1 past e vote 0 1
 
-  vote_got : (vote : Body → Option (List ℕ)) (past : List Entry) (bytes : List ℕ) (body : Body) → AllPlain c past → heard c 1 bytes ≡ Some body → give vote past (Got 1 bytes) ≡ vote body
-  vote_got vote past bytes body p h = ap (λ (t : Bool). cond t (option_and_then vote (heard c 1 bytes)) None) (counts past bytes p) ∙ ap (option_and_then vote) h
+  vote_got : (vote : Body → Option (List ℕ)) (past : List Entry) (bytes : List ℕ) (body : Body) → AllPlain c past → heard (members c) 1 bytes ≡ Some body → give vote past (Got 1 bytes) ≡ vote body
+  vote_got vote past bytes body p h = ap (λ (t : Bool). cond t (option_and_then vote (heard (members c) 1 bytes)) None) (counts past bytes p) ∙ ap (option_and_then vote) h
 
   vote_said : (vote : Body → Option (List ℕ)) (past : List Entry) (bytes : List ℕ) (body : Body) → said bytes ≡ Some body → give vote past (Sent 1 bytes) ≡ vote body
   vote_said vote past bytes body h = ap (option_and_then vote) h

@@ -11,8 +11,10 @@ use Rattle.std.specs.List.{range_with_len}
 use Rattle.std.proofs.lemmas.Bool.{eq-eqb}
 use Rattle.terms.specs.declared.order.Mode.TheVariants as modes
 use Rattle.wire.specs.Messages.{BodyData as Body, FrameData as Frame, reply as Reply}
-use Rattle.protocol.specs.System.Configuration.{Configuration}
-use Rattle.protocol.specs.System.Frames.{heard, IsSealed, receivers_of}
+use Rattle.protocol.specs.System.Configuration.{Configuration, members}
+use Rattle.signing.specs.Heard.{heard}
+use Rattle.wire.specs.Words.{receivers_of}
+use Rattle.protocol.specs.System.Frames.{IsSealed}
 use Rattle.protocol.specs.System.Trace.{Entry, history_of}
 use Rattle.protocol.specs.System.Trace.Entry.{Invoke, Got, Sent, Accepted}
 use Rattle.protocol.specs.Client.RightClient.{OpenCall, Vote, vote_of, later_vote, latest, is_alike, is_complete, newest_vote, is_ordered_request, went_ordered, is_answered, Reaction, on_got, fallback, reaction, IsRequest, IsReaction, Reacts, IsClient}
@@ -49,7 +51,7 @@ module _ (clients : ℕ) (seed : List ℕ) (op : Operation) (batch : List ℕ) (
   abbrev three : List Entry
   three = Got 256 (w.reply 2) ∷ two
 
-  hears : (r : ℕ) → r < 4 → heard c 256 (w.reply r) ≡ Some (record { sender = r; message = Reply 256 1 modes.Ordered 1 (first_answer op) })
+  hears : (r : ℕ) → r < 4 → heard (members c) 256 (w.reply r) ≡ Some (record { sender = r; message = Reply 256 1 modes.Ordered 1 (first_answer op) })
   hears r l = (x.replies r l).is_heard 256 (inl refl)
 
   goes_ordered : went_ordered asked 1 ≡ true

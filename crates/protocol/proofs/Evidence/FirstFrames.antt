@@ -25,7 +25,7 @@ use Rattle.protocol.specs.System.Schedule.{sealed_bytes}
 use Rattle.protocol.specs.Evidence.Examples.{four}
 use Rattle.protocol.specs.System.Trace.{Has}
 use Rattle.protocol.specs.Evidence.FirstOperation.{FirstFrames, AreFirstFrames, first_answer, FirstFramesExist}
-use Rattle.protocol.proofs.Words.PartsBytes.{no_bytes, bytes_4}
+use Rattle.wire.proofs.PartsBytes.{no_bytes, bytes_4}
 use Rattle.protocol.proofs.Evidence.FirstFramesSealed.{MaySeal, sealed_length, sealed_spells, sealed_is_heard}
 
 -- ---- lengths

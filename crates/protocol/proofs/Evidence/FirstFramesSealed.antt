@@ -1,10 +1,9 @@
 -- What is sealed is heard.
-use Rattle.std.proofs.Common.{◌≡◌, ℕ, suc, sym, subst, ◌+◌, ◌^◌, ◌<◌, ◌≤◌, inl, inr, Bool, true, false, List, [], ◌∷◌, map, length, Contains, All, AllPairs, Some, refl, ap, ◌∙◌, ◌*◌, arith, ◌||◌, length-append}
+use Rattle.std.proofs.Common.{◌≡◌, ℕ, suc, sym, subst, ◌+◌, ◌^◌, ◌<◌, ◌≤◌, inl, inr, Bool, true, false, List, [], ◌∷◌, map, length, Contains, All, AllPairs, Some, refl, ap, ◌*◌, arith, ◌||◌, length-append}
 use Rattle.std.specs.Prelude.{nat_lt, nat_le}
 use Rattle.std.proofs.lemmas.Bool.{and_parts, and_from, ltb-true, lt-ltb}
 use Rattle.std.specs.Int.{w32, to_be_bytes}
 use Rattle.std.proofs.lemmas.List.Elements.{All-map}
-use Rattle.tuple_tree.specs.Values.{AreBytes}
 use Rattle.wire.specs.Lists.{Each, each_spelling, leads, ascends}
 use Rattle.wire.specs.Messages.{BodyData as Body, MessageData as Message, MacData, FrameData as Frame, request as Request, pre_prepare as PrePrepare, prepare as Prepare, commit as Commit, checkpoint as Checkpoint, view_change as ViewChange, new_view as NewView, reply as Reply, fetch as Fetch, meta as Meta, page as Page}
 use Rattle.wire.specs.Spelling.{IsMac, mac_spelling, body_spelling, frame_limit, SpellsFrame}
@@ -19,12 +18,11 @@ use Rattle.authenticator.proofs.Lengths.{length-hmac_of}
 use Rattle.authenticator.proofs.Sealing.{sealed-spells}
 use Rattle.signing.proofs.Heard.{opened_is_heard}
 use Rattle.protocol.specs.System.Configuration.{Configuration, IsConfiguration, replicas, is_replica, is_client, members}
-use Rattle.protocol.specs.System.Frames.{heard}
+use Rattle.signing.specs.Heard.{heard}
 use Rattle.protocol.specs.System.Trace.{Has}
 use Rattle.protocol.specs.System.Schedule.{is_party, sealed_bytes}
 use Rattle.protocol.specs.Evidence.FirstOperation.{IsFrom, SealedFramesAreHeard}
-use Rattle.protocol.proofs.Words.Spelled.{frames_are_spelled, bodies_are_said, bytes_are_heard}
-use Rattle.protocol.proofs.Words.FramesBytes.{spelled_bytes}
+use Rattle.wire.proofs.Saying.{reads_frames, reads_said}
 
 -- ---- the entries of a proof
 
@@ -79,24 +77,20 @@ module _ (c : Configuration) (body : Body) (receivers : List ℕ) (may : MaySeal
       sealed-spells c.seed body receivers sealed (map (entry_for c.seed body.sender text) receivers) may.can refl
       (are_macs c.seed body.sender text receivers may.parties) (omega (arith, n, m, may.short)) refl
 
-  sealed_are_bytes : AreBytes sealed
-  sealed_are_bytes = spelled_bytes sealed frame sealed_spells
-
   opens : (p : ℕ) → Has (λ r. r ≡ p) receivers → Opens (members c) p sealed frame
   opens p among = record { spelled = sealed_spells; sender = may.known; proved = entries-have c.seed body.sender text receivers p (has_contains p receivers among) }
 
-  hears : (p : ℕ) → Has (λ r. r ≡ p) receivers → heard c p sealed ≡ Some body
+  hears : (p : ℕ) → Has (λ r. r ≡ p) receivers → heard (members c) p sealed ≡ Some body
   hears p among =
-      let b = bytes_are_heard c sealed sealed_are_bytes in
-      let takes = opened_is_heard (members c) p sealed frame (opens p among) (λ signed. absurd (let u = may.can.unsigned in let g : ⊥ = cc in g)) in
-      (b.others p body).1 (b.all p ∙ takes, λ own. may.others (subst (λ (q : ℕ). Has (λ r. r ≡ q) receivers) (sym own) among))
+      opened_is_heard (members c) p sealed frame (opens p among) (λ own. may.others (subst (λ (q : ℕ). Has (λ r. r ≡ q) receivers) (sym own) among))
+      (λ signed. absurd (let u = may.can.unsigned in let g : ⊥ = cc in g))
 
   pub sealed_is_heard : IsFrom c body.sender body.message receivers sealed
   sealed_is_heard = record {
     frame = frame;
     entries = map (entry_for c.seed body.sender text) receivers;
-    spells = (frames_are_spelled sealed frame sealed_are_bytes).1 sealed_spells;
-    says = bodies_are_said sealed frame sealed_are_bytes sealed_spells;
+    spells = (reads_frames sealed frame).1 sealed_spells;
+    says = reads_said sealed frame sealed_spells;
     has_macs = refl;
     is_sealed = All-map (λ (x : MacData). x.mac ≡ mac_of c.seed x.receiver body) (entry_for c.seed body.sender text) receivers (λ k d within. refl);
     is_for = are_for c.seed body.sender text receivers;

@@ -7,8 +7,10 @@ use Rattle.quorum.specs.Votes.{give_if}
 use Rattle.std.proofs.lemmas.Bool.{eq-eqb}
 use Rattle.terms.specs.declared.order.Mode.TheVariants as modes
 use Rattle.wire.specs.Messages.{BodyData as Body, FrameData as Frame, reply as Reply}
-use Rattle.protocol.specs.System.Configuration.{Configuration}
-use Rattle.protocol.specs.System.Frames.{heard, IsSealed, receivers_of}
+use Rattle.protocol.specs.System.Configuration.{Configuration, members}
+use Rattle.signing.specs.Heard.{heard}
+use Rattle.wire.specs.Words.{receivers_of}
+use Rattle.protocol.specs.System.Frames.{IsSealed}
 use Rattle.protocol.specs.System.Trace.{Entry}
 use Rattle.protocol.specs.System.Trace.Entry.{Invoke, Got, Sent, Accepted}
 use Rattle.protocol.specs.Client.RightClient.{OpenCall, Vote, vote_of, later_vote, latest, is_alike, is_complete, newest_vote, is_answered, went_ordered, Reaction, on_got, reaction, IsRequest, IsReaction, Reacts}
@@ -42,7 +44,7 @@ module _ (clients number : ℕ) (seed : List ℕ) (op : Operation) (answer : Out
   abbrev three : List Entry
   three = Got 256 (reply 2) ∷ two
 
-  hears : (r : ℕ) → r < 4 → heard c 256 (reply r) ≡ Some (record { sender = r; message = Reply 256 1 modes.ReadOnly number answer })
+  hears : (r : ℕ) → r < 4 → heard (members c) 256 (reply r) ≡ Some (record { sender = r; message = Reply 256 1 modes.ReadOnly number answer })
   hears r l = (x.replies r l).is_heard 256 (inl refl)
 
   -- ---- the latest replies

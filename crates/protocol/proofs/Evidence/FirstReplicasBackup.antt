@@ -5,10 +5,10 @@ use Rattle.std.specs.List.{list_any, range_with_len}
 use Rattle.std.proofs.lemmas.Bool.{both_ways}
 use Rattle.sha2.specs.Sha256.{sha256}
 use Rattle.tuple_codec.specs.Operations.{Operation}
-use Rattle.protocol.specs.System.Configuration.{Configuration, IsConfiguration}
+use Rattle.protocol.specs.System.Configuration.{Configuration, IsConfiguration, members}
 use Rattle.terms.specs.declared.order.Mode.TheVariants as modes
 use Rattle.wire.specs.Messages.{prepare as Prepare}
-use Rattle.protocol.specs.System.Frames.{heard}
+use Rattle.signing.specs.Heard.{heard}
 use Rattle.protocol.specs.System.Trace.{Entry}
 use Rattle.protocol.specs.System.Trace.Entry.{Got, Executed, Sent}
 use Rattle.protocol.specs.Replica.Certificates.{are_genuine, batch_from, Committed}
@@ -111,13 +111,13 @@ module _ (clients : ℕ) (seed : List ℕ) (op : Operation) (batch : List ℕ) (
   abbrev k4 : ℕ → Bool
   k4 = and_of k3 f
 
-  hears_request : heard c me w.request ≡ Some (asks op)
+  hears_request : heard (members c) me w.request ≡ Some (asks op)
   hears_request = steps.hears_request self
 
   genuine : are_genuine c me batch ≡ true
   genuine = steps.genuine self
 
-  hears_proposal : heard c me w.pre_prepare ≡ Some (proposes batch)
+  hears_proposal : heard (members c) me w.pre_prepare ≡ Some (proposes batch)
   hears_proposal = x.proposes.is_heard me (is_among me (others c 0) order.gets)
 
   -- ---- what is certified

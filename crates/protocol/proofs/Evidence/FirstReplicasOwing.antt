@@ -5,11 +5,12 @@ use Rattle.std.proofs.lemmas.Bool.{and_parts, leb-true, le-leb, false_from_ne_tr
 use Rattle.sha2.specs.Sha256.{sha256}
 use Rattle.quorum.specs.Quorum.{count_below}
 use Rattle.quorum.specs.Votes.{has_digest, give_if}
-use Rattle.protocol.specs.System.Configuration.{Configuration, primary}
+use Rattle.protocol.specs.System.Configuration.{Configuration, primary, members}
 use Rattle.terms.specs.declared.order.Mode.TheVariants as modes
 use Rattle.terms.specs.declared.state.Level.TheVariants as levels
 use Rattle.wire.specs.Messages.{BodyData as Body, MessageData as Message, MarkData as Mark, request as Request, pre_prepare as PrePrepare, prepare as Prepare, commit as Commit, fetch as Fetch}
-use Rattle.protocol.specs.System.Frames.{heard, reads_only}
+use Rattle.signing.specs.Heard.{heard}
+use Rattle.protocol.specs.System.Frames.{reads_only}
 use Rattle.protocol.specs.System.Trace.{Entry, Has}
 use Rattle.protocol.specs.System.Trace.Entry.{Got}
 use Rattle.protocol.specs.Replica.Certificates.{view, target, is_active_in, logged, prepare_of, commit_of, checkpoints_of, says_checkpoint, count_checkpoints, Prepared, Committed}
@@ -132,7 +133,7 @@ module _ (clients : ℕ) (seed batch : List ℕ) (me : ℕ) where
   -- then; k': who committed it behind the event.
   pub record Due (before : List Entry) (bytes : List ℕ) (outputs now : List Entry) (old new : Point) (l l' : Bool) (p p' k' : ℕ → Bool) : Type 0 where
     pub body : Body
-    pub hears : heard c me bytes ≡ Some body
+    pub hears : heard (members c) me bytes ≡ Some body
     pub unanswered : IsUnanswered old body.message
     pub numbers : me ≡ 0 → (call : Call) → Has (λ x. x ≡ call) new.waiting → IsNumbered c me now 0 call.client call.timestamp
     pub numbers_once : AtOutputs (NumbersOnce c me) (Got me bytes ∷ before) outputs
@@ -143,7 +144,7 @@ module _ (clients : ℕ) (seed batch : List ℕ) (me : ℕ) where
     pub checkpoints : (n : ℕ) → Has (λ e. Executes n [] e) outputs → n ≡ 1
     pub dropped : IsDropped c me before old bytes → outputs ≡ []
 
-  heard_is : (bytes : List ℕ) (body other : Body) → heard c me bytes ≡ Some body → heard c me bytes ≡ Some other → body ≡ other
+  heard_is : (bytes : List ℕ) (body other : Body) → heard (members c) me bytes ≡ Some body → heard (members c) me bytes ≡ Some other → body ≡ other
   heard_is bytes body other h k = some_injective body other (sym h ∙ k)
 
   is_ordered : modes.ReadOnly ≡ modes.Ordered → ⊥

@@ -4,11 +4,11 @@ use Rattle.std.specs.Prelude.{AllPairs, ⊤}
 use Rattle.std.proofs.lemmas.Bool.{both_ways}
 use Rattle.tuple_codec.specs.Operations.{Operation}
 use Rattle.reply_cache.specs.Replies.{no_replies}
-use Rattle.protocol.specs.System.Configuration.{Configuration, IsConfiguration}
+use Rattle.protocol.specs.System.Configuration.{Configuration, IsConfiguration, members}
 use Rattle.terms.specs.declared.order.Mode.TheVariants as modes
 use Rattle.wire.specs.Messages.{BodyData as Body, pre_prepare as PrePrepare}
 use Rattle.wire.specs.Words.{requests_of}
-use Rattle.protocol.specs.System.Frames.{heard}
+use Rattle.signing.specs.Heard.{heard}
 use Rattle.protocol.specs.System.Trace.{Entry, Once, Has}
 use Rattle.protocol.specs.System.Trace.Entry.{Got, Executed, Sent}
 use Rattle.protocol.specs.Replica.Certificates.{are_genuine, Committed}
@@ -98,7 +98,7 @@ module _ (clients : ℕ) (seed : List ℕ) (op : Operation) (batch : List ℕ) (
   abbrev k4 : ℕ → Bool
   k4 = and_of k3 1
 
-  hears_request : heard c 0 w.request ≡ Some (asks op)
+  hears_request : heard (members c) 0 w.request ≡ Some (asks op)
   hears_request = steps.hears_request self
 
   genuine : are_genuine c 0 batch ≡ true

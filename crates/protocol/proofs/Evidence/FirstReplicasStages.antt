@@ -5,9 +5,10 @@ use Rattle.std.specs.Prelude.{◌==◌, option_and_then}
 use Rattle.std.proofs.lemmas.Bool.{and_parts, eqb-false, ne_eqb}
 use Rattle.sha2.specs.Sha256.{sha256}
 use Rattle.quorum.specs.Votes.{or_else, give_if}
-use Rattle.protocol.specs.System.Configuration.{Configuration, primary}
+use Rattle.protocol.specs.System.Configuration.{Configuration, primary, members}
 use Rattle.wire.specs.Messages.{BodyData as Body, MarkData as Mark, request as Request, pre_prepare as PrePrepare, prepare as Prepare, commit as Commit, reply as Reply, fetch as Fetch, meta as Meta}
-use Rattle.protocol.specs.System.Frames.{said, heard}
+use Rattle.signing.specs.Heard.{heard}
+use Rattle.wire.specs.Words.{said}
 use Rattle.protocol.specs.System.Trace.{Entry}
 use Rattle.protocol.specs.System.Trace.Entry.{Got, Executed, Sent}
 use Rattle.protocol.specs.Replica.Certificates.{brought, low, is_active_in, is_in_marks, counts_at, are_genuine, logged, proposal, batch_from, prepare_of, prepare_from, commit_of, commit_from, vote_in, checkpoints_of, with_checkpoint, checkpoint_in}
@@ -105,7 +106,7 @@ module _ (clients : ℕ) (seed batch : List ℕ) (me : ℕ) where
       subst (λ (x : ℕ). (is_active_in c past x && is_in_marks c (low c me past) i) ≡ true) (sym w.0)
       (subst (λ (x : ℕ). (is_active_in c past 0 && is_in_marks c (low c me past) x) ≡ true) (sym w.1) (rw (s.view_is, s.target_is, s.low_is) refl))
 
-  pub got : (past : List Entry) (bytes : List ℕ) (body : Body) → AllPlain c past → heard c me bytes ≡ Some body → IsPlain body.message → Brings past (Got me bytes) body
+  pub got : (past : List Entry) (bytes : List ℕ) (body : Body) → AllPlain c past → heard (members c) me bytes ≡ Some body → IsPlain body.message → Brings past (Got me bytes) body
   got past bytes body q h o = record { plain = heard_plain c past me bytes body h o; brings = h; counts = active_here past q }
 
   pub sent : (past : List Entry) (bytes : List ℕ) (body : Body) → said bytes ≡ Some body → IsPlain body.message → Brings past (Sent me bytes) body

@@ -7,11 +7,12 @@ use Rattle.std.proofs.lemmas.Bool.{ltb-false}
 use Rattle.sha2.specs.Sha256.{sha256}
 use Rattle.tuple_codec.specs.Operations.{Operation}
 use Rattle.reply_cache.specs.Replies.{no_replies}
-use Rattle.protocol.specs.System.Configuration.{Configuration, IsConfiguration}
+use Rattle.protocol.specs.System.Configuration.{Configuration, IsConfiguration, members}
 use Rattle.terms.specs.declared.order.Mode.TheVariants as modes
 use Rattle.wire.specs.Messages.{BodyData as Body, MessageData as Message, FrameData as Frame, macs, request as Request, pre_prepare as PrePrepare, prepare as Prepare, commit as Commit, reply as Reply}
-use Rattle.wire.specs.Words.{carried, requests_of}
-use Rattle.protocol.specs.System.Frames.{heard, IsSealed, receivers_of}
+use Rattle.wire.specs.Words.{carried, requests_of, receivers_of}
+use Rattle.signing.specs.Heard.{heard}
+use Rattle.protocol.specs.System.Frames.{IsSealed}
 use Rattle.protocol.specs.System.Trace.{Entry, Once, Has}
 use Rattle.protocol.specs.System.Trace.Entry.{Sent}
 use Rattle.protocol.specs.Replica.Certificates.{are_genuine}
@@ -107,7 +108,7 @@ module _ (o : Part) where
   abbrev c : Configuration
   c = four clients seed
 
-  pub hears_request : heard c me w.request ≡ Some (asks op)
+  pub hears_request : heard (members c) me w.request ≡ Some (asks op)
   hears_request = o.are_frames.asks.is_heard me (is_among me (range_with_len 0 4) o.member)
 
   pub genuine : are_genuine c me batch ≡ true
@@ -139,7 +140,7 @@ module _ (o : Part) where
       sym (ap (point_of opening []) (ap (λ (body : Option Body). option_map_or (with_waiting opening []) (option_and_then (call_in c) body) []) hears_request ∙ ap (λ (call : Option Call). option_map_or (with_waiting opening []) call []) calls))
 
   -- what is no request changes nothing that waits
-  pub moves_quiet : (st : State) (rans : List Ran) (waiting : List Call) (bytes : List ℕ) (body : Body) → heard c me bytes ≡ Some body → call_in c body ≡ None
+  pub moves_quiet : (st : State) (rans : List Ran) (waiting : List Call) (bytes : List ℕ) (body : Body) → heard (members c) me bytes ≡ Some body → call_in c body ≡ None
       → point_of st [] waiting ≡ record (point_of st rans waiting) { ran = []; waiting = waiting_after c me (point_of st rans waiting) bytes }
   moves_quiet st rans waiting bytes body h none =
       sym (ap (point_of st []) (ap (λ (o : Option Body). option_map_or (with_waiting st waiting) (option_and_then (call_in c) o) waiting) h ∙ ap (λ (call : Option Call). option_map_or (with_waiting st waiting) call waiting) none))

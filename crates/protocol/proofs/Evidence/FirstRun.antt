@@ -8,16 +8,15 @@ use Rattle.tuple_codec.specs.Operations.{Operation}
 use Rattle.protocol.specs.System.Configuration.{Configuration, IsConfiguration, is_replica, is_client, is_correct_client, is_correct}
 use Rattle.protocol.specs.System.Trace.{Entry, party_of, is_output, history_of, Always, Once, SendsBody, IsFromSender, IsUnforgedAt, Unforged, carried_by}
 use Rattle.protocol.specs.System.Trace.Entry.{Sent}
-use Rattle.protocol.specs.System.Frames.{said}
 use Rattle.wire.specs.Messages.{BodyData as Body}
-use Rattle.wire.specs.Words.{carried}
+use Rattle.wire.specs.Words.{carried, said}
 use Rattle.protocol.specs.Client.RightClient.{IsClient}
 use Rattle.protocol.specs.Replica.Owed.{IsReplica}
 use Rattle.protocol.specs.System.Run.{Follows, IsRun}
 use Rattle.protocol.specs.Evidence.Examples.{four}
 use Rattle.protocol.specs.Evidence.FirstOperation.{FirstFrames, AreFirstFrames, first_trace, FirstOperationIsRun, FirstOperationIsUnforged}
 use Rattle.protocol.proofs.Words.Options.{some_injective}
-use Rattle.protocol.proofs.Words.Linking.{opened_said}
+use Rattle.protocol.proofs.Words.Linking.{heard_said, signed_said}
 use Rattle.protocol.proofs.Evidence.FirstScheduleMoves.{or_cases, is_known, known_correct, Row, Move, moves, row, entry_of, moves_make, is_row}
 use Rattle.protocol.proofs.Evidence.FirstScheduleMoves.Move.{asks, sends, gets, runs, accepts}
 use Rattle.protocol.proofs.Evidence.FirstClient
@@ -147,10 +146,16 @@ module _ (clients : ℕ) (seed : List ℕ) (op : Operation) (batch : List ℕ) (
       here accepts e = absurd cc
 
   from_sender : (me n : ℕ) (past : List Move) → was_sent past n ≡ true → IsFromSender configuration me (map entry past) (the n).bytes
-  from_sender me n past h heard_body is correct =
-      let r = is_row clients seed op batch w x n in
-      let same : body n ≡ heard_body = some_injective (body n) heard_body (sym r.from.says ∙ opened_said configuration me (the n).bytes heard_body is) in
-      subst (λ (b : Body). Once (SendsBody b) (map entry past)) same (once_sent n r.from.says past h)
+  from_sender me n past h = record {
+    hears = λ other is correct. sent other (heard_said configuration me (the n).bytes other is);
+    signed = λ other is correct. sent other (signed_said configuration (the n).bytes other is);
+  }
+    where
+      sent : (other : Body) → said (the n).bytes ≡ Some other → Once (SendsBody other) (map entry past)
+      sent other says =
+          let r = is_row clients seed op batch w x n in
+          let same : body n ≡ other = some_injective (body n) other (sym r.from.says ∙ says) in
+          subst (λ (b : Body). Once (SendsBody b) (map entry past)) same (once_sent n r.from.says past h)
 
   from_senders : (me : ℕ) (past : List Move) (ns : List ℕ) → list_all (was_sent past) ns ≡ true
       → Each (IsFromSender configuration me (map entry past)) (map (λ n. (the n).bytes) ns)

@@ -10,7 +10,7 @@ use Rattle.tuple_codec.specs.Operations.{Operation}
 use Rattle.quorum.specs.Votes.{or_else}
 use Rattle.wire.specs.Messages.{FrameData as Frame, ProofData as Proof, MacData, macs, signature}
 use Rattle.protocol.specs.System.Configuration.{Configuration, IsConfiguration, is_correct}
-use Rattle.protocol.specs.System.Frames.{receivers_of}
+use Rattle.wire.specs.Words.{receivers_of}
 use Rattle.protocol.specs.System.Trace.{Entry}
 use Rattle.protocol.specs.System.Trace.Entry.{Invoke, Got, Executed, Sent}
 use Rattle.protocol.specs.System.Schedule.{calls, flush, Made, meant_for, made_by, World, new_world, with_entry, is_delivered, next_receiver, next_pair, pending, Goes, Feeds}

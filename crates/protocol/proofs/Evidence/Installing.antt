@@ -1,10 +1,10 @@
 -- The definitions accept a replica that is behind and installs the others' state.
 use Rattle.std.proofs.Common.{◌≡◌, ℕ, inl, inr, Bool, true, false, List, [], ◌∷◌, refl, sym, subst, arith, Some, None, eqb-true}
 use Rattle.std.specs.Prelude.{◌==◌}
-use Rattle.protocol.specs.System.Configuration.{Configuration}
+use Rattle.protocol.specs.System.Configuration.{Configuration, members}
 use Rattle.wire.specs.Messages.{BodyData as Body, checkpoint as Checkpoint, page as Page}
 use Rattle.space.specs.Pages.{header_text}
-use Rattle.protocol.specs.System.Frames.{heard}
+use Rattle.signing.specs.Heard.{heard}
 use Rattle.protocol.specs.System.Trace.{Entry}
 use Rattle.protocol.specs.System.Trace.Entry.{Got, Installed}
 use Rattle.protocol.specs.Replica.State.{IsState, opening, root_of, page_text}
@@ -40,13 +40,13 @@ module _ (clients : ℕ) (seed : List ℕ) (checkpoint : ℕ → List ℕ) (head
   abbrev header_page : Body
   header_page = record { sender = 1; message = Page 16 512 (header_text later_state.space 16) }
 
-  hears1 : heard c 0 (checkpoint 1) ≡ Some (checkpoint_of 1)
+  hears1 : heard (members c) 0 (checkpoint 1) ≡ Some (checkpoint_of 1)
   hears1 = f.checkpoints 1 (omega arith) (omega arith)
 
-  hears2 : heard c 0 (checkpoint 2) ≡ Some (checkpoint_of 2)
+  hears2 : heard (members c) 0 (checkpoint 2) ≡ Some (checkpoint_of 2)
   hears2 = f.checkpoints 2 (omega arith) (omega arith)
 
-  hears3 : heard c 0 (checkpoint 3) ≡ Some (checkpoint_of 3)
+  hears3 : heard (members c) 0 (checkpoint 3) ≡ Some (checkpoint_of 3)
   hears3 = f.checkpoints 3 (omega arith) (omega arith)
 
   -- ---- whose checkpoints there are

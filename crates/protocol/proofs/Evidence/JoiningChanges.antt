@@ -1,20 +1,19 @@
 -- The definitions accept a replica that joins the view changes of two others in the beginning.
 use Rattle.std.proofs.Common.{◌≡◌, ◌≢◌, ℕ, ◌<◌, max, inl, inr, Bool, true, cond, ◌&&◌, List, [], ◌∷◌, refl, sym, ap, ◌∙◌, subst, arith, Option, Some, None}
 use Rattle.std.specs.Prelude.{◌==◌, nat_lt, option_and_then, All}
-use Rattle.std.specs.List.{list_all}
 use Rattle.std.specs.Option.{option_map_or}
-use Rattle.std.proofs.lemmas.Bool.{and_parts, ne_eqb}
-use Rattle.tuple_codec.proofs.Readers.{guard_holds}
+use Rattle.std.proofs.lemmas.Bool.{ne_eqb}
 use Rattle.wire.specs.Messages.{BodyData as Body, FrameData as Frame, ProofData as Proof, ViewChangeData, NewViewData, macs, signature, pre_prepare as PrePrepare, view_change as ViewChange}
-use Rattle.wire.specs.Spelling.{is_signed, body_spelling}
-use Rattle.wire.specs.Reading.{frame_read as frame_spelled}
+use Rattle.wire.specs.Spelling.{body_spelling}
+use Rattle.wire.proofs.Saying.{reads_frames}
 use Rattle.authenticator.specs.Keys.{signing_seed}
-use Rattle.authenticator.specs.Membership.{Membership, has_sender}
 use Rattle.authenticator.specs.Authentic.{mac_of}
 use Rattle.signing.specs.Signatures.{public_key}
-use Rattle.signing.specs.Heard.{signs, has_signature, signed_body as signed_among}
+use Rattle.signing.specs.Heard.{signs, has_signature, heard, signed_body}
+use Rattle.signing.proofs.Heard.{signed_is_heard, signed_was_signed}
 use Rattle.protocol.specs.System.Configuration.{Configuration, members}
-use Rattle.protocol.specs.System.Frames.{frame_of, said, heard, signed_body, IsSealed}
+use Rattle.wire.specs.Words.{frame_of, said}
+use Rattle.protocol.specs.System.Frames.{IsSealed}
 use Rattle.protocol.specs.System.Trace.{Entry, Has}
 use Rattle.protocol.specs.System.Trace.Entry.{Got, Sent}
 use Rattle.protocol.specs.Replica.Selection.{is_within, change_in}
@@ -24,36 +23,27 @@ use Rattle.protocol.specs.Replica.Owed.{Owes, IsReplica, NumbersOnce, change_tak
 use Rattle.protocol.specs.Evidence.Examples.{four}
 use Rattle.protocol.specs.Evidence.ExamplesOfChanges.{beginning_change, ChangesInBeginning, ViewChangesAreJoined}
 use Rattle.protocol.proofs.Evidence.FirstBatch.{Still, still}
-use Rattle.protocol.proofs.Words.Linking.{opened_said, signed_opened, signed_heard}
+use Rattle.protocol.proofs.Words.Linking.{signed_said}
 use Rattle.protocol.proofs.Words.Options.{some_injective}
 use Rattle.protocol.proofs.Evidence.JoiningChangesOwing.{IsOfChange, Due, owes, none_logged, none_checked, same_checkpoints, logs_nothing, moves_nothing}
 use Rattle.protocol.proofs.Words.Plain.{Plain, taken_none}
 
 -- ---- a signed frame is sealed, and for all
 
-signed_passes : (m : Membership) (bytes : List ℕ) (body : Body) (frame : Frame) → signed_among m bytes ≡ Some body → frame_spelled bytes ≡ Some frame → has_signature m.seed frame ≡ true
-unfolding signed_among
-signed_passes m bytes body frame h is =
-    let k : cond (is_signed frame.body.message && (has_sender m frame.body && has_signature m.seed frame)) (Some frame.body) None ≡ Some body
-    = sym (ap (option_and_then (λ (f : Frame). cond (is_signed f.body.message && (has_sender m f.body && has_signature m.seed f)) (Some f.body) None)) is) ∙ h in
-    let p = and_parts (is_signed frame.body.message) (has_sender m frame.body && has_signature m.seed frame) (guard_holds (is_signed frame.body.message && (has_sender m frame.body && has_signature m.seed frame)) (Some frame.body) body k).0 in
-    (and_parts (has_sender m frame.body) (has_signature m.seed frame) p.1).1
-
 -- what makes a frame sealed, of one proof
 abbrev IsSealedBy : Configuration → Frame → Proof → Type 0
 IsSealedBy c frame (macs entries) = All (λ x. x.mac ≡ mac_of c.seed x.receiver frame.body) entries
 IsSealedBy c frame (signature s) = has_signature c.seed frame ≡ true
 
-pub signed_is_sealed : (c : Configuration) (me : ℕ) (past : List Entry) (bytes : List ℕ) (body : Body) (frame : Frame) → signed_body c bytes ≡ Some body → frame_of bytes ≡ Some frame
+pub signed_is_sealed : (c : Configuration) (me : ℕ) (past : List Entry) (bytes : List ℕ) (body : Body) (frame : Frame) → signed_body (members c) bytes ≡ Some body → frame_of bytes ≡ Some frame
     → IsSealed c frame × IsAddressed c me past body.message frame.proof
-unfolding signed_body frame_of
 signed_is_sealed c me past bytes body frame h is = let r = by frame.proof own in (r.0, r.1)
   where
     own : has_signature c.seed frame ≡ true
     own =
-        let g = guard_holds (list_all (λ b. nat_lt b 256) bytes) (signed_among (members c) bytes) body h in
-        let f = guard_holds (list_all (λ b. nat_lt b 256) bytes) (frame_spelled bytes) frame is in
-        signed_passes (members c) bytes body frame g.1 f.1
+        let signed = signed_was_signed (members c) bytes body h in
+        let same : signed.frame ≡ frame = some_injective signed.frame frame (sym ((reads_frames bytes signed.frame).1 signed.spelled) ∙ is) in
+        subst (λ (f : Frame). has_signature c.seed f ≡ true) same signed.signed
 
     by : (proof : Proof) → signs (public_key (signing_seed c.seed frame.body.sender)) (body_spelling frame.body) proof ≡ true → IsSealedBy c frame proof × IsAddressed c me past body.message proof
     by (macs entries) h = absurd cc
@@ -78,11 +68,11 @@ module _ (clients : ℕ) (seed : List ℕ) (me one other : ℕ) (first second ow
   now = Sent me own ∷ h2
 
   module _ (differ : one ≢ other) (first_other : one ≢ me) (second_other : other ≢ me) (x : ChangesInBeginning c one first) (y : ChangesInBeginning c other second) (z : ChangesInBeginning c me own) where
-    hears : (s : ℕ) (bytes : List ℕ) → s ≢ me → ChangesInBeginning c s bytes → heard c me bytes ≡ Some (changing s)
-    hears s bytes other is = signed_heard c bytes (changing s) is me other
+    hears : (s : ℕ) (bytes : List ℕ) → s ≢ me → ChangesInBeginning c s bytes → heard (members c) me bytes ≡ Some (changing s)
+    hears s bytes other is = signed_is_heard (members c) me bytes (changing s) is other
 
     says : said own ≡ Some (changing me)
-    says = opened_said c me own (changing me) (signed_opened c own (changing me) z me)
+    says = signed_said c own (changing me) z
 
     -- a view change that is got changes no view and no mark
     plain : (past : List Entry) (s : ℕ) (bytes : List ℕ) → s ≢ me → ChangesInBeginning c s bytes → Plain c past (Got me bytes)

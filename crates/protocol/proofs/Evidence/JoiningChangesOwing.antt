@@ -5,11 +5,11 @@ use Rattle.std.specs.Option.{option_map_or}
 use Rattle.sha2.specs.Sha256.{sha256}
 use Rattle.quorum.specs.Votes.{or_else}
 use Rattle.quorum.proofs.Counting.{count_none}
-use Rattle.protocol.specs.System.Configuration.{Configuration, primary}
+use Rattle.protocol.specs.System.Configuration.{Configuration, primary, members}
 use Rattle.terms.specs.declared.order.Mode.TheVariants as modes
 use Rattle.terms.specs.declared.state.Level.TheVariants as levels
 use Rattle.wire.specs.Messages.{BodyData as Body, MessageData as Message, MarkData as Mark, request as Request, prepare as Prepare, view_change as ViewChange, new_view as NewView, fetch as Fetch}
-use Rattle.protocol.specs.System.Frames.{heard}
+use Rattle.signing.specs.Heard.{heard}
 use Rattle.protocol.specs.System.Trace.{Entry, Has}
 use Rattle.protocol.specs.System.Trace.Entry.{Got}
 use Rattle.protocol.specs.Replica.Selection.{is_quorum}
@@ -97,7 +97,7 @@ no_call c sender (NewView new) h = refl
 no_call c sender _ h = absurd h
 
 -- nothing waits behind it
-pub moves_nothing : (c : Configuration) (me : ℕ) (bytes : List ℕ) (body : Body) → heard c me bytes ≡ Some body → IsOfChange body.message
+pub moves_nothing : (c : Configuration) (me : ℕ) (bytes : List ℕ) (body : Body) → heard (members c) me bytes ≡ Some body → IsOfChange body.message
     → first_point ≡ record first_point { ran = []; waiting = waiting_after c me first_point bytes }
 moves_nothing c me bytes body hears is =
     ap (λ (calls : List Call). let p : Point = record first_point { waiting = calls } in p)
@@ -109,7 +109,7 @@ moves_nothing c me bytes body hears is =
 -- What is to be shown of the event, where nothing is executed and the point stays the first.
 pub record Due (c : Configuration) (me : ℕ) (before : List Entry) (bytes : List ℕ) (outputs now : List Entry) : Type 0 where
   pub body : Body
-  pub hears : heard c me bytes ≡ Some body
+  pub hears : heard (members c) me bytes ≡ Some body
   pub of_change : IsOfChange body.message
   pub checkpoints_are : (s : ℕ) → checkpoints_of c now s ≡ []
   pub unprepared : (v i : ℕ) (batch : List ℕ) → Prepared c me now v i batch → ⊥
@@ -147,7 +147,7 @@ module _ (clients : ℕ) (seed : List ℕ) (me : ℕ) where
   }
     where
       -- what is heard is of a view change
-      only : (other : Body) → heard c me bytes ≡ Some other → IsOfChange other.message
+      only : (other : Body) → heard (members c) me bytes ≡ Some other → IsOfChange other.message
       only other asks = subst (λ (b : Body). IsOfChange b.message) (some_injective due.body other (sym due.hears ∙ asks)) due.of_change
 
       same_bytes : (other : List ℕ) → Got me bytes ≡ Got me other → bytes ≡ other

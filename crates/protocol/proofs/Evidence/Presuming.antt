@@ -9,7 +9,8 @@ use Rattle.quorum.specs.Quorum.{member}
 use Rattle.tuple_codec.specs.Operations.{Operation, IsOperation}
 use Rattle.partition_tree.specs.Digests.{inner_digests, page_digests}
 use Rattle.wire.specs.Messages.{BodyData as Body, MessageData as Message, request as Request, pre_prepare as PrePrepare, prepare as Prepare, commit as Commit, checkpoint as Checkpoint, view_change as ViewChange, new_view as NewView, reply as Reply, fetch as Fetch, meta as Meta, page as Page}
-use Rattle.protocol.specs.System.Configuration.{Configuration, IsConfiguration, replicas, is_replica, is_client, is_faulty_replica, is_correct_replica, is_correct_client, is_correct}
+use Rattle.protocol.specs.System.Configuration.{Configuration, IsConfiguration, replicas, is_replica, is_client, is_faulty_replica, is_correct_replica, is_correct_client, is_correct, members}
+use Rattle.signing.specs.Heard.{heard, signed_body}
 use Rattle.protocol.specs.System.Trace.{Entry, party_of, is_output, history_of, Always, Has, Once, SendsBody, IsFromSender, frames_in}
 use Rattle.protocol.specs.System.Trace.Entry.{Invoke, Got, Tick, Executed, Installed, Sent, Accepted}
 use Rattle.protocol.specs.Replica.State.{State, opening, page_text, all_pages}
@@ -20,7 +21,7 @@ use Rattle.protocol.specs.System.Texts.IsUnder.{inner, top}
 use Rattle.protocol.specs.Client.RightClient.{open_call, last_call, MayInput, IsClient, IsWeakClient}
 use Rattle.protocol.specs.Replica.Owed.{IsReplica}
 use Rattle.protocol.specs.System.Run.{IsRunOf}
-use Rattle.protocol.specs.Evidence.Premises.{WidestIsValid, NarrowestIsValid, ReplicasAreCorrect, ClientsAreCorrect, CorrectAreBoth, EachIsPrimary, PrimariesReturn, RunsHaveReplicas, RunsHaveClients, WeakRunsHaveReplicas, WeakRunsHaveClients, RunsGoOn, WeakRunsGoOn, ReplicasGoOn, RunsTakeCalls, WeakRunsTakeCalls, OthersAreUnforged, MayBeGot, FramesMayBeGot, FaultyHearAnything, IsOpeningText, HasText, BringsText, is_page, is_quiet, TextsAreFew}
+use Rattle.protocol.specs.Evidence.Premises.{WidestIsValid, NarrowestIsValid, ReplicasAreCorrect, ClientsAreCorrect, CorrectAreBoth, EachIsPrimary, PrimariesReturn, RunsHaveReplicas, RunsHaveClients, WeakRunsHaveReplicas, WeakRunsHaveClients, RunsGoOn, WeakRunsGoOn, ReplicasGoOn, RunsTakeCalls, WeakRunsTakeCalls, OthersAreUnforged, MayBeTaken, MayBeGot, FramesMayBeGot, FaultyHearAnything, IsOpeningText, HasText, BringsText, is_page, is_quiet, TextsAreFew}
 use Rattle.protocol.proofs.Words.Temporal.{once_weaker, always_weaker, always_in_history, input_follows}
 use Rattle.protocol.proofs.Words.Options.{some_injective}
 use Rattle.protocol.proofs.Words.Linking.{heard_said}
@@ -251,15 +252,23 @@ others_are_unforged c (Installed p k root) trace unforged other = (tt, unforged)
 others_are_unforged c (Executed p k b) trace unforged other = (tt, unforged)
 
 -- a frame that may be got is its sender's
-is_from_sender : (c : Configuration) (me : ℕ) (past : List Entry) (bytes : List ℕ) → MayBeGot c me past bytes → IsFromSender c me past bytes
-is_from_sender c me past bytes (inl none) body is correct = let bad : None ≡ Some body = sym none ∙ is in absurd cc
-is_from_sender c me past bytes (inr (other, is, h)) body is' correct =
-    let same : other ≡ body = some_injective other body (sym is ∙ is') in
-    subst (λ (b : Body). Once (SendsBody b) past) same (go h (ap (λ (b : Body). is_correct c b.sender) same ∙ correct))
+taken_was_sent : (c : Configuration) (past : List Entry) (o : Option Body) → MayBeTaken c past o → (body : Body) → o ≡ Some body
+    → is_correct c body.sender ≡ true → Once (SendsBody body) past
+taken_was_sent c past None h body is correct = absurd cc
+taken_was_sent c past (Some other) h body is correct = subst (λ (b : Body). Once (SendsBody b) past) same (go h (ap (λ (b : Body). is_correct c b.sender) same ∙ correct))
   where
+    same : other ≡ body
+    same = some_injective other body is
+
     go : (is_correct c other.sender ≡ false) ⊎ Once (SendsBody other) past → is_correct c other.sender ≡ true → Once (SendsBody other) past
     go (inl faulty) correct = let bad : false ≡ true = sym faulty ∙ correct in absurd cc
     go (inr sent) correct = sent
+
+is_from_sender : (c : Configuration) (me : ℕ) (past : List Entry) (bytes : List ℕ) → MayBeGot c me past bytes → IsFromSender c me past bytes
+is_from_sender c me past bytes h = record {
+  hears = taken_was_sent c past (heard (members c) me bytes) h.0;
+  signed = taken_was_sent c past (signed_body (members c) bytes) h.1;
+}
 
 are_from_senders : (c : Configuration) (me : ℕ) (past : List Entry) (frames : List (List ℕ)) → Each (MayBeGot c me past) frames → Each (IsFromSender c me past) frames
 are_from_senders c me past [] h = tt

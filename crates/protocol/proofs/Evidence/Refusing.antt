@@ -8,12 +8,12 @@ use Rattle.tuple_codec.specs.Operations.{Outcome}
 use Rattle.tuple_codec.specs.Spelling.{outcome_spelling}
 use Rattle.sha2.specs.Sha256.{sha256}
 use Rattle.quorum.specs.Quorum.{count_below}
-use Rattle.protocol.specs.System.Configuration.{Configuration, replicas, span, is_number}
+use Rattle.protocol.specs.System.Configuration.{Configuration, replicas, span, is_number, members}
 use Rattle.terms.specs.declared.order.Mode.TheVariants as modes
 use Rattle.wire.specs.Messages.{fetch as Fetch, BodyData as Body, FrameData as Frame, ProofData as Proof, MacData, macs, signature, ViewChangeData, NewViewData, ClaimData as Claim, pre_prepare as PrePrepare, prepare as Prepare, commit as Commit, checkpoint as Checkpoint, view_change as ViewChange, new_view as NewView, reply as Reply, meta as Meta, page as Page}
 use Rattle.authenticator.specs.Authentic.{mac_of}
-use Rattle.signing.specs.Heard.{has_signature}
-use Rattle.protocol.specs.System.Frames.{frame_of, said, heard, mode_of}
+use Rattle.signing.specs.Heard.{has_signature, heard}
+use Rattle.protocol.specs.System.Frames.{mode_of}
 use Rattle.protocol.specs.System.Trace.{Entry, party_of, Once, Always, Has, Hears}
 use Rattle.protocol.specs.System.Trace.Entry.{Invoke, Got, Tick, Executed, Installed, Sent, Accepted}
 use Rattle.protocol.specs.Replica.Selection.{is_quorum, is_weak_quorum, passes_by, count_in, vouches, agrees, may_stand_at, may_be_null, null_batch, is_null, is_within, changes_of, how_many}
@@ -23,7 +23,7 @@ use Rattle.protocol.specs.Replica.State.{State, Ran, opening, kept_of, page_text
 use Rattle.protocol.specs.Replica.RightReplica.{MayNewView, MayFetch, MayMeta, MayPage, kept_states, digests_at, IsAddressed, Point, Leaves, SafeReplica, May, Moves, MaySay, MaySend, MayCheckpoint, MayPrepare, MayCommit, MayPrePrepare, MayReply, MayReplyRead, MayViewChange, SendsBytes, reply_of, GetsPage}
 use Rattle.protocol.specs.Client.RightClient.{SafeClient, Vote, latest, is_alike, count_alike}
 use Rattle.protocol.specs.Evidence.Refused.{SealsWell, SignsWell, PrePreparesAsPrimary, PrePreparesInMarks, NoPrePrepareAfterChange, CheckpointsMultiples, BeginsAsPrimary, ReadsWhatWasAsked, DigestsToWhoAsked, PagesToWhoAsked, IsReplyOf, ExecutesWhatIsCommitted, GivesKeptDigests, GivesKeptPages, GivesAskedDigests, GivesAskedPages, RepliesWhatRan, DropsUnaskedDigests, DropsUnaskedPages, ProposesAuthentic, ReadsNewest, NoChangeWhileActive, DropsReplies, DropsOwnFrames, FetchesWhatIsWanted, FetchesAbove, RepliesToItsClient, CommitsToAll, NoExecution, newest_number, SoManyHave, HasFrom, SaysNothingAgainst, SaysForIt, SaysNothing, RepliesAfterExecution, NoCommitAfterChange, NoPrepareAfterChange, NoEarlyCheckpoint, OnePrePrepare, NoPrepareByPrimary, ExecutesNext, KeepsPrepared, InstallsWhatItHas, InstallsWithHeader, TakesWellSelected, TakesNoLower, AcceptsAtQuorum}
-use Rattle.wire.specs.Words.{requests_of}
+use Rattle.wire.specs.Words.{requests_of, frame_of, said}
 use Rattle.protocol.specs.Replica.Owed.{IsSaying, Owes, Counts, IsReplica}
 use Rattle.protocol.proofs.Words.Temporal.{once_weaker, once_stays_from}
 use Rattle.protocol.proofs.Words.Options.{and_then_some, give_if_some, some_injective}
@@ -34,7 +34,8 @@ use Rattle.protocol.proofs.Points.Reading.{latest_heard}
 use Rattle.protocol.proofs.Points.Ordering.{latest_ordered}
 use Rattle.protocol.proofs.Agreement.Changes.{change_target, target_grows}
 use Rattle.protocol.proofs.Agreement.Offers.{offer_in, offers_kept, marks_above}
-use Rattle.protocol.proofs.Words.Linking.{heard_opened, Speaks}
+use Rattle.signing.proofs.Heard.{heard_was_opened}
+use Rattle.protocol.proofs.Words.Linking.{heard_said, Speaks}
 use Rattle.protocol.proofs.Words.Leaving.{none_kept, executed_number}
 use Rattle.protocol.proofs.Words.Paging.{header_at}
 use Rattle.space.specs.Pages.{header_text}
@@ -218,7 +219,7 @@ installs_with_header c me k root past right = go (installed.pages 512 within)
 pub proposes_authentic : ProposesAuthentic
 proposes_authentic c me v i batch bytes request past says right has =
     let m : MayPrePrepare c me past (Sent me bytes) v i batch = says_may c me bytes (record { sender = me; message = PrePrepare v i batch }) past right says in
-    there (heard c me request) (every_has (λ (x : List ℕ). is_some (heard c me x)) (requests_of batch) request m.genuine has)
+    there (heard (members c) me request) (every_has (λ (x : List ℕ). is_some (heard (members c) me x)) (requests_of batch) request m.genuine has)
   where
     there : (o : Option Body) → is_some o ≡ true → (body : Body) × (o ≡ Some body)
     there None h = absurd cc
@@ -335,7 +336,7 @@ owed_here c me bytes later past (inl h) = record { old = _; new = _; now = _; ow
 owed_here c me bytes later past (inr h) = absurd h.1
 
 -- an output belies that the input is dropped
-not_dropped : (c : Configuration) (me : ℕ) (bytes later : List ℕ) (past : List Entry) (body : Body) → heard c me bytes ≡ Some body → IsReplica c me (Sent me later ∷ Got me bytes ∷ past)
+not_dropped : (c : Configuration) (me : ℕ) (bytes later : List ℕ) (past : List Entry) (body : Body) → heard (members c) me bytes ≡ Some body → IsReplica c me (Sent me later ∷ Got me bytes ∷ past)
     → ((point : Point) → Counts c me past point bytes body.sender body.message → ⊥) → ⊥
 not_dropped c me bytes later past body hears h never =
     let o = owed_here c me bytes later past h in
@@ -356,10 +357,10 @@ drops_unasked_pages c me s k index text bytes later past hears other h =
     not_dropped c me bytes later past (record { sender = s; message = Page k index text }) hears h (λ point counts. other counts.0)
 
 pub drops_own_frames : DropsOwnFrames
-drops_own_frames c me body bytes later past takes own h =
+drops_own_frames c me body bytes later past says own h =
     let none : Sent me later ∷ [] ≡ [] = (owed_here c me bytes later past h).owes.dropped bytes refl (λ other hears counts.
-    let o = heard_opened c me bytes other hears in
-    absurd (o.1 (ap (λ (b : Body). b.sender) (some_injective other body (sym o.0 ∙ takes)) ∙ own))) in
+    let same : other ≡ body = some_injective other body (sym (heard_said c me bytes other hears) ∙ says) in
+    absurd ((heard_was_opened (members c) me bytes other hears).other (ap (λ (b : Body). b.sender) same ∙ own))) in
     absurd cc
 
 pub fetches_what_is_wanted : FetchesWhatIsWanted

@@ -7,11 +7,11 @@ use Rattle.std.proofs.lemmas.Bool.{and_parts, ltb-false, ltb-true}
 use Rattle.tuple_codec.specs.Operations.{Operation}
 use Rattle.partition_tree.specs.Digests.{digest_of_children}
 use Rattle.quorum.specs.Votes.{give_if}
-use Rattle.protocol.specs.System.Configuration.{Configuration, primary, is_number}
+use Rattle.protocol.specs.System.Configuration.{Configuration, primary, is_number, members}
 use Rattle.terms.specs.declared.order.Mode.TheVariants as modes
 use Rattle.terms.specs.declared.state.Level.TheVariants as levels
 use Rattle.wire.specs.Messages.{BodyData as Body, MessageData as Message, ViewChangeData, MarkData as Mark, request as Request, pre_prepare as PrePrepare, prepare as Prepare, commit as Commit, checkpoint as Checkpoint, view_change as ViewChange, new_view as NewView, fetch as Fetch, meta as Meta, page as Page}
-use Rattle.protocol.specs.System.Frames.{heard}
+use Rattle.signing.specs.Heard.{heard}
 use Rattle.protocol.specs.System.Trace.{Entry, Has}
 use Rattle.protocol.specs.System.Trace.Entry.{Invoke, Got, Tick, Executed, Installed, Sent, Accepted}
 use Rattle.protocol.specs.Replica.Selection.{is_within}
@@ -109,10 +109,10 @@ record Given (c : Configuration) (me : ℕ) (past : List Entry) (v i : ℕ) (bod
   gives : give body ≡ Some given
 
 given_at : (c : Configuration) (me : ℕ) (past : List Entry) (v i : ℕ) (bytes : List ℕ) (body : Body) (give : Body → Option (List ℕ)) (given : List ℕ)
-    → heard c me bytes ≡ Some body → vote_in c me past (Got me bytes) give v i ≡ Some given → Given c me past v i body give given
+    → heard (members c) me bytes ≡ Some body → vote_in c me past (Got me bytes) give v i ≡ Some given → Given c me past v i body give given
 given_at c me past v i bytes body give given hears h = go (is_active_in c past v) (is_in_marks c (low c me past) i) refl refl h
   where
-    go : (b d : Bool) → is_active_in c past v ≡ b → is_in_marks c (low c me past) i ≡ d → cond (b && d) (option_and_then give (heard c me bytes)) None ≡ Some given
+    go : (b d : Bool) → is_active_in c past v ≡ b → is_in_marks c (low c me past) i ≡ d → cond (b && d) (option_and_then give (heard (members c) me bytes)) None ≡ Some given
         → Given c me past v i body give given
     go true true e f k = record { active = e; in_marks = f; gives = sym (ap (option_and_then give) hears) ∙ k }
     go true false e f k = absurd cc

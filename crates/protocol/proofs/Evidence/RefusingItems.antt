@@ -5,8 +5,8 @@ use Rattle.tuple_codec.specs.Operations.{Operation, Outcome}
 use Rattle.space.specs.Applying.{outcome, tuples_after}
 use Rattle.terms.specs.declared.order.Mode.TheVariants as modes
 use Rattle.wire.specs.Messages.{request as Request}
-use Rattle.protocol.specs.System.Configuration.{Configuration}
-use Rattle.protocol.specs.System.Frames.{heard}
+use Rattle.protocol.specs.System.Configuration.{Configuration, members}
+use Rattle.signing.specs.Heard.{heard}
 use Rattle.protocol.specs.System.Trace.{Entry, Once, Always, Has, frames_in}
 use Rattle.protocol.specs.System.Trace.Entry.{Invoke, Got, Tick, Executed, Installed, Sent, Accepted}
 use Rattle.protocol.specs.Space.Linear.{Item, LegalFrom, Invokes, Accepts, Asks, NoneTwice, NeverFall}
@@ -73,7 +73,7 @@ lists_what_is_called c items trace item client covers has is correct =
 
 is_asked : (c : Configuration) (item : Item) (past : List Entry) (e : Entry) → Asks c item.client item.timestamp item.op past e → IsAskedAt c item e
 is_asked c item past (Got p bytes) h =
-    let r = has_some (λ (frame : List ℕ). heard c p frame ≡ Some (record { sender = item.client; message = Request item.timestamp modes.Ordered item.op })) (frames_in bytes) h.1 in
+    let r = has_some (λ (frame : List ℕ). heard (members c) p frame ≡ Some (record { sender = item.client; message = Request item.timestamp modes.Ordered item.op })) (frames_in bytes) h.1 in
     (p, bytes, r.0, refl, h.0, r.1, r.2)
 is_asked c item past (Invoke k t o) h = absurd h
 is_asked c item past (Tick p) h = absurd h

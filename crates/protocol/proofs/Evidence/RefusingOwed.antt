@@ -8,8 +8,7 @@ use Rattle.protocol.specs.System.Trace.{Entry, is_output, Once, Has, AreOutputs,
 use Rattle.protocol.specs.System.Trace.Entry.{Invoke, Got, Tick, Executed, Installed, Sent, Accepted}
 use Rattle.protocol.specs.Replica.State.{State, root_of}
 use Rattle.protocol.specs.Replica.RightReplica.{Point, Leaves, Executes}
-use Rattle.wire.specs.Words.{requests_of}
-use Rattle.protocol.specs.System.Frames.{said}
+use Rattle.wire.specs.Words.{requests_of, said}
 use Rattle.wire.specs.Messages.{pre_prepare as PrePrepare, checkpoint as Checkpoint, reply as Reply}
 use Rattle.terms.specs.declared.order.Mode.TheVariants as modes
 use Rattle.tuple_codec.specs.Operations.{Outcome}

@@ -12,11 +12,13 @@ use Rattle.tuple_codec.specs.Operations.{Operation, Outcome}
 use Rattle.tuple_codec.specs.Spelling.{outcome_spelling}
 use Rattle.quorum.specs.Quorum.{count_below}
 use Rattle.quorum.proofs.Counting.{count_mono}
-use Rattle.protocol.specs.System.Configuration.{Configuration, replicas}
+use Rattle.protocol.specs.System.Configuration.{Configuration, replicas, members}
 use Rattle.terms.specs.declared.order.Mode.{Mode}
 use Rattle.terms.specs.declared.order.Mode.TheVariants as modes
 use Rattle.wire.specs.Messages.{BodyData as Body, FrameData as Frame, MacData, macs, MessageData as Message, ClaimData as Claim, request as Request, view_change as ViewChange, new_view as NewView, reply as Reply}
-use Rattle.protocol.specs.System.Frames.{frame_of, said, heard, reads_only, mode_of, receivers_of}
+use Rattle.signing.specs.Heard.{heard}
+use Rattle.wire.specs.Words.{frame_of, said, receivers_of}
+use Rattle.protocol.specs.System.Frames.{reads_only, mode_of}
 use Rattle.protocol.specs.System.Trace.{Entry, party_of, is_output, Once, Always, Has, AreOutputs, Hears, either}
 use Rattle.protocol.specs.System.Trace.Entry.{Invoke, Got, Tick, Executed, Installed, Sent, Accepted}
 use Rattle.protocol.specs.Replica.Certificates.{view, target, is_active_in, taken}
@@ -71,7 +73,7 @@ asks_only c me call r outputs is h =
 abbrev pub vote_in : Mode → ℕ → Outcome → Vote
 vote_in mode number answer = record { read_only = reads_only mode; number = number; answer = answer }
 
-pub brings : (c : Configuration) (me s t number : ℕ) (mode : Mode) (answer : Outcome) (bytes : List ℕ) (past : List Entry) → heard c me bytes ≡ Some (record { sender = s; message = Reply me t mode number answer })
+pub brings : (c : Configuration) (me s t number : ℕ) (mode : Mode) (answer : Outcome) (bytes : List ℕ) (past : List Entry) → heard (members c) me bytes ≡ Some (record { sender = s; message = Reply me t mode number answer })
     → newest_vote c me (Got me bytes ∷ past) t ≡ Some (vote_in mode number answer)
 brings c me s t number mode answer bytes past hears = rw hears (rw (eq-eqb s s refl, eq-eqb me me refl, eq-eqb t t refl) refl)
 

@@ -8,7 +8,7 @@ use mathlib.Core.List.{reverse_aux}
 use Rattle.tuple_codec.specs.Operations.{Operation}
 use Rattle.quorum.specs.Votes.{or_else}
 use Rattle.protocol.specs.System.Configuration.{Configuration, is_correct}
-use Rattle.protocol.specs.System.Frames.{frame_of}
+use Rattle.wire.specs.Words.{frame_of}
 use Rattle.wire.specs.Messages.{FrameData as Frame}
 use Rattle.std.specs.Option.{option_map_or}
 use Rattle.protocol.specs.System.Trace.{Entry, is_output, Has}

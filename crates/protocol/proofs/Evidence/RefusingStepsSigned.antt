@@ -17,14 +17,13 @@ use Rattle.signing.specs.Merkle.{node}
 use Rattle.signing.specs.Signatures.{public_key, signed_bit, sibling_digest, signature_of}
 use Rattle.signing.proofs.Signed.{signature_of-verifies}
 use Rattle.signing.proofs.Heard.{verifies-Decides, signed_is_heard, signer_is_heard}
-use Rattle.signing.specs.Heard.{signed_body as signed_among}
+use Rattle.signing.specs.Heard.{signed_body}
 use Rattle.protocol.specs.System.Configuration.{Configuration, replicas, is_replica, members}
 use Rattle.protocol.specs.System.Schedule.{meant_for, signed_bytes}
 use Rattle.protocol.specs.Replica.RightReplica.{others}
 use Rattle.protocol.specs.Evidence.RefusedSteps.{SignedFramesAreHeard}
-use Rattle.protocol.proofs.Words.Spelled.{frames_are_spelled, bodies_are_said, bytes_are_heard}
-use Rattle.protocol.proofs.Words.PartsBytes.{no_bytes, bytes_more}
-use Rattle.protocol.proofs.Words.FramesBytes.{spelled_bytes}
+use Rattle.wire.proofs.PartsBytes.{no_bytes, bytes_more}
+use Rattle.wire.proofs.Saying.{reads_frames, reads_said}
 use Rattle.protocol.proofs.Evidence.FirstFrames.{is_digest}
 
 -- ---- a signature is of bytes
@@ -125,16 +124,15 @@ signed_frames_are_heard c replica leaf message valid right within may kind short
       };
       spelled = refl;
     } in
-    let are : AreBytes bytes = spelled_bytes bytes frame spelled in
-    let told : signed_among (members c) bytes ≡ Some body = signer_is_heard (members c) bytes body leaf within (known c replica message kind right) spelled in
+    let told : signed_body (members c) bytes ≡ Some body = signer_is_heard (members c) bytes body leaf within (known c replica message kind right) spelled in
     record {
       frame = frame;
       made = signature_of seed leaf text;
-      spells = (frames_are_spelled bytes frame are).1 spelled;
-      says = bodies_are_said bytes frame are spelled;
+      spells = (reads_frames bytes frame).1 spelled;
+      says = reads_said bytes frame spelled;
       has_signature = refl;
       is_sealed = (verifies-Decides (public_key seed) text (signature_of seed leaf text)).1 verifies;
       is_for = for_others c replica (signature_of seed leaf text) right;
-      is_heard = λ p other. ((bytes_are_heard c bytes are).others p body).1 ((bytes_are_heard c bytes are).all p ∙ signed_is_heard (members c) p bytes body told, other);
-      is_told = (bytes_are_heard c bytes are).signed ∙ told;
+      is_heard = λ p other. signed_is_heard (members c) p bytes body told other;
+      is_told = told;
     }

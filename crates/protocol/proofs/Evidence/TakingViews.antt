@@ -9,8 +9,9 @@ use Rattle.quorum.specs.Quorum.{count_below, member}
 use Rattle.quorum.specs.Votes.{or_else, give_if, has_digest}
 use Rattle.quorum.proofs.Counting.{count_mono, count_members}
 use Rattle.wire.specs.Messages.{BodyData as Body, ProofData as Proof, NewViewData, MarkData as Mark, macs, signature, pre_prepare as PrePrepare, prepare as Prepare, new_view as NewView}
-use Rattle.protocol.specs.System.Configuration.{Configuration, primary}
-use Rattle.protocol.specs.System.Frames.{heard, signed_body, receivers_of}
+use Rattle.protocol.specs.System.Configuration.{Configuration, primary, members}
+use Rattle.signing.specs.Heard.{heard, signed_body}
+use Rattle.wire.specs.Words.{receivers_of}
 use Rattle.protocol.specs.System.Trace.{Entry, Has}
 use Rattle.protocol.specs.System.Trace.Entry.{Got, Sent}
 use Rattle.protocol.specs.Replica.Selection.{may_select}
@@ -19,7 +20,7 @@ use Rattle.protocol.specs.Replica.RightReplica.{first_point, others, IsAddressed
 use Rattle.protocol.specs.Replica.Owed.{Owes, IsReplica, NumbersOnce, Gives}
 use Rattle.protocol.specs.Evidence.Examples.{four}
 use Rattle.protocol.specs.Evidence.ExamplesOfChanges.{holding_view, IsForOthers, NewViewsAreTaken}
-use Rattle.protocol.proofs.Words.Linking.{signed_heard}
+use Rattle.signing.proofs.Heard.{signed_is_heard}
 use Rattle.protocol.proofs.Words.Options.{some_injective}
 use Rattle.protocol.proofs.Evidence.Selecting.{prepared_is_selected}
 use Rattle.protocol.proofs.Evidence.JoiningChangesOwing.{Due, owes, none_if, none_logged, none_checked, brings_no_mark, same_checkpoints, logs_begun, logs_nothing, moves_nothing}
@@ -59,9 +60,9 @@ module _ (clients : ℕ) (seed : List ℕ) (me : ℕ) (batch root a b d new_view
   abbrev now : List Entry
   now = Sent me prepare ∷ h1
 
-  module _ (backup : me ≢ 1) (selected : may_select c new ≡ true) (signed : signed_body c new_view ≡ Some begins) (x : IsForOthers c me prepares.message prepare) where
-    hears : heard c me new_view ≡ Some begins
-    hears = signed_heard c new_view begins signed me (λ is. backup (sym is))
+  module _ (backup : me ≢ 1) (selected : may_select c new ≡ true) (signed : signed_body (members c) new_view ≡ Some begins) (x : IsForOthers c me prepares.message prepare) where
+    hears : heard (members c) me new_view ≡ Some begins
+    hears = signed_is_heard (members c) me new_view begins signed (λ is. backup (sym is))
 
     -- ---- the new view is taken
 
@@ -133,7 +134,7 @@ module _ (clients : ℕ) (seed : List ℕ) (me : ℕ) (batch root a b d new_view
         ∙ ap (option_and_then (prepare_from c s v i)) x.says
       where
         no_vote : vote_in c me [] (Got me new_view) (prepare_from c s v i) v i ≡ None
-        no_vote = none_if (counts_at c me [] (Got me new_view) v i) (option_and_then (prepare_from c s v i) (heard c me new_view)) (ap (option_and_then (prepare_from c s v i)) hears)
+        no_vote = none_if (counts_at c me [] (Got me new_view) v i) (option_and_then (prepare_from c s v i) (heard (members c) me new_view)) (ap (option_and_then (prepare_from c s v i)) hears)
 
         before : prepare_of c me h1 v i s ≡ None
         before =

@@ -1,11 +1,11 @@
 -- The definitions accept a replica that is behind and begins to fetch the others' state.
 use Rattle.std.proofs.Common.{◌≡◌, ℕ, inl, inr, Bool, false, List, [], ◌∷◌, refl, ap, arith, Option, Some, None}
 use Rattle.partition_tree.specs.Digests.{digest_of_children}
-use Rattle.protocol.specs.System.Configuration.{Configuration}
+use Rattle.protocol.specs.System.Configuration.{Configuration, members}
 use Rattle.terms.specs.declared.state.Level.{Level}
 use Rattle.terms.specs.declared.state.Level.TheVariants as levels
 use Rattle.wire.specs.Messages.{BodyData as Body, checkpoint as Checkpoint, meta as Meta, page as Page}
-use Rattle.protocol.specs.System.Frames.{heard}
+use Rattle.signing.specs.Heard.{heard}
 use Rattle.protocol.specs.System.Trace.{Entry, Once, Hears}
 use Rattle.protocol.specs.System.Trace.Entry.{Got, Sent}
 use Rattle.protocol.specs.Replica.RightReplica.{first_point, IsRootWanted}
@@ -63,22 +63,22 @@ module _ (clients : ℕ) (seed : List ℕ) (x : Parts) (w : TransferFrames) (f :
   abbrev page_given : Body
   page_given = record { sender = 1; message = Page 16 0 x.text }
 
-  hears1 : heard c 0 (w.checkpoint 1) ≡ Some (checkpoint_of 1)
+  hears1 : heard (members c) 0 (w.checkpoint 1) ≡ Some (checkpoint_of 1)
   hears1 = (f.checkpoints 1 (omega arith) (omega arith)).is_heard 0 (inl refl)
 
-  hears2 : heard c 0 (w.checkpoint 2) ≡ Some (checkpoint_of 2)
+  hears2 : heard (members c) 0 (w.checkpoint 2) ≡ Some (checkpoint_of 2)
   hears2 = (f.checkpoints 2 (omega arith) (omega arith)).is_heard 0 (inl refl)
 
-  hears3 : heard c 0 (w.checkpoint 3) ≡ Some (checkpoint_of 3)
+  hears3 : heard (members c) 0 (w.checkpoint 3) ≡ Some (checkpoint_of 3)
   hears3 = (f.checkpoints 3 (omega arith) (omega arith)).is_heard 0 (inl refl)
 
-  hears_root : heard c 0 w.below_root ≡ Some root_given
+  hears_root : heard (members c) 0 w.below_root ≡ Some root_given
   hears_root = f.gives_root.is_heard 0 (inl refl)
 
-  hears_inner : heard c 0 w.below_inner ≡ Some inner_given
+  hears_inner : heard (members c) 0 w.below_inner ≡ Some inner_given
   hears_inner = f.gives_inner.is_heard 0 (inl refl)
 
-  hears_page : heard c 0 w.page ≡ Some page_given
+  hears_page : heard (members c) 0 w.page ≡ Some page_given
   hears_page = f.gives_page.is_heard 0 (inl refl)
 
   -- ---- whose checkpoints there are

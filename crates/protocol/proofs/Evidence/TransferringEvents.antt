@@ -3,12 +3,14 @@ use Rattle.std.proofs.Common.{◌≡◌, ℕ, ◌+◌, ◌<◌, ◌⊎◌, inl, 
 use Rattle.std.specs.Prelude.{nat_le, option_and_then, ⊤}
 use Rattle.std.specs.Option.{option_map_or}
 use Rattle.quorum.specs.Quorum.{count_below}
-use Rattle.protocol.specs.System.Configuration.{Configuration}
+use Rattle.protocol.specs.System.Configuration.{Configuration, members}
 use Rattle.terms.specs.declared.order.Mode.TheVariants as modes
 use Rattle.terms.specs.declared.state.Level.{Level}
 use Rattle.terms.specs.declared.state.Level.TheVariants as levels
 use Rattle.wire.specs.Messages.{BodyData as Body, FrameData as Frame, MessageData as Message, request as Request, pre_prepare as PrePrepare, checkpoint as Checkpoint, fetch as Fetch, meta as Meta, page as Page}
-use Rattle.protocol.specs.System.Frames.{said, heard, IsSealed, receivers_of}
+use Rattle.signing.specs.Heard.{heard}
+use Rattle.wire.specs.Words.{said, receivers_of}
+use Rattle.protocol.specs.System.Frames.{IsSealed}
 use Rattle.protocol.specs.System.Trace.{Entry, Has}
 use Rattle.protocol.specs.System.Trace.Entry.{Got, Sent}
 use Rattle.protocol.specs.Replica.Selection.{is_quorum}
@@ -47,7 +49,7 @@ module _ (clients : ℕ) (seed root : List ℕ) where
   -- what is got, and what is to be shown of its event
   record Due (before : List Entry) (bytes : List ℕ) (outputs now : List Entry) : Type 0 where
     pub body : Body
-    pub hears : heard c 0 bytes ≡ Some body
+    pub hears : heard (members c) 0 bytes ≡ Some body
     pub given : IsGiven body.message
     pub numbers_once : AtOutputs (NumbersOnce c 0) (Got 0 bytes ∷ before) outputs
     pub none_executed : (n : ℕ) → Has (λ e. Executes n [] e) outputs → ⊥
@@ -72,14 +74,14 @@ module _ (clients : ℕ) (seed root : List ℕ) where
     dropped = λ other is drops. due.dropped (subst (λ (bs : List ℕ). IsDropped c 0 before first_point bs) (sym (same_bytes other is)) drops);
   }
     where
-      given_is : (other : Body) → heard c 0 bytes ≡ Some other → IsGiven other.message
+      given_is : (other : Body) → heard (members c) 0 bytes ≡ Some other → IsGiven other.message
       given_is other h = subst (λ (x : Body). IsGiven x.message) (some_injective due.body other (sym due.hears ∙ h)) due.given
 
       same_bytes : (other : List ℕ) → Got 0 bytes ≡ Got 0 other → bytes ≡ other
       same_bytes other is = cc
 
   -- what is no request moves no point
-  pub gets : (before : List Entry) (bytes : List ℕ) (body : Body) → heard c 0 bytes ≡ Some body → IsGiven body.message → IsStep c 0 before first_point (Got 0 bytes) first_point
+  pub gets : (before : List Entry) (bytes : List ℕ) (body : Body) → heard (members c) 0 bytes ≡ Some body → IsGiven body.message → IsStep c 0 before first_point (Got 0 bytes) first_point
   gets before bytes body h given = record { own = refl; may = tt; moves = quiet }
     where
       quiet : first_point ≡ record first_point { ran = []; waiting = waiting_after c 0 first_point bytes }
@@ -108,7 +110,7 @@ module _ (clients : ℕ) (seed root : List ℕ) where
       }
 
   -- a checkpoint of no quorum, after which nothing is sent
-  pub goes_quiet : (before : List Entry) (bytes : List ℕ) (body : Body) (p : ℕ → Bool) (asked : Option (ℕ × (Level × ℕ))) (k : ℕ) → heard c 0 bytes ≡ Some body → IsGiven body.message
+  pub goes_quiet : (before : List Entry) (bytes : List ℕ) (body : Body) (p : ℕ → Bool) (asked : Option (ℕ × (Level × ℕ))) (k : ℕ) → heard (members c) 0 bytes ≡ Some body → IsGiven body.message
       → At (Got 0 bytes ∷ before) p asked k → nat_le 3 (count_below p 4) ≡ false → Proceeding before → Proceeding (Got 0 bytes ∷ before)
   goes_quiet before bytes body p asked k h given st few was = (first_point, gets before bytes body h given, (owes before bytes [] (Got 0 bytes ∷ before) p asked k st due, was))
     where
@@ -126,7 +128,7 @@ module _ (clients : ℕ) (seed root : List ℕ) where
       }
 
   -- what counts is answered by one fetch: that of the root where a transfer of 16 is not open yet
-  pub goes_on : (before : List Entry) (bytes sent : List ℕ) (body : Body) (index : ℕ) (level : Level) (p : ℕ → Bool) → heard c 0 bytes ≡ Some body → IsGiven body.message
+  pub goes_on : (before : List Entry) (bytes sent : List ℕ) (body : Body) (index : ℕ) (level : Level) (p : ℕ → Bool) → heard (members c) 0 bytes ≡ Some body → IsGiven body.message
       → IsFrom c 0 (Fetch 16 level index) (others c 0) sent → At (Sent 0 sent ∷ Got 0 bytes ∷ before) p (Some (16, (level, index))) 16
       → IsRootWanted c (Got 0 bytes ∷ before) 16 root → (fetching before ≡ 16) ⊎ ((level ≡ levels.Root) × (index ≡ 0)) → Counts c 0 before first_point bytes body.sender body.message
       → Proceeding before → Proceeding (Sent 0 sent ∷ Got 0 bytes ∷ before)

@@ -8,11 +8,12 @@ use Rattle.tuple_codec.specs.Operations.{Outcome}
 use Rattle.quorum.specs.Quorum.{count_below}
 use Rattle.quorum.specs.Votes.{give_if}
 use Rattle.quorum.proofs.Counting.{count_not}
-use Rattle.protocol.specs.System.Configuration.{Configuration, replicas}
+use Rattle.protocol.specs.System.Configuration.{Configuration, replicas, members}
 use Rattle.terms.specs.declared.order.Mode.{Mode}
 use Rattle.terms.specs.declared.order.Mode.TheVariants as modes
 use Rattle.wire.specs.Messages.{BodyData as Body, MessageData as Message, request as Request, reply as Reply}
-use Rattle.protocol.specs.System.Frames.{said, heard}
+use Rattle.signing.specs.Heard.{heard}
+use Rattle.wire.specs.Words.{said}
 use Rattle.protocol.specs.System.Trace.{Entry, party_of, Once}
 use Rattle.protocol.specs.System.Trace.Entry.{Invoke, Got, Tick, Executed, Installed, Sent, Accepted}
 use Rattle.protocol.specs.Client.RightClient.{OpenCall, last_call, open_call, Vote, vote_of, newest_vote, latest, count_alike, is_complete, is_ordered_request, went_ordered, is_answered, Reaction, fallback, on_reply, on_got, reaction, is_same_answer, is_weakly_complete, weakly_on_got, weak_reaction, IsReaction, IsClient, IsWeakClient, MayAccept, MayAsk, MayRequest, MayClient, SafeClient}
@@ -32,7 +33,7 @@ nothing_only c me r outputs is h =
 
 -- a client falls back at it, if at all
 reply_falls : (c : Configuration) (me s number : ℕ) (call : OpenCall) (mode : Mode) (answer : Outcome) (bytes : List ℕ) (past : List Entry)
-    → open_call past ≡ Some call → heard c me bytes ≡ Some (record { sender = s; message = Reply me call.timestamp mode number answer })
+    → open_call past ≡ Some call → heard (members c) me bytes ≡ Some (record { sender = s; message = Reply me call.timestamp mode number answer })
     → count_alike c me (Got me bytes ∷ past) call.timestamp (vote_in mode number answer) ≤ 2 * c.faults
     → reaction c me (Got me bytes ∷ past) ≡ fallback c me (Got me bytes ∷ past) call
 reply_falls c me s number call mode answer bytes past opened hears few =
@@ -183,25 +184,25 @@ weakly_waits c me s number call mode answer bytes later outputs past opened hear
 -- ---- what is no reply to the open call, and no open call
 
 module _ (c : Configuration) (me timestamp : ℕ) (bytes : List ℕ) (past : List Entry)
-    (never : (s number : ℕ) (mode : Mode) (answer : Outcome) → heard c me bytes ≡ Some (record { sender = s; message = Reply me timestamp mode number answer }) → ⊥) where
+    (never : (s number : ℕ) (mode : Mode) (answer : Outcome) → heard (members c) me bytes ≡ Some (record { sender = s; message = Reply me timestamp mode number answer }) → ⊥) where
   no_vote : newest_vote c me (Got me bytes ∷ past) timestamp ≡ None
-  no_vote = go (heard c me bytes) refl
+  no_vote = go (heard (members c) me bytes) refl
     where
-      reply : (s client t number : ℕ) (mode : Mode) (answer : Outcome) → heard c me bytes ≡ Some (record { sender = s; message = Reply client t mode number answer })
+      reply : (s client t number : ℕ) (mode : Mode) (answer : Outcome) → heard (members c) me bytes ≡ Some (record { sender = s; message = Reply client t mode number answer })
           → (b : Bool) → ((s == s) && (client == me) && (t == timestamp)) ≡ b → give_if b (vote_in mode number answer) ≡ None
       reply s client t number mode answer is false e = refl
       reply s client t number mode answer is true e =
           let k = and_parts ((s == s) && (client == me)) (t == timestamp) e in
           let l = and_parts (s == s) (client == me) k.0 in
           absurd (never s number mode answer
-          (subst (λ (n : ℕ). heard c me bytes ≡ Some (record { sender = s; message = Reply me n mode number answer })) (eqb-true t timestamp k.1)
-          (subst (λ (n : ℕ). heard c me bytes ≡ Some (record { sender = s; message = Reply n t mode number answer })) (eqb-true client me l.1) is)))
+          (subst (λ (n : ℕ). heard (members c) me bytes ≡ Some (record { sender = s; message = Reply me n mode number answer })) (eqb-true t timestamp k.1)
+          (subst (λ (n : ℕ). heard (members c) me bytes ≡ Some (record { sender = s; message = Reply n t mode number answer })) (eqb-true client me l.1) is)))
 
-      message : (s : ℕ) (m : Message) → heard c me bytes ≡ Some (record { sender = s; message = m }) → vote_of me timestamp s (record { sender = s; message = m }) ≡ None
+      message : (s : ℕ) (m : Message) → heard (members c) me bytes ≡ Some (record { sender = s; message = m }) → vote_of me timestamp s (record { sender = s; message = m }) ≡ None
       message s (Reply client t mode number answer) is = reply s client t number mode answer is ((s == s) && (client == me) && (t == timestamp)) refl
       message s _ is = refl
 
-      go : (o : Option Body) → heard c me bytes ≡ o → option_and_then (λ (body : Body). vote_of me timestamp body.sender body) o ≡ None
+      go : (o : Option Body) → heard (members c) me bytes ≡ o → option_and_then (λ (body : Body). vote_of me timestamp body.sender body) o ≡ None
       go None is = refl
       go (Some body) is = message body.sender body.message is
 

@@ -6,10 +6,11 @@ use Rattle.std.proofs.lemmas.Slice.Eq.{bytes_eq-Decides}
 use Rattle.protocol.specs.Replica.RightReplica
 use Rattle.protocol.proofs.Points.Running
 use Rattle.quorum.specs.Quorum.{count_below}
-use Rattle.protocol.specs.System.Configuration.{Configuration, is_replica, is_correct_replica, is_correct_client}
+use Rattle.protocol.specs.System.Configuration.{Configuration, is_replica, is_correct_replica, is_correct_client, members}
 use Rattle.terms.specs.declared.order.Mode.TheVariants as modes
 use Rattle.wire.specs.Messages.{BodyData as Body, MessageData as Message, reply as Reply}
-use Rattle.protocol.specs.System.Frames.{heard, mode_of, reads_only}
+use Rattle.signing.specs.Heard.{heard}
+use Rattle.protocol.specs.System.Frames.{mode_of, reads_only}
 use Rattle.protocol.specs.System.Trace.{Entry, party_of, history_of, Once, Always, Hears}
 use Rattle.protocol.specs.System.Trace.Entry.{Invoke, Got, Tick, Executed, Installed, Sent, Accepted}
 use Rattle.space.specs.Applying.{is_read_only, outcome}
@@ -370,7 +371,7 @@ vote_answer me t s vote sender _ h f = absurd cc
 pub newest_answer : (c : Configuration) (me t : ℕ) (vote : Vote) (xs : List Entry) → newest_vote c me xs t ≡ Some vote → IsOutcome vote.answer
 newest_answer c me t vote [] h = absurd cc
 newest_answer c me t vote (Got p bytes ∷ past) h =
-    let r = and_then_some (λ (body : Body). vote_of me t body.sender body) (heard c me bytes) vote h in
+    let r = and_then_some (λ (body : Body). vote_of me t body.sender body) (heard (members c) me bytes) vote h in
     vote_answer me t r.0.sender vote r.0.sender r.0.message r.2 (heard_fits c me bytes r.0 r.1)
 newest_answer c me t vote (Invoke x y z ∷ past) h = absurd cc
 newest_answer c me t vote (Tick x ∷ past) h = absurd cc

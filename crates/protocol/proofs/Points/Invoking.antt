@@ -2,12 +2,13 @@
 use Rattle.std.proofs.Common.{◌≡◌, ℕ, suc, ◌+◌, ◌-◌, ◌≤◌, ◌<◌, inl, inr, Bool, true, false, not, cond, List, [], ◌∷◌, ◌++◌, length, refl, sym, ap, ◌∙◌, subst, arith, ◌&&◌, Option, Some, None, is_some}
 use Rattle.std.specs.Prelude.{nat_lt, nat_le}
 use Rattle.std.proofs.lemmas.Bool.{and_parts, leb-true}
-use Rattle.protocol.specs.System.Configuration.{Configuration, is_client, is_correct, is_correct_client}
+use Rattle.protocol.specs.System.Configuration.{Configuration, is_client, is_correct, is_correct_client, members}
 use Rattle.terms.specs.declared.order.Mode.TheVariants as modes
 use Rattle.wire.specs.Messages.{BodyData as Body, MessageData as Message, request as Request}
-use Rattle.wire.specs.Words.{requests_of}
+use Rattle.wire.specs.Words.{requests_of, said}
 use Rattle.terms.specs.declared.order.Mode.{Mode}
-use Rattle.protocol.specs.System.Frames.{reads_only, mode_of, said, heard}
+use Rattle.signing.specs.Heard.{heard}
+use Rattle.protocol.specs.System.Frames.{reads_only, mode_of}
 use Rattle.protocol.specs.System.Trace.{Entry, party_of, history_of, Once, Always, frames_in, SendsBody, IsFromSender, IsUnforgedAt, Has}
 use Rattle.protocol.specs.System.Trace.Entry.{Invoke, Got, Tick, Executed, Installed, Sent, Accepted}
 use Rattle.protocol.specs.Replica.State.{Call, call_in, call_of}
@@ -17,7 +18,7 @@ use Rattle.protocol.specs.Space.Linear.{Placing, batch_of, is_level, Invokes, As
 use Rattle.quorum.specs.Votes.{give_if}
 use Rattle.protocol.proofs.Words.Temporal.{once_weaker, once_always, once_once, once_in_history, once_in_trace}
 use Rattle.protocol.proofs.Words.Options.{and_then_some, some_injective, given_once, give_if_some}
-use Rattle.protocol.proofs.Words.Linking.{Speaks, heard_opened, heard_said, sent_spoken}
+use Rattle.protocol.proofs.Words.Linking.{Speaks, heard_said, sent_spoken}
 use Rattle.protocol.proofs.Agreement.Voting.{correct_replica}
 use Rattle.protocol.proofs.Agreement.States.{once_append}
 use Rattle.protocol.proofs.Agreement.Executing.{executor, executed_committed}
@@ -145,7 +146,7 @@ asks_said c xs frame body runs is from h =
     step xs
     (once_always (IsUnforgedAt c) (AsksFrame c frame) xs runs.unforged h)))
   where
-    known : (p : ℕ) (o : Option Body) → heard c p frame ≡ o → is_some o ≡ true → heard c p frame ≡ Some body
+    known : (p : ℕ) (o : Option Body) → heard (members c) p frame ≡ o → is_some o ≡ true → heard (members c) p frame ≡ Some body
     known p None e s = absurd cc
     known p (Some b) e s =
         let said' : said frame ≡ Some b = heard_said c p frame b e in
@@ -154,10 +155,10 @@ asks_said c xs frame body runs is from h =
     step : (past : List Entry) (e : Entry) → IsUnforgedAt c past e × AsksFrame c frame past e × Always (IsUnforgedAt c) past
         → Once (λ past e. (party_of e ≡ body.sender) × Speaks body (history_of body.sender past) e) past
     step past (Got q bytes) t =
-        let hears = known q (heard c q frame) refl t.1.1 in
+        let hears = known q (heard (members c) q frame) refl t.1.1 in
         let each : IsFromSender c q past frame = each_has (IsFromSender c q past) (frames_in bytes) frame (t.0 (correct_replica c q t.1.0)) t.1.2 in
         once_weaker (SendsBody body) (λ past e. (party_of e ≡ body.sender) × Speaks body (history_of body.sender past) e)
-        (sent_spoken body) past (each body (heard_opened c q frame body hears).0 from)
+        (sent_spoken body) past (each.hears body hears from)
     step past (Sent a b) t = absurd t.1
     step past (Invoke a b d) t = absurd t.1
     step past (Tick a) t = absurd t.1
@@ -192,15 +193,15 @@ pub asks_request : (c : Configuration) (frame : List ℕ) (sender t : ℕ) (op :
 unfolding AsksFrame
 asks_request c frame sender t op is past (Got p bytes) h = (h.0, there (frames_in bytes) h.2)
   where
-    known : (o : Option Body) → heard c p frame ≡ o → is_some o ≡ true → heard c p frame ≡ Some (asking sender t false op)
+    known : (o : Option Body) → heard (members c) p frame ≡ o → is_some o ≡ true → heard (members c) p frame ≡ Some (asking sender t false op)
     known None e s = absurd cc
     known (Some b) e s =
         let said' : said frame ≡ Some b = heard_said c p frame b e in
         e ∙ sym said' ∙ is
 
-    there : (xs : List (List ℕ)) → Has (λ x. x ≡ frame) xs → Has (λ x. heard c p x ≡ Some (record { sender = sender; message = Request t modes.Ordered op })) xs
+    there : (xs : List (List ℕ)) → Has (λ x. x ≡ frame) xs → Has (λ x. heard (members c) p x ≡ Some (record { sender = sender; message = Request t modes.Ordered op })) xs
     there [] k = k
-    there (x ∷ xs) (inl k) = inl (subst (λ (y : List ℕ). heard c p y ≡ Some (asking sender t false op)) (sym k) (known (heard c p frame) refl h.1))
+    there (x ∷ xs) (inl k) = inl (subst (λ (y : List ℕ). heard (members c) p y ≡ Some (asking sender t false op)) (sym k) (known (heard (members c) p frame) refl h.1))
     there (x ∷ xs) (inr k) = inr (there xs k)
 asks_request c frame sender t op is past (Invoke x y z) h = absurd h
 asks_request c frame sender t op is past (Tick x) h = absurd h

@@ -8,8 +8,8 @@ use Rattle.protocol.specs.Replica.RightReplica
 use Rattle.protocol.proofs.Points.Sorting
 use Rattle.protocol.specs.System.Configuration.{Configuration, IsConfiguration, is_client, is_correct_replica}
 use Rattle.wire.specs.Messages.{MessageData as Message, request as Request}
-use Rattle.wire.specs.Words.{requests_of}
-use Rattle.protocol.specs.System.Frames.{reads_only, said}
+use Rattle.wire.specs.Words.{requests_of, said}
+use Rattle.protocol.specs.System.Frames.{reads_only}
 use Rattle.protocol.specs.System.Trace.{Entry, party_of, Once, Has}
 use Rattle.protocol.specs.System.Trace.Entry.{Invoke, Got, Tick, Executed, Installed, Sent, Accepted}
 use Rattle.protocol.specs.Replica.State.{State, Call, Ran, opening, runs, run_call, call_in, call_of, run_frame, execute, ran_by, ran_in, kept_by, kept_of, last_time}

@@ -3,10 +3,11 @@ use Rattle.std.proofs.Common.{◌≡◌, ℕ, suc, ◌+◌, ◌*◌, ◌≤◌, 
 use Rattle.std.specs.Prelude.{◌==◌, option_and_then}
 use Rattle.std.proofs.lemmas.Bool.{and_parts}
 use Rattle.quorum.specs.Quorum.{count_below}
-use Rattle.protocol.specs.System.Configuration.{Configuration, IsConfiguration, is_correct, is_correct_replica, is_correct_client}
+use Rattle.protocol.specs.System.Configuration.{Configuration, IsConfiguration, is_correct, is_correct_replica, is_correct_client, members}
 use Rattle.terms.specs.declared.order.Mode.TheVariants as modes
 use Rattle.wire.specs.Messages.{BodyData as Body, MessageData as Message, request as Request, reply as Reply}
-use Rattle.protocol.specs.System.Frames.{reads_only, mode_of, heard}
+use Rattle.signing.specs.Heard.{heard}
+use Rattle.protocol.specs.System.Frames.{reads_only, mode_of}
 use Rattle.protocol.specs.System.Trace.{Entry, party_of, history_of, Once, Always, Unforged, Hears}
 use Rattle.protocol.specs.System.Trace.Entry.{Invoke, Got, Tick, Executed, Installed, Sent, Accepted}
 use Rattle.protocol.specs.Replica.RightReplica.{MaySay, MayReply}
@@ -172,9 +173,9 @@ pub latest_heard : (c : Configuration) (me t s : ℕ) (vote : Vote) (xs : List E
 unfolding latest
 latest_heard c me t s vote [] own h = absurd cc
 latest_heard c me t s vote (Invoke x y z ∷ past) own h = absurd cc
-latest_heard c me t s vote (Got p bytes ∷ past) own h = go (option_and_then (vote_of me t s) (heard c me bytes)) refl h (latest_heard c me t s vote past own.1)
+latest_heard c me t s vote (Got p bytes ∷ past) own h = go (option_and_then (vote_of me t s) (heard (members c) me bytes)) refl h (latest_heard c me t s vote past own.1)
   where
-    go : (o : Option Vote) → option_and_then (vote_of me t s) (heard c me bytes) ≡ o → later_vote true o (latest c me past t true s) ≡ Some vote
+    go : (o : Option Vote) → option_and_then (vote_of me t s) (heard (members c) me bytes) ≡ o → later_vote true o (latest c me past t true s) ≡ Some vote
         → (latest c me past t true s ≡ Some vote → Once (Hears c me (replying s me t vote.number vote.answer)) past) → Once (Hears c me (replying s me t vote.number vote.answer)) (Got p bytes ∷ past)
     go None is k below = inr (below k)
     go (Some v) is k below = test v.read_only refl k
@@ -183,7 +184,7 @@ latest_heard c me t s vote (Got p bytes ∷ past) own h = go (option_and_then (v
         test false e k = inr (below k)
         test true e k =
             let same : v ≡ vote = some_injective v vote k in
-            let r = and_then_some (vote_of me t s) (heard c me bytes) v is in
+            let r = and_then_some (vote_of me t s) (heard (members c) me bytes) v is in
             let body = vote_body me t s v r.0.sender r.0.message r.2 e in
             inl (r.1 ∙ ap Some body ∙ ap (λ (x : Vote). Some (replying s me t x.number x.answer)) same)
 latest_heard c me t s vote (Tick x ∷ past) own h = inr (latest_heard c me t s vote past own.1 h)

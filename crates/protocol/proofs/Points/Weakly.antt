@@ -8,9 +8,8 @@ use Rattle.tuple_codec.specs.Operations.{Outcome}
 use Rattle.tuple_codec.specs.Spelling.{outcome_spelling}
 use Rattle.quorum.specs.Quorum.{count_below}
 use Rattle.protocol.specs.System.Configuration.{Configuration, IsConfiguration, is_correct, is_correct_replica, is_correct_client}
-use Rattle.wire.specs.Words.{requests_of}
+use Rattle.wire.specs.Words.{requests_of, said}
 use Rattle.wire.specs.Reading.{requests_at}
-use Rattle.protocol.specs.System.Frames.{said}
 use Rattle.protocol.specs.System.Trace.{Entry, party_of, history_of, Once, Always, Has, Unforged}
 use Rattle.protocol.specs.System.Trace.Entry.{Invoke, Got, Tick, Executed, Installed, Sent, Accepted}
 use Rattle.protocol.specs.Replica.State.{State, Ran, opening, tuples, run_frame, execute, ran_in}

@@ -1,22 +1,20 @@
 -- What the laws use of how bodies are read: their operations and answers are within the limits, timestamps fit their
 -- bytes, and a batch has at most 16 requests.
 use Rattle.std.proofs.Common.{◌≡◌, ℕ, zero, suc, ◌+◌, ◌^◌, ◌≤◌, ◌<◌, Bool, cond, List, [], ◌∷◌, ◌++◌, length, refl, ap, subst, arith, ◌&&◌, Option, Some, None}
-use Rattle.std.specs.Prelude.{nat_lt, nat_le, ⊤}
-use Rattle.std.specs.List.{list_all}
+use Rattle.std.specs.Prelude.{nat_le, ⊤}
 use Rattle.std.proofs.lemmas.Bool.{and_parts, leb-true}
-use Rattle.tuple_tree.specs.Values.{AreBytes}
 use Rattle.tuple_codec.specs.Operations.{IsOperation, IsOutcome}
 use Rattle.tuple_codec.specs.Reading.{Reader, byte_at}
 use Rattle.tuple_codec.proofs.Readers.{bind_some, guard_holds}
-use Rattle.wire.specs.Messages.{BodyData as Body, MessageData as Message, FrameData as Frame, request as Request, pre_prepare as PrePrepare, prepare as Prepare, commit as Commit, checkpoint as Checkpoint, view_change as ViewChange, new_view as NewView, reply as Reply, fetch as Fetch, meta as Meta, page as Page}
+use Rattle.wire.specs.Messages.{BodyData as Body, MessageData as Message, request as Request, pre_prepare as PrePrepare, prepare as Prepare, commit as Commit, checkpoint as Checkpoint, view_change as ViewChange, new_view as NewView, reply as Reply, fetch as Fetch, meta as Meta, page as Page}
 use Rattle.wire.specs.Spelling.{IsMessage}
-use Rattle.wire.specs.Reading.{frame_read as frame_spelled, passing, if_it, more_at, anyhow, piece_at, is_request, requests_at}
-use Rattle.wire.specs.Words.{said as body_spelled, requests_of}
-use Rattle.wire.proofs.Carriers.{frame_of_found}
-use Rattle.protocol.specs.System.Configuration.{Configuration}
-use Rattle.protocol.specs.System.Frames.{said, heard}
+use Rattle.wire.specs.Reading.{passing, if_it, more_at, anyhow, piece_at, is_request, requests_at}
+use Rattle.wire.specs.Words.{requests_of, said}
+use Rattle.wire.proofs.Saying.{says_what_is_spelled}
+use Rattle.protocol.specs.System.Configuration.{Configuration, members}
+use Rattle.signing.specs.Heard.{heard}
 use Rattle.protocol.proofs.Words.Options.{some_injective}
-use Rattle.protocol.proofs.Words.Linking.{are_bytes, heard_said}
+use Rattle.protocol.proofs.Words.Linking.{heard_said}
 
 -- ---- what a message has
 
@@ -38,20 +36,12 @@ message_fits (Fetch k level index) h = tt
 message_fits (Meta k level index digests) h = tt
 message_fits (Page k index text) h = tt
 
-spelled_fits : (bytes : List ℕ) (body : Body) → AreBytes bytes → body_spelled bytes ≡ Some body → FitsMessage body.message
-unfolding body_spelled
-spelled_fits bytes body are h =
-    let k = bind_some (frame_spelled bytes) (λ (f : Frame). Some f.body) body h in
-    let same : k.0.body ≡ body = some_injective k.0.body body k.2 in
-    subst (λ (b : Body). FitsMessage b.message) same (message_fits k.0.body.message (frame_of_found bytes k.0 are k.1).valid.message)
-
 pub said_fits : (bytes : List ℕ) (body : Body) → said bytes ≡ Some body → FitsMessage body.message
-unfolding said
 said_fits bytes body h =
-    let g = guard_holds (list_all (λ b. nat_lt b 256) bytes) (body_spelled bytes) body h in
-    spelled_fits bytes body (are_bytes bytes g.0) g.1
+    let w = (says_what_is_spelled bytes body).0 h in
+    subst (λ (b : Body). FitsMessage b.message) w.2 (message_fits w.0.body.message w.1.valid.message)
 
-pub heard_fits : (c : Configuration) (me : ℕ) (bytes : List ℕ) (body : Body) → heard c me bytes ≡ Some body → FitsMessage body.message
+pub heard_fits : (c : Configuration) (me : ℕ) (bytes : List ℕ) (body : Body) → heard (members c) me bytes ≡ Some body → FitsMessage body.message
 heard_fits c me bytes body h = said_fits bytes body (heard_said c me bytes body h)
 
 -- ---- batches

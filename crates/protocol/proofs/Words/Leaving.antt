@@ -14,8 +14,8 @@ use Rattle.space.proofs.Keeping.{IsState-state_after, IsState-empty}
 use Rattle.space.proofs.Batches.{next_after}
 use Rattle.protocol.specs.System.Configuration.{Configuration, is_client}
 use Rattle.wire.specs.Messages.{MessageData as Message, request as Request}
-use Rattle.wire.specs.Words.{requests_of}
-use Rattle.protocol.specs.System.Frames.{reads_only, said}
+use Rattle.wire.specs.Words.{requests_of, said}
+use Rattle.protocol.specs.System.Frames.{reads_only}
 use Rattle.reply_cache.specs.Replies.{Kept, Replies, no_replies, last_of, with_reply, IsKept, IsReply, AreReplies}
 use Rattle.reply_cache.proofs.Slots.{AreReplies-none}
 use Rattle.protocol.specs.Replica.State.{State, IsState, Call, opening, tuples, kept_of, last_time, call_in, call_of, runs, kept_by, ran_call, run_call, run_frame, execute, after_batches}

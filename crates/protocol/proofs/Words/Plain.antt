@@ -4,9 +4,10 @@ use Rattle.std.specs.Option.{option_map_or}
 use Rattle.std.proofs.Common.{◌≡◌, ℕ, Bool, true, false, cond, List, ◌∷◌, refl, ap, ◌∙◌, arith, Option, Some, None}
 use Rattle.std.specs.Prelude.{option_and_then, ⊤}
 use Rattle.quorum.specs.Votes.{give_if}
-use Rattle.protocol.specs.System.Configuration.{Configuration}
+use Rattle.protocol.specs.System.Configuration.{Configuration, members}
 use Rattle.wire.specs.Messages.{BodyData as Body, MessageData as Message, MarkData as Mark, NewViewData, request as Request, pre_prepare as PrePrepare, prepare as Prepare, commit as Commit, reply as Reply, fetch as Fetch, meta as Meta, page as Page}
-use Rattle.protocol.specs.System.Frames.{said, heard}
+use Rattle.signing.specs.Heard.{heard}
+use Rattle.wire.specs.Words.{said}
 use Rattle.protocol.specs.System.Trace.{Entry}
 use Rattle.protocol.specs.System.Trace.Entry.{Got, Sent}
 use Rattle.protocol.specs.Replica.Certificates.{view, view_after, target, is_later, change_from, change_sent, new_view_in, new_view_from, taken, checkpoint_from, checkpoint_in, is_stable, stable_at, installed_at, started_at, low, is_in_marks, batch_begun, begun_proposal, entry_proposal, proposal}
@@ -57,7 +58,7 @@ none_changes sender (Meta k level index digests) h = refl
 none_changes sender (Page k index text) h = refl
 none_changes sender _ h = absurd h
 
-pub heard_plain : (c : Configuration) (past : List Entry) (p : ℕ) (bytes : List ℕ) (body : Body) → heard c p bytes ≡ Some body → IsPlain body.message → Plain c past (Got p bytes)
+pub heard_plain : (c : Configuration) (past : List Entry) (p : ℕ) (bytes : List ℕ) (body : Body) → heard (members c) p bytes ≡ Some body → IsPlain body.message → Plain c past (Got p bytes)
 heard_plain c past p bytes body h o = record {
   view = ap (option_and_then (new_view_from c)) h ∙ none_begins c body.sender body.message o;
   change = refl;

@@ -1,29 +1,29 @@
 -- What is sealed or signed is posted, and what is posted may be sent where its message may be said.
 use Rattle.std.proofs.Common.{◌≡◌, ℕ, true, List, [], ◌∷◌, ◌∙◌, refl, sym, ap, subst}
 use Rattle.std.proofs.lemmas.List.Elements.{All-map}
-use Rattle.tuple_tree.specs.Values.{AreBytes}
 use Rattle.wire.specs.Messages.{BodyData as Body, MessageData as Message, FrameData as Frame, MacData, ProofData as Proof, macs, signature}
 use Rattle.wire.specs.Spelling.{body_spelling, SpellsFrame}
 use Rattle.authenticator.specs.Authentic.{mac_of}
 use Rattle.authenticator.specs.Sealing.{entry_for, sealed_for}
 use Rattle.signing.specs.Heard.{has_signature}
 use Rattle.protocol.specs.System.Configuration.{Configuration}
-use Rattle.protocol.specs.System.Frames.{IsSealed, receivers_of, IsPosted}
+use Rattle.wire.specs.Words.{receivers_of}
+use Rattle.protocol.specs.System.Frames.{IsSealed, IsPosted}
 use Rattle.protocol.specs.System.Trace.{Entry}
 use Rattle.protocol.specs.Replica.RightReplica.{IsFor, IsAddressed}
 use Rattle.protocol.specs.Laws.Histories.{PostedMaySend}
 use Rattle.protocol.proofs.Words.Options.{some_injective}
-use Rattle.protocol.proofs.Words.Spelled.{frames_are_spelled, bodies_are_said}
+use Rattle.wire.proofs.Saying.{reads_frames, reads_said}
 
 -- ---- what is posted
 
 -- a frame that the bytes spell, where it is sealed so
-pub frame_is_posted : (c : Configuration) (bytes : List ℕ) (frame : Frame) → AreBytes bytes → SpellsFrame bytes frame → IsSealed c frame
+pub frame_is_posted : (c : Configuration) (bytes : List ℕ) (frame : Frame) → SpellsFrame bytes frame → IsSealed c frame
     → IsPosted c frame.body.sender frame.body.message (receivers_of frame.proof) bytes
-frame_is_posted c bytes frame are spells well = record {
-  says = bodies_are_said bytes frame are spells;
+frame_is_posted c bytes frame spells well = record {
+  says = reads_said bytes frame spells;
   is_sealed = λ other is.
-      let same : frame ≡ other = some_injective frame other (sym ((frames_are_spelled bytes frame are).1 spells) ∙ is) in
+      let same : frame ≡ other = some_injective frame other (sym ((reads_frames bytes frame).1 spells) ∙ is) in
       subst (λ (f : Frame). IsSealed c f × (receivers_of f.proof ≡ receivers_of frame.proof)) same (well, refl);
 }
 
@@ -35,16 +35,16 @@ sealed_receivers c body [] = refl
 sealed_receivers c body (p ∷ ps) = ap (λ (xs : List ℕ). p ∷ xs) (sealed_receivers c body ps)
 
 -- what is sealed for these parties
-pub sealed_is_posted : (c : Configuration) (body : Body) (parties bytes : List ℕ) → AreBytes bytes → SpellsFrame bytes (sealed_for c.seed body parties)
+pub sealed_is_posted : (c : Configuration) (body : Body) (parties bytes : List ℕ) → SpellsFrame bytes (sealed_for c.seed body parties)
     → IsPosted c body.sender body.message parties bytes
-sealed_is_posted c body parties bytes are spells =
+sealed_is_posted c body parties bytes spells =
     subst (λ (xs : List ℕ). IsPosted c body.sender body.message xs bytes) (sealed_receivers c body parties)
-    (frame_is_posted c bytes (sealed_for c.seed body parties) are spells (sealed_well c body parties))
+    (frame_is_posted c bytes (sealed_for c.seed body parties) spells (sealed_well c body parties))
 
 -- what is signed
-pub signed_is_posted : (c : Configuration) (body : Body) (text bytes : List ℕ) → AreBytes bytes → SpellsFrame bytes (record { body = body; proof = signature text })
+pub signed_is_posted : (c : Configuration) (body : Body) (text bytes : List ℕ) → SpellsFrame bytes (record { body = body; proof = signature text })
     → has_signature c.seed (record { body = body; proof = signature text }) ≡ true → IsPosted c body.sender body.message [] bytes
-signed_is_posted c body text bytes are spells signed = frame_is_posted c bytes (record { body = body; proof = signature text }) are spells signed
+signed_is_posted c body text bytes spells signed = frame_is_posted c bytes (record { body = body; proof = signature text }) spells signed
 
 -- ---- what is posted may be sent
 

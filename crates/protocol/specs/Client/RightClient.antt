@@ -9,9 +9,11 @@ use Rattle.tuple_codec.specs.Spelling.{outcome_spelling}
 use Rattle.space.specs.Applying.{is_read_only}
 use Rattle.quorum.specs.Quorum.{count_below}
 use Rattle.quorum.specs.Votes.{give_if}
-use Rattle.protocol.specs.System.Configuration.{Configuration, replicas}
+use Rattle.protocol.specs.System.Configuration.{Configuration, replicas, members}
 use Rattle.wire.specs.Messages.{BodyData as Body, MessageData as Message, request as Request, reply as Reply}
-use Rattle.protocol.specs.System.Frames.{reads_only, mode_of, said, heard, IsPosted}
+use Rattle.signing.specs.Heard.{heard}
+use Rattle.wire.specs.Words.{said}
+use Rattle.protocol.specs.System.Frames.{reads_only, mode_of, IsPosted}
 use Rattle.protocol.specs.System.Trace.{Entry, party_of, is_output, Always, either}
 use Rattle.protocol.specs.System.Trace.Entry.{Invoke, Got, Tick, Sent, Accepted}
 use Rattle.protocol.specs.Replica.Selection.{is_quorum, is_weak_quorum}
@@ -62,7 +64,7 @@ unfoldable pub latest : Configuration → ℕ → List Entry → ℕ → Bool �
 latest c me [] timestamp read_only s = None
 latest c me (Invoke client t op ∷ past) timestamp read_only s = None
 latest c me (Got p bytes ∷ past) timestamp read_only s =
-    later_vote read_only (option_and_then (vote_of me timestamp s) (heard c me bytes)) (latest c me past timestamp read_only s)
+    later_vote read_only (option_and_then (vote_of me timestamp s) (heard (members c) me bytes)) (latest c me past timestamp read_only s)
 latest c me (_ ∷ past) timestamp read_only s = latest c me past timestamp read_only s
 
 -- alike in number and answer (outcomes of one spelling are one)
@@ -81,7 +83,7 @@ is_complete c me past timestamp vote = is_quorum c (count_alike c me past timest
 abbrev pub newest_vote : Configuration → ℕ → List Entry → ℕ → Option Vote
 newest_vote c me past timestamp = elim past [
   | [] ↦ None
-  | e ∷ earlier ↦ (elim e [ Got p bytes ↦ option_and_then (λ body. vote_of me timestamp body.sender body) (heard c me bytes) | _ ↦ None ])
+  | e ∷ earlier ↦ (elim e [ Got p bytes ↦ option_and_then (λ body. vote_of me timestamp body.sender body) (heard (members c) me bytes) | _ ↦ None ])
 ]
 
 -- ---- what a client gives

@@ -2,11 +2,12 @@
 use Rattle.std.specs.Prelude.{◌≡◌, ◌≢◌, ℕ, ◌*◌, ◌≤◌, ◌<◌, ◌⊎◌, Bool, true, false, List, [], ◌∷◌, Some, None}
 use Rattle.tuple_codec.specs.Operations.{Operation, Outcome}
 use Rattle.quorum.specs.Quorum.{count_below}
-use Rattle.protocol.specs.System.Configuration.{Configuration, replicas}
+use Rattle.protocol.specs.System.Configuration.{Configuration, replicas, members}
 use Rattle.terms.specs.declared.order.Mode.{Mode}
 use Rattle.terms.specs.declared.order.Mode.TheVariants as modes
 use Rattle.wire.specs.Messages.{reply as Reply}
-use Rattle.protocol.specs.System.Frames.{heard, reads_only}
+use Rattle.signing.specs.Heard.{heard}
+use Rattle.protocol.specs.System.Frames.{reads_only}
 use Rattle.protocol.specs.System.Trace.{Entry, Once, AreOutputs, Hears}
 use Rattle.protocol.specs.System.Trace.Entry.{Invoke, Got, Tick}
 use Rattle.protocol.specs.Client.RightClient.{OpenCall, open_call, latest, is_same_answer, count_alike, IsClient, IsWeakClient}
@@ -18,7 +19,7 @@ use Rattle.protocol.specs.Evidence.RefusedRuns.{going_on, AsksOrdered, IsAnyClie
 abbrev pub HeardIsLatest : Type 0
 HeardIsLatest =
     (c : Configuration) (me s timestamp number : ℕ) (mode : Mode) (answer : Outcome) (bytes : List ℕ) (past : List Entry)
-    → heard c me bytes ≡ Some (record { sender = s; message = Reply me timestamp mode number answer })
+    → heard (members c) me bytes ≡ Some (record { sender = s; message = Reply me timestamp mode number answer })
     → latest c me (Got me bytes ∷ past) timestamp (reads_only mode) s ≡ Some (record { read_only = reads_only mode; number = number; answer = answer })
 
 -- It stays so at an entry that is no call and brings no reply of that replica in that mode.
@@ -42,7 +43,7 @@ CallsForget =
 abbrev pub WaitsForAnswers : Type 0
 WaitsForAnswers =
     (c : Configuration) (me s r number : ℕ) (call : OpenCall) (mode : Mode) (answer : Outcome) (bytes later : List ℕ) (outputs past : List Entry)
-    → open_call past ≡ Some call → heard c me bytes ≡ Some (record { sender = s; message = Reply me call.timestamp mode number answer })
+    → open_call past ≡ Some call → heard (members c) me bytes ≡ Some (record { sender = s; message = Reply me call.timestamp mode number answer })
     → count_alike c me (Got me bytes ∷ past) call.timestamp (record { read_only = reads_only mode; number = number; answer = answer }) ≤ 2 * c.faults
     → r < replicas c → latest c me (Got me bytes ∷ past) call.timestamp true r ≡ None
     → AreOutputs outputs → IsClient c me (going_on me later outputs (Got me bytes) past) → outputs ≡ []
@@ -51,7 +52,7 @@ WaitsForAnswers =
 abbrev pub FallsBackOnce : Type 0
 FallsBackOnce =
     (c : Configuration) (me s number : ℕ) (call : OpenCall) (mode : Mode) (answer : Outcome) (bytes later : List ℕ) (outputs past : List Entry)
-    → open_call past ≡ Some call → heard c me bytes ≡ Some (record { sender = s; message = Reply me call.timestamp mode number answer })
+    → open_call past ≡ Some call → heard (members c) me bytes ≡ Some (record { sender = s; message = Reply me call.timestamp mode number answer })
     → count_alike c me (Got me bytes ∷ past) call.timestamp (record { read_only = reads_only mode; number = number; answer = answer }) ≤ 2 * c.faults
     → Once (AsksOrdered call.timestamp) past
     → AreOutputs outputs → IsClient c me (going_on me later outputs (Got me bytes) past) → outputs ≡ []
@@ -61,7 +62,7 @@ FallsBackOnce =
 abbrev pub WeaklyWaits : Type 0
 WeaklyWaits =
     (c : Configuration) (me s number : ℕ) (call : OpenCall) (mode : Mode) (answer : Outcome) (bytes later : List ℕ) (outputs past : List Entry)
-    → open_call past ≡ Some call → heard c me bytes ≡ Some (record { sender = s; message = Reply me call.timestamp mode number answer })
+    → open_call past ≡ Some call → heard (members c) me bytes ≡ Some (record { sender = s; message = Reply me call.timestamp mode number answer })
     → (mode ≡ modes.ReadOnly) ⊎ (count_below (λ r. is_same_answer (record { read_only = false; number = number; answer = answer }) (latest c me (Got me bytes ∷ past) call.timestamp false r)) (replicas c) ≤ c.faults)
     → AreOutputs outputs → IsWeakClient c me (going_on me later outputs (Got me bytes) past) → outputs ≡ []
 
@@ -70,7 +71,7 @@ abbrev pub IgnoresOthers : Type 0
 IgnoresOthers =
     (c : Configuration) (me : ℕ) (call : OpenCall) (bytes later : List ℕ) (outputs past : List Entry)
     → open_call past ≡ Some call
-    → ((s number : ℕ) (mode : Mode) (answer : Outcome) → heard c me bytes ≢ Some (record { sender = s; message = Reply me call.timestamp mode number answer }))
+    → ((s number : ℕ) (mode : Mode) (answer : Outcome) → heard (members c) me bytes ≢ Some (record { sender = s; message = Reply me call.timestamp mode number answer }))
     → AreOutputs outputs → IsAnyClient c me (going_on me later outputs (Got me bytes) past) → outputs ≡ []
 
 -- nor at a frame or a tick while no call is open.

@@ -6,7 +6,7 @@ use Rattle.terms.specs.declared.order.Mode.TheVariants as modes
 use Rattle.wire.specs.Messages.{FrameData as Frame, MacData, macs, request as Request}
 use Rattle.authenticator.specs.Authentic.{mac_of}
 use Rattle.protocol.specs.System.Configuration.{Configuration}
-use Rattle.protocol.specs.System.Frames.{frame_of, said}
+use Rattle.wire.specs.Words.{frame_of, said}
 use Rattle.protocol.specs.System.Trace.{Entry, party_of, Always}
 use Rattle.protocol.specs.System.Trace.Entry.{Sent}
 use Rattle.protocol.specs.Replica.RightReplica.{SafeReplica}

@@ -4,9 +4,11 @@ use Rattle.std.specs.Prelude.{◌≡◌, ◌≢◌, ℕ, ◌+◌, true, false, L
 use Rattle.sha2.specs.Sha256.{sha256}
 use Rattle.tuple_codec.specs.Operations.{Operation, IsOperation}
 use Rattle.space.specs.Applying.{is_read_only}
-use Rattle.protocol.specs.System.Configuration.{Configuration, IsConfiguration, is_correct_client}
+use Rattle.protocol.specs.System.Configuration.{Configuration, IsConfiguration, is_correct_client, members}
 use Rattle.wire.specs.Messages.{FrameData as Frame, ViewChangeData, pre_prepare as PrePrepare, prepare as Prepare, commit as Commit}
-use Rattle.protocol.specs.System.Frames.{frame_of, said, heard, IsSealed, receivers_of}
+use Rattle.signing.specs.Heard.{heard}
+use Rattle.wire.specs.Words.{frame_of, said, receivers_of}
+use Rattle.protocol.specs.System.Frames.{IsSealed}
 use Rattle.protocol.specs.System.Trace.{Entry}
 use Rattle.protocol.specs.System.Trace.Entry.{Invoke, Got, Executed, Sent}
 use Rattle.protocol.specs.Replica.Selection.{null_batch, signed_change, may_select}
@@ -22,13 +24,13 @@ four clients seed = record { faults = 1; clients = clients; seed = seed; period 
 -- What replica 1 gets and sends for the first batch in view 0: the primary's pre-prepare, prepares of 1 and 2, and
 -- commits of 1, 0 and 2.
 pub record IsFirstBatch (c : Configuration) (batch pre_prepare own_prepare other_prepare own_commit first_commit second_commit : List ℕ) : Type 0 where
-  pub proposed : heard c 1 pre_prepare ≡ Some (record { sender = 0; message = PrePrepare 0 1 batch })
+  pub proposed : heard (members c) 1 pre_prepare ≡ Some (record { sender = 0; message = PrePrepare 0 1 batch })
   pub genuine : are_genuine c 1 batch ≡ true
   pub prepares : said own_prepare ≡ Some (record { sender = 1; message = Prepare 0 1 (sha256 batch) })
-  pub other_prepares : heard c 1 other_prepare ≡ Some (record { sender = 2; message = Prepare 0 1 (sha256 batch) })
+  pub other_prepares : heard (members c) 1 other_prepare ≡ Some (record { sender = 2; message = Prepare 0 1 (sha256 batch) })
   pub commits : said own_commit ≡ Some (record { sender = 1; message = Commit 0 1 (sha256 batch) })
-  pub first_commits : heard c 1 first_commit ≡ Some (record { sender = 0; message = Commit 0 1 (sha256 batch) })
-  pub second_commits : heard c 1 second_commit ≡ Some (record { sender = 2; message = Commit 0 1 (sha256 batch) })
+  pub first_commits : heard (members c) 1 first_commit ≡ Some (record { sender = 0; message = Commit 0 1 (sha256 batch) })
+  pub second_commits : heard (members c) 1 second_commit ≡ Some (record { sender = 2; message = Commit 0 1 (sha256 batch) })
   pub prepare_sealed : (frame : Frame) → frame_of own_prepare ≡ Some frame → IsSealed c frame × (receivers_of frame.proof ≡ others c 1)
   pub commit_sealed : (frame : Frame) → frame_of own_commit ≡ Some frame → IsSealed c frame × (receivers_of frame.proof ≡ others c 1)
 

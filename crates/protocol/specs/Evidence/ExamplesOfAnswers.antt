@@ -6,8 +6,10 @@ use Rattle.space.specs.Applying.{outcome, is_read_only}
 use Rattle.terms.specs.declared.order.Mode.TheVariants as modes
 use Rattle.terms.specs.declared.state.Level.TheVariants as levels
 use Rattle.wire.specs.Messages.{FrameData as Frame, MessageData as Message, request as Request, reply as Reply, fetch as Fetch, meta as Meta}
-use Rattle.protocol.specs.System.Configuration.{Configuration}
-use Rattle.protocol.specs.System.Frames.{frame_of, said, heard, IsSealed, receivers_of}
+use Rattle.protocol.specs.System.Configuration.{Configuration, members}
+use Rattle.signing.specs.Heard.{heard}
+use Rattle.wire.specs.Words.{frame_of, said, receivers_of}
+use Rattle.protocol.specs.System.Frames.{IsSealed}
 use Rattle.protocol.specs.System.Trace.Entry.{Got, Sent}
 use Rattle.protocol.specs.Replica.State.{opening}
 use Rattle.protocol.specs.Replica.RightReplica.{digests_at}
@@ -23,7 +25,7 @@ pub record IsAnswer (c : Configuration) (sender receiver : ℕ) (message : Messa
 abbrev pub FirstReadIsAnswered : Type 0
 FirstReadIsAnswered =
     (clients : ℕ) (seed : List ℕ) (me client timestamp : ℕ) (op : Operation) (read reply : List ℕ)
-    → heard (four clients seed) me read ≡ Some (record { sender = client; message = Request timestamp modes.ReadOnly op }) → is_read_only op ≡ true
+    → heard (members (four clients seed)) me read ≡ Some (record { sender = client; message = Request timestamp modes.ReadOnly op }) → is_read_only op ≡ true
     → IsAnswer (four clients seed) me client (Reply client timestamp modes.ReadOnly 0 (outcome [] op)) reply
     → IsReplica (four clients seed) me (Sent me reply ∷ Got me read ∷ [])
 
@@ -31,6 +33,6 @@ FirstReadIsAnswered =
 abbrev pub FirstFetchIsAnswered : Type 0
 FirstFetchIsAnswered =
     (clients : ℕ) (seed : List ℕ) (me other : ℕ) (fetch digests : List ℕ) (frame : Frame)
-    → heard (four clients seed) me fetch ≡ Some (record { sender = other; message = Fetch 0 levels.Root 0 }) → frame_of digests ≡ Some frame
+    → heard (members (four clients seed)) me fetch ≡ Some (record { sender = other; message = Fetch 0 levels.Root 0 }) → frame_of digests ≡ Some frame
     → IsAnswer (four clients seed) me other (Meta 0 levels.Root 0 (digests_at opening levels.Root 0)) digests
     → IsReplica (four clients seed) me (Sent me digests ∷ Got me fetch ∷ [])

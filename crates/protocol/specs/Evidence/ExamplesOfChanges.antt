@@ -3,8 +3,10 @@
 use Rattle.std.specs.Prelude.{◌≡◌, ◌≢◌, ℕ, List, [], ◌∷◌, Some}
 use Rattle.sha2.specs.Sha256.{sha256}
 use Rattle.wire.specs.Messages.{FrameData as Frame, MessageData as Message, ViewChangeData, NewViewData, prepare as Prepare, view_change as ViewChange, new_view as NewView}
-use Rattle.protocol.specs.System.Configuration.{Configuration}
-use Rattle.protocol.specs.System.Frames.{frame_of, said, signed_body, IsSealed, receivers_of}
+use Rattle.protocol.specs.System.Configuration.{Configuration, members}
+use Rattle.signing.specs.Heard.{signed_body}
+use Rattle.wire.specs.Words.{frame_of, said, receivers_of}
+use Rattle.protocol.specs.System.Frames.{IsSealed}
 use Rattle.protocol.specs.System.Trace.Entry.{Got, Sent}
 use Rattle.protocol.specs.Replica.Selection.{signed_change}
 use Rattle.protocol.specs.Replica.State.{opening}
@@ -19,7 +21,7 @@ beginning_change = record { view = 1; low = 0; checkpoints = checkpoint_of openi
 
 -- The bytes are this view change, signed by the sender.
 abbrev pub ChangesInBeginning : Configuration → ℕ → List ℕ → Type 0
-ChangesInBeginning c sender bytes = signed_body c bytes ≡ Some (record { sender = sender; message = ViewChange beginning_change })
+ChangesInBeginning c sender bytes = signed_body (members c) bytes ≡ Some (record { sender = sender; message = ViewChange beginning_change })
 
 -- A replica that gets the view changes of two different replicas for view 1 in the beginning, and sends its own at the
 -- second, is a right one.
@@ -46,6 +48,6 @@ NewViewsAreTaken =
     → signed_change (four clients seed) a ≡ Some (1, holding batch root)
     → signed_change (four clients seed) b ≡ Some (2, holding batch root)
     → signed_change (four clients seed) d ≡ Some (3, holding batch root)
-    → signed_body (four clients seed) new_view ≡ Some (record { sender = 1; message = NewView (holding_view batch root a b d) })
+    → signed_body (members (four clients seed)) new_view ≡ Some (record { sender = 1; message = NewView (holding_view batch root a b d) })
     → IsForOthers (four clients seed) me (Prepare 1 1 (sha256 batch)) prepare
     → IsReplica (four clients seed) me (Sent me prepare ∷ Got me new_view ∷ [])

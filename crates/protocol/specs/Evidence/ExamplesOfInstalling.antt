@@ -3,8 +3,8 @@
 use Rattle.std.specs.Prelude.{◌≡◌, ℕ, ◌<◌, List, [], ◌∷◌, Some}
 use Rattle.space.specs.Pages.{header_text}
 use Rattle.wire.specs.Messages.{checkpoint as Checkpoint, page as Page}
-use Rattle.protocol.specs.System.Configuration.{Configuration, replicas}
-use Rattle.protocol.specs.System.Frames.{heard}
+use Rattle.protocol.specs.System.Configuration.{Configuration, replicas, members}
+use Rattle.signing.specs.Heard.{heard}
 use Rattle.protocol.specs.System.Trace.{Entry}
 use Rattle.protocol.specs.System.Trace.Entry.{Got, Installed}
 use Rattle.protocol.specs.Replica.State.{State, opening, root_of}
@@ -17,8 +17,8 @@ later_state = record opening { number = 16 }
 
 -- The checkpoints of the replicas 1 to 3 with its root, and its header from replica 1.
 pub record AreInstallFrames (c : Configuration) (checkpoint : ℕ → List ℕ) (header : List ℕ) : Type 0 where
-  pub checkpoints : (r : ℕ) → 0 < r → r < replicas c → heard c 0 (checkpoint r) ≡ Some (record { sender = r; message = Checkpoint 16 (root_of later_state) })
-  pub gives_header : heard c 0 header ≡ Some (record { sender = 1; message = Page 16 512 (header_text later_state.space 16) })
+  pub checkpoints : (r : ℕ) → 0 < r → r < replicas c → heard (members c) 0 (checkpoint r) ≡ Some (record { sender = r; message = Checkpoint 16 (root_of later_state) })
+  pub gives_header : heard (members c) 0 header ≡ Some (record { sender = 1; message = Page 16 512 (header_text later_state.space 16) })
 
 -- The history of replica 0, the newest first: it gets them, and installs.
 abbrev pub installation : (checkpoint : ℕ → List ℕ) (header : List ℕ) → List Entry

@@ -7,10 +7,11 @@ use Rattle.space.specs.Applying.{outcome, is_read_only}
 use Rattle.terms.specs.declared.order.Mode.TheVariants as modes
 use Rattle.wire.specs.Messages.{FrameData as Frame, MessageData as Message, MacData, macs, request as Request, pre_prepare as PrePrepare, prepare as Prepare, commit as Commit, reply as Reply}
 use Rattle.wire.specs.Spelling.{IsMessage, is_signed, frame_limit, body_spelling}
-use Rattle.wire.specs.Words.{requests_of}
+use Rattle.wire.specs.Words.{requests_of, frame_of, said, receivers_of}
 use Rattle.authenticator.specs.Membership.{sends}
 use Rattle.protocol.specs.System.Configuration.{Configuration, IsConfiguration, replicas, members}
-use Rattle.protocol.specs.System.Frames.{frame_of, said, heard, IsSealed, receivers_of}
+use Rattle.signing.specs.Heard.{heard}
+use Rattle.protocol.specs.System.Frames.{IsSealed}
 use Rattle.protocol.specs.System.Trace.{Entry, history_of, Has, Unforged}
 use Rattle.protocol.specs.System.Trace.Entry.{Invoke, Got, Executed, Sent, Accepted}
 use Rattle.protocol.specs.Replica.Certificates.{Committed}
@@ -39,7 +40,7 @@ pub record IsFrom (c : Configuration) (sender : ℕ) (message : Message) (receiv
   pub has_macs : frame.proof ≡ macs entries
   pub is_sealed : IsSealed c frame
   pub is_for : receivers_of frame.proof ≡ receivers
-  pub is_heard : (p : ℕ) → Has (λ r. r ≡ p) receivers → heard c p bytes ≡ Some (record { sender = sender; message = message })
+  pub is_heard : (p : ℕ) → Has (λ r. r ≡ p) receivers → heard (members c) p bytes ≡ Some (record { sender = sender; message = message })
 
 -- client 0's answer
 abbrev pub first_answer : Operation → Outcome

@@ -4,8 +4,8 @@ use Rattle.std.specs.Prelude.{◌≡◌, ℕ, ◌+◌, ◌<◌, List, [], ◌∷
 use Rattle.tuple_codec.specs.Operations.{Operation, Outcome}
 use Rattle.terms.specs.declared.order.Mode.TheVariants as modes
 use Rattle.wire.specs.Messages.{reply as Reply}
-use Rattle.protocol.specs.System.Configuration.{Configuration, IsConfiguration}
-use Rattle.protocol.specs.System.Frames.{heard}
+use Rattle.protocol.specs.System.Configuration.{Configuration, IsConfiguration, members}
+use Rattle.signing.specs.Heard.{heard}
 use Rattle.protocol.specs.System.Trace.{Entry}
 use Rattle.protocol.specs.System.Trace.Entry.{Invoke, Got, Sent, Accepted}
 use Rattle.protocol.specs.Space.Linear.{Item, points}
@@ -21,7 +21,7 @@ pub record Read : Type 0 where
 
 -- Each reply is read-only, with the number 1, and the client hears it.
 abbrev pub IsReadOf : Configuration → ℕ → Read → Type 0
-IsReadOf c k read = (r : ℕ) → r < 4 → heard c (256 + k) (read.reply r) ≡ Some (record { sender = r; message = Reply (256 + k) 1 modes.ReadOnly 1 read.answer })
+IsReadOf c k read = (r : ℕ) → r < 4 → heard (members c) (256 + k) (read.reply r) ≡ Some (record { sender = r; message = Reply (256 + k) 1 modes.ReadOnly 1 read.answer })
 
 -- the client calls its read and asks for it
 abbrev pub called : ℕ → Read → List Entry

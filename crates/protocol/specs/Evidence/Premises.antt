@@ -1,13 +1,14 @@
 -- What the premises of the laws leave open: each is met wherever the system model meets it, and says no more
 -- (Castro and Liskov, TOCS 2002, on the system model).
-use Rattle.std.specs.Prelude.{◌≡◌, ◌≢◌, ◌↔◌, ℕ, suc, ◌+◌, ◌<◌, ◌⊎◌, Bool, true, false, not, List, [], ◌∷◌, length, Some, None, All, AllPairs}
+use Rattle.std.specs.Prelude.{◌≡◌, ◌≢◌, ◌↔◌, ℕ, suc, ◌+◌, ◌<◌, ◌⊎◌, Bool, true, false, not, List, [], ◌∷◌, length, Option, Some, None, ⊤, All, AllPairs}
 use Rattle.std.specs.List.{concat}
 use Rattle.std.specs.Option.{option_map_or}
 use Rattle.tuple_codec.specs.Operations.{Operation, IsOperation}
 use Rattle.partition_tree.specs.Digests.{inner_digests, page_digests}
 use Rattle.wire.specs.Messages.{BodyData as Body, MessageData as Message, pre_prepare as PrePrepare, new_view as NewView, meta as Meta, page as Page}
-use Rattle.protocol.specs.System.Configuration.{Configuration, IsConfiguration, replicas, is_correct_replica, is_correct_client, is_correct, primary}
-use Rattle.protocol.specs.System.Frames.{said, opened}
+use Rattle.protocol.specs.System.Configuration.{Configuration, IsConfiguration, replicas, is_correct_replica, is_correct_client, is_correct, primary, members}
+use Rattle.wire.specs.Words.{said}
+use Rattle.signing.specs.Heard.{heard, signed_body}
 use Rattle.protocol.specs.System.Trace.{Entry, history_of, Once, Always, Has, frames_in, SendsBody, Unforged}
 use Rattle.protocol.specs.System.Trace.Entry.{Invoke, Got, Tick, Executed, Installed, Sent}
 use Rattle.protocol.specs.Replica.Selection.{null_batch}
@@ -121,11 +122,14 @@ abbrev pub OthersAreUnforged : Type 0
 OthersAreUnforged =
     (c : Configuration) (e : Entry) (trace : List Entry) → Unforged c trace → ((p : ℕ) (bytes : List ℕ) → e ≢ Got p bytes) → Unforged c (e ∷ trace)
 
--- The party can't take the frame as genuine, or takes it as from a sender that is faulty, or that sent one of its
--- body.
+-- No body, or one of a sender that is faulty, or that sent it.
+abbrev pub MayBeTaken : Configuration → List Entry → Option Body → Type 0
+MayBeTaken c past None = ⊤
+MayBeTaken c past (Some body) = (is_correct c body.sender ≡ false) ⊎ Once (SendsBody body) past
+
+-- What the party hears from the frame, and what is signed so, is such a body.
 abbrev pub MayBeGot : Configuration → ℕ → List Entry → List ℕ → Type 0
-MayBeGot c me past bytes =
-    (opened c me bytes ≡ None) ⊎ ((body : Body) × (opened c me bytes ≡ Some body) × ((is_correct c body.sender ≡ false) ⊎ Once (SendsBody body) past))
+MayBeGot c me past bytes = MayBeTaken c past (heard (members c) me bytes) × MayBeTaken c past (signed_body (members c) bytes)
 
 -- Frames of which each may be got, any party may get,
 abbrev pub FramesMayBeGot : Type 0

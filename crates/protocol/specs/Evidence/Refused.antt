@@ -3,18 +3,17 @@ use Rattle.std.specs.Prelude.{◌≡◌, ◌≢◌, ℕ, suc, ◌+◌, ◌-◌, 
 use Rattle.sha2.specs.Sha256.{sha256}
 use Rattle.tuple_codec.specs.Operations.{Operation, Outcome}
 use Rattle.space.specs.Applying.{outcome, is_read_only}
-use Rattle.wire.specs.Words.{requests_of}
+use Rattle.wire.specs.Words.{requests_of, frame_of, said}
 use Rattle.tuple_codec.specs.Spelling.{outcome_spelling}
 use Rattle.terms.specs.declared.order.Mode.{Mode}
 use Rattle.terms.specs.declared.state.Level.{Level}
 use Rattle.terms.specs.declared.state.Level.TheVariants as levels
 use Rattle.quorum.specs.Quorum.{count_below}
-use Rattle.protocol.specs.System.Configuration.{Configuration, IsConfiguration, replicas, primary}
+use Rattle.protocol.specs.System.Configuration.{Configuration, IsConfiguration, replicas, primary, members}
 use Rattle.terms.specs.declared.order.Mode.TheVariants as modes
 use Rattle.wire.specs.Messages.{BodyData as Body, FrameData as Frame, MacData, macs, signature, ViewChangeData, NewViewData, ClaimData as Claim, request as Request, pre_prepare as PrePrepare, prepare as Prepare, commit as Commit, checkpoint as Checkpoint, view_change as ViewChange, new_view as NewView, reply as Reply, fetch as Fetch, meta as Meta, page as Page}
 use Rattle.authenticator.specs.Authentic.{mac_of}
-use Rattle.signing.specs.Heard.{has_signature}
-use Rattle.protocol.specs.System.Frames.{frame_of, said, opened, heard}
+use Rattle.signing.specs.Heard.{has_signature, heard}
 use Rattle.protocol.specs.System.Trace.{Entry, is_output, Once, Always, Has, AreOutputs, Hears}
 use Rattle.protocol.specs.System.Trace.Entry.{Got, Executed, Installed, Sent, Accepted}
 use Rattle.wire.specs.Spelling.{has_children}
@@ -91,7 +90,7 @@ abbrev pub ProposesAuthentic : Type 0
 ProposesAuthentic =
     (c : Configuration) (me v i : ℕ) (batch bytes request : List ℕ) (past : List Entry)
     → said bytes ≡ Some (record { sender = me; message = PrePrepare v i batch }) → SafeReplica c me (Sent me bytes ∷ past)
-    → Has (λ x. x ≡ request) (requests_of batch) → (body : Body) × (heard c me request ≡ Some body)
+    → Has (λ x. x ≡ request) (requests_of batch) → (body : Body) × (heard (members c) me request ≡ Some body)
 
 -- A pre-prepare by another than the view's primary, for a number outside the marks, or of a view after a view change
 -- above it.
@@ -299,27 +298,27 @@ SignsWell =
 abbrev pub DropsUnaskedDigests : Type 0
 DropsUnaskedDigests =
     (c : Configuration) (me s k index : ℕ) (level : Level) (digests : List (List ℕ)) (bytes later : List ℕ) (past : List Entry)
-    → heard c me bytes ≡ Some (record { sender = s; message = Meta k level index digests }) → asked_last past ≢ Some (k, (level, index))
+    → heard (members c) me bytes ≡ Some (record { sender = s; message = Meta k level index digests }) → asked_last past ≢ Some (k, (level, index))
     → IsReplica c me (Sent me later ∷ Got me bytes ∷ past) → ⊥
 
 abbrev pub DropsUnaskedPages : Type 0
 DropsUnaskedPages =
     (c : Configuration) (me s k index : ℕ) (text bytes later : List ℕ) (past : List Entry)
-    → heard c me bytes ≡ Some (record { sender = s; message = Page k index text }) → asked_last past ≢ Some (k, (levels.Page, index))
+    → heard (members c) me bytes ≡ Some (record { sender = s; message = Page k index text }) → asked_last past ≢ Some (k, (levels.Page, index))
     → IsReplica c me (Sent me later ∷ Got me bytes ∷ past) → ⊥
 
 -- A frame that answers a reply.
 abbrev pub DropsReplies : Type 0
 DropsReplies =
     (c : Configuration) (me s client timestamp number : ℕ) (mode : Mode) (answer : Outcome) (bytes later : List ℕ) (past : List Entry)
-    → heard c me bytes ≡ Some (record { sender = s; message = Reply client timestamp mode number answer })
+    → heard (members c) me bytes ≡ Some (record { sender = s; message = Reply client timestamp mode number answer })
     → IsReplica c me (Sent me later ∷ Got me bytes ∷ past) → ⊥
 
 -- A frame that answers one got in the own name.
 abbrev pub DropsOwnFrames : Type 0
 DropsOwnFrames =
     (c : Configuration) (me : ℕ) (body : Body) (bytes later : List ℕ) (past : List Entry)
-    → opened c me bytes ≡ Some body → body.sender ≡ me
+    → said bytes ≡ Some body → body.sender ≡ me
     → IsReplica c me (Sent me later ∷ Got me bytes ∷ past) → ⊥
 
 -- A fetch of a part of a state whose root neither a quorum of checkpoints nor a new view's start told.
@@ -354,7 +353,7 @@ pub record GoesOn (c : Configuration) (me : ℕ) (outputs : List Entry) (input :
 abbrev pub AnswersReads : Type 0
 AnswersReads =
     (c : Configuration) (me client timestamp : ℕ) (op : Operation) (answer : Outcome) (bytes : List ℕ) (outputs past : List Entry)
-    → heard c me bytes ≡ Some (record { sender = client; message = Request timestamp modes.ReadOnly op }) → is_read_only op ≡ true
+    → heard (members c) me bytes ≡ Some (record { sender = client; message = Request timestamp modes.ReadOnly op }) → is_read_only op ≡ true
     → AtEachPoint c me past (λ point. outcome (tuples point.state) op ≡ answer) → GoesOn c me outputs (Got me bytes) past
     → Gives me (Reply client timestamp modes.ReadOnly (newest_number past) answer) outputs
 
@@ -362,14 +361,14 @@ AnswersReads =
 abbrev pub AnswersDigestFetches : Type 0
 AnswersDigestFetches =
     (c : Configuration) (me s index : ℕ) (level : Level) (st : State) (bytes : List ℕ) (outputs past : List Entry)
-    → heard c me bytes ≡ Some (record { sender = s; message = Fetch st.number level index }) → has_children level ≡ true
+    → heard (members c) me bytes ≡ Some (record { sender = s; message = Fetch st.number level index }) → has_children level ≡ true
     → AtEachPoint c me past (λ point. Has (λ x. x ≡ st) (kept_states (low c me past) point.snapshots)) → GoesOn c me outputs (Got me bytes) past
     → GivesTo me s (Meta st.number level index (digests_at st level index)) outputs
 
 abbrev pub AnswersPageFetches : Type 0
 AnswersPageFetches =
     (c : Configuration) (me s index : ℕ) (st : State) (bytes : List ℕ) (outputs past : List Entry)
-    → heard c me bytes ≡ Some (record { sender = s; message = Fetch st.number levels.Page index })
+    → heard (members c) me bytes ≡ Some (record { sender = s; message = Fetch st.number levels.Page index })
     → AtEachPoint c me past (λ point. Has (λ x. x ≡ st) (kept_states (low c me past) point.snapshots)) → GoesOn c me outputs (Got me bytes) past
     → GivesTo me s (Page st.number index (page_text st index)) outputs
 
@@ -377,7 +376,7 @@ AnswersPageFetches =
 abbrev pub AnswersAgain : Type 0
 AnswersAgain =
     (c : Configuration) (me k : ℕ) (op : Operation) (kept : Kept) (bytes : List ℕ) (outputs past : List Entry)
-    → heard c me bytes ≡ Some (record { sender = 256 + k; message = Request kept.timestamp modes.Ordered op })
+    → heard (members c) me bytes ≡ Some (record { sender = 256 + k; message = Request kept.timestamp modes.Ordered op })
     → AtEachPoint c me past (λ point. kept_of point.state k ≡ Some kept) → GoesOn c me outputs (Got me bytes) past
     → Gives me (reply_of k kept) outputs
 

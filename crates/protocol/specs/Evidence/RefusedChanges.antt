@@ -4,12 +4,13 @@ use Rattle.sha2.specs.Sha256.{sha256}
 use Rattle.tuple_codec.specs.Operations.{Operation, IsOperation}
 use Rattle.space.specs.Applying.{is_read_only}
 use Rattle.partition_tree.specs.Digests.{digest_of_children}
-use Rattle.protocol.specs.System.Configuration.{Configuration, primary}
+use Rattle.protocol.specs.System.Configuration.{Configuration, primary, members}
 use Rattle.terms.specs.declared.order.Mode.TheVariants as modes
 use Rattle.terms.specs.declared.state.Level.{Level}
 use Rattle.terms.specs.declared.state.Level.TheVariants as levels
 use Rattle.wire.specs.Messages.{MessageData as Message, ViewChangeData, NewViewData, MarkData as Mark, ClaimData as Claim, request as Request, pre_prepare as PrePrepare, prepare as Prepare, commit as Commit, checkpoint as Checkpoint, view_change as ViewChange, new_view as NewView, fetch as Fetch, meta as Meta, page as Page}
-use Rattle.protocol.specs.System.Frames.{said, heard}
+use Rattle.signing.specs.Heard.{heard}
+use Rattle.wire.specs.Words.{said}
 use Rattle.protocol.specs.System.Trace.{Entry, Once, Has, Hears}
 use Rattle.protocol.specs.System.Trace.Entry.{Invoke, Got, Sent}
 use Rattle.protocol.specs.Replica.Selection.{signed_change, is_within}
@@ -96,7 +97,7 @@ CallsOperations =
 
 -- The input, of this sender and message, is answered by a frame.
 pub record Answers (c : Configuration) (me s : ℕ) (message : Message) (bytes : List ℕ) (past : List Entry) : Type 0 where
-  pub hears : heard c me bytes ≡ Some (record { sender = s; message = message })
+  pub hears : heard (members c) me bytes ≡ Some (record { sender = s; message = message })
   pub later : List ℕ
   pub is_replica : IsReplica c me (Sent me later ∷ Got me bytes ∷ past)
 
@@ -277,7 +278,7 @@ DropsOtherPages =
 abbrev pub WaitsOnceGot : Type 0
 WaitsOnceGot =
     (c : Configuration) (me k timestamp : ℕ) (op : Operation) (bytes : List ℕ) (past : List Entry)
-    → heard c me bytes ≡ Some (record { sender = 256 + k; message = Request timestamp modes.Ordered op }) → k < c.clients
+    → heard (members c) me bytes ≡ Some (record { sender = 256 + k; message = Request timestamp modes.Ordered op }) → k < c.clients
     → AtEachPoint c me past (λ point. (last_time point.state k < timestamp) × Each (λ call. call.client ≡ k → call.timestamp < timestamp) point.waiting)
     → AtEachPoint c me (Got me bytes ∷ past) (λ point. Has (λ call. call ≡ record { client = k; timestamp = timestamp; op = op }) point.waiting)
 

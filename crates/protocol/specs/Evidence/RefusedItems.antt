@@ -6,8 +6,8 @@ use Rattle.template_match.specs.Tests.{is_match}
 use Rattle.space.specs.Applying.{outcome, tuples_after}
 use Rattle.terms.specs.declared.order.Mode.TheVariants as modes
 use Rattle.wire.specs.Messages.{request as Request}
-use Rattle.protocol.specs.System.Configuration.{Configuration, is_correct_replica, is_correct_client}
-use Rattle.protocol.specs.System.Frames.{heard}
+use Rattle.protocol.specs.System.Configuration.{Configuration, is_correct_replica, is_correct_client, members}
+use Rattle.signing.specs.Heard.{heard}
 use Rattle.protocol.specs.System.Trace.{Entry, Once, Has, frames_in}
 use Rattle.protocol.specs.System.Trace.Entry.{Invoke, Got, Accepted}
 use Rattle.protocol.specs.Space.Linear.{Item, Legal, Covers, Placed, IsLinear, Linear}
@@ -44,7 +44,7 @@ ListsWhatIsCalled =
 abbrev pub IsAskedAt : Configuration → Item → Entry → Type 0
 IsAskedAt c item e =
     (p : ℕ) × (bytes frame : List ℕ) × (e ≡ Got p bytes) × (is_correct_replica c p ≡ true) × Has (λ x. x ≡ frame) (frames_in bytes)
-    × (heard c p frame ≡ Some (record { sender = item.client; message = Request item.timestamp modes.Ordered item.op }))
+    × (heard (members c) p frame ≡ Some (record { sender = item.client; message = Request item.timestamp modes.Ordered item.op }))
 
 -- A list with an item of a faulty client for which no correct replica had been asked by its position.
 abbrev pub ListsWhatIsAsked : Type 0

@@ -4,7 +4,7 @@ use Rattle.std.specs.Prelude.{◌≡◌, ℕ, ◌%◌, ◌≤◌, ◌<◌, ◌�
 use Rattle.protocol.specs.System.Configuration.{Configuration}
 use Rattle.terms.specs.declared.state.Level.{Level}
 use Rattle.wire.specs.Messages.{ViewChangeData, MarkData as Mark, meta as Meta, page as Page}
-use Rattle.protocol.specs.System.Frames.{said}
+use Rattle.wire.specs.Words.{said}
 use Rattle.protocol.specs.System.Trace.{Entry, Once, Has}
 use Rattle.protocol.specs.System.Trace.Entry.{Installed, Sent}
 use Rattle.protocol.specs.Replica.Certificates.{low}

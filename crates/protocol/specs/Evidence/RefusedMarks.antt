@@ -1,9 +1,10 @@
 -- Small histories that the definitions of a new view's view changes, of the low mark and of checkpoints refuse.
 use Rattle.std.specs.Prelude.{◌≡◌, ℕ, ◌+◌, ◌*◌, ◌^◌, ◌≤◌, ◌<◌, ◌⊎◌, true, Bool, List, [], ◌∷◌, length, slice_get, Some}
 use Rattle.quorum.specs.Quorum.{count_below}
-use Rattle.protocol.specs.System.Configuration.{Configuration, replicas}
+use Rattle.protocol.specs.System.Configuration.{Configuration, replicas, members}
 use Rattle.wire.specs.Messages.{ViewChangeData, NewViewData, MarkData as Mark, checkpoint as Checkpoint, view_change as ViewChange}
-use Rattle.protocol.specs.System.Frames.{said, heard, signed_body}
+use Rattle.signing.specs.Heard.{heard, signed_body}
+use Rattle.wire.specs.Words.{said}
 use Rattle.protocol.specs.System.Trace.{Entry, Once, Has}
 use Rattle.protocol.specs.System.Trace.Entry.{Got, Installed, Sent}
 use Rattle.protocol.specs.Replica.Selection.{changes_of}
@@ -15,7 +16,7 @@ use Rattle.protocol.specs.Laws.Bounds.{IsBounded}
 
 -- the bytes spell a signed view change
 abbrev pub SpellsChange : Configuration → List ℕ → ℕ → ViewChangeData → Type 0
-SpellsChange c bytes s vc = signed_body c bytes ≡ Some (record { sender = s; message = ViewChange vc })
+SpellsChange c bytes s vc = signed_body (members c) bytes ≡ Some (record { sender = s; message = ViewChange vc })
 
 -- With bytes that are no signed view change, a sender twice or out of order, a view change for another view or beyond its
 -- bounds, a start below the low mark of all but 2f, or one that only f list: such a new view is not taken.
@@ -68,7 +69,7 @@ LowIsMarked = (c : Configuration) (me : ℕ) (past : List Entry) → (low c me p
 
 -- the entry brings a checkpoint of the replica: it is heard, or said
 abbrev pub BringsCheckpoint : Configuration → ℕ → ℕ → List ℕ → Entry → Type 0
-BringsCheckpoint c s k root (Got p bytes) = heard c p bytes ≡ Some (record { sender = s; message = Checkpoint k root })
+BringsCheckpoint c s k root (Got p bytes) = heard (members c) p bytes ≡ Some (record { sender = s; message = Checkpoint k root })
 BringsCheckpoint c s k root (Sent p bytes) = said bytes ≡ Some (record { sender = s; message = Checkpoint k root })
 BringsCheckpoint c s k root _ = ⊥
 

@@ -4,11 +4,13 @@ use Rattle.sha2.specs.Sha256.{sha256}
 use Rattle.tuple_codec.specs.Operations.{Operation, Outcome}
 use Rattle.tuple_codec.specs.Spelling.{outcome_spelling}
 use Rattle.quorum.specs.Quorum.{count_below}
-use Rattle.protocol.specs.System.Configuration.{Configuration, replicas, is_correct}
+use Rattle.protocol.specs.System.Configuration.{Configuration, replicas, is_correct, members}
 use Rattle.terms.specs.declared.order.Mode.{Mode}
 use Rattle.terms.specs.declared.order.Mode.TheVariants as modes
 use Rattle.wire.specs.Messages.{FrameData as Frame, MacData, macs, ViewChangeData, NewViewData, ClaimData as Claim, request as Request, view_change as ViewChange, new_view as NewView, reply as Reply}
-use Rattle.protocol.specs.System.Frames.{frame_of, said, heard, reads_only}
+use Rattle.signing.specs.Heard.{heard}
+use Rattle.wire.specs.Words.{frame_of, said}
+use Rattle.protocol.specs.System.Frames.{reads_only}
 use Rattle.protocol.specs.System.Trace.{Entry, party_of, is_output, Once, Has, AreOutputs, Hears}
 use Rattle.protocol.specs.System.Trace.Entry.{Invoke, Got, Tick, Installed, Sent, Accepted}
 use Rattle.protocol.specs.Replica.Certificates.{low, is_in_marks, is_active_in, logged}
@@ -34,7 +36,7 @@ IsOrderedRequest me call outputs =
 abbrev pub AcceptsAlike : Type 0
 AcceptsAlike =
     (c : Configuration) (me s number : ℕ) (call : OpenCall) (mode : Mode) (answer : Outcome) (bytes later : List ℕ) (from : ℕ → Bool) (outputs past : List Entry)
-    → open_call past ≡ Some call → heard c me bytes ≡ Some (record { sender = s; message = Reply me call.timestamp mode number answer })
+    → open_call past ≡ Some call → heard (members c) me bytes ≡ Some (record { sender = s; message = Reply me call.timestamp mode number answer })
     → 2 * c.faults + 1 ≤ count_below from (replicas c)
     → ((r : ℕ) → from r ≡ true → latest c me (Got me bytes ∷ past) call.timestamp (reads_only mode) r ≡ Some (record { read_only = reads_only mode; number = number; answer = answer }))
     → AreOutputs outputs → IsClient c me (going_on me later outputs (Got me bytes) past)
@@ -49,7 +51,7 @@ AsksOrdered timestamp past _ = ⊥
 abbrev pub FallsBack : Type 0
 FallsBack =
     (c : Configuration) (me s number : ℕ) (call : OpenCall) (answer : Outcome) (bytes later : List ℕ) (outputs past : List Entry)
-    → open_call past ≡ Some call → heard c me bytes ≡ Some (record { sender = s; message = Reply me call.timestamp modes.ReadOnly number answer })
+    → open_call past ≡ Some call → heard (members c) me bytes ≡ Some (record { sender = s; message = Reply me call.timestamp modes.ReadOnly number answer })
     → ((r : ℕ) → r < replicas c → latest c me (Got me bytes ∷ past) call.timestamp true r ≢ None)
     → count_alike c me (Got me bytes ∷ past) call.timestamp (record { read_only = true; number = number; answer = answer }) ≤ 2 * c.faults
     → (Once (AsksOrdered call.timestamp) past → ⊥)
@@ -77,7 +79,7 @@ AsksAll =
 abbrev pub WeaklyAcceptsAlike : Type 0
 WeaklyAcceptsAlike =
     (c : Configuration) (me s number : ℕ) (call : OpenCall) (answer : Outcome) (bytes later : List ℕ) (from : ℕ → Bool) (outputs past : List Entry)
-    → open_call past ≡ Some call → heard c me bytes ≡ Some (record { sender = s; message = Reply me call.timestamp modes.Ordered number answer })
+    → open_call past ≡ Some call → heard (members c) me bytes ≡ Some (record { sender = s; message = Reply me call.timestamp modes.Ordered number answer })
     → c.faults + 1 ≤ count_below from (replicas c)
     → ((r : ℕ) → from r ≡ true → (n : ℕ) × (latest c me (Got me bytes ∷ past) call.timestamp false r ≡ Some (record { read_only = false; number = n; answer = answer })))
     → AreOutputs outputs → IsWeakClient c me (going_on me later outputs (Got me bytes) past)

@@ -3,8 +3,10 @@ use Rattle.std.specs.Prelude.{◌≡◌, ◌≢◌, ℕ, ◌+◌, ◌≤◌, ◌
 use Rattle.tuple_codec.specs.Operations.{Operation, IsOperation}
 use Rattle.wire.specs.Messages.{BodyData as Body, MessageData as Message, FrameData as Frame, signature}
 use Rattle.wire.specs.Spelling.{IsMessage, is_signed, frame_limit, body_spelling}
-use Rattle.protocol.specs.System.Configuration.{Configuration, IsConfiguration, is_replica, is_client, is_correct, is_correct_client}
-use Rattle.protocol.specs.System.Frames.{frame_of, said, heard, signed_body, IsSealed}
+use Rattle.protocol.specs.System.Configuration.{Configuration, IsConfiguration, is_replica, is_client, is_correct, is_correct_client, members}
+use Rattle.signing.specs.Heard.{heard, signed_body}
+use Rattle.wire.specs.Words.{frame_of, said}
+use Rattle.protocol.specs.System.Frames.{IsSealed}
 use Rattle.protocol.specs.System.Trace.{Entry, history_of, Once, Always, Has, Unforged}
 use Rattle.protocol.specs.System.Trace.Entry.{Invoke, Got, Tick, Accepted}
 use Rattle.protocol.specs.Client.RightClient.{open_call}
@@ -157,8 +159,8 @@ pub record IsSignedFrom (c : Configuration) (body : Body) (bytes : List ℕ) : T
   pub has_signature : frame.proof ≡ signature made
   pub is_sealed : IsSealed c frame
   pub is_for : meant_for c body.sender frame.proof ≡ others c body.sender
-  pub is_heard : (p : ℕ) → body.sender ≢ p → heard c p bytes ≡ Some body
-  pub is_told : signed_body c bytes ≡ Some body
+  pub is_heard : (p : ℕ) → body.sender ≢ p → heard (members c) p bytes ≡ Some body
+  pub is_told : signed_body (members c) bytes ≡ Some body
 
 -- What a replica signs with one of its 64 leaves each other party hears, if the message is one that may be said and goes with a
 -- signature, and the frame is not too long.

@@ -1,13 +1,10 @@
--- The laws over all safe histories: what bytes say, agreement on batches, states and roots, and the first view.
-use Rattle.std.specs.Prelude.{◌≡◌, ◌≢◌, ◌↔◌, ℕ, ◌^◌, ◌≤◌, ◌<◌, ◌⊎◌, true, List, length, Some}
+-- The laws over all safe histories: what may be sent, agreement on batches, states and roots, and the first view.
+use Rattle.std.specs.Prelude.{◌≡◌, ℕ, ◌^◌, ◌≤◌, ◌<◌, ◌⊎◌, true, List, length, Some}
 use Rattle.sha2.specs.Sha256.{sha256}
-use Rattle.protocol.specs.System.Configuration.{Configuration, IsConfiguration, is_correct, is_correct_replica, is_correct_client, members}
-use Rattle.tuple_tree.specs.Values.{AreBytes}
-use Rattle.wire.specs.Messages.{BodyData as Body, MessageData as Message, FrameData as Frame, NewViewData, ViewChangeData, view_change as ViewChange}
-use Rattle.wire.specs.Spelling.{SpellsFrame}
+use Rattle.protocol.specs.System.Configuration.{Configuration, IsConfiguration, is_correct, is_correct_replica, is_correct_client}
+use Rattle.wire.specs.Messages.{MessageData as Message, NewViewData, ViewChangeData, view_change as ViewChange}
 use Rattle.wire.specs.Words.{carried}
-use Rattle.signing.specs.Heard.{heard as heard_among, signed_body as signed_among}
-use Rattle.protocol.specs.System.Frames.{frame_of, said, opened, heard, signed_body, IsPosted}
+use Rattle.protocol.specs.System.Frames.{IsPosted}
 use Rattle.protocol.specs.System.Trace.{Entry, party_of, history_of, Once, Always, Has, SendsBody, Unforged}
 use Rattle.protocol.specs.System.Trace.Entry.{Installed}
 use Rattle.protocol.specs.Replica.Certificates.{Prepared, Committed, view, taken, batch_begun}
@@ -18,26 +15,7 @@ use Rattle.protocol.specs.Replica.State.{State, IsState, opening, after_batches,
 use Rattle.protocol.specs.System.Texts.{NoCollision, StoodAt, ExecutesBatch, AreExecuted}
 use Rattle.wire.specs.Lists.{Each}
 
--- ---- bytes
-
--- A list of bytes spells what its grammar says.
-abbrev pub FramesAreSpelled : Type 0
-FramesAreSpelled = (bytes : List ℕ) (frame : Frame) → AreBytes bytes → (frame_of bytes ≡ Some frame) ↔ SpellsFrame bytes frame
-
--- What a spelled frame says is its body.
-abbrev pub BodiesAreSaid : Type 0
-BodiesAreSaid = (bytes : List ℕ) (frame : Frame) → AreBytes bytes → SpellsFrame bytes frame → said bytes ≡ Some frame.body
-
--- What a party can take from bytes is what it hears from them among the members of its configuration, and a signed body
--- is one. It hears that from others alone.
-pub record IsAsHeard (c : Configuration) (bytes : List ℕ) : Type 0 where
-  pub all : (me : ℕ) → opened c me bytes ≡ heard_among (members c) me bytes
-  pub others : (me : ℕ) (body : Body) → (heard c me bytes ≡ Some body) ↔ ((opened c me bytes ≡ Some body) × (body.sender ≢ me))
-  pub signed : signed_body c bytes ≡ signed_among (members c) bytes
-
--- It is so on any bytes.
-abbrev pub BytesAreHeard : Type 0
-BytesAreHeard = (c : Configuration) (bytes : List ℕ) → AreBytes bytes → IsAsHeard c bytes
+-- ---- what may be sent
 
 -- What a replica posts for those it is for, over frames that it has seen, it may send where it may say the message.
 abbrev pub PostedMaySend : Type 0

@@ -8,17 +8,17 @@ use Rattle.std.specs.Option.{option_map_or}
 use Rattle.sha2.specs.Sha256.{sha256}
 use Rattle.quorum.specs.Quorum.{count_below}
 use Rattle.quorum.specs.Votes.{or_else, give_if, has_digest}
-use Rattle.protocol.specs.System.Configuration.{Configuration, replicas, primary, span, is_number}
+use Rattle.protocol.specs.System.Configuration.{Configuration, replicas, primary, span, is_number, members}
 use Rattle.wire.specs.Messages.{BodyData as Body, NewViewData, MarkData as Mark, pre_prepare as PrePrepare, prepare as Prepare, commit as Commit, checkpoint as Checkpoint, view_change as ViewChange, new_view as NewView}
-use Rattle.wire.specs.Words.{requests_of}
-use Rattle.protocol.specs.System.Frames.{said, heard}
+use Rattle.wire.specs.Words.{requests_of, said}
+use Rattle.signing.specs.Heard.{heard}
 use Rattle.protocol.specs.System.Trace.{Entry}
 use Rattle.protocol.specs.System.Trace.Entry.{Got, Installed, Sent}
 use Rattle.protocol.specs.Replica.Selection.{is_quorum, may_select}
 
 -- what an entry brings: what is heard, or what is said
 abbrev pub brought : Configuration → Entry → Option Body
-brought c (Got p bytes) = heard c p bytes
+brought c (Got p bytes) = heard (members c) p bytes
 brought c (Sent p bytes) = said bytes
 brought c _ = None
 
@@ -147,7 +147,7 @@ counts_at c me past _ v i = false
 
 -- whether each request of the batch is authentic to the replica
 abbrev pub are_genuine : Configuration → ℕ → List ℕ → Bool
-are_genuine c me batch = list_all (λ request. is_some (heard c me request)) (requests_of batch)
+are_genuine c me batch = list_all (λ request. is_some (heard (members c) me request)) (requests_of batch)
 
 -- the batch that the view's primary proposes by a pre-prepare
 abbrev pub batch_from : Configuration → ℕ → ℕ → ℕ → Body → Option (List ℕ)

@@ -9,14 +9,14 @@ use Rattle.tuple_codec.specs.Operations.{Operation}
 use Rattle.space.specs.Applying.{outcome, is_read_only}
 use Rattle.partition_tree.specs.Digests.{digest_of_children}
 use Rattle.quorum.specs.Votes.{or_else}
-use Rattle.protocol.specs.System.Configuration.{Configuration, primary, is_number}
+use Rattle.protocol.specs.System.Configuration.{Configuration, primary, is_number, members}
 use Rattle.terms.specs.declared.order.Mode.TheVariants as modes
 use Rattle.terms.specs.declared.state.Level.{Level}
 use Rattle.terms.specs.declared.state.Level.TheVariants as levels
 use Rattle.wire.specs.Spelling.{has_children}
 use Rattle.wire.specs.Messages.{BodyData as Body, MessageData as Message, NewViewData, MarkData as Mark, request as Request, pre_prepare as PrePrepare, prepare as Prepare, commit as Commit, checkpoint as Checkpoint, view_change as ViewChange, new_view as NewView, reply as Reply, fetch as Fetch, meta as Meta, page as Page}
-use Rattle.wire.specs.Words.{requests_of}
-use Rattle.protocol.specs.System.Frames.{frame_of, said, heard, receivers_of}
+use Rattle.wire.specs.Words.{requests_of, frame_of, said, receivers_of}
+use Rattle.signing.specs.Heard.{heard}
 use Rattle.protocol.specs.System.Trace.{Entry, party_of, is_output, Once, Has, either, Hears}
 use Rattle.protocol.specs.System.Trace.Entry.{Got, Tick, Sent}
 use Rattle.protocol.specs.Replica.Selection.{is_quorum, signed_change, is_within}
@@ -177,7 +177,7 @@ Counts c me past point bytes s (Page k index text) = IsAwaited c me past point k
 
 -- The bytes are dropped: what they say to the replica, if anything, no rule takes.
 abbrev pub IsDropped : Configuration → ℕ → List Entry → Point → List ℕ → Type 0
-IsDropped c me past point bytes = (body : Body) → heard c me bytes ≡ Some body → Counts c me past point bytes body.sender body.message → ⊥
+IsDropped c me past point bytes = (body : Body) → heard (members c) me bytes ≡ Some body → Counts c me past point bytes body.sender body.message → ⊥
 
 -- ---- what is owed
 

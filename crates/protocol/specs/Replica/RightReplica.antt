@@ -8,14 +8,15 @@ use Rattle.sha2.specs.Sha256.{sha256}
 use Rattle.tuple_codec.specs.Operations.{Operation, Outcome}
 use Rattle.space.specs.Applying.{outcome, is_read_only}
 use Rattle.partition_tree.specs.Digests.{inner_digests, page_digests}
-use Rattle.protocol.specs.System.Configuration.{Configuration, replicas, primary, is_number}
+use Rattle.protocol.specs.System.Configuration.{Configuration, replicas, primary, is_number, members}
 use Rattle.terms.specs.declared.order.Mode.{Mode}
 use Rattle.terms.specs.declared.order.Mode.TheVariants as modes
 use Rattle.terms.specs.declared.state.Level.{Level}
 use Rattle.terms.specs.declared.state.Level.TheVariants as levels
 use Rattle.wire.specs.Messages.{BodyData as Body, FrameData as Frame, MessageData as Message, ProofData as Proof, macs, signature, ViewChangeData, NewViewData, MarkData as Mark, ClaimData as Claim, request as Request, pre_prepare as PrePrepare, prepare as Prepare, commit as Commit, checkpoint as Checkpoint, view_change as ViewChange, new_view as NewView, reply as Reply, fetch as Fetch, meta as Meta, page as Page}
-use Rattle.wire.specs.Words.{carried, requests_of}
-use Rattle.protocol.specs.System.Frames.{frame_of, said, heard, IsSealed, receivers_of}
+use Rattle.wire.specs.Words.{carried, requests_of, frame_of, said, receivers_of}
+use Rattle.signing.specs.Heard.{heard}
+use Rattle.protocol.specs.System.Frames.{IsSealed}
 use Rattle.protocol.specs.System.Trace.{Entry, party_of, Once, Has, frames_in, Hears}
 use Rattle.protocol.specs.System.Trace.Entry.{Invoke, Got, Tick, Executed, Installed, Sent, Accepted}
 use Rattle.protocol.specs.Replica.Selection.{is_quorum}
@@ -48,7 +49,7 @@ SentBefore bytes past = Once (SendsBytes bytes) past
 
 -- a page of this index and text was got
 abbrev pub GetsPage : Configuration → ℕ → ℕ → List ℕ → List Entry → Entry → Type 0
-GetsPage c me i text past (Got p bytes) = (sender number : ℕ) × (heard c me bytes ≡ Some (record { sender = sender; message = Page number i text }))
+GetsPage c me i text past (Got p bytes) = (sender number : ℕ) × (heard (members c) me bytes ≡ Some (record { sender = sender; message = Page number i text }))
 GetsPage c me i text past _ = ⊥
 
 -- a part of a checkpoint was asked for by the replica s
@@ -81,7 +82,7 @@ with_waiting st waiting call =
 
 -- the requests that wait once the bytes are got
 abbrev pub waiting_after : Configuration → ℕ → Point → List ℕ → List Call
-waiting_after c me point bytes = option_map_or (with_waiting point.state point.waiting) (option_and_then (call_in c) (heard c me bytes)) point.waiting
+waiting_after c me point bytes = option_map_or (with_waiting point.state point.waiting) (option_and_then (call_in c) (heard (members c) me bytes)) point.waiting
 
 -- It waits until its client's last timestamp is at least its own.
 abbrev pub still_waiting : State → List Call → List Call

@@ -4,9 +4,9 @@ use Rattle.std.specs.List.{list_all, list_any}
 use Rattle.std.specs.Option.{option_map_or}
 use Rattle.sha2.specs.Sha256.{sha256}
 use Rattle.quorum.specs.Quorum.{count_below}
-use Rattle.protocol.specs.System.Configuration.{Configuration, replicas, span, is_number}
+use Rattle.protocol.specs.System.Configuration.{Configuration, replicas, span, is_number, members}
 use Rattle.wire.specs.Messages.{BodyData as Body, NewViewData, ViewChangeData, MarkData as Mark, ClaimData as Claim, view_change as ViewChange}
-use Rattle.protocol.specs.System.Frames.{signed_body}
+use Rattle.signing.specs.Heard.{signed_body}
 
 -- So many replicas are a quorum. Any two quorums have a correct replica in common.
 abbrev pub is_quorum : Configuration → ℕ → Bool
@@ -24,7 +24,7 @@ change_in body = elim body.message [ ViewChange vc ↦ Some (body.sender, vc) | 
 
 -- the view change that the bytes spell, with its sender, where its signature verifies
 abbrev pub signed_change : Configuration → List ℕ → Option (ℕ × ViewChangeData)
-signed_change c bytes = option_and_then change_in (signed_body c bytes)
+signed_change c bytes = option_and_then change_in (signed_body (members c) bytes)
 
 -- those of the options that are given
 abbrev pub list_of : {A : Type 0} → List (Option A) → List A

@@ -7,11 +7,11 @@ use Rattle.space.specs.Applying.{outcome, tuples_after}
 use Rattle.quorum.specs.Quorum.{count_below}
 use Rattle.quorum.specs.Votes.{give_if}
 use Rattle.protocol.specs.Replica.Selection.{null_batch}
-use Rattle.protocol.specs.System.Configuration.{Configuration, replicas, is_correct_replica, is_correct_client}
+use Rattle.protocol.specs.System.Configuration.{Configuration, replicas, is_correct_replica, is_correct_client, members}
 use Rattle.terms.specs.declared.order.Mode.TheVariants as modes
 use Rattle.wire.specs.Messages.{request as Request}
 use Rattle.wire.specs.Words.{requests_of}
-use Rattle.protocol.specs.System.Frames.{heard}
+use Rattle.signing.specs.Heard.{heard}
 use Rattle.protocol.specs.System.Trace.{Entry, history_of, frames_in, Once, Always, Has}
 use Rattle.protocol.specs.System.Trace.Entry.{Invoke, Got, Executed, Installed, Accepted}
 use Rattle.protocol.specs.Replica.Certificates.{first_given, greatest}
@@ -53,7 +53,7 @@ Accepts p timestamp answer past _ = ⊥
 abbrev pub Asks : Configuration → ℕ → ℕ → Operation → List Entry → Entry → Type 0
 Asks c client timestamp op past (Got p bytes) =
     (is_correct_replica c p ≡ true)
-    × Has (λ frame. heard c p frame ≡ Some (record { sender = client; message = Request timestamp modes.Ordered op })) (frames_in bytes)
+    × Has (λ frame. heard (members c) p frame ≡ Some (record { sender = client; message = Request timestamp modes.Ordered op })) (frames_in bytes)
 Asks c client timestamp op past _ = ⊥
 
 -- no two items are of one client and timestamp

@@ -1,7 +1,7 @@
 -- The configuration: how many replicas may be faulty, which are, and what all are given (Castro and Liskov, TOCS 2002,
 -- on the system model: 3f + 1 replicas, of which at most f are faulty).
-use Rattle.std.specs.Prelude.{◌≡◌, ◌≢◌, ℕ, ◌+◌, ◌-◌, ◌*◌, ◌%◌, ◌^◌, ◌≤◌, ◌<◌, Bool, ◌&&◌, ◌||◌, not, List, length, nat_lt, All, AllPairs}
-use Rattle.authenticator.specs.Membership.{Membership, is_replica as is_member_replica, is_client as is_member_client}
+use Rattle.std.specs.Prelude.{◌≡◌, ◌≢◌, ℕ, ◌-◌, ◌*◌, ◌%◌, ◌^◌, ◌≤◌, ◌<◌, Bool, ◌&&◌, ◌||◌, not, List, length, nat_lt, All, AllPairs}
+use Rattle.authenticator.specs.Membership.{Membership, replicas as member_replicas, is_replica as is_member_replica, is_client as is_member_client}
 use Rattle.quorum.specs.Quorum.{member}
 
 -- Numbers of replicas are 0 to 3f, of clients 0 to clients - 1. The period is the number of batches from one checkpoint
@@ -20,7 +20,7 @@ members c = record { seed = c.seed; faults = c.faults; clients = c.clients }
 
 -- how many replicas there are
 abbrev pub replicas : Configuration → ℕ
-replicas c = 3 * c.faults + 1
+replicas c = member_replicas (members c)
 
 -- what makes a configuration valid
 pub record IsConfiguration (c : Configuration) : Type 0 where

@@ -11,7 +11,7 @@ use Rattle.signing.specs.Signatures.{signature_of}
 use Rattle.quorum.specs.Votes.{or_else}
 use Rattle.protocol.specs.System.Configuration.{Configuration, replicas, is_replica, is_client, is_correct, is_correct_client}
 use Rattle.wire.specs.Messages.{ProofData as Proof, macs, signature}
-use Rattle.protocol.specs.System.Frames.{frame_of, receivers_of}
+use Rattle.wire.specs.Words.{frame_of, receivers_of}
 use Rattle.protocol.specs.System.Trace.{Entry, is_output, history_of}
 use Rattle.protocol.specs.System.Trace.Entry.{Invoke, Got, Tick, Sent, Accepted}
 use Rattle.protocol.specs.Client.RightClient.{open_call}

@@ -3,10 +3,10 @@
 use Rattle.std.specs.Prelude.{◌≡◌, ℕ, ◌+◌, ◌⊎◌, Bool, true, false, List, [], ◌∷◌, filter, ◌==◌, Some, ⊤}
 use Rattle.std.specs.Option.{option_map_or}
 use Rattle.tuple_codec.specs.Operations.{Operation, Outcome}
-use Rattle.protocol.specs.System.Configuration.{Configuration, is_correct}
+use Rattle.protocol.specs.System.Configuration.{Configuration, is_correct, members}
 use Rattle.wire.specs.Messages.{BodyData as Body}
-use Rattle.wire.specs.Words.{carried}
-use Rattle.protocol.specs.System.Frames.{said, opened, heard}
+use Rattle.wire.specs.Words.{carried, said}
+use Rattle.signing.specs.Heard.{heard, signed_body}
 use Rattle.wire.specs.Lists.{Each}
 
 -- What happens at the correct parties. A client stands with its number here, and 256 above it as a party.
@@ -77,15 +77,16 @@ SendsBody body past _ = ⊥
 
 -- the party got a frame that it takes as genuine, of this body
 abbrev pub Hears : Configuration → ℕ → Body → List Entry → Entry → Type 0
-Hears c me body past (Got p bytes) = heard c me bytes ≡ Some body
+Hears c me body past (Got p bytes) = heard (members c) me bytes ≡ Some body
 Hears c me body past _ = ⊥
 
 -- ---- no message of a correct party is forged
 
--- where a correct party can take the frame as a correct sender's, by its MAC or by its signature, the sender sent a
--- frame of that body before (a body has one spelling, of which MACs and signatures are made)
-abbrev pub IsFromSender : Configuration → ℕ → List Entry → List ℕ → Type 0
-IsFromSender c me past bytes = (body : Body) → opened c me bytes ≡ Some body → is_correct c body.sender ≡ true → Once (SendsBody body) past
+-- What a correct party hears from the frame as a correct sender's, or is signed so, the sender sent in a frame of that
+-- body before (a body has one spelling, of which MACs and signatures are made).
+pub record IsFromSender (c : Configuration) (me : ℕ) (past : List Entry) (bytes : List ℕ) : Type 0 where
+  pub hears : (body : Body) → heard (members c) me bytes ≡ Some body → is_correct c body.sender ≡ true → Once (SendsBody body) past
+  pub signed : (body : Body) → signed_body (members c) bytes ≡ Some body → is_correct c body.sender ≡ true → Once (SendsBody body) past
 
 -- each frame that a correct party gets, alone or carried, is from its sender
 abbrev pub IsUnforgedAt : Configuration → List Entry → Entry → Type 0

@@ -11,7 +11,7 @@ use Rattle.terms.specs.declared.state.Level.TheVariants as levels
 use Rattle.wire.specs.Lists.{Each, each_spelling}
 use Rattle.wire.specs.Messages.{MarkData, ClaimData, ViewChangeData, NewViewData, MessageData, request, pre_prepare, prepare, commit, checkpoint, view_change, new_view, reply, fetch, meta, page, MacData, ProofData, macs, signature, FrameData}
 use Rattle.wire.specs.Spelling.{mode_byte, level_byte, mark_spelling, claim_spelling, piece, pieces_spelling, marks_spelling, claims_spelling, view_change_spelling, batches_spelling, new_view_spelling, message_type, fields_spelling, body_spelling, mac_spelling, proof_spelling, frame_spelling, IsDigest, IsMark, IsClaim, IsViewChange, IsPlain, IsMac, IsProof, IsFrameOf, is_ordered_request, is_view_change, IsCarried, IsBatch, IsNewView, IsMessage, SpellsFrame}
-use Rattle.protocol.proofs.Words.PartsBytes.{no_bytes, bytes_more, bytes_2, bytes_4, bytes_8, operation_bytes, outcome_bytes}
+use Rattle.wire.proofs.PartsBytes.{no_bytes, bytes_more, bytes_2, bytes_4, bytes_8, operation_bytes, outcome_bytes}
 
 -- ---- lists of parts
 
