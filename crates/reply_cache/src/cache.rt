@@ -4,7 +4,7 @@ ghost use Rattle.std.specs.Prelude.{◌≡◌, ℕ, ◌≤◌, ◌<◌, ◌++◌
 ghost use Rattle.tuple_tree.specs.Values.{IsTuple};
 ghost use Rattle.tuple_codec.specs.Operations.{AreTuples, IsOutcome};
 ghost use Rattle.tuple_codec.specs.OperationView.{outcome_of};
-ghost use Rattle.reply_cache.specs.Replies.{Replies, no_replies, last_of, seen_of, with_reply, AreReplies};
+ghost use Rattle.reply_cache.specs.Replies.{Replies, no_replies, last_of, seen_of, with_reply, IsAbove, AreReplies};
 ghost use Rattle.reply_cache.specs.ReplyView.{kept_of, padded, AreSlots};
 ghost use Rattle.reply_cache.specs.Pages.{page_text, ArePages};
 
@@ -80,8 +80,8 @@ impl ReplyCache {
         }
     }
 
-    /// Keeps the reply to the client's last request in place of the one before. `timestamp` is from 1 on. An `Err`
-    /// changes nothing.
+    /// Keeps the reply to the client's last request in place of the one before. `timestamp` is from 1 on. NoMemory comes
+    /// only where neither the client nor one of a higher number has a reply yet. It changes nothing.
     pub fn put(
         &mut self,
         client: u8,
@@ -91,6 +91,7 @@ impl ReplyCache {
     ) -> Result<(), NoMemory>
         requires { 1 ≤ timestamp }
         ensures ok { OnOk result (self.new ≡ with_reply self.old client (record { timestamp = timestamp; number = number; outcome = outcome_of answer })) }
+        ensures memory { OnErr result (IsAbove client self.old) }
         ensures err { OnErr result (self.new ≡ self.old) }
         ensures valid { AreReplies self.new }
     {
@@ -126,6 +127,9 @@ impl ReplyCache {
         // What is read has these pages.
         ensures found { IfOk result (λ c. ArePages (map (λ page. page.now) pages.now) c) }
 
+        // A wrong number of texts is refused as such.
+        ensures memory { (result ≡ Err Bad.NoMemory) → length pages.now ≡ 256 }
+
         // The replies with these pages are read, unless memory runs out.
         ensures only { (rs : Replies) → ArePages (map (λ page. page.now) pages.now) rs → MatchResult result (λ c. c ≡ rs) (λ bad. bad ≡ Bad.NoMemory) }
     {
@@ -154,6 +158,7 @@ fn reach(slots: &mut Vec<Option<Reply>>, client: usize) -> Result<(), NoMemory>
     ensures same { padded slots.new.items ≡ padded slots.old.items }
     ensures slots { AreSlots slots.new.items }
     ensures long { OnOk result (client < length slots.new.items) }
+    ensures memory { OnErr result (length slots.old.items ≤ client) }
 {
     for _slot in slots.len()..client + 1 {
         slots.push(None)?;
