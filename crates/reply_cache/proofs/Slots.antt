@@ -1,8 +1,8 @@
 -- Slots for some clients stand for those of all.
-use Rattle.std.proofs.Common.{◌≡◌, ℕ, zero, suc, ◌-◌, ◌≤◌, ◌<◌, List, [], ◌∷◌, ◌++◌, length, map, replicate, set, get_or, Option, Some, None, refl, sym, ap, subst, ◌∙◌, arith, inl, inr}
+use Rattle.std.proofs.Common.{◌≡◌, ℕ, zero, suc, ◌-◌, ◌≤◌, ◌<◌, List, [], ◌∷◌, ◌++◌, length, map, replicate, set, get_or, Option, Some, None, Result, Ok, Err, refl, sym, ap, subst, ◌∙◌, arith, inl, inr}
 use Rattle.std.proofs.lemmas.List.{length-map, length-append, length-replicate, length-set, length_push, get_or-replicate, get_or_past, get_or-map, get_or_append_left, get_or-append_right, get_or-set_same, get_or-set_other, ext_get_or}
 use Rattle.std.proofs.lemmas.Bool.{cases_lt, cases_eq}
-use Rattle.std.specs.Prelude.{All, option_map}
+use Rattle.std.specs.Prelude.{All, option_map, OnErr}
 use Rattle.std.specs.Option.{option_copied}
 use Rattle.std.specs.Borrow.{Bor}
 use Rattle.std.proofs.lemmas.List.Elements.{All-head, All-tail}
@@ -98,6 +98,11 @@ AreReplies-padded slots h = record {
 pub AreReplies-none : AreReplies no_replies
 unfolding no_replies
 AreReplies-none = record { all = length-replicate {A = Option Kept} 256 None; each = λ client. subst IsReply (sym (get_or-empty 256 client)) tt }
+
+-- what holds is said of each refusal
+pub on_err : {T E P : Type 0} (r : Result T E) → P → OnErr r P
+on_err (Ok x) p = tt
+on_err (Err e) p = p
 
 pub AreTuples-from_All : (ts : List TupleTree) → All IsTuple ts → AreTuples ts
 AreTuples-from_All [] h = tt

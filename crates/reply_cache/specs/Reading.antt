@@ -10,6 +10,10 @@ pub record SpellsReply (text : List ℕ) (o : Option Kept) : Type 0 where
   pub valid : IsReply o
   pub spelled : text ≡ reply_text o
 
+-- each of the first texts spells a reply or none
+abbrev pub EachSpelled : List (List ℕ) → ℕ → Type 0
+EachSpelled texts count = (client : ℕ) → client < count → (o : Option Kept) × SpellsReply (slice_index_or texts client []) o
+
 -- the first texts spell these slots
 pub record AreRead (texts : List (List ℕ)) (slots : List (Option Reply)) (count : ℕ) : Type 0 where
   pub long : length slots ≡ count

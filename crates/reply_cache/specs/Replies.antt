@@ -28,6 +28,10 @@ seen_of rs client = option_map_or (λ k. k.timestamp) (last_of rs client) 0
 abbrev pub with_reply : Replies → ℕ → Kept → Replies
 with_reply rs client k = slice_set rs client (Some k)
 
+-- The client has a higher number than each that has a reply.
+abbrev pub IsAbove : ℕ → Replies → Type 0
+IsAbove client rs = (other : ℕ) → client ≤ other → last_of rs other ≡ None
+
 pub record IsKept (k : Kept) : Type 0 where
   pub first : 1 ≤ k.timestamp
   pub timestamp_fits : k.timestamp < 2 ^ 64

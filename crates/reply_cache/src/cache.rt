@@ -1,14 +1,15 @@
 //! The replies by client.
 
-ghost use Rattle.std.specs.Prelude.{◌≡◌, ℕ, ◌≤◌, ◌<◌, ◌++◌, ◌∷◌, [], OnOk, OnErr, IfOk, MatchResult, length, map, option_map};
+ghost use Rattle.std.specs.Prelude.{◌≡◌, ℕ, ◌≤◌, ◌<◌, ◌++◌, ◌∷◌, [], OnOk, OnErr, IfOk, MatchResult, IsTrue, length, map, option_map};
 ghost use Rattle.tuple_tree.specs.Values.{IsTuple};
 ghost use Rattle.tuple_codec.specs.Operations.{AreTuples, IsOutcome};
 ghost use Rattle.tuple_codec.specs.OperationView.{outcome_of};
-ghost use Rattle.reply_cache.specs.Replies.{Replies, no_replies, last_of, seen_of, with_reply, AreReplies};
+ghost use Rattle.reply_cache.specs.Replies.{Replies, no_replies, last_of, seen_of, with_reply, IsAbove, AreReplies};
 ghost use Rattle.reply_cache.specs.ReplyView.{kept_of, padded, AreSlots};
 ghost use Rattle.reply_cache.specs.Pages.{page_text, ArePages};
+ghost use Rattle.reply_cache.specs.Reading.{EachSpelled};
 
-use crate::pages::{put_reply, read_reply};
+use crate::pages::{is_page, put_reply, read_reply};
 use std::alloc::Global;
 use std::marker::Model;
 use terms::NoMemory;
@@ -80,8 +81,8 @@ impl ReplyCache {
         }
     }
 
-    /// Keeps the reply to the client's last request in place of the one before. `timestamp` is from 1 on. An `Err`
-    /// changes nothing.
+    /// Keeps the reply to the client's last request in place of the one before. `timestamp` is from 1 on. NoMemory comes
+    /// only where neither the client nor one of a higher number has a reply yet. It changes nothing.
     pub fn put(
         &mut self,
         client: u8,
@@ -91,6 +92,7 @@ impl ReplyCache {
     ) -> Result<(), NoMemory>
         requires { 1 ≤ timestamp }
         ensures ok { OnOk result (self.new ≡ with_reply self.old client (record { timestamp = timestamp; number = number; outcome = outcome_of answer })) }
+        ensures memory { OnErr result (IsAbove client self.old) }
         ensures err { OnErr result (self.new ≡ self.old) }
         ensures valid { AreReplies self.new }
     {
@@ -121,15 +123,21 @@ impl ReplyCache {
     /// # Errors
     ///
     /// Malformed where these are the pages of no replies: a timestamp is 0, an answer isn't spelled, or there are not
-    /// 256 texts. NoMemory where memory runs out before that is seen.
+    /// 256 texts. That is judged before memory is asked for. NoMemory where memory runs out.
     pub fn from_pages(alloc: Global, pages: &[&[u8]]) -> Result<ReplyCache, Bad>
         // What is read has these pages.
         ensures found { IfOk result (λ c. ArePages (map (λ page. page.now) pages.now) c) }
+
+        // Texts that are the pages of no replies are refused as such, whatever memory there is.
+        ensures memory { (result ≡ Err Bad.NoMemory) → (rs : Replies) × ArePages (map (λ page. page.now) pages.now) rs }
 
         // The replies with these pages are read, unless memory runs out.
         ensures only { (rs : Replies) → ArePages (map (λ page. page.now) pages.now) rs → MatchResult result (λ c. c ≡ rs) (λ bad. bad ≡ Bad.NoMemory) }
     {
         if pages.len() != CLIENTS {
+            return Err(Bad::Malformed);
+        }
+        if !are_pages(pages) {
             return Err(Bad::Malformed);
         }
         let mut slots = Vec::new(alloc);
@@ -139,6 +147,20 @@ impl ReplyCache {
         }
         Ok(ReplyCache { slots })
     }
+}
+
+// Whether each text is that of a page.
+fn are_pages(pages: &[&[u8]]) -> bool
+    requires { length pages.now ≡ 256 }
+    ensures found { IsTrue result → EachSpelled (map (λ page. page.now) pages.now) 256 }
+    ensures only { (rs : Replies) → ArePages (map (λ page. page.now) pages.now) rs → IsTrue result }
+{
+    for text in pages {
+        if !is_page(text) {
+            return false;
+        }
+    }
+    true
 }
 
 fn add_slot(slots: &mut Vec<Option<Reply>>, slot: Option<Reply>) -> Result<(), NoMemory>
@@ -154,6 +176,7 @@ fn reach(slots: &mut Vec<Option<Reply>>, client: usize) -> Result<(), NoMemory>
     ensures same { padded slots.new.items ≡ padded slots.old.items }
     ensures slots { AreSlots slots.new.items }
     ensures long { OnOk result (client < length slots.new.items) }
+    ensures memory { OnErr result (length slots.old.items ≤ client) }
 {
     for _slot in slots.len()..client + 1 {
         slots.push(None)?;

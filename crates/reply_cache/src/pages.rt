@@ -1,6 +1,6 @@
 //! The texts of pages, and back.
 
-ghost use Rattle.std.specs.Prelude.{◌≡◌, ℕ, ◌≤◌, ◌++◌, length, drop, Option, IfOk, OnOk, MatchResult};
+ghost use Rattle.std.specs.Prelude.{◌≡◌, ℕ, ◌≤◌, ◌++◌, length, drop, Option, IfOk, OnOk, MatchResult, IsTrue};
 ghost use Rattle.std.specs.Int.{w64, to_be_bytes};
 ghost use Rattle.tuple_codec.specs.Operations.{Outcome};
 ghost use Rattle.tuple_codec.specs.OperationView.{outcome_of};
@@ -14,7 +14,7 @@ use crate::cache::Reply;
 use byteorder::{BigEndian, ByteOrder};
 use std::alloc::Global;
 use terms::NoMemory;
-use tuple_codec::{Answer, Bad, decode_result, encode_result};
+use tuple_codec::{Answer, Bad, decode_result, encode_result, is_result};
 
 // How many bytes stand before the answer.
 const NUMBERS_LEN: usize = 16;
@@ -58,6 +58,23 @@ fn read_answer(alloc: Global, bytes: &[u8]) -> Result<Answer<Global>, Bad>
         }
         Err(bad) => Err(bad),
     }
+}
+
+/// Whether a text is that of a page. Takes no memory.
+pub fn is_page(text: &[u8]) -> bool
+    ensures found { IsTrue result → (o : Option Kept) × SpellsReply text.now o }
+    ensures only { (o : Option Kept) → SpellsReply text.now o → IsTrue result }
+{
+    if text.is_empty() {
+        return true;
+    }
+    if text.len() < NUMBERS_LEN {
+        return false;
+    }
+    if BigEndian::read_u64(text) == 0 {
+        return false;
+    }
+    is_result(behind(text, NUMBERS_LEN))
 }
 
 /// The reply that a page's text spells.

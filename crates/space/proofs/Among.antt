@@ -1,11 +1,11 @@
 -- Births one by one, and the entries that they lead to.
-use Rattle.std.proofs.Common.{◌≡◌, ℕ, suc, ◌+◌, ◌-◌, ◌<◌, Bool, true, false, cond, List, [], ◌∷◌, ◌++◌, length, take, drop, get_or, map, Option, Some, None, option_map, refl, sym, ap, ◌∙◌, arith, append-nil, append_assoc}
+use Rattle.std.proofs.Common.{◌≡◌, ◌≢◌, ℕ, suc, ◌+◌, ◌-◌, ◌<◌, Bool, true, false, cond, List, [], ◌∷◌, ◌++◌, length, take, drop, get_or, map, Option, Some, None, option_map, refl, sym, ap, ◌∙◌, arith, append-nil, append_assoc}
 use Rattle.std.specs.Prelude.{filter, find, option_to_list, All}
 use Rattle.std.specs.Ordering.{nat_cmp}
 use Rattle.std.specs.Str.{bytes_eq}
 use Rattle.std.specs.Map.{lookup}
 use Rattle.std.specs.BTreeMap.{is_at}
-use Rattle.std.proofs.lemmas.List.{at_drop_more, take_more, length_push, map-append}
+use Rattle.std.proofs.lemmas.List.{at_drop_more, take_more, length_push, length-append, length-take, map-append}
 use Rattle.std.proofs.lemmas.List.Concat.{flat_map-cons, flat_map-append}
 use Rattle.std.proofs.lemmas.List.Elements.{filter-append}
 use Rattle.tuple_tree.specs.Values.{TupleTree, TemplateTree, IsTuple, IsTemplate}
@@ -105,6 +105,11 @@ module _ (es : List Entry) (births : List ℕ) (i b : ℕ) (within : i < length 
   pub text_gone : None ≡ lookup (is_at (nat_cmp b)) es → entries_text (entries_at es (take i births)) ≡ entries_text (entries_at es (take (i + 1) births))
   text_gone h =
       sym (ap entries_text (text_next ∙ ap (λ (o : Option TupleTree). entries_at es (take i births) ++ map (λ t. (b, t)) (option_to_list o)) (sym h) ∙ append-nil (entries_at es (take i births))))
+
+-- where a copy is made there is a match
+pub copied_some : (n : ℕ) (xs ys zs : List TupleTree) (t : TupleTree) → (ys ++ t ∷ []) ++ zs ≡ take n xs → xs ≢ []
+copied_some n xs ys zs t e none =
+    omega (arith, ap length e, ap length none, length-append (ys ++ t ∷ []) zs, length_push ys t, length-take n xs)
 
 -- ---- all entries, one by one
 

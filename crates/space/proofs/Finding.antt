@@ -1,6 +1,6 @@
 -- The oldest match, and what is left without it.
-use Rattle.std.proofs.Common.{◌≡◌, ℕ, Bool, List, get_or, Option, Some, None, option_map, refl, sym, ap, ◌∙◌}
-use Rattle.std.specs.Prelude.{find, position, is_some}
+use Rattle.std.proofs.Common.{◌≡◌, ◌≢◌, ℕ, Bool, true, false, cond, List, [], ◌∷◌, get_or, Option, Some, None, Result, Ok, Err, option_map, refl, sym, ap, ◌∙◌}
+use Rattle.std.specs.Prelude.{filter, find, position, is_some, OnErr}
 use Rattle.std.specs.Ordering.{nat_cmp}
 use Rattle.std.specs.Map.{lookup, remove_entry}
 use Rattle.std.specs.BTreeMap.{is_at}
@@ -18,6 +18,21 @@ none_passes test es e = go (position test es) refl
     go : (o : Option ℕ) → position test es ≡ o → without_first test es ≡ es
     go None p = removed_none test es p
     go (Some i) p = absurd (let g : Some (get_or es i (i, none)) ≡ None = sym (found_at test es i (i, none) p) ∙ e in let bad : ⊥ = cc in bad)
+
+-- what holds is said of each refusal
+pub on_err : {T E P : Type 0} (r : Result T E) → P → OnErr r P
+on_err (Ok x) p = tt
+on_err (Err e) p = p
+
+-- there is a first match among matches
+pub some_matched : (p : TemplateTree) (ts : List TupleTree) → filter (is_match p) ts ≢ [] → is_some (first_match p ts) ≡ true
+some_matched p [] h = absurd (h refl)
+some_matched p (t ∷ ts) h = go (is_match p t) h (some_matched p ts)
+  where
+    go : (b : Bool) → cond b (t ∷ filter (is_match p) ts) (filter (is_match p) ts) ≢ [] → (filter (is_match p) ts ≢ [] → is_some (first_match p ts) ≡ true)
+        → is_some (cond b (Some t) (first_match p ts)) ≡ true
+    go true h below = refl
+    go false h below = below h
 
 module _ (s : SpaceState) (p : TemplateTree) where
   pub first_of : (o : Option Entry) → o ≡ find (λ e. is_match p e.1) s.entries → first_match p (tuples_of s) ≡ option_map (λ e. e.1) o

@@ -4,14 +4,14 @@ use Rattle.std.specs.Prelude.{◌==◌, All}
 use Rattle.std.specs.Int.{w64, to_be_bytes}
 use Rattle.std.proofs.lemmas.Bool.{cases_eq, cases_lt}
 use Rattle.std.proofs.lemmas.List.{get_or-set_same, get_or-set_other, length-set}
-use Rattle.std.proofs.lemmas.List.Elements.{All-filter, filter_passes}
+use Rattle.std.proofs.lemmas.List.Elements.{All-nil, All-filter, filter_passes}
 use Rattle.std.proofs.lemmas.List.Kept.{AllPairs-filter}
 use Rattle.std.proofs.lemmas.List.Sums.{length-filter}
 use Rattle.std.proofs.lemmas.Bool.{eqb-true}
 use Rattle.tuple_tree.specs.Values.{IsTuple}
 use Rattle.space.specs.Births.{Entry, SpaceState, IsState, page_count}
 use Rattle.space.specs.Counted.{IsCounted}
-use Rattle.space.specs.Pages.{ArePages, entries_text, on_page}
+use Rattle.space.specs.Pages.{ArePages, MayBePages, entries_text, on_page}
 use Rattle.space.specs.Reading.{IsPage, IsPageRead, ArePagesRead, ArePagesOf, IsHeader}
 use Rattle.space.proofs.Determining.{entries_same, entries_from_pages, on_page_fits, pages_determine}
 use Rattle.space.proofs.Loading.{on_page-all, IsPage-fits}
@@ -35,6 +35,16 @@ IsPage-of_state s page h = record {
   few = let m = h.pages page in omega (arith, length-filter (λ e. e.0 % 256 == page) s.entries);
   tuples = All-filter (λ e. e.0 % 256 == page) (λ e. IsTuple e.1) s.entries h.tuples;
 }
+
+-- the texts are so many as pages, and the header is that of a state with no tuples
+pub MayBePages-read : (texts : List (List ℕ)) (header : List ℕ) (number next : ℕ) → length texts ≡ 256 → IsHeader header number next → MayBePages texts header
+MayBePages-read texts header number next all h =
+    let s : SpaceState = record { entries = []; next = next } in
+    let valid : IsState s = record { rising = λ i j d l m. absurd (omega arith); below_next = All-nil _; pages = λ page. omega arith; count = omega arith; tuples = All-nil _ } in
+    record {
+      all = all;
+      heading = (s, number, record { state = valid; births = h.births; few = h.few }, h.spelled);
+    }
 
 -- ---- page by page
 

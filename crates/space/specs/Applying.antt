@@ -32,6 +32,14 @@ outcome ts (inp p) = found_or_absent (first_match p ts)
 outcome ts (cas p t) = if is_some (first_match p ts) then swapped false else (if has_room ts then swapped true else full)
 outcome ts (rd_all n p) = all (take n (filter (is_match p) ts))
 
+-- Whether an operation may want memory: it adds a tuple, or copies a match to answer with. One that is taken is moved.
+abbrev pub wants_memory : List TupleTree → Operation → Bool
+wants_memory ts (out t) = has_room ts
+wants_memory ts (rdp p) = is_some (first_match p ts)
+wants_memory ts (inp p) = false
+wants_memory ts (cas p t) = if is_some (first_match p ts) then false else has_room ts
+wants_memory ts (rd_all n p) = is_some (first_match p ts)
+
 abbrev pub tuples_after : List TupleTree → Operation → List TupleTree
 tuples_after ts (out t) = with_newest ts t
 tuples_after ts (rdp p) = ts

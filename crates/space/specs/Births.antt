@@ -1,12 +1,12 @@
 -- Birth numbers. Each stored tuple has one, by which it lies on one of 256 pages of at most 64 tuples. A new tuple
 -- takes the least number not below the next one whose page has room, so that the order of births is the order of age.
-use Rattle.std.specs.Prelude.{ℕ, zero, suc, ◌+◌, ◌%◌, ◌<◌, ◌≤◌, Bool, List, [], ◌∷◌, ◌++◌, length, map, count_by, All, AllPairs, nat_lt, ◌==◌, is_some, if◌then◌else◌, refl}
+use Rattle.std.specs.Prelude.{◌≡◌, ℕ, zero, suc, ◌+◌, ◌%◌, ◌<◌, ◌≤◌, Bool, true, List, [], ◌∷◌, ◌++◌, length, map, count_by, All, AllPairs, nat_lt, ◌==◌, is_some, if◌then◌else◌, refl}
 use Rattle.std.specs.Coded.{Coded, code_by, coded×, coded_list, coded_ℕ}
 use Rattle.tuple_tree.specs.Values.{TupleTree, TemplateTree, IsTuple}
 use Rattle.tuple_tree.specs.ValuesCode.{tuple_code}
 use Rattle.tuple_codec.specs.Operations.{Operation, out, rdp, inp, cas, rd_all}
 use Rattle.template_match.specs.Tests.{is_match}
-use Rattle.space.specs.Applying.{has_room, without_first, first_match}
+use Rattle.space.specs.Applying.{has_room, without_first, first_match, wants_memory}
 
 -- a birth number and its tuple
 abbrev pub Entry : Type 0
@@ -54,6 +54,10 @@ state_after s (rdp p) = s
 state_after s (inp p) = without_match s p
 state_after s (cas p t) = if is_some (first_match p (tuples_of s)) then s else with_tuple s t
 state_after s (rd_all n p) = s
+
+-- The operation adds a tuple, or copies a match to answer with.
+abbrev pub WantsMemory : SpaceState → Operation → Type 0
+WantsMemory s o = wants_memory (tuples_of s) o ≡ true
 
 -- Births rise and are below the next one, at most 64 tuples lie on a page, and at most 8,192 in all.
 pub record IsState (s : SpaceState) : Type 0 where

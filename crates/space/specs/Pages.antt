@@ -30,6 +30,11 @@ pub record IsStateAt (s : SpaceState) (number : ℕ) : Type 0 where
   pub births : s.next ≤ 4096 * number
   pub few : number < 2 ^ 48
 
+-- The texts are 256, and the header is that of a state.
+pub record MayBePages (texts : List (List ℕ)) (header : List ℕ) : Type 0 where
+  pub all : length texts ≡ 256
+  pub heading : (s : SpaceState) × (number : ℕ) × IsStateAt s number × (header ≡ header_text s number)
+
 -- The texts of pages 0 to 255 and the header are those of a state after so many executed batches.
 pub record ArePages (texts : List (List ℕ)) (header : List ℕ) (s : SpaceState) (number : ℕ) : Type 0 where
   pub state : IsStateAt s number

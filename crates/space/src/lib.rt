@@ -9,10 +9,11 @@
 //!
 //! `apply` answers and leaves what the definition says of the list of tuples in order of age (`outcome`,
 //! `tuples_after`), for `out`, `rdp`, `inp`, `cas` and `rdAll`; at want of memory it is unchanged. `peek` answers
-//! reads alone, and refuses exactly the others. `page_text` and `header_text` are the pages of the definition;
-//! `from_pages` gives a space exactly where the texts are a state's, want of memory aside. Laws: `births_are_least`,
-//! `states_stay_states`, `tuples_follow_states`, `answers_are_valid`, `pages_determine` (equal pages are equal
-//! states), `batches_leave_states`.
+//! reads alone, and refuses exactly the others. Both tell of want of memory only where the operation adds a tuple or
+//! copies a match (`WantsMemory`). `page_text` and `header_text` are the pages of the definition; `from_pages` gives a
+//! space exactly where the texts are a state's, want of memory aside, which it tells of 256 texts and a state's header
+//! alone. Laws: `births_are_least`, `states_stay_states`, `tuples_follow_states`, `answers_are_valid`,
+//! `pages_determine` (equal pages are equal states), `batches_leave_states`.
 //!
 //! `candidates` lends the births of the tuples of a template's length and first value, exactly; the operations walk no
 //! others. [`Watched`] is a space that knows which pages its operations touched: a page that is not touched has the text

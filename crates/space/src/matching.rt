@@ -1,6 +1,6 @@
 //! Matches among stored tuples.
 
-ghost use Rattle.std.specs.Prelude.{◌≡◌, take, option_map, IfOk};
+ghost use Rattle.std.specs.Prelude.{◌≡◌, ◌≢◌, [], take, option_map, IfOk, OnErr};
 ghost use Rattle.space.specs.Found.{found_at, entries_at, oldest_in, matches_in};
 
 use std::alloc::{Allocator, Global};
@@ -54,7 +54,8 @@ pub fn copies_of_matches<A: Allocator>(
     template: &Template<A>,
     max: Max,
 ) -> Result<Tuples<Global>, NoMemory>
-    ensures { IfOk result (λ copies. copies ≡ take max.count (matches_in template.now (entries_at tuples.now.entries births.now))) }
+    ensures value { IfOk result (λ copies. copies ≡ take max.count (matches_in template.now (entries_at tuples.now.entries births.now))) }
+    ensures memory { OnErr result (matches_in template.now (entries_at tuples.now.entries births.now) ≢ []) }
 {
     let mut copies = Tuples::new_in(alloc);
     for birth in births {
@@ -91,7 +92,8 @@ pub fn copies_of_all<A: Allocator>(
     template: &Template<A>,
     max: Max,
 ) -> Result<Tuples<Global>, NoMemory>
-    ensures { IfOk result (λ copies. copies ≡ take max.count (matches_in template.now tuples.now.entries)) }
+    ensures value { IfOk result (λ copies. copies ≡ take max.count (matches_in template.now tuples.now.entries)) }
+    ensures memory { OnErr result (matches_in template.now tuples.now.entries ≢ []) }
 {
     let mut copies = Tuples::new_in(alloc);
     for tuple in tuples.values() {

@@ -1,6 +1,6 @@
 //! The space and its operations.
 
-ghost use Rattle.std.specs.Prelude.{◌≡◌, ◌+◌, ◌%◌, ◌^◌, ◌<◌, ◌≤◌, false, length, option_map, is_some, OnOk, OnErr, IfOk, IfErr, IfSome, MatchResult, IsTrue, ◌↔◌, ℕ, map};
+ghost use Rattle.std.specs.Prelude.{◌≡◌, ◌+◌, ◌%◌, ◌^◌, ◌<◌, ◌≤◌, true, false, length, option_map, is_some, OnOk, OnErr, IfOk, IfErr, IfSome, MatchResult, IsTrue, ◌↔◌, ℕ, map};
 ghost use Rattle.std.specs.Ordering.{nat_cmp};
 ghost use Rattle.std.specs.Map.{lookup, remove_entry};
 ghost use Rattle.std.specs.BTreeMap.{is_at};
@@ -9,11 +9,11 @@ ghost use Rattle.tuple_codec.specs.Operations.{cas, rd_all};
 ghost use Rattle.tuple_codec.specs.OperationView.{operation_of, outcome_of};
 ghost use Rattle.space.specs.Candidates.{candidates_of};
 ghost use Rattle.space.specs.Applying.{outcome, tuples_after, first_match, found_or_absent, has_room, is_read_only};
-ghost use Rattle.space.specs.Pages.{page_text, header_text, ArePages};
+ghost use Rattle.space.specs.Pages.{page_text, header_text, ArePages, MayBePages};
 ghost use Rattle.space.specs.Reading.{ArePagesOf};
 ghost use Rattle.space.specs.Found.{oldest_in};
 ghost use Rattle.space.specs.Watching.{KeepsPage};
-ghost use Rattle.space.specs.Births.{SpaceState, IsState, empty_state, birth_of, tuples_of, state_after, with_birth, with_tuple, without_match};
+ghost use Rattle.space.specs.Births.{SpaceState, IsState, empty_state, birth_of, tuples_of, state_after, with_birth, with_tuple, without_match, WantsMemory};
 
 use crate::births::{PAGES, empty_pages, next_birth};
 use crate::index::Index;
@@ -100,10 +100,14 @@ impl Space {
     ///
     /// Malformed where these are those of no state within the limits: births that rise on their page and are below the
     /// next one, at most 64 tuples on a page and 8,192 in all, each tuple spelled, at most 4,096 births for each
-    /// executed batch, and fewer than 2 to the power of 48 batches. NoMemory where memory runs out before that is seen.
+    /// executed batch, and fewer than 2 to the power of 48 batches. NoMemory where memory runs out before that is seen;
+    /// the number of texts and the header are judged first.
     pub fn from_pages(alloc: Global, pages: &[&[u8]], header: &[u8]) -> Result<(Space, u64), Bad>
         // What is read has these pages.
         ensures found { IfOk result (λ x. ArePages (map (λ page. page.now) pages.now) header.now x.0 x.1) }
+
+        // A wrong number of texts, or a header that is no state's, is refused as such.
+        ensures memory { (result ≡ Err Bad.NoMemory) → MayBePages (map (λ page. page.now) pages.now) header.now }
 
         // The state with these pages is read, unless memory runs out.
         ensures only { (s : SpaceState) (number : ℕ) → ArePages (map (λ page. page.now) pages.now) header.now s number → MatchResult result (λ x. (x.0 ≡ s) × (x.1 ≡ number)) (λ bad. bad ≡ Bad.NoMemory) }
@@ -209,6 +213,7 @@ impl Space {
         requires { self.old.next < 2 ^ 62 }
         ensures ok { OnOk result (self.new ≡ with_tuple self.old tuple.now) }
         ensures room { IfOk result (λ added. added ≡ has_room (tuples_of self.old)) }
+        ensures memory { OnErr result (has_room (tuples_of self.old) ≡ true) }
         ensures err { OnErr result (self.new ≡ self.old) }
     {
         if self.count() >= MAX_TUPLES {
@@ -259,7 +264,8 @@ impl Space {
 
     // Reads the oldest match.
     fn read<A: Allocator>(&self, template: &Template<A>) -> Result<Answer<Global>, NoMemory>
-        ensures { IfOk result (λ a. outcome_of a ≡ found_or_absent (first_match template.now (tuples_of self.now))) }
+        ensures value { IfOk result (λ a. outcome_of a ≡ found_or_absent (first_match template.now (tuples_of self.now))) }
+        ensures memory { OnErr result (is_some (first_match template.now (tuples_of self.now)) ≡ true) }
     {
         match self.oldest_match(template) {
             Some((_, tuple)) => Ok(Answer::Found(tuple.copy_in(self.alloc)?)),
@@ -273,7 +279,8 @@ impl Space {
         max: Max,
         template: &Template<A>,
     ) -> Result<Answer<Global>, NoMemory>
-        ensures { IfOk result (λ a. outcome_of a ≡ outcome (tuples_of self.now) (rd_all max.count template.now)) }
+        ensures value { IfOk result (λ a. outcome_of a ≡ outcome (tuples_of self.now) (rd_all max.count template.now)) }
+        ensures memory { OnErr result (is_some (first_match template.now (tuples_of self.now)) ≡ true) }
     {
         let births = self.candidates(template);
         if self.are_many(births.len()) {
@@ -314,6 +321,7 @@ impl Space {
         requires { self.old.next < 2 ^ 62 }
         ensures value { IfOk result (λ a. outcome_of a ≡ outcome (tuples_of self.old) (cas template.now tuple.now)) }
         ensures ok { OnOk result (self.new ≡ state_after self.old (cas template.now tuple.now)) }
+        ensures memory { OnErr result (WantsMemory self.old (cas template.now tuple.now)) }
         ensures err { OnErr result (self.new ≡ self.old) }
     {
         if self.has_match(template) {
@@ -327,7 +335,7 @@ impl Space {
     }
 
     /// Applies an operation. A tuple that is added is copied, and so is one that is read; one that is taken is handed
-    /// out. An `Err` changes nothing.
+    /// out. NoMemory comes only where a tuple is to be copied. It changes nothing.
     pub fn apply<A: Allocator>(&mut self, op: &Op<A>) -> Result<Answer<Global>, NoMemory>
         requires { self.old.next < 2 ^ 62 }
         ensures answer { IfOk result (λ a. outcome_of a ≡ outcome (tuples_of self.old) (operation_of op.now)) }
@@ -335,6 +343,7 @@ impl Space {
         ensures tuples { OnOk result (tuples_of self.new ≡ tuples_after (tuples_of self.old) (operation_of op.now)) }
         ensures valid { IsState self.new }
         ensures next { self.new.next ≤ self.old.next + 256 }
+        ensures memory { OnErr result (WantsMemory self.old (operation_of op.now)) }
         ensures err { OnErr result (self.new ≡ self.old) }
     {
         let result = self.answer(op);
@@ -372,6 +381,7 @@ impl Space {
         requires { self.old.next < 2 ^ 62 }
         ensures answer { IfOk result (λ a. outcome_of a ≡ outcome (tuples_of self.old) (operation_of op.now)) }
         ensures state { OnOk result (self.new ≡ state_after self.old (operation_of op.now)) }
+        ensures memory { OnErr result (WantsMemory self.old (operation_of op.now)) }
         ensures err { OnErr result (self.new ≡ self.old) }
     {
         match op {
@@ -389,10 +399,12 @@ impl Space {
         }
     }
 
-    /// Answers an operation that changes nothing; any other is refused before memory is looked at.
+    /// Answers an operation that changes nothing; any other is refused before memory is looked at. NoMemory comes only
+    /// where a match is to be copied.
     pub fn peek<A: Allocator>(&self, op: &Op<A>) -> Result<Answer<Global>, PeekFault>
         ensures answer { IfOk result (λ a. outcome_of a ≡ outcome (tuples_of self.now) (operation_of op.now)) }
         ensures not_read_only { (result ≡ Err PeekFault.NotReadOnly) ↔ (is_read_only (operation_of op.now) ≡ false) }
+        ensures memory { (result ≡ Err PeekFault.NoMemory) → WantsMemory self.now (operation_of op.now) }
         ensures valid { IsState self.now }
     {
         self.note_state();

@@ -3,7 +3,7 @@
 ghost use Rattle.std.specs.Prelude.{◌≡◌, ◌^◌, ◌<◌, ℕ, true, false, OnOk, OnErr, IfOk, slice_index_or};
 ghost use Rattle.tuple_codec.specs.OperationView.{operation_of, outcome_of};
 ghost use Rattle.space.specs.Applying.{outcome};
-ghost use Rattle.space.specs.Births.{IsState, tuples_of, state_after};
+ghost use Rattle.space.specs.Births.{IsState, tuples_of, state_after, WantsMemory};
 ghost use Rattle.space.specs.Watching.{is_touched, TouchesChanges};
 
 use crate::births::PAGES;
@@ -56,6 +56,7 @@ impl Watched {
         ensures answer { IfOk result (λ a. outcome_of a ≡ outcome (tuples_of self.old.state) (operation_of op.now)) }
         ensures state { OnOk result (self.new.state ≡ state_after self.old.state (operation_of op.now)) }
         ensures valid { IsState self.new.state }
+        ensures memory { OnErr result (WantsMemory self.old.state (operation_of op.now)) }
         ensures err { OnErr result (self.new.state ≡ self.old.state) }
         ensures touches { TouchesChanges self.old self.new }
     {

@@ -13,4 +13,5 @@ loop-slot-preserved c =
       same = padded_push slots (omega arith) ∙ c.loop-slot.invariant.same;
       valid = AreSlots_push slots (omega arith) c.loop-slot.invariant.valid;
       at = length_push slots None ∙ omega arith;
+      grown = let grown = c.loop-slot.invariant.grown in omega (arith, length_push slots None);
     })

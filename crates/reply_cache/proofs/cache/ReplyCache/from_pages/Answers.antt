@@ -4,7 +4,7 @@ use Rattle.std.proofs.lemmas.Result.{err_from_is_err_and}
 use Rattle.reply_cache.specs.Replies.{last_of}
 use Rattle.reply_cache.specs.ReplyView.{padded}
 use Rattle.reply_cache.specs.Reading.{AreRead}
-use Rattle.reply_cache.proofs.Fronts.{ArePages-read, ArePages-one, SpellsReply-of}
+use Rattle.reply_cache.proofs.Fronts.{ArePages-read, ArePages-one, ArePages-each, SpellsReply-of}
 use Rattle.reply_cache.proofs.cache.ReplyCache.from_pages.Goals as goal
 
 pub returns-in_err-slot-clause-only : goal.returns-in_err-slot-clause-only
@@ -28,3 +28,13 @@ returns-clause-only c rs are =
     let texts = map (λ page. page.now) c.args.pages.now in
     let end : c.loop-text.text-index ≡ 256 = omega arith in
     ArePages-one texts (padded c.loop-text.slots.items) rs (ArePages-read texts c.loop-text.slots.items (subst (λ n. AreRead texts c.loop-text.slots.items n) end c.loop-text.invariant) are.all) are
+
+pub returns-in_err-slot-clause-memory : goal.returns-in_err-slot-clause-memory
+returns-in_err-slot-clause-memory c _ =
+    let texts = map (λ page. page.now) c.args.pages.now in
+    ArePages-each texts (c.are_pages.ensures.found c.if-not-are_pages.false) (length-map c.args.pages.now (λ p. p.now) ∙ c.if-pages-ne-CLIENTS.false)
+
+pub returns-in_err-add_slot-clause-memory : goal.returns-in_err-add_slot-clause-memory
+returns-in_err-add_slot-clause-memory c _ =
+    let texts = map (λ page. page.now) c.args.pages.now in
+    ArePages-each texts (c.are_pages.ensures.found c.if-not-are_pages.false) (length-map c.args.pages.now (λ p. p.now) ∙ c.if-pages-ne-CLIENTS.false)
