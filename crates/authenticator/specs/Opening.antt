@@ -3,7 +3,6 @@ use Rattle.std.specs.Prelude.{ℕ, Bool, ◌||◌, IsTrue, ◌≡◌, false, Lis
 use Rattle.wire.specs.Messages.{FrameData}
 use Rattle.wire.specs.Spelling.{SpellsFrame, proof_is_signed}
 use Rattle.wire.specs.Faults.{IsTooLarge}
-use Rattle.wire.specs.Headers.{HeaderData, header_of}
 use Rattle.authenticator.specs.declared.sealed.OpenFault.{OpenFault}
 use Rattle.authenticator.specs.declared.sealed.OpenFault.TheVariants as faults
 use Rattle.authenticator.specs.Membership.{Membership, has_sender}
@@ -24,10 +23,6 @@ pub record Opens (m : Membership) (party : ℕ) (bytes : List ℕ) (frame : Fram
   pub spelled : SpellsFrame bytes frame
   pub sender : IsTrue (has_sender m frame.body)
   pub proved : IsTrue (may_open m.seed party frame)
-
--- They are one with this header.
-abbrev pub OpensWith : Membership → ℕ → List ℕ → HeaderData → Type 0
-OpensWith m party bytes header = (frame : FrameData) × Opens m party bytes frame × (header ≡ header_of frame)
 
 -- The bytes are a frame, but from no party that sends such messages.
 pub record HasNoSender (m : Membership) (bytes : List ℕ) : Type 0 where

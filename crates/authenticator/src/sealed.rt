@@ -1,6 +1,6 @@
 //! Frames that parties seal for each other and open.
 
-ghost use Rattle.std.specs.Prelude.{◌≡◌, ◌≢◌, ◌↔◌, ◌+◌, ℕ, List, ◌++◌, IsOk, IfOk, IfErr, IsTrue, MatchResult, map};
+ghost use Rattle.std.specs.Prelude.{◌≡◌, ◌↔◌, ◌+◌, ℕ, List, ◌++◌, IfOk, IfErr, IsTrue, MatchResult, map};
 ghost use Rattle.std.specs.Prelude.{◌≤◌, length};
 ghost use Rattle.wire.specs.Messages.{FrameData};
 ghost use Rattle.wire.specs.Spelling.{SpellsFrame, IsMac};
@@ -9,7 +9,7 @@ ghost use Rattle.authenticator.specs.Sealing.{IsSealable, IsTooLong, entry_for, 
 ghost use Rattle.terms.specs.Parties.{party_number};
 ghost use Rattle.wire.specs.Views.{body_data, frame_data, mac_data};
 ghost use Rattle.authenticator.specs.Authentic.{has_mac, is_mac_for};
-ghost use Rattle.authenticator.specs.Opening.{Opens, OpensWith, Refuses};
+ghost use Rattle.authenticator.specs.Opening.{Opens, Refuses};
 ghost use Rattle.authenticator.specs.Headers.{has_proof, header_refusal};
 ghost use Rattle.wire.specs.Headers.{header_data};
 
@@ -156,36 +156,24 @@ impl Ring {
         ensures refused { IfErr result (Refuses self.old (party_number me) bytes.now) }
         ensures same { self.new ≡ self.old }
     {
-        self.judge(bytes, me)?;
+        let header = judge(bytes)?;
+        if let Some(fault) = self.refusal(&header, me) {
+            return Err(fault);
+        }
         let frame = decode_judged(alloc, bytes)?;
         Ok(Opened { frame })
     }
 
-    /// The header of a frame that `me` may open. The first refusal that applies is given, in the order of
-    /// [`OpenFault`], and never want of memory: this takes none.
-    pub fn judge<'b>(&mut self, bytes: &'b [u8], me: Party) -> Result<Header<'b>, OpenFault>
-        ensures opened { IfOk result (λ header. OpensWith self.old (party_number me) bytes.now (header_data header)) }
-        ensures all { (f : FrameData) → Opens self.old (party_number me) bytes.now f → IsOk result }
-        ensures refused { IfErr result (Refuses self.old (party_number me) bytes.now) }
-        ensures memory { IfErr result (λ e. e ≢ OpenFault.NoMemory) }
-        ensures same { self.new ≡ self.old }
-    {
-        let header = judge(bytes)?;
-        match self.refusal(&header, me.number()) {
-            Some(fault) => Err(fault),
-            None => Ok(header),
-        }
-    }
-
-    // Why the party refuses a frame of this header, where it does.
-    fn refusal(&mut self, header: &Header<'_>, party: u16) -> Option<OpenFault>
-        ensures value { result ≡ header_refusal self.old party (header_data header.now) }
+    /// Why `me` refuses a frame of this header, where it does: the sender is unknown, or else the MAC is wrong. A
+    /// signature is not tested here. It takes no memory but for the keys that the ring keeps.
+    pub fn refusal(&mut self, header: &Header<'_>, me: Party) -> Option<OpenFault>
+        ensures value { result ≡ header_refusal self.old (party_number me) (header_data header.now) }
         ensures same { self.new ≡ self.old }
     {
         if !self.takes_part(header.sender.number(), header.is_request) {
             return Some(OpenFault::UnknownSender);
         }
-        if !self.has_proof(header, party) {
+        if !self.has_proof(header, me.number()) {
             return Some(OpenFault::BadMac);
         }
         None

@@ -1,16 +1,20 @@
--- What a header that may be opened says of hearing.
-use Rattle.std.proofs.Common.{◌≡◌, ℕ, true, false, List, Some, IsTrue, ap, sym, refl, ◌∙◌}
-use Rattle.tuple_tree.specs.Values.{AreBytes}
+-- What a header says of hearing.
+use Rattle.std.proofs.Common.{◌≡◌, ◌≢◌, inl, ℕ, true, false, List, Some, None, ap, sym, refl, ◌∙◌}
 use Rattle.wire.specs.Messages.{BodyData, FrameData, ProofData, macs, signature}
 use Rattle.wire.specs.Spelling.{SpellsFrame, is_signed, proof_is_signed, body_spelling}
-use Rattle.wire.specs.Headers.{HeaderData, header_of}
+use Rattle.wire.specs.Headers.{HeaderData, header_of, HasHeader}
+use Rattle.wire.proofs.Whole.{one_frame}
+use Rattle.authenticator.specs.declared.sealed.OpenFault.{OpenFault}
+use Rattle.authenticator.specs.declared.sealed.OpenFault.TheVariants as open_faults
 use Rattle.authenticator.specs.Keys.{signing_seed}
 use Rattle.authenticator.specs.Membership.{Membership}
-use Rattle.authenticator.specs.Opening.{OpensWith}
-use Rattle.wire.proofs.Whole.{one_frame}
+use Rattle.authenticator.specs.Headers.{header_refusal}
+use Rattle.authenticator.specs.Opening.{Opens}
+use Rattle.authenticator.proofs.Refusing.{header_refused, header_opened, header_not_refused}
 use Rattle.signing.specs.Signatures.{public_key}
+use Rattle.signing.specs.Faults.{hear_fault}
 use Rattle.signing.specs.Heard.{signs, has_signature, heard}
-use Rattle.signing.specs.Hearing.{HasNoSignature, proof_holds, signature_holds}
+use Rattle.signing.specs.Hearing.{HasNoSignature, IsOwn, Refuses, proof_holds, signature_holds}
 use Rattle.signing.proofs.Heard.{opened_is_heard, heard_was_opened}
 
 -- of a frame that is to be signed a proof that holds is its sender's signature
@@ -25,32 +29,55 @@ fails : (seed text : List ℕ) (sender : ℕ) (proof : ProofData) → proof_hold
 fails seed text sender (macs entries) h = absurd (let g : ⊥ = cc in g)
 fails seed text sender (signature s) h = (refl, h)
 
-module _ (m : Membership) (party : ℕ) (bytes : List ℕ) (header : HeaderData) (o : OpensWith m party bytes header) where
-  abbrev frame : FrameData
-  frame = o.0
+module _ (m : Membership) (party : ℕ) (bytes : List ℕ) (header : HeaderData) (has : HasHeader bytes header) where
+  header_is : (frame : FrameData) → SpellsFrame bytes frame → header ≡ header_of frame
+  header_is frame s = has.2 ∙ ap header_of (one_frame bytes has.0 frame has.1 s)
 
-  pub heard_by_header : (other : FrameData) → SpellsFrame bytes other → signature_holds m.seed header ≡ true → heard m party bytes ≡ Some other.body
-  heard_by_header other s h =
-      let k : signature_holds m.seed (header_of frame) ≡ true = ap (signature_holds m.seed) (sym o.2) ∙ h in
-      let e : frame ≡ other = one_frame bytes frame other o.1.spelled s in
-      opened_is_heard m party bytes frame o.1
-      (λ signed. holds m.seed (body_spelling frame.body) frame.body.sender frame.proof k (o.1.spelled.valid.proved ∙ signed))
-      ∙ ap (λ f. Some f.body) e
+  pub own_by_header : header.sender ≡ party → IsOwn party bytes
+  own_by_header e = record { frame = has.0; spelled = has.1; sender = sym (ap (λ (h : HeaderData). h.sender) has.2) ∙ e }
 
-  pub unsigned_by_header : signature_holds m.seed header ≡ false → HasNoSignature m party bytes
-  unsigned_by_header h =
-      let f = fails m.seed (body_spelling frame.body) frame.body.sender frame.proof (ap (signature_holds m.seed) (sym o.2) ∙ h) in
-      record { frame = frame; opens = o.1; signed = sym o.1.spelled.valid.proved ∙ f.0; unsigned = f.1 }
+  not_own : header.sender ≢ party → ¬ IsOwn party bytes
+  not_own other own = other (ap (λ (h : HeaderData). h.sender) (header_is own.frame own.spelled) ∙ own.sender)
 
-  pub not_heard : AreBytes bytes → signature_holds m.seed header ≡ false → (body : BodyData) → heard m party bytes ≡ Some body → ⊥
-  not_heard h fails body e =
-      let w = heard_was_opened m party bytes body h e in
-      let same : w.frame ≡ frame = one_frame bytes w.frame frame w.opens.spelled o.1.spelled in
-      contradict (unsigned_by_header fails) w.frame same w.signed
-    where
-      contradict : (u : HasNoSignature m party bytes) (other : FrameData) → other ≡ frame → (IsTrue (is_signed other.body.message) → IsTrue (has_signature m.seed other)) → ⊥
-      contradict u other same signed =
-          let mine : u.frame ≡ other = one_frame bytes u.frame frame u.opens.spelled o.1.spelled ∙ sym same in
-          let s : has_signature m.seed u.frame ≡ true = ap (has_signature m.seed) mine ∙ signed (ap (λ f. is_signed f.body.message) (sym mine) ∙ u.signed) in
-          let g : true ≡ false = sym s ∙ u.unsigned in
-          let k : ⊥ = cc in k
+  pub own_not_heard : header.sender ≡ party → (body : BodyData) → heard m party bytes ≡ Some body → ⊥
+  own_not_heard e body h =
+      let w = heard_was_opened m party bytes body h in
+      w.other (ap (λ (b : BodyData). b.sender) (sym w.body_is) ∙ sym (ap (λ (h : HeaderData). h.sender) (header_is w.frame w.opens.spelled)) ∙ e)
+
+  pub refused_not_heard : (fault : OpenFault) → Some fault ≡ header_refusal m party header → (body : BodyData) → heard m party bytes ≡ Some body → ⊥
+  refused_not_heard fault e body h =
+      let w = heard_was_opened m party bytes body h in header_not_refused m party bytes header has fault w.frame e w.opens
+
+  pub refused_by_header : (fault : OpenFault) → Some fault ≡ header_refusal m party header → header.sender ≢ party → Refuses m party bytes (hear_fault fault)
+  refused_by_header open_faults.TooLarge e other = header_refused m party bytes header has open_faults.TooLarge e
+  refused_by_header open_faults.Malformed e other = header_refused m party bytes header has open_faults.Malformed e
+  refused_by_header open_faults.UnknownSender e other = inl (header_refused m party bytes header has open_faults.UnknownSender e)
+  refused_by_header open_faults.BadMac e other = (header_refused m party bytes header has open_faults.BadMac e, not_own other)
+  refused_by_header open_faults.NoMemory e other =
+      let o = header_refused m party bytes header has open_faults.NoMemory e in absurd (header_not_refused m party bytes header has open_faults.NoMemory o.0 e o.1)
+
+  module _ (none : None ≡ header_refusal m party header) where
+    opens : (frame : FrameData) → SpellsFrame bytes frame → Opens m party bytes frame
+    opens frame s = header_opened m party bytes header has frame s none
+
+    pub heard_by_header : (frame : FrameData) → SpellsFrame bytes frame → header.sender ≢ party → signature_holds m.seed header ≡ true → heard m party bytes ≡ Some frame.body
+    heard_by_header frame s other h =
+        let k : signature_holds m.seed (header_of frame) ≡ true = ap (signature_holds m.seed) (sym (header_is frame s)) ∙ h in
+        opened_is_heard m party bytes frame (opens frame s) (λ e. other (ap (λ (h : HeaderData). h.sender) (header_is frame s) ∙ e))
+        (λ signed. holds m.seed (body_spelling frame.body) frame.body.sender frame.proof k (s.valid.proved ∙ signed))
+
+    unsigned : (frame : FrameData) → SpellsFrame bytes frame → signature_holds m.seed header ≡ false → (is_signed frame.body.message ≡ true) × (has_signature m.seed frame ≡ false)
+    unsigned frame s h =
+        let f = fails m.seed (body_spelling frame.body) frame.body.sender frame.proof (ap (signature_holds m.seed) (sym (header_is frame s)) ∙ h) in
+        (sym s.valid.proved ∙ f.0, f.1)
+
+    pub unsigned_by_header : header.sender ≢ party → signature_holds m.seed header ≡ false → HasNoSignature m party bytes × ¬ IsOwn party bytes
+    unsigned_by_header other h =
+        let u = unsigned has.0 has.1 h in (record { frame = has.0; opens = opens has.0 has.1; signed = u.0; unsigned = u.1 }, not_own other)
+
+    pub unsigned_not_heard : signature_holds m.seed header ≡ false → (body : BodyData) → heard m party bytes ≡ Some body → ⊥
+    unsigned_not_heard h body e =
+        let w = heard_was_opened m party bytes body e in
+        let u = unsigned w.frame w.opens.spelled h in
+        let g : true ≡ false = sym (w.signed u.0) ∙ u.1 in
+        let k : ⊥ = cc in k

@@ -1,4 +1,6 @@
--- The refusals of opening as those of hearing.
+-- The refusals of judging and of opening as those of hearing.
+use Rattle.wire.specs.declared.fault.NoFrame.{NoFrame}
+use Rattle.wire.specs.declared.fault.NoFrame.TheVariants as no_frame
 use Rattle.authenticator.specs.declared.sealed.OpenFault.{OpenFault}
 use Rattle.authenticator.specs.declared.sealed.OpenFault.TheVariants as open_faults
 use Rattle.signing.specs.declared.hear_fault.HearFault.{HearFault}
@@ -10,3 +12,7 @@ hear_fault open_faults.Malformed = faults.Malformed
 hear_fault open_faults.UnknownSender = faults.UnknownSender
 hear_fault open_faults.BadMac = faults.BadMac
 hear_fault open_faults.NoMemory = faults.NoMemory
+
+abbrev pub frame_fault : NoFrame → HearFault
+frame_fault no_frame.TooLarge = faults.TooLarge
+frame_fault no_frame.Malformed = faults.Malformed

@@ -1,7 +1,7 @@
 -- Why a party hears nothing from bytes.
-use Rattle.std.specs.Prelude.{◌≡◌, ℕ, Bool, true, false, IsTrue, List, Some}
+use Rattle.std.specs.Prelude.{◌≡◌, ◌⊎◌, ℕ, Bool, true, false, IsTrue, List, Some}
 use Rattle.wire.specs.Messages.{BodyData, ProofData, macs, signature, FrameData}
-use Rattle.wire.specs.Spelling.{is_signed}
+use Rattle.wire.specs.Spelling.{SpellsFrame, is_signed}
 use Rattle.wire.specs.Headers.{HeaderData}
 use Rattle.authenticator.specs.declared.sealed.OpenFault.TheVariants as open_faults
 use Rattle.authenticator.specs.Keys.{signing_seed}
@@ -19,13 +19,19 @@ pub record HasNoSignature (m : Membership) (party : ℕ) (bytes : List ℕ) : Ty
   pub signed : IsTrue (is_signed frame.body.message)
   pub unsigned : has_signature m.seed frame ≡ false
 
--- The earlier refusal goes before a later one.
+-- The bytes are a frame in the party's own name.
+pub record IsOwn (party : ℕ) (bytes : List ℕ) : Type 0 where
+  pub frame : FrameData
+  pub spelled : SpellsFrame bytes frame
+  pub sender : frame.body.sender ≡ party
+
+-- The earlier refusal goes before a later one. A party's own name is no sender's.
 abbrev pub Refuses : Membership → ℕ → List ℕ → HearFault → Type 0
 Refuses m party bytes faults.TooLarge = RefusesToOpen m party bytes open_faults.TooLarge
 Refuses m party bytes faults.Malformed = RefusesToOpen m party bytes open_faults.Malformed
-Refuses m party bytes faults.UnknownSender = RefusesToOpen m party bytes open_faults.UnknownSender
-Refuses m party bytes faults.BadMac = RefusesToOpen m party bytes open_faults.BadMac
-Refuses m party bytes faults.BadSignature = HasNoSignature m party bytes
+Refuses m party bytes faults.UnknownSender = RefusesToOpen m party bytes open_faults.UnknownSender ⊎ IsOwn party bytes
+Refuses m party bytes faults.BadMac = RefusesToOpen m party bytes open_faults.BadMac × ¬ IsOwn party bytes
+Refuses m party bytes faults.BadSignature = HasNoSignature m party bytes × ¬ IsOwn party bytes
 Refuses m party bytes faults.NoMemory = (body : BodyData) × (heard m party bytes ≡ Some body)
 
 -- a signature of the text is its sender's; MACs are judged elsewhere

@@ -14,10 +14,11 @@ use crate::public_keys::PublicKeys;
 use authenticator::Ring;
 use std::alloc::Global;
 use terms::Party;
-use wire::{Header, ProofBytes, decode_judged};
+use wire::{Header, ProofBytes, decode_judged, judge};
 
-/// What `me` hears from the bytes: a frame whose sender takes part and may send such a message, with the right MAC for
-/// `me`, or signed by its sender where it is a view change or a new view. The keys and the ring are of one seed.
+/// What `me` hears from the bytes: a frame of another party, which takes part and may send such a message, with the
+/// right MAC for `me`, or signed by its sender where it is a view change or a new view. The keys and the ring are of one
+/// seed.
 ///
 /// # Errors
 ///
@@ -26,19 +27,24 @@ use wire::{Header, ProofBytes, decode_judged};
 pub fn hear<'b>(
     alloc: Global,
     ring: &mut Ring,
-    publics: &mut PublicKeys,
+    publics: &PublicKeys,
     bytes: &'b [u8],
     me: Party,
 ) -> Result<HeardFrame<'b>, HearFault>
-    requires { publics.old ≡ ring.old.seed }
+    requires { publics.now ≡ ring.old.seed }
     ensures heard { IfOk result (λ h. heard ring.old (party_number me) bytes.now ≡ Some (body_data h.frame.body)) }
     ensures carried { IfOk result (λ h. h.bytes.now ≡ bytes.now) }
     ensures all { (body : BodyData) → heard ring.old (party_number me) bytes.now ≡ Some body → MatchResult result (λ h. body_data h.frame.body ≡ body) (λ e. e ≡ HearFault.NoMemory) }
     ensures refused { IfErr result (Refuses ring.old (party_number me) bytes.now) }
     ensures ring { ring.new ≡ ring.old }
-    ensures publics { publics.new ≡ publics.old }
 {
-    let header = ring.judge(bytes, me)?;
+    let header = judge(bytes)?;
+    if header.sender.number() == me.number() {
+        return Err(HearFault::UnknownSender);
+    }
+    if let Some(fault) = ring.refusal(&header, me) {
+        return Err(fault.into());
+    }
     if !signature_holds(publics, &header) {
         return Err(HearFault::BadSignature);
     }
@@ -47,9 +53,8 @@ pub fn hear<'b>(
 }
 
 // Whether a signature, where the frame has one, is its sender's.
-fn signature_holds(publics: &mut PublicKeys, header: &Header<'_>) -> bool
-    ensures value { result ≡ signature_holds publics.old (header_data header.now) }
-    ensures same { publics.new ≡ publics.old }
+fn signature_holds(publics: &PublicKeys, header: &Header<'_>) -> bool
+    ensures { result ≡ signature_holds publics.now (header_data header.now) }
 {
     match &header.proof {
         ProofBytes::Macs(_) => true,

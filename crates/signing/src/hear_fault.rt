@@ -3,6 +3,7 @@
 use authenticator::OpenFault;
 use terms::NoMemory;
 use thiserror::Error;
+use wire::NoFrame;
 
 /// Why a party hears nothing.
 #[derive(Clone, Copy, Debug, PartialEq, Eq, Error)]
@@ -13,7 +14,7 @@ pub enum HearFault {
     /// The bytes, whole, are no frame.
     #[error("the bytes are no frame")]
     Malformed,
-    /// The sender is no party, or not of the sort that sends such messages.
+    /// The sender is no party, not of the sort that sends such messages, or this party itself.
     #[error("the sender is unknown")]
     UnknownSender,
     /// The proof has no entry for the receiver, or a wrong one.
@@ -25,6 +26,20 @@ pub enum HearFault {
     /// There was no room for the frame.
     #[error("out of memory")]
     NoMemory,
+}
+
+impl From<NoFrame> for HearFault {
+    ghost use Rattle.std.specs.Prelude.{◌≡◌};
+    ghost use Rattle.signing.specs.Faults.{frame_fault};
+
+    ghost from_gives = { λ fault e. e ≡ frame_fault fault };
+
+    fn from(fault: NoFrame) -> HearFault {
+        match fault {
+            NoFrame::TooLarge => HearFault::TooLarge,
+            NoFrame::Malformed => HearFault::Malformed,
+        }
+    }
 }
 
 impl From<OpenFault> for HearFault {

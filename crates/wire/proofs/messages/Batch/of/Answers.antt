@@ -1,4 +1,4 @@
-use Rattle.std.proofs.Common.{List, ℕ, ◌++◌, [], map, length, ◌≤◌, ap, ◌∙◌, arith}
+use Rattle.std.proofs.Common.{List, ℕ, ◌++◌, map, length, ◌≤◌, ap, ◌∙◌}
 use Rattle.std.proofs.lemmas.List.{length-map}
 use Rattle.wire.specs.Spelling.{pieces_spelling}
 use Rattle.wire.specs.Words.{requests_of}
