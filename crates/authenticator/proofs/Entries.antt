@@ -1,4 +1,4 @@
--- Looking through the entries of a proof.
+-- Looking through the entries of an authenticator.
 use Rattle.std.proofs.Common.{◌≡◌, arith, true, zero, Contains, refl, [], ◌∷◌, ◌++◌, take, ◌<◌, ℕ, suc, ◌+◌, Bool, ◌||◌, List, map, length, drop, get_or, ap, add-one}
 use Rattle.std.proofs.Math.Seq.{drop-cons}
 use Rattle.std.proofs.Math.Bool.{or-true}

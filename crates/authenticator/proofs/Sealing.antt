@@ -4,7 +4,7 @@ use Rattle.std.proofs.lemmas.List.{length-map}
 use Rattle.wire.specs.Lists.{Each, each_spelling, leads, ascends}
 use Rattle.wire.specs.Counts.{CountsFit}
 use Rattle.wire.specs.Messages.{BodyData, MacData, macs, MessageData, request, pre_prepare, prepare, commit, checkpoint, view_change, new_view, reply, fetch, meta, page}
-use Rattle.wire.specs.Spelling.{SpellsFrame, IsMac, mac_spelling, mac_before, body_spelling, proof_spelling, piece, frame_limit, frame_spelling, is_signed}
+use Rattle.wire.specs.Spelling.{SpellsFrame, IsMac, mac_spelling, mac_before, body_spelling, authenticator_spelling, piece, frame_limit, frame_spelling, is_signed}
 use Rattle.authenticator.specs.Keys.{key_between}
 use Rattle.authenticator.specs.Sealing.{IsSealable, IsTooLong, entry_for, sealed_for}
 use Rattle.authenticator.proofs.Lengths.{length-hmac_of}
@@ -30,13 +30,13 @@ length-entries seed sender text (p ∷ ps) =
 length-sealed : (seed : List ℕ) (body : BodyData) (ps : List ℕ) → length (frame_spelling (sealed_for seed body ps)) ≡ length (piece (body_spelling body)) + (2 + 34 * length ps)
 length-sealed seed body ps =
     let entries = length-entries seed body.sender (body_spelling body) ps in
-    length-append (piece (body_spelling body)) (proof_spelling (sealed_for seed body ps).proof) ∙ ap (λ n. length (piece (body_spelling body)) + n) (omega (arith, entries))
+    length-append (piece (body_spelling body)) (authenticator_spelling (sealed_for seed body ps).authenticator) ∙ ap (λ n. length (piece (body_spelling body)) + n) (omega (arith, entries))
 
 -- what the bytes of a body and of its entries spell
 pub sealed-spells : (seed : List ℕ) (body : BodyData) (ps : List ℕ) (frame : List ℕ) (entries : List MacData)
     → IsSealable body ps → entries ≡ map (entry_for seed body.sender (body_spelling body)) ps → Each IsMac entries
     → length (piece (body_spelling body)) + (2 + 34 * length ps) ≤ frame_limit body.message
-    → frame ≡ piece (body_spelling body) ++ proof_spelling (macs entries) → SpellsFrame frame (sealed_for seed body ps)
+    → frame ≡ piece (body_spelling body) ++ authenticator_spelling (macs entries) → SpellsFrame frame (sealed_for seed body ps)
 sealed-spells seed body ps frame entries can made formed short is =
     let count = length-map ps (entry_for seed body.sender (body_spelling body)) in
     let whole = length-sealed seed body ps in
@@ -44,11 +44,11 @@ sealed-spells seed body ps frame entries can made formed short is =
       valid = record {
         sender = can.said.sender;
         message = can.said.message;
-        proof = (omega (arith, count, can.some), omega (arith, count, can.few), subst (Each IsMac) made formed, ascends-entries seed body.sender (body_spelling body) ps ∙ can.ascend);
+        authenticator = (omega (arith, count, can.some), omega (arith, count, can.few), subst (Each IsMac) made formed, ascends-entries seed body.sender (body_spelling body) ps ∙ can.ascend);
         proved = sym can.unsigned;
         short = omega (arith, whole, short);
       };
-      spelled = is ∙ ap (λ es. piece (body_spelling body) ++ proof_spelling (macs es)) made;
+      spelled = is ∙ ap (λ es. piece (body_spelling body) ++ authenticator_spelling (macs es)) made;
     }
 
 pub sealed-too_long : (seed : List ℕ) (body : BodyData) (ps : List ℕ)

@@ -2,7 +2,7 @@
 -- Byzantine fault tolerance and proactive recovery, TOCS 2002, on the authentication of messages).
 use Rattle.std.specs.Prelude.{ℕ, Bool, false, ◌&&◌, ◌==◌, List, bytes_eq}
 use Rattle.std.specs.List.{list_any}
-use Rattle.wire.specs.Messages.{BodyData, MacData, ProofData, macs, signature, FrameData}
+use Rattle.wire.specs.Messages.{BodyData, MacData, AuthenticatorData, macs, signature, FrameData}
 use Rattle.wire.specs.Spelling.{body_spelling}
 use Rattle.authenticator.specs.Keys.{mac_between}
 
@@ -18,10 +18,10 @@ abbrev pub has_mac : ℕ → List ℕ → List MacData → Bool
 has_mac party mac entries = list_any (is_mac_for party mac) entries
 
 -- the same, of MACs; a signature has none
-abbrev pub proves : ℕ → List ℕ → ProofData → Bool
+abbrev pub proves : ℕ → List ℕ → AuthenticatorData → Bool
 proves party mac (macs entries) = has_mac party mac entries
 proves party mac (signature s) = false
 
 -- the frame's entry for the party is the MAC of its body under the key from its sender
 abbrev pub is_authentic : List ℕ → ℕ → FrameData → Bool
-is_authentic seed party frame = proves party (mac_of seed party frame.body) frame.proof
+is_authentic seed party frame = proves party (mac_of seed party frame.body) frame.authenticator

@@ -1,6 +1,6 @@
 -- What a frame's header tells of its sender and of what proves it.
 use Rattle.std.specs.Prelude.{ℕ, Bool, ◌||◌, List, Option, Some, None, if◌then◌else◌}
-use Rattle.wire.specs.Spelling.{proof_is_signed}
+use Rattle.wire.specs.Spelling.{authenticator_is_signed}
 use Rattle.wire.specs.Headers.{HeaderData}
 use Rattle.authenticator.specs.declared.sealed.OpenFault.{OpenFault}
 use Rattle.authenticator.specs.declared.sealed.OpenFault.TheVariants as faults
@@ -12,12 +12,12 @@ use Rattle.authenticator.specs.Authentic.{proves}
 abbrev pub takes_part : Membership → ℕ → Bool → Bool
 takes_part m sender is_request = if is_request then is_client m sender else is_replica m sender
 
--- the proof has the right entry for the party, or is a signature
-abbrev pub has_proof : List ℕ → ℕ → HeaderData → Bool
-has_proof seed party h = proof_is_signed h.proof || proves party (mac_between seed h.sender party h.text) h.proof
+-- the authenticator has the right entry for the party, or is a signature
+abbrev pub is_authenticated : List ℕ → ℕ → HeaderData → Bool
+is_authenticated seed party h = authenticator_is_signed h.authenticator || proves party (mac_between seed h.sender party h.text) h.authenticator
 
 -- why the party refuses a frame of this header, where it does
 abbrev pub header_refusal : Membership → ℕ → HeaderData → Option OpenFault
 header_refusal m party h =
-    if takes_part m h.sender h.is_request then (if has_proof m.seed party h then None else Some faults.BadMac)
+    if takes_part m h.sender h.is_request then (if is_authenticated m.seed party h then None else Some faults.BadMac)
     else Some faults.UnknownSender

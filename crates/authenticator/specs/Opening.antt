@@ -1,16 +1,16 @@
 -- What a party takes from a frame that it gets, and why it refuses one. Whether a signature verifies is not asked here.
 use Rattle.std.specs.Prelude.{ℕ, Bool, ◌||◌, IsTrue, ◌≡◌, false, List, Option, Some, None, if◌then◌else◌}
 use Rattle.wire.specs.Messages.{FrameData}
-use Rattle.wire.specs.Spelling.{SpellsFrame, proof_is_signed}
+use Rattle.wire.specs.Spelling.{SpellsFrame, authenticator_is_signed}
 use Rattle.wire.specs.Faults.{IsTooLarge}
 use Rattle.authenticator.specs.declared.sealed.OpenFault.{OpenFault}
 use Rattle.authenticator.specs.declared.sealed.OpenFault.TheVariants as faults
 use Rattle.authenticator.specs.Membership.{Membership, has_sender}
 use Rattle.authenticator.specs.Authentic.{is_authentic}
 
--- The proof of the frame has the right entry for the party, or is a signature.
+-- The authenticator of the frame has the right entry for the party, or is a signature.
 abbrev pub may_open : List ℕ → ℕ → FrameData → Bool
-may_open seed party frame = proof_is_signed frame.proof || is_authentic seed party frame
+may_open seed party frame = authenticator_is_signed frame.authenticator || is_authentic seed party frame
 
 -- Why the party refuses the frame, where it does.
 abbrev pub refusal : Membership → ℕ → FrameData → Option OpenFault

@@ -10,7 +10,7 @@ ghost use Rattle.terms.specs.Parties.{party_number};
 ghost use Rattle.wire.specs.Views.{body_data, frame_data, mac_data};
 ghost use Rattle.authenticator.specs.Authentic.{has_mac, is_mac_for};
 ghost use Rattle.authenticator.specs.Opening.{Opens, Refuses};
-ghost use Rattle.authenticator.specs.Headers.{has_proof, header_refusal};
+ghost use Rattle.authenticator.specs.Headers.{is_authenticated, header_refusal};
 ghost use Rattle.wire.specs.Headers.{header_data};
 
 use crate::mac::same;
@@ -20,8 +20,8 @@ use std::alloc::Global;
 use terms::{NoMemory, Party};
 use thiserror::Error;
 use wire::{
-    Body, Frame, Header, MAX_RECEIVERS, NoFrame, Proof, ProofBytes, ReceiverMac, WireFault,
-    begin_frame, body_bytes, decode_judged, judge, put_proof,
+    Body, Frame, Header, MAX_RECEIVERS, NoFrame, Authenticator, AuthenticatorBytes, ReceiverMac, WireFault,
+    begin_frame, body_bytes, decode_judged, judge, put_authenticator,
 };
 
 /// Why a frame was refused.
@@ -36,7 +36,7 @@ pub enum OpenFault {
     /// The sender is no party, or not of the sort that sends such messages.
     #[error("the sender is unknown")]
     UnknownSender,
-    /// The proof has no entry for the receiver, or a wrong one.
+    /// The authenticator has no entry for the receiver, or a wrong one.
     #[error("the MAC is wrong")]
     BadMac,
     /// There was no room for the frame.
@@ -120,7 +120,7 @@ impl Ring {
             Err(WireFault::Malformed) => unreachable!(),
         };
         let entries = self.entries(body.sender.number(), body_bytes(&frame), receivers);
-        put_proof(&mut frame, &Proof::Macs(entries))?;
+        put_authenticator(&mut frame, &Authenticator::Macs(entries))?;
         Ok(frame)
     }
 
@@ -147,7 +147,7 @@ impl Ring {
         entries
     }
 
-    /// The frame that the bytes spell, where its sender takes part and may send such a message, and its proof has the
+    /// The frame that the bytes spell, where its sender takes part and may send such a message, and its authenticator has the
     /// right entry for `me` or is a signature, which is not tested here. The first refusal that applies is given, in
     /// the order of [`OpenFault`]: bytes that are refused take no memory, and so want of it comes last.
     pub fn open(&mut self, alloc: Global, bytes: &[u8], me: Party) -> Result<Opened, OpenFault>
@@ -173,23 +173,23 @@ impl Ring {
         if !self.takes_part(header.sender.number(), header.is_request) {
             return Some(OpenFault::UnknownSender);
         }
-        if !self.has_proof(header, me.number()) {
+        if !self.is_authenticated(header, me.number()) {
             return Some(OpenFault::BadMac);
         }
         None
     }
 
-    // Whether the proof has the right entry for the party or is a signature.
-    fn has_proof(&mut self, header: &Header<'_>, party: u16) -> bool
-        ensures value { result ≡ has_proof self.old.seed party (header_data header.now) }
+    // Whether the authenticator has the right entry for the party or is a signature.
+    fn is_authenticated(&mut self, header: &Header<'_>, party: u16) -> bool
+        ensures value { result ≡ is_authenticated self.old.seed party (header_data header.now) }
         ensures same { self.new ≡ self.old }
     {
-        match &header.proof {
-            ProofBytes::Macs(entries) => {
+        match &header.authenticator {
+            AuthenticatorBytes::Macs(entries) => {
                 let mac = self.mac(header.sender.number(), party, header.text);
                 has_mac(entries, party, &mac)
             },
-            ProofBytes::Signature(_) => true,
+            AuthenticatorBytes::Signature(_) => true,
         }
     }
 }

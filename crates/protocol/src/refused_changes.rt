@@ -1,6 +1,6 @@
 //! Laws that show what the definitions of view changes, calls, dropped inputs and waiting requests refuse.
 
-ghost use Rattle.protocol.specs.Evidence.RefusedChanges.{ChangesAboveView, ChangesAboveEarlier, ChangesToNumbers, ClaimsPreparedInMarks, ClaimsProposedInMarks, ClaimsAscend, ClaimsDiffer, ChangesAgainLast, NoCallWhileOpen, CallsOperations, DropsWrites, DropsRequestsOfReplicas, DropsOldRequests, DropsPassedRequests, DropsPrePreparesOfBackups, DropsPrePreparesWhileInactive, DropsPrePreparesOutsideMarks, DropsSecondPrePrepares, DropsPreparesOfPrimaries, DropsPreparesWhileInactive, DropsSecondPrepares, DropsCommitsWhileInactive, DropsSecondCommits, DropsLowCheckpoints, DropsCheckpointsOfNoNumber, DropsSecondCheckpoints, DropsPassedCheckpoints, DropsLowChanges, DropsUnboundChanges, DropsPassedChanges, DropsNewViews, DropsFetches, DropsLowDigests, DropsLowPages, DropsOtherRoots, DropsOtherDigests, DropsOtherPages, WaitsOnceGot, WaitsOverFrames, WaitsUntilRun, WaitsNoLonger};
+ghost use Rattle.protocol.specs.Evidence.RefusedChanges.{ChangesAboveView, ChangesAboveEarlier, ChangesToNumbers, BatchEntriesPreparedInMarks, BatchEntriesProposedInMarks, BatchEntriesAscend, BatchEntriesDiffer, ChangesAgainLast, NoCallWhileOpen, CallsOperations, DropsWrites, DropsRequestsOfReplicas, DropsOldRequests, DropsPassedRequests, DropsPrePreparesOfBackups, DropsPrePreparesWhileInactive, DropsPrePreparesOutsideMarks, DropsSecondPrePrepares, DropsPreparesOfPrimaries, DropsPreparesWhileInactive, DropsSecondPrepares, DropsCommitsWhileInactive, DropsSecondCommits, DropsLowCheckpoints, DropsCheckpointsOfNoNumber, DropsSecondCheckpoints, DropsPassedCheckpoints, DropsLowChanges, DropsUnboundChanges, DropsPassedChanges, DropsNewViews, DropsFetches, DropsLowDigests, DropsLowPages, DropsOtherRoots, DropsOtherDigests, DropsOtherPages, WaitsOnceGot, WaitsOverFrames, WaitsUntilRun, WaitsNoLonger};
 
 /// A right replica sends a new view change only for a view above its own, above those of its earlier ones and below
 /// 2^48, with claims of numbers in the marks, the prepared ones ascending, and no digest of a number pre-prepared
@@ -9,10 +9,10 @@ pub fn right_replicas_change_upwards()
     ensures views { ChangesAboveView }
     ensures earlier { ChangesAboveEarlier }
     ensures numbers { ChangesToNumbers }
-    ensures prepared_marks { ClaimsPreparedInMarks }
-    ensures proposed_marks { ClaimsProposedInMarks }
-    ensures ascending { ClaimsAscend }
-    ensures differing { ClaimsDiffer }
+    ensures prepared_marks { BatchEntriesPreparedInMarks }
+    ensures proposed_marks { BatchEntriesProposedInMarks }
+    ensures ascending { BatchEntriesAscend }
+    ensures differing { BatchEntriesDiffer }
     ensures again { ChangesAgainLast }
 {}
 

@@ -12,7 +12,7 @@ use std::test::Fail;
 use terms::{ClientId, Mode, Party, ReplicaId, Timestamp};
 use tuple_codec::{Bad, Op, decode_op};
 use tuple_tree::{Atom, Value};
-use wire::{Body, Frame, Message, Proof, ReceiverMac, Request};
+use wire::{Body, Frame, Message, Authenticator, ReceiverMac, Request};
 
 const REPLICAS: [Party; 4] = [
     Party::Replica(ReplicaId(0)),
@@ -262,9 +262,9 @@ fn is_out_of_one(op: &Op<Global>) -> bool {
 
 // Whether it is the request of client 0, and has the MACs of the bytes.
 fn is_request(bytes: &[u8], frame: &Frame) -> bool {
-    let is_proved = match &frame.proof {
-        Proof::Macs(entries) => has_entries(bytes, entries),
-        Proof::Signature(_) => false,
+    let is_proved = match &frame.authenticator {
+        Authenticator::Macs(entries) => has_entries(bytes, entries),
+        Authenticator::Signature(_) => false,
     };
     is_proved && is_asked(&frame.body.message) && frame.body.sender.number() == 256
 }

@@ -5,8 +5,8 @@ use Rattle.std.specs.Prelude.{option_and_then, not, ◌==◌}
 use Rattle.std.proofs.lemmas.Bool.{true≢false, and_parts, and_from, not-true, eqb-true, eqb-false, eq-eqb, ne_eqb, ltb-true, lt-ltb}
 use Rattle.std.proofs.lemmas.Slice.Eq.{bytes_eq-Decides}
 use Rattle.std.proofs.Math.Bool.{or-true}
-use Rattle.wire.specs.Messages.{BodyData, ProofData, signature, FrameData}
-use Rattle.wire.specs.Spelling.{SpellsFrame, body_spelling, is_signed, proof_is_signed}
+use Rattle.wire.specs.Messages.{BodyData, AuthenticatorData, signature, FrameData}
+use Rattle.wire.specs.Spelling.{SpellsFrame, body_spelling, is_signed, authenticator_is_signed}
 use Rattle.wire.specs.Words.{frame_of}
 use Rattle.wire.proofs.Saying.{reads_frames}
 use Rattle.authenticator.specs.Authentic.{is_authentic}
@@ -35,9 +35,9 @@ verifies-Decides public text s = (from_test, to_test)
     to_test v =
         and_from _ _ (and_from _ _ (eq-eqb _ _ v.formed.whole) (lt-ltb _ _ v.formed.leaf)) ((bytes_eq-Decides (shown_root s text) public).1 v.root)
 
-pub signs-signature : (public text s : List ℕ) (proof : ProofData) → proof ≡ signature s → verifies public text s ≡ signs public text proof
-signs-signature public text s proof is =
-    let P : ProofData → Type 0 = λ p. verifies public text s ≡ signs public text p in subst P (sym is) refl
+pub signs-signature : (public text s : List ℕ) (authenticator : AuthenticatorData) → authenticator ≡ signature s → verifies public text s ≡ signs public text authenticator
+signs-signature public text s authenticator is =
+    let P : AuthenticatorData → Type 0 = λ p. verifies public text s ≡ signs public text p in subst P (sym is) refl
 
 -- ---- the body of a frame that passes a test
 
@@ -98,7 +98,7 @@ opened_is_heard m party bytes frame opens other signed =
   where
     by_macs : is_signed frame.body.message ≡ false → is_authentic m.seed party frame ≡ true
     by_macs plain =
-        let kind : proof_is_signed frame.proof ≡ false = opens.spelled.valid.proved ∙ plain in
+        let kind : authenticator_is_signed frame.authenticator ≡ false = opens.spelled.valid.proved ∙ plain in
         rw kind at opens.proved
 
 pub heard_was_opened : HeardWasOpened
@@ -161,7 +161,7 @@ pub signer_is_heard : SignerIsHeard
 unfolding signed_body
 signer_is_heard m bytes body leaf within known spelled =
     passes (is_signed_by m) (frame_of bytes)
-    (record { body = body; proof = signature (signature_of (signing_seed m.seed body.sender) leaf (body_spelling body)) })
+    (record { body = body; authenticator = signature (signature_of (signing_seed m.seed body.sender) leaf (body_spelling body)) })
     ((reads_frames bytes _).1 spelled)
     (and_from _ _ (sym spelled.valid.proved) (and_from _ _ known
     ((verifies-Decides _ (body_spelling body) _).1 (signature_of-verifies (signing_seed m.seed body.sender) (body_spelling body) leaf within))))

@@ -1,7 +1,7 @@
 -- What a header says of hearing.
 use Rattle.std.proofs.Common.{◌≡◌, ◌≢◌, inl, ℕ, true, false, List, Some, None, ap, sym, refl, ◌∙◌}
-use Rattle.wire.specs.Messages.{BodyData, FrameData, ProofData, macs, signature}
-use Rattle.wire.specs.Spelling.{SpellsFrame, is_signed, proof_is_signed, body_spelling}
+use Rattle.wire.specs.Messages.{BodyData, FrameData, AuthenticatorData, macs, signature}
+use Rattle.wire.specs.Spelling.{SpellsFrame, is_signed, authenticator_is_signed, body_spelling}
 use Rattle.wire.specs.Headers.{HeaderData, header_of, HasHeader}
 use Rattle.wire.proofs.Whole.{one_frame}
 use Rattle.authenticator.specs.declared.sealed.OpenFault.{OpenFault}
@@ -14,18 +14,18 @@ use Rattle.authenticator.proofs.Refusing.{header_refused, header_opened, header_
 use Rattle.signing.specs.Signatures.{public_key}
 use Rattle.signing.specs.Faults.{hear_fault}
 use Rattle.signing.specs.Heard.{signs, has_signature, heard}
-use Rattle.signing.specs.Hearing.{HasNoSignature, IsOwn, Refuses, proof_holds, signature_holds}
+use Rattle.signing.specs.Hearing.{HasNoSignature, IsOwn, Refuses, authenticator_holds, signature_holds}
 use Rattle.signing.proofs.Heard.{opened_is_heard, heard_was_opened}
 
--- of a frame that is to be signed a proof that holds is its sender's signature
-holds : (seed text : List ℕ) (sender : ℕ) (proof : ProofData) → proof_holds seed sender text proof ≡ true → proof_is_signed proof ≡ true
-    → signs (public_key (signing_seed seed sender)) text proof ≡ true
+-- of a frame that is to be signed an authenticator that holds is its sender's signature
+holds : (seed text : List ℕ) (sender : ℕ) (authenticator : AuthenticatorData) → authenticator_holds seed sender text authenticator ≡ true → authenticator_is_signed authenticator ≡ true
+    → signs (public_key (signing_seed seed sender)) text authenticator ≡ true
 holds seed text sender (macs entries) h signed = absurd (let g : ⊥ = cc in g)
 holds seed text sender (signature s) h signed = h
 
 -- only a signature fails
-fails : (seed text : List ℕ) (sender : ℕ) (proof : ProofData) → proof_holds seed sender text proof ≡ false
-    → (proof_is_signed proof ≡ true) × (signs (public_key (signing_seed seed sender)) text proof ≡ false)
+fails : (seed text : List ℕ) (sender : ℕ) (authenticator : AuthenticatorData) → authenticator_holds seed sender text authenticator ≡ false
+    → (authenticator_is_signed authenticator ≡ true) × (signs (public_key (signing_seed seed sender)) text authenticator ≡ false)
 fails seed text sender (macs entries) h = absurd (let g : ⊥ = cc in g)
 fails seed text sender (signature s) h = (refl, h)
 
@@ -64,11 +64,11 @@ module _ (m : Membership) (party : ℕ) (bytes : List ℕ) (header : HeaderData)
     heard_by_header frame s other h =
         let k : signature_holds m.seed (header_of frame) ≡ true = ap (signature_holds m.seed) (sym (header_is frame s)) ∙ h in
         opened_is_heard m party bytes frame (opens frame s) (λ e. other (ap (λ (h : HeaderData). h.sender) (header_is frame s) ∙ e))
-        (λ signed. holds m.seed (body_spelling frame.body) frame.body.sender frame.proof k (s.valid.proved ∙ signed))
+        (λ signed. holds m.seed (body_spelling frame.body) frame.body.sender frame.authenticator k (s.valid.proved ∙ signed))
 
     unsigned : (frame : FrameData) → SpellsFrame bytes frame → signature_holds m.seed header ≡ false → (is_signed frame.body.message ≡ true) × (has_signature m.seed frame ≡ false)
     unsigned frame s h =
-        let f = fails m.seed (body_spelling frame.body) frame.body.sender frame.proof (ap (signature_holds m.seed) (sym (header_is frame s)) ∙ h) in
+        let f = fails m.seed (body_spelling frame.body) frame.body.sender frame.authenticator (ap (signature_holds m.seed) (sym (header_is frame s)) ∙ h) in
         (sym s.valid.proved ∙ f.0, f.1)
 
     pub unsigned_by_header : header.sender ≢ party → signature_holds m.seed header ≡ false → HasNoSignature m party bytes × ¬ IsOwn party bytes

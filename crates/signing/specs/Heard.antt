@@ -3,7 +3,7 @@
 -- views count only with a signature that verifies, since others carry them on. A frame that a party gets in its own name
 -- counts for nothing, whoever made it: its own messages count when they are sent.
 use Rattle.std.specs.Prelude.{ℕ, Bool, false, ◌&&◌, not, ◌==◌, if◌then◌else◌, List, Option, Some, None, option_and_then}
-use Rattle.wire.specs.Messages.{BodyData, ProofData, macs, signature, FrameData}
+use Rattle.wire.specs.Messages.{BodyData, AuthenticatorData, macs, signature, FrameData}
 use Rattle.wire.specs.Spelling.{body_spelling, is_signed}
 use Rattle.wire.specs.Words.{frame_of}
 use Rattle.authenticator.specs.Membership.{Membership, has_sender}
@@ -11,14 +11,14 @@ use Rattle.authenticator.specs.Authentic.{is_authentic}
 use Rattle.authenticator.specs.Keys.{signing_seed}
 use Rattle.signing.specs.Signatures.{public_key, verifies}
 
--- the proof is a signature of the text under the public key
-abbrev pub signs : List ℕ → List ℕ → ProofData → Bool
+-- the authenticator is a signature of the text under the public key
+abbrev pub signs : List ℕ → List ℕ → AuthenticatorData → Bool
 signs public text (macs entries) = false
 signs public text (signature s) = verifies public text s
 
 -- the frame has a signature of its body by its sender
 abbrev pub has_signature : List ℕ → FrameData → Bool
-has_signature seed frame = signs (public_key (signing_seed seed frame.body.sender)) (body_spelling frame.body) frame.proof
+has_signature seed frame = signs (public_key (signing_seed seed frame.body.sender)) (body_spelling frame.body) frame.authenticator
 
 -- the body comes from another party, that sends such messages
 abbrev pub is_from_another : Membership → ℕ → BodyData → Bool

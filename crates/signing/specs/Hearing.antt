@@ -1,6 +1,6 @@
 -- Why a party hears nothing from bytes.
 use Rattle.std.specs.Prelude.{◌≡◌, ◌⊎◌, ℕ, Bool, true, false, IsTrue, List, Some}
-use Rattle.wire.specs.Messages.{BodyData, ProofData, macs, signature, FrameData}
+use Rattle.wire.specs.Messages.{BodyData, AuthenticatorData, macs, signature, FrameData}
 use Rattle.wire.specs.Spelling.{SpellsFrame, is_signed}
 use Rattle.wire.specs.Headers.{HeaderData}
 use Rattle.authenticator.specs.declared.sealed.OpenFault.TheVariants as open_faults
@@ -35,9 +35,9 @@ Refuses m party bytes faults.BadSignature = HasNoSignature m party bytes × ¬ I
 Refuses m party bytes faults.NoMemory = (body : BodyData) × (heard m party bytes ≡ Some body)
 
 -- a signature of the text is its sender's; MACs are judged elsewhere
-abbrev pub proof_holds : List ℕ → ℕ → List ℕ → ProofData → Bool
-proof_holds seed sender text (macs entries) = true
-proof_holds seed sender text (signature s) = verifies (public_key (signing_seed seed sender)) text s
+abbrev pub authenticator_holds : List ℕ → ℕ → List ℕ → AuthenticatorData → Bool
+authenticator_holds seed sender text (macs entries) = true
+authenticator_holds seed sender text (signature s) = verifies (public_key (signing_seed seed sender)) text s
 
 abbrev pub signature_holds : List ℕ → HeaderData → Bool
-signature_holds seed h = proof_holds seed h.sender h.text h.proof
+signature_holds seed h = authenticator_holds seed h.sender h.text h.authenticator

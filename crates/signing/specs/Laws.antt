@@ -56,5 +56,5 @@ SignedWasSigned = (m : Membership) (bytes : List ℕ) (body : BodyData) → sign
 abbrev pub SignerIsHeard : Type 0
 SignerIsHeard =
     (m : Membership) (bytes : List ℕ) (body : BodyData) (leaf : ℕ) → leaf < 64 → IsTrue (has_sender m body)
-    → SpellsFrame bytes (record { body = body; proof = signature (signature_of (signing_seed m.seed body.sender) leaf (body_spelling body)) })
+    → SpellsFrame bytes (record { body = body; authenticator = signature (signature_of (signing_seed m.seed body.sender) leaf (body_spelling body)) })
     → signed_body m bytes ≡ Some body

@@ -14,7 +14,7 @@ use crate::public_keys::PublicKeys;
 use authenticator::Ring;
 use std::alloc::Global;
 use terms::Party;
-use wire::{Header, ProofBytes, decode_judged, judge};
+use wire::{Header, AuthenticatorBytes, decode_judged, judge};
 
 /// What `me` hears from the bytes: a frame of another party, which takes part and may send such a message, with the
 /// right MAC for `me`, or signed by its sender where it is a view change or a new view. The keys and the ring are of one
@@ -56,8 +56,8 @@ pub fn hear<'b>(
 fn signature_holds(publics: &PublicKeys, header: &Header<'_>) -> bool
     ensures { result ≡ signature_holds publics.now (header_data header.now) }
 {
-    match &header.proof {
-        ProofBytes::Macs(_) => true,
-        ProofBytes::Signature(signature) => publics.verify(header.sender, header.text, signature),
+    match &header.authenticator {
+        AuthenticatorBytes::Macs(_) => true,
+        AuthenticatorBytes::Signature(signature) => publics.verify(header.sender, header.text, signature),
     }
 }

@@ -17,7 +17,7 @@ pub enum HearFault {
     /// The sender is no party, not of the sort that sends such messages, or this party itself.
     #[error("the sender is unknown")]
     UnknownSender,
-    /// The proof has no entry for the receiver, or a wrong one.
+    /// The authenticator has no entry for the receiver, or a wrong one.
     #[error("the MAC is wrong")]
     BadMac,
     /// The signature is not the sender's.

@@ -16,7 +16,7 @@ use std::array;
 use std::marker::Model;
 use std::sync::{Arc, OnceLock};
 use terms::{NoMemory, Party};
-use wire::{Frame, Proof, body_bytes};
+use wire::{Frame, Authenticator, body_bytes};
 
 /// The most replicas of a configuration.
 const MAX_REPLICAS: usize = 10;
@@ -113,9 +113,9 @@ impl PublicKeys {
         requires { SpellsFrame bytes.now (frame_data frame.now) }
         ensures signed { result ≡ has_signature self.now (frame_data frame.now) }
     {
-        match &frame.proof {
-            Proof::Macs(_) => false,
-            Proof::Signature(signature) => {
+        match &frame.authenticator {
+            Authenticator::Macs(_) => false,
+            Authenticator::Signature(signature) => {
                 self.verify(frame.body.sender, body_bytes(bytes), signature)
             },
         }

@@ -9,8 +9,8 @@ use Rattle.terms.specs.declared.order.Mode.TheVariants as modes
 use Rattle.terms.specs.declared.state.Level.{Level}
 use Rattle.terms.specs.declared.state.Level.TheVariants as levels
 use Rattle.wire.specs.Lists.{Each, each_spelling}
-use Rattle.wire.specs.Messages.{MarkData, ClaimData, ViewChangeData, NewViewData, MessageData, request, pre_prepare, prepare, commit, checkpoint, view_change, new_view, reply, fetch, meta, page, MacData, ProofData, macs, signature, FrameData}
-use Rattle.wire.specs.Spelling.{mode_byte, level_byte, mark_spelling, claim_spelling, piece, pieces_spelling, marks_spelling, claims_spelling, view_change_spelling, batches_spelling, new_view_spelling, message_type, fields_spelling, body_spelling, mac_spelling, proof_spelling, frame_spelling, IsDigest, IsMark, IsClaim, IsViewChange, IsPlain, IsMac, IsProof, IsFrameOf, is_ordered_request, is_view_change, IsCarried, IsBatch, IsNewView, IsMessage, SpellsFrame}
+use Rattle.wire.specs.Messages.{CheckpointEntryData, BatchEntryData, ViewChangeData, NewViewData, MessageData, request, pre_prepare, prepare, commit, checkpoint, view_change, new_view, reply, fetch, meta, page, MacData, AuthenticatorData, macs, signature, FrameData}
+use Rattle.wire.specs.Spelling.{mode_byte, level_byte, checkpoint_entry_spelling, batch_entry_spelling, piece, pieces_spelling, checkpoint_entries_spelling, batch_entries_spelling, view_change_spelling, batches_spelling, new_view_spelling, message_type, fields_spelling, body_spelling, mac_spelling, authenticator_spelling, frame_spelling, IsDigest, IsCheckpointEntry, IsBatchEntry, IsViewChange, IsPlain, IsMac, IsAuthenticator, IsFrameOf, is_ordered_request, is_view_change, IsCarried, IsBatch, IsNewView, IsMessage, SpellsFrame}
 use Rattle.wire.proofs.PartsBytes.{no_bytes, bytes_more, bytes_2, bytes_4, bytes_8, operation_bytes, outcome_bytes}
 
 -- ---- lists of parts
@@ -48,27 +48,27 @@ type_below (fetch number level index) = omega arith
 type_below (meta number level index digests) = omega arith
 type_below (page number index text) = omega arith
 
-mark_bytes : (m : MarkData) → IsMark m → AreBytes (mark_spelling m)
-mark_bytes m h = numbered m.number m.digest h.1.bytes
+checkpoint_entry_bytes : (m : CheckpointEntryData) → IsCheckpointEntry m → AreBytes (checkpoint_entry_spelling m)
+checkpoint_entry_bytes m h = numbered m.number m.digest h.1.bytes
 
-claim_bytes : (c : ClaimData) → IsClaim c → AreBytes (claim_spelling c)
-claim_bytes c h = numbered c.number (c.digest ++ to_be_bytes w64 c.view) (bytes_append c.digest (to_be_bytes w64 c.view) h.1.0.bytes (bytes_8 c.view))
+batch_entry_bytes : (c : BatchEntryData) → IsBatchEntry c → AreBytes (batch_entry_spelling c)
+batch_entry_bytes c h = numbered c.number (c.digest ++ to_be_bytes w64 c.view) (bytes_append c.digest (to_be_bytes w64 c.view) h.1.0.bytes (bytes_8 c.view))
 
 piece_bytes : (bs : List ℕ) → AreBytes bs → AreBytes (piece bs)
 piece_bytes bs h = bytes_append (to_be_bytes w32 (length bs)) bs (bytes_4 (length bs)) h
 
-marks_bytes : (ms : List MarkData) → length ms ≤ 3 → Each IsMark ms → AreBytes (marks_spelling ms)
-marks_bytes ms few h = bytes_more (length ms) (each_spelling mark_spelling ms) (omega arith) (each_bytes IsMark mark_spelling mark_bytes ms h)
+checkpoint_entries_bytes : (ms : List CheckpointEntryData) → length ms ≤ 3 → Each IsCheckpointEntry ms → AreBytes (checkpoint_entries_spelling ms)
+checkpoint_entries_bytes ms few h = bytes_more (length ms) (each_spelling checkpoint_entry_spelling ms) (omega arith) (each_bytes IsCheckpointEntry checkpoint_entry_spelling checkpoint_entry_bytes ms h)
 
-claims_bytes : (cs : List ClaimData) → Each IsClaim cs → AreBytes (claims_spelling cs)
-claims_bytes cs h = indexed (length cs) (each_spelling claim_spelling cs) (each_bytes IsClaim claim_spelling claim_bytes cs h)
+batch_entries_bytes : (cs : List BatchEntryData) → Each IsBatchEntry cs → AreBytes (batch_entries_spelling cs)
+batch_entries_bytes cs h = indexed (length cs) (each_spelling batch_entry_spelling cs) (each_bytes IsBatchEntry batch_entry_spelling batch_entry_bytes cs h)
 
 view_change_bytes : (c : ViewChangeData) → IsViewChange c → AreBytes (view_change_spelling c)
 view_change_bytes c h =
-    numbered c.view (to_be_bytes w64 c.low ++ (marks_spelling c.checkpoints ++ (claims_spelling c.prepared ++ claims_spelling c.pre_prepared)))
-    (numbered c.low (marks_spelling c.checkpoints ++ (claims_spelling c.prepared ++ claims_spelling c.pre_prepared))
-    (bytes_append (marks_spelling c.checkpoints) (claims_spelling c.prepared ++ claims_spelling c.pre_prepared) (marks_bytes c.checkpoints h.few h.checkpoints)
-    (bytes_append (claims_spelling c.prepared) (claims_spelling c.pre_prepared) (claims_bytes c.prepared h.prepared) (claims_bytes c.pre_prepared h.pre_prepared))))
+    numbered c.view (to_be_bytes w64 c.low ++ (checkpoint_entries_spelling c.checkpoints ++ (batch_entries_spelling c.prepared ++ batch_entries_spelling c.pre_prepared)))
+    (numbered c.low (checkpoint_entries_spelling c.checkpoints ++ (batch_entries_spelling c.prepared ++ batch_entries_spelling c.pre_prepared))
+    (bytes_append (checkpoint_entries_spelling c.checkpoints) (batch_entries_spelling c.prepared ++ batch_entries_spelling c.pre_prepared) (checkpoint_entries_bytes c.checkpoints h.few h.checkpoints)
+    (bytes_append (batch_entries_spelling c.prepared) (batch_entries_spelling c.pre_prepared) (batch_entries_bytes c.prepared h.prepared) (batch_entries_bytes c.pre_prepared h.pre_prepared))))
 
 -- ---- messages that carry no frames
 
@@ -102,17 +102,17 @@ plain_bytes (page number index text) h = numbered number (to_be_bytes w16 index 
 mac_bytes : (m : MacData) → IsMac m → AreBytes (mac_spelling m)
 mac_bytes m h = indexed m.receiver m.mac h.1.bytes
 
-proof_bytes : (p : ProofData) → IsProof p → AreBytes (proof_spelling p)
-proof_bytes (macs ms) h = bytes_more 0 (length ms ∷ each_spelling mac_spelling ms) (omega arith) (bytes_more (length ms) (each_spelling mac_spelling ms) (omega (arith, h.1)) (each_bytes IsMac mac_spelling mac_bytes ms h.2))
-proof_bytes (signature s) h = bytes_more 1 s (omega arith) h.1
+authenticator_bytes : (p : AuthenticatorData) → IsAuthenticator p → AreBytes (authenticator_spelling p)
+authenticator_bytes (macs ms) h = bytes_more 0 (length ms ∷ each_spelling mac_spelling ms) (omega arith) (bytes_more (length ms) (each_spelling mac_spelling ms) (omega (arith, h.1)) (each_bytes IsMac mac_spelling mac_bytes ms h.2))
+authenticator_bytes (signature s) h = bytes_more 1 s (omega arith) h.1
 
 frame_bytes : (IsSaid : MessageData → Type 0) → ((m : MessageData) → IsSaid m → AreBytes (fields_spelling m)) → (f : FrameData) → IsFrameOf IsSaid f → AreBytes (frame_spelling f)
 frame_bytes IsSaid fields f h =
-    bytes_append (piece (body_spelling f.body)) (proof_spelling f.proof)
+    bytes_append (piece (body_spelling f.body)) (authenticator_spelling f.authenticator)
     (piece_bytes (body_spelling f.body)
     (bytes_more (message_type f.body.message) (to_be_bytes w16 f.body.sender ++ fields_spelling f.body.message) (type_below f.body.message)
     (indexed f.body.sender (fields_spelling f.body.message) (fields f.body.message h.message))))
-    (proof_bytes f.proof h.proof)
+    (authenticator_bytes f.authenticator h.authenticator)
 
 -- ---- what is carried
 

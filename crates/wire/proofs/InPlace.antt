@@ -10,17 +10,17 @@ use Rattle.tuple_codec.specs.Reading.{◌>>=◌, Reader, read_as, rest_of, byte_
 use Rattle.tuple_codec.proofs.Readers.{parts}
 use Rattle.tuple_codec.proofs.OperationLaws.{operation_reads, outcome_reads}
 use Rattle.terms.specs.declared.order.Mode.{Mode}
-use Rattle.wire.specs.Messages.{MessageData, request, pre_prepare, prepare, commit, checkpoint, view_change, new_view, reply, fetch, meta, page, BodyData, ProofData}
+use Rattle.wire.specs.Messages.{MessageData, request, pre_prepare, prepare, commit, checkpoint, view_change, new_view, reply, fetch, meta, page, BodyData, AuthenticatorData}
 use Rattle.wire.specs.Spelling.{message_type, body_spelling, is_signed, sender_before}
 use Rattle.wire.specs.Faults.{limit_at}
 use Rattle.wire.specs.Headers.{HeaderData, header_of, asks}
 use Rattle.wire.specs.Judging.{ends}
-use Rattle.wire.specs.Reading.{passing, more_at, follows, anyhow, if_it, all_of, proof_of, message_by, body_of, frame_read, piece_at, is_change, is_over, of_some, over_in, mode_at, client_at, digest_at, digests_at, batches_at, request_at, reply_at, page_at}
+use Rattle.wire.specs.Reading.{passing, more_at, follows, anyhow, if_it, all_of, authenticator_of, message_by, body_of, frame_read, piece_at, is_change, is_over, of_some, over_in, mode_at, client_at, digest_at, digests_at, batches_at, request_at, reply_at, page_at}
 use Rattle.wire.proofs.Parts.{number_8_reads, mode_reads, piece_reads}
 use Rattle.wire.proofs.Carrying.{is_none, some_of, whole_test}
 use Rattle.wire.proofs.Plain.{client_reads}
 use Rattle.wire.proofs.Carriers.{body_of_found}
-use Rattle.wire.proofs.Whole.{no_piece, body_fails, proof_fails, all_there}
+use Rattle.wire.proofs.Whole.{no_piece, body_fails, authenticator_fails, all_there}
 use Rattle.tuple_codec.specs.declared.bad.Bad.TheVariants as bad
 
 -- ---- what ends
@@ -211,12 +211,12 @@ over_done n i xs bs l = let s : n - i ≡ 0 = omega arith in rw s refl
 
 -- ---- the header
 
-pub from_sender : (s u : ℕ) (b : Bool) (t : List ℕ) (p : ProofData) → u ≡ s
-    → ◌≡◌ {A = Option HeaderData} (Some (record { sender = s; is_request = b; text = t; proof = p })) (Some (record { sender = u; is_request = b; text = t; proof = p }))
+pub from_sender : (s u : ℕ) (b : Bool) (t : List ℕ) (p : AuthenticatorData) → u ≡ s
+    → ◌≡◌ {A = Option HeaderData} (Some (record { sender = s; is_request = b; text = t; authenticator = p })) (Some (record { sender = u; is_request = b; text = t; authenticator = p }))
 from_sender s u b t p e = ap (λ n. made n b t p) (sym e)
   where
-    made : ℕ → Bool → List ℕ → ProofData → Option HeaderData
-    made n b t p = Some (record { sender = n; is_request = b; text = t; proof = p })
+    made : ℕ → Bool → List ℕ → AuthenticatorData → Option HeaderData
+    made n b t p = Some (record { sender = n; is_request = b; text = t; authenticator = p })
 
 type_asks : (m : MessageData) → asks m ≡ eqb (message_type m) 0x41
 type_asks (request timestamp mode operation) = refl
@@ -250,9 +250,9 @@ none_of bs e = ap (option_map header_of) e
 pub no_text : (bs : List ℕ) → piece_at bs ≡ None → option_map header_of (frame_read bs) ≡ None
 no_text bs e = none_of bs (no_piece bs e)
 
-module _ (bs text proof : List ℕ) (e : piece_at bs ≡ Some (text, proof)) where
+module _ (bs text authenticator : List ℕ) (e : piece_at bs ≡ Some (text, authenticator)) where
   no_body : body_of text ≡ None → option_map header_of (frame_read bs) ≡ None
-  no_body f = none_of bs (body_fails bs text proof bad.Malformed e f)
+  no_body f = none_of bs (body_fails bs text authenticator bad.Malformed e f)
 
   pub no_type : byte_at text ≡ None → option_map header_of (frame_read bs) ≡ None
   unfolding body_of
@@ -280,7 +280,7 @@ module _ (bs text proof : List ℕ) (e : piece_at bs ≡ Some (text, proof)) whe
         body_there = let there : message_by k fields ≡ Some message = (some_of (message_by k fields) m).1 in rw (f, g, there) refl
 
         text_is : text ≡ body_spelling body
-        text_is = let p = piece_reads.found bs proof text h e in (body_of_found text body p.1.1 body_there).spelled
+        text_is = let p = piece_reads.found bs authenticator text h e in (body_of_found text body p.1.1 body_there).spelled
 
         type_is : k ≡ message_type message
         type_is = (parts (sym f ∙ ap byte_at text_is)).0
@@ -288,13 +288,13 @@ module _ (bs text proof : List ℕ) (e : piece_at bs ≡ Some (text, proof)) whe
         signed_is : (eqb k 0x46 || eqb k 0x47) ≡ is_signed message
         signed_is = ap (λ k. eqb k 0x46 || eqb k 0x47) type_is ∙ sym (type_signed message)
 
-        pub no_proof : proof_of (eqb k 0x46 || eqb k 0x47) proof ≡ None → option_map header_of (frame_read bs) ≡ None
-        no_proof q = none_of bs (proof_fails bs text proof body bad.Malformed e body_there (ap (λ b. proof_of b proof) (sym signed_is) ∙ q))
+        pub no_authenticator : authenticator_of (eqb k 0x46 || eqb k 0x47) authenticator ≡ None → option_map header_of (frame_read bs) ≡ None
+        no_authenticator q = none_of bs (authenticator_fails bs text authenticator body bad.Malformed e body_there (ap (λ b. authenticator_of b authenticator) (sym signed_is) ∙ q))
 
-        pub header_there : (p : ProofData) → length bs ≤ limit_at bs → proof_of (eqb k 0x46 || eqb k 0x47) proof ≡ Some p
-            → option_map header_of (frame_read bs) ≡ Some (record { sender = s; is_request = eqb k 0x41; text = text; proof = p })
+        pub header_there : (p : AuthenticatorData) → length bs ≤ limit_at bs → authenticator_of (eqb k 0x46 || eqb k 0x47) authenticator ≡ Some p
+            → option_map header_of (frame_read bs) ≡ Some (record { sender = s; is_request = eqb k 0x41; text = text; authenticator = p })
         header_there p short q =
-            let made : ℕ → Bool → List ℕ → ProofData → HeaderData = λ s b t p. record { sender = s; is_request = b; text = t; proof = p } in
-            ap (option_map header_of) (all_there bs text proof body p h short e body_there (ap (λ b. proof_of b proof) (sym signed_is) ∙ q))
+            let made : ℕ → Bool → List ℕ → AuthenticatorData → HeaderData = λ s b t p. record { sender = s; is_request = b; text = t; authenticator = p } in
+            ap (option_map header_of) (all_there bs text authenticator body p h short e body_there (ap (λ b. authenticator_of b authenticator) (sym signed_is) ∙ q))
             ∙ ap (λ b. Some (made s b (body_spelling body) p)) (type_asks message ∙ ap (λ k. eqb k 0x41) (sym type_is))
             ∙ ap (λ t. Some (made s (eqb k 0x41) t p)) (sym text_is)

@@ -2,9 +2,9 @@
 use Rattle.std.specs.Prelude.{◌≡◌, ℕ, Bool, true, false, List}
 use Rattle.terms.specs.Parties.{party_number}
 use Rattle.wire.specs.declared.headers.Header.{Header}
-use Rattle.wire.specs.declared.headers.ProofBytes.{ProofBytes}
-use Rattle.wire.specs.declared.headers.ProofBytes.TheVariants as proof_bytes
-use Rattle.wire.specs.Messages.{MessageData, request, ProofData, macs, signature, FrameData}
+use Rattle.wire.specs.declared.headers.AuthenticatorBytes.{AuthenticatorBytes}
+use Rattle.wire.specs.declared.headers.AuthenticatorBytes.TheVariants as authenticator_bytes
+use Rattle.wire.specs.Messages.{MessageData, request, AuthenticatorData, macs, signature, FrameData}
 use Rattle.wire.specs.Views.{mac_data}
 use Rattle.wire.specs.Spelling.{body_spelling, SpellsFrame}
 use Rattle.std.specs.Prelude.{map}
@@ -13,7 +13,7 @@ pub record HeaderData : Type 0 where
   pub sender : ℕ
   pub is_request : Bool
   pub text : List ℕ
-  pub proof : ProofData
+  pub authenticator : AuthenticatorData
 
 -- whether the message is a request, which clients send
 abbrev pub asks : MessageData → Bool
@@ -26,7 +26,7 @@ header_of f =
       sender = f.body.sender;
       is_request = asks f.body.message;
       text = body_spelling f.body;
-      proof = f.proof;
+      authenticator = f.authenticator;
     }
 
 -- The bytes spell a frame.
@@ -39,9 +39,9 @@ HasHeader bytes header = (frame : FrameData) × SpellsFrame bytes frame × (head
 
 -- ---- of the program
 
-abbrev pub proof_bytes_data : ProofBytes → ProofData
-proof_bytes_data (proof_bytes.Macs ms) = macs (map mac_data ms.items)
-proof_bytes_data (proof_bytes.Signature s) = signature s.now
+abbrev pub authenticator_bytes_data : AuthenticatorBytes → AuthenticatorData
+authenticator_bytes_data (authenticator_bytes.Macs ms) = macs (map mac_data ms.items)
+authenticator_bytes_data (authenticator_bytes.Signature s) = signature s.now
 
 abbrev pub header_data : Header → HeaderData
 header_data h =
@@ -49,5 +49,5 @@ header_data h =
       sender = party_number h.sender;
       is_request = h.is_request;
       text = h.text.now;
-      proof = proof_bytes_data h.proof;
+      authenticator = authenticator_bytes_data h.authenticator;
     }

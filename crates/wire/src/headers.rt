@@ -12,12 +12,12 @@ pub struct Header<'b> {
     pub is_request: bool,
     /// The bytes of the body, on which MACs and signatures stand.
     pub text: &'b [u8],
-    pub proof: ProofBytes<'b>,
+    pub authenticator: AuthenticatorBytes<'b>,
 }
 
 /// What proves a body: MACs, or the 16,577 bytes of a signature.
 #[derive(Drop)]
-pub enum ProofBytes<'b> {
+pub enum AuthenticatorBytes<'b> {
     /// For 1 to 10 receivers, ascending by their numbers.
     Macs(ArrayVec<ReceiverMac, MAX_RECEIVERS>),
     Signature(&'b [u8]),

@@ -7,18 +7,18 @@ ghost use Rattle.wire.specs.Messages.{FrameData};
 ghost use Rattle.wire.specs.Spelling as Spelling;
 ghost use Rattle.wire.specs.Spelling.{SpellsFrame};
 ghost use Rattle.wire.specs.Faults.{IsTooLarge, limit_at};
-ghost use Rattle.wire.specs.Headers.{HasHeader, header_data, header_of, proof_bytes_data};
+ghost use Rattle.wire.specs.Headers.{HasHeader, header_data, header_of, authenticator_bytes_data};
 ghost use Rattle.wire.specs.Judging.{Judges, ends};
-ghost use Rattle.wire.specs.Reading.{all_of, message_at, message_by, request_at, reply_at, pre_prepare_at, vote_at, checkpoint_at, fetch_at, meta_at, page_at, digests_at, new_view_at, proof_of, frame_read, too_large};
+ghost use Rattle.wire.specs.Reading.{all_of, message_at, message_by, request_at, reply_at, pre_prepare_at, vote_at, checkpoint_at, fetch_at, meta_at, page_at, digests_at, new_view_at, authenticator_of, frame_read, too_large};
 
 use crate::carried::{read_batch, skip_batches, skip_changes};
 use crate::changes::skip_view_change;
 use crate::fault::NoFrame;
 use crate::fields::{CHILDREN, last_index, read_client, read_place, read_vote};
 use crate::frames::{MAX_FRAME, MAX_VIEW_CHANGE};
-use crate::headers::{Header, ProofBytes};
+use crate::headers::{Header, AuthenticatorBytes};
 use crate::oversize::carries_too_large;
-use crate::proving::{read_mac_proof, read_signature_proof};
+use crate::authenticators::{read_mac_authenticator, read_signature_authenticator};
 use crate::reading::{party, read_byte, read_digest, read_mode, read_piece, read_u16, read_u64};
 use terms::Level;
 use tuple_codec::{is_op, is_result};
@@ -74,13 +74,13 @@ fn header(bytes: &[u8]) -> Option<Header<'_>>
     if !is_message(kind, fields) {
         return None;
     }
-    let proof = read_proof(is_signed(kind), rest)?;
+    let authenticator = read_authenticator(is_signed(kind), rest)?;
     let sender = party(number);
     Some(Header {
         sender,
         is_request: kind == 0x41,
         text,
-        proof,
+        authenticator,
     })
 }
 
@@ -91,13 +91,13 @@ fn is_signed(kind: u8) -> bool
     kind == 0x46 || kind == 0x47
 }
 
-fn read_proof(signed: bool, bytes: &[u8]) -> Option<ProofBytes<'_>>
-    ensures { Yields proof_bytes_data result (proof_of signed bytes.now) }
+fn read_authenticator(signed: bool, bytes: &[u8]) -> Option<AuthenticatorBytes<'_>>
+    ensures { Yields authenticator_bytes_data result (authenticator_of signed bytes.now) }
 {
     if signed {
-        Some(ProofBytes::Signature(read_signature_proof(bytes)?))
+        Some(AuthenticatorBytes::Signature(read_signature_authenticator(bytes)?))
     } else {
-        Some(ProofBytes::Macs(read_mac_proof(bytes)?))
+        Some(AuthenticatorBytes::Macs(read_mac_authenticator(bytes)?))
     }
 }
 

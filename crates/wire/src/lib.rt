@@ -22,7 +22,7 @@ mod judging;
 mod laws;
 mod messages;
 mod oversize;
-mod proving;
+mod authenticators;
 mod put;
 mod put_lists;
 mod reading;
@@ -35,13 +35,13 @@ pub use carried::MAX_REQUESTS;
 pub use decoding::{decode, decode_judged};
 pub use fault::{NoFrame, WireFault};
 pub use frames::{
-    Frame, MAX_FRAME, MAX_RECEIVERS, MAX_VIEW_CHANGE, Proof, ReceiverMac, SIGNATURE_LEN,
+    Frame, MAX_FRAME, MAX_RECEIVERS, MAX_VIEW_CHANGE, Authenticator, ReceiverMac, SIGNATURE_LEN,
 };
-pub use headers::{Header, ProofBytes};
+pub use headers::{Header, AuthenticatorBytes};
 pub use judging::judge;
 pub use laws::{carries_frames, one_spelling, reads_what_is_spelled};
 pub use messages::{
-    Batch, Body, Checkpoint, Claim, Commit, Fetch, Mark, Message, Meta, NewView, Page, PrePrepare,
+    Batch, Body, Checkpoint, BatchEntry, Commit, Fetch, CheckpointEntry, Message, Meta, NewView, Page, PrePrepare,
     Prepare, Reply, Request, ViewChange,
 };
-pub use sealing::{begin_frame, body_bytes, encode_frame, put_proof};
+pub use sealing::{begin_frame, body_bytes, encode_frame, put_authenticator};

@@ -14,7 +14,7 @@ pub fn carries_too_large(bytes: &[u8]) -> bool
     ensures { result ≡ frame_over bytes.now }
 {
     match read_piece(bytes) {
-        Some((text, _proof)) => is_body_over(text),
+        Some((text, _authenticator)) => is_body_over(text),
         None => false,
     }
 }

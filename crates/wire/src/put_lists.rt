@@ -2,11 +2,11 @@
 
 ghost use Rattle.std.specs.Prelude.{◌≡◌, ◌++◌, ◌<◌, ◌^◌, OnOk, length, map};
 ghost use Rattle.wire.specs.Lists.{Each};
-ghost use Rattle.wire.specs.Views.{mark_data, claim_data, batch_text, view_change_data, new_view_data};
-ghost use Rattle.wire.specs.Spelling.{mark_spelling, claim_spelling, marks_spelling, claims_spelling, pieces_spelling, batches_spelling, view_change_spelling, new_view_spelling};
+ghost use Rattle.wire.specs.Views.{checkpoint_entry_data, batch_entry_data, batch_text, view_change_data, new_view_data};
+ghost use Rattle.wire.specs.Spelling.{checkpoint_entry_spelling, batch_entry_spelling, checkpoint_entries_spelling, batch_entries_spelling, pieces_spelling, batches_spelling, view_change_spelling, new_view_spelling};
 ghost use Rattle.wire.specs.Counts.{ViewChangeFits, NewViewFits};
 
-use crate::messages::{Batch, Claim, Mark, NewView, ViewChange};
+use crate::messages::{Batch, BatchEntry, CheckpointEntry, NewView, ViewChange};
 use crate::put::{put_piece, put_u16, put_u64};
 use terms::NoMemory;
 
@@ -17,44 +17,44 @@ pub fn put_view_change(change: &ViewChange, out: &mut Vec<u8>) -> Result<(), NoM
 {
     put_u64(change.view.0, out)?;
     put_u64(change.low.0, out)?;
-    put_marks(&change.checkpoints, out)?;
-    put_claims(&change.prepared, out)?;
-    put_claims(&change.pre_prepared, out)
+    put_checkpoint_entries(&change.checkpoints, out)?;
+    put_batch_entries(&change.prepared, out)?;
+    put_batch_entries(&change.pre_prepared, out)
 }
 
-fn put_mark(mark: &Mark, out: &mut Vec<u8>) -> Result<(), NoMemory>
-    ensures { OnOk result (out.new.items ≡ out.old.items ++ mark_spelling (mark_data mark.now)) }
+fn put_checkpoint_entry(entry: &CheckpointEntry, out: &mut Vec<u8>) -> Result<(), NoMemory>
+    ensures { OnOk result (out.new.items ≡ out.old.items ++ checkpoint_entry_spelling (checkpoint_entry_data entry.now)) }
 {
-    put_u64(mark.number.0, out)?;
-    Ok(out.extend_from_slice(&mark.digest)?)
+    put_u64(entry.number.0, out)?;
+    Ok(out.extend_from_slice(&entry.digest)?)
 }
 
-fn put_claim(claim: &Claim, out: &mut Vec<u8>) -> Result<(), NoMemory>
-    ensures { OnOk result (out.new.items ≡ out.old.items ++ claim_spelling (claim_data claim.now)) }
+fn put_batch_entry(entry: &BatchEntry, out: &mut Vec<u8>) -> Result<(), NoMemory>
+    ensures { OnOk result (out.new.items ≡ out.old.items ++ batch_entry_spelling (batch_entry_data entry.now)) }
 {
-    put_u64(claim.number.0, out)?;
-    out.extend_from_slice(&claim.digest)?;
-    put_u64(claim.view.0, out)
+    put_u64(entry.number.0, out)?;
+    out.extend_from_slice(&entry.digest)?;
+    put_u64(entry.view.0, out)
 }
 
-fn put_marks(marks: &[Mark], out: &mut Vec<u8>) -> Result<(), NoMemory>
-    requires { length (map mark_data marks.now) < 2 ^ 8 }
-    ensures { OnOk result (out.new.items ≡ out.old.items ++ marks_spelling (map mark_data marks.now)) }
+fn put_checkpoint_entries(entries: &[CheckpointEntry], out: &mut Vec<u8>) -> Result<(), NoMemory>
+    requires { length (map checkpoint_entry_data entries.now) < 2 ^ 8 }
+    ensures { OnOk result (out.new.items ≡ out.old.items ++ checkpoint_entries_spelling (map checkpoint_entry_data entries.now)) }
 {
-    out.push(marks.len() as u8)?;
-    for mark in marks {
-        put_mark(mark, out)?;
+    out.push(entries.len() as u8)?;
+    for entry in entries {
+        put_checkpoint_entry(entry, out)?;
     }
     Ok(())
 }
 
-fn put_claims(claims: &[Claim], out: &mut Vec<u8>) -> Result<(), NoMemory>
-    requires { length (map claim_data claims.now) < 2 ^ 16 }
-    ensures { OnOk result (out.new.items ≡ out.old.items ++ claims_spelling (map claim_data claims.now)) }
+fn put_batch_entries(entries: &[BatchEntry], out: &mut Vec<u8>) -> Result<(), NoMemory>
+    requires { length (map batch_entry_data entries.now) < 2 ^ 16 }
+    ensures { OnOk result (out.new.items ≡ out.old.items ++ batch_entries_spelling (map batch_entry_data entries.now)) }
 {
-    put_u16(claims.len() as u16, out)?;
-    for claim in claims {
-        put_claim(claim, out)?;
+    put_u16(entries.len() as u16, out)?;
+    for entry in entries {
+        put_batch_entry(entry, out)?;
     }
     Ok(())
 }

@@ -2,8 +2,8 @@
 
 ghost use Rattle.std.specs.Prelude.{◌≤◌, length};
 ghost use Rattle.wire.specs.Counts.{CountsFit};
-ghost use Rattle.wire.specs.Spelling.{proof_spelling};
-ghost use Rattle.wire.specs.Views.{message_data, proof_data};
+ghost use Rattle.wire.specs.Spelling.{authenticator_spelling};
+ghost use Rattle.wire.specs.Views.{message_data, authenticator_data};
 
 use crate::frames::{
     DIGEST, ONE, REQUEST, TWO, VIEW_CHANGE, carried_request, joined, new_view, new_view_of,
@@ -23,7 +23,7 @@ fn is_body(alloc: Global, body: &Body, text: &[u8]) -> Result<bool, NoMemory>
 
 fn is_frame(alloc: Global, frame: &Frame, bytes: &[u8]) -> Result<bool, WireFault>
     requires body { CountsFit (message_data frame.now.body.message) }
-    requires proof { length (proof_spelling (proof_data frame.now.proof)) ≤ 16578 }
+    requires authenticator { length (authenticator_spelling (authenticator_data frame.now.authenticator)) ≤ 16578 }
 {
     let written = encode_frame(alloc, frame)?;
     Ok(written.as_slice() == bytes)
@@ -212,19 +212,19 @@ fn a_new_view_cut_in_its_body(rt: HostRuntime) -> Result<(), Fail> {
 
 // The body is read again at each cut behind it, so these take longer.
 #[test]
-fn a_new_view_cut_in_its_proof(rt: HostRuntime) -> Result<(), Fail> {
+fn a_new_view_cut_in_its_authenticator(rt: HostRuntime) -> Result<(), Fail> {
     assert!(rt; cut_new_view(rt.alloc(), 17_022, 21_200)?);
     Ok(())
 }
 
 #[test]
-fn a_new_view_cut_in_its_proof_further(rt: HostRuntime) -> Result<(), Fail> {
+fn a_new_view_cut_in_its_authenticator_further(rt: HostRuntime) -> Result<(), Fail> {
     assert!(rt; cut_new_view(rt.alloc(), 21_200, 25_400)?);
     Ok(())
 }
 
 #[test]
-fn a_new_view_cut_in_its_proof_late(rt: HostRuntime) -> Result<(), Fail> {
+fn a_new_view_cut_in_its_authenticator_late(rt: HostRuntime) -> Result<(), Fail> {
     assert!(rt; cut_new_view(rt.alloc(), 25_400, 29_500)?);
     Ok(())
 }

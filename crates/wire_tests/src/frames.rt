@@ -14,7 +14,7 @@ pub const TWO: &[u8] = b"\x00\x00\x00\x00\x00\x00\x00\x02";
 pub const REQUEST: &[u8] =
     b"\x41\x01\x00\x00\x00\x00\x00\x00\x00\x00\x01\x00\x21\x01\x01\x00\x00\x00\x00\x00\x00\x00\x01";
 
-// A view change with a mark, a claim to be prepared and two to be pre-prepared.
+// A view change with a checkpoint entry, a batch entry to be prepared and two to be pre-prepared.
 pub const VIEW_CHANGE: &[&[u8]] = &[
     b"\x46\x00\x02",
     ONE,

@@ -41,7 +41,7 @@ fn a_frame_too_long(rt: HostRuntime) -> Result<(), Fail> {
     Ok(())
 }
 
-fn put_marks(body: &mut Vec<u8>, count: u8) -> Result<(), AllocError> {
+fn put_checkpoint_entries(body: &mut Vec<u8>, count: u8) -> Result<(), AllocError> {
     for number in 0..count {
         body.extend_from_slice(&(number as u64).to_be_bytes())?;
         body.extend_from_slice(DIGEST)?;
@@ -49,7 +49,7 @@ fn put_marks(body: &mut Vec<u8>, count: u8) -> Result<(), AllocError> {
     Ok(())
 }
 
-fn put_claims(body: &mut Vec<u8>, count: u16) -> Result<(), AllocError> {
+fn put_batch_entries(body: &mut Vec<u8>, count: u16) -> Result<(), AllocError> {
     for number in 0..count {
         body.extend_from_slice(&(number as u64).to_be_bytes())?;
         body.extend_from_slice(DIGEST)?;
@@ -58,12 +58,12 @@ fn put_claims(body: &mut Vec<u8>, count: u16) -> Result<(), AllocError> {
     Ok(())
 }
 
-// The signed frame of a view change of 16,606 bytes, 40 for each mark and 48 for each claim.
-fn long_change(alloc: Global, marks: u8, claims: u16) -> Result<Vec<u8>, AllocError> {
-    let mut body = joined(alloc, &[b"\x46\x00\x02", ONE, ONE, &[marks]])?;
-    put_marks(&mut body, marks)?;
-    body.extend_from_slice(&claims.to_be_bytes())?;
-    put_claims(&mut body, claims)?;
+// The signed frame of a view change of 16,606 bytes, 40 for each checkpoint entry and 48 for each batch entry.
+fn long_change(alloc: Global, checkpoints: u8, prepared: u16) -> Result<Vec<u8>, AllocError> {
+    let mut body = joined(alloc, &[b"\x46\x00\x02", ONE, ONE, &[checkpoints]])?;
+    put_checkpoint_entries(&mut body, checkpoints)?;
+    body.extend_from_slice(&prepared.to_be_bytes())?;
+    put_batch_entries(&mut body, prepared)?;
     body.extend_from_slice(&[0, 0])?;
     signed(alloc, &body)
 }

@@ -6,7 +6,7 @@ use Rattle.std.proofs.lemmas.Slice.Eq.{bytes_eq-Decides}
 use Rattle.sha2.specs.Sha256.{sha256}
 use Rattle.quorum.specs.Quorum.{count_below}
 use Rattle.protocol.specs.System.Configuration.{Configuration, IsConfiguration, is_replica, is_client, is_correct_replica, primary, members}
-use Rattle.wire.specs.Messages.{BodyData as Body, MessageData as Message, NewViewData, ClaimData as Claim, request as Request, pre_prepare as PrePrepare}
+use Rattle.wire.specs.Messages.{BodyData as Body, MessageData as Message, NewViewData, BatchEntryData as BatchEntry, request as Request, pre_prepare as PrePrepare}
 use Rattle.wire.specs.Words.{carried, requests_of, said}
 use Rattle.wire.specs.Reading.{requests_at}
 use Rattle.signing.specs.Heard.{heard}
@@ -173,7 +173,7 @@ module _ (c : Configuration) (setting : IsConfiguration c) (trace : List Entry) 
       let s = correct_of c setting (passes_by (vouches i x (sha256 a)) (changes_of c new)) more in
       let t = passes_change (vouches i x (sha256 a)) (changes_of c new) s.0 s.2 in
       let says = change_was_said c trace r s.0 new t.0 right unforged correct s.1 takes' t.1 in
-      let k = some_of_has (λ (claim : Claim). (claim.number == i) && bytes_eq claim.digest (sha256 a) && nat_le x claim.view) t.0.pre_prepared t.2 in
+      let k = some_of_has (λ (batch_entry : BatchEntry). (batch_entry.number == i) && bytes_eq batch_entry.digest (sha256 a) && nat_le x batch_entry.view) t.0.pre_prepared t.2 in
       let parts = and_parts ((k.0.number == i) && bytes_eq k.0.digest (sha256 a)) (nat_le x k.0.view) k.2 in
       let ends = and_parts (k.0.number == i) (bytes_eq k.0.digest (sha256 a)) parts.0 in
       let m = member_of c new s.0 t.0 sel t.1 in

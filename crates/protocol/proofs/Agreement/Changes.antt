@@ -5,7 +5,7 @@ use Rattle.std.specs.Option.{option_map_or}
 use Rattle.std.proofs.lemmas.Bool.{and_parts, and_from, leb-true, lt-ltb, le-leb, cases_lt}
 use Rattle.sha2.specs.Sha256.{sha256}
 use Rattle.protocol.specs.System.Configuration.{Configuration, span, is_number}
-use Rattle.wire.specs.Messages.{BodyData as Body, MessageData as Message, ViewChangeData, ClaimData as Claim, commit as Commit, view_change as ViewChange}
+use Rattle.wire.specs.Messages.{BodyData as Body, MessageData as Message, ViewChangeData, BatchEntryData as BatchEntry, commit as Commit, view_change as ViewChange}
 use Rattle.wire.specs.Words.{said}
 use Rattle.protocol.specs.System.Trace.{Entry, Once, Always, Has}
 use Rattle.protocol.specs.System.Trace.Entry.{Invoke, Got, Tick, Executed, Installed, Sent, Accepted}
@@ -162,21 +162,21 @@ logged_within c me v i batch xs right h =
 
 -- ---- what the view change says, as the whole history has it
 
-pub record Claimed (c : Configuration) (s v i : ℕ) (claim : Claim) (past : List Entry) : Type 0 where
+pub record Claimed (c : Configuration) (s v i : ℕ) (batch_entry : BatchEntry) (past : List Entry) : Type 0 where
   pub batch : List ℕ
-  pub prepared : Prepared c s past claim.view i batch
-  pub digest_is : sha256 batch ≡ claim.digest
-  pub at_least : v ≤ claim.view
+  pub prepared : Prepared c s past batch_entry.view i batch
+  pub digest_is : sha256 batch ≡ batch_entry.digest
+  pub at_least : v ≤ batch_entry.view
 
 pub record Pledged (c : Configuration) (s v i : ℕ) (vc : ViewChangeData) (past : List Entry) : Type 0 where
   pub has : vc.low < i → Has (λ x. x.number ≡ i) vc.prepared
-  pub each : (claim : Claim) → Has (λ x. x ≡ claim) vc.prepared → claim.number ≡ i → Claimed c s v i claim past
+  pub each : (batch_entry : BatchEntry) → Has (λ x. x ≡ batch_entry) vc.prepared → batch_entry.number ≡ i → Claimed c s v i batch_entry past
 
 pledged_stays : (c : Configuration) (s v i : ℕ) (vc : ViewChangeData) (e : Entry) (past : List Entry) → Pledged c s v i vc past → Pledged c s v i vc (e ∷ past)
 pledged_stays c s v i vc e past p = record {
   has = p.has;
-  each = λ claim h is. let k = p.each claim h is in
-      record { batch = k.batch; prepared = prepared_stays c s claim.view i k.batch e past k.prepared; digest_is = k.digest_is; at_least = k.at_least };
+  each = λ batch_entry h is. let k = p.each batch_entry h is in
+      record { batch = k.batch; prepared = prepared_stays c s batch_entry.view i k.batch e past k.prepared; digest_is = k.digest_is; at_least = k.at_least };
 }
 
 pledged_at : (c : Configuration) (s v i : ℕ) (d : List ℕ) (vc : ViewChangeData) (past : List Entry) → Always (RightAt c s) past → Pledges c s v i d vc past → Pledged c s v i vc past
@@ -190,13 +190,13 @@ pledged_at c s v i d vc past right p = record { has = has; each = each }
         p.is_new.prepared.all v i p.batch (and_from (nat_lt (low c s past) i && nat_le i (low c s past + span c)) (is_number i)
         (and_from (nat_lt (low c s past) i) (nat_le i (low c s past + span c)) (lt-ltb (low c s past) i a) (le-leb i (low c s past + span c) within.0)) (lt-ltb i (2 ^ 48) within.1)) p.prepared
 
-    each : (claim : Claim) → Has (λ x. x ≡ claim) vc.prepared → claim.number ≡ i → Claimed c s v i claim past
-    each claim h is =
-        let l = p.is_new.prepared.listed claim h in
-        let prepared : Prepared c s past claim.view i l.0.0 = subst (λ (x : ℕ). Prepared c s past claim.view x l.0.0) is l.0.1 in
-        record { batch = l.0.0; prepared = prepared; digest_is = l.0.2; at_least = go (cases_lt claim.view v) l.2 }
+    each : (batch_entry : BatchEntry) → Has (λ x. x ≡ batch_entry) vc.prepared → batch_entry.number ≡ i → Claimed c s v i batch_entry past
+    each batch_entry h is =
+        let l = p.is_new.prepared.listed batch_entry h in
+        let prepared : Prepared c s past batch_entry.view i l.0.0 = subst (λ (x : ℕ). Prepared c s past batch_entry.view x l.0.0) is l.0.1 in
+        record { batch = l.0.0; prepared = prepared; digest_is = l.0.2; at_least = go (cases_lt batch_entry.view v) l.2 }
       where
-        go : (claim.view < v) ⊎ (v ≤ claim.view) → ((v' : ℕ) (batch : List ℕ) → claim.view < v' → Prepared c s past v' claim.number batch → ⊥) → v ≤ claim.view
+        go : (batch_entry.view < v) ⊎ (v ≤ batch_entry.view) → ((v' : ℕ) (batch : List ℕ) → batch_entry.view < v' → Prepared c s past v' batch_entry.number batch → ⊥) → v ≤ batch_entry.view
         go (inl lt) none = absurd (none v p.batch lt (subst (λ (x : ℕ). Prepared c s past v x p.batch) (sym is) p.prepared))
         go (inr le) none = le
 
@@ -209,15 +209,15 @@ pledged c s v i d vc xs right commits says above =
     (once_always (RightAt c s) (λ past e. Pledges c s v i d vc past) xs right
     (pledge c s v i d vc xs commits (change_is_new c s vc xs right says) above)))
 
-pub record Proposed (c : Configuration) (s : ℕ) (claim : Claim) (past : List Entry) : Type 0 where
+pub record Proposed (c : Configuration) (s : ℕ) (batch_entry : BatchEntry) (past : List Entry) : Type 0 where
   pub batch : List ℕ
-  pub is_logged : logged c s past claim.view claim.number ≡ Some batch
-  pub digest_is : sha256 batch ≡ claim.digest
+  pub is_logged : logged c s past batch_entry.view batch_entry.number ≡ Some batch
+  pub digest_is : sha256 batch ≡ batch_entry.digest
 
 pub proposed : (c : Configuration) (s : ℕ) (vc : ViewChangeData) (xs : List Entry) → Always (RightAt c s) xs → Once (Speaks (changing s vc)) xs
-    → (claim : Claim) → Has (λ x. x ≡ claim) vc.pre_prepared → Proposed c s claim xs
-proposed c s vc xs right says claim h =
-    once_stays (Proposed c s claim) (λ e past p. record { batch = p.batch; is_logged = logged_stays c s claim.view claim.number p.batch e past p.is_logged; digest_is = p.digest_is }) xs
-    (once_weaker (NewChangeAt c s vc) (λ past e. Proposed c s claim past)
-    (λ past e t. let l = t.is_new.proposed.listed claim h in record { batch = l.0.0; is_logged = l.0.1; digest_is = l.0.2 }) xs
+    → (batch_entry : BatchEntry) → Has (λ x. x ≡ batch_entry) vc.pre_prepared → Proposed c s batch_entry xs
+proposed c s vc xs right says batch_entry h =
+    once_stays (Proposed c s batch_entry) (λ e past p. record { batch = p.batch; is_logged = logged_stays c s batch_entry.view batch_entry.number p.batch e past p.is_logged; digest_is = p.digest_is }) xs
+    (once_weaker (NewChangeAt c s vc) (λ past e. Proposed c s batch_entry past)
+    (λ past e t. let l = t.is_new.proposed.listed batch_entry h in record { batch = l.0.0; is_logged = l.0.1; digest_is = l.0.2 }) xs
     (change_is_new c s vc xs right says))

@@ -4,13 +4,13 @@ use Rattle.std.specs.Prelude.{◌==◌, nat_lt, nat_le, ◌^◌}
 use Rattle.std.specs.Option.{option_map_or}
 use Rattle.std.proofs.lemmas.Bool.{and_parts, ltb-true, leb-true}
 use Rattle.protocol.specs.System.Configuration.{Configuration, span, primary, is_number, members}
-use Rattle.wire.specs.Messages.{BodyData as Body, MessageData as Message, NewViewData, ViewChangeData, ClaimData as Claim, new_view as NewView}
+use Rattle.wire.specs.Messages.{BodyData as Body, MessageData as Message, NewViewData, ViewChangeData, BatchEntryData as BatchEntry, new_view as NewView}
 use Rattle.signing.specs.Heard.{heard}
 use Rattle.wire.specs.Words.{said}
 use Rattle.protocol.specs.System.Trace.{Entry}
 use Rattle.protocol.specs.System.Trace.Entry.{Invoke, Got, Tick, Executed, Installed, Sent, Accepted}
 use Rattle.protocol.specs.Replica.Certificates.{view, view_after, target, taken, new_view_in, new_view_from, low, batch_begun, is_later}
-use Rattle.protocol.specs.Replica.Selection.{may_select, largest, largest_of, changes_of, may_all_stand, is_within, is_claim_within, how_many, is_start, is_checkpoint_within, ascending, is_quorum, count_in}
+use Rattle.protocol.specs.Replica.Selection.{may_select, largest, largest_of, changes_of, may_all_stand, is_within, is_batch_entry_within, how_many, is_start, is_checkpoint_within, ascending, is_quorum, count_in}
 use Rattle.protocol.proofs.Words.Options.{and_then_some, give_if_some}
 use Rattle.quorum.specs.Votes.{give_if}
 use Rattle.std.specs.List.{list_all}
@@ -80,12 +80,12 @@ begins_by c sender _ new h = absurd cc
 pub begins : (c : Configuration) (body : Body) (new : NewViewData) → new_view_from c body ≡ Some new → Begins c body new
 begins c body new h = begins_by c body.sender body.message new h
 
-largest_le : (limit : ℕ) (claims : List Claim) → largest limit claims ≤ limit
+largest_le : (limit : ℕ) (batch_entries : List BatchEntry) → largest limit batch_entries ≤ limit
 largest_le limit [] = omega arith
-largest_le limit (claim ∷ claims) = go (nat_le claim.number limit) refl (largest_le limit claims)
+largest_le limit (batch_entry ∷ batch_entries) = go (nat_le batch_entry.number limit) refl (largest_le limit batch_entries)
   where
-    go : (b : Bool) → nat_le claim.number limit ≡ b → largest limit claims ≤ limit → cond b (max claim.number (largest limit claims)) (largest limit claims) ≤ limit
-    go true e h = let l : claim.number ≤ limit = leb-true claim.number limit e in omega arith
+    go : (b : Bool) → nat_le batch_entry.number limit ≡ b → largest limit batch_entries ≤ limit → cond b (max batch_entry.number (largest limit batch_entries)) (largest limit batch_entries) ≤ limit
+    go true e h = let l : batch_entry.number ≤ limit = leb-true batch_entry.number limit e in omega arith
     go false e h = h
 
 pub largest_of-le : (limit : ℕ) (set : List (ℕ × ViewChangeData)) → largest_of limit set ≤ limit
@@ -93,25 +93,25 @@ largest_of-le limit [] = omega arith
 largest_of-le limit (x ∷ xs) = let a = largest_le limit x.1.prepared in let b = largest_of-le limit xs in omega arith
 
 -- what is within its bounds is below 2^48
-largest_small : (c : Configuration) (vc : ViewChangeData) (limit : ℕ) (claims : List Claim) → list_all (is_claim_within c vc) claims ≡ true → largest limit claims < 2 ^ 48
+largest_small : (c : Configuration) (vc : ViewChangeData) (limit : ℕ) (batch_entries : List BatchEntry) → list_all (is_batch_entry_within c vc) batch_entries ≡ true → largest limit batch_entries < 2 ^ 48
 largest_small c vc limit [] h = omega arith
-largest_small c vc limit (claim ∷ claims) h = go (nat_le claim.number limit) (largest_small c vc limit claims p.1)
+largest_small c vc limit (batch_entry ∷ batch_entries) h = go (nat_le batch_entry.number limit) (largest_small c vc limit batch_entries p.1)
   where
-    p : (is_claim_within c vc claim ≡ true) × (list_all (is_claim_within c vc) claims ≡ true)
-    p = and_parts (is_claim_within c vc claim) (list_all (is_claim_within c vc) claims) h
+    p : (is_batch_entry_within c vc batch_entry ≡ true) × (list_all (is_batch_entry_within c vc) batch_entries ≡ true)
+    p = and_parts (is_batch_entry_within c vc batch_entry) (list_all (is_batch_entry_within c vc) batch_entries) h
 
-    small : claim.number < 2 ^ 48
-    small = ltb-true claim.number (2 ^ 48) (and_parts (nat_lt claim.view vc.view && nat_lt vc.low claim.number && nat_le claim.number (vc.low + span c)) (is_number claim.number) p.0).1
+    small : batch_entry.number < 2 ^ 48
+    small = ltb-true batch_entry.number (2 ^ 48) (and_parts (nat_lt batch_entry.view vc.view && nat_lt vc.low batch_entry.number && nat_le batch_entry.number (vc.low + span c)) (is_number batch_entry.number) p.0).1
 
-    go : (b : Bool) → largest limit claims < 2 ^ 48 → cond b (max claim.number (largest limit claims)) (largest limit claims) < 2 ^ 48
+    go : (b : Bool) → largest limit batch_entries < 2 ^ 48 → cond b (max batch_entry.number (largest limit batch_entries)) (largest limit batch_entries) < 2 ^ 48
     go true l = let m = small in omega arith
     go false l = l
 
-within_prepared : (c : Configuration) (vc : ViewChangeData) → is_within c vc ≡ true → list_all (is_claim_within c vc) vc.prepared ≡ true
+within_prepared : (c : Configuration) (vc : ViewChangeData) → is_within c vc ≡ true → list_all (is_batch_entry_within c vc) vc.prepared ≡ true
 within_prepared c vc h =
-    let a = and_parts (is_number vc.view && is_number vc.low && list_all (is_claim_within c vc) vc.prepared && list_all (is_claim_within c vc) vc.pre_prepared) (list_all (is_checkpoint_within c vc) vc.checkpoints) h in
-    let b = and_parts (is_number vc.view && is_number vc.low && list_all (is_claim_within c vc) vc.prepared) (list_all (is_claim_within c vc) vc.pre_prepared) a.0 in
-    (and_parts (is_number vc.view && is_number vc.low) (list_all (is_claim_within c vc) vc.prepared) b.0).1
+    let a = and_parts (is_number vc.view && is_number vc.low && list_all (is_batch_entry_within c vc) vc.prepared && list_all (is_batch_entry_within c vc) vc.pre_prepared) (list_all (is_checkpoint_within c vc) vc.checkpoints) h in
+    let b = and_parts (is_number vc.view && is_number vc.low && list_all (is_batch_entry_within c vc) vc.prepared) (list_all (is_batch_entry_within c vc) vc.pre_prepared) a.0 in
+    (and_parts (is_number vc.view && is_number vc.low) (list_all (is_batch_entry_within c vc) vc.prepared) b.0).1
 
 largest_of-small : (c : Configuration) (view limit : ℕ) (set : List (ℕ × ViewChangeData)) → list_all (λ x. (x.1.view == view) && is_within c x.1) set ≡ true → largest_of limit set < 2 ^ 48
 largest_of-small c view limit [] h = omega arith

@@ -6,7 +6,7 @@ use Rattle.std.proofs.lemmas.Slice.Eq.{bytes_eq-Decides}
 use Rattle.quorum.proofs.Counting.{some_more, count_members}
 use Rattle.quorum.specs.Quorum.{count_below}
 use Rattle.protocol.specs.System.Configuration.{Configuration, IsConfiguration, is_replica, is_faulty_replica, is_correct_replica, is_number}
-use Rattle.wire.specs.Messages.{BodyData as Body, MessageData as Message, MarkData as Mark, NewViewData, ViewChangeData, checkpoint as Checkpoint, page as Page}
+use Rattle.wire.specs.Messages.{BodyData as Body, MessageData as Message, CheckpointEntryData as CheckpointEntry, NewViewData, ViewChangeData, checkpoint as Checkpoint, page as Page}
 use Rattle.protocol.specs.System.Trace.{Entry, party_of, history_of, Once, Always, Unforged, IsUnforgedAt, Has}
 use Rattle.protocol.specs.System.Trace.Entry.{Invoke, Got, Tick, Executed, Installed, Sent, Accepted}
 use Rattle.protocol.specs.Replica.Certificates.{checkpoint_from, checkpoint_in, insert_checkpoint, with_checkpoint, checkpoints_of, says_checkpoint, count_checkpoints, brought}
@@ -56,81 +56,81 @@ executed_append c trace first (x ∷ batches) batch k is a h =
 abbrev pub checking : ℕ → ℕ → List ℕ → Body
 checking s k root = record { sender = s; message = Checkpoint k root }
 
-pub has_take : (mark : Mark) (n : ℕ) (marks : List Mark) → says_checkpoint mark (take n marks) ≡ true → says_checkpoint mark marks ≡ true
-has_take mark zero [] h = h
-has_take mark zero (m ∷ marks) h = absurd cc
-has_take mark (suc n) [] h = h
-has_take mark (suc n) (m ∷ marks) h = go ((m.number == mark.number) && bytes_eq m.digest mark.digest) h (has_take mark n marks)
+pub has_take : (checkpoint : CheckpointEntry) (n : ℕ) (marks : List CheckpointEntry) → says_checkpoint checkpoint (take n marks) ≡ true → says_checkpoint checkpoint marks ≡ true
+has_take checkpoint zero [] h = h
+has_take checkpoint zero (m ∷ marks) h = absurd cc
+has_take checkpoint (suc n) [] h = h
+has_take checkpoint (suc n) (m ∷ marks) h = go ((m.number == checkpoint.number) && bytes_eq m.digest checkpoint.digest) h (has_take checkpoint n marks)
   where
-    go : (b : Bool) → (b || says_checkpoint mark (take n marks)) ≡ true → (says_checkpoint mark (take n marks) ≡ true → says_checkpoint mark marks ≡ true) → (b || says_checkpoint mark marks) ≡ true
+    go : (b : Bool) → (b || says_checkpoint checkpoint (take n marks)) ≡ true → (says_checkpoint checkpoint (take n marks) ≡ true → says_checkpoint checkpoint marks ≡ true) → (b || says_checkpoint checkpoint marks) ≡ true
     go true k below = refl
     go false k below = below k
 
-abbrev pub is_mark : Mark → Mark → Bool
-is_mark mark m = (m.number == mark.number) && bytes_eq m.digest mark.digest
+abbrev pub is_mark : CheckpointEntry → CheckpointEntry → Bool
+is_mark checkpoint m = (m.number == checkpoint.number) && bytes_eq m.digest checkpoint.digest
 
-pub has_insert : (mark new : Mark) (marks : List Mark) → says_checkpoint mark (insert_checkpoint new marks) ≡ true → (is_mark mark new ≡ true) ⊎ (says_checkpoint mark marks ≡ true)
-has_insert mark new [] h = go (is_mark mark new) h
+pub has_insert : (checkpoint new : CheckpointEntry) (marks : List CheckpointEntry) → says_checkpoint checkpoint (insert_checkpoint new marks) ≡ true → (is_mark checkpoint new ≡ true) ⊎ (says_checkpoint checkpoint marks ≡ true)
+has_insert checkpoint new [] h = go (is_mark checkpoint new) h
   where
     go : (b : Bool) → (b || false) ≡ true → (b ≡ true) ⊎ (false ≡ true)
     go true k = inl refl
     go false k = inr k
-has_insert mark new (m ∷ marks) h = go (m.number == new.number) (nat_lt m.number new.number) h (has_insert mark new marks)
+has_insert checkpoint new (m ∷ marks) h = go (m.number == new.number) (nat_lt m.number new.number) h (has_insert checkpoint new marks)
   where
-    keep : (x : Bool) → (x || says_checkpoint mark (insert_checkpoint new marks)) ≡ true → (says_checkpoint mark (insert_checkpoint new marks) ≡ true → (is_mark mark new ≡ true) ⊎ (says_checkpoint mark marks ≡ true))
-        → (is_mark mark new ≡ true) ⊎ ((x || says_checkpoint mark marks) ≡ true)
+    keep : (x : Bool) → (x || says_checkpoint checkpoint (insert_checkpoint new marks)) ≡ true → (says_checkpoint checkpoint (insert_checkpoint new marks) ≡ true → (is_mark checkpoint new ≡ true) ⊎ (says_checkpoint checkpoint marks ≡ true))
+        → (is_mark checkpoint new ≡ true) ⊎ ((x || says_checkpoint checkpoint marks) ≡ true)
     keep true k below = inr refl
     keep false k below = below k
 
-    go : (a b : Bool) → says_checkpoint mark (cond a (m ∷ marks) (cond b (new ∷ m ∷ marks) (m ∷ insert_checkpoint new marks))) ≡ true
-        → (says_checkpoint mark (insert_checkpoint new marks) ≡ true → (is_mark mark new ≡ true) ⊎ (says_checkpoint mark marks ≡ true))
-        → (is_mark mark new ≡ true) ⊎ (says_checkpoint mark (m ∷ marks) ≡ true)
+    go : (a b : Bool) → says_checkpoint checkpoint (cond a (m ∷ marks) (cond b (new ∷ m ∷ marks) (m ∷ insert_checkpoint new marks))) ≡ true
+        → (says_checkpoint checkpoint (insert_checkpoint new marks) ≡ true → (is_mark checkpoint new ≡ true) ⊎ (says_checkpoint checkpoint marks ≡ true))
+        → (is_mark checkpoint new ≡ true) ⊎ (says_checkpoint checkpoint (m ∷ marks) ≡ true)
     go true b k below = inr k
-    go false true k below = or_cases (is_mark mark new) (says_checkpoint mark (m ∷ marks)) k
-    go false false k below = keep (is_mark mark m) k below
+    go false true k below = or_cases (is_mark checkpoint new) (says_checkpoint checkpoint (m ∷ marks)) k
+    go false false k below = keep (is_mark checkpoint m) k below
 
-marks_source : (c : Configuration) (s : ℕ) (mark : Mark) (xs : List Entry) → says_checkpoint mark (checkpoints_of c xs s) ≡ true
-    → Once (λ past e. (m : Mark) × (checkpoint_in c e ≡ Some (s, m)) × (is_mark mark m ≡ true)) xs
+marks_source : (c : Configuration) (s : ℕ) (checkpoint : CheckpointEntry) (xs : List Entry) → says_checkpoint checkpoint (checkpoints_of c xs s) ≡ true
+    → Once (λ past e. (m : CheckpointEntry) × (checkpoint_in c e ≡ Some (s, m)) × (is_mark checkpoint m ≡ true)) xs
 unfolding checkpoints_of
-marks_source c s mark [] h = absurd cc
-marks_source c s mark (e ∷ past) h = go (checkpoint_in c e) refl h (marks_source c s mark past)
+marks_source c s checkpoint [] h = absurd cc
+marks_source c s checkpoint (e ∷ past) h = go (checkpoint_in c e) refl h (marks_source c s checkpoint past)
   where
-    go : (o : Option (ℕ × Mark)) → checkpoint_in c e ≡ o → says_checkpoint mark (with_checkpoint s o (checkpoints_of c past s)) ≡ true
-        → (says_checkpoint mark (checkpoints_of c past s) ≡ true → Once (λ past e. (m : Mark) × (checkpoint_in c e ≡ Some (s, m)) × (is_mark mark m ≡ true)) past)
-        → Once (λ past e. (m : Mark) × (checkpoint_in c e ≡ Some (s, m)) × (is_mark mark m ≡ true)) (e ∷ past)
+    go : (o : Option (ℕ × CheckpointEntry)) → checkpoint_in c e ≡ o → says_checkpoint checkpoint (with_checkpoint s o (checkpoints_of c past s)) ≡ true
+        → (says_checkpoint checkpoint (checkpoints_of c past s) ≡ true → Once (λ past e. (m : CheckpointEntry) × (checkpoint_in c e ≡ Some (s, m)) × (is_mark checkpoint m ≡ true)) past)
+        → Once (λ past e. (m : CheckpointEntry) × (checkpoint_in c e ≡ Some (s, m)) × (is_mark checkpoint m ≡ true)) (e ∷ past)
     go None is k below = inr (below k)
     go (Some x) is k below = from (x.0 == s) refl k
       where
         here : x.0 ≡ s → checkpoint_in c e ≡ Some (s, x.1)
-        here own = is ∙ ap (λ (t : ℕ). Some (let p : ℕ × Mark = (t, x.1) in p)) own
+        here own = is ∙ ap (λ (t : ℕ). Some (let p : ℕ × CheckpointEntry = (t, x.1) in p)) own
 
-        pick : x.0 ≡ s → (is_mark mark x.1 ≡ true) ⊎ (says_checkpoint mark (checkpoints_of c past s) ≡ true) → Once (λ past e. (m : Mark) × (checkpoint_in c e ≡ Some (s, m)) × (is_mark mark m ≡ true)) (e ∷ past)
+        pick : x.0 ≡ s → (is_mark checkpoint x.1 ≡ true) ⊎ (says_checkpoint checkpoint (checkpoints_of c past s) ≡ true) → Once (λ past e. (m : CheckpointEntry) × (checkpoint_in c e ≡ Some (s, m)) × (is_mark checkpoint m ≡ true)) (e ∷ past)
         pick own (inl y) = inl (x.1, here own, y)
         pick own (inr y) = inr (below y)
 
-        from : (b : Bool) → (x.0 == s) ≡ b → says_checkpoint mark (cond b (take 3 (insert_checkpoint x.1 (checkpoints_of c past s))) (checkpoints_of c past s)) ≡ true
-            → Once (λ past e. (m : Mark) × (checkpoint_in c e ≡ Some (s, m)) × (is_mark mark m ≡ true)) (e ∷ past)
-        from true own k = pick (eqb-true x.0 s own) (has_insert mark x.1 (checkpoints_of c past s) (has_take mark 3 (insert_checkpoint x.1 (checkpoints_of c past s)) k))
+        from : (b : Bool) → (x.0 == s) ≡ b → says_checkpoint checkpoint (cond b (take 3 (insert_checkpoint x.1 (checkpoints_of c past s))) (checkpoints_of c past s)) ≡ true
+            → Once (λ past e. (m : CheckpointEntry) × (checkpoint_in c e ≡ Some (s, m)) × (is_mark checkpoint m ≡ true)) (e ∷ past)
+        from true own k = pick (eqb-true x.0 s own) (has_insert checkpoint x.1 (checkpoints_of c past s) (has_take checkpoint 3 (insert_checkpoint x.1 (checkpoints_of c past s)) k))
         from false own k = inr (below k)
 
-checkpoint_body : (s : ℕ) (mark m : Mark) (sender : ℕ) (message : Message) → checkpoint_from (record { sender = sender; message = message }) ≡ Some (s, m) → is_mark mark m ≡ true
-    → ◌≡◌ {A = Body} (record { sender = sender; message = message }) (checking s mark.number mark.digest)
-checkpoint_body s mark m sender (Checkpoint number root) h k =
-    let x : ℕ × Mark = (sender, record { number = number; digest = root }) in
-    let y : ℕ × Mark = (s, m) in
-    let g = give_if_some {A = ℕ × Mark} (is_number number) x y h in
-    let q = and_parts (m.number == mark.number) (bytes_eq m.digest mark.digest) k in
-    let es : sender ≡ s = ap (λ (z : ℕ × Mark). z.0) g.1 in
-    let en : number ≡ mark.number = ap (λ (z : ℕ × Mark). z.1.number) g.1 ∙ eqb-true m.number mark.number q.0 in
-    let ed : root ≡ mark.digest = ap (λ (z : ℕ × Mark). z.1.digest) g.1 ∙ (bytes_eq-Decides m.digest mark.digest).0 q.1 in
+checkpoint_body : (s : ℕ) (checkpoint m : CheckpointEntry) (sender : ℕ) (message : Message) → checkpoint_from (record { sender = sender; message = message }) ≡ Some (s, m) → is_mark checkpoint m ≡ true
+    → ◌≡◌ {A = Body} (record { sender = sender; message = message }) (checking s checkpoint.number checkpoint.digest)
+checkpoint_body s checkpoint m sender (Checkpoint number root) h k =
+    let x : ℕ × CheckpointEntry = (sender, record { number = number; digest = root }) in
+    let y : ℕ × CheckpointEntry = (s, m) in
+    let g = give_if_some {A = ℕ × CheckpointEntry} (is_number number) x y h in
+    let q = and_parts (m.number == checkpoint.number) (bytes_eq m.digest checkpoint.digest) k in
+    let es : sender ≡ s = ap (λ (z : ℕ × CheckpointEntry). z.0) g.1 in
+    let en : number ≡ checkpoint.number = ap (λ (z : ℕ × CheckpointEntry). z.1.number) g.1 ∙ eqb-true m.number checkpoint.number q.0 in
+    let ed : root ≡ checkpoint.digest = ap (λ (z : ℕ × CheckpointEntry). z.1.digest) g.1 ∙ (bytes_eq-Decides m.digest checkpoint.digest).0 q.1 in
     rw (es, en, ed) refl
-checkpoint_body s mark m sender _ h k = absurd cc
+checkpoint_body s checkpoint m sender _ h k = absurd cc
 
-checkpoint_brings : (c : Configuration) (s : ℕ) (mark m : Mark) (past : List Entry) (e : Entry) → checkpoint_in c e ≡ Some (s, m) → is_mark mark m ≡ true
-    → Brings c (checking s mark.number mark.digest) past e
-checkpoint_brings c s mark m past e h k =
-    let r = and_then_some {B = ℕ × Mark} checkpoint_from (brought c e) (s, m) h in
-    r.1 ∙ ap Some (checkpoint_body s mark m r.0.sender r.0.message r.2 k)
+checkpoint_brings : (c : Configuration) (s : ℕ) (checkpoint m : CheckpointEntry) (past : List Entry) (e : Entry) → checkpoint_in c e ≡ Some (s, m) → is_mark checkpoint m ≡ true
+    → Brings c (checking s checkpoint.number checkpoint.digest) past e
+checkpoint_brings c s checkpoint m past e h k =
+    let r = and_then_some {B = ℕ × CheckpointEntry} checkpoint_from (brought c e) (s, m) h in
+    r.1 ∙ ap Some (checkpoint_body s checkpoint m r.0.sender r.0.message r.2 k)
 
 once_from : (Q : List Entry → Entry → Type 0) (xs : List Entry) → Once (λ past e. Once Q (e ∷ past)) xs → Once Q xs
 once_from Q [] h = h
@@ -230,7 +230,7 @@ checkpoint_known c trace ys s k root right good h =
 
 -- what a correct replica's view change lists as a checkpoint is known
 change_known : (c : Configuration) (trace ys : List Entry) (s k : ℕ) (root : List ℕ) (vc : ViewChangeData) → SafeReplica c s (history_of s ys) → GoodAll c trace s (history_of s ys)
-    → Once (Speaks (changing s vc)) (history_of s ys) → Has (λ (mark : Mark). (mark.number ≡ k) × (mark.digest ≡ root)) vc.checkpoints → Known c trace k root
+    → Once (Speaks (changing s vc)) (history_of s ys) → Has (λ (checkpoint : CheckpointEntry). (checkpoint.number ≡ k) × (checkpoint.digest ≡ root)) vc.checkpoints → Known c trace k root
 change_known c trace ys s k root vc right good h has =
     once_stays (λ past. Known c trace k root) (λ e past x. x) (history_of s ys)
     (once_weaker (λ past e. GoodHere c trace s past × NewChangeAt c s vc past e × Always (λ past e. GoodHere c trace s past) past)
@@ -240,9 +240,9 @@ change_known c trace ys s k root vc right good h has =
   where
     step : (past : List Entry) (e : Entry) → GoodHere c trace s past × NewChangeAt c s vc past e × Always (λ past e. GoodHere c trace s past) past → Known c trace k root
     step past e t =
-        let listed : Has (λ (mark : Mark). (mark.number ≡ k) × (mark.digest ≡ root)) (map checkpoint_of (reverse (kept_states vc.low t.1.point.snapshots))) =
-        subst (λ (marks : List Mark). Has (λ (mark : Mark). (mark.number ≡ k) × (mark.digest ≡ root)) marks) t.1.is_new.checkpoints has in
-        let kept = has_map (λ (mark : Mark). (mark.number ≡ k) × (mark.digest ≡ root)) checkpoint_of (reverse (kept_states vc.low t.1.point.snapshots)) listed in
+        let listed : Has (λ (checkpoint : CheckpointEntry). (checkpoint.number ≡ k) × (checkpoint.digest ≡ root)) (map checkpoint_of (reverse (kept_states vc.low t.1.point.snapshots))) =
+        subst (λ (marks : List CheckpointEntry). Has (λ (checkpoint : CheckpointEntry). (checkpoint.number ≡ k) × (checkpoint.digest ≡ root)) marks) t.1.is_new.checkpoints has in
+        let kept = has_map (λ (checkpoint : CheckpointEntry). (checkpoint.number ≡ k) × (checkpoint.digest ≡ root)) checkpoint_of (reverse (kept_states vc.low t.1.point.snapshots)) listed in
         let states : Has (λ (st : State). (st.number ≡ k) × (root_of st ≡ root)) (kept_states vc.low t.1.point.snapshots) =
         has_reverse (λ (st : State). (st.number ≡ k) × (root_of st ≡ root)) (kept_states vc.low t.1.point.snapshots) kept in
         known_snapshot c trace k root t.1.point (t.0 t.1.point t.1.leaves)
@@ -265,7 +265,7 @@ correct_of c setting test enough =
 module _ (c : Configuration) (setting : IsConfiguration c) (trace ys : List Entry) (right : AreReplicasSafe c ys) (unforged : Unforged c ys)
     (good : (s : ℕ) → is_correct_replica c s ≡ true → GoodAll c trace s (history_of s ys)) (r : ℕ) (correct : is_correct_replica c r ≡ true) (k : ℕ) (root : List ℕ) where
   Shows : ℕ → List Entry → Entry → Type 0
-  Shows s past e = (m : Mark) × (checkpoint_in c e ≡ Some (s, m)) × (is_mark (record { number = k; digest = root }) m ≡ true)
+  Shows s past e = (m : CheckpointEntry) × (checkpoint_in c e ≡ Some (s, m)) × (is_mark (record { number = k; digest = root }) m ≡ true)
 
   by_quorum : Once (λ earlier e. is_quorum c (count_checkpoints c (e ∷ earlier) (record { number = k; digest = root })) ≡ true) (history_of r ys) → Known c trace k root
   unfolding Shows
@@ -283,7 +283,7 @@ module _ (c : Configuration) (setting : IsConfiguration c) (trace ys : List Entr
       checkpoint_known c trace ys s.0 k root (right s.0 s.2) (good s.0 s.2) says
     where
       one : (past : List Entry) (e : Entry) → is_quorum c (count_checkpoints c (e ∷ past) (record { number = k; digest = root })) ≡ true
-          → (s : ℕ) × Once (λ past e. (m : Mark) × (checkpoint_in c e ≡ Some (s, m)) × (is_mark (record { number = k; digest = root }) m ≡ true)) (e ∷ past) × (is_correct_replica c s ≡ true)
+          → (s : ℕ) × Once (λ past e. (m : CheckpointEntry) × (checkpoint_in c e ≡ Some (s, m)) × (is_mark (record { number = k; digest = root }) m ≡ true)) (e ∷ past) × (is_correct_replica c s ≡ true)
       one past e q =
           let enough : 2 * c.faults + 1 ≤ count_below (λ s. says_checkpoint (record { number = k; digest = root }) (checkpoints_of c (e ∷ past) s)) (3 * c.faults + 1) =
           leb-true (2 * c.faults + 1) (count_checkpoints c (e ∷ past) (record { number = k; digest = root })) q in
@@ -299,19 +299,19 @@ module _ (c : Configuration) (setting : IsConfiguration c) (trace ys : List Entr
       let n = once_some (λ new past e. Takes c new past e) (λ (new : NewViewData). (new.start ≡ k) × (new.root ≡ root)) (history_of r ys) found in
       let sel = selected c n.0 (once_stays (λ past. may_select c n.0 ≡ true) (λ e past x. x) (history_of r ys)
       (once_weaker (Takes c n.0) (λ past e. may_select c n.0 ≡ true) (λ past e t. selected_in c e n.0 (takes c r past e n.0 t).brought) (history_of r ys) n.1)) in
-      let enough : c.faults + 1 ≤ count_below (passes_by (λ vc. list_any (λ mark. (mark.number == n.0.start) && bytes_eq mark.digest n.0.root) vc.checkpoints) (changes_of c n.0)) (3 * c.faults + 1) =
-      leb-true (c.faults + 1) (count_in c (λ vc. list_any (λ mark. (mark.number == n.0.start) && bytes_eq mark.digest n.0.root) vc.checkpoints) (changes_of c n.0)) sel.lists in
-      let more : c.faults < count_below (passes_by (λ vc. list_any (λ mark. (mark.number == n.0.start) && bytes_eq mark.digest n.0.root) vc.checkpoints) (changes_of c n.0)) (3 * c.faults + 1) = omega arith in
-      let s = correct_of c setting (passes_by (λ vc. list_any (λ mark. (mark.number == n.0.start) && bytes_eq mark.digest n.0.root) vc.checkpoints) (changes_of c n.0)) more in
-      let t = passes_change (λ vc. list_any (λ mark. (mark.number == n.0.start) && bytes_eq mark.digest n.0.root) vc.checkpoints) (changes_of c n.0) s.0 s.2 in
+      let enough : c.faults + 1 ≤ count_below (passes_by (λ vc. list_any (λ checkpoint. (checkpoint.number == n.0.start) && bytes_eq checkpoint.digest n.0.root) vc.checkpoints) (changes_of c n.0)) (3 * c.faults + 1) =
+      leb-true (c.faults + 1) (count_in c (λ vc. list_any (λ checkpoint. (checkpoint.number == n.0.start) && bytes_eq checkpoint.digest n.0.root) vc.checkpoints) (changes_of c n.0)) sel.lists in
+      let more : c.faults < count_below (passes_by (λ vc. list_any (λ checkpoint. (checkpoint.number == n.0.start) && bytes_eq checkpoint.digest n.0.root) vc.checkpoints) (changes_of c n.0)) (3 * c.faults + 1) = omega arith in
+      let s = correct_of c setting (passes_by (λ vc. list_any (λ checkpoint. (checkpoint.number == n.0.start) && bytes_eq checkpoint.digest n.0.root) vc.checkpoints) (changes_of c n.0)) more in
+      let t = passes_change (λ vc. list_any (λ checkpoint. (checkpoint.number == n.0.start) && bytes_eq checkpoint.digest n.0.root) vc.checkpoints) (changes_of c n.0) s.0 s.2 in
       let says = change_was_said c ys r s.0 n.0 t.0 right unforged correct s.1 n.1 t.1 in
-      let m = some_of_has (λ (mark : Mark). (mark.number == n.0.start) && bytes_eq mark.digest n.0.root) t.0.checkpoints t.2 in
+      let m = some_of_has (λ (checkpoint : CheckpointEntry). (checkpoint.number == n.0.start) && bytes_eq checkpoint.digest n.0.root) t.0.checkpoints t.2 in
       let p = and_parts (m.0.number == n.0.start) (bytes_eq m.0.digest n.0.root) m.2 in
       let number : m.0.number ≡ k = eqb-true m.0.number n.0.start p.0 ∙ n.2.0 in
       let digest : m.0.digest ≡ root = (bytes_eq-Decides m.0.digest n.0.root).0 p.1 ∙ n.2.1 in
-      change_known c trace ys s.0 k root t.0 (right s.0 s.1) (good s.0 s.1) says (has_at (λ (mark : Mark). (mark.number ≡ k) × (mark.digest ≡ root)) t.0.checkpoints m.0 m.1 (number, digest))
+      change_known c trace ys s.0 k root t.0 (right s.0 s.1) (good s.0 s.1) says (has_at (λ (checkpoint : CheckpointEntry). (checkpoint.number ≡ k) × (checkpoint.digest ≡ root)) t.0.checkpoints m.0 m.1 (number, digest))
     where
-      has_at : (P : Mark → Type 0) (xs : List Mark) (x : Mark) → Has (λ y. y ≡ x) xs → P x → Has P xs
+      has_at : (P : CheckpointEntry → Type 0) (xs : List CheckpointEntry) (x : CheckpointEntry) → Has (λ y. y ≡ x) xs → P x → Has P xs
       has_at P [] x h p = h
       has_at P (y ∷ ys) x (inl h) p = inl (subst P (sym h) p)
       has_at P (y ∷ ys) x (inr h) p = inr (has_at P ys x h p)

@@ -7,10 +7,10 @@ use Rattle.sha2.specs.Sha256.{sha256}
 use Rattle.quorum.proofs.Counting.{quorums_meet, some_more, count_members}
 use Rattle.quorum.specs.Quorum.{count_below}
 use Rattle.protocol.specs.System.Configuration.{Configuration, IsConfiguration, span, is_replica, is_faulty_replica, is_correct_replica, is_number}
-use Rattle.wire.specs.Messages.{ViewChangeData, NewViewData, ClaimData as Claim}
+use Rattle.wire.specs.Messages.{ViewChangeData, NewViewData, BatchEntryData as BatchEntry}
 use Rattle.protocol.specs.System.Trace.{Entry, history_of, Once, Unforged, Has}
 use Rattle.std.specs.List.{list_all, list_any}
-use Rattle.protocol.specs.Replica.Selection.{is_quorum, is_weak_quorum, count_in, passes_by, change_by, changes_of, may_select, may_stand_at, may_be_null, may_all_stand, is_null, is_within, is_claim_within, is_checkpoint_within, agrees, vouches, how_many}
+use Rattle.protocol.specs.Replica.Selection.{is_quorum, is_weak_quorum, count_in, passes_by, change_by, changes_of, may_select, may_stand_at, may_be_null, may_all_stand, is_null, is_within, is_batch_entry_within, is_checkpoint_within, agrees, vouches, how_many}
 use Rattle.protocol.specs.Replica.Certificates.{batch_begun, commit_of, Prepared, Committed, logged}
 use Rattle.quorum.specs.Votes.{has_digest}
 use Rattle.protocol.specs.Laws.Histories.{AreReplicasSafe, Takes, HasOrStartsAbove, CommittedStays, CommittedAgree}
@@ -30,7 +30,7 @@ use Rattle.protocol.proofs.Words.Elements.{every_has, has_some, some_of_has}
 pub record Selected (c : Configuration) (new : NewViewData) : Type 0 where
   pub each : list_all (λ x. (x.1.view == new.view) && is_within c x.1) (changes_of c new) ≡ true
   pub starts : is_quorum c (count_in c (λ vc. nat_le vc.low new.start) (changes_of c new)) ≡ true
-  pub lists : is_weak_quorum c (count_in c (λ vc. list_any (λ mark. (mark.number == new.start) && bytes_eq mark.digest new.root) vc.checkpoints) (changes_of c new)) ≡ true
+  pub lists : is_weak_quorum c (count_in c (λ vc. list_any (λ checkpoint. (checkpoint.number == new.start) && bytes_eq checkpoint.digest new.root) vc.checkpoints) (changes_of c new)) ≡ true
   pub long : length new.batches ≡ how_many c new
   pub stand : may_all_stand c new.view (changes_of c new) (suc new.start) new.batches ≡ true
 
@@ -40,30 +40,30 @@ selected c new h =
     let p = and_parts (is_quorum c (count_in c (λ vc. nat_le vc.low new.start) (changes_of c new))) _ s.start in
     record { each = s.each; starts = p.0; lists = p.1; long = eqb-true (length new.batches) (how_many c new) s.long; stand = s.stand }
 
-claim_within : (c : Configuration) (vc : ViewChangeData) (claim : Claim) → is_claim_within c vc claim ≡ true → (claim.view < vc.view) × (claim.number ≤ vc.low + span c)
-claim_within c vc claim h =
-    let o = and_parts (nat_lt claim.view vc.view && nat_lt vc.low claim.number && nat_le claim.number (vc.low + span c)) (is_number claim.number) h in
-    let a = and_parts (nat_lt claim.view vc.view && nat_lt vc.low claim.number) (nat_le claim.number (vc.low + span c)) o.0 in
-    let b = and_parts (nat_lt claim.view vc.view) (nat_lt vc.low claim.number) a.0 in
-    (ltb-true claim.view vc.view b.0, leb-true claim.number (vc.low + span c) a.1)
+batch_entry_within : (c : Configuration) (vc : ViewChangeData) (batch_entry : BatchEntry) → is_batch_entry_within c vc batch_entry ≡ true → (batch_entry.view < vc.view) × (batch_entry.number ≤ vc.low + span c)
+batch_entry_within c vc batch_entry h =
+    let o = and_parts (nat_lt batch_entry.view vc.view && nat_lt vc.low batch_entry.number && nat_le batch_entry.number (vc.low + span c)) (is_number batch_entry.number) h in
+    let a = and_parts (nat_lt batch_entry.view vc.view && nat_lt vc.low batch_entry.number) (nat_le batch_entry.number (vc.low + span c)) o.0 in
+    let b = and_parts (nat_lt batch_entry.view vc.view) (nat_lt vc.low batch_entry.number) a.0 in
+    (ltb-true batch_entry.view vc.view b.0, leb-true batch_entry.number (vc.low + span c) a.1)
 
 -- a member of the set: its view, and its claims within bounds
 pub record Member (c : Configuration) (new : NewViewData) (vc : ViewChangeData) : Type 0 where
   pub view_is : vc.view ≡ new.view
-  pub prepared : (claim : Claim) → Has (λ x. x ≡ claim) vc.prepared → (claim.view < vc.view) × (claim.number ≤ vc.low + span c)
-  pub proposed : (claim : Claim) → Has (λ x. x ≡ claim) vc.pre_prepared → (claim.view < vc.view) × (claim.number ≤ vc.low + span c)
+  pub prepared : (batch_entry : BatchEntry) → Has (λ x. x ≡ batch_entry) vc.prepared → (batch_entry.view < vc.view) × (batch_entry.number ≤ vc.low + span c)
+  pub proposed : (batch_entry : BatchEntry) → Has (λ x. x ≡ batch_entry) vc.pre_prepared → (batch_entry.view < vc.view) × (batch_entry.number ≤ vc.low + span c)
 
 pub member_of : (c : Configuration) (new : NewViewData) (s : ℕ) (vc : ViewChangeData) → Selected c new → change_by (changes_of c new) s ≡ Some vc → Member c new vc
 member_of c new s vc sel is =
     let t = every_change (λ vc. (vc.view == new.view) && is_within c vc) (changes_of c new) s vc sel.each is in
     let p = and_parts (vc.view == new.view) (is_within c vc) t in
-    let w = and_parts (is_number vc.view && is_number vc.low && list_all (is_claim_within c vc) vc.prepared && list_all (is_claim_within c vc) vc.pre_prepared) (list_all (is_checkpoint_within c vc) vc.checkpoints) p.1 in
-    let y = and_parts (is_number vc.view && is_number vc.low && list_all (is_claim_within c vc) vc.prepared) (list_all (is_claim_within c vc) vc.pre_prepared) w.0 in
-    let z = and_parts (is_number vc.view && is_number vc.low) (list_all (is_claim_within c vc) vc.prepared) y.0 in
+    let w = and_parts (is_number vc.view && is_number vc.low && list_all (is_batch_entry_within c vc) vc.prepared && list_all (is_batch_entry_within c vc) vc.pre_prepared) (list_all (is_checkpoint_within c vc) vc.checkpoints) p.1 in
+    let y = and_parts (is_number vc.view && is_number vc.low && list_all (is_batch_entry_within c vc) vc.prepared) (list_all (is_batch_entry_within c vc) vc.pre_prepared) w.0 in
+    let z = and_parts (is_number vc.view && is_number vc.low) (list_all (is_batch_entry_within c vc) vc.prepared) y.0 in
     record {
       view_is = eqb-true vc.view new.view p.0;
-      prepared = λ claim h. claim_within c vc claim (every_has (is_claim_within c vc) vc.prepared claim z.1 h);
-      proposed = λ claim h. claim_within c vc claim (every_has (is_claim_within c vc) vc.pre_prepared claim y.1 h);
+      prepared = λ batch_entry h. batch_entry_within c vc batch_entry (every_has (is_batch_entry_within c vc) vc.prepared batch_entry z.1 h);
+      proposed = λ batch_entry h. batch_entry_within c vc batch_entry (every_has (is_batch_entry_within c vc) vc.pre_prepared batch_entry y.1 h);
     }
 
 -- ---- over one committed batch
@@ -108,17 +108,17 @@ module _ (c : Configuration) (setting : IsConfiguration c) (trace : List Entry) 
       }
 
   -- what a committer claims prepared has the digest
-  claim_digest : (w : ℕ) → ((u : ℕ) → v < u → u < w → Settled c trace i (sha256 a) u) → (s : ℕ) → is_correct_replica c s ≡ true → (claim : Claim) → claim.view < w
-      → Claimed c s v i claim (history_of s trace) → claim.digest ≡ sha256 a
-  claim_digest w below s who claim lt k = go (cases_order v claim.view)
+  batch_entry_digest : (w : ℕ) → ((u : ℕ) → v < u → u < w → Settled c trace i (sha256 a) u) → (s : ℕ) → is_correct_replica c s ≡ true → (batch_entry : BatchEntry) → batch_entry.view < w
+      → Claimed c s v i batch_entry (history_of s trace) → batch_entry.digest ≡ sha256 a
+  batch_entry_digest w below s who batch_entry lt k = go (cases_order v batch_entry.view)
     where
-      go : (v ≡ claim.view) ⊎ ((v < claim.view) ⊎ (claim.view < v)) → claim.digest ≡ sha256 a
+      go : (v ≡ batch_entry.view) ⊎ ((v < batch_entry.view) ⊎ (batch_entry.view < v)) → batch_entry.digest ≡ sha256 a
       go (inl e) =
           let there : Prepared c s (history_of s trace) v i k.batch = subst (λ (x : ℕ). Prepared c s (history_of s trace) x i k.batch) (sym e) k.prepared in
           sym k.digest_is ∙ prepared_agree c setting trace right unforged s p v i k.batch a who correct there committed.prepared
       go (inr (inl l)) =
-          let some : 0 < claim.view = omega arith in
-          sym k.digest_is ∙ settled_logged c trace i (sha256 a) claim.view s right (below claim.view l lt) some who k.batch k.prepared.logged
+          let some : 0 < batch_entry.view = omega arith in
+          sym k.digest_is ∙ settled_logged c trace i (sha256 a) batch_entry.view s right (below batch_entry.view l lt) some who k.batch k.prepared.logged
       go (inr (inr l)) = let at_least = k.at_least in absurd (omega arith)
 
   -- in a later view than v, what a correct replica logged has the digest
@@ -138,7 +138,7 @@ module _ (c : Configuration) (setting : IsConfiguration c) (trace : List Entry) 
       let who : is_correct_replica c s.0 ≡ true = is_correct s.0 s.1 s.2 in
       let t = passes_change (vouches i x (sha256 b)) (changes_of c new) s.0 s.3 in
       let says = change_was_said c trace q s.0 new t.0 right unforged correct' who takes' t.1 in
-      let k = some_of_has (λ (claim : Claim). (claim.number == i) && bytes_eq claim.digest (sha256 b) && nat_le x claim.view) t.0.pre_prepared t.2 in
+      let k = some_of_has (λ (batch_entry : BatchEntry). (batch_entry.number == i) && bytes_eq batch_entry.digest (sha256 b) && nat_le x batch_entry.view) t.0.pre_prepared t.2 in
       let parts = and_parts ((k.0.number == i) && bytes_eq k.0.digest (sha256 b)) (nat_le x k.0.view) k.2 in
       let ends = and_parts (k.0.number == i) (bytes_eq k.0.digest (sha256 b)) parts.0 in
       let m = member_of c new s.0 t.0 sel t.1 in
@@ -165,13 +165,13 @@ module _ (c : Configuration) (setting : IsConfiguration c) (trace : List Entry) 
       rules = and_parts (is_quorum c (count_in c (λ vc. nat_lt vc.low i && agrees i x (sha256 b) vc) (changes_of c new))) (is_weak_quorum c (count_in c (vouches i x (sha256 b)) (changes_of c new))) h
 
       -- a committer, and its claim for the number
-      w : (w : Witness new (λ vc. nat_lt vc.low i && agrees i x (sha256 b) vc)) × ((claim : Claim) × Has (λ y. y ≡ claim) w.vc.prepared × (claim.number ≡ i))
+      w : (w : Witness new (λ vc. nat_lt vc.low i && agrees i x (sha256 b) vc)) × ((batch_entry : BatchEntry) × Has (λ y. y ≡ batch_entry) w.vc.prepared × (batch_entry.number ≡ i))
       w = let m = witness q new (λ vc. nat_lt vc.low i && agrees i x (sha256 b) vc) correct' takes' sel above rules.0 in
           let l = (and_parts (nat_lt m.vc.low i) (agrees i x (sha256 b) m.vc) m.passes).0 in
-          (m, has_some (λ claim. claim.number ≡ i) m.vc.prepared (m.pledged.has (ltb-true m.vc.low i l)))
+          (m, has_some (λ batch_entry. batch_entry.number ≡ i) m.vc.prepared (m.pledged.has (ltb-true m.vc.low i l)))
 
       tests : (not (w.1.0.number == i) || nat_lt w.1.0.view x || ((w.1.0.view == x) && bytes_eq w.1.0.digest (sha256 b))) ≡ true
-      tests = every_has (λ (claim : Claim). not (claim.number == i) || nat_lt claim.view x || ((claim.view == x) && bytes_eq claim.digest (sha256 b))) w.0.vc.prepared w.1.0
+      tests = every_has (λ (batch_entry : BatchEntry). not (batch_entry.number == i) || nat_lt batch_entry.view x || ((batch_entry.view == x) && bytes_eq batch_entry.digest (sha256 b))) w.0.vc.prepared w.1.0
           (and_parts (nat_lt w.0.vc.low i) (agrees i x (sha256 b) w.0.vc) w.0.passes).1 w.1.1
 
       bound : w.1.0.view < new.view
@@ -192,16 +192,16 @@ module _ (c : Configuration) (setting : IsConfiguration c) (trace : List Entry) 
       go (inl k) = earlier (or_cases (not (w.1.0.number == i)) (nat_lt w.1.0.view x) k)
       go (inr k) =
           let e : w.1.0.digest ≡ sha256 b = (bytes_eq-Decides w.1.0.digest (sha256 b)).0 (and_parts (w.1.0.view == x) (bytes_eq w.1.0.digest (sha256 b)) k).1 in
-          sym e ∙ claim_digest new.view below w.0.who w.0.is_correct w.1.0 bound claimed
+          sym e ∙ batch_entry_digest new.view below w.0.who w.0.is_correct w.1.0 bound claimed
 
   -- no null batch may stand at the number
   not_null : (q : ℕ) (new : NewViewData) → is_correct_replica c q ≡ true → Once (Takes c new) (history_of q trace) → Selected c new → v < new.view
       → may_be_null c (changes_of c new) i ≡ true → ⊥
   not_null q new correct' takes' sel above h =
-      let m = witness q new (λ vc. nat_lt vc.low i && list_all (λ (claim : Claim). not (claim.number == i)) vc.prepared) correct' takes' sel above h in
-      let parts = and_parts (nat_lt m.vc.low i) (list_all (λ (claim : Claim). not (claim.number == i)) m.vc.prepared) m.passes in
-      let k = has_some (λ claim. claim.number ≡ i) m.vc.prepared (m.pledged.has (ltb-true m.vc.low i parts.0)) in
-      let n = every_has (λ (claim : Claim). not (claim.number == i)) m.vc.prepared k.0 parts.1 k.1 in
+      let m = witness q new (λ vc. nat_lt vc.low i && list_all (λ (batch_entry : BatchEntry). not (batch_entry.number == i)) vc.prepared) correct' takes' sel above h in
+      let parts = and_parts (nat_lt m.vc.low i) (list_all (λ (batch_entry : BatchEntry). not (batch_entry.number == i)) m.vc.prepared) m.passes in
+      let k = has_some (λ batch_entry. batch_entry.number ≡ i) m.vc.prepared (m.pledged.has (ltb-true m.vc.low i parts.0)) in
+      let n = every_has (λ (batch_entry : BatchEntry). not (batch_entry.number == i)) m.vc.prepared k.0 parts.1 k.1 in
       let e = eq-eqb k.0.number i k.2 in
       let f = not_from_true (k.0.number == i) e in
       let bad : false ≡ true = sym f ∙ n in absurd cc
@@ -227,7 +227,7 @@ module _ (c : Configuration) (setting : IsConfiguration c) (trace : List Entry) 
           let low_is : m.vc.low ≤ new.start = leb-true m.vc.low new.start m.passes in
           let low_lt : m.vc.low < i = omega arith in
           let has = m.pledged.has low_lt in
-          let k = has_some (λ claim. claim.number ≡ i) m.vc.prepared has in
+          let k = has_some (λ batch_entry. batch_entry.number ≡ i) m.vc.prepared has in
           let within = ((member_of c new m.who m.vc sel m.change).prepared k.0 k.1).1 in
           let number = k.2 in
           let most : i ≤ new.start + span c = omega arith in

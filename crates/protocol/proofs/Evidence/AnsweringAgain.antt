@@ -6,7 +6,7 @@ use Rattle.tuple_codec.specs.Operations.{Operation}
 use Rattle.reply_cache.specs.Replies.{Kept, no_replies}
 use Rattle.terms.specs.declared.order.Mode.TheVariants as modes
 use Rattle.terms.specs.declared.state.Level.TheVariants as levels
-use Rattle.wire.specs.Messages.{BodyData as Body, MarkData as Mark, request as Request, reply as Reply, fetch as Fetch}
+use Rattle.wire.specs.Messages.{BodyData as Body, CheckpointEntryData as CheckpointEntry, request as Request, reply as Reply, fetch as Fetch}
 use Rattle.protocol.specs.System.Configuration.{Configuration, members}
 use Rattle.signing.specs.Heard.{heard}
 use Rattle.protocol.specs.System.Frames.{reads_only}
@@ -114,9 +114,9 @@ module _ (o : Part) where
         subst (λ (m : ℕ). Gives me (reply_of m kept) outputs) (sym first)
         (subst (λ (x : Kept). Gives me (reply_of 0 x) outputs) same (inl (o.are_frames.replies me o.within).says))
 
-    no_quorum : (mark : Mark) → is_quorum c (count_checkpoints c now mark) ≡ true → ⊥
-    no_quorum mark h =
-        let same : count_checkpoints c now mark ≡ 0 = count_same (λ s. says_checkpoint mark (checkpoints_of c now s)) (λ s. false) (λ s. ap (says_checkpoint mark) (at_now.checkpoints_are s)) 4 in
+    no_quorum : (checkpoint : CheckpointEntry) → is_quorum c (count_checkpoints c now checkpoint) ≡ true → ⊥
+    no_quorum checkpoint h =
+        let same : count_checkpoints c now checkpoint ≡ 0 = count_same (λ s. says_checkpoint checkpoint (checkpoints_of c now s)) (λ s. false) (λ s. ap (says_checkpoint checkpoint) (at_now.checkpoints_are s)) 4 in
         let bad : is_quorum c 0 ≡ true = subst (λ (n : ℕ). is_quorum c n ≡ true) same h in
         absurd (let worse : false ≡ true = bad in cc)
 

@@ -6,7 +6,7 @@ use Rattle.protocol.specs.System.Configuration.{Configuration, members}
 use Rattle.terms.specs.declared.order.Mode.TheVariants as modes
 use Rattle.terms.specs.declared.state.Level.{Level}
 use Rattle.terms.specs.declared.state.Level.TheVariants as levels
-use Rattle.wire.specs.Messages.{BodyData as Body, FrameData as Frame, ProofData as Proof, MarkData as Mark, macs, signature, request as Request, pre_prepare as PrePrepare, fetch as Fetch, meta as Meta}
+use Rattle.wire.specs.Messages.{BodyData as Body, FrameData as Frame, AuthenticatorData as Authenticator, CheckpointEntryData as CheckpointEntry, macs, signature, request as Request, pre_prepare as PrePrepare, fetch as Fetch, meta as Meta}
 use Rattle.signing.specs.Heard.{heard}
 use Rattle.wire.specs.Words.{receivers_of, frame_of}
 use Rattle.protocol.specs.System.Trace.{Entry, Has}
@@ -51,9 +51,9 @@ module _ (clients : ℕ) (seed : List ℕ) (me other : ℕ) (fetch digests : Lis
     heard_is : (body : Body) → heard (members c) me fetch ≡ Some body → asked ≡ body
     heard_is body h = some_injective asked body (sym hears ∙ h)
 
-    no_quorum : (mark : Mark) → is_quorum c (count_checkpoints c now mark) ≡ true → ⊥
-    no_quorum mark h =
-        let same : count_checkpoints c now mark ≡ 0 = count_same (λ s. says_checkpoint mark (checkpoints_of c now s)) (λ s. false) (λ s. ap (says_checkpoint mark) (stage.checkpoints_are s)) 4 in
+    no_quorum : (checkpoint : CheckpointEntry) → is_quorum c (count_checkpoints c now checkpoint) ≡ true → ⊥
+    no_quorum checkpoint h =
+        let same : count_checkpoints c now checkpoint ≡ 0 = count_same (λ s. says_checkpoint checkpoint (checkpoints_of c now s)) (λ s. false) (λ s. ap (says_checkpoint checkpoint) (stage.checkpoints_are s)) 4 in
         let bad : is_quorum c 0 ≡ true = subst (λ (n : ℕ). is_quorum c n ≡ true) same h in
         absurd (let worse : false ≡ true = bad in cc)
 
@@ -92,7 +92,7 @@ module _ (clients : ℕ) (seed : List ℕ) (me other : ℕ) (fetch digests : Lis
         (subst (λ (x : ℕ). GivesTo me other (Meta x level index (digests_at opening level index)) (Sent me digests ∷ [])) (sym is.1)
         (subst (λ (x : Level). GivesTo me other (Meta 0 x index (digests_at opening x index)) (Sent me digests ∷ [])) (sym is.2)
         (subst (λ (x : ℕ). GivesTo me other (Meta 0 levels.Root x (digests_at opening levels.Root x)) (Sent me digests ∷ [])) (sym is.3)
-        (inl (a.says, ap (λ (o : Option Frame). option_map_or (λ (f : Frame). receivers_of f.proof) o []) spells ∙ (a.is_sealed frame spells).1))))))
+        (inl (a.says, ap (λ (o : Option Frame). option_map_or (λ (f : Frame). receivers_of f.authenticator) o []) spells ∙ (a.is_sealed frame spells).1))))))
 
     root_page : levels.Page ≡ levels.Root → ⊥
     root_page h = let bad : false ≡ true = ap level_is h in absurd cc
@@ -119,7 +119,7 @@ module _ (clients : ℕ) (seed : List ℕ) (me other : ℕ) (fetch digests : Lis
         ap (λ (calls : List Call). let p : Point = record first_point { waiting = calls } in p)
         (sym (ap (λ (o : Option Body). option_map_or (with_waiting opening []) (option_and_then (call_in c) o) []) hears))
 
-    addressed : (proof : Proof) → receivers_of proof ≡ other ∷ [] → IsAddressed c me (Got me fetch ∷ []) answer.message proof
+    addressed : (authenticator : Authenticator) → receivers_of authenticator ≡ other ∷ [] → IsAddressed c me (Got me fetch ∷ []) answer.message authenticator
     addressed (macs entries) h = (other, h, inl hears)
     addressed (signature s) h = tt
 
@@ -130,7 +130,7 @@ module _ (clients : ℕ) (seed : List ℕ) (me other : ℕ) (fetch digests : Lis
       own = refl;
       seen = tt;
       say = (kept_at (Got me fetch ∷ []) (still c me (Got me fetch ∷ []) behind.plain).low_is (λ st. digests_at opening levels.Root 0 ≡ digests_at st levels.Root 0) refl, (other, inl hears));
-      is_sealed = λ f is. let s = a.is_sealed f is in (s.0, addressed f.proof s.1);
+      is_sealed = λ f is. let s = a.is_sealed f is in (s.0, addressed f.authenticator s.1);
     }
 
     gets : IsStep c me [] first_point (Got me fetch) first_point

@@ -7,7 +7,7 @@ use Rattle.space.specs.Applying.{outcome, is_read_only}
 use Rattle.protocol.specs.System.Configuration.{Configuration, members}
 use Rattle.terms.specs.declared.order.Mode.TheVariants as modes
 use Rattle.terms.specs.declared.state.Level.TheVariants as levels
-use Rattle.wire.specs.Messages.{BodyData as Body, MessageData as Message, ProofData as Proof, MarkData as Mark, macs, signature, request as Request, pre_prepare as PrePrepare, reply as Reply, fetch as Fetch}
+use Rattle.wire.specs.Messages.{BodyData as Body, MessageData as Message, AuthenticatorData as Authenticator, CheckpointEntryData as CheckpointEntry, macs, signature, request as Request, pre_prepare as PrePrepare, reply as Reply, fetch as Fetch}
 use Rattle.signing.specs.Heard.{heard}
 use Rattle.wire.specs.Words.{receivers_of}
 use Rattle.protocol.specs.System.Frames.{reads_only}
@@ -48,9 +48,9 @@ module _ (clients : ℕ) (seed : List ℕ) (me client timestamp : ℕ) (op : Ope
     heard_is : (other : Body) → heard (members c) me read ≡ Some other → asked ≡ other
     heard_is other h = some_injective asked other (sym hears ∙ h)
 
-    no_quorum : (mark : Mark) → is_quorum c (count_checkpoints c now mark) ≡ true → ⊥
-    no_quorum mark h =
-        let same : count_checkpoints c now mark ≡ 0 = count_same (λ s. says_checkpoint mark (checkpoints_of c now s)) (λ s. false) (λ s. ap (says_checkpoint mark) (stage.checkpoints_are s)) 4 in
+    no_quorum : (checkpoint : CheckpointEntry) → is_quorum c (count_checkpoints c now checkpoint) ≡ true → ⊥
+    no_quorum checkpoint h =
+        let same : count_checkpoints c now checkpoint ≡ 0 = count_same (λ s. says_checkpoint checkpoint (checkpoints_of c now s)) (λ s. false) (λ s. ap (says_checkpoint checkpoint) (stage.checkpoints_are s)) 4 in
         let bad : is_quorum c 0 ≡ true = subst (λ (n : ℕ). is_quorum c n ≡ true) same h in
         absurd (let worse : false ≡ true = bad in cc)
 
@@ -94,7 +94,7 @@ module _ (clients : ℕ) (seed : List ℕ) (me client timestamp : ℕ) (op : Ope
         ap (λ (calls : List Call). let p : Point = record first_point { waiting = calls } in p)
         (sym (ap (λ (o : Option Body). option_map_or (with_waiting opening []) (option_and_then (call_in c) o) []) hears))
 
-    addressed : (proof : Proof) → receivers_of proof ≡ client ∷ [] → IsAddressed c me (Got me read ∷ []) answer.message proof
+    addressed : (authenticator : Authenticator) → receivers_of authenticator ≡ client ∷ [] → IsAddressed c me (Got me read ∷ []) answer.message authenticator
     addressed (macs entries) h = h
     addressed (signature s) h = tt
 
@@ -105,7 +105,7 @@ module _ (clients : ℕ) (seed : List ℕ) (me client timestamp : ℕ) (op : Ope
       own = refl;
       seen = tt;
       say = record { op = op; is_read = is; heard = inl hears; answer_is = refl; number_is = refl };
-      is_sealed = λ frame spells. let s = a.is_sealed frame spells in (s.0, addressed frame.proof s.1);
+      is_sealed = λ frame spells. let s = a.is_sealed frame spells in (s.0, addressed frame.authenticator s.1);
     }
 
     gets : IsStep c me [] first_point (Got me read) first_point

@@ -4,7 +4,7 @@ use Rattle.std.specs.Prelude.{All}
 use Rattle.space.specs.Applying.{is_read_only}
 use Rattle.terms.specs.declared.order.Mode.{Mode}
 use Rattle.terms.specs.declared.order.Mode.TheVariants as modes
-use Rattle.wire.specs.Messages.{FrameData as Frame, MessageData as Message, ProofData as Proof, MacData, macs, signature, request as Request}
+use Rattle.wire.specs.Messages.{FrameData as Frame, MessageData as Message, AuthenticatorData as Authenticator, MacData, macs, signature, request as Request}
 use Rattle.authenticator.specs.Authentic.{mac_of}
 use Rattle.signing.specs.Heard.{has_signature}
 use Rattle.tuple_codec.specs.Operations.{Outcome}
@@ -55,13 +55,13 @@ pub asks_its_call : AsksItsCall
 asks_its_call c me bytes past (inl right) = asked (MayAccept c me) me bytes past right.0.1
 asks_its_call c me bytes past (inr right) = asked (MayWeaklyAccept c me) me bytes past right.0.1
 
-abbrev IsSealedBy : Configuration → Frame → Proof → Type 0
-IsSealedBy c frame proof = elim proof [ macs entries ↦ All (λ x. x.mac ≡ mac_of c.seed x.receiver frame.body) entries | signature s ↦ has_signature c.seed frame ≡ true ]
+abbrev IsSealedBy : Configuration → Frame → Authenticator → Type 0
+IsSealedBy c frame authenticator = elim authenticator [ macs entries ↦ All (λ x. x.mac ≡ mac_of c.seed x.receiver frame.body) entries | signature s ↦ has_signature c.seed frame ≡ true ]
 
-sealed : (c : Configuration) (me : ℕ) (react : List Entry → Reaction) (bytes : List ℕ) (frame : Frame) (entries : List MacData) → Asked c me react bytes → frame_of bytes ≡ Some frame → frame.proof ≡ macs entries
+sealed : (c : Configuration) (me : ℕ) (react : List Entry → Reaction) (bytes : List ℕ) (frame : Frame) (entries : List MacData) → Asked c me react bytes → frame_of bytes ≡ Some frame → frame.authenticator ≡ macs entries
     → All (λ x. x.mac ≡ mac_of c.seed x.receiver frame.body) entries
-sealed c me react bytes frame entries asked is proof = subst (λ (p : Proof). IsSealedBy c frame p) proof (asked.request.is_sealed frame is).0
+sealed c me react bytes frame entries asked is authenticator = subst (λ (p : Authenticator). IsSealedBy c frame p) authenticator (asked.request.is_sealed frame is).0
 
 pub seals_requests : SealsRequests
-seals_requests c me bytes frame entries past is proof (inl right) = sealed c me (reaction c me) bytes frame entries (asked_by c me (reaction c me) bytes past right) is proof
-seals_requests c me bytes frame entries past is proof (inr right) = sealed c me (weak_reaction c me) bytes frame entries (asked_by c me (weak_reaction c me) bytes past right) is proof
+seals_requests c me bytes frame entries past is authenticator (inl right) = sealed c me (reaction c me) bytes frame entries (asked_by c me (reaction c me) bytes past right) is authenticator
+seals_requests c me bytes frame entries past is authenticator (inr right) = sealed c me (weak_reaction c me) bytes frame entries (asked_by c me (weak_reaction c me) bytes past right) is authenticator

@@ -7,7 +7,7 @@ use Rattle.sha2.specs.Sha256.{sha256}
 use Rattle.quorum.specs.Quorum.{count_below}
 use Rattle.quorum.specs.Votes.{has_digest, or_else}
 use Rattle.protocol.specs.System.Configuration.{Configuration, members}
-use Rattle.wire.specs.Messages.{BodyData as Body, MessageData as Message, ProofData as Proof, macs, signature, pre_prepare as PrePrepare, prepare as Prepare, commit as Commit}
+use Rattle.wire.specs.Messages.{BodyData as Body, MessageData as Message, AuthenticatorData as Authenticator, macs, signature, pre_prepare as PrePrepare, prepare as Prepare, commit as Commit}
 use Rattle.signing.specs.Heard.{heard}
 use Rattle.wire.specs.Words.{receivers_of, said}
 use Rattle.protocol.specs.System.Trace.{Entry}
@@ -229,7 +229,7 @@ module _ (clients : ℕ) (seed batch a b d e f g : List ℕ) (x : IsFirstBatch (
   got : Point → List ℕ → Point
   got point bytes = record point { ran = []; waiting = waiting_after c 1 point bytes }
 
-  for_others : (past : List Entry) (message : Message) (proof : Proof) → ((rs : List ℕ) → rs ≡ others c 1 → IsFor c 1 past message rs) → receivers_of proof ≡ others c 1 → IsAddressed c 1 past message proof
+  for_others : (past : List Entry) (message : Message) (authenticator : Authenticator) → ((rs : List ℕ) → rs ≡ others c 1 → IsFor c 1 past message rs) → receivers_of authenticator ≡ others c 1 → IsAddressed c 1 past message authenticator
   for_others past message (macs entries) to e = to (receivers_of (macs entries)) e
   for_others past message (signature s) to e = tt
 
@@ -240,7 +240,7 @@ module _ (clients : ℕ) (seed batch a b d e f g : List ℕ) (x : IsFirstBatch (
     own = refl;
     seen = tt;
     say = record { is_backup = λ z. cc; active = active h1 plain1; batch = batch; is_logged = logged1; digest_is = refl };
-    is_sealed = λ frame is. let s = x.prepare_sealed frame is in (s.0, for_others h1 (Prepare 0 1 (sha256 batch)) frame.proof (λ rs e. e) s.1);
+    is_sealed = λ frame is. let s = x.prepare_sealed frame is in (s.0, for_others h1 (Prepare 0 1 (sha256 batch)) frame.authenticator (λ rs e. e) s.1);
   }
 
   may_commit : (point : Point) → MaySend c 1 h3 point (Sent 1 e) e
@@ -250,7 +250,7 @@ module _ (clients : ℕ) (seed batch a b d e f g : List ℕ) (x : IsFirstBatch (
     own = refl;
     seen = tt;
     say = record { active = active h3 plain3; batch = batch; prepared = prepared; digest_is = refl };
-    is_sealed = λ frame is. let s = x.commit_sealed frame is in (s.0, for_others h3 (Commit 0 1 (sha256 batch)) frame.proof (λ rs e. e) s.1);
+    is_sealed = λ frame is. let s = x.commit_sealed frame is in (s.0, for_others h3 (Commit 0 1 (sha256 batch)) frame.authenticator (λ rs e. e) s.1);
   }
 
   abbrev p1 : Point

@@ -166,7 +166,7 @@ module _ (clients : ℕ) (seed : List ℕ) (op : Operation) (valid : IsConfigura
       let s = sealed_spells c (by 256 asking) to_all asks in
       record {
         frame = sealed_for seed (by 256 asking) to_all;
-        spelled = record { valid = record { sender = s.valid.sender; message = s.valid.message; proof = s.valid.proof; proved = s.valid.proved; short = s.valid.short }; spelled = refl };
+        spelled = record { valid = record { sender = s.valid.sender; message = s.valid.message; authenticator = s.valid.authenticator; proved = s.valid.proved; short = s.valid.short }; spelled = refl };
         sorted = refl;
       }
 

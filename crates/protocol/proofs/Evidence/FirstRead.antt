@@ -125,7 +125,7 @@ module _ (clients number : ℕ) (seed : List ℕ) (op : Operation) (answer : Out
   is_request = record {
     says = x.asks.says;
     is_sealed = λ frame is.
-        subst (λ (f : Frame). IsSealed c f × (receivers_of f.proof ≡ range_with_len 0 4)) (some_injective x.asks.frame frame (sym x.asks.spells ∙ is)) (x.asks.is_sealed, x.asks.is_for);
+        subst (λ (f : Frame). IsSealed c f × (receivers_of f.authenticator ≡ range_with_len 0 4)) (some_injective x.asks.frame frame (sym x.asks.spells ∙ is)) (x.asks.is_sealed, x.asks.is_for);
   }
 
   calls : reaction c 256 (Invoke 0 1 op ∷ []) ≡ asks true call

@@ -130,8 +130,8 @@ module _ (o : Part) where
 
   -- what is said is no pre-prepare
   pub no_pre_prepare : (past : List Entry) (bytes : List ℕ) (body : Body) → said bytes ≡ Some body → IsLater body.message → NumbersOnce c me past (Sent me bytes)
-  no_pre_prepare past bytes body says later v i other claim free =
-      absurd (subst (λ (y : Body). IsLater y.message) (some_injective body (record { sender = me; message = PrePrepare v i other }) (sym says ∙ claim)) later)
+  no_pre_prepare past bytes body says later v i other batch_entry free =
+      absurd (subst (λ (y : Body). IsLater y.message) (some_injective body (record { sender = me; message = PrePrepare v i other }) (sym says ∙ batch_entry)) later)
 
   pub none_executed : (bytes : List ℕ) (n : ℕ) → Has (λ y. Executes n [] y) (Sent me bytes ∷ []) → ⊥
   none_executed bytes n (inl h) = h

@@ -8,7 +8,7 @@ use Rattle.quorum.specs.Votes.{has_digest, give_if}
 use Rattle.protocol.specs.System.Configuration.{Configuration, primary, members}
 use Rattle.terms.specs.declared.order.Mode.TheVariants as modes
 use Rattle.terms.specs.declared.state.Level.TheVariants as levels
-use Rattle.wire.specs.Messages.{BodyData as Body, MessageData as Message, MarkData as Mark, request as Request, pre_prepare as PrePrepare, prepare as Prepare, commit as Commit, fetch as Fetch}
+use Rattle.wire.specs.Messages.{BodyData as Body, MessageData as Message, CheckpointEntryData as CheckpointEntry, request as Request, pre_prepare as PrePrepare, prepare as Prepare, commit as Commit, fetch as Fetch}
 use Rattle.signing.specs.Heard.{heard}
 use Rattle.protocol.specs.System.Frames.{reads_only}
 use Rattle.protocol.specs.System.Trace.{Entry, Has}
@@ -121,9 +121,9 @@ module _ (clients : ℕ) (seed batch : List ℕ) (me : ℕ) where
       let e : view c past ≡ v = eqb-true (view c past) v (and_parts (view c past == v) (nat_le (target past) v) h).0 in
       sym e ∙ s.view_is
 
-  no_checkpoints : (past : List Entry) (l : Bool) (p k : ℕ → Bool) → At past l p k → (mark : Mark) → is_quorum c (count_checkpoints c past mark) ≡ true → ⊥
-  no_checkpoints past l p k st mark h =
-      let same : count_checkpoints c past mark ≡ 0 = count_same (λ s. says_checkpoint mark (checkpoints_of c past s)) (λ s. false) (λ s. ap (says_checkpoint mark) (st.checkpoints_are s)) 4 in
+  no_checkpoints : (past : List Entry) (l : Bool) (p k : ℕ → Bool) → At past l p k → (checkpoint : CheckpointEntry) → is_quorum c (count_checkpoints c past checkpoint) ≡ true → ⊥
+  no_checkpoints past l p k st checkpoint h =
+      let same : count_checkpoints c past checkpoint ≡ 0 = count_same (λ s. says_checkpoint checkpoint (checkpoints_of c past s)) (λ s. false) (λ s. ap (says_checkpoint checkpoint) (st.checkpoints_are s)) 4 in
       let bad : is_quorum c 0 ≡ true = subst (λ (n : ℕ). is_quorum c n ≡ true) same h in
       absurd (let worse : false ≡ true = bad in cc)
 

@@ -174,8 +174,8 @@ module _ (clients : ℕ) (seed : List ℕ) (op : Operation) (batch : List ℕ) (
   one_request = subst (λ (frames : List (List ℕ)). AllPairs (AreDifferent c) frames) (sym x.requests) (λ i j d less within. absurd (omega arith))
 
   numbers_once : NumbersOnce c 0 h1 (Sent 0 w.pre_prepare)
-  numbers_once v i other claim free = (
-    subst ProposesDifferent (some_injective (proposes batch) (record { sender = 0; message = PrePrepare v i other }) (sym x.proposes.says ∙ claim)) one_request,
+  numbers_once v i other batch_entry free = (
+    subst ProposesDifferent (some_injective (proposes batch) (record { sender = 0; message = PrePrepare v i other }) (sym x.proposes.says ∙ batch_entry)) one_request,
     λ client timestamp asked numbered. not_numbered v client timestamp numbered,
   )
 

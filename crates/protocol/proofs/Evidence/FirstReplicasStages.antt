@@ -6,7 +6,7 @@ use Rattle.std.proofs.lemmas.Bool.{and_parts, eqb-false, ne_eqb}
 use Rattle.sha2.specs.Sha256.{sha256}
 use Rattle.quorum.specs.Votes.{or_else, give_if}
 use Rattle.protocol.specs.System.Configuration.{Configuration, primary, members}
-use Rattle.wire.specs.Messages.{BodyData as Body, MarkData as Mark, request as Request, pre_prepare as PrePrepare, prepare as Prepare, commit as Commit, reply as Reply, fetch as Fetch, meta as Meta}
+use Rattle.wire.specs.Messages.{BodyData as Body, CheckpointEntryData as CheckpointEntry, request as Request, pre_prepare as PrePrepare, prepare as Prepare, commit as Commit, reply as Reply, fetch as Fetch, meta as Meta}
 use Rattle.signing.specs.Heard.{heard}
 use Rattle.wire.specs.Words.{said}
 use Rattle.protocol.specs.System.Trace.{Entry}
@@ -158,7 +158,7 @@ module _ (clients : ℕ) (seed batch : List ℕ) (me : ℕ) where
       → Stage (e ∷ past) l' p' k'
   carry past e l l' p p' k k' st q logs prepares commits = record {
     plain = (q, st.plain);
-    checkpoints_are = λ s. checkpoints_next past e s ∙ ap (λ (o : Option (ℕ × Mark)). with_checkpoint s o (checkpoints_of c past s)) q.checkpoint ∙ st.checkpoints_are s;
+    checkpoints_are = λ s. checkpoints_next past e s ∙ ap (λ (o : Option (ℕ × CheckpointEntry)). with_checkpoint s o (checkpoints_of c past s)) q.checkpoint ∙ st.checkpoints_are s;
     logged_is = λ v i.
         log_next past e v i ∙ ap (λ (o : Option (List ℕ)). or_else o (proposal c me past e v i)) (st.logged_is v i)
         ∙ ap (or_else (give_if (here v i && l) batch)) (plain_proposal c me past e v i q) ∙ logs v i;

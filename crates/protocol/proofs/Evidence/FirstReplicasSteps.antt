@@ -177,8 +177,8 @@ module _ (o : Part) where
     say = say;
     is_sealed = λ frame is.
         let same : f.frame ≡ frame = some_injective f.frame frame (sym f.spells ∙ is) in
-        subst (λ (y : Frame). IsSealed c y × IsAddressed c me past message y.proof) same (f.is_sealed, addressed);
+        subst (λ (y : Frame). IsSealed c y × IsAddressed c me past message y.authenticator) same (f.is_sealed, addressed);
   }
     where
-      addressed : IsAddressed c me past message f.frame.proof
+      addressed : IsAddressed c me past message f.frame.authenticator
       addressed = subst (IsAddressed c me past message) (sym f.has_macs) (for (receivers_of (macs f.entries)) (sym (ap receivers_of f.has_macs) ∙ f.is_for))

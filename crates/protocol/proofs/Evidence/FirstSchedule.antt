@@ -8,7 +8,7 @@ use Rattle.std.proofs.lemmas.List.{append-nil}
 use Rattle.std.proofs.lemmas.Option.{slice_get-map, slice_get_within}
 use Rattle.tuple_codec.specs.Operations.{Operation}
 use Rattle.quorum.specs.Votes.{or_else}
-use Rattle.wire.specs.Messages.{FrameData as Frame, ProofData as Proof, MacData, macs, signature}
+use Rattle.wire.specs.Messages.{FrameData as Frame, AuthenticatorData as Authenticator, MacData, macs, signature}
 use Rattle.protocol.specs.System.Configuration.{Configuration, IsConfiguration, is_correct}
 use Rattle.wire.specs.Words.{receivers_of}
 use Rattle.protocol.specs.System.Trace.{Entry}
@@ -46,8 +46,8 @@ module _ (c : Configuration) (delivered : List (ℕ × ℕ)) (correct : (p : ℕ
 
 -- ---- what is made is a frame for its receivers
 
-meant : (c : Configuration) (sender : ℕ) (proof : Proof) (entries : List MacData) (receivers : List ℕ) → proof ≡ macs entries → receivers_of proof ≡ receivers
-    → meant_for c sender proof ≡ receivers
+meant : (c : Configuration) (sender : ℕ) (authenticator : Authenticator) (entries : List MacData) (receivers : List ℕ) → authenticator ≡ macs entries → receivers_of authenticator ≡ receivers
+    → meant_for c sender authenticator ≡ receivers
 meant c sender (macs entries) others receivers e h = h
 meant c sender (signature s) others receivers e h = absurd cc
 
@@ -55,8 +55,8 @@ row_made : (c : Configuration) (r : Row) → IsFrom c r.sender r.message r.recei
     → made_by c (Sent r.sender r.bytes) ≡ record { bytes = r.bytes; receivers = r.receivers } ∷ []
 row_made c r from =
     ap (λ (rs : List ℕ). record { bytes = r.bytes; receivers = rs } ∷ [])
-    (ap (λ (o : Option Frame). option_map_or (λ (f : Frame). meant_for c r.sender f.proof) o []) from.spells
-    ∙ meant c r.sender from.frame.proof from.entries r.receivers from.has_macs from.is_for)
+    (ap (λ (o : Option Frame). option_map_or (λ (f : Frame). meant_for c r.sender f.authenticator) o []) from.spells
+    ∙ meant c r.sender from.frame.authenticator from.entries r.receivers from.has_macs from.is_for)
 
 -- ---- the schedule
 

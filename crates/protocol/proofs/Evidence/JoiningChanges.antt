@@ -3,7 +3,7 @@ use Rattle.std.proofs.Common.{◌≡◌, ◌≢◌, ℕ, ◌<◌, max, inl, inr,
 use Rattle.std.specs.Prelude.{◌==◌, nat_lt, option_and_then, All}
 use Rattle.std.specs.Option.{option_map_or}
 use Rattle.std.proofs.lemmas.Bool.{ne_eqb}
-use Rattle.wire.specs.Messages.{BodyData as Body, FrameData as Frame, ProofData as Proof, ViewChangeData, NewViewData, macs, signature, pre_prepare as PrePrepare, view_change as ViewChange}
+use Rattle.wire.specs.Messages.{BodyData as Body, FrameData as Frame, AuthenticatorData as Authenticator, ViewChangeData, NewViewData, macs, signature, pre_prepare as PrePrepare, view_change as ViewChange}
 use Rattle.wire.specs.Spelling.{body_spelling}
 use Rattle.wire.proofs.Saying.{reads_frames}
 use Rattle.authenticator.specs.Keys.{signing_seed}
@@ -31,13 +31,13 @@ use Rattle.protocol.proofs.Words.Plain.{Plain, taken_none}
 -- ---- a signed frame is sealed, and for all
 
 -- what makes a frame sealed, of one proof
-abbrev IsSealedBy : Configuration → Frame → Proof → Type 0
+abbrev IsSealedBy : Configuration → Frame → Authenticator → Type 0
 IsSealedBy c frame (macs entries) = All (λ x. x.mac ≡ mac_of c.seed x.receiver frame.body) entries
 IsSealedBy c frame (signature s) = has_signature c.seed frame ≡ true
 
 pub signed_is_sealed : (c : Configuration) (me : ℕ) (past : List Entry) (bytes : List ℕ) (body : Body) (frame : Frame) → signed_body (members c) bytes ≡ Some body → frame_of bytes ≡ Some frame
-    → IsSealed c frame × IsAddressed c me past body.message frame.proof
-signed_is_sealed c me past bytes body frame h is = let r = by frame.proof own in (r.0, r.1)
+    → IsSealed c frame × IsAddressed c me past body.message frame.authenticator
+signed_is_sealed c me past bytes body frame h is = let r = by frame.authenticator own in (r.0, r.1)
   where
     own : has_signature c.seed frame ≡ true
     own =
@@ -45,7 +45,7 @@ signed_is_sealed c me past bytes body frame h is = let r = by frame.proof own in
         let same : signed.frame ≡ frame = some_injective signed.frame frame (sym ((reads_frames bytes signed.frame).1 signed.spelled) ∙ is) in
         subst (λ (f : Frame). has_signature c.seed f ≡ true) same signed.signed
 
-    by : (proof : Proof) → signs (public_key (signing_seed c.seed frame.body.sender)) (body_spelling frame.body) proof ≡ true → IsSealedBy c frame proof × IsAddressed c me past body.message proof
+    by : (authenticator : Authenticator) → signs (public_key (signing_seed c.seed frame.body.sender)) (body_spelling frame.body) authenticator ≡ true → IsSealedBy c frame authenticator × IsAddressed c me past body.message authenticator
     by (macs entries) h = absurd cc
     by (signature s) h = (own, tt)
 
@@ -172,16 +172,16 @@ module _ (clients : ℕ) (seed : List ℕ) (me one other : ℕ) (first second ow
 
     -- ---- what is sent
 
-    no_claims : IsPreparedList c me h2 []
-    no_claims = record {
-      listed = λ claim h. absurd h;
+    no_batch_entries : IsPreparedList c me h2 []
+    no_batch_entries = record {
+      listed = λ batch_entry h. absurd h;
       all = λ v i batch marks p. absurd (unprepared h2 logs2 v i batch p);
       ascending = λ i j d less within. absurd (omega arith);
     }
 
     no_proposals : IsPrePreparedList c me h2 []
     no_proposals = record {
-      listed = λ claim h. absurd h;
+      listed = λ batch_entry h. absurd h;
       all = λ v i batch marks is. absurd (let bad : None ≡ Some batch = sym (logs2 v i) ∙ is in cc);
       differ = λ i j d less within. absurd (omega arith);
     }
@@ -193,7 +193,7 @@ module _ (clients : ℕ) (seed : List ℕ) (me one other : ℕ) (first second ow
       is_view = refl;
       low = sym still2.low_is;
       checkpoints = refl;
-      prepared = no_claims;
+      prepared = no_batch_entries;
       proposed = no_proposals;
     }
 

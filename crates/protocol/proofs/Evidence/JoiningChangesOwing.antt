@@ -8,7 +8,7 @@ use Rattle.quorum.proofs.Counting.{count_none}
 use Rattle.protocol.specs.System.Configuration.{Configuration, primary, members}
 use Rattle.terms.specs.declared.order.Mode.TheVariants as modes
 use Rattle.terms.specs.declared.state.Level.TheVariants as levels
-use Rattle.wire.specs.Messages.{BodyData as Body, MessageData as Message, MarkData as Mark, request as Request, prepare as Prepare, view_change as ViewChange, new_view as NewView, fetch as Fetch}
+use Rattle.wire.specs.Messages.{BodyData as Body, MessageData as Message, CheckpointEntryData as CheckpointEntry, request as Request, prepare as Prepare, view_change as ViewChange, new_view as NewView, fetch as Fetch}
 use Rattle.signing.specs.Heard.{heard}
 use Rattle.protocol.specs.System.Trace.{Entry, Has}
 use Rattle.protocol.specs.System.Trace.Entry.{Got}
@@ -68,7 +68,7 @@ brings_no_mark c e body is h = ap (option_and_then checkpoint_from) is ∙ no_ma
 
 pub same_checkpoints : (c : Configuration) (past : List Entry) (e : Entry) (body : Body) → brought c e ≡ Some body → IsNoProposal body.message → (s : ℕ) → checkpoints_of c (e ∷ past) s ≡ checkpoints_of c past s
 same_checkpoints c past e body is h s =
-    checkpoints_next c past e s ∙ ap (λ (o : Option (ℕ × Mark)). with_checkpoint s o (checkpoints_of c past s)) (brings_no_mark c e body is h)
+    checkpoints_next c past e s ∙ ap (λ (o : Option (ℕ × CheckpointEntry)). with_checkpoint s o (checkpoints_of c past s)) (brings_no_mark c e body is h)
 
 -- what is no pre-prepare logs at most what a new view begins with
 entry_none : (c : Configuration) (me : ℕ) (past : List Entry) (e : Entry) (body : Body) → brought c e ≡ Some body → IsNoProposal body.message → (v i : ℕ) → entry_proposal c me past e v i ≡ None
@@ -123,9 +123,9 @@ module _ (clients : ℕ) (seed : List ℕ) (me : ℕ) where
   abbrev c : Configuration
   c = four clients seed
 
-  no_quorum : (past : List Entry) → ((s : ℕ) → checkpoints_of c past s ≡ []) → (mark : Mark) → is_quorum c (count_checkpoints c past mark) ≡ true → ⊥
-  no_quorum past none mark h =
-      let zero : count_checkpoints c past mark ≡ 0 = count_none (λ s. says_checkpoint mark (checkpoints_of c past s)) 4 (λ s. ap (says_checkpoint mark) (none s)) in
+  no_quorum : (past : List Entry) → ((s : ℕ) → checkpoints_of c past s ≡ []) → (checkpoint : CheckpointEntry) → is_quorum c (count_checkpoints c past checkpoint) ≡ true → ⊥
+  no_quorum past none checkpoint h =
+      let zero : count_checkpoints c past checkpoint ≡ 0 = count_none (λ s. says_checkpoint checkpoint (checkpoints_of c past s)) 4 (λ s. ap (says_checkpoint checkpoint) (none s)) in
       let bad : is_quorum c 0 ≡ true = subst (λ (n : ℕ). is_quorum c n ≡ true) zero h in
       absurd (let worse : false ≡ true = bad in cc)
 

@@ -10,7 +10,7 @@ use Rattle.sha2.specs.Sha256.{sha256}
 use Rattle.quorum.specs.Quorum.{count_below}
 use Rattle.protocol.specs.System.Configuration.{Configuration, replicas, span, is_number, members}
 use Rattle.terms.specs.declared.order.Mode.TheVariants as modes
-use Rattle.wire.specs.Messages.{fetch as Fetch, BodyData as Body, FrameData as Frame, ProofData as Proof, MacData, macs, signature, ViewChangeData, NewViewData, ClaimData as Claim, pre_prepare as PrePrepare, prepare as Prepare, commit as Commit, checkpoint as Checkpoint, view_change as ViewChange, new_view as NewView, reply as Reply, meta as Meta, page as Page}
+use Rattle.wire.specs.Messages.{fetch as Fetch, BodyData as Body, FrameData as Frame, AuthenticatorData as Authenticator, MacData, macs, signature, ViewChangeData, NewViewData, BatchEntryData as BatchEntry, pre_prepare as PrePrepare, prepare as Prepare, commit as Commit, checkpoint as Checkpoint, view_change as ViewChange, new_view as NewView, reply as Reply, meta as Meta, page as Page}
 use Rattle.authenticator.specs.Authentic.{mac_of}
 use Rattle.signing.specs.Heard.{has_signature, heard}
 use Rattle.protocol.specs.System.Frames.{mode_of}
@@ -171,7 +171,7 @@ pub keeps_prepared : KeepsPrepared
 keeps_prepared c me v i batch bytes vc past says new right prepared marks =
     go (says_may c me bytes (record { sender = me; message = ViewChange vc }) past right says)
   where
-    go : MayViewChange c me past right.1.0 bytes vc → Has (λ (claim : Claim). claim.number ≡ i) vc.prepared
+    go : MayViewChange c me past right.1.0 bytes vc → Has (λ (batch_entry : BatchEntry). batch_entry.number ≡ i) vc.prepared
     go (inl change) = change.prepared.all v i batch marks prepared
     go (inr again) = absurd (new again.2)
 
@@ -381,41 +381,41 @@ fetches_above c me k index level bytes past says below right =
 -- ---- whom a frame is for
 
 -- what makes a frame sealed, of one proof
-abbrev IsSealedBy : Configuration → Frame → Proof → Type 0
+abbrev IsSealedBy : Configuration → Frame → Authenticator → Type 0
 IsSealedBy c frame (macs entries) = All (λ x. x.mac ≡ mac_of c.seed x.receiver frame.body) entries
 IsSealedBy c frame (signature s) = has_signature c.seed frame ≡ true
 
 addressed : (c : Configuration) (me : ℕ) (bytes : List ℕ) (body : Body) (frame : Frame) (entries : List MacData) (past : List Entry) (right : SafeReplica c me (Sent me bytes ∷ past)) → said bytes ≡ Some body
-    → frame_of bytes ≡ Some frame → frame.proof ≡ macs entries → IsAddressed c me past body.message (macs entries)
-addressed c me bytes body frame entries past right says is proof =
+    → frame_of bytes ≡ Some frame → frame.authenticator ≡ macs entries → IsAddressed c me past body.message (macs entries)
+addressed c me bytes body frame entries past right says is authenticator =
     let m : MaySend c me past right.1.0 (Sent me bytes) bytes = right.1.2.may in
     let same : m.body ≡ body = some_injective m.body body (sym m.says ∙ says) in
-    subst (λ (p : Proof). IsAddressed c me past body.message p) proof
-    (subst (λ (b : Body). IsAddressed c me past b.message frame.proof) same (m.is_sealed frame is).1)
+    subst (λ (p : Authenticator). IsAddressed c me past body.message p) authenticator
+    (subst (λ (b : Body). IsAddressed c me past b.message frame.authenticator) same (m.is_sealed frame is).1)
 
-sealed : (c : Configuration) (me : ℕ) (bytes : List ℕ) (frame : Frame) (proof : Proof) (past : List Entry) → frame_of bytes ≡ Some frame → frame.proof ≡ proof → SafeReplica c me (Sent me bytes ∷ past)
-    → IsSealedBy c frame proof
-sealed c me bytes frame proof past is proof_is right =
+sealed : (c : Configuration) (me : ℕ) (bytes : List ℕ) (frame : Frame) (authenticator : Authenticator) (past : List Entry) → frame_of bytes ≡ Some frame → frame.authenticator ≡ authenticator → SafeReplica c me (Sent me bytes ∷ past)
+    → IsSealedBy c frame authenticator
+sealed c me bytes frame authenticator past is authenticator_is right =
     let m : MaySend c me past right.1.0 (Sent me bytes) bytes = right.1.2.may in
-    subst (λ (p : Proof). IsSealedBy c frame p) proof_is (m.is_sealed frame is).0
+    subst (λ (p : Authenticator). IsSealedBy c frame p) authenticator_is (m.is_sealed frame is).0
 
 pub seals_well : SealsWell
-seals_well c me bytes frame entries past is proof right = sealed c me bytes frame (macs entries) past is proof right
+seals_well c me bytes frame entries past is authenticator right = sealed c me bytes frame (macs entries) past is authenticator right
 
 pub signs_well : SignsWell
-signs_well c me bytes s frame past is proof right = sealed c me bytes frame (signature s) past is proof right
+signs_well c me bytes s frame past is authenticator right = sealed c me bytes frame (signature s) past is authenticator right
 
 pub replies_to_its_client : RepliesToItsClient
-replies_to_its_client c me client timestamp number mode answer bytes frame entries past says is proof right =
-    addressed c me bytes (record { sender = me; message = Reply client timestamp mode number answer }) frame entries past right says is proof
+replies_to_its_client c me client timestamp number mode answer bytes frame entries past says is authenticator right =
+    addressed c me bytes (record { sender = me; message = Reply client timestamp mode number answer }) frame entries past right says is authenticator
 
 pub digests_to_who_asked : DigestsToWhoAsked
-digests_to_who_asked c me k index level digests bytes frame entries past says is proof right =
-    addressed c me bytes (record { sender = me; message = Meta k level index digests }) frame entries past right says is proof
+digests_to_who_asked c me k index level digests bytes frame entries past says is authenticator right =
+    addressed c me bytes (record { sender = me; message = Meta k level index digests }) frame entries past right says is authenticator
 
 pub pages_to_who_asked : PagesToWhoAsked
-pages_to_who_asked c me k index text bytes frame entries past says is proof right =
-    addressed c me bytes (record { sender = me; message = Page k index text }) frame entries past right says is proof
+pages_to_who_asked c me k index text bytes frame entries past says is authenticator right =
+    addressed c me bytes (record { sender = me; message = Page k index text }) frame entries past right says is authenticator
 
 in_range : (n a s : ℕ) → a ≤ s → s < a + n → Has (λ r. r ≡ s) (range_with_len a n)
 in_range zero a s l h = absurd (omega arith)
@@ -436,8 +436,8 @@ kept_by_test test (x ∷ xs) s t h = go (test x) refl h (kept_by_test test xs s 
     go false e (inr k) below = below k
 
 pub commits_to_all : CommitsToAll
-commits_to_all c me v i s digest bytes frame entries past says is proof within other right =
-    let e = addressed c me bytes (record { sender = me; message = Commit v i digest }) frame entries past right says is proof in
+commits_to_all c me v i s digest bytes frame entries past says is authenticator within other right =
+    let e = addressed c me bytes (record { sender = me; message = Commit v i digest }) frame entries past right says is authenticator in
     subst (λ (rs : List ℕ). Has (λ r. r ≡ s) rs) (sym e)
     (kept_by_test (λ r. not (r == me)) (range_with_len 0 (replicas c)) s (differs (s == me) refl) (in_range (replicas c) 0 s (omega arith) (omega arith)))
   where
@@ -464,42 +464,42 @@ has_from c new = have_of_count c (changes_of c new)
 pub says_nothing_against : (i w : ℕ) (digest : List ℕ) (vc : ViewChangeData) → (nat_lt vc.low i && agrees i w digest vc) ≡ true → SaysNothingAgainst i w digest vc
 says_nothing_against i w digest vc h =
     let p = and_parts (nat_lt vc.low i) (agrees i w digest vc) h in
-    (ltb-true vc.low i p.0, λ claim has number. by claim number (every_has (λ (claim : Claim). not (claim.number == i) || nat_lt claim.view w || ((claim.view == w) && bytes_eq claim.digest digest)) vc.prepared claim p.1 has))
+    (ltb-true vc.low i p.0, λ batch_entry has number. by batch_entry number (every_has (λ (batch_entry : BatchEntry). not (batch_entry.number == i) || nat_lt batch_entry.view w || ((batch_entry.view == w) && bytes_eq batch_entry.digest digest)) vc.prepared batch_entry p.1 has))
   where
-    last : (claim : Claim) → ((claim.view == w) && bytes_eq claim.digest digest) ≡ true → (claim.view ≡ w) × (claim.digest ≡ digest)
-    last claim h =
-        let p = and_parts (claim.view == w) (bytes_eq claim.digest digest) h in
-        (eqb-true claim.view w p.0, (bytes_eq-Decides claim.digest digest).0 p.1)
+    last : (batch_entry : BatchEntry) → ((batch_entry.view == w) && bytes_eq batch_entry.digest digest) ≡ true → (batch_entry.view ≡ w) × (batch_entry.digest ≡ digest)
+    last batch_entry h =
+        let p = and_parts (batch_entry.view == w) (bytes_eq batch_entry.digest digest) h in
+        (eqb-true batch_entry.view w p.0, (bytes_eq-Decides batch_entry.digest digest).0 p.1)
 
-    by : (claim : Claim) → claim.number ≡ i → (not (claim.number == i) || nat_lt claim.view w || ((claim.view == w) && bytes_eq claim.digest digest)) ≡ true → (claim.view < w) ⊎ ((claim.view ≡ w) × (claim.digest ≡ digest))
-    by claim number t = pick (or_cases (not (claim.number == i) || nat_lt claim.view w) ((claim.view == w) && bytes_eq claim.digest digest) t)
+    by : (batch_entry : BatchEntry) → batch_entry.number ≡ i → (not (batch_entry.number == i) || nat_lt batch_entry.view w || ((batch_entry.view == w) && bytes_eq batch_entry.digest digest)) ≡ true → (batch_entry.view < w) ⊎ ((batch_entry.view ≡ w) × (batch_entry.digest ≡ digest))
+    by batch_entry number t = pick (or_cases (not (batch_entry.number == i) || nat_lt batch_entry.view w) ((batch_entry.view == w) && bytes_eq batch_entry.digest digest) t)
       where
-        early : (not (claim.number == i) ≡ true) ⊎ (nat_lt claim.view w ≡ true) → claim.view < w
-        early (inl other) = let here = eq-eqb claim.number i number in absurd (let f : not true ≡ true = subst (λ (b : Bool). not b ≡ true) here other in cc)
-        early (inr lt) = ltb-true claim.view w lt
+        early : (not (batch_entry.number == i) ≡ true) ⊎ (nat_lt batch_entry.view w ≡ true) → batch_entry.view < w
+        early (inl other) = let here = eq-eqb batch_entry.number i number in absurd (let f : not true ≡ true = subst (λ (b : Bool). not b ≡ true) here other in cc)
+        early (inr lt) = ltb-true batch_entry.view w lt
 
-        pick : ((not (claim.number == i) || nat_lt claim.view w) ≡ true) ⊎ (((claim.view == w) && bytes_eq claim.digest digest) ≡ true) → (claim.view < w) ⊎ ((claim.view ≡ w) × (claim.digest ≡ digest))
-        pick (inl k) = inl (early (or_cases (not (claim.number == i)) (nat_lt claim.view w) k))
-        pick (inr k) = inr (last claim k)
+        pick : ((not (batch_entry.number == i) || nat_lt batch_entry.view w) ≡ true) ⊎ (((batch_entry.view == w) && bytes_eq batch_entry.digest digest) ≡ true) → (batch_entry.view < w) ⊎ ((batch_entry.view ≡ w) × (batch_entry.digest ≡ digest))
+        pick (inl k) = inl (early (or_cases (not (batch_entry.number == i)) (nat_lt batch_entry.view w) k))
+        pick (inr k) = inr (last batch_entry k)
 
 pub says_for_it : (i w : ℕ) (digest : List ℕ) (vc : ViewChangeData) → vouches i w digest vc ≡ true → SaysForIt i w digest vc
 says_for_it i w digest vc h =
-    has_of_any (λ (claim : Claim). (claim.number ≡ i) × (claim.digest ≡ digest) × (w ≤ claim.view)) (λ (claim : Claim). (claim.number == i) && bytes_eq claim.digest digest && nat_le w claim.view)
+    has_of_any (λ (batch_entry : BatchEntry). (batch_entry.number ≡ i) × (batch_entry.digest ≡ digest) × (w ≤ batch_entry.view)) (λ (batch_entry : BatchEntry). (batch_entry.number == i) && bytes_eq batch_entry.digest digest && nat_le w batch_entry.view)
     each vc.pre_prepared h
   where
-    each : (claim : Claim) → ((claim.number == i) && bytes_eq claim.digest digest && nat_le w claim.view) ≡ true → (claim.number ≡ i) × (claim.digest ≡ digest) × (w ≤ claim.view)
-    each claim t =
-        let p = and_parts ((claim.number == i) && bytes_eq claim.digest digest) (nat_le w claim.view) t in
-        let q = and_parts (claim.number == i) (bytes_eq claim.digest digest) p.0 in
-        (eqb-true claim.number i q.0, (bytes_eq-Decides claim.digest digest).0 q.1, leb-true w claim.view p.1)
+    each : (batch_entry : BatchEntry) → ((batch_entry.number == i) && bytes_eq batch_entry.digest digest && nat_le w batch_entry.view) ≡ true → (batch_entry.number ≡ i) × (batch_entry.digest ≡ digest) × (w ≤ batch_entry.view)
+    each batch_entry t =
+        let p = and_parts ((batch_entry.number == i) && bytes_eq batch_entry.digest digest) (nat_le w batch_entry.view) t in
+        let q = and_parts (batch_entry.number == i) (bytes_eq batch_entry.digest digest) p.0 in
+        (eqb-true batch_entry.number i q.0, (bytes_eq-Decides batch_entry.digest digest).0 q.1, leb-true w batch_entry.view p.1)
 
-pub says_nothing : (i : ℕ) (vc : ViewChangeData) → (nat_lt vc.low i && list_all (λ (claim : Claim). not (claim.number == i)) vc.prepared) ≡ true → SaysNothing i vc
+pub says_nothing : (i : ℕ) (vc : ViewChangeData) → (nat_lt vc.low i && list_all (λ (batch_entry : BatchEntry). not (batch_entry.number == i)) vc.prepared) ≡ true → SaysNothing i vc
 says_nothing i vc h =
-    let p = and_parts (nat_lt vc.low i) (list_all (λ (claim : Claim). not (claim.number == i)) vc.prepared) h in (
+    let p = and_parts (nat_lt vc.low i) (list_all (λ (batch_entry : BatchEntry). not (batch_entry.number == i)) vc.prepared) h in (
       ltb-true vc.low i p.0,
       λ has.
-          let x = has_some (λ (claim : Claim). claim.number ≡ i) vc.prepared has in
-          let other = every_has (λ (claim : Claim). not (claim.number == i)) vc.prepared x.0 p.1 x.1 in
+          let x = has_some (λ (batch_entry : BatchEntry). batch_entry.number ≡ i) vc.prepared has in
+          let other = every_has (λ (batch_entry : BatchEntry). not (batch_entry.number == i)) vc.prepared x.0 p.1 x.1 in
           let here = eq-eqb x.0.number i x.2 in
           absurd (let f : not true ≡ true = subst (λ (b : Bool). not b ≡ true) here other in cc),
     )
@@ -510,9 +510,9 @@ takes_well_selected c past e new h = record {
   of_its_view = λ who vc has.
       let t = every_has (λ (x : ℕ × ViewChangeData). (x.1.view == new.view) && is_within c x.1) (changes_of c new) (who, vc) s.each has in
       eqb-true vc.view new.view (and_parts (vc.view == new.view) (is_within c vc) t).0;
-  filled = λ who vc claim has prepared within.
+  filled = λ who vc batch_entry has prepared within.
       let n = eqb-true (length new.batches) (how_many c new) s.long in
-      let r = largest_of-has (new.start + span c) claim.number who (changes_of c new) vc has (has_number vc claim prepared) within in
+      let r = largest_of-has (new.start + span c) batch_entry.number who (changes_of c new) vc has (has_number vc batch_entry prepared) within in
       omega arith;
   vouched = vouched;
 }
@@ -520,12 +520,12 @@ takes_well_selected c past e new h = record {
     s : Selects c new
     s = selects c new (selected_in c e new (takes c 0 past e new h).brought)
 
-    has_number : (vc : ViewChangeData) (claim : Claim) → Has (λ x. x ≡ claim) vc.prepared → Has (λ (x : Claim). x.number ≡ claim.number) vc.prepared
-    has_number vc claim h = each vc.prepared h
+    has_number : (vc : ViewChangeData) (batch_entry : BatchEntry) → Has (λ x. x ≡ batch_entry) vc.prepared → Has (λ (x : BatchEntry). x.number ≡ batch_entry.number) vc.prepared
+    has_number vc batch_entry h = each vc.prepared h
       where
-        each : (xs : List Claim) → Has (λ x. x ≡ claim) xs → Has (λ (x : Claim). x.number ≡ claim.number) xs
+        each : (xs : List BatchEntry) → Has (λ x. x ≡ batch_entry) xs → Has (λ (x : BatchEntry). x.number ≡ batch_entry.number) xs
         each [] h = h
-        each (x ∷ xs) (inl h) = inl (ap (λ (y : Claim). y.number) h)
+        each (x ∷ xs) (inl h) = inl (ap (λ (y : BatchEntry). y.number) h)
         each (x ∷ xs) (inr h) = inr (each xs h)
 
     vouched : (i : ℕ) (batch : List ℕ) → slice_get new.batches (i - new.start - 1) ≡ Some batch → new.start < i
@@ -554,8 +554,8 @@ takes_well_selected c past e new h = record {
             let p = and_parts (is_null batch) (may_be_null c (changes_of c new) i) k in
             inr (
               (bytes_eq-Decides batch null_batch).0 p.0,
-              has_from c new (2 * c.faults + 1) (λ vc. nat_lt vc.low i && list_all (λ (claim : Claim). not (claim.number == i)) vc.prepared) (SaysNothing i) (says_nothing i)
-                  (leb-true (2 * c.faults + 1) (count_in c (λ vc. nat_lt vc.low i && list_all (λ (claim : Claim). not (claim.number == i)) vc.prepared) (changes_of c new)) p.1),
+              has_from c new (2 * c.faults + 1) (λ vc. nat_lt vc.low i && list_all (λ (batch_entry : BatchEntry). not (batch_entry.number == i)) vc.prepared) (SaysNothing i) (says_nothing i)
+                  (leb-true (2 * c.faults + 1) (count_in c (λ vc. nat_lt vc.low i && list_all (λ (batch_entry : BatchEntry). not (batch_entry.number == i)) vc.prepared) (changes_of c new)) p.1),
             )
 
 pub takes_no_lower : TakesNoLower

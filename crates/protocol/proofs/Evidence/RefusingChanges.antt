@@ -6,14 +6,14 @@ use Rattle.std.proofs.lemmas.Bool.{and_parts, leb-true, ltb-true}
 use Rattle.std.proofs.lemmas.Option.{get_or_from_slice_get, slice_get_within}
 use Rattle.tuple_codec.specs.Operations.{Operation, Outcome}
 use Rattle.protocol.specs.System.Configuration.{Configuration, span, is_number}
-use Rattle.wire.specs.Messages.{ViewChangeData, ClaimData as Claim, view_change as ViewChange}
+use Rattle.wire.specs.Messages.{ViewChangeData, BatchEntryData as BatchEntry, view_change as ViewChange}
 use Rattle.protocol.specs.System.Trace.{Entry}
 use Rattle.protocol.specs.System.Trace.Entry.{Invoke}
 use Rattle.protocol.specs.Replica.Certificates.{low, target, is_in_marks}
 use Rattle.protocol.specs.Replica.RightReplica.{MayViewChange, IsNewViewChange}
 use Rattle.protocol.specs.Client.RightClient.{MayInput, RightBy}
 use Rattle.protocol.specs.Evidence.RefusedRuns.{IsAnyClient}
-use Rattle.protocol.specs.Evidence.RefusedChanges.{SendsNewChange, ChangesAboveView, ChangesAboveEarlier, ChangesToNumbers, IsInMarks, ClaimsPreparedInMarks, ClaimsProposedInMarks, ClaimsAscend, ClaimsDiffer, ChangesAgainLast, NoCallWhileOpen, CallsOperations}
+use Rattle.protocol.specs.Evidence.RefusedChanges.{SendsNewChange, ChangesAboveView, ChangesAboveEarlier, ChangesToNumbers, IsInMarks, BatchEntriesPreparedInMarks, BatchEntriesProposedInMarks, BatchEntriesAscend, BatchEntriesDiffer, ChangesAgainLast, NoCallWhileOpen, CallsOperations}
 use Rattle.protocol.proofs.Evidence.Refusing.{says_may, above_target}
 use Rattle.protocol.proofs.Words.Reacting.{is_client_right, is_weak_right}
 
@@ -41,36 +41,36 @@ changes_to_numbers c me vc bytes past sends =
     let change = new_change c me vc bytes past sends in
     ltb-true vc.view (2 ^ 48) change.is_view
 
-in_marks : (c : Configuration) (me : ℕ) (past : List Entry) (claim : Claim) → is_in_marks c (low c me past) claim.number ≡ true → IsInMarks c me past claim
-in_marks c me past claim h =
-    let p = and_parts (nat_lt (low c me past) claim.number && nat_le claim.number (low c me past + span c)) (is_number claim.number) h in
-    let q = and_parts (nat_lt (low c me past) claim.number) (nat_le claim.number (low c me past + span c)) p.0 in
-    (ltb-true (low c me past) claim.number q.0, leb-true claim.number (low c me past + span c) q.1, ltb-true claim.number (2 ^ 48) p.1)
+in_marks : (c : Configuration) (me : ℕ) (past : List Entry) (batch_entry : BatchEntry) → is_in_marks c (low c me past) batch_entry.number ≡ true → IsInMarks c me past batch_entry
+in_marks c me past batch_entry h =
+    let p = and_parts (nat_lt (low c me past) batch_entry.number && nat_le batch_entry.number (low c me past + span c)) (is_number batch_entry.number) h in
+    let q = and_parts (nat_lt (low c me past) batch_entry.number) (nat_le batch_entry.number (low c me past + span c)) p.0 in
+    (ltb-true (low c me past) batch_entry.number q.0, leb-true batch_entry.number (low c me past + span c) q.1, ltb-true batch_entry.number (2 ^ 48) p.1)
 
-pub claims_prepared_in_marks : ClaimsPreparedInMarks
-claims_prepared_in_marks c me vc claim bytes past sends has =
+pub batch_entries_prepared_in_marks : BatchEntriesPreparedInMarks
+batch_entries_prepared_in_marks c me vc batch_entry bytes past sends has =
     let change = new_change c me vc bytes past sends in
-    in_marks c me past claim (change.prepared.listed claim has).1
+    in_marks c me past batch_entry (change.prepared.listed batch_entry has).1
 
-pub claims_proposed_in_marks : ClaimsProposedInMarks
-claims_proposed_in_marks c me vc claim bytes past sends has =
+pub batch_entries_proposed_in_marks : BatchEntriesProposedInMarks
+batch_entries_proposed_in_marks c me vc batch_entry bytes past sends has =
     let change = new_change c me vc bytes past sends in
-    in_marks c me past claim (change.proposed.listed claim has).1
+    in_marks c me past batch_entry (change.proposed.listed batch_entry has).1
 
 pairs_at : {A : Type 0} (R : A → A → Type 0) (xs : List A) (i j : ℕ) (a b : A) → AllPairs R xs → i < j → slice_get xs i ≡ Some a → slice_get xs j ≡ Some b → R a b
 pairs_at R xs i j a b h less first second =
     subst (λ x. R x b) (get_or_from_slice_get xs i a a first)
     (subst (λ y. R (slice_index_or xs i a) y) (get_or_from_slice_get xs j b a second) (h i j a less (slice_get_within xs j b second)))
 
-pub claims_ascend : ClaimsAscend
-claims_ascend c me i j vc a b bytes past sends less first second =
+pub batch_entries_ascend : BatchEntriesAscend
+batch_entries_ascend c me i j vc a b bytes past sends less first second =
     let change = new_change c me vc bytes past sends in
-    pairs_at (λ (x : Claim) (y : Claim). x.number < y.number) vc.prepared i j a b change.prepared.ascending less first second
+    pairs_at (λ (x : BatchEntry) (y : BatchEntry). x.number < y.number) vc.prepared i j a b change.prepared.ascending less first second
 
-pub claims_differ : ClaimsDiffer
-claims_differ c me i j vc a b bytes past sends less first second =
+pub batch_entries_differ : BatchEntriesDiffer
+batch_entries_differ c me i j vc a b bytes past sends less first second =
     let change = new_change c me vc bytes past sends in
-    pairs_at (λ (x : Claim) (y : Claim). (x.number ≡ y.number) → x.digest ≢ y.digest) vc.pre_prepared i j a b change.proposed.differ less first second
+    pairs_at (λ (x : BatchEntry) (y : BatchEntry). (x.number ≡ y.number) → x.digest ≢ y.digest) vc.pre_prepared i j a b change.proposed.differ less first second
 
 pub changes_again_last : ChangesAgainLast
 changes_again_last c me vc earlier bytes past says before right sent = go (says_may c me bytes (record { sender = me; message = ViewChange vc }) past right says)

@@ -10,7 +10,7 @@ use Rattle.quorum.specs.Votes.{give_if}
 use Rattle.protocol.specs.System.Configuration.{Configuration, primary, is_number, members}
 use Rattle.terms.specs.declared.order.Mode.TheVariants as modes
 use Rattle.terms.specs.declared.state.Level.TheVariants as levels
-use Rattle.wire.specs.Messages.{BodyData as Body, MessageData as Message, ViewChangeData, MarkData as Mark, request as Request, pre_prepare as PrePrepare, prepare as Prepare, commit as Commit, checkpoint as Checkpoint, view_change as ViewChange, new_view as NewView, fetch as Fetch, meta as Meta, page as Page}
+use Rattle.wire.specs.Messages.{BodyData as Body, MessageData as Message, ViewChangeData, CheckpointEntryData as CheckpointEntry, request as Request, pre_prepare as PrePrepare, prepare as Prepare, commit as Commit, checkpoint as Checkpoint, view_change as ViewChange, new_view as NewView, fetch as Fetch, meta as Meta, page as Page}
 use Rattle.signing.specs.Heard.{heard}
 use Rattle.protocol.specs.System.Trace.{Entry, Has}
 use Rattle.protocol.specs.System.Trace.Entry.{Invoke, Got, Tick, Executed, Installed, Sent, Accepted}
@@ -188,12 +188,12 @@ pub drops_checkpoints_of_no_number : DropsCheckpointsOfNoNumber
 drops_checkpoints_of_no_number c me s k root bytes past large a =
     answered c me s (Checkpoint k root) bytes past a (λ point leaves counts. let few = ltb-true k (2 ^ 48) counts.1 in absurd (omega (arith, large)))
 
-numbered : (k : ℕ) (marks : List Mark) → Has (λ (mark : Mark). mark.number ≡ k) marks → has_number k marks ≡ true
+numbered : (k : ℕ) (marks : List CheckpointEntry) → Has (λ (checkpoint : CheckpointEntry). checkpoint.number ≡ k) marks → has_number k marks ≡ true
 numbered k [] h = absurd h
-numbered k (mark ∷ marks) (inl h) = rw (eq-eqb mark.number k h) refl
-numbered k (mark ∷ marks) (inr h) = go (mark.number == k) (numbered k marks h)
+numbered k (checkpoint ∷ marks) (inl h) = rw (eq-eqb checkpoint.number k h) refl
+numbered k (checkpoint ∷ marks) (inr h) = go (checkpoint.number == k) (numbered k marks h)
   where
-    go : (b : Bool) → list_any (λ (m : Mark). m.number == k) marks ≡ true → (b || list_any (λ (m : Mark). m.number == k) marks) ≡ true
+    go : (b : Bool) → list_any (λ (m : CheckpointEntry). m.number == k) marks ≡ true → (b || list_any (λ (m : CheckpointEntry). m.number == k) marks) ≡ true
     go true e = refl
     go false e = e
 
@@ -210,14 +210,14 @@ pub drops_passed_checkpoints : DropsPassedCheckpoints
 drops_passed_checkpoints c me s k root bytes a b d past are below first second answers =
     answered c me s (Checkpoint k root) bytes past answers (λ point leaves counts. none counts.1 counts.3)
   where
-    mark : Mark
-    mark = record { number = k; digest = root }
+    checkpoint : CheckpointEntry
+    checkpoint = record { number = k; digest = root }
 
-    kept : take 3 (insert_checkpoint mark (a ∷ b ∷ d ∷ [])) ≡ a ∷ b ∷ d ∷ []
+    kept : take 3 (insert_checkpoint checkpoint (a ∷ b ∷ d ∷ [])) ≡ a ∷ b ∷ d ∷ []
     kept = go (a.number == k) (nat_lt a.number k) (b.number == k) (nat_lt b.number k) (d.number == k) (nat_lt d.number k) refl refl refl refl refl refl
       where
         go : (p q r t u w : Bool) → (a.number == k) ≡ p → nat_lt a.number k ≡ q → (b.number == k) ≡ r → nat_lt b.number k ≡ t → (d.number == k) ≡ u → nat_lt d.number k ≡ w
-            → take 3 (cond p (a ∷ b ∷ d ∷ []) (cond q (mark ∷ a ∷ b ∷ d ∷ []) (a ∷ cond r (b ∷ d ∷ []) (cond t (mark ∷ b ∷ d ∷ []) (b ∷ cond u (d ∷ []) (cond w (mark ∷ d ∷ []) (d ∷ mark ∷ []))))))) ≡ a ∷ b ∷ d ∷ []
+            → take 3 (cond p (a ∷ b ∷ d ∷ []) (cond q (checkpoint ∷ a ∷ b ∷ d ∷ []) (a ∷ cond r (b ∷ d ∷ []) (cond t (checkpoint ∷ b ∷ d ∷ []) (b ∷ cond u (d ∷ []) (cond w (checkpoint ∷ d ∷ []) (d ∷ checkpoint ∷ []))))))) ≡ a ∷ b ∷ d ∷ []
         go true q r t u w e0 e1 e2 e3 e4 e5 = refl
         go false true r t u w e0 e1 e2 e3 e4 e5 = let l = ltb-true a.number k e1 in absurd (omega arith)
         go false false true t u w e0 e1 e2 e3 e4 e5 = refl
@@ -226,14 +226,14 @@ drops_passed_checkpoints c me s k root bytes a b d past are below first second a
         go false false false false false true e0 e1 e2 e3 e4 e5 = let l = ltb-true d.number k e5 in absurd (omega arith)
         go false false false false false false e0 e1 e2 e3 e4 e5 = refl
 
-    brings : is_number k ≡ true → checkpoint_in c (Got me bytes) ≡ Some (s, mark)
-    brings is = ap (option_and_then checkpoint_from) answers.hears ∙ ap (λ (x : Bool). give_if x (s, mark)) is
+    brings : is_number k ≡ true → checkpoint_in c (Got me bytes) ≡ Some (s, checkpoint)
+    brings is = ap (option_and_then checkpoint_from) answers.hears ∙ ap (λ (x : Bool). give_if x (s, checkpoint)) is
 
     now : is_number k ≡ true → checkpoints_of c (Got me bytes ∷ past) s ≡ a ∷ b ∷ d ∷ []
     now is =
-        checkpoints_with c (Got me bytes) past s ∙ ap (λ (o : Option (ℕ × Mark)). with_checkpoint s o (checkpoints_of c past s)) (brings is)
-        ∙ ap (λ (x : Bool). cond x (take 3 (insert_checkpoint mark (checkpoints_of c past s))) (checkpoints_of c past s)) (eq-eqb s s refl)
-        ∙ ap (λ (ms : List Mark). take 3 (insert_checkpoint mark ms)) are ∙ kept
+        checkpoints_with c (Got me bytes) past s ∙ ap (λ (o : Option (ℕ × CheckpointEntry)). with_checkpoint s o (checkpoints_of c past s)) (brings is)
+        ∙ ap (λ (x : Bool). cond x (take 3 (insert_checkpoint checkpoint (checkpoints_of c past s))) (checkpoints_of c past s)) (eq-eqb s s refl)
+        ∙ ap (λ (ms : List CheckpointEntry). take 3 (insert_checkpoint checkpoint ms)) are ∙ kept
 
     lacks : has_number k (a ∷ b ∷ d ∷ []) ≡ true → ⊥
     lacks h = go (a.number == k) (b.number == k) (d.number == k) refl refl refl h
@@ -245,7 +245,7 @@ drops_passed_checkpoints c me s k root bytes a b d past are below first second a
         go false false false e f g h = absurd cc
 
     none : is_number k ≡ true → has_number k (checkpoints_of c (Got me bytes ∷ past) s) ≡ true → ⊥
-    none is h = lacks (subst (λ (ms : List Mark). has_number k ms ≡ true) (now is) h)
+    none is h = lacks (subst (λ (ms : List CheckpointEntry). has_number k ms ≡ true) (now is) h)
 
 -- ---- view changes
 

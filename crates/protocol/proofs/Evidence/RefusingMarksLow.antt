@@ -7,7 +7,7 @@ use Rattle.std.proofs.lemmas.Slice.Eq.{bytes_eq-Decides}
 use Rattle.quorum.specs.Quorum.{count_below}
 use Rattle.quorum.proofs.Counting.{count_mono}
 use Rattle.protocol.specs.System.Configuration.{Configuration, replicas}
-use Rattle.wire.specs.Messages.{NewViewData, MarkData as Mark}
+use Rattle.wire.specs.Messages.{NewViewData, CheckpointEntryData as CheckpointEntry}
 use Rattle.protocol.specs.System.Trace.{Entry, Once, Has}
 use Rattle.protocol.specs.System.Trace.Entry.{Invoke, Got, Tick, Executed, Installed, Sent, Accepted}
 use Rattle.protocol.specs.Replica.Selection.{is_quorum}
@@ -20,15 +20,15 @@ use Rattle.protocol.proofs.Words.Elements.{has_of_any}
 
 -- ---- what is said
 
-abbrev pub marked : ℕ → List ℕ → Mark
+abbrev pub marked : ℕ → List ℕ → CheckpointEntry
 marked k root = record { number = k; digest = root }
 
-said_has : (k : ℕ) (root : List ℕ) (marks : List Mark) → says_checkpoint (marked k root) marks ≡ true → Has (λ (m : Mark). (m.number ≡ k) × (m.digest ≡ root)) marks
+said_has : (k : ℕ) (root : List ℕ) (marks : List CheckpointEntry) → says_checkpoint (marked k root) marks ≡ true → Has (λ (m : CheckpointEntry). (m.number ≡ k) × (m.digest ≡ root)) marks
 said_has k root marks h =
-    has_of_any (λ (m : Mark). (m.number ≡ k) × (m.digest ≡ root)) (λ (m : Mark). (m.number == k) && bytes_eq m.digest root)
+    has_of_any (λ (m : CheckpointEntry). (m.number ≡ k) × (m.digest ≡ root)) (λ (m : CheckpointEntry). (m.number == k) && bytes_eq m.digest root)
     (λ m t. let p = and_parts (m.number == k) (bytes_eq m.digest root) t in (eqb-true m.number k p.0, (bytes_eq-Decides m.digest root).0 p.1)) marks h
 
-has_said : (k : ℕ) (root : List ℕ) (marks : List Mark) → Has (λ (m : Mark). (m.number ≡ k) × (m.digest ≡ root)) marks → says_checkpoint (marked k root) marks ≡ true
+has_said : (k : ℕ) (root : List ℕ) (marks : List CheckpointEntry) → Has (λ (m : CheckpointEntry). (m.number ≡ k) × (m.digest ≡ root)) marks → says_checkpoint (marked k root) marks ≡ true
 has_said k root [] h = absurd h
 has_said k root (m ∷ marks) (inl h) = rw (eq-eqb m.number k h.0, (bytes_eq-Decides m.digest root).1 h.1) refl
 has_said k root (m ∷ marks) (inr h) = go ((m.number == k) && bytes_eq m.digest root) (has_said k root marks h)
@@ -45,14 +45,14 @@ stable_of c me past k root h =
     and_from (is_quorum c (count_checkpoints c past (marked k root))) (says_checkpoint (marked k root) (checkpoints_of c past me))
     (le-leb (2 * c.faults + 1) (count_checkpoints c past (marked k root)) (omega arith)) (has_said k root (checkpoints_of c past me) h.own)
 
-of_stable : (c : Configuration) (me : ℕ) (past : List Entry) (mark : Mark) → is_stable c me past mark ≡ true → IsStable c me past mark.number mark.digest
-of_stable c me past mark h =
-    let p = and_parts (is_quorum c (count_checkpoints c past mark)) (says_checkpoint mark (checkpoints_of c past me)) h in
+of_stable : (c : Configuration) (me : ℕ) (past : List Entry) (checkpoint : CheckpointEntry) → is_stable c me past checkpoint ≡ true → IsStable c me past checkpoint.number checkpoint.digest
+of_stable c me past checkpoint h =
+    let p = and_parts (is_quorum c (count_checkpoints c past checkpoint)) (says_checkpoint checkpoint (checkpoints_of c past me)) h in
     record {
-      from = λ s. says_checkpoint mark (checkpoints_of c past s);
-      enough = leb-true (2 * c.faults + 1) (count_checkpoints c past mark) p.0;
-      alike = λ s t. said_has mark.number mark.digest (checkpoints_of c past s) t;
-      own = said_has mark.number mark.digest (checkpoints_of c past me) p.1;
+      from = λ s. says_checkpoint checkpoint (checkpoints_of c past s);
+      enough = leb-true (2 * c.faults + 1) (count_checkpoints c past checkpoint) p.0;
+      alike = λ s t. said_has checkpoint.number checkpoint.digest (checkpoints_of c past s) t;
+      own = said_has checkpoint.number checkpoint.digest (checkpoints_of c past me) p.1;
     }
 
 -- ---- no lower
@@ -74,63 +74,63 @@ unfolding low
 low_at_first c me = refl
 
 -- what another checkpoint leaves said was said before
-said_before : (mark : Mark) (x : ℕ × Mark) (s : ℕ) (marks : List Mark) → is_mark mark x.1 ≡ false → says_checkpoint mark (with_checkpoint s (Some x) marks) ≡ true → says_checkpoint mark marks ≡ true
-said_before mark x s marks other h = go (x.0 == s) h
+said_before : (checkpoint : CheckpointEntry) (x : ℕ × CheckpointEntry) (s : ℕ) (marks : List CheckpointEntry) → is_mark checkpoint x.1 ≡ false → says_checkpoint checkpoint (with_checkpoint s (Some x) marks) ≡ true → says_checkpoint checkpoint marks ≡ true
+said_before checkpoint x s marks other h = go (x.0 == s) h
   where
-    pick : (is_mark mark x.1 ≡ true) ⊎ (says_checkpoint mark marks ≡ true) → says_checkpoint mark marks ≡ true
+    pick : (is_mark checkpoint x.1 ≡ true) ⊎ (says_checkpoint checkpoint marks ≡ true) → says_checkpoint checkpoint marks ≡ true
     pick (inl same) = absurd (let bad : false ≡ true = sym other ∙ same in cc)
     pick (inr was) = was
 
-    go : (b : Bool) → says_checkpoint mark (cond b (take 3 (insert_checkpoint x.1 marks)) marks) ≡ true → says_checkpoint mark marks ≡ true
-    go true k = pick (has_insert mark x.1 marks (has_take mark 3 (insert_checkpoint x.1 marks) k))
+    go : (b : Bool) → says_checkpoint checkpoint (cond b (take 3 (insert_checkpoint x.1 marks)) marks) ≡ true → says_checkpoint checkpoint marks ≡ true
+    go true k = pick (has_insert checkpoint x.1 marks (has_take checkpoint 3 (insert_checkpoint x.1 marks) k))
     go false k = k
 
 -- what a checkpoint makes stable is no higher than the mark
-stable_here : (c : Configuration) (me : ℕ) (mark : Mark) (x : ℕ × Mark) (e : Entry) (past : List Entry) → checkpoint_in c e ≡ Some x → x.1 ≡ mark → is_stable c me (e ∷ past) mark ≡ true
-    → mark.number ≤ low c me (e ∷ past)
-stable_here c me mark x e past is same h =
-    let made : stable_at c me past e ≡ mark.number =
-    ap (λ (o : Option (ℕ × Mark)). option_map_or (λ (y : ℕ × Mark). cond (is_stable c me (e ∷ past) y.1) y.1.number 0) o 0) is
-    ∙ ap (λ (m : Mark). cond (is_stable c me (e ∷ past) m) m.number 0) same ∙ ap (λ (b : Bool). cond b mark.number 0) h in
+stable_here : (c : Configuration) (me : ℕ) (checkpoint : CheckpointEntry) (x : ℕ × CheckpointEntry) (e : Entry) (past : List Entry) → checkpoint_in c e ≡ Some x → x.1 ≡ checkpoint → is_stable c me (e ∷ past) checkpoint ≡ true
+    → checkpoint.number ≤ low c me (e ∷ past)
+stable_here c me checkpoint x e past is same h =
+    let made : stable_at c me past e ≡ checkpoint.number =
+    ap (λ (o : Option (ℕ × CheckpointEntry)). option_map_or (λ (y : ℕ × CheckpointEntry). cond (is_stable c me (e ∷ past) y.1) y.1.number 0) o 0) is
+    ∙ ap (λ (m : CheckpointEntry). cond (is_stable c me (e ∷ past) m) m.number 0) same ∙ ap (λ (b : Bool). cond b checkpoint.number 0) h in
     let grown = low_with c me e past in
     omega arith
 
-low_stable : (c : Configuration) (me : ℕ) (mark : Mark) (xs : List Entry) → is_stable c me xs mark ≡ true → mark.number ≤ low c me xs
-low_stable c me mark [] h =
-    let own = (and_parts (is_quorum c (count_checkpoints c [] mark)) (says_checkpoint mark (checkpoints_of c [] me)) h).1 in
-    absurd (let bad : false ≡ true = sym (ap (says_checkpoint mark) (no_checkpoints c me)) ∙ own in cc)
-low_stable c me mark (e ∷ past) h = go (checkpoint_in c e) refl (low_stable c me mark past)
+low_stable : (c : Configuration) (me : ℕ) (checkpoint : CheckpointEntry) (xs : List Entry) → is_stable c me xs checkpoint ≡ true → checkpoint.number ≤ low c me xs
+low_stable c me checkpoint [] h =
+    let own = (and_parts (is_quorum c (count_checkpoints c [] checkpoint)) (says_checkpoint checkpoint (checkpoints_of c [] me)) h).1 in
+    absurd (let bad : false ≡ true = sym (ap (says_checkpoint checkpoint) (no_checkpoints c me)) ∙ own in cc)
+low_stable c me checkpoint (e ∷ past) h = go (checkpoint_in c e) refl (low_stable c me checkpoint past)
   where
-    parts : (is_quorum c (count_checkpoints c (e ∷ past) mark) ≡ true) × (says_checkpoint mark (checkpoints_of c (e ∷ past) me) ≡ true)
-    parts = and_parts (is_quorum c (count_checkpoints c (e ∷ past) mark)) (says_checkpoint mark (checkpoints_of c (e ∷ past) me)) h
+    parts : (is_quorum c (count_checkpoints c (e ∷ past) checkpoint) ≡ true) × (says_checkpoint checkpoint (checkpoints_of c (e ∷ past) me) ≡ true)
+    parts = and_parts (is_quorum c (count_checkpoints c (e ∷ past) checkpoint)) (says_checkpoint checkpoint (checkpoints_of c (e ∷ past) me)) h
 
-    before : ((s : ℕ) → says_checkpoint mark (checkpoints_of c (e ∷ past) s) ≡ true → says_checkpoint mark (checkpoints_of c past s) ≡ true) → is_stable c me past mark ≡ true
+    before : ((s : ℕ) → says_checkpoint checkpoint (checkpoints_of c (e ∷ past) s) ≡ true → says_checkpoint checkpoint (checkpoints_of c past s) ≡ true) → is_stable c me past checkpoint ≡ true
     before f =
-        let full = leb-true (2 * c.faults + 1) (count_checkpoints c (e ∷ past) mark) parts.0 in
-        let more : count_checkpoints c (e ∷ past) mark ≤ count_checkpoints c past mark =
-        count_mono (λ s. says_checkpoint mark (checkpoints_of c (e ∷ past) s)) (λ s. says_checkpoint mark (checkpoints_of c past s)) (replicas c) (λ s within t. f s t) in
-        and_from (is_quorum c (count_checkpoints c past mark)) (says_checkpoint mark (checkpoints_of c past me))
-        (le-leb (2 * c.faults + 1) (count_checkpoints c past mark) (omega arith)) (f me parts.1)
+        let full = leb-true (2 * c.faults + 1) (count_checkpoints c (e ∷ past) checkpoint) parts.0 in
+        let more : count_checkpoints c (e ∷ past) checkpoint ≤ count_checkpoints c past checkpoint =
+        count_mono (λ s. says_checkpoint checkpoint (checkpoints_of c (e ∷ past) s)) (λ s. says_checkpoint checkpoint (checkpoints_of c past s)) (replicas c) (λ s within t. f s t) in
+        and_from (is_quorum c (count_checkpoints c past checkpoint)) (says_checkpoint checkpoint (checkpoints_of c past me))
+        (le-leb (2 * c.faults + 1) (count_checkpoints c past checkpoint) (omega arith)) (f me parts.1)
 
-    was : (o : Option (ℕ × Mark)) → checkpoint_in c e ≡ o → ((s : ℕ) → says_checkpoint mark (with_checkpoint s o (checkpoints_of c past s)) ≡ true → says_checkpoint mark (checkpoints_of c past s) ≡ true)
-        → (is_stable c me past mark ≡ true → mark.number ≤ low c me past) → mark.number ≤ low c me (e ∷ past)
+    was : (o : Option (ℕ × CheckpointEntry)) → checkpoint_in c e ≡ o → ((s : ℕ) → says_checkpoint checkpoint (with_checkpoint s o (checkpoints_of c past s)) ≡ true → says_checkpoint checkpoint (checkpoints_of c past s) ≡ true)
+        → (is_stable c me past checkpoint ≡ true → checkpoint.number ≤ low c me past) → checkpoint.number ≤ low c me (e ∷ past)
     was o is f below =
-        let r = below (before (λ s t. f s (sym (ap (λ (y : Option (ℕ × Mark)). says_checkpoint mark (with_checkpoint s y (checkpoints_of c past s))) is) ∙ sym (ap (says_checkpoint mark) (checkpoints_with c e past s)) ∙ t))) in
+        let r = below (before (λ s t. f s (sym (ap (λ (y : Option (ℕ × CheckpointEntry)). says_checkpoint checkpoint (with_checkpoint s y (checkpoints_of c past s))) is) ∙ sym (ap (says_checkpoint checkpoint) (checkpoints_with c e past s)) ∙ t))) in
         let grows = low_grows c me e past in
         omega arith
 
-    same_mark : (m : Mark) → is_mark mark m ≡ true → m ≡ mark
+    same_mark : (m : CheckpointEntry) → is_mark checkpoint m ≡ true → m ≡ checkpoint
     same_mark m t =
-        let p = and_parts (m.number == mark.number) (bytes_eq m.digest mark.digest) t in
-        ap₂ (λ (n : ℕ) (d : List ℕ). marked n d) (eqb-true m.number mark.number p.0) ((bytes_eq-Decides m.digest mark.digest).0 p.1)
+        let p = and_parts (m.number == checkpoint.number) (bytes_eq m.digest checkpoint.digest) t in
+        ap₂ (λ (n : ℕ) (d : List ℕ). marked n d) (eqb-true m.number checkpoint.number p.0) ((bytes_eq-Decides m.digest checkpoint.digest).0 p.1)
 
-    go : (o : Option (ℕ × Mark)) → checkpoint_in c e ≡ o → (is_stable c me past mark ≡ true → mark.number ≤ low c me past) → mark.number ≤ low c me (e ∷ past)
+    go : (o : Option (ℕ × CheckpointEntry)) → checkpoint_in c e ≡ o → (is_stable c me past checkpoint ≡ true → checkpoint.number ≤ low c me past) → checkpoint.number ≤ low c me (e ∷ past)
     go None is below = was None is (λ s t. t) below
-    go (Some x) is below = pick (is_mark mark x.1) refl
+    go (Some x) is below = pick (is_mark checkpoint x.1) refl
       where
-        pick : (b : Bool) → is_mark mark x.1 ≡ b → mark.number ≤ low c me (e ∷ past)
-        pick true same = stable_here c me mark x e past is (same_mark x.1 same) h
-        pick false other = was (Some x) is (λ s t. said_before mark x s (checkpoints_of c past s) other t) below
+        pick : (b : Bool) → is_mark checkpoint x.1 ≡ b → checkpoint.number ≤ low c me (e ∷ past)
+        pick true same = stable_here c me checkpoint x e past is (same_mark x.1 same) h
+        pick false other = was (Some x) is (λ s t. said_before checkpoint x s (checkpoints_of c past s) other t) below
 
 marked_low : (c : Configuration) (me k : ℕ) (past : List Entry) (e : Entry) → IsMarkAt c me k past e → k ≤ low c me (e ∷ past)
 marked_low c me k past e (inl h) = low_stable c me (marked k h.0) (e ∷ past) (stable_of c me (e ∷ past) k h.0 h.1)
@@ -166,10 +166,10 @@ max_is x y = go (nat_le x y) refl
 by_stable : (c : Configuration) (me : ℕ) (past : List Entry) (e : Entry) → (stable_at c me past e ≡ 0) ⊎ IsMarkAt c me (stable_at c me past e) past e
 by_stable c me past e = go (checkpoint_in c e) refl
   where
-    at : Option (ℕ × Mark) → ℕ
-    at o = option_map_or (λ (y : ℕ × Mark). cond (is_stable c me (e ∷ past) y.1) y.1.number 0) o 0
+    at : Option (ℕ × CheckpointEntry) → ℕ
+    at o = option_map_or (λ (y : ℕ × CheckpointEntry). cond (is_stable c me (e ∷ past) y.1) y.1.number 0) o 0
 
-    go : (o : Option (ℕ × Mark)) → checkpoint_in c e ≡ o → (stable_at c me past e ≡ 0) ⊎ IsMarkAt c me (stable_at c me past e) past e
+    go : (o : Option (ℕ × CheckpointEntry)) → checkpoint_in c e ≡ o → (stable_at c me past e ≡ 0) ⊎ IsMarkAt c me (stable_at c me past e) past e
     go None is = inl (ap at is)
     go (Some x) is = pick (is_stable c me (e ∷ past) x.1) refl
       where
@@ -207,7 +207,7 @@ low_is_marked c me (e ∷ past) = from (max_is (low c me past) (max (stable_at c
 
     here : (n : ℕ) → (n ≡ 0) ⊎ IsMarkAt c me n past e → low c me (e ∷ past) ≡ n → (low c me (e ∷ past) ≡ 0) ⊎ Once (IsMarkAt c me (low c me (e ∷ past))) (e ∷ past)
     here n (inl none) is = inl (is ∙ none)
-    here n (inr mark) is = inr (inl (subst (λ (m : ℕ). IsMarkAt c me m past e) (sym is) mark))
+    here n (inr checkpoint) is = inr (inl (subst (λ (m : ℕ). IsMarkAt c me m past e) (sym is) checkpoint))
 
     last : (max (installed_at e) (started_at c past e) ≡ installed_at e) ⊎ (max (installed_at e) (started_at c past e) ≡ started_at c past e)
         → low c me (e ∷ past) ≡ max (installed_at e) (started_at c past e) → (low c me (e ∷ past) ≡ 0) ⊎ Once (IsMarkAt c me (low c me (e ∷ past))) (e ∷ past)

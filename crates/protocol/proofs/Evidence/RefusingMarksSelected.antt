@@ -5,7 +5,7 @@ use Rattle.std.specs.Prelude.{◌==◌, nat_le, nat_lt}
 use Rattle.std.proofs.lemmas.Bool.{and_parts, leb-true, ltb-true}
 use Rattle.std.proofs.lemmas.Slice.Eq.{bytes_eq-Decides}
 use Rattle.protocol.specs.System.Configuration.{Configuration, members}
-use Rattle.wire.specs.Messages.{BodyData as Body, MessageData as Message, ViewChangeData, NewViewData, MarkData as Mark, view_change as ViewChange}
+use Rattle.wire.specs.Messages.{BodyData as Body, MessageData as Message, ViewChangeData, NewViewData, CheckpointEntryData as CheckpointEntry, view_change as ViewChange}
 use Rattle.signing.specs.Heard.{signed_body}
 use Rattle.protocol.specs.System.Trace.{Has}
 use Rattle.protocol.specs.Replica.Selection.{is_quorum, is_weak_quorum, signed_change, change_in, changes_of, list_of, count_in, ascending, is_within}
@@ -84,11 +84,11 @@ ascends (x ∷ y ∷ ys) h (suc i) (suc j) a b less first second =
 
 -- ---- the start
 
-pub lists : (new : NewViewData) (vc : ViewChangeData) → list_any (λ (mark : Mark). (mark.number == new.start) && bytes_eq mark.digest new.root) vc.checkpoints ≡ true
-    → Has (λ (mark : Mark). (mark.number ≡ new.start) × (mark.digest ≡ new.root)) vc.checkpoints
+pub lists : (new : NewViewData) (vc : ViewChangeData) → list_any (λ (checkpoint : CheckpointEntry). (checkpoint.number == new.start) && bytes_eq checkpoint.digest new.root) vc.checkpoints ≡ true
+    → Has (λ (checkpoint : CheckpointEntry). (checkpoint.number ≡ new.start) × (checkpoint.digest ≡ new.root)) vc.checkpoints
 lists new vc h =
-    has_of_any (λ (mark : Mark). (mark.number ≡ new.start) × (mark.digest ≡ new.root)) (λ (mark : Mark). (mark.number == new.start) && bytes_eq mark.digest new.root)
-    (λ mark t. let p = and_parts (mark.number == new.start) (bytes_eq mark.digest new.root) t in (eqb-true mark.number new.start p.0, (bytes_eq-Decides mark.digest new.root).0 p.1))
+    has_of_any (λ (checkpoint : CheckpointEntry). (checkpoint.number ≡ new.start) × (checkpoint.digest ≡ new.root)) (λ (checkpoint : CheckpointEntry). (checkpoint.number == new.start) && bytes_eq checkpoint.digest new.root)
+    (λ checkpoint t. let p = and_parts (checkpoint.number == new.start) (bytes_eq checkpoint.digest new.root) t in (eqb-true checkpoint.number new.start p.0, (bytes_eq-Decides checkpoint.digest new.root).0 p.1))
     vc.checkpoints h
 
 pub takes_well_founded : TakesWellFounded
@@ -100,18 +100,18 @@ takes_well_founded c past e new h = record {
   bounded = λ who vc has. bounded c vc (each who vc has).1;
   started = has_from c new (2 * c.faults + 1) (λ vc. nat_le vc.low new.start) (λ vc. vc.low ≤ new.start) (λ vc t. leb-true vc.low new.start t)
       (leb-true (2 * c.faults + 1) (count_in c (λ vc. nat_le vc.low new.start) (changes_of c new)) start.0);
-  listed = has_from c new (c.faults + 1) (λ vc. list_any (λ (mark : Mark). (mark.number == new.start) && bytes_eq mark.digest new.root) vc.checkpoints)
-      (λ vc. Has (λ (mark : Mark). (mark.number ≡ new.start) × (mark.digest ≡ new.root)) vc.checkpoints) (lists new)
-      (leb-true (c.faults + 1) (count_in c (λ vc. list_any (λ (mark : Mark). (mark.number == new.start) && bytes_eq mark.digest new.root) vc.checkpoints) (changes_of c new)) start.1);
+  listed = has_from c new (c.faults + 1) (λ vc. list_any (λ (checkpoint : CheckpointEntry). (checkpoint.number == new.start) && bytes_eq checkpoint.digest new.root) vc.checkpoints)
+      (λ vc. Has (λ (checkpoint : CheckpointEntry). (checkpoint.number ≡ new.start) × (checkpoint.digest ≡ new.root)) vc.checkpoints) (lists new)
+      (leb-true (c.faults + 1) (count_in c (λ vc. list_any (λ (checkpoint : CheckpointEntry). (checkpoint.number == new.start) && bytes_eq checkpoint.digest new.root) vc.checkpoints) (changes_of c new)) start.1);
 }
   where
     s : Selects c new
     s = selects c new (selected_in c e new (takes c 0 past e new h).brought)
 
     start : (is_quorum c (count_in c (λ vc. nat_le vc.low new.start) (changes_of c new)) ≡ true)
-        × (is_weak_quorum c (count_in c (λ vc. list_any (λ (mark : Mark). (mark.number == new.start) && bytes_eq mark.digest new.root) vc.checkpoints) (changes_of c new)) ≡ true)
+        × (is_weak_quorum c (count_in c (λ vc. list_any (λ (checkpoint : CheckpointEntry). (checkpoint.number == new.start) && bytes_eq checkpoint.digest new.root) vc.checkpoints) (changes_of c new)) ≡ true)
     start = and_parts (is_quorum c (count_in c (λ vc. nat_le vc.low new.start) (changes_of c new)))
-        (is_weak_quorum c (count_in c (λ vc. list_any (λ (mark : Mark). (mark.number == new.start) && bytes_eq mark.digest new.root) vc.checkpoints) (changes_of c new))) s.start
+        (is_weak_quorum c (count_in c (λ vc. list_any (λ (checkpoint : CheckpointEntry). (checkpoint.number == new.start) && bytes_eq checkpoint.digest new.root) vc.checkpoints) (changes_of c new))) s.start
 
     each : (who : ℕ) (vc : ViewChangeData) → Has (λ x. x ≡ (who, vc)) (changes_of c new) → ((vc.view == new.view) ≡ true) × (is_within c vc ≡ true)
     each who vc has =

@@ -15,7 +15,7 @@ use Rattle.quorum.proofs.Counting.{count_mono}
 use Rattle.protocol.specs.System.Configuration.{Configuration, replicas, members}
 use Rattle.terms.specs.declared.order.Mode.{Mode}
 use Rattle.terms.specs.declared.order.Mode.TheVariants as modes
-use Rattle.wire.specs.Messages.{BodyData as Body, FrameData as Frame, MacData, macs, MessageData as Message, ClaimData as Claim, request as Request, view_change as ViewChange, new_view as NewView, reply as Reply}
+use Rattle.wire.specs.Messages.{BodyData as Body, FrameData as Frame, MacData, macs, MessageData as Message, BatchEntryData as BatchEntry, request as Request, view_change as ViewChange, new_view as NewView, reply as Reply}
 use Rattle.signing.specs.Heard.{heard}
 use Rattle.wire.specs.Words.{frame_of, said, receivers_of}
 use Rattle.protocol.specs.System.Frames.{reads_only, mode_of}
@@ -207,14 +207,14 @@ in_range (suc n) a s l h = go (a == s) refl (λ above. in_range n (a + 1) s abov
     go true e below = inl (eqb-true a s e)
     go false e below = let d = eqb-false a s e in inr (below (omega arith))
 
-for_all : (c : Configuration) (me s : ℕ) (react : List Entry → Reaction) (bytes : List ℕ) (frame : Frame) (entries : List MacData) → Asked c me react bytes → frame_of bytes ≡ Some frame → frame.proof ≡ macs entries → s < replicas c
+for_all : (c : Configuration) (me s : ℕ) (react : List Entry → Reaction) (bytes : List ℕ) (frame : Frame) (entries : List MacData) → Asked c me react bytes → frame_of bytes ≡ Some frame → frame.authenticator ≡ macs entries → s < replicas c
     → Has (λ r. r ≡ s) (map (λ (x : MacData). x.receiver) entries)
-for_all c me s react bytes frame entries asked is proof within =
-    subst (λ (rs : List ℕ). Has (λ x. x ≡ s) rs) (sym (ap receivers_of (sym proof) ∙ (asked.request.is_sealed frame is).1)) (in_range (replicas c) 0 s (omega arith) (omega arith))
+for_all c me s react bytes frame entries asked is authenticator within =
+    subst (λ (rs : List ℕ). Has (λ x. x ≡ s) rs) (sym (ap receivers_of (sym authenticator) ∙ (asked.request.is_sealed frame is).1)) (in_range (replicas c) 0 s (omega arith) (omega arith))
 
 pub asks_all : AsksAll
-asks_all c me s bytes frame entries past is proof within (inl h) = for_all c me s (reaction c me) bytes frame entries (asked_by c me (reaction c me) bytes past h) is proof within
-asks_all c me s bytes frame entries past is proof within (inr h) = for_all c me s (weak_reaction c me) bytes frame entries (asked_by c me (weak_reaction c me) bytes past h) is proof within
+asks_all c me s bytes frame entries past is authenticator within (inl h) = for_all c me s (reaction c me) bytes frame entries (asked_by c me (reaction c me) bytes past h) is authenticator within
+asks_all c me s bytes frame entries past is authenticator within (inr h) = for_all c me s (weak_reaction c me) bytes frame entries (asked_by c me (weak_reaction c me) bytes past h) is authenticator within
 
 -- ---- the weak client
 
@@ -365,7 +365,7 @@ pub keeps_proposed : KeepsProposed
 keeps_proposed c me v i batch bytes vc past says new right proposed marks =
     go (says_may c me bytes (record { sender = me; message = ViewChange vc }) past right says)
   where
-    go : MayViewChange c me past right.1.0 bytes vc → Has (λ (claim : Claim). (claim.number ≡ i) × (claim.digest ≡ sha256 batch) × (v ≤ claim.view)) vc.pre_prepared
+    go : MayViewChange c me past right.1.0 bytes vc → Has (λ (batch_entry : BatchEntry). (batch_entry.number ≡ i) × (batch_entry.digest ≡ sha256 batch) × (v ≤ batch_entry.view)) vc.pre_prepared
     go (inl change) = change.proposed.all v i batch marks proposed
     go (inr again) = absurd (new again.2)
 

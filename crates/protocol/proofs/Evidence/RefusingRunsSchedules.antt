@@ -365,7 +365,7 @@ flush_delivers_all c steps i q made trace feeds is has correct =
 -- ---- a frame that was sent is one that was made
 
 abbrev made_of : Configuration → ℕ → List ℕ → Made
-made_of c sender bytes = record { bytes = bytes; receivers = option_map_or (λ (frame : Frame). meant_for c sender frame.proof) (frame_of bytes) [] }
+made_of c sender bytes = record { bytes = bytes; receivers = option_map_or (λ (frame : Frame). meant_for c sender frame.authenticator) (frame_of bytes) [] }
 
 abbrev IsMade : Made → List Made → Type 0
 IsMade made frames = (i : ℕ) × (slice_get frames i ≡ Some made)
@@ -401,5 +401,5 @@ flush_delivers_sent c steps sender q bytes frame trace feeds sent is for correct
     let v = feeds.0 in
     let there : Has (λ (e : Entry). e ≡ Sent sender bytes) v.past = subst (λ (xs : List Entry). Has (λ (e : Entry). e ≡ Sent sender bytes) xs) (sym (past_of c v (steps ++ flush ∷ []) trace feeds.1)) sent in
     let at = sent_is_made c sender bytes new_world v (steps ++ flush ∷ []) (reverse trace) feeds.1 (λ h. absurd h) there in
-    let receivers : meant_for c sender frame.proof ≡ (made_of c sender bytes).receivers = ap (λ (o : Option Frame). option_map_or (λ (f : Frame). meant_for c sender f.proof) o []) (sym is) in
+    let receivers : meant_for c sender frame.authenticator ≡ (made_of c sender bytes).receivers = ap (λ (o : Option Frame). option_map_or (λ (f : Frame). meant_for c sender f.authenticator) o []) (sym is) in
     flush_delivers_all c steps at.0 q (made_of c sender bytes) trace feeds at.1 (subst (λ (rs : List ℕ). Has (λ r. r ≡ q) rs) receivers for) correct

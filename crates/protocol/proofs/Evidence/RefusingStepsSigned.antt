@@ -110,7 +110,7 @@ signed_frames_are_heard c replica leaf message valid right within may kind short
     let text : List ℕ = body_spelling body in
     let seed : List ℕ = signing_seed c.seed replica in
     let bytes : List ℕ = signed_bytes c replica leaf text in
-    let frame : Frame = record { body = body; proof = signature (signature_of seed leaf text) } in
+    let frame : Frame = record { body = body; authenticator = signature (signature_of seed leaf text) } in
     let verifies = signature_of-verifies seed text leaf within in
     let below : replica < replicas c = ltb-true replica (replicas c) right in
     let most = valid.most in
@@ -118,7 +118,7 @@ signed_frames_are_heard c replica leaf message valid right within may kind short
       valid = record {
         sender = omega (arith, below, most);
         message = may;
-        proof = (verifies.formed.whole, signature_bytes seed leaf text within);
+        authenticator = (verifies.formed.whole, signature_bytes seed leaf text within);
         proved = sym kind;
         short = short;
       };

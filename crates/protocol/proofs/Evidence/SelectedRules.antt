@@ -7,7 +7,7 @@ use Rattle.std.proofs.lemmas.Slice.Eq.{bytes_eq-Decides}
 use Rattle.sha2.specs.Sha256.{sha256}
 use Rattle.quorum.specs.Quorum.{count_below}
 use Rattle.protocol.specs.System.Configuration.{Configuration, span}
-use Rattle.wire.specs.Messages.{NewViewData, ViewChangeData, MarkData as Mark, ClaimData as Claim}
+use Rattle.wire.specs.Messages.{NewViewData, ViewChangeData, CheckpointEntryData as CheckpointEntry, BatchEntryData as BatchEntry}
 use Rattle.protocol.specs.System.Trace.{Has}
 use Rattle.protocol.specs.Replica.Selection.{is_quorum, is_weak_quorum, signed_change, changes_of, list_of, count_in, ascending, is_within, is_start, agrees, vouches, may_stand_at, may_be_null, null_batch, is_null, may_stand, may_all_stand, largest, largest_of, how_many, may_select}
 use Rattle.protocol.specs.Evidence.Refused.{SaysNothingAgainst, SaysForIt, SaysNothing}
@@ -58,24 +58,24 @@ prepared_ge limit i [] h l = absurd h
 prepared_ge limit i (x ∷ xs) (inl h) l = let r = largest_ge limit i x.1.prepared h l in omega arith
 prepared_ge limit i (x ∷ xs) (inr h) l = let r = prepared_ge limit i xs h l in omega arith
 
-largest_has : (limit : ℕ) (claims : List Claim) → 0 < largest limit claims → Has (λ (claim : Claim). claim.number ≡ largest limit claims) claims
+largest_has : (limit : ℕ) (batch_entries : List BatchEntry) → 0 < largest limit batch_entries → Has (λ (batch_entry : BatchEntry). batch_entry.number ≡ largest limit batch_entries) batch_entries
 largest_has limit [] some = absurd (omega arith)
-largest_has limit (claim ∷ claims) some = go (nat_le claim.number limit) some (largest_has limit claims)
+largest_has limit (batch_entry ∷ batch_entries) some = go (nat_le batch_entry.number limit) some (largest_has limit batch_entries)
   where
-    larger : (b : Bool) → nat_le claim.number (largest limit claims) ≡ b → (0 < largest limit claims → Has (λ (x : Claim). x.number ≡ largest limit claims) claims) → 0 < max claim.number (largest limit claims)
-        → Has (λ (x : Claim). x.number ≡ max claim.number (largest limit claims)) (claim ∷ claims)
+    larger : (b : Bool) → nat_le batch_entry.number (largest limit batch_entries) ≡ b → (0 < largest limit batch_entries → Has (λ (x : BatchEntry). x.number ≡ largest limit batch_entries) batch_entries) → 0 < max batch_entry.number (largest limit batch_entries)
+        → Has (λ (x : BatchEntry). x.number ≡ max batch_entry.number (largest limit batch_entries)) (batch_entry ∷ batch_entries)
     larger true e below some =
-        let le = leb-true claim.number (largest limit claims) e in
-        let is : largest limit claims ≡ max claim.number (largest limit claims) = omega arith in
-        inr (subst (λ m. Has (λ (x : Claim). x.number ≡ m) claims) is (below (omega arith)))
+        let le = leb-true batch_entry.number (largest limit batch_entries) e in
+        let is : largest limit batch_entries ≡ max batch_entry.number (largest limit batch_entries) = omega arith in
+        inr (subst (λ m. Has (λ (x : BatchEntry). x.number ≡ m) batch_entries) is (below (omega arith)))
     larger false e below some =
-        let gt = leb-false claim.number (largest limit claims) e in
+        let gt = leb-false batch_entry.number (largest limit batch_entries) e in
         inl (omega arith)
 
-    go : (b : Bool) → 0 < cond b (max claim.number (largest limit claims)) (largest limit claims)
-        → (0 < largest limit claims → Has (λ (x : Claim). x.number ≡ largest limit claims) claims)
-        → Has (λ (x : Claim). x.number ≡ cond b (max claim.number (largest limit claims)) (largest limit claims)) (claim ∷ claims)
-    go true some below = larger (nat_le claim.number (largest limit claims)) refl below some
+    go : (b : Bool) → 0 < cond b (max batch_entry.number (largest limit batch_entries)) (largest limit batch_entries)
+        → (0 < largest limit batch_entries → Has (λ (x : BatchEntry). x.number ≡ largest limit batch_entries) batch_entries)
+        → Has (λ (x : BatchEntry). x.number ≡ cond b (max batch_entry.number (largest limit batch_entries)) (largest limit batch_entries)) (batch_entry ∷ batch_entries)
+    go true some below = larger (nat_le batch_entry.number (largest limit batch_entries)) refl below some
     go false some below = inr (below some)
 
 -- the largest number is prepared
@@ -93,7 +93,7 @@ largest_of-prepared limit (x ∷ xs) some =
     go false e below =
         let gt = leb-false (largest limit x.1.prepared) (largest_of limit xs) e in
         let is : largest limit x.1.prepared ≡ max (largest limit x.1.prepared) (largest_of limit xs) = omega arith in
-        inl (subst (λ m. Has (λ (claim : Claim). claim.number ≡ m) x.1.prepared) is (largest_has limit x.1.prepared (omega arith)))
+        inl (subst (λ m. Has (λ (batch_entry : BatchEntry). batch_entry.number ≡ m) x.1.prepared) is (largest_has limit x.1.prepared (omega arith)))
 
 filled : (c : Configuration) (set : List (ℕ × ViewChangeData)) (start : ℕ) (batches : List (List ℕ)) → length batches ≡ max (largest_of (start + span c) set) start - start
     → (i : ℕ) → SomePrepared set i → i ≤ start + 2 * c.period → i ≤ start + length batches
@@ -144,8 +144,8 @@ may_stand_of c view set i batch h =
         let p = and_parts (is_null batch) (may_be_null c set i) k in
         inr (
           (bytes_eq-Decides batch null_batch).0 p.0,
-          have_of_count c set (2 * c.faults + 1) (λ vc. nat_lt vc.low i && list_all (λ (claim : Claim). not (claim.number == i)) vc.prepared) (SaysNothing i) (says_nothing i)
-              (leb-true (2 * c.faults + 1) (count_in c (λ vc. nat_lt vc.low i && list_all (λ (claim : Claim). not (claim.number == i)) vc.prepared) set) p.1),
+          have_of_count c set (2 * c.faults + 1) (λ vc. nat_lt vc.low i && list_all (λ (batch_entry : BatchEntry). not (batch_entry.number == i)) vc.prepared) (SaysNothing i) (says_nothing i)
+              (leb-true (2 * c.faults + 1) (count_in c (λ vc. nat_lt vc.low i && list_all (λ (batch_entry : BatchEntry). not (batch_entry.number == i)) vc.prepared) set) p.1),
         )
 
 below_some : (test : ℕ → Bool) (n k : ℕ) → k < n → test k ≡ true → 0 < count_below test n
@@ -175,8 +175,8 @@ of_may_stand c view set i batch order (inl h) =
 of_may_stand c view set i batch order (inr h) =
     or_right (nat_lt 0 (count_below (may_stand_at c set i (sha256 batch)) view)) (is_null batch && may_be_null c set i)
     (and_from (is_null batch) (may_be_null c set i) ((bytes_eq-Decides batch null_batch).1 h.0)
-    (le-leb (2 * c.faults + 1) (count_in c (λ vc. nat_lt vc.low i && list_all (λ (claim : Claim). not (claim.number == i)) vc.prepared) set)
-    (count_of_have c set (2 * c.faults + 1) (λ vc. nat_lt vc.low i && list_all (λ (claim : Claim). not (claim.number == i)) vc.prepared) (SaysNothing i) (nothing_of i) order h.1)))
+    (le-leb (2 * c.faults + 1) (count_in c (λ vc. nat_lt vc.low i && list_all (λ (batch_entry : BatchEntry). not (batch_entry.number == i)) vc.prepared) set)
+    (count_of_have c set (2 * c.faults + 1) (λ vc. nat_lt vc.low i && list_all (λ (batch_entry : BatchEntry). not (batch_entry.number == i)) vc.prepared) (SaysNothing i) (nothing_of i) order h.1)))
 
 all_stand : (c : Configuration) (view : ℕ) (set : List (ℕ × ViewChangeData)) (first : ℕ) (batches : List (List ℕ))
     → ((k : ℕ) (batch : List ℕ) → slice_get batches k ≡ Some batch → may_stand c view set (first + k) batch ≡ true) → may_all_stand c view set first batches ≡ true
@@ -201,9 +201,9 @@ meets c new h = record {
       (λ x t. let p = and_parts (x.1.view == new.view) (is_within c x.1) t in (eqb-true x.1.view new.view p.0, bounded c x.1 p.1)) (changes_of c new) s.each;
   started = have_of_count c (changes_of c new) (2 * c.faults + 1) (λ vc. nat_le vc.low new.start) (λ vc. vc.low ≤ new.start) (λ vc t. leb-true vc.low new.start t)
       (leb-true (2 * c.faults + 1) (count_in c (λ vc. nat_le vc.low new.start) (changes_of c new)) start.0);
-  listed = have_of_count c (changes_of c new) (c.faults + 1) (λ vc. list_any (λ (mark : Mark). (mark.number == new.start) && bytes_eq mark.digest new.root) vc.checkpoints)
-      (λ vc. Has (λ (mark : Mark). (mark.number ≡ new.start) × (mark.digest ≡ new.root)) vc.checkpoints) (lists new)
-      (leb-true (c.faults + 1) (count_in c (λ vc. list_any (λ (mark : Mark). (mark.number == new.start) && bytes_eq mark.digest new.root) vc.checkpoints) (changes_of c new)) start.1);
+  listed = have_of_count c (changes_of c new) (c.faults + 1) (λ vc. list_any (λ (checkpoint : CheckpointEntry). (checkpoint.number == new.start) && bytes_eq checkpoint.digest new.root) vc.checkpoints)
+      (λ vc. Has (λ (checkpoint : CheckpointEntry). (checkpoint.number ≡ new.start) × (checkpoint.digest ≡ new.root)) vc.checkpoints) (lists new)
+      (leb-true (c.faults + 1) (count_in c (λ vc. list_any (λ (checkpoint : CheckpointEntry). (checkpoint.number == new.start) && bytes_eq checkpoint.digest new.root) vc.checkpoints) (changes_of c new)) start.1);
   filled = filled c (changes_of c new) new.start new.batches long;
   ends = ends c (changes_of c new) new.start new.batches long;
   stands = λ k batch get. may_stand_of c new.view (changes_of c new) (suc new.start + k) batch
@@ -217,9 +217,9 @@ meets c new h = record {
     long = eqb-true (length new.batches) (how_many c new) s.long
 
     start : (is_quorum c (count_in c (λ vc. nat_le vc.low new.start) (changes_of c new)) ≡ true)
-        × (is_weak_quorum c (count_in c (λ vc. list_any (λ (mark : Mark). (mark.number == new.start) && bytes_eq mark.digest new.root) vc.checkpoints) (changes_of c new)) ≡ true)
+        × (is_weak_quorum c (count_in c (λ vc. list_any (λ (checkpoint : CheckpointEntry). (checkpoint.number == new.start) && bytes_eq checkpoint.digest new.root) vc.checkpoints) (changes_of c new)) ≡ true)
     start = and_parts (is_quorum c (count_in c (λ vc. nat_le vc.low new.start) (changes_of c new)))
-        (is_weak_quorum c (count_in c (λ vc. list_any (λ (mark : Mark). (mark.number == new.start) && bytes_eq mark.digest new.root) vc.checkpoints) (changes_of c new))) s.start
+        (is_weak_quorum c (count_in c (λ vc. list_any (λ (checkpoint : CheckpointEntry). (checkpoint.number == new.start) && bytes_eq checkpoint.digest new.root) vc.checkpoints) (changes_of c new))) s.start
 
 -- the rules, one by one, over the set that the frames spell
 all_rules : (c : Configuration) (new : NewViewData) → Selects c new → may_select c new ≡ true
@@ -244,12 +244,12 @@ selects_of c new r is = record {
       (λ x t. and_from (x.1.view == new.view) (is_within c x.1) (eq-eqb x.1.view new.view t.0) (within_of_bounded c x.1 t.1)) r.set r.within);
   start = subst (λ (set : List (ℕ × ViewChangeData)). is_start c set new.start new.root ≡ true) (sym is)
       (and_from (is_quorum c (count_in c (λ vc. nat_le vc.low new.start) r.set))
-      (is_weak_quorum c (count_in c (λ vc. list_any (λ (mark : Mark). (mark.number == new.start) && bytes_eq mark.digest new.root) vc.checkpoints) r.set))
+      (is_weak_quorum c (count_in c (λ vc. list_any (λ (checkpoint : CheckpointEntry). (checkpoint.number == new.start) && bytes_eq checkpoint.digest new.root) vc.checkpoints) r.set))
       (le-leb (2 * c.faults + 1) (count_in c (λ vc. nat_le vc.low new.start) r.set)
       (count_of_have c r.set (2 * c.faults + 1) (λ vc. nat_le vc.low new.start) (λ vc. vc.low ≤ new.start) (λ vc t. le-leb vc.low new.start t) order r.started))
-      (le-leb (c.faults + 1) (count_in c (λ vc. list_any (λ (mark : Mark). (mark.number == new.start) && bytes_eq mark.digest new.root) vc.checkpoints) r.set)
-      (count_of_have c r.set (c.faults + 1) (λ vc. list_any (λ (mark : Mark). (mark.number == new.start) && bytes_eq mark.digest new.root) vc.checkpoints)
-      (λ vc. Has (λ (mark : Mark). (mark.number ≡ new.start) × (mark.digest ≡ new.root)) vc.checkpoints) (listed_of new.start new.root) order r.listed)));
+      (le-leb (c.faults + 1) (count_in c (λ vc. list_any (λ (checkpoint : CheckpointEntry). (checkpoint.number == new.start) && bytes_eq checkpoint.digest new.root) vc.checkpoints) r.set)
+      (count_of_have c r.set (c.faults + 1) (λ vc. list_any (λ (checkpoint : CheckpointEntry). (checkpoint.number == new.start) && bytes_eq checkpoint.digest new.root) vc.checkpoints)
+      (λ vc. Has (λ (checkpoint : CheckpointEntry). (checkpoint.number ≡ new.start) × (checkpoint.digest ≡ new.root)) vc.checkpoints) (listed_of new.start new.root) order r.listed)));
   long = eq-eqb (length new.batches) (how_many c new)
       (subst (λ (set : List (ℕ × ViewChangeData)). length new.batches ≡ max (largest_of (new.start + span c) set) new.start - new.start) (sym is)
       (long_enough c r.set new.start new.batches r.filled r.ends));

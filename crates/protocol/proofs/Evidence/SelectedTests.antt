@@ -7,7 +7,7 @@ use Rattle.std.proofs.lemmas.Slice.Eq.{bytes_eq-Decides}
 use Rattle.std.proofs.lemmas.List.Kept.{AllPairs-cons}
 use Rattle.quorum.proofs.Counting.{count_mono}
 use Rattle.protocol.specs.System.Configuration.{Configuration, replicas}
-use Rattle.wire.specs.Messages.{ViewChangeData, MarkData as Mark, ClaimData as Claim}
+use Rattle.wire.specs.Messages.{ViewChangeData, CheckpointEntryData as CheckpointEntry, BatchEntryData as BatchEntry}
 use Rattle.protocol.specs.System.Trace.{Has}
 use Rattle.protocol.specs.Replica.Selection.{passes_by, count_in, agrees, vouches, ascending}
 use Rattle.protocol.specs.Evidence.Refused.{SoManyHave, SaysNothingAgainst, SaysForIt, SaysNothing}
@@ -54,44 +54,44 @@ count_of_have c set count test P f order have =
 pub agrees_of : (i w : ℕ) (digest : List ℕ) (vc : ViewChangeData) → SaysNothingAgainst i w digest vc → (nat_lt vc.low i && agrees i w digest vc) ≡ true
 agrees_of i w digest vc h =
     and_from (nat_lt vc.low i) (agrees i w digest vc) (lt-ltb vc.low i h.0)
-    (all_where (λ (claim : Claim). not (claim.number == i) || nat_lt claim.view w || ((claim.view == w) && bytes_eq claim.digest digest)) vc.prepared
-    (λ claim has. by claim (claim.number == i) refl (h.1 claim has)))
+    (all_where (λ (batch_entry : BatchEntry). not (batch_entry.number == i) || nat_lt batch_entry.view w || ((batch_entry.view == w) && bytes_eq batch_entry.digest digest)) vc.prepared
+    (λ batch_entry has. by batch_entry (batch_entry.number == i) refl (h.1 batch_entry has)))
   where
-    by : (claim : Claim) (b : Bool) → (claim.number == i) ≡ b → (claim.number ≡ i → (claim.view < w) ⊎ ((claim.view ≡ w) × (claim.digest ≡ digest)))
-        → (not (claim.number == i) || nat_lt claim.view w || ((claim.view == w) && bytes_eq claim.digest digest)) ≡ true
-    by claim false e f = rw e refl
-    by claim true e f = pick (f (eqb-true claim.number i e))
+    by : (batch_entry : BatchEntry) (b : Bool) → (batch_entry.number == i) ≡ b → (batch_entry.number ≡ i → (batch_entry.view < w) ⊎ ((batch_entry.view ≡ w) × (batch_entry.digest ≡ digest)))
+        → (not (batch_entry.number == i) || nat_lt batch_entry.view w || ((batch_entry.view == w) && bytes_eq batch_entry.digest digest)) ≡ true
+    by batch_entry false e f = rw e refl
+    by batch_entry true e f = pick (f (eqb-true batch_entry.number i e))
       where
-        pick : (claim.view < w) ⊎ ((claim.view ≡ w) × (claim.digest ≡ digest)) → (not (claim.number == i) || nat_lt claim.view w || ((claim.view == w) && bytes_eq claim.digest digest)) ≡ true
+        pick : (batch_entry.view < w) ⊎ ((batch_entry.view ≡ w) × (batch_entry.digest ≡ digest)) → (not (batch_entry.number == i) || nat_lt batch_entry.view w || ((batch_entry.view == w) && bytes_eq batch_entry.digest digest)) ≡ true
         pick (inl less) =
-            or_left (not (claim.number == i) || nat_lt claim.view w) ((claim.view == w) && bytes_eq claim.digest digest)
-            (or_right (not (claim.number == i)) (nat_lt claim.view w) (lt-ltb claim.view w less))
+            or_left (not (batch_entry.number == i) || nat_lt batch_entry.view w) ((batch_entry.view == w) && bytes_eq batch_entry.digest digest)
+            (or_right (not (batch_entry.number == i)) (nat_lt batch_entry.view w) (lt-ltb batch_entry.view w less))
         pick (inr same) =
-            or_right (not (claim.number == i) || nat_lt claim.view w) ((claim.view == w) && bytes_eq claim.digest digest)
-            (and_from (claim.view == w) (bytes_eq claim.digest digest) (eq-eqb claim.view w same.0) ((bytes_eq-Decides claim.digest digest).1 same.1))
+            or_right (not (batch_entry.number == i) || nat_lt batch_entry.view w) ((batch_entry.view == w) && bytes_eq batch_entry.digest digest)
+            (and_from (batch_entry.view == w) (bytes_eq batch_entry.digest digest) (eq-eqb batch_entry.view w same.0) ((bytes_eq-Decides batch_entry.digest digest).1 same.1))
 
 pub vouches_of : (i w : ℕ) (digest : List ℕ) (vc : ViewChangeData) → SaysForIt i w digest vc → vouches i w digest vc ≡ true
 vouches_of i w digest vc h =
-    any_of_has (λ (claim : Claim). (claim.number ≡ i) × (claim.digest ≡ digest) × (w ≤ claim.view)) (λ (claim : Claim). (claim.number == i) && bytes_eq claim.digest digest && nat_le w claim.view)
-    (λ claim t.
-    and_from ((claim.number == i) && bytes_eq claim.digest digest) (nat_le w claim.view)
-    (and_from (claim.number == i) (bytes_eq claim.digest digest) (eq-eqb claim.number i t.0) ((bytes_eq-Decides claim.digest digest).1 t.1))
-    (le-leb w claim.view t.2))
+    any_of_has (λ (batch_entry : BatchEntry). (batch_entry.number ≡ i) × (batch_entry.digest ≡ digest) × (w ≤ batch_entry.view)) (λ (batch_entry : BatchEntry). (batch_entry.number == i) && bytes_eq batch_entry.digest digest && nat_le w batch_entry.view)
+    (λ batch_entry t.
+    and_from ((batch_entry.number == i) && bytes_eq batch_entry.digest digest) (nat_le w batch_entry.view)
+    (and_from (batch_entry.number == i) (bytes_eq batch_entry.digest digest) (eq-eqb batch_entry.number i t.0) ((bytes_eq-Decides batch_entry.digest digest).1 t.1))
+    (le-leb w batch_entry.view t.2))
     vc.pre_prepared h
 
-pub nothing_of : (i : ℕ) (vc : ViewChangeData) → SaysNothing i vc → (nat_lt vc.low i && list_all (λ (claim : Claim). not (claim.number == i)) vc.prepared) ≡ true
+pub nothing_of : (i : ℕ) (vc : ViewChangeData) → SaysNothing i vc → (nat_lt vc.low i && list_all (λ (batch_entry : BatchEntry). not (batch_entry.number == i)) vc.prepared) ≡ true
 nothing_of i vc h =
-    and_from (nat_lt vc.low i) (list_all (λ (claim : Claim). not (claim.number == i)) vc.prepared) (lt-ltb vc.low i h.0)
-    (all_where (λ (claim : Claim). not (claim.number == i)) vc.prepared (λ claim has. by claim (claim.number == i) refl has))
+    and_from (nat_lt vc.low i) (list_all (λ (batch_entry : BatchEntry). not (batch_entry.number == i)) vc.prepared) (lt-ltb vc.low i h.0)
+    (all_where (λ (batch_entry : BatchEntry). not (batch_entry.number == i)) vc.prepared (λ batch_entry has. by batch_entry (batch_entry.number == i) refl has))
   where
-    by : (claim : Claim) (b : Bool) → (claim.number == i) ≡ b → Has (λ x. x ≡ claim) vc.prepared → not b ≡ true
-    by claim false e has = refl
-    by claim true e has =
-        absurd (h.1 (has_weaker (λ x. x ≡ claim) (λ (x : Claim). x.number ≡ i) (λ x same. ap (λ (y : Claim). y.number) same ∙ eqb-true claim.number i e) vc.prepared has))
+    by : (batch_entry : BatchEntry) (b : Bool) → (batch_entry.number == i) ≡ b → Has (λ x. x ≡ batch_entry) vc.prepared → not b ≡ true
+    by batch_entry false e has = refl
+    by batch_entry true e has =
+        absurd (h.1 (has_weaker (λ x. x ≡ batch_entry) (λ (x : BatchEntry). x.number ≡ i) (λ x same. ap (λ (y : BatchEntry). y.number) same ∙ eqb-true batch_entry.number i e) vc.prepared has))
 
-pub listed_of : (number : ℕ) (root : List ℕ) (vc : ViewChangeData) → Has (λ (mark : Mark). (mark.number ≡ number) × (mark.digest ≡ root)) vc.checkpoints
-    → list_any (λ (mark : Mark). (mark.number == number) && bytes_eq mark.digest root) vc.checkpoints ≡ true
+pub listed_of : (number : ℕ) (root : List ℕ) (vc : ViewChangeData) → Has (λ (checkpoint : CheckpointEntry). (checkpoint.number ≡ number) × (checkpoint.digest ≡ root)) vc.checkpoints
+    → list_any (λ (checkpoint : CheckpointEntry). (checkpoint.number == number) && bytes_eq checkpoint.digest root) vc.checkpoints ≡ true
 listed_of number root vc h =
-    any_of_has (λ (mark : Mark). (mark.number ≡ number) × (mark.digest ≡ root)) (λ (mark : Mark). (mark.number == number) && bytes_eq mark.digest root)
-    (λ mark t. and_from (mark.number == number) (bytes_eq mark.digest root) (eq-eqb mark.number number t.0) ((bytes_eq-Decides mark.digest root).1 t.1))
+    any_of_has (λ (checkpoint : CheckpointEntry). (checkpoint.number ≡ number) × (checkpoint.digest ≡ root)) (λ (checkpoint : CheckpointEntry). (checkpoint.number == number) && bytes_eq checkpoint.digest root)
+    (λ checkpoint t. and_from (checkpoint.number == number) (bytes_eq checkpoint.digest root) (eq-eqb checkpoint.number number t.0) ((bytes_eq-Decides checkpoint.digest root).1 t.1))
     vc.checkpoints h

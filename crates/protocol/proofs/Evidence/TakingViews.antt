@@ -8,7 +8,7 @@ use Rattle.tuple_codec.proofs.Readers.{guard_holds}
 use Rattle.quorum.specs.Quorum.{count_below, member}
 use Rattle.quorum.specs.Votes.{or_else, give_if, has_digest}
 use Rattle.quorum.proofs.Counting.{count_mono, count_members}
-use Rattle.wire.specs.Messages.{BodyData as Body, ProofData as Proof, NewViewData, MarkData as Mark, macs, signature, pre_prepare as PrePrepare, prepare as Prepare, new_view as NewView}
+use Rattle.wire.specs.Messages.{BodyData as Body, AuthenticatorData as Authenticator, NewViewData, CheckpointEntryData as CheckpointEntry, macs, signature, pre_prepare as PrePrepare, prepare as Prepare, new_view as NewView}
 use Rattle.protocol.specs.System.Configuration.{Configuration, primary, members}
 use Rattle.signing.specs.Heard.{heard, signed_body}
 use Rattle.wire.specs.Words.{receivers_of}
@@ -78,7 +78,7 @@ module _ (clients : ℕ) (seed : List ℕ) (me : ℕ) (batch root a b d new_view
     view_is = ap (view_after (view c []) (target [])) brings
 
     stable_none : stable_at c me [] (Got me new_view) ≡ 0
-    stable_none = ap (λ (o : Option (ℕ × Mark)). option_map_or (λ (y : ℕ × Mark). cond (is_stable c me h1 y.1) y.1.number 0) o 0) (brings_no_mark c (Got me new_view) begins hears tt)
+    stable_none = ap (λ (o : Option (ℕ × CheckpointEntry)). option_map_or (λ (y : ℕ × CheckpointEntry). cond (is_stable c me h1 y.1) y.1.number 0) o 0) (brings_no_mark c (Got me new_view) begins hears tt)
 
     starts : started_at c [] (Got me new_view) ≡ 0
     starts = ap (λ (o : Option NewViewData). option_map_or (λ (n : NewViewData). n.start) o 0) takes
@@ -196,7 +196,7 @@ module _ (clients : ℕ) (seed : List ℕ) (me : ℕ) (batch root a b d new_view
 
     -- ---- what is sent
 
-    addressed : (proof : Proof) → receivers_of proof ≡ others c me → IsAddressed c me h1 prepares.message proof
+    addressed : (authenticator : Authenticator) → receivers_of authenticator ≡ others c me → IsAddressed c me h1 prepares.message authenticator
     addressed (macs entries) h = h
     addressed (signature s) h = tt
 
@@ -210,7 +210,7 @@ module _ (clients : ℕ) (seed : List ℕ) (me : ℕ) (batch root a b d new_view
       own = refl;
       seen = tt;
       say = may_prepare;
-      is_sealed = λ frame is. let s = x.is_sealed frame is in (s.0, addressed frame.proof s.1);
+      is_sealed = λ frame is. let s = x.is_sealed frame is in (s.0, addressed frame.authenticator s.1);
     }
 
     gets : IsStep c me [] first_point (Got me new_view) first_point

@@ -94,7 +94,7 @@ module _ (clients : ℕ) (seed root : List ℕ) where
   fetch_sends : (past : List Entry) (bytes : List ℕ) (index : ℕ) (level : Level) → IsRootWanted c past 16 root → IsFrom c 0 (Fetch 16 level index) (others c 0) bytes → IsStep c 0 past first_point (Sent 0 bytes) first_point
   fetch_sends past bytes index level wanted f = record { own = refl; may = may; moves = refl }
     where
-      addressed : IsAddressed c 0 past (Fetch 16 level index) f.frame.proof
+      addressed : IsAddressed c 0 past (Fetch 16 level index) f.frame.authenticator
       addressed = subst (IsAddressed c 0 past (Fetch 16 level index)) (sym f.has_macs) (sym (ap receivers_of f.has_macs) ∙ f.is_for)
 
       may : MaySend c 0 past first_point (Sent 0 bytes) bytes
@@ -106,7 +106,7 @@ module _ (clients : ℕ) (seed root : List ℕ) where
         say = (root, (omega arith, wanted));
         is_sealed = λ frame is.
             let same : f.frame ≡ frame = some_injective f.frame frame (sym f.spells ∙ is) in
-            subst (λ (y : Frame). IsSealed c y × IsAddressed c 0 past (Fetch 16 level index) y.proof) same (f.is_sealed, addressed);
+            subst (λ (y : Frame). IsSealed c y × IsAddressed c 0 past (Fetch 16 level index) y.authenticator) same (f.is_sealed, addressed);
       }
 
   -- a checkpoint of no quorum, after which nothing is sent

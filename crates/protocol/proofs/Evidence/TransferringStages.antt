@@ -9,7 +9,7 @@ use Rattle.quorum.specs.Quorum.{count_below}
 use Rattle.quorum.specs.Votes.{or_else, give_if}
 use Rattle.protocol.specs.System.Configuration.{Configuration, members}
 use Rattle.terms.specs.declared.state.Level.{Level}
-use Rattle.wire.specs.Messages.{BodyData as Body, MessageData as Message, NewViewData, MarkData as Mark, checkpoint as Checkpoint, fetch as Fetch, meta as Meta, page as Page}
+use Rattle.wire.specs.Messages.{BodyData as Body, MessageData as Message, NewViewData, CheckpointEntryData as CheckpointEntry, checkpoint as Checkpoint, fetch as Fetch, meta as Meta, page as Page}
 use Rattle.signing.specs.Heard.{heard}
 use Rattle.wire.specs.Words.{said}
 use Rattle.protocol.specs.System.Trace.{Entry}
@@ -70,11 +70,11 @@ module _ (clients : ℕ) (seed root : List ℕ) where
   abbrev c : Configuration
   c = four clients seed
 
-  abbrev mark : Mark
-  mark = record { number = 16; digest = root }
+  abbrev checkpoint : CheckpointEntry
+  checkpoint = record { number = 16; digest = root }
 
-  abbrev marks_if : Bool → List Mark
-  marks_if true = mark ∷ []
+  abbrev marks_if : Bool → List CheckpointEntry
+  marks_if true = checkpoint ∷ []
   marks_if false = []
 
   -- Whose checkpoint there is, the place that was asked for last, and the number of the transfer. Nothing is logged or
@@ -126,10 +126,10 @@ module _ (clients : ℕ) (seed root : List ℕ) where
   stable_none : (past : List Entry) (e : Entry) → checkpoints_of c (e ∷ past) 0 ≡ [] → stable_at c 0 past e ≡ 0
   stable_none past e own = go (checkpoint_in c e)
     where
-      unstable : (m : Mark) → is_stable c 0 (e ∷ past) m ≡ false
+      unstable : (m : CheckpointEntry) → is_stable c 0 (e ∷ past) m ≡ false
       unstable m = second_false (is_quorum c (count_checkpoints c (e ∷ past) m)) (says_checkpoint m (checkpoints_of c (e ∷ past) 0)) (ap (says_checkpoint m) own)
 
-      go : (o : Option (ℕ × Mark)) → option_map_or (λ (x : ℕ × Mark). cond (is_stable c 0 (e ∷ past) x.1) x.1.number 0) o 0 ≡ 0
+      go : (o : Option (ℕ × CheckpointEntry)) → option_map_or (λ (x : ℕ × CheckpointEntry). cond (is_stable c 0 (e ∷ past) x.1) x.1.number 0) o 0 ≡ 0
       go None = refl
       go (Some x) = ap (λ (b : Bool). cond b x.1.number 0) (unstable x.1)
 
@@ -163,7 +163,7 @@ module _ (clients : ℕ) (seed root : List ℕ) where
       let body : Body = record { sender = r; message = Checkpoint 16 root } in
       next past (Got 0 bytes) body p (and_one p r) asked asked k k st (got bytes body h tt) own (λ s. one_more (p s) (r == s)) st.asked_is (let was = st.fetching_is in omega arith)
     where
-      one_more : (a b : Bool) → cond b (take 3 (insert_checkpoint mark (marks_if a))) (marks_if a) ≡ marks_if (a || b)
+      one_more : (a b : Bool) → cond b (take 3 (insert_checkpoint checkpoint (marks_if a))) (marks_if a) ≡ marks_if (a || b)
       one_more true true = refl
       one_more true false = refl
       one_more false true = refl
@@ -193,18 +193,18 @@ module _ (clients : ℕ) (seed root : List ℕ) where
 
   -- ---- quorums of checkpoints
 
-  says_if : (m : Mark) (b : Bool) → says_checkpoint m (marks_if b) ≡ (((16 == m.number) && bytes_eq root m.digest) && b)
+  says_if : (m : CheckpointEntry) (b : Bool) → says_checkpoint m (marks_if b) ≡ (((16 == m.number) && bytes_eq root m.digest) && b)
   says_if m true = one_said ((16 == m.number) && bytes_eq root m.digest)
   says_if m false = none_said ((16 == m.number) && bytes_eq root m.digest)
 
-  count_is : (past : List Entry) (p : ℕ → Bool) (asked : Option (ℕ × (Level × ℕ))) (k : ℕ) → Stage past p asked k → (m : Mark)
+  count_is : (past : List Entry) (p : ℕ → Bool) (asked : Option (ℕ × (Level × ℕ))) (k : ℕ) → Stage past p asked k → (m : CheckpointEntry)
       → count_checkpoints c past m ≡ count_below (λ s. ((16 == m.number) && bytes_eq root m.digest) && p s) 4
   count_is past p asked k st m =
       count_same (λ s. says_checkpoint m (checkpoints_of c past s)) (λ s. ((16 == m.number) && bytes_eq root m.digest) && p s)
       (λ s. ap (says_checkpoint m) (st.checkpoints_are s) ∙ says_if m (p s)) 4
 
   -- a quorum is of three replicas, and of this number
-  pub agreed : (past : List Entry) (p : ℕ → Bool) (asked : Option (ℕ × (Level × ℕ))) (k : ℕ) → Stage past p asked k → (m : Mark)
+  pub agreed : (past : List Entry) (p : ℕ → Bool) (asked : Option (ℕ × (Level × ℕ))) (k : ℕ) → Stage past p asked k → (m : CheckpointEntry)
       → is_quorum c (count_checkpoints c past m) ≡ true → (16 ≡ m.number) × (nat_le 3 (count_below p 4) ≡ true)
   agreed past p asked k st m h = go ((16 == m.number) && bytes_eq root m.digest) refl (subst (λ (n : ℕ). is_quorum c n ≡ true) (count_is past p asked k st m) h)
     where
@@ -214,8 +214,8 @@ module _ (clients : ℕ) (seed root : List ℕ) where
 
   -- three replicas are one
   pub quorum_here : (past : List Entry) (p : ℕ → Bool) (asked : Option (ℕ × (Level × ℕ))) (k : ℕ) → Stage past p asked k → nat_le 3 (count_below p 4) ≡ true
-      → is_quorum c (count_checkpoints c past mark) ≡ true
+      → is_quorum c (count_checkpoints c past checkpoint) ≡ true
   quorum_here past p asked k st enough =
       let same : ((16 == 16) && bytes_eq root root) ≡ true = (bytes_eq-Decides root root).1 refl in
-      subst (λ (n : ℕ). is_quorum c n ≡ true) (sym (count_is past p asked k st mark))
+      subst (λ (n : ℕ). is_quorum c n ≡ true) (sym (count_is past p asked k st checkpoint))
       (subst (λ (b : Bool). is_quorum c (count_below (λ s. b && p s) 4) ≡ true) (sym same) enough)

@@ -6,7 +6,7 @@ use Rattle.std.proofs.lemmas.Bool.{and_parts, le-leb, ltb-true, ne_eqb}
 use Rattle.quorum.proofs.Counting.{some_more}
 use Rattle.quorum.specs.Quorum.{count_below}
 use Rattle.protocol.specs.System.Configuration.{Configuration}
-use Rattle.wire.specs.Messages.{ViewChangeData, ClaimData as Claim}
+use Rattle.wire.specs.Messages.{ViewChangeData, BatchEntryData as BatchEntry}
 use Rattle.std.specs.List.{list_all}
 use Rattle.protocol.specs.Replica.Selection.{change_by, passes_by, largest, largest_of, may_stand, may_all_stand, ascending, list_of}
 use Rattle.protocol.specs.System.Trace.{Has}
@@ -28,15 +28,15 @@ passes_change test set s h = go (change_by set s) h
     go None k = absurd cc
     go (Some vc) k = (vc, refl, k)
 
-pub largest_ge : (limit i : ℕ) (claims : List Claim) → Has (λ x. x.number ≡ i) claims → i ≤ limit → i ≤ largest limit claims
+pub largest_ge : (limit i : ℕ) (batch_entries : List BatchEntry) → Has (λ x. x.number ≡ i) batch_entries → i ≤ limit → i ≤ largest limit batch_entries
 largest_ge limit i [] h l = absurd h
-largest_ge limit i (claim ∷ claims) (inl h) l =
-    let le : claim.number ≤ limit = omega arith in
-    let test : nat_le claim.number limit ≡ true = le-leb claim.number limit le in
+largest_ge limit i (batch_entry ∷ batch_entries) (inl h) l =
+    let le : batch_entry.number ≤ limit = omega arith in
+    let test : nat_le batch_entry.number limit ≡ true = le-leb batch_entry.number limit le in
     rw test (omega arith)
-largest_ge limit i (claim ∷ claims) (inr h) l = go (nat_le claim.number limit) (largest_ge limit i claims h l)
+largest_ge limit i (batch_entry ∷ batch_entries) (inr h) l = go (nat_le batch_entry.number limit) (largest_ge limit i batch_entries h l)
   where
-    go : (b : Bool) → i ≤ largest limit claims → i ≤ cond b (max claim.number (largest limit claims)) (largest limit claims)
+    go : (b : Bool) → i ≤ largest limit batch_entries → i ≤ cond b (max batch_entry.number (largest limit batch_entries)) (largest limit batch_entries)
     go true k = omega arith
     go false k = k
 

@@ -5,7 +5,7 @@ use Rattle.std.proofs.Common.{◌≡◌, ℕ, Bool, true, false, cond, List, ◌
 use Rattle.std.specs.Prelude.{option_and_then, ⊤}
 use Rattle.quorum.specs.Votes.{give_if}
 use Rattle.protocol.specs.System.Configuration.{Configuration, members}
-use Rattle.wire.specs.Messages.{BodyData as Body, MessageData as Message, MarkData as Mark, NewViewData, request as Request, pre_prepare as PrePrepare, prepare as Prepare, commit as Commit, reply as Reply, fetch as Fetch, meta as Meta, page as Page}
+use Rattle.wire.specs.Messages.{BodyData as Body, MessageData as Message, CheckpointEntryData as CheckpointEntry, NewViewData, request as Request, pre_prepare as PrePrepare, prepare as Prepare, commit as Commit, reply as Reply, fetch as Fetch, meta as Meta, page as Page}
 use Rattle.signing.specs.Heard.{heard}
 use Rattle.wire.specs.Words.{said}
 use Rattle.protocol.specs.System.Trace.{Entry}
@@ -80,7 +80,7 @@ said_plain c past p bytes body h o = record {
 pub low_same : (c : Configuration) (me : ℕ) (past : List Entry) (e : Entry) → checkpoint_in c e ≡ None → installed_at e ≡ 0 → new_view_in c e ≡ None → low c me (e ∷ past) ≡ low c me past
 unfolding low
 low_same c me past e no_checkpoint no_installation no_view =
-    let stable : stable_at c me past e ≡ 0 = ap (λ (o : Option (ℕ × Mark)). option_map_or (λ (x : ℕ × Mark). cond (is_stable c me (e ∷ past) x.1) x.1.number 0) o 0) no_checkpoint in
+    let stable : stable_at c me past e ≡ 0 = ap (λ (o : Option (ℕ × CheckpointEntry)). option_map_or (λ (x : ℕ × CheckpointEntry). cond (is_stable c me (e ∷ past) x.1) x.1.number 0) o 0) no_checkpoint in
     let started : started_at c past e ≡ 0 =
     ap (λ (o : Option NewViewData). option_map_or (λ (new : NewViewData). new.start) (option_and_then (λ (new : NewViewData). give_if (is_later (view c past) (target past) new) new) o) 0) no_view in
     omega arith

@@ -25,7 +25,7 @@ ClientsHaveOwn = (c : Configuration) (me : ℕ) (history : List Entry) → IsAny
 abbrev pub SealsRequests : Type 0
 SealsRequests =
     (c : Configuration) (me : ℕ) (bytes : List ℕ) (frame : Frame) (entries : List MacData) (past : List Entry)
-    → frame_of bytes ≡ Some frame → frame.proof ≡ macs entries → IsAnyClient c me (Sent me bytes ∷ past)
+    → frame_of bytes ≡ Some frame → frame.authenticator ≡ macs entries → IsAnyClient c me (Sent me bytes ∷ past)
     → All (λ x. x.mac ≡ mac_of c.seed x.receiver frame.body) entries
 
 -- A safe client's frame is its request for the open call, read-only for a read alone.

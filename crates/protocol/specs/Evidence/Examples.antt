@@ -31,8 +31,8 @@ pub record IsFirstBatch (c : Configuration) (batch pre_prepare own_prepare other
   pub commits : said own_commit ≡ Some (record { sender = 1; message = Commit 0 1 (sha256 batch) })
   pub first_commits : heard (members c) 1 first_commit ≡ Some (record { sender = 0; message = Commit 0 1 (sha256 batch) })
   pub second_commits : heard (members c) 1 second_commit ≡ Some (record { sender = 2; message = Commit 0 1 (sha256 batch) })
-  pub prepare_sealed : (frame : Frame) → frame_of own_prepare ≡ Some frame → IsSealed c frame × (receivers_of frame.proof ≡ others c 1)
-  pub commit_sealed : (frame : Frame) → frame_of own_commit ≡ Some frame → IsSealed c frame × (receivers_of frame.proof ≡ others c 1)
+  pub prepare_sealed : (frame : Frame) → frame_of own_prepare ≡ Some frame → IsSealed c frame × (receivers_of frame.authenticator ≡ others c 1)
+  pub commit_sealed : (frame : Frame) → frame_of own_commit ≡ Some frame → IsSealed c frame × (receivers_of frame.authenticator ≡ others c 1)
 
 -- its history, the newest first, up to the quorum of commits
 abbrev pub first_batch : (pre_prepare own_prepare other_prepare own_commit first_commit second_commit : List ℕ) → List Entry

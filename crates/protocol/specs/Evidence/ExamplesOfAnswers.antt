@@ -19,7 +19,7 @@ use Rattle.protocol.specs.Evidence.Examples.{four}
 -- The bytes are the sender's message, sealed for one receiver.
 pub record IsAnswer (c : Configuration) (sender receiver : ℕ) (message : Message) (bytes : List ℕ) : Type 0 where
   pub says : said bytes ≡ Some (record { sender = sender; message = message })
-  pub is_sealed : (frame : Frame) → frame_of bytes ≡ Some frame → IsSealed c frame × (receivers_of frame.proof ≡ receiver ∷ [])
+  pub is_sealed : (frame : Frame) → frame_of bytes ≡ Some frame → IsSealed c frame × (receivers_of frame.authenticator ≡ receiver ∷ [])
 
 -- A replica that gets a read in the beginning, and answers it from the empty space with the number 0, is a right one.
 abbrev pub FirstReadIsAnswered : Type 0

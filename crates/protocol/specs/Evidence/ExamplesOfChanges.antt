@@ -38,7 +38,7 @@ holding_view batch root a b d = record { view = 1; changes = a ∷ b ∷ d ∷ [
 -- The bytes are the sender's message, sealed for the other replicas.
 pub record IsForOthers (c : Configuration) (sender : ℕ) (message : Message) (bytes : List ℕ) : Type 0 where
   pub says : said bytes ≡ Some (record { sender = sender; message = message })
-  pub is_sealed : (frame : Frame) → frame_of bytes ≡ Some frame → IsSealed c frame × (receivers_of frame.proof ≡ others c sender)
+  pub is_sealed : (frame : Frame) → frame_of bytes ≡ Some frame → IsSealed c frame × (receivers_of frame.authenticator ≡ others c sender)
 
 -- A backup of view 1 that gets in the beginning its primary's new view, over the view changes of three replicas that
 -- hold the batch prepared, and prepares that batch in view 1, is a right replica.

@@ -37,9 +37,9 @@ pub record IsFrom (c : Configuration) (sender : ℕ) (message : Message) (receiv
   pub entries : List MacData
   pub spells : frame_of bytes ≡ Some frame
   pub says : said bytes ≡ Some (record { sender = sender; message = message })
-  pub has_macs : frame.proof ≡ macs entries
+  pub has_macs : frame.authenticator ≡ macs entries
   pub is_sealed : IsSealed c frame
-  pub is_for : receivers_of frame.proof ≡ receivers
+  pub is_for : receivers_of frame.authenticator ≡ receivers
   pub is_heard : (p : ℕ) → Has (λ r. r ≡ p) receivers → heard (members c) p bytes ≡ Some (record { sender = sender; message = message })
 
 -- client 0's answer

@@ -11,7 +11,7 @@ use Rattle.terms.specs.declared.state.Level.TheVariants as levels
 use Rattle.quorum.specs.Quorum.{count_below}
 use Rattle.protocol.specs.System.Configuration.{Configuration, IsConfiguration, replicas, primary, members}
 use Rattle.terms.specs.declared.order.Mode.TheVariants as modes
-use Rattle.wire.specs.Messages.{BodyData as Body, FrameData as Frame, MacData, macs, signature, ViewChangeData, NewViewData, ClaimData as Claim, request as Request, pre_prepare as PrePrepare, prepare as Prepare, commit as Commit, checkpoint as Checkpoint, view_change as ViewChange, new_view as NewView, reply as Reply, fetch as Fetch, meta as Meta, page as Page}
+use Rattle.wire.specs.Messages.{BodyData as Body, FrameData as Frame, MacData, macs, signature, ViewChangeData, NewViewData, BatchEntryData as BatchEntry, request as Request, pre_prepare as PrePrepare, prepare as Prepare, commit as Commit, checkpoint as Checkpoint, view_change as ViewChange, new_view as NewView, reply as Reply, fetch as Fetch, meta as Meta, page as Page}
 use Rattle.authenticator.specs.Authentic.{mac_of}
 use Rattle.signing.specs.Heard.{has_signature, heard}
 use Rattle.protocol.specs.System.Trace.{Entry, is_output, Once, Always, Has, AreOutputs, Hears}
@@ -170,7 +170,7 @@ KeepsPrepared =
     (c : Configuration) (me v i : ℕ) (batch bytes : List ℕ) (vc : ViewChangeData) (past : List Entry)
     → said bytes ≡ Some (record { sender = me; message = ViewChange vc }) → (SentBefore bytes past → ⊥) → SafeReplica c me (Sent me bytes ∷ past)
     → Prepared c me past v i batch → is_in_marks c (low c me past) i ≡ true
-    → Has (λ (claim : Claim). claim.number ≡ i) vc.prepared
+    → Has (λ (batch_entry : BatchEntry). batch_entry.number ≡ i) vc.prepared
 
 -- An installation, where each state of the number and root has a page that is not that of the state before and was
 -- never got for its place.
@@ -253,7 +253,7 @@ abbrev pub RepliesToItsClient : Type 0
 RepliesToItsClient =
     (c : Configuration) (me client timestamp number : ℕ) (mode : Mode) (answer : Outcome) (bytes : List ℕ) (frame : Frame) (entries : List MacData) (past : List Entry)
     → said bytes ≡ Some (record { sender = me; message = Reply client timestamp mode number answer })
-    → frame_of bytes ≡ Some frame → frame.proof ≡ macs entries → SafeReplica c me (Sent me bytes ∷ past)
+    → frame_of bytes ≡ Some frame → frame.authenticator ≡ macs entries → SafeReplica c me (Sent me bytes ∷ past)
     → map (λ x. x.receiver) entries ≡ client ∷ []
 
 -- Digests, or a page, sealed for another than one replica that asked for them.
@@ -261,14 +261,14 @@ abbrev pub DigestsToWhoAsked : Type 0
 DigestsToWhoAsked =
     (c : Configuration) (me k index : ℕ) (level : Level) (digests : List (List ℕ)) (bytes : List ℕ) (frame : Frame) (entries : List MacData) (past : List Entry)
     → said bytes ≡ Some (record { sender = me; message = Meta k level index digests })
-    → frame_of bytes ≡ Some frame → frame.proof ≡ macs entries → SafeReplica c me (Sent me bytes ∷ past)
+    → frame_of bytes ≡ Some frame → frame.authenticator ≡ macs entries → SafeReplica c me (Sent me bytes ∷ past)
     → (s : ℕ) × (map (λ x. x.receiver) entries ≡ s ∷ []) × WasAsked c me past s k level index
 
 abbrev pub PagesToWhoAsked : Type 0
 PagesToWhoAsked =
     (c : Configuration) (me k index : ℕ) (text bytes : List ℕ) (frame : Frame) (entries : List MacData) (past : List Entry)
     → said bytes ≡ Some (record { sender = me; message = Page k index text })
-    → frame_of bytes ≡ Some frame → frame.proof ≡ macs entries → SafeReplica c me (Sent me bytes ∷ past)
+    → frame_of bytes ≡ Some frame → frame.authenticator ≡ macs entries → SafeReplica c me (Sent me bytes ∷ past)
     → (s : ℕ) × (map (λ x. x.receiver) entries ≡ s ∷ []) × WasAsked c me past s k levels.Page index
 
 -- A commit that is not sealed for each other replica.
@@ -276,7 +276,7 @@ abbrev pub CommitsToAll : Type 0
 CommitsToAll =
     (c : Configuration) (me v i s : ℕ) (digest bytes : List ℕ) (frame : Frame) (entries : List MacData) (past : List Entry)
     → said bytes ≡ Some (record { sender = me; message = Commit v i digest })
-    → frame_of bytes ≡ Some frame → frame.proof ≡ macs entries → s < replicas c → s ≢ me → SafeReplica c me (Sent me bytes ∷ past)
+    → frame_of bytes ≡ Some frame → frame.authenticator ≡ macs entries → s < replicas c → s ≢ me → SafeReplica c me (Sent me bytes ∷ past)
     → Has (λ r. r ≡ s) (map (λ x. x.receiver) entries)
 
 -- A MAC of the own frame that is not that of its body from the replica to the receiver, or a signature that is not its
@@ -284,13 +284,13 @@ CommitsToAll =
 abbrev pub SealsWell : Type 0
 SealsWell =
     (c : Configuration) (me : ℕ) (bytes : List ℕ) (frame : Frame) (entries : List MacData) (past : List Entry)
-    → frame_of bytes ≡ Some frame → frame.proof ≡ macs entries → SafeReplica c me (Sent me bytes ∷ past)
+    → frame_of bytes ≡ Some frame → frame.authenticator ≡ macs entries → SafeReplica c me (Sent me bytes ∷ past)
     → All (λ x. x.mac ≡ mac_of c.seed x.receiver frame.body) entries
 
 abbrev pub SignsWell : Type 0
 SignsWell =
     (c : Configuration) (me : ℕ) (bytes s : List ℕ) (frame : Frame) (past : List Entry)
-    → frame_of bytes ≡ Some frame → frame.proof ≡ signature s → SafeReplica c me (Sent me bytes ∷ past) → has_signature c.seed frame ≡ true
+    → frame_of bytes ≡ Some frame → frame.authenticator ≡ signature s → SafeReplica c me (Sent me bytes ∷ past) → has_signature c.seed frame ≡ true
 
 -- ---- what is dropped
 
@@ -467,23 +467,23 @@ HasFrom count c new P = SoManyHave count c (changes_of c new) P
 abbrev pub SaysNothingAgainst : ℕ → ℕ → List ℕ → ViewChangeData → Type 0
 SaysNothingAgainst i w digest vc =
     (vc.low < i)
-    × ((claim : Claim) → Has (λ x. x ≡ claim) vc.prepared → claim.number ≡ i → (claim.view < w) ⊎ ((claim.view ≡ w) × (claim.digest ≡ digest)))
+    × ((batch_entry : BatchEntry) → Has (λ x. x ≡ batch_entry) vc.prepared → batch_entry.number ≡ i → (batch_entry.view < w) ⊎ ((batch_entry.view ≡ w) × (batch_entry.digest ≡ digest)))
 
 -- the digest was pre-prepared there for the number, in this view or a later one
 abbrev pub SaysForIt : ℕ → ℕ → List ℕ → ViewChangeData → Type 0
-SaysForIt i w digest vc = Has (λ (claim : Claim). (claim.number ≡ i) × (claim.digest ≡ digest) × (w ≤ claim.view)) vc.pre_prepared
+SaysForIt i w digest vc = Has (λ (batch_entry : BatchEntry). (batch_entry.number ≡ i) × (batch_entry.digest ≡ digest) × (w ≤ batch_entry.view)) vc.pre_prepared
 
 -- nothing is prepared there for the number
 abbrev pub SaysNothing : ℕ → ViewChangeData → Type 0
-SaysNothing i vc = (vc.low < i) × (Has (λ (claim : Claim). claim.number ≡ i) vc.prepared → ⊥)
+SaysNothing i vc = (vc.low < i) × (Has (λ (batch_entry : BatchEntry). batch_entry.number ≡ i) vc.prepared → ⊥)
 
 -- Over too few view changes, over some for another view, that leaves out a number prepared in one of them, or with a
 -- batch for which f + 1 don't vouch: such a new view is not taken.
 pub record IsWellSelected (c : Configuration) (new : NewViewData) : Type 0 where
   pub enough : HasFrom (2 * c.faults + 1) c new (λ vc. ⊤)
   pub of_its_view : (s : ℕ) (vc : ViewChangeData) → Has (λ x. x ≡ (s, vc)) (changes_of c new) → vc.view ≡ new.view
-  pub filled : (s : ℕ) (vc : ViewChangeData) (claim : Claim) → Has (λ x. x ≡ (s, vc)) (changes_of c new) → Has (λ x. x ≡ claim) vc.prepared
-      → claim.number ≤ new.start + 2 * c.period → claim.number ≤ new.start + length new.batches
+  pub filled : (s : ℕ) (vc : ViewChangeData) (batch_entry : BatchEntry) → Has (λ x. x ≡ (s, vc)) (changes_of c new) → Has (λ x. x ≡ batch_entry) vc.prepared
+      → batch_entry.number ≤ new.start + 2 * c.period → batch_entry.number ≤ new.start + length new.batches
   pub vouched : (i : ℕ) (batch : List ℕ) → slice_get new.batches (i - new.start - 1) ≡ Some batch → new.start < i
       → ((w : ℕ) × (w < new.view) × HasFrom (2 * c.faults + 1) c new (SaysNothingAgainst i w (sha256 batch)) × HasFrom (c.faults + 1) c new (SaysForIt i w (sha256 batch)))
       ⊎ ((batch ≡ null_batch) × HasFrom (2 * c.faults + 1) c new (SaysNothing i))

@@ -8,7 +8,7 @@ use Rattle.protocol.specs.System.Configuration.{Configuration, primary, members}
 use Rattle.terms.specs.declared.order.Mode.TheVariants as modes
 use Rattle.terms.specs.declared.state.Level.{Level}
 use Rattle.terms.specs.declared.state.Level.TheVariants as levels
-use Rattle.wire.specs.Messages.{MessageData as Message, ViewChangeData, NewViewData, MarkData as Mark, ClaimData as Claim, request as Request, pre_prepare as PrePrepare, prepare as Prepare, commit as Commit, checkpoint as Checkpoint, view_change as ViewChange, new_view as NewView, fetch as Fetch, meta as Meta, page as Page}
+use Rattle.wire.specs.Messages.{MessageData as Message, ViewChangeData, NewViewData, CheckpointEntryData as CheckpointEntry, BatchEntryData as BatchEntry, request as Request, pre_prepare as PrePrepare, prepare as Prepare, commit as Commit, checkpoint as Checkpoint, view_change as ViewChange, new_view as NewView, fetch as Fetch, meta as Meta, page as Page}
 use Rattle.signing.specs.Heard.{heard}
 use Rattle.wire.specs.Words.{said}
 use Rattle.protocol.specs.System.Trace.{Entry, Once, Has, Hears}
@@ -46,30 +46,30 @@ abbrev pub ChangesToNumbers : Type 0
 ChangesToNumbers = (c : Configuration) (me : ℕ) (vc : ViewChangeData) (bytes : List ℕ) (past : List Entry) → SendsNewChange c me vc bytes past → vc.view < 2 ^ 48
 
 -- the claim's number is in the marks
-abbrev pub IsInMarks : Configuration → ℕ → List Entry → Claim → Type 0
-IsInMarks c me past claim = (low c me past < claim.number) × (claim.number ≤ low c me past + 2 * c.period) × (claim.number < 2 ^ 48)
+abbrev pub IsInMarks : Configuration → ℕ → List Entry → BatchEntry → Type 0
+IsInMarks c me past batch_entry = (low c me past < batch_entry.number) × (batch_entry.number ≤ low c me past + 2 * c.period) × (batch_entry.number < 2 ^ 48)
 
 -- A new view change that claims a number outside the marks prepared, or pre-prepared.
-abbrev pub ClaimsPreparedInMarks : Type 0
-ClaimsPreparedInMarks =
-    (c : Configuration) (me : ℕ) (vc : ViewChangeData) (claim : Claim) (bytes : List ℕ) (past : List Entry) → SendsNewChange c me vc bytes past
-    → Has (λ x. x ≡ claim) vc.prepared → IsInMarks c me past claim
+abbrev pub BatchEntriesPreparedInMarks : Type 0
+BatchEntriesPreparedInMarks =
+    (c : Configuration) (me : ℕ) (vc : ViewChangeData) (batch_entry : BatchEntry) (bytes : List ℕ) (past : List Entry) → SendsNewChange c me vc bytes past
+    → Has (λ x. x ≡ batch_entry) vc.prepared → IsInMarks c me past batch_entry
 
-abbrev pub ClaimsProposedInMarks : Type 0
-ClaimsProposedInMarks =
-    (c : Configuration) (me : ℕ) (vc : ViewChangeData) (claim : Claim) (bytes : List ℕ) (past : List Entry) → SendsNewChange c me vc bytes past
-    → Has (λ x. x ≡ claim) vc.pre_prepared → IsInMarks c me past claim
+abbrev pub BatchEntriesProposedInMarks : Type 0
+BatchEntriesProposedInMarks =
+    (c : Configuration) (me : ℕ) (vc : ViewChangeData) (batch_entry : BatchEntry) (bytes : List ℕ) (past : List Entry) → SendsNewChange c me vc bytes past
+    → Has (λ x. x ≡ batch_entry) vc.pre_prepared → IsInMarks c me past batch_entry
 
 -- A new view change whose prepared claims don't ascend, as two of one number.
-abbrev pub ClaimsAscend : Type 0
-ClaimsAscend =
-    (c : Configuration) (me i j : ℕ) (vc : ViewChangeData) (a b : Claim) (bytes : List ℕ) (past : List Entry) → SendsNewChange c me vc bytes past
+abbrev pub BatchEntriesAscend : Type 0
+BatchEntriesAscend =
+    (c : Configuration) (me i j : ℕ) (vc : ViewChangeData) (a b : BatchEntry) (bytes : List ℕ) (past : List Entry) → SendsNewChange c me vc bytes past
     → i < j → slice_get vc.prepared i ≡ Some a → slice_get vc.prepared j ≡ Some b → a.number < b.number
 
 -- A new view change that claims one digest of one number pre-prepared twice.
-abbrev pub ClaimsDiffer : Type 0
-ClaimsDiffer =
-    (c : Configuration) (me i j : ℕ) (vc : ViewChangeData) (a b : Claim) (bytes : List ℕ) (past : List Entry) → SendsNewChange c me vc bytes past
+abbrev pub BatchEntriesDiffer : Type 0
+BatchEntriesDiffer =
+    (c : Configuration) (me i j : ℕ) (vc : ViewChangeData) (a b : BatchEntry) (bytes : List ℕ) (past : List Entry) → SendsNewChange c me vc bytes past
     → i < j → slice_get vc.pre_prepared i ≡ Some a → slice_get vc.pre_prepared j ≡ Some b → a.number ≡ b.number → a.digest ≢ b.digest
 
 -- A view change that goes again, and is not the last that was sent.
@@ -190,11 +190,11 @@ DropsCheckpointsOfNoNumber =
 abbrev pub DropsSecondCheckpoints : Type 0
 DropsSecondCheckpoints =
     (c : Configuration) (me s k : ℕ) (root bytes : List ℕ) (past : List Entry)
-    → Has (λ (mark : Mark). mark.number ≡ k) (checkpoints_of c past s) → Answers c me s (Checkpoint k root) bytes past → ⊥
+    → Has (λ (checkpoint : CheckpointEntry). checkpoint.number ≡ k) (checkpoints_of c past s) → Answers c me s (Checkpoint k root) bytes past → ⊥
 
 abbrev pub DropsPassedCheckpoints : Type 0
 DropsPassedCheckpoints =
-    (c : Configuration) (me s k : ℕ) (root bytes : List ℕ) (a b d : Mark) (past : List Entry)
+    (c : Configuration) (me s k : ℕ) (root bytes : List ℕ) (a b d : CheckpointEntry) (past : List Entry)
     → checkpoints_of c past s ≡ a ∷ b ∷ d ∷ [] → k < d.number → d.number < b.number → b.number < a.number → Answers c me s (Checkpoint k root) bytes past → ⊥
 
 -- A view change not above the view, and one beyond its bounds.

@@ -3,7 +3,7 @@
 use Rattle.std.specs.Prelude.{◌≡◌, ℕ, ◌%◌, ◌≤◌, ◌<◌, ◌⊎◌, List, ◌∷◌, slice_get, Some}
 use Rattle.protocol.specs.System.Configuration.{Configuration}
 use Rattle.terms.specs.declared.state.Level.{Level}
-use Rattle.wire.specs.Messages.{ViewChangeData, MarkData as Mark, meta as Meta, page as Page}
+use Rattle.wire.specs.Messages.{ViewChangeData, CheckpointEntryData as CheckpointEntry, meta as Meta, page as Page}
 use Rattle.wire.specs.Words.{said}
 use Rattle.protocol.specs.System.Trace.{Entry, Once, Has}
 use Rattle.protocol.specs.System.Trace.Entry.{Installed, Sent}
@@ -44,24 +44,24 @@ ChangesFromLowMark = (c : Configuration) (me : ℕ) (vc : ViewChangeData) (bytes
 -- A new view change that lists a checkpoint below the low mark.
 abbrev pub ListsNoneBelow : Type 0
 ListsNoneBelow =
-    (c : Configuration) (me : ℕ) (vc : ViewChangeData) (mark : Mark) (bytes : List ℕ) (past : List Entry) → SendsNewChange c me vc bytes past
-    → Has (λ x. x ≡ mark) vc.checkpoints → low c me past ≤ mark.number
+    (c : Configuration) (me : ℕ) (vc : ViewChangeData) (checkpoint : CheckpointEntry) (bytes : List ℕ) (past : List Entry) → SendsNewChange c me vc bytes past
+    → Has (λ x. x ≡ checkpoint) vc.checkpoints → low c me past ≤ checkpoint.number
 
 -- A new view change that lists a checkpoint of a number that was neither executed, as a multiple of the period, nor
 -- installed.
 abbrev pub ListsSnapshots : Type 0
 ListsSnapshots =
-    (c : Configuration) (me : ℕ) (vc : ViewChangeData) (mark : Mark) (bytes : List ℕ) (past : List Entry) → SendsNewChange c me vc bytes past
-    → Has (λ x. x ≡ mark) vc.checkpoints → HasSnapshot c mark.number past
+    (c : Configuration) (me : ℕ) (vc : ViewChangeData) (checkpoint : CheckpointEntry) (bytes : List ℕ) (past : List Entry) → SendsNewChange c me vc bytes past
+    → Has (λ x. x ≡ checkpoint) vc.checkpoints → HasSnapshot c checkpoint.number past
 
 -- A new view change that leaves out such a number at or above the low mark.
 abbrev pub ListsEachSnapshot : Type 0
 ListsEachSnapshot =
     (c : Configuration) (me k : ℕ) (vc : ViewChangeData) (bytes : List ℕ) (past : List Entry) → SendsNewChange c me vc bytes past
-    → HasSnapshot c k past → low c me past ≤ k → Has (λ (mark : Mark). mark.number ≡ k) vc.checkpoints
+    → HasSnapshot c k past → low c me past ≤ k → Has (λ (checkpoint : CheckpointEntry). checkpoint.number ≡ k) vc.checkpoints
 
 -- A new view change whose checkpoints don't ascend.
 abbrev pub CheckpointsAscend : Type 0
 CheckpointsAscend =
-    (c : Configuration) (me i j : ℕ) (vc : ViewChangeData) (a b : Mark) (bytes : List ℕ) (past : List Entry) → SendsNewChange c me vc bytes past
+    (c : Configuration) (me i j : ℕ) (vc : ViewChangeData) (a b : CheckpointEntry) (bytes : List ℕ) (past : List Entry) → SendsNewChange c me vc bytes past
     → i < j → slice_get vc.checkpoints i ≡ Some a → slice_get vc.checkpoints j ≡ Some b → a.number < b.number

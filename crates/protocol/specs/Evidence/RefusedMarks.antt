@@ -2,7 +2,7 @@
 use Rattle.std.specs.Prelude.{◌≡◌, ℕ, ◌+◌, ◌*◌, ◌^◌, ◌≤◌, ◌<◌, ◌⊎◌, true, Bool, List, [], ◌∷◌, length, slice_get, Some}
 use Rattle.quorum.specs.Quorum.{count_below}
 use Rattle.protocol.specs.System.Configuration.{Configuration, replicas, members}
-use Rattle.wire.specs.Messages.{ViewChangeData, NewViewData, MarkData as Mark, checkpoint as Checkpoint, view_change as ViewChange}
+use Rattle.wire.specs.Messages.{ViewChangeData, NewViewData, CheckpointEntryData as CheckpointEntry, checkpoint as Checkpoint, view_change as ViewChange}
 use Rattle.signing.specs.Heard.{heard, signed_body}
 use Rattle.wire.specs.Words.{said}
 use Rattle.protocol.specs.System.Trace.{Entry, Once, Has}
@@ -27,7 +27,7 @@ pub record IsWellFounded (c : Configuration) (new : NewViewData) : Type 0 where
   pub of_its_view : (s : ℕ) (vc : ViewChangeData) → Has (λ x. x ≡ (s, vc)) (changes_of c new) → vc.view ≡ new.view
   pub bounded : (s : ℕ) (vc : ViewChangeData) → Has (λ x. x ≡ (s, vc)) (changes_of c new) → IsBounded c vc
   pub started : HasFrom (2 * c.faults + 1) c new (λ vc. vc.low ≤ new.start)
-  pub listed : HasFrom (c.faults + 1) c new (λ vc. Has (λ (mark : Mark). (mark.number ≡ new.start) × (mark.digest ≡ new.root)) vc.checkpoints)
+  pub listed : HasFrom (c.faults + 1) c new (λ vc. Has (λ (checkpoint : CheckpointEntry). (checkpoint.number ≡ new.start) × (checkpoint.digest ≡ new.root)) vc.checkpoints)
 
 -- Each new view that is taken is well founded.
 abbrev pub TakesWellFounded : Type 0
@@ -37,7 +37,7 @@ TakesWellFounded = (c : Configuration) (past : List Entry) (e : Entry) (new : Ne
 
 -- the replica's checkpoints have this number with this root
 abbrev pub HasCheckpoint : Configuration → List Entry → ℕ → List ℕ → ℕ → Type 0
-HasCheckpoint c past k root s = Has (λ (mark : Mark). (mark.number ≡ k) × (mark.digest ≡ root)) (checkpoints_of c past s)
+HasCheckpoint c past k root s = Has (λ (checkpoint : CheckpointEntry). (checkpoint.number ≡ k) × (checkpoint.digest ≡ root)) (checkpoints_of c past s)
 
 -- checkpoints of 2f + 1 different replicas are alike, the own among them
 pub record IsStable (c : Configuration) (me : ℕ) (past : List Entry) (k : ℕ) (root : List ℕ) : Type 0 where
@@ -77,21 +77,21 @@ BringsCheckpoint c s k root _ = ⊥
 abbrev pub FirstCheckpointCounts : Type 0
 FirstCheckpointCounts =
     (c : Configuration) (s k : ℕ) (root : List ℕ) (e : Entry) (past : List Entry) → BringsCheckpoint c s k root e
-    → Has (λ (mark : Mark). mark.number ≡ k) (checkpoints_of c past s) → checkpoints_of c (e ∷ past) s ≡ checkpoints_of c past s
+    → Has (λ (checkpoint : CheckpointEntry). checkpoint.number ≡ k) (checkpoints_of c past s) → checkpoints_of c (e ∷ past) s ≡ checkpoints_of c past s
 
 -- A checkpoint of another number that is lost, though its sender has less than three, or one of a lower number.
 abbrev pub NewCheckpointCounts : Type 0
 NewCheckpointCounts =
     (c : Configuration) (s k : ℕ) (root : List ℕ) (e : Entry) (past : List Entry) → BringsCheckpoint c s k root e → k < 2 ^ 48
-    → (Has (λ (mark : Mark). mark.number ≡ k) (checkpoints_of c past s) → ⊥)
-    → (length (checkpoints_of c past s) < 3) ⊎ Has (λ (mark : Mark). mark.number < k) (checkpoints_of c past s) → HasCheckpoint c (e ∷ past) k root s
+    → (Has (λ (checkpoint : CheckpointEntry). checkpoint.number ≡ k) (checkpoints_of c past s) → ⊥)
+    → (length (checkpoints_of c past s) < 3) ⊎ Has (λ (checkpoint : CheckpointEntry). checkpoint.number < k) (checkpoints_of c past s) → HasCheckpoint c (e ∷ past) k root s
 
 -- One that is dropped, though no three are of greater numbers.
 abbrev pub CheckpointsStay : Type 0
 CheckpointsStay =
-    (c : Configuration) (s : ℕ) (mark : Mark) (e : Entry) (past : List Entry) → Has (λ x. x ≡ mark) (checkpoints_of c past s)
-    → Has (λ x. x ≡ mark) (checkpoints_of c (e ∷ past) s)
-    ⊎ ((x y z : Mark) × (checkpoints_of c (e ∷ past) s ≡ x ∷ y ∷ z ∷ []) × (mark.number < z.number))
+    (c : Configuration) (s : ℕ) (checkpoint : CheckpointEntry) (e : Entry) (past : List Entry) → Has (λ x. x ≡ checkpoint) (checkpoints_of c past s)
+    → Has (λ x. x ≡ checkpoint) (checkpoints_of c (e ∷ past) s)
+    ⊎ ((x y z : CheckpointEntry) × (checkpoints_of c (e ∷ past) s ≡ x ∷ y ∷ z ∷ []) × (checkpoint.number < z.number))
 
 -- More than three of a sender, or not from the greatest number down.
 abbrev pub CheckpointsAreFew : Type 0
@@ -99,11 +99,11 @@ CheckpointsAreFew = (c : Configuration) (s : ℕ) (past : List Entry) → length
 
 abbrev pub CheckpointsDescend : Type 0
 CheckpointsDescend =
-    (c : Configuration) (s i j : ℕ) (a b : Mark) (past : List Entry)
+    (c : Configuration) (s i j : ℕ) (a b : CheckpointEntry) (past : List Entry)
     → i < j → slice_get (checkpoints_of c past s) i ≡ Some a → slice_get (checkpoints_of c past s) j ≡ Some b → b.number < a.number
 
 -- One that its sender's checkpoints never brought, or of no number.
 abbrev pub CheckpointsWereBrought : Type 0
 CheckpointsWereBrought =
-    (c : Configuration) (s : ℕ) (mark : Mark) (past : List Entry) → Has (λ x. x ≡ mark) (checkpoints_of c past s)
-    → (mark.number < 2 ^ 48) × Once (λ earlier e. BringsCheckpoint c s mark.number mark.digest e) past
+    (c : Configuration) (s : ℕ) (checkpoint : CheckpointEntry) (past : List Entry) → Has (λ x. x ≡ checkpoint) (checkpoints_of c past s)
+    → (checkpoint.number < 2 ^ 48) × Once (λ earlier e. BringsCheckpoint c s checkpoint.number checkpoint.digest e) past

@@ -7,7 +7,7 @@ use Rattle.quorum.specs.Quorum.{count_below}
 use Rattle.protocol.specs.System.Configuration.{Configuration, replicas, is_correct, members}
 use Rattle.terms.specs.declared.order.Mode.{Mode}
 use Rattle.terms.specs.declared.order.Mode.TheVariants as modes
-use Rattle.wire.specs.Messages.{FrameData as Frame, MacData, macs, ViewChangeData, NewViewData, ClaimData as Claim, request as Request, view_change as ViewChange, new_view as NewView, reply as Reply}
+use Rattle.wire.specs.Messages.{FrameData as Frame, MacData, macs, ViewChangeData, NewViewData, BatchEntryData as BatchEntry, request as Request, view_change as ViewChange, new_view as NewView, reply as Reply}
 use Rattle.signing.specs.Heard.{heard}
 use Rattle.wire.specs.Words.{frame_of, said}
 use Rattle.protocol.specs.System.Frames.{reads_only}
@@ -71,7 +71,7 @@ AsksAtTicks =
 abbrev pub AsksAll : Type 0
 AsksAll =
     (c : Configuration) (me s : ℕ) (bytes : List ℕ) (frame : Frame) (entries : List MacData) (past : List Entry)
-    → frame_of bytes ≡ Some frame → frame.proof ≡ macs entries → s < replicas c → IsAnyClient c me (Sent me bytes ∷ past)
+    → frame_of bytes ≡ Some frame → frame.authenticator ≡ macs entries → s < replicas c → IsAnyClient c me (Sent me bytes ∷ past)
     → Has (λ r. r ≡ s) (map (λ x. x.receiver) entries)
 
 -- Of the weak client: an ordered reply that makes f + 1 replicas' latest ones of one answer, and no acceptance, or
@@ -186,7 +186,7 @@ abbrev pub FlushDeliversSent : Type 0
 FlushDeliversSent =
     (c : Configuration) (steps : List Step) (sender q : ℕ) (bytes : List ℕ) (frame : Frame) (trace : List Entry)
     → Feeds c (steps ++ flush ∷ []) trace → Has (λ e. e ≡ Sent sender bytes) trace
-    → frame_of bytes ≡ Some frame → Has (λ r. r ≡ q) (meant_for c sender frame.proof) → is_correct c q ≡ true
+    → frame_of bytes ≡ Some frame → Has (λ r. r ≡ q) (meant_for c sender frame.authenticator) → is_correct c q ≡ true
     → Has (Gets q bytes) trace
 
 -- ---- a replica
@@ -210,7 +210,7 @@ KeepsProposed =
     (c : Configuration) (me v i : ℕ) (batch bytes : List ℕ) (vc : ViewChangeData) (past : List Entry)
     → said bytes ≡ Some (record { sender = me; message = ViewChange vc }) → (SentBefore bytes past → ⊥) → SafeReplica c me (Sent me bytes ∷ past)
     → logged c me past v i ≡ Some batch → is_in_marks c (low c me past) i ≡ true
-    → Has (λ (claim : Claim). (claim.number ≡ i) × (claim.digest ≡ sha256 batch) × (v ≤ claim.view)) vc.pre_prepared
+    → Has (λ (batch_entry : BatchEntry). (batch_entry.number ≡ i) × (batch_entry.digest ≡ sha256 batch) × (v ≤ batch_entry.view)) vc.pre_prepared
 
 -- A request by a replica.
 abbrev pub NoRequestByReplica : Type 0

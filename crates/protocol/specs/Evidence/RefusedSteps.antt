@@ -156,9 +156,9 @@ pub record IsSignedFrom (c : Configuration) (body : Body) (bytes : List ℕ) : T
   pub made : List ℕ
   pub spells : frame_of bytes ≡ Some frame
   pub says : said bytes ≡ Some body
-  pub has_signature : frame.proof ≡ signature made
+  pub has_signature : frame.authenticator ≡ signature made
   pub is_sealed : IsSealed c frame
-  pub is_for : meant_for c body.sender frame.proof ≡ others c body.sender
+  pub is_for : meant_for c body.sender frame.authenticator ≡ others c body.sender
   pub is_heard : (p : ℕ) → body.sender ≢ p → heard (members c) p bytes ≡ Some body
   pub is_told : signed_body (members c) bytes ≡ Some body
 

@@ -2,7 +2,7 @@
 use Rattle.std.specs.Prelude.{◌≡◌, ◌↔◌, ℕ, suc, ◌+◌, ◌*◌, ◌≤◌, ◌<◌, ◌⊎◌, true, List, [], ◌∷◌, length, slice_get, Some, AllPairs, ⊤}
 use Rattle.sha2.specs.Sha256.{sha256}
 use Rattle.protocol.specs.System.Configuration.{Configuration}
-use Rattle.wire.specs.Messages.{NewViewData, ViewChangeData, MarkData as Mark, ClaimData as Claim}
+use Rattle.wire.specs.Messages.{NewViewData, ViewChangeData, CheckpointEntryData as CheckpointEntry, BatchEntryData as BatchEntry}
 use Rattle.protocol.specs.System.Trace.{Has}
 use Rattle.protocol.specs.Replica.Selection.{may_select}
 use Rattle.protocol.specs.Evidence.Refused.{SoManyHave, SaysNothingAgainst, SaysForIt, SaysNothing}
@@ -27,7 +27,7 @@ WeakQuorumHas c set P = SoManyHave (c.faults + 1) c set P
 
 -- some view change of the set has prepared the number
 abbrev pub SomePrepared : List (ℕ × ViewChangeData) → ℕ → Type 0
-SomePrepared set i = Has (λ (x : ℕ × ViewChangeData). Has (λ (claim : Claim). claim.number ≡ i) x.1.prepared) set
+SomePrepared set i = Has (λ (x : ℕ × ViewChangeData). Has (λ (batch_entry : BatchEntry). batch_entry.number ≡ i) x.1.prepared) set
 
 -- A batch may stand at a number if, for some earlier view, a quorum has nothing against its digest and f + 1 speak for
 -- it, or if it is the null batch and a quorum has nothing prepared for the number.
@@ -47,7 +47,7 @@ pub record IsSelected (c : Configuration) (new : NewViewData) : Type 0 where
   pub enough : QuorumHas c set (λ vc. ⊤)
   pub within : Each (λ x. (x.1.view ≡ new.view) × IsBounded c x.1) set
   pub started : QuorumHas c set (λ vc. vc.low ≤ new.start)
-  pub listed : WeakQuorumHas c set (λ vc. Has (λ (mark : Mark). (mark.number ≡ new.start) × (mark.digest ≡ new.root)) vc.checkpoints)
+  pub listed : WeakQuorumHas c set (λ vc. Has (λ (checkpoint : CheckpointEntry). (checkpoint.number ≡ new.start) × (checkpoint.digest ≡ new.root)) vc.checkpoints)
   pub filled : (i : ℕ) → SomePrepared set i → i ≤ new.start + 2 * c.period → i ≤ new.start + length new.batches
   pub ends : (new.batches ≡ []) ⊎ (SomePrepared set (new.start + length new.batches) × (length new.batches ≤ 2 * c.period))
   pub stands : (k : ℕ) (batch : List ℕ) → slice_get new.batches k ≡ Some batch → MayStand c new.view set (suc new.start + k) batch

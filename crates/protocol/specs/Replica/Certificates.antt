@@ -9,7 +9,7 @@ use Rattle.sha2.specs.Sha256.{sha256}
 use Rattle.quorum.specs.Quorum.{count_below}
 use Rattle.quorum.specs.Votes.{or_else, give_if, has_digest}
 use Rattle.protocol.specs.System.Configuration.{Configuration, replicas, primary, span, is_number, members}
-use Rattle.wire.specs.Messages.{BodyData as Body, NewViewData, MarkData as Mark, pre_prepare as PrePrepare, prepare as Prepare, commit as Commit, checkpoint as Checkpoint, view_change as ViewChange, new_view as NewView}
+use Rattle.wire.specs.Messages.{BodyData as Body, NewViewData, CheckpointEntryData as CheckpointEntry, pre_prepare as PrePrepare, prepare as Prepare, commit as Commit, checkpoint as Checkpoint, view_change as ViewChange, new_view as NewView}
 use Rattle.wire.specs.Words.{requests_of, said}
 use Rattle.signing.specs.Heard.{heard}
 use Rattle.protocol.specs.System.Trace.{Entry}
@@ -80,39 +80,39 @@ taken c past e = option_and_then (λ new. give_if (is_later (view c past) (targe
 -- ---- checkpoints
 
 -- the checkpoint that a message is, with its sender, where its number is one
-abbrev pub checkpoint_from : Body → Option (ℕ × Mark)
+abbrev pub checkpoint_from : Body → Option (ℕ × CheckpointEntry)
 checkpoint_from body = elim body.message [ Checkpoint number root ↦ give_if (is_number number) (body.sender, record { number = number; digest = root }) | _ ↦ None ]
 
 -- the checkpoint that an entry brings, with its sender
-abbrev pub checkpoint_in : Configuration → Entry → Option (ℕ × Mark)
+abbrev pub checkpoint_in : Configuration → Entry → Option (ℕ × CheckpointEntry)
 checkpoint_in c e = option_and_then checkpoint_from (brought c e)
 
 -- one more among a sender's checkpoints, the largest number first; of one number the earlier stays
-abbrev pub insert_checkpoint : Mark → List Mark → List Mark
-insert_checkpoint mark [] = mark ∷ []
-insert_checkpoint mark (m ∷ ms) = if m.number == mark.number then m ∷ ms else if nat_lt m.number mark.number then mark ∷ m ∷ ms else m ∷ insert_checkpoint mark ms
+abbrev pub insert_checkpoint : CheckpointEntry → List CheckpointEntry → List CheckpointEntry
+insert_checkpoint checkpoint [] = checkpoint ∷ []
+insert_checkpoint checkpoint (m ∷ ms) = if m.number == checkpoint.number then m ∷ ms else if nat_lt m.number checkpoint.number then checkpoint ∷ m ∷ ms else m ∷ insert_checkpoint checkpoint ms
 
 -- a sender's checkpoints behind an entry that brings this one: another's changes nothing, and three stay
-abbrev pub with_checkpoint : ℕ → Option (ℕ × Mark) → List Mark → List Mark
+abbrev pub with_checkpoint : ℕ → Option (ℕ × CheckpointEntry) → List CheckpointEntry → List CheckpointEntry
 with_checkpoint s None marks = marks
 with_checkpoint s (Some x) marks = if x.0 == s then take 3 (insert_checkpoint x.1 marks) else marks
 
 -- of each sender the checkpoints of the three largest numbers, the largest first; of one number the first counts
-unfoldable pub checkpoints_of : Configuration → List Entry → ℕ → List Mark
+unfoldable pub checkpoints_of : Configuration → List Entry → ℕ → List CheckpointEntry
 checkpoints_of c [] s = []
 checkpoints_of c (e ∷ past) s = with_checkpoint s (checkpoint_in c e) (checkpoints_of c past s)
 
 -- one of these checkpoints has this number and digest
-abbrev pub says_checkpoint : Mark → List Mark → Bool
-says_checkpoint mark marks = list_any (λ m. (m.number == mark.number) && bytes_eq m.digest mark.digest) marks
+abbrev pub says_checkpoint : CheckpointEntry → List CheckpointEntry → Bool
+says_checkpoint checkpoint marks = list_any (λ m. (m.number == checkpoint.number) && bytes_eq m.digest checkpoint.digest) marks
 
 -- how many different replicas' checkpoints say this
-abbrev pub count_checkpoints : Configuration → List Entry → Mark → ℕ
-count_checkpoints c past mark = count_below (λ s. says_checkpoint mark (checkpoints_of c past s)) (replicas c)
+abbrev pub count_checkpoints : Configuration → List Entry → CheckpointEntry → ℕ
+count_checkpoints c past checkpoint = count_below (λ s. says_checkpoint checkpoint (checkpoints_of c past s)) (replicas c)
 
 -- Stable: a quorum of checkpoints is alike, the own among them.
-abbrev pub is_stable : Configuration → ℕ → List Entry → Mark → Bool
-is_stable c me past mark = is_quorum c (count_checkpoints c past mark) && says_checkpoint mark (checkpoints_of c past me)
+abbrev pub is_stable : Configuration → ℕ → List Entry → CheckpointEntry → Bool
+is_stable c me past checkpoint = is_quorum c (count_checkpoints c past checkpoint) && says_checkpoint checkpoint (checkpoints_of c past me)
 
 -- ---- the low mark
 

@@ -14,7 +14,7 @@ use Rattle.terms.specs.declared.order.Mode.TheVariants as modes
 use Rattle.terms.specs.declared.state.Level.{Level}
 use Rattle.terms.specs.declared.state.Level.TheVariants as levels
 use Rattle.wire.specs.Spelling.{has_children}
-use Rattle.wire.specs.Messages.{BodyData as Body, MessageData as Message, NewViewData, MarkData as Mark, request as Request, pre_prepare as PrePrepare, prepare as Prepare, commit as Commit, checkpoint as Checkpoint, view_change as ViewChange, new_view as NewView, reply as Reply, fetch as Fetch, meta as Meta, page as Page}
+use Rattle.wire.specs.Messages.{BodyData as Body, MessageData as Message, NewViewData, CheckpointEntryData as CheckpointEntry, request as Request, pre_prepare as PrePrepare, prepare as Prepare, commit as Commit, checkpoint as Checkpoint, view_change as ViewChange, new_view as NewView, reply as Reply, fetch as Fetch, meta as Meta, page as Page}
 use Rattle.wire.specs.Words.{requests_of, frame_of, said, receivers_of}
 use Rattle.signing.specs.Heard.{heard}
 use Rattle.protocol.specs.System.Trace.{Entry, party_of, is_output, Once, Has, either, Hears}
@@ -40,7 +40,7 @@ Gives me message outputs = Has (IsSaying me message) outputs
 -- a frame of this message is sent here, for the replica s alone
 abbrev pub IsSayingTo : ℕ → ℕ → Message → Entry → Type 0
 IsSayingTo me s message (Sent p bytes) =
-    (said bytes ≡ Some (record { sender = me; message = message })) × (option_map_or (λ frame. receivers_of frame.proof) (frame_of bytes) [] ≡ s ∷ [])
+    (said bytes ≡ Some (record { sender = me; message = message })) × (option_map_or (λ frame. receivers_of frame.authenticator) (frame_of bytes) [] ≡ s ∷ [])
 IsSayingTo me s message _ = ⊥
 
 -- one of the outputs is such a frame
@@ -136,7 +136,7 @@ IsAwaited c me past point k level index digest = (asked_last past ≡ Some (k, (
 -- ---- inputs that count; all others are dropped
 
 -- one of the checkpoints has the number
-abbrev pub has_number : ℕ → List Mark → Bool
+abbrev pub has_number : ℕ → List CheckpointEntry → Bool
 has_number k marks = list_any (λ m. m.number == k) marks
 
 -- the view of the view change that an entry brings of the replica, where it is above the view then and within its

@@ -13,7 +13,7 @@ use Rattle.terms.specs.declared.order.Mode.{Mode}
 use Rattle.terms.specs.declared.order.Mode.TheVariants as modes
 use Rattle.terms.specs.declared.state.Level.{Level}
 use Rattle.terms.specs.declared.state.Level.TheVariants as levels
-use Rattle.wire.specs.Messages.{BodyData as Body, FrameData as Frame, MessageData as Message, ProofData as Proof, macs, signature, ViewChangeData, NewViewData, MarkData as Mark, ClaimData as Claim, request as Request, pre_prepare as PrePrepare, prepare as Prepare, commit as Commit, checkpoint as Checkpoint, view_change as ViewChange, new_view as NewView, reply as Reply, fetch as Fetch, meta as Meta, page as Page}
+use Rattle.wire.specs.Messages.{BodyData as Body, FrameData as Frame, MessageData as Message, AuthenticatorData as Authenticator, macs, signature, ViewChangeData, NewViewData, CheckpointEntryData as CheckpointEntry, BatchEntryData as BatchEntry, request as Request, pre_prepare as PrePrepare, prepare as Prepare, commit as Commit, checkpoint as Checkpoint, view_change as ViewChange, new_view as NewView, reply as Reply, fetch as Fetch, meta as Meta, page as Page}
 use Rattle.wire.specs.Words.{carried, requests_of, frame_of, said, receivers_of}
 use Rattle.signing.specs.Heard.{heard}
 use Rattle.protocol.specs.System.Frames.{IsSealed}
@@ -132,27 +132,27 @@ abbrev pub kept_states : ℕ → List State → List State
 kept_states h snapshots = filter (λ st. nat_le h st.number) snapshots
 
 -- what a checkpoint of a state says: its number and root
-abbrev pub checkpoint_of : State → Mark
+abbrev pub checkpoint_of : State → CheckpointEntry
 checkpoint_of st = record { number = st.number; digest = root_of st }
 
 -- the latest prepared digest of each number in the marks, one a number
-pub record IsPreparedList (c : Configuration) (me : ℕ) (past : List Entry) (claims : List Claim) : Type 0 where
-  pub listed : (claim : Claim) → Has (λ x. x ≡ claim) claims
-      → ((batch : List ℕ) × Prepared c me past claim.view claim.number batch × (sha256 batch ≡ claim.digest))
-      × (is_in_marks c (low c me past) claim.number ≡ true)
-      × ((v : ℕ) (batch : List ℕ) → claim.view < v → Prepared c me past v claim.number batch → ⊥)
+pub record IsPreparedList (c : Configuration) (me : ℕ) (past : List Entry) (batch_entries : List BatchEntry) : Type 0 where
+  pub listed : (batch_entry : BatchEntry) → Has (λ x. x ≡ batch_entry) batch_entries
+      → ((batch : List ℕ) × Prepared c me past batch_entry.view batch_entry.number batch × (sha256 batch ≡ batch_entry.digest))
+      × (is_in_marks c (low c me past) batch_entry.number ≡ true)
+      × ((v : ℕ) (batch : List ℕ) → batch_entry.view < v → Prepared c me past v batch_entry.number batch → ⊥)
   pub all : (v i : ℕ) (batch : List ℕ) → is_in_marks c (low c me past) i ≡ true → Prepared c me past v i batch
-      → Has (λ x. x.number ≡ i) claims
-  pub ascending : AllPairs (λ x y. x.number < y.number) claims
+      → Has (λ x. x.number ≡ i) batch_entries
+  pub ascending : AllPairs (λ x y. x.number < y.number) batch_entries
 
 -- each digest that was pre-prepared for a number in the marks, with its latest view
-pub record IsPrePreparedList (c : Configuration) (me : ℕ) (past : List Entry) (claims : List Claim) : Type 0 where
-  pub listed : (claim : Claim) → Has (λ x. x ≡ claim) claims
-      → ((batch : List ℕ) × (logged c me past claim.view claim.number ≡ Some batch) × (sha256 batch ≡ claim.digest))
-      × (is_in_marks c (low c me past) claim.number ≡ true)
+pub record IsPrePreparedList (c : Configuration) (me : ℕ) (past : List Entry) (batch_entries : List BatchEntry) : Type 0 where
+  pub listed : (batch_entry : BatchEntry) → Has (λ x. x ≡ batch_entry) batch_entries
+      → ((batch : List ℕ) × (logged c me past batch_entry.view batch_entry.number ≡ Some batch) × (sha256 batch ≡ batch_entry.digest))
+      × (is_in_marks c (low c me past) batch_entry.number ≡ true)
   pub all : (v i : ℕ) (batch : List ℕ) → is_in_marks c (low c me past) i ≡ true → logged c me past v i ≡ Some batch
-      → Has (λ x. (x.number ≡ i) × (x.digest ≡ sha256 batch) × (v ≤ x.view)) claims
-  pub differ : AllPairs (λ x y. (x.number ≡ y.number) → x.digest ≢ y.digest) claims
+      → Has (λ x. (x.number ≡ i) × (x.digest ≡ sha256 batch) × (v ≤ x.view)) batch_entries
+  pub differ : AllPairs (λ x y. (x.number ≡ y.number) → x.digest ≢ y.digest) batch_entries
 
 -- a view change for a view above the own one and above those sent before, with what the history says
 pub record IsNewViewChange (c : Configuration) (me : ℕ) (past : List Entry) (point : Point) (vc : ViewChangeData) : Type 0 where
@@ -171,8 +171,8 @@ abbrev pub StartsAt : Configuration → ℕ → List ℕ → List Entry → Entr
 StartsAt c k root past e = (new : NewViewData) × (taken c past e ≡ Some new) × (new.start ≡ k) × (new.root ≡ root)
 
 -- a quorum of checkpoints, counted as for stability, was alike at one point of the past
-abbrev pub HadQuorum : Configuration → Mark → List Entry → Type 0
-HadQuorum c mark past = Once (λ earlier e. is_quorum c (count_checkpoints c (e ∷ earlier) mark) ≡ true) past
+abbrev pub HadQuorum : Configuration → CheckpointEntry → List Entry → Type 0
+HadQuorum c checkpoint past = Once (λ earlier e. is_quorum c (count_checkpoints c (e ∷ earlier) checkpoint) ≡ true) past
 
 -- a quorum of checkpoints had this root for the number, or a new view starts there with it
 abbrev pub IsRootWanted : Configuration → List Entry → ℕ → List ℕ → Type 0
@@ -297,7 +297,7 @@ IsFor c me past (Page k index text) receivers = (s : ℕ) × (receivers ≡ s �
 IsFor c me past _ receivers = receivers ≡ others c me
 
 -- MACs are for those; a signature is for all
-abbrev pub IsAddressed : Configuration → ℕ → List Entry → Message → Proof → Type 0
+abbrev pub IsAddressed : Configuration → ℕ → List Entry → Message → Authenticator → Type 0
 IsAddressed c me past message (macs entries) = IsFor c me past message (receivers_of (macs entries))
 IsAddressed c me past message (signature s) = ⊤
 
@@ -308,7 +308,7 @@ pub record MaySend (c : Configuration) (me : ℕ) (past : List Entry) (point : P
   pub own : body.sender ≡ me
   pub seen : Each (λ frame. Once (HasSeen frame) past) (carried body.message)
   pub say : MaySay c me past point e bytes body.message
-  pub is_sealed : (frame : Frame) → frame_of bytes ≡ Some frame → IsSealed c frame × IsAddressed c me past body.message frame.proof
+  pub is_sealed : (frame : Frame) → frame_of bytes ≡ Some frame → IsSealed c frame × IsAddressed c me past body.message frame.authenticator
 
 -- ---- what may be executed
 

@@ -6,11 +6,11 @@ use Rattle.std.specs.Option.{option_map_or}
 use Rattle.tuple_codec.specs.Operations.{Operation, Outcome, IsOperation}
 use Rattle.authenticator.specs.Keys.{signing_seed}
 use Rattle.authenticator.specs.Sealing.{entry_for}
-use Rattle.wire.specs.Spelling.{piece, proof_spelling}
+use Rattle.wire.specs.Spelling.{piece, authenticator_spelling}
 use Rattle.signing.specs.Signatures.{signature_of}
 use Rattle.quorum.specs.Votes.{or_else}
 use Rattle.protocol.specs.System.Configuration.{Configuration, replicas, is_replica, is_client, is_correct, is_correct_client}
-use Rattle.wire.specs.Messages.{ProofData as Proof, macs, signature}
+use Rattle.wire.specs.Messages.{AuthenticatorData as Authenticator, macs, signature}
 use Rattle.wire.specs.Words.{frame_of, receivers_of}
 use Rattle.protocol.specs.System.Trace.{Entry, is_output, history_of}
 use Rattle.protocol.specs.System.Trace.Entry.{Invoke, Got, Tick, Sent, Accepted}
@@ -38,21 +38,21 @@ pub record Made : Type 0 where
   pub receivers : List ℕ
 
 -- a sealed frame is for those with a MAC, a signed one for all other replicas
-abbrev pub meant_for : Configuration → ℕ → Proof → List ℕ
+abbrev pub meant_for : Configuration → ℕ → Authenticator → List ℕ
 meant_for c sender (macs entries) = receivers_of (macs entries)
 meant_for c sender (signature s) = range_with_len 0 sender ++ range_with_len (suc sender) (replicas c - suc sender)
 
 -- a frame that an output sends is made with it
 abbrev pub made_by : Configuration → Entry → List Made
-made_by c (Sent p bytes) = record { bytes = bytes; receivers = option_map_or (λ frame. meant_for c p frame.proof) (frame_of bytes) [] } ∷ []
+made_by c (Sent p bytes) = record { bytes = bytes; receivers = option_map_or (λ frame. meant_for c p frame.authenticator) (frame_of bytes) [] } ∷ []
 made_by c _ = []
 
 -- the bytes of a frame with MACs under the sender's keys, and of one signed with a leaf of the replica's seed
 abbrev pub sealed_bytes : Configuration → ℕ → List ℕ → List ℕ → List ℕ
-sealed_bytes c sender receivers body = piece body ++ proof_spelling (macs (map (entry_for c.seed sender body) receivers))
+sealed_bytes c sender receivers body = piece body ++ authenticator_spelling (macs (map (entry_for c.seed sender body) receivers))
 
 abbrev pub signed_bytes : Configuration → ℕ → ℕ → List ℕ → List ℕ
-signed_bytes c replica leaf body = piece body ++ proof_spelling (signature (signature_of (signing_seed c.seed replica) leaf body))
+signed_bytes c replica leaf body = piece body ++ authenticator_spelling (signature (signature_of (signing_seed c.seed replica) leaf body))
 
 -- ---- the world between steps
 

@@ -1,6 +1,6 @@
 use Rattle.std.proofs.Common.{◌≡◌, ◌<◌, ◌+◌, ◌^◌, ◌*◌, ◌∙◌, [], ◌++◌, map, length, ap, sym, refl}
 use Rattle.std.proofs.lemmas.List.{append-nil, length-map}
-use Rattle.wire.specs.Spelling.{body_spelling, piece, proof_spelling}
+use Rattle.wire.specs.Spelling.{body_spelling, piece, authenticator_spelling}
 use Rattle.wire.specs.Messages.{macs}
 use Rattle.terms.specs.Parties.{party_number}
 use Rattle.wire.specs.Views.{body_data, mac_data, message_data}
@@ -25,10 +25,10 @@ returns-clause-sealed c =
     let bytes : c.body_bytes.result.now ≡ text = c.body_bytes.ensures.text text [] short whole in
     let made : map mac_data c.entries-entries.result.items ≡ map (entry_for c.args.self.now.seed (party_number c.args.body.now.sender) text) (map party_number c.args.receivers.now) =
     c.entries-entries.ensures.made ∙ rw (bytes, c.number.ensures) in
-    sealed-spells c.args.self.now.seed (body_data c.args.body.now) (map party_number c.args.receivers.now) c.put_proof.new.frame.items (map mac_data c.entries-entries.result.items)
+    sealed-spells c.args.self.now.seed (body_data c.args.body.now) (map party_number c.args.receivers.now) c.put_authenticator.new.frame.items (map mac_data c.entries-entries.result.items)
     c.requires made c.entries-entries.ensures.formed
     (rw (length-map c.args.receivers.now party_number) c.in-Ok.ensures.short)
-    (c.in_ok-put_proof.ensures.ok ∙ ap (λ bs. bs ++ proof_spelling (macs (map mac_data c.entries-entries.result.items))) front)
+    (c.in_ok-put_authenticator.ensures.ok ∙ ap (λ bs. bs ++ authenticator_spelling (macs (map mac_data c.entries-entries.result.items))) front)
 
 pub returns-in-Err-NoMemory-clause-large : goal.returns-in-Err-NoMemory-clause-large
 returns-in-Err-NoMemory-clause-large c = (
@@ -40,8 +40,8 @@ returns-in-Err-NoMemory-clause-large c = (
       absurd cc,
 )
 
-pub returns-in_err-put_proof-clause-large : goal.returns-in_err-put_proof-clause-large
-returns-in_err-put_proof-clause-large c = (
+pub returns-in_err-put_authenticator-clause-large : goal.returns-in_err-put_authenticator-clause-large
+returns-in_err-put_authenticator-clause-large c = (
   λ same. let kind = rw same at c.from_residual.ensures.1 in absurd cc,
   λ long. absurd
       (sealed-short c.args.self.now.seed (body_data c.args.body.now) (map party_number c.args.receivers.now)

@@ -1,8 +1,8 @@
 use Rattle.std.proofs.Common.{◌≡◌, ◌∙◌, ap}
 use Rattle.std.proofs.lemmas.Bool.Decides.{same_from_decides}
-use Rattle.wire.specs.Spelling.{body_spelling, proof_spelling}
+use Rattle.wire.specs.Spelling.{body_spelling, authenticator_spelling}
 use Rattle.terms.specs.Parties.{party_number}
-use Rattle.wire.specs.Views.{body_data, frame_data, proof_data}
+use Rattle.wire.specs.Views.{body_data, frame_data, authenticator_data}
 use Rattle.authenticator.specs.Keys.{signing_seed}
 use Rattle.authenticator.proofs.Frames.{body-short}
 use Rattle.signing.specs.Signatures.{public_key, verifies}
@@ -14,7 +14,7 @@ returns-in-Signature c =
     let body = body_data c.args.frame.now.body in
     let public = public_key (signing_seed c.args.self.now (party_number c.args.frame.now.body.sender)) in
     let text : c.body_bytes.result.now ≡ body_spelling body =
-    c.body_bytes.ensures.text (body_spelling body) (proof_spelling (proof_data c.args.frame.now.proof)) (body-short c.args.bytes.now (frame_data c.args.frame.now) c.requires) c.requires.spelled in
+    c.body_bytes.ensures.text (body_spelling body) (authenticator_spelling (authenticator_data c.args.frame.now.authenticator)) (body-short c.args.bytes.now (frame_data c.args.frame.now) c.requires) c.requires.spelled in
     let tested : c.verify.result ≡ verifies public c.body_bytes.result.now c.deref.result.now =
     same_from_decides c.verify.result (verifies public c.body_bytes.result.now c.deref.result.now) c.verify.ensures.verified (verifies-Decides public c.body_bytes.result.now c.deref.result.now) in
-    record { signed = tested ∙ rw (text, c.deref.ensures.value) (signs-signature public (body_spelling body) c.in-Signature.signature.items (proof_data c.args.frame.now.proof) (ap proof_data c.in-Signature.is)) }
+    record { signed = tested ∙ rw (text, c.deref.ensures.value) (signs-signature public (body_spelling body) c.in-Signature.signature.items (authenticator_data c.args.frame.now.authenticator) (ap authenticator_data c.in-Signature.is)) }
