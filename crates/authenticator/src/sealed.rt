@@ -20,8 +20,8 @@ use std::alloc::Global;
 use terms::{NoMemory, Party};
 use thiserror::Error;
 use wire::{
-    Body, Frame, Header, MAX_RECEIVERS, NoFrame, Authenticator, AuthenticatorBytes, ReceiverMac, WireFault,
-    begin_frame, body_bytes, decode_judged, judge, put_authenticator,
+    Authenticator, AuthenticatorBytes, Body, Frame, Header, MAX_RECEIVERS, NoFrame, ReceiverMac,
+    WireFault, begin_frame, body_bytes, decode_judged, judge, put_authenticator,
 };
 
 /// Why a frame was refused.

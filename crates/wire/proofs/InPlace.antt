@@ -1,6 +1,7 @@
 -- Steps of judging bytes in their place.
 use Rattle.std.proofs.Common.{◌≡◌, ◌↔◌, ℕ, zero, suc, ◌+◌, ◌-◌, ◌<◌, ◌≤◌, Bool, true, false, ◌||◌, ◌&&◌, cond, List, [], ◌∷◌, ◌++◌, length, Option, Some, None, is_some, option_map, ap, sym, refl, ◌∙◌, arith}
 use Rattle.std.proofs.lemmas.Bool.{ne_eqb, lt-leb}
+use Rattle.std.specs.Bool.{then_some}
 use lib.Dec.{eqb, leb}
 use Rattle.tuple_tree.specs.Values.{AreBytes}
 use Rattle.tuple_codec.specs.Operations.{Operation, IsOperation, Outcome, IsOutcome}
@@ -15,7 +16,7 @@ use Rattle.wire.specs.Spelling.{message_type, body_spelling, is_signed, sender_b
 use Rattle.wire.specs.Faults.{limit_at}
 use Rattle.wire.specs.Headers.{HeaderData, header_of, asks}
 use Rattle.wire.specs.Judging.{ends}
-use Rattle.wire.specs.Reading.{passing, more_at, follows, anyhow, if_it, all_of, authenticator_of, message_by, body_of, frame_read, piece_at, is_change, is_over, of_some, over_in, mode_at, client_at, digest_at, digests_at, batches_at, request_at, reply_at, page_at}
+use Rattle.wire.specs.Reading.{passing, more_at, follows, anyhow, all_of, authenticator_of, message_by, body_of, frame_read, piece_at, is_change, is_over, of_some, over_in, mode_at, client_at, digest_at, digests_at, batches_at, request_at, reply_at, page_at}
 use Rattle.wire.proofs.Parts.{number_8_reads, mode_reads, piece_reads}
 use Rattle.wire.proofs.Carrying.{is_none, some_of, whole_test}
 use Rattle.wire.proofs.Plain.{client_reads}
@@ -139,7 +140,7 @@ page_whole fs rest n i text e f = sym (rw (e, f) (cases (leb i 1023)))
     placed : Option (ℕ × List ℕ) → Option ((ℕ × ℕ) × List ℕ)
     placed o = o >>= λ y. Some ((n, y.0), y.1)
 
-    cases : (b : Bool) → is_some (all_of (placed (if_it b (i, text)) >>= λ p. Some (page p.0.0 p.0.1 p.1, []))) ≡ b
+    cases : (b : Bool) → is_some (all_of (placed (then_some b (i, text)) >>= λ p. Some (page p.0.0 p.0.1 p.1, []))) ≡ b
     cases true = refl
     cases false = refl
 

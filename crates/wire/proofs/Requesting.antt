@@ -2,13 +2,15 @@
 use Rattle.std.proofs.Common.{◌≡◌, ℕ, zero, suc, ◌+◌, ◌≤◌, ◌<◌, ◌^◌, Bool, true, false, cond, List, [], ◌∷◌, ◌++◌, length, ◌==◌, Option, Some, None, refl, ap, arith, eqb-true, length-append}
 use Rattle.std.specs.Prelude.{◌&&◌, nat_le}
 use Rattle.std.proofs.lemmas.Bool.{and_parts, leb-true}
+use Rattle.std.specs.Bool.{then_some}
 use Rattle.tuple_codec.specs.Reading.{Reader, byte_at}
 use Rattle.tuple_codec.proofs.Readers.{bind_some, guard_holds, parts}
 use Rattle.wire.specs.Lists.{Each}
 use Rattle.wire.specs.Spelling.{IsCarried, is_ordered_request}
-use Rattle.wire.specs.Reading.{if_it, passing, more_at, anyhow, piece_at, is_request, requests_at}
+use Rattle.wire.specs.Reading.{passing, more_at, anyhow, piece_at, is_request, requests_at}
 use Rattle.wire.specs.Words.{requests_of}
 use Rattle.wire.proofs.Framing.{limit_bound}
+use Rattle.wire.proofs.Forms.{passed_on}
 
 -- ---- what is read
 
@@ -45,8 +47,8 @@ unfolding requests_at
 few_read text rest frames e =
     let test : ℕ → Bool = λ n. nat_le 0 n && nat_le n 16 in
     let k = bind_some (passing test byte_at text) (λ n. more_at (passing is_request piece_at) anyhow n.0 [] n.1) (frames, rest) e in
-    let m = bind_some (byte_at text) (λ x. if_it (test x.0) x) k.0 k.1 in
-    let g = guard_holds (test m.0.0) (Some m.0) k.0 m.2 in
+    let m = bind_some (byte_at text) (λ x. then_some (test x.0) x) k.0 k.1 in
+    let g = passed_on (test m.0.0) m.0 k.0 m.2 in
     let counted : m.0.0 ≡ k.0.0 = (parts g.1).0 in
     let few : m.0.0 ≤ 16 = leb-true m.0.0 16 (and_parts (nat_le 0 m.0.0) (nat_le m.0.0 16) g.0).1 in
     omega (arith, counted, few, more_number (passing is_request piece_at) anyhow k.0.0 [] frames k.0.1 rest k.2)

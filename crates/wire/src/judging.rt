@@ -11,14 +11,14 @@ ghost use Rattle.wire.specs.Headers.{HasHeader, header_data, header_of, authenti
 ghost use Rattle.wire.specs.Judging.{Judges, ends};
 ghost use Rattle.wire.specs.Reading.{all_of, message_at, message_by, request_at, reply_at, pre_prepare_at, vote_at, checkpoint_at, fetch_at, meta_at, page_at, digests_at, new_view_at, authenticator_of, frame_read, too_large};
 
+use crate::authenticators::{read_mac_authenticator, read_signature_authenticator};
 use crate::carried::{read_batch, skip_batches, skip_changes};
 use crate::changes::skip_view_change;
 use crate::fault::NoFrame;
 use crate::fields::{CHILDREN, last_index, read_client, read_place, read_vote};
 use crate::frames::{MAX_FRAME, MAX_VIEW_CHANGE};
-use crate::headers::{Header, AuthenticatorBytes};
+use crate::headers::{AuthenticatorBytes, Header};
 use crate::oversize::carries_too_large;
-use crate::authenticators::{read_mac_authenticator, read_signature_authenticator};
 use crate::reading::{party, read_byte, read_digest, read_mode, read_piece, read_u16, read_u64};
 use terms::Level;
 use tuple_codec::{is_op, is_result};

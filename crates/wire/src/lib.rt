@@ -2,13 +2,16 @@
 //!
 //! # What is proved
 //!
-//! `decode` gives a frame exactly where the bytes spell one, want of memory aside, and tells a frame that is too long
-//! from bytes that are none; `encode`, `begin_frame`, `put_proof` and `encode_frame` write the spelling; `body_bytes`
-//! is the slice that a MAC or a signature stands on. Laws: `one_spelling` (no frame begins another),
+//! `judge` tells in place, without memory, whether the bytes spell a frame, are too long or are none, and gives the
+//! frame's `Header`; `decode` gives the frame itself, exactly where the bytes spell one, and wants memory only there;
+//! `decode_judged` is the second half, for bytes that were judged. `encode`, `begin_frame`, `put_authenticator` and
+//! `encode_frame` write the spelling; `body_bytes` is the slice that a MAC or a signature stands on. `requests` gives
+//! the frames of a batch's text, and `Batch::of` the text of frames. Laws: `one_spelling` (no frame begins another),
 //! `reads_what_is_spelled`, `carries_frames` (what a message carries are frames, and nothing is left out). Signatures
 //! are only carried here.
 #![tactic(auto)]
 
+mod authenticators;
 mod batches;
 mod bodies;
 mod carried;
@@ -22,7 +25,6 @@ mod judging;
 mod laws;
 mod messages;
 mod oversize;
-mod authenticators;
 mod put;
 mod put_lists;
 mod reading;
@@ -35,13 +37,13 @@ pub use carried::MAX_REQUESTS;
 pub use decoding::{decode, decode_judged};
 pub use fault::{NoFrame, WireFault};
 pub use frames::{
-    Frame, MAX_FRAME, MAX_RECEIVERS, MAX_VIEW_CHANGE, Authenticator, ReceiverMac, SIGNATURE_LEN,
+    Authenticator, Frame, MAX_FRAME, MAX_RECEIVERS, MAX_VIEW_CHANGE, ReceiverMac, SIGNATURE_LEN,
 };
-pub use headers::{Header, AuthenticatorBytes};
+pub use headers::{AuthenticatorBytes, Header};
 pub use judging::judge;
 pub use laws::{carries_frames, one_spelling, reads_what_is_spelled};
 pub use messages::{
-    Batch, Body, Checkpoint, BatchEntry, Commit, Fetch, CheckpointEntry, Message, Meta, NewView, Page, PrePrepare,
-    Prepare, Reply, Request, ViewChange,
+    Batch, BatchEntry, Body, Checkpoint, CheckpointEntry, Commit, Fetch, Message, Meta, NewView,
+    Page, PrePrepare, Prepare, Reply, Request, ViewChange,
 };
 pub use sealing::{begin_frame, body_bytes, encode_frame, put_authenticator};

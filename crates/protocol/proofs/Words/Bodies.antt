@@ -3,18 +3,20 @@
 use Rattle.std.proofs.Common.{◌≡◌, ℕ, zero, suc, ◌+◌, ◌^◌, ◌≤◌, ◌<◌, Bool, cond, List, [], ◌∷◌, ◌++◌, length, refl, ap, subst, arith, ◌&&◌, Option, Some, None}
 use Rattle.std.specs.Prelude.{nat_le, ⊤}
 use Rattle.std.proofs.lemmas.Bool.{and_parts, leb-true}
+use Rattle.std.specs.Bool.{then_some}
 use Rattle.tuple_codec.specs.Operations.{IsOperation, IsOutcome}
 use Rattle.tuple_codec.specs.Reading.{Reader, byte_at}
 use Rattle.tuple_codec.proofs.Readers.{bind_some, guard_holds}
 use Rattle.wire.specs.Messages.{BodyData as Body, MessageData as Message, request as Request, pre_prepare as PrePrepare, prepare as Prepare, commit as Commit, checkpoint as Checkpoint, view_change as ViewChange, new_view as NewView, reply as Reply, fetch as Fetch, meta as Meta, page as Page}
 use Rattle.wire.specs.Spelling.{IsMessage}
-use Rattle.wire.specs.Reading.{passing, if_it, more_at, anyhow, piece_at, is_request, requests_at}
+use Rattle.wire.specs.Reading.{passing, more_at, anyhow, piece_at, is_request, requests_at}
 use Rattle.wire.specs.Words.{requests_of, said}
 use Rattle.wire.proofs.Saying.{says_what_is_spelled}
 use Rattle.protocol.specs.System.Configuration.{Configuration, members}
 use Rattle.signing.specs.Heard.{heard}
 use Rattle.protocol.proofs.Words.Options.{some_injective}
 use Rattle.protocol.proofs.Words.Linking.{heard_said}
+use Rattle.wire.proofs.Forms.{passed_on}
 
 -- ---- what a message has
 
@@ -64,8 +66,8 @@ more_many at fits (suc n) xs ys bs rest e =
 
 passed : (n : ℕ × List ℕ) (bs : List ℕ) → passing (λ n. nat_le 0 n && nat_le n 16) byte_at bs ≡ Some n → n.0 ≤ 16
 passed n bs h =
-    let k = bind_some (byte_at bs) (λ x. if_it (nat_le 0 x.0 && nat_le x.0 16) x) n h in
-    let g = guard_holds (nat_le 0 k.0.0 && nat_le k.0.0 16) (Some k.0) n k.2 in
+    let k = bind_some (byte_at bs) (λ x. then_some (nat_le 0 x.0 && nat_le x.0 16) x) n h in
+    let g = passed_on (nat_le 0 k.0.0 && nat_le k.0.0 16) k.0 n k.2 in
     let same : k.0 ≡ n = some_injective k.0 n g.1 in
     subst (λ (m : ℕ × List ℕ). m.0 ≤ 16) same (leb-true k.0.0 16 (and_parts (nat_le 0 k.0.0) (nat_le k.0.0 16) g.0).1)
 
