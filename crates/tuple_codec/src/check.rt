@@ -7,7 +7,7 @@ ghost use Rattle.tuple_codec.specs.Spelling.{SpellsOperation, SpellsOutcome};
 ghost use Rattle.tuple_codec.specs.Reading.{rest_of, datum_at, slot_at, item_at, items_at, tuple_at, template_at, cas_at, rd_all_at, operation_behind, operation_at, tuples_at, outcome_behind, outcome_at};
 
 use crate::operations::{MAX_ANSWERS, Max};
-use crate::reading::{behind, frame, read_byte, read_flag, read_number, read_string, read_text};
+use crate::reading::{frame, read_byte, read_flag, read_number, read_string, read_text};
 use tuple_tree::MAX_FIELDS;
 
 /// Whether the bytes, whole, spell an operation within the limits. Takes no memory.
@@ -120,7 +120,7 @@ pub fn skip_tuple(bytes: &[u8]) -> Option<&[u8]>
 {
     let front = frame(bytes);
     match skip_values(front, 7) {
-        Some(rest) => Some(behind(bytes, front.len() - rest.len())),
+        Some(rest) => Some(bytes.split_at(front.len() - rest.len()).1),
         None => None,
     }
 }
@@ -130,7 +130,7 @@ pub fn skip_template(bytes: &[u8]) -> Option<&[u8]>
 {
     let front = frame(bytes);
     match skip_fields(front, 7) {
-        Some(rest) => Some(behind(bytes, front.len() - rest.len())),
+        Some(rest) => Some(bytes.split_at(front.len() - rest.len()).1),
         None => None,
     }
 }

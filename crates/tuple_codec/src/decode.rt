@@ -13,7 +13,7 @@ ghost use Rattle.tuple_codec.specs.Reading.{read_as, byte_at, datum_at, slot_at,
 
 use crate::bad::Bad;
 use crate::check::{skip_template, skip_tuple};
-use crate::reading::{behind, frame, read_byte, read_flag, read_number, read_string, read_text};
+use crate::reading::{frame, read_byte, read_flag, read_number, read_string, read_text};
 use std::alloc::Allocator;
 use terms::NoMemory;
 use tuple_tree::{Atom, Field, Kind, MAX_FIELDS, Refusal, Template, Tuple, Value};
@@ -77,7 +77,7 @@ pub fn read_tuple<'b, A: Allocator + Clone>(
 {
     let front = frame(bytes);
     match read_values(alloc, front, 7) {
-        Ok((tuple, rest)) => Ok((tuple, behind(bytes, front.len() - rest.len()))),
+        Ok((tuple, rest)) => Ok((tuple, bytes.split_at(front.len() - rest.len()).1)),
         Err(bad) => Err(bad),
     }
 }
@@ -90,7 +90,7 @@ pub fn read_template<'b, A: Allocator + Clone>(
 {
     let front = frame(bytes);
     match read_fields(alloc, front, 7) {
-        Ok((template, rest)) => Ok((template, behind(bytes, front.len() - rest.len()))),
+        Ok((template, rest)) => Ok((template, bytes.split_at(front.len() - rest.len()).1)),
         Err(bad) => Err(bad),
     }
 }

@@ -1,7 +1,6 @@
 //! From values to bytes.
 
 ghost use Rattle.std.specs.Prelude.{◌≡◌, ◌+◌, ◌≤◌, ◌++◌, ◌∷◌, [], OnOk, OnErr, length};
-ghost use Rattle.std.specs.Int.{w16, w64, to_be_bytes, cast_unsigned};
 ghost use Rattle.tuple_tree.specs.Items.{item_length};
 ghost use Rattle.tuple_tree.specs.Values.{datum_length, slot_length};
 ghost use Rattle.tuple_tree.specs.AtomView.{datum_of};
@@ -14,7 +13,6 @@ ghost use Rattle.tuple_codec.specs.Spelling.{flag, datum_spelling, slot_spelling
 ghost use Rattle.tuple_codec.specs.Spelling as Spelling;
 
 use crate::operations::{Answer, Max, Op, Tuples};
-use byteorder::{BigEndian, ByteOrder};
 use std::alloc::Allocator;
 use terms::NoMemory;
 use tuple_tree::{Atom, Field, Kind, Template, Tuple, Value};
@@ -272,7 +270,7 @@ fn put_atom<A: Allocator, B: Allocator>(
     ensures { Puts (datum_spelling (datum_of atom.now)) out.old.items out.new.items result }
 {
     match atom {
-        Atom::Number(number) => put_behind(1, &number_bytes(*number), out),
+        Atom::Number(number) => put_behind(1, &number.to_be_bytes(), out),
         Atom::Text(text) => put_string(2, text.as_bytes(), out),
         Atom::Bytes(bytes) => put_string(3, bytes.as_slice(), out),
         Atom::Truth(truth) => put_behind(4, &[*truth as u8], out),
@@ -283,7 +281,7 @@ fn put_string<B: Allocator>(tag: u8, string: &[u8], out: &mut Vec<u8, B>) -> Res
     requires { length string.now ≤ 1021 }
     ensures { Puts (tag ∷ Spelling.string string.now) out.old.items out.new.items result }
 {
-    put_behind(tag, &length_bytes(string.len() as u16), out)?;
+    put_behind(tag, &(string.len() as u16).to_be_bytes(), out)?;
     put_bytes(string, out)
 }
 
@@ -304,20 +302,4 @@ fn put_bytes<B: Allocator>(bytes: &[u8], out: &mut Vec<u8, B>) -> Result<(), NoM
     ensures { Puts bytes.now out.old.items out.new.items result }
 {
     Ok(out.extend_from_slice(bytes)?)
-}
-
-fn length_bytes(len: u16) -> [u8; 2]
-    ensures { result ≡ to_be_bytes w16 len }
-{
-    let mut bytes = [0; 2];
-    BigEndian::write_u16(&mut bytes, len);
-    bytes
-}
-
-fn number_bytes(number: i64) -> [u8; 8]
-    ensures { result ≡ to_be_bytes w64 (cast_unsigned w64 number) }
-{
-    let mut bytes = [0; 8];
-    BigEndian::write_i64(&mut bytes, number);
-    bytes
 }

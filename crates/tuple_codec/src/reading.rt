@@ -1,6 +1,6 @@
 //! Bytes, numbers, strings and flags at the front of bytes. Nothing here takes memory.
 
-ghost use Rattle.std.specs.Prelude.{◌≡◌, ◌+◌, ◌≤◌, length, take, drop};
+ghost use Rattle.std.specs.Prelude.{◌≡◌, ◌+◌, ◌≤◌, length, take};
 ghost use Rattle.std.specs.Int.{w64, cast_signed};
 ghost use Rattle.tuple_tree.specs.Values.{number};
 ghost use Rattle.tuple_codec.specs.Gives.{Yields};
@@ -20,14 +20,6 @@ pub fn frame(bytes: &[u8]) -> &[u8]
     } else {
         &bytes[..MAX_LEN]
     }
-}
-
-/// The bytes behind the first n.
-pub fn behind(bytes: &[u8], n: usize) -> &[u8]
-    requires { n ≤ length bytes.now }
-    ensures { result.now ≡ drop n bytes.now }
-{
-    &bytes[n..]
 }
 
 pub fn read_byte(bytes: &[u8]) -> Option<(u8, &[u8])>

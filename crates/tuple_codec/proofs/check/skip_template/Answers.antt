@@ -12,8 +12,8 @@ overflow_sub-front c =
     let f = items_found IsSlot slot_length slot_spelling slot_at slot_leaves 7 in
     (frame_skip (IsListOf IsSlot slot_length slot_spelling slot_at slot_leaves 7) template_spelling 1024 (items_at slot_at 7) c.args.bytes.now c.frame-front.result.now c.in-Some.rest.now f (λ i. omega (arith, c.type_inv.bytes i)) c.frame-front.ensures.value c.in-Some.ensures).0
 
-pub behind-requires : goal.behind-requires
-behind-requires c =
+pub split_at-requires : goal.split_at-requires
+split_at-requires c =
     let f = items_found IsSlot slot_length slot_spelling slot_at slot_leaves 7 in
     (frame_skip (IsListOf IsSlot slot_length slot_spelling slot_at slot_leaves 7) template_spelling 1024 (items_at slot_at 7) c.args.bytes.now c.frame-front.result.now c.in-Some.rest.now f (λ i. omega (arith, c.type_inv.bytes i)) c.frame-front.ensures.value c.in-Some.ensures).1
 
@@ -21,7 +21,7 @@ pub returns-in-Some : goal.returns-in-Some
 returns-in-Some c =
     let f = items_found IsSlot slot_length slot_spelling slot_at slot_leaves 7 in
     (frame_skip (IsListOf IsSlot slot_length slot_spelling slot_at slot_leaves 7) template_spelling 1024 (items_at slot_at 7) c.args.bytes.now c.frame-front.result.now c.in-Some.rest.now f (λ i. omega (arith, c.type_inv.bytes i)) c.frame-front.ensures.value c.in-Some.ensures).2
-    ∙ ap (λ r. Some r) (sym c.behind.ensures)
+    ∙ ap (λ r. Some r) (sym c.split_at.ensures.back)
 
 pub returns-in-None : goal.returns-in-None
 returns-in-None c = frame_skip_fails 1024 (items_at slot_at 7) c.args.bytes.now c.frame-front.result.now c.frame-front.ensures.value c.in-None.ensures

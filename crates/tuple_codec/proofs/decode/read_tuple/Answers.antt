@@ -12,8 +12,8 @@ overflow_sub-front g c =
     let f = items_found IsDatum datum_length datum_spelling datum_at datum_leaves 7 in
     (frame_read (IsListOf IsDatum datum_length datum_spelling datum_at datum_leaves 7) tuple_spelling 1024 (items_at datum_at 7) c.args.bytes.now c.frame-front.result.now c.in-Ok.rest.now c.in-Ok.tuple f (λ i. omega (arith, c.type_inv.bytes i)) c.frame-front.ensures.value c.in-Ok.ensures).0
 
-pub behind-requires : goal.behind-requires
-behind-requires g c =
+pub split_at-requires : goal.split_at-requires
+split_at-requires g c =
     let f = items_found IsDatum datum_length datum_spelling datum_at datum_leaves 7 in
     (frame_read (IsListOf IsDatum datum_length datum_spelling datum_at datum_leaves 7) tuple_spelling 1024 (items_at datum_at 7) c.args.bytes.now c.frame-front.result.now c.in-Ok.rest.now c.in-Ok.tuple f (λ i. omega (arith, c.type_inv.bytes i)) c.frame-front.ensures.value c.in-Ok.ensures).1
 
@@ -21,7 +21,7 @@ pub returns-in-Ok : goal.returns-in-Ok
 returns-in-Ok g c =
     let f = items_found IsDatum datum_length datum_spelling datum_at datum_leaves 7 in
     (frame_read (IsListOf IsDatum datum_length datum_spelling datum_at datum_leaves 7) tuple_spelling 1024 (items_at datum_at 7) c.args.bytes.now c.frame-front.result.now c.in-Ok.rest.now c.in-Ok.tuple f (λ i. omega (arith, c.type_inv.bytes i)) c.frame-front.ensures.value c.in-Ok.ensures).2
-    ∙ ap (λ r. Some (c.in-Ok.tuple, r)) (sym c.behind.ensures)
+    ∙ ap (λ r. Some (c.in-Ok.tuple, r)) (sym c.split_at.ensures.back)
 
 pub returns-in-Err : goal.returns-in-Err
 returns-in-Err g c = framed_fails c.in-Err.bad (items_at datum_at 7) c.args.bytes.now 1024 (rw c.frame-front.ensures.value at c.in-Err.ensures)
