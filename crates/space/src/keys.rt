@@ -1,14 +1,12 @@
 //! Keys of bytes.
 
 ghost use Rattle.std.specs.Prelude.{◌≡◌, ◌+◌, ◌≤◌, ◌<◌, ◌++◌, ◌∷◌, length, option_map};
-ghost use Rattle.std.specs.Int.{w16, w64, to_be_bytes, cast_unsigned};
 ghost use Rattle.tuple_tree.specs.Values.{datum_length, IsTemplate};
 ghost use Rattle.tuple_tree.specs.AtomView.{datum_of};
 ghost use Rattle.tuple_codec.specs.Spelling.{datum_spelling, string as string_spelling};
 ghost use Rattle.space.specs.Keys.{tuple_key, template_key};
 
 use arrayvec::ArrayVec;
-use byteorder::{BigEndian, ByteOrder};
 use std::alloc::Allocator;
 use tuple_tree::{Atom, Field, Template, Tuple, Value};
 
@@ -49,7 +47,7 @@ fn key_of<A: Allocator>(count: usize, first: &Atom<A>) -> Key
     match first {
         Atom::Number(number) => {
             key.push(1);
-            put(&mut key, &number_bytes(*number));
+            put(&mut key, &number.to_be_bytes());
         }
         Atom::Text(text) => {
             key.push(2);
@@ -71,7 +69,7 @@ fn put_string(key: &mut Key, string: &[u8])
     requires { length key.old.items + (2 + length string.now) ≤ 1026 }
     ensures { key.new.items ≡ key.old.items ++ string_spelling string.now }
 {
-    put(key, &length_bytes(string.len() as u16));
+    put(key, &(string.len() as u16).to_be_bytes());
     put(key, string);
 }
 
@@ -80,20 +78,4 @@ fn put(key: &mut Key, bytes: &[u8])
     ensures { key.new.items ≡ key.old.items ++ bytes.now }
 {
     let _ = key.try_extend_from_slice(bytes);
-}
-
-fn length_bytes(len: u16) -> [u8; 2]
-    ensures { result ≡ to_be_bytes w16 len }
-{
-    let mut bytes = [0; 2];
-    BigEndian::write_u16(&mut bytes, len);
-    bytes
-}
-
-fn number_bytes(number: i64) -> [u8; 8]
-    ensures { result ≡ to_be_bytes w64 (cast_unsigned w64 number) }
-{
-    let mut bytes = [0; 8];
-    BigEndian::write_i64(&mut bytes, number);
-    bytes
 }

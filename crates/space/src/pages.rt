@@ -38,7 +38,7 @@ pub fn text_of(
 fn put_entry(birth: u64, tuple: &Tuple<Global>, out: &mut Vec<u8>) -> Result<(), NoMemory>
     ensures { OnOk result (out.new.items ≡ out.old.items ++ entry_text (birth, tuple.now)) }
 {
-    out.extend_from_slice(&birth_bytes(birth))?;
+    out.extend_from_slice(&birth.to_be_bytes())?;
     encode_tuple(tuple, out)
 }
 
@@ -50,12 +50,4 @@ pub fn header_of(number: u64, next: u64) -> [u8; HEADER_LEN]
     BigEndian::write_u64(&mut text[1..], number);
     BigEndian::write_u64(&mut text[9..], next);
     text
-}
-
-fn birth_bytes(birth: u64) -> [u8; 8]
-    ensures { result ≡ to_be_bytes w64 birth }
-{
-    let mut bytes = [0; 8];
-    BigEndian::write_u64(&mut bytes, birth);
-    bytes
 }

@@ -1,6 +1,6 @@
 //! From the texts of pages back to births and tuples.
 
-ghost use Rattle.std.specs.Prelude.{◌≡◌, ◌≢◌, ℕ, ◌+◌, ◌*◌, ◌^◌, ◌≤◌, ◌<◌, ◌%◌, ◌++◌, ◌∷◌, [], List, length, drop, All, AllPairs, IfOk, OnOk, IfErr, IfSome, IsSome, MatchResult};
+ghost use Rattle.std.specs.Prelude.{◌≡◌, ◌≢◌, ℕ, ◌+◌, ◌*◌, ◌^◌, ◌≤◌, ◌<◌, ◌%◌, ◌++◌, ◌∷◌, [], List, length, All, AllPairs, IfOk, OnOk, IfErr, IfSome, IsSome, MatchResult};
 ghost use Rattle.std.specs.Int.{w64, to_be_bytes};
 ghost use Rattle.space.specs.Births.{Entry};
 ghost use Rattle.space.specs.Pages.{entry_text, entries_text, on_page};
@@ -21,14 +21,6 @@ const NUMBERS_END: u64 = 1 << 48;
 // At most 16 requests, each of which takes at most 256 births.
 const BIRTHS_A_BATCH: u64 = 4096;
 
-// The bytes behind the first n.
-fn behind(bytes: &[u8], n: usize) -> &[u8]
-    requires { n ≤ length bytes.now }
-    ensures { result.now ≡ drop n bytes.now }
-{
-    &bytes[n..]
-}
-
 // The birth and the tuple at the front, and the bytes behind them.
 fn read_entry(alloc: Global, bytes: &[u8]) -> Result<((u64, Tuple<Global>), &[u8]), Bad>
     ensures found { IfOk result (λ x. IsEntry x.0 × (bytes.now ≡ entry_text x.0 ++ x.1.now)) }
@@ -38,9 +30,9 @@ fn read_entry(alloc: Global, bytes: &[u8]) -> Result<((u64, Tuple<Global>), &[u8
         return Err(Bad::Malformed);
     }
     let birth = BigEndian::read_u64(bytes);
-    let text = behind(bytes, 8);
+    let text = bytes.split_at(8).1;
     match decode_tuple(alloc, text) {
-        Ok((tuple, len)) => Ok(((birth, tuple), behind(text, len))),
+        Ok((tuple, len)) => Ok(((birth, tuple), text.split_at(len).1)),
         Err(bad) => Err(bad),
     }
 }
@@ -130,8 +122,8 @@ pub fn read_header(header: &[u8]) -> Option<Header>
     if header.len() != HEADER_LEN || header[0] != VERSION {
         return None;
     }
-    let number = BigEndian::read_u64(behind(header, 1));
-    let next = BigEndian::read_u64(behind(header, 9));
+    let number = BigEndian::read_u64(header.split_at(1).1);
+    let next = BigEndian::read_u64(header.split_at(9).1);
     if number < NUMBERS_END && next <= number * BIRTHS_A_BATCH {
         Some(Header { number, next })
     } else {

@@ -5,16 +5,16 @@ use Rattle.space.proofs.reading.read_header.Goals.{else-number-lt-NUMBERS_END-vi
 
 pub returns-then-next-number-clause-found : goal.returns-then-next-number-clause-found
 returns-then-next-number-clause-found c = record {
-  spelled = header_found c.args.header.now c.behind.result.now c.behind-2.result.now c.read_u64-number.result c.read_u64-next.result (omega arith) (λ i. omega (arith, c.type_inv.header i)) (omega arith)
-      c.behind.ensures c.behind-2.ensures c.read_u64-number.ensures c.read_u64-next.ensures;
+  spelled = header_found c.args.header.now c.split_at.result.1.now c.split_at-2.result.1.now c.read_u64-number.result c.read_u64-next.result (omega arith) (λ i. omega (arith, c.type_inv.header i)) (omega arith)
+      c.split_at.ensures.back c.split_at-2.ensures.back c.read_u64-number.ensures c.read_u64-next.ensures;
   births = omega arith;
   few = omega arith;
 }
 
 pub returns-else-number-lt-NUMBERS_END-clause-only : goal.returns-else-number-lt-NUMBERS_END-clause-only
 returns-else-number-lt-NUMBERS_END-clause-only c number next is =
-    let same = header_numbers c.args.header.now c.behind.result.now c.behind-2.result.now c.read_u64-number.result c.read_u64-next.result number next
-    c.behind.ensures c.behind-2.ensures c.read_u64-number.ensures c.read_u64-next.ensures is in
+    let same = header_numbers c.args.header.now c.split_at.result.1.now c.split_at-2.result.1.now c.read_u64-number.result c.read_u64-next.result number next
+    c.split_at.ensures.back c.split_at-2.ensures.back c.read_u64-number.ensures c.read_u64-next.ensures is in
     let few = is.few in
     let births = is.births in
     absurd (elim c.else-number-lt-NUMBERS_END.branch [
