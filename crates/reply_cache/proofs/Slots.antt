@@ -2,12 +2,9 @@
 use Rattle.std.proofs.Common.{◌≡◌, ℕ, zero, suc, ◌-◌, ◌≤◌, ◌<◌, List, [], ◌∷◌, ◌++◌, length, map, replicate, set, get_or, Option, Some, None, Result, Ok, Err, refl, sym, ap, subst, ◌∙◌, arith, inl, inr}
 use Rattle.std.proofs.lemmas.List.{length-map, length-append, length-replicate, length-set, length_push, get_or-replicate, get_or_past, get_or-map, get_or_append_left, get_or-append_right, get_or-set_same, get_or-set_other, ext_get_or}
 use Rattle.std.proofs.lemmas.Bool.{cases_lt, cases_eq}
-use Rattle.std.specs.Prelude.{All, option_map, OnErr}
+use Rattle.std.specs.Prelude.{option_map, OnErr}
 use Rattle.std.specs.Option.{option_copied}
 use Rattle.std.specs.Borrow.{Bor}
-use Rattle.std.proofs.lemmas.List.Elements.{All-head, All-tail}
-use Rattle.tuple_tree.specs.Values.{TupleTree, IsTuple}
-use Rattle.tuple_codec.specs.Operations.{AreTuples}
 use Rattle.reply_cache.specs.declared.cache.Reply.{Reply}
 use Rattle.reply_cache.specs.Replies.{Kept, Replies, no_replies, last_of, with_reply, IsKept, IsReply, AreReplies}
 use Rattle.reply_cache.specs.ReplyView.{kept_of, reply_of, padded, AreSlots}
@@ -103,10 +100,6 @@ AreReplies-none = record { all = length-replicate {A = Option Kept} 256 None; ea
 pub on_err : {T E P : Type 0} (r : Result T E) → P → OnErr r P
 on_err (Ok x) p = tt
 on_err (Err e) p = p
-
-pub AreTuples-from_All : (ts : List TupleTree) → All IsTuple ts → AreTuples ts
-AreTuples-from_All [] h = tt
-AreTuples-from_All (t ∷ ts) h = (All-head IsTuple t ts h, AreTuples-from_All ts (All-tail IsTuple t ts h))
 
 pub kept-copied : (o : Option (Bor Reply)) (slot : Option Reply) → option_copied o ≡ slot → option_map (λ (r : Bor Reply). kept_of r.now) o ≡ reply_of slot
 kept-copied None slot e = ap reply_of e

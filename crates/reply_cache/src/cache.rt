@@ -1,8 +1,6 @@
 //! The replies by client.
 
 ghost use Rattle.std.specs.Prelude.{◌≡◌, ℕ, ◌≤◌, ◌<◌, ◌++◌, ◌∷◌, [], OnOk, OnErr, IfOk, MatchResult, IsTrue, length, map, option_map};
-ghost use Rattle.tuple_tree.specs.Values.{IsTuple};
-ghost use Rattle.tuple_codec.specs.Operations.{AreTuples, IsOutcome};
 ghost use Rattle.tuple_codec.specs.OperationView.{outcome_of};
 ghost use Rattle.reply_cache.specs.Replies.{Replies, no_replies, last_of, seen_of, with_reply, IsAbove, AreReplies};
 ghost use Rattle.reply_cache.specs.ReplyView.{kept_of, padded, AreSlots};
@@ -14,7 +12,6 @@ use std::alloc::Global;
 use std::marker::Model;
 use terms::NoMemory;
 use tuple_codec::{Answer, Bad};
-use tuple_tree::Tuple;
 
 /// How many clients there are at the most.
 pub const CLIENTS: usize = 256;
@@ -96,7 +93,7 @@ impl ReplyCache {
         ensures err { OnErr result (self.new ≡ self.old) }
         ensures valid { AreReplies self.new }
     {
-        note_answer(&answer);
+        answer.note_valid();
         reach(&mut self.slots, client as usize)?;
         self.slots[client as usize] = Some(Reply {
             timestamp,
@@ -182,30 +179,4 @@ fn reach(slots: &mut Vec<Option<Reply>>, client: usize) -> Result<(), NoMemory>
         slots.push(None)?;
     }
     Ok(())
-}
-
-// Each answer that the program holds is within the limits.
-fn note_answer(answer: &Answer<Global>)
-    ensures { IsOutcome (outcome_of answer.now) }
-{
-    match answer {
-        Answer::Found(tuple) => note_tuple(tuple),
-        Answer::All(tuples) => note_tuples(tuples.as_slice()),
-        Answer::Done | Answer::Absent | Answer::Swapped(_) | Answer::Full | Answer::Refused => {}
-    }
-}
-
-fn note_tuples(tuples: &[Tuple<Global>])
-    ensures { AreTuples tuples.now }
-{
-    for tuple in tuples {
-        note_tuple(tuple);
-    }
-}
-
-// Each tuple that the program holds is within the limits.
-fn note_tuple(tuple: &Tuple<Global>)
-    ensures { IsTuple tuple.now }
-{
-    let _depth = tuple.depth();
 }

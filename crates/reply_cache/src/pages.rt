@@ -1,7 +1,6 @@
 //! The texts of pages, and back.
 
-ghost use Rattle.std.specs.Prelude.{◌≡◌, ℕ, ◌≤◌, ◌++◌, length, drop, Option, IfOk, OnOk, MatchResult, IsTrue};
-ghost use Rattle.std.specs.Int.{w64, to_be_bytes};
+ghost use Rattle.std.specs.Prelude.{◌≡◌, ◌++◌, Option, IfOk, OnOk, MatchResult, IsTrue};
 ghost use Rattle.tuple_codec.specs.Operations.{Outcome};
 ghost use Rattle.tuple_codec.specs.OperationView.{outcome_of};
 ghost use Rattle.tuple_codec.specs.Spelling.{SpellsOutcome};
@@ -23,25 +22,9 @@ const NUMBERS_LEN: usize = 16;
 pub fn put_reply(reply: &Reply, out: &mut Vec<u8>) -> Result<(), NoMemory>
     ensures { OnOk result (out.new.items ≡ out.old.items ++ kept_text (kept_of reply.now)) }
 {
-    out.extend_from_slice(&number_bytes(reply.timestamp))?;
-    out.extend_from_slice(&number_bytes(reply.number))?;
+    out.extend_from_slice(&reply.timestamp.to_be_bytes())?;
+    out.extend_from_slice(&reply.number.to_be_bytes())?;
     encode_result(&reply.answer, out)
-}
-
-fn number_bytes(number: u64) -> [u8; 8]
-    ensures { result ≡ to_be_bytes w64 number }
-{
-    let mut bytes = [0; 8];
-    BigEndian::write_u64(&mut bytes, number);
-    bytes
-}
-
-// The bytes behind the first n.
-fn behind(bytes: &[u8], n: usize) -> &[u8]
-    requires { n ≤ length bytes.now }
-    ensures { result.now ≡ drop n bytes.now }
-{
-    &bytes[n..]
 }
 
 // The answer that bytes spell as a whole.
@@ -74,7 +57,7 @@ pub fn is_page(text: &[u8]) -> bool
     if BigEndian::read_u64(text) == 0 {
         return false;
     }
-    is_result(behind(text, NUMBERS_LEN))
+    is_result(text.split_at(NUMBERS_LEN).1)
 }
 
 /// The reply that a page's text spells.
@@ -89,11 +72,11 @@ pub fn read_reply(alloc: Global, text: &[u8]) -> Result<Option<Reply>, Bad>
         return Err(Bad::Malformed);
     }
     let timestamp = BigEndian::read_u64(text);
-    let number = BigEndian::read_u64(behind(text, 8));
+    let number = BigEndian::read_u64(text.split_at(8).1);
     if timestamp == 0 {
         return Err(Bad::Malformed);
     }
-    match read_answer(alloc, behind(text, NUMBERS_LEN)) {
+    match read_answer(alloc, text.split_at(NUMBERS_LEN).1) {
         Ok(answer) => Ok(Some(Reply {
             timestamp,
             number,

@@ -1,6 +1,5 @@
-use Rattle.std.proofs.Common.{◌≡◌, [], map, subst, sym, ◌∙◌, arith, inl, inr}
-use Rattle.std.proofs.lemmas.Bool.{cases_eq}
-use Rattle.std.proofs.lemmas.List.{get_or-map, length-map}
+use Rattle.std.proofs.Common.{◌≡◌, [], map, subst, arith}
+use Rattle.std.proofs.lemmas.List.{get_or-map}
 use Rattle.reply_cache.specs.Replies.{last_of}
 use Rattle.reply_cache.specs.Reading.{EachSpelled}
 use Rattle.reply_cache.proofs.Fronts.{SpellsReply-of, EachSpelled-more}

@@ -12,11 +12,11 @@ returns-clause-found c t =
     let text = c.args.text.now in
     let r = c.is_result.ensures.0 t in (
       Some (record { timestamp = c.read_u64.result; number = big_number 8 (drop 8 text); outcome = r.0 }),
-      reply_found text (drop 8 text) c.behind.result.now c.read_u64.result (big_number 8 (drop 8 text)) r.0 (omega arith) (λ i. omega (arith, c.type_inv.text i))
-          c.read_u64.ensures refl refl c.behind.ensures (omega arith) r.1,
+      reply_found text (drop 8 text) c.split_at.result.1.now c.read_u64.result (big_number 8 (drop 8 text)) r.0 (omega arith) (λ i. omega (arith, c.type_inv.text i))
+          c.read_u64.ensures refl refl c.split_at.ensures.back (omega arith) r.1,
     )
 
 pub returns-clause-only : goal.returns-clause-only
 returns-clause-only c o spells =
     let r = reply_rest c.args.text.now o (omega arith) spells in
-    c.is_result.ensures.1 (r.0, subst (λ bs. SpellsOutcome bs r.0) (sym c.behind.ensures) r.1)
+    c.is_result.ensures.1 (r.0, subst (λ bs. SpellsOutcome bs r.0) (sym c.split_at.ensures.back) r.1)

@@ -18,7 +18,7 @@ returns-in_err-reach-clause-memory c =
 pub invariant_of-self-2 : goal.invariant_of-self-2
 invariant_of-self-2 c =
     AreSlots-set c.reach.new.slots.items c.args.client (record { timestamp = c.args.timestamp; number = c.args.number; answer = c.args.answer }) c.reach.ensures.slots
-    (record { first = c.requires; timestamp_fits = omega arith; number_fits = omega arith; answer = c.note_answer.ensures }) ((c.in_ok-reach.ensures {u = tt}).long)
+    (record { first = c.requires; timestamp_fits = omega arith; number_fits = omega arith; answer = c.note_valid.ensures }) ((c.in_ok-reach.ensures {u = tt}).long)
 
 pub returns-clause-ok : goal.returns-clause-ok
 returns-clause-ok c =
@@ -29,4 +29,4 @@ returns-clause-ok c =
 pub returns-clause-valid : goal.returns-clause-valid
 returns-clause-valid c =
     AreReplies-padded _ (AreSlots-set c.reach.new.slots.items c.args.client (record { timestamp = c.args.timestamp; number = c.args.number; answer = c.args.answer }) c.reach.ensures.slots
-    (record { first = c.requires; timestamp_fits = omega arith; number_fits = omega arith; answer = c.note_answer.ensures }) ((c.in_ok-reach.ensures {u = tt}).long))
+    (record { first = c.requires; timestamp_fits = omega arith; number_fits = omega arith; answer = c.note_valid.ensures }) ((c.in_ok-reach.ensures {u = tt}).long))

@@ -1,7 +1,0 @@
-use Rattle.std.proofs.Common.{take}
-use Rattle.std.specs.Prelude.{All}
-use Rattle.tuple_tree.specs.Values.{IsTuple}
-use Rattle.reply_cache.proofs.cache.note_tuples.Given as goal
-
-abbrev pub invariant-loop-tuple : goal.invariant-loop-tuple
-invariant-loop-tuple l = All IsTuple (take l.tuple-index l.tuples)
