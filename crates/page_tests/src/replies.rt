@@ -1,9 +1,11 @@
 //! Replies' worked pages, texts that are no replies', and memory refused.
 
+ghost use Rattle.std.specs.Prelude.{◌≡◌};
+
 use reply_cache::{CLIENTS, ReplyCache};
 use std::alloc::{AllocError, Global};
 use std::test::Fail;
-use terms::NoMemory;
+use terms::{ClientId, NoMemory};
 use tuple_codec::{Answer, Bad};
 use tuple_tree::{Atom, Tuple, Value};
 
@@ -12,6 +14,14 @@ const DONE: &[u8; 17] = b"\0\0\0\0\0\0\0\x01\0\0\0\0\0\0\0\x011";
 
 // The answer `found (1)` to a request of timestamp 258 in batch 3.
 const FOUND: &[u8; 27] = b"\0\0\0\0\0\0\x01\x02\0\0\0\0\0\0\0\x032\x01\x01\0\0\0\0\0\0\0\x01";
+
+fn client(number: u8) -> ClientId
+    ensures { result.number ≡ number }
+{
+    ClientId {
+        number: u16::from(number),
+    }
+}
 
 fn found(alloc: Global) -> Result<Answer<Global>, AllocError> {
     let mut tuple = Tuple::new_in(alloc);
@@ -22,14 +32,14 @@ fn found(alloc: Global) -> Result<Answer<Global>, AllocError> {
 }
 
 // The page's text, at the second try where memory ran out at the first one.
-fn page_of(cache: &ReplyCache, client: u8) -> Result<Vec<u8>, NoMemory> {
+fn page_of(cache: &ReplyCache, client: ClientId) -> Result<Vec<u8>, NoMemory> {
     match cache.page_text(client) {
         Ok(text) => Ok(text),
         Err(_) => cache.page_text(client),
     }
 }
 
-fn has_page(cache: &ReplyCache, client: u8, text: &[u8]) -> bool {
+fn has_page(cache: &ReplyCache, client: ClientId, text: &[u8]) -> bool {
     match page_of(cache, client) {
         Ok(page) => page.as_slice() == text,
         Err(_) => false,
@@ -37,7 +47,9 @@ fn has_page(cache: &ReplyCache, client: u8, text: &[u8]) -> bool {
 }
 
 fn has_no_replies(cache: &ReplyCache) -> bool {
-    cache.seen(0) == 0 && cache.last(255).is_none() && has_page(cache, 0, b"")
+    cache.seen(client(0)) == 0
+        && cache.last(client(255)).is_none()
+        && has_page(cache, client(0), b"")
 }
 
 #[test]
@@ -49,20 +61,23 @@ fn new_replies(rt: HostRuntime) {
 #[test]
 fn pages_of_replies(rt: HostRuntime) -> Result<(), Fail> {
     let mut cache = ReplyCache::new(rt.alloc());
-    let _ = cache.put(0, 1, 1, Answer::Done);
-    assert!(rt; cache.seen(0) == 1 && has_page(&cache, 0, DONE.as_slice()));
-    let _ = cache.put(255, 258, 3, found(rt.alloc())?);
-    assert!(rt; has_page(&cache, 255, FOUND.as_slice()) && has_page(&cache, 0, DONE.as_slice()));
+    let _ = cache.put(client(0), 1, 1, Answer::Done);
+    assert!(rt; cache.seen(client(0)) == 1 && has_page(&cache, client(0), DONE.as_slice()));
+    let _ = cache.put(client(255), 258, 3, found(rt.alloc())?);
+    assert!(rt;
+        has_page(&cache, client(255), FOUND.as_slice())
+            && has_page(&cache, client(0), DONE.as_slice())
+    );
     Ok(())
 }
 
 // Whether client 7 has its second reply alone, and the client before it none.
 fn is_replaced(cache: &ReplyCache) -> bool {
-    let Some(reply) = cache.last(7) else {
+    let Some(reply) = cache.last(client(7)) else {
         return false;
     };
-    cache.seen(7) == 6
-        && cache.seen(6) == 0
+    cache.seen(client(7)) == 6
+        && cache.seen(client(6)) == 0
         && (reply.timestamp, reply.number) == (6, 9)
         && matches!(&reply.answer, Answer::Swapped(true))
 }
@@ -70,8 +85,8 @@ fn is_replaced(cache: &ReplyCache) -> bool {
 #[test]
 fn a_reply_is_replaced_whole(rt: HostRuntime) -> Result<(), Fail> {
     let mut cache = ReplyCache::new(rt.alloc());
-    let _ = cache.put(7, 5, 2, found(rt.alloc())?);
-    let _ = cache.put(7, 6, 9, Answer::Swapped(true));
+    let _ = cache.put(client(7), 5, 2, found(rt.alloc())?);
+    let _ = cache.put(client(7), 6, 9, Answer::Swapped(true));
     assert!(rt; is_replaced(&cache));
     Ok(())
 }
@@ -85,8 +100,8 @@ fn read(alloc: Global, pages: &[&[u8]]) -> Result<ReplyCache, Bad> {
 }
 
 fn has_pages(cache: &ReplyCache, pages: &[&[u8]]) -> bool {
-    for (client, text) in pages.iter().enumerate() {
-        if client >= CLIENTS || !has_page(cache, client as u8, text) {
+    for (number, text) in pages.iter().enumerate() {
+        if number >= CLIENTS || !has_page(cache, client(number as u8), text) {
             return false;
         }
     }
@@ -143,18 +158,20 @@ fn too_few_and_too_many_pages(rt: HostRuntime) {
 
 // Whether client 9 gets its first reply, at the second try where memory ran out at the first one, which changed nothing.
 fn gets_done(cache: &mut ReplyCache) -> bool {
-    if cache.put(9, 1, 1, Answer::Done).is_ok() {
+    if cache.put(client(9), 1, 1, Answer::Done).is_ok() {
         return true;
     }
-    cache.seen(9) == 0 && cache.put(9, 1, 1, Answer::Done).is_ok()
+    cache.seen(client(9)) == 0 && cache.put(client(9), 1, 1, Answer::Done).is_ok()
 }
 
 // The same of client 200, where client 9 has its reply.
 fn gets_full(cache: &mut ReplyCache) -> bool {
-    if cache.put(200, 4, 2, Answer::Full).is_ok() {
+    if cache.put(client(200), 4, 2, Answer::Full).is_ok() {
         return true;
     }
-    cache.seen(200) == 0 && cache.seen(9) == 1 && cache.put(200, 4, 2, Answer::Full).is_ok()
+    cache.seen(client(200)) == 0
+        && cache.seen(client(9)) == 1
+        && cache.put(client(200), 4, 2, Answer::Full).is_ok()
 }
 
 // Passes whichever allocation is refused, as by `rt try --test --fail-alloc N`.
@@ -163,6 +180,6 @@ fn refusals_change_nothing(rt: HostRuntime) {
     let mut cache = ReplyCache::new(rt.alloc());
     assert!(rt; gets_done(&mut cache));
     assert!(rt; gets_full(&mut cache));
-    assert!(rt; cache.seen(200) == 4 && has_page(&cache, 9, DONE.as_slice()));
+    assert!(rt; cache.seen(client(200)) == 4 && has_page(&cache, client(9), DONE.as_slice()));
     assert_eq!(rt; is_page_read(rt.alloc(), 255, FOUND.as_slice()), Ok(true));
 }

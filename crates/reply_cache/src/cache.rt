@@ -10,7 +10,7 @@ ghost use Rattle.reply_cache.specs.Reading.{EachSpelled};
 use crate::pages::{is_page, put_reply, read_reply};
 use std::alloc::Global;
 use std::marker::Model;
-use terms::NoMemory;
+use terms::{ClientId, NoMemory};
 use tuple_codec::{Answer, Bad};
 
 /// How many clients there are at the most.
@@ -58,19 +58,19 @@ impl ReplyCache {
     }
 
     /// The reply to the client's last request. Takes no memory.
-    pub fn last(&self, client: u8) -> Option<&Reply>
-        ensures { option_map (λ reply. kept_of reply.now) result ≡ last_of self.now client }
+    pub fn last(&self, client: ClientId) -> Option<&Reply>
+        ensures { option_map (λ reply. kept_of reply.now) result ≡ last_of self.now client.number }
     {
-        if (client as usize) < self.slots.len() {
-            self.slots[client as usize].as_ref()
+        if (client.number as usize) < self.slots.len() {
+            self.slots[client.number as usize].as_ref()
         } else {
             None
         }
     }
 
     /// The timestamp of the client's last request, 0 where there is none. Takes no memory.
-    pub fn seen(&self, client: u8) -> u64
-        ensures { result ≡ seen_of self.now client }
+    pub fn seen(&self, client: ClientId) -> u64
+        ensures { result ≡ seen_of self.now client.number }
     {
         match self.last(client) {
             Some(reply) => reply.timestamp,
@@ -78,24 +78,26 @@ impl ReplyCache {
         }
     }
 
-    /// Keeps the reply to the client's last request in place of the one before. `timestamp` is from 1 on. NoMemory comes
-    /// only where neither the client nor one of a higher number has a reply yet. It changes nothing.
+    /// Keeps the reply to the client's last request in place of the one before. The client is one of 0 to 255, and
+    /// `timestamp` from 1 on. NoMemory comes only where neither the client nor one of a higher number has a reply yet.
+    /// It changes nothing.
     pub fn put(
         &mut self,
-        client: u8,
+        client: ClientId,
         timestamp: u64,
         number: u64,
         answer: Answer<Global>,
     ) -> Result<(), NoMemory>
-        requires { 1 ≤ timestamp }
-        ensures ok { OnOk result (self.new ≡ with_reply self.old client (record { timestamp = timestamp; number = number; outcome = outcome_of answer })) }
-        ensures memory { OnErr result (IsAbove client self.old) }
+        requires client { client.number < 256 }
+        requires timestamp { 1 ≤ timestamp }
+        ensures ok { OnOk result (self.new ≡ with_reply self.old client.number (record { timestamp = timestamp; number = number; outcome = outcome_of answer })) }
+        ensures memory { OnErr result (IsAbove client.number self.old) }
         ensures err { OnErr result (self.new ≡ self.old) }
         ensures valid { AreReplies self.new }
     {
         answer.note_valid();
-        reach(&mut self.slots, client as usize)?;
-        self.slots[client as usize] = Some(Reply {
+        reach(&mut self.slots, client.number as usize)?;
+        self.slots[client.number as usize] = Some(Reply {
             timestamp,
             number,
             answer,
@@ -105,8 +107,8 @@ impl ReplyCache {
 
     /// The text of the client's page: empty without a reply, else the timestamp and the number in 8 bytes each, high
     /// byte first, and the spelling of the answer. NoMemory where memory runs out.
-    pub fn page_text(&self, client: u8) -> Result<Vec<u8>, NoMemory>
-        ensures { IfOk result (λ text. text.items ≡ page_text self.now client) }
+    pub fn page_text(&self, client: ClientId) -> Result<Vec<u8>, NoMemory>
+        ensures { IfOk result (λ text. text.items ≡ page_text self.now client.number) }
     {
         let mut text = Vec::new(*self.slots.allocator());
         if let Some(reply) = self.last(client) {

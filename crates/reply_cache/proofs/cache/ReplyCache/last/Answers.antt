@@ -8,7 +8,7 @@ use Rattle.reply_cache.proofs.cache.ReplyCache.last.Goals as goal
 pub returns-then-client-len : goal.returns-then-client-len
 returns-then-client-len c =
     let slots = c.self.inside.slots.items in
-    let i = c.args.client in
+    let i = c.args.client.number in
     kept-copied c.as_ref.result c.index.result.now c.as_ref.ensures.value
     ∙ ap reply_of (c.index.ensures ∙ get_or_default slots i c.index.result.now None (omega arith))
     ∙ sym (last-padded slots i) ∙ ap (λ rs. last_of rs i) c.self.view_is
@@ -16,5 +16,5 @@ returns-then-client-len c =
 pub returns-else-client-len : goal.returns-else-client-len
 returns-else-client-len c =
     let slots = c.self.inside.slots.items in
-    let i = c.args.client in
+    let i = c.args.client.number in
     sym (ap reply_of (get_or_past slots i None (omega arith))) ∙ sym (last-padded slots i) ∙ ap (λ rs. last_of rs i) c.self.view_is

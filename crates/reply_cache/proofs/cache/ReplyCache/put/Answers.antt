@@ -17,16 +17,16 @@ returns-in_err-reach-clause-memory c =
 
 pub invariant_of-self-2 : goal.invariant_of-self-2
 invariant_of-self-2 c =
-    AreSlots-set c.reach.new.slots.items c.args.client (record { timestamp = c.args.timestamp; number = c.args.number; answer = c.args.answer }) c.reach.ensures.slots
-    (record { first = c.requires; timestamp_fits = omega arith; number_fits = omega arith; answer = c.note_valid.ensures }) ((c.in_ok-reach.ensures {u = tt}).long)
+    AreSlots-set c.reach.new.slots.items c.args.client.number (record { timestamp = c.args.timestamp; number = c.args.number; answer = c.args.answer }) c.reach.ensures.slots
+    (record { first = c.requires.timestamp; timestamp_fits = omega arith; number_fits = omega arith; answer = c.note_valid.ensures }) ((c.in_ok-reach.ensures {u = tt}).long)
 
 pub returns-clause-ok : goal.returns-clause-ok
 returns-clause-ok c =
     let few = c.reach.ensures.slots.few in
-    padded-set c.reach.new.slots.items c.args.client (record { timestamp = c.args.timestamp; number = c.args.number; answer = c.args.answer }) ((c.in_ok-reach.ensures {u = tt}).long) few
-    ∙ ap (λ rs. with_reply rs c.args.client (record { timestamp = c.args.timestamp; number = c.args.number; outcome = outcome_of c.args.answer })) (c.reach.ensures.same ∙ c.self.view_is)
+    padded-set c.reach.new.slots.items c.args.client.number (record { timestamp = c.args.timestamp; number = c.args.number; answer = c.args.answer }) ((c.in_ok-reach.ensures {u = tt}).long) few
+    ∙ ap (λ rs. with_reply rs c.args.client.number (record { timestamp = c.args.timestamp; number = c.args.number; outcome = outcome_of c.args.answer })) (c.reach.ensures.same ∙ c.self.view_is)
 
 pub returns-clause-valid : goal.returns-clause-valid
 returns-clause-valid c =
-    AreReplies-padded _ (AreSlots-set c.reach.new.slots.items c.args.client (record { timestamp = c.args.timestamp; number = c.args.number; answer = c.args.answer }) c.reach.ensures.slots
-    (record { first = c.requires; timestamp_fits = omega arith; number_fits = omega arith; answer = c.note_valid.ensures }) ((c.in_ok-reach.ensures {u = tt}).long))
+    AreReplies-padded _ (AreSlots-set c.reach.new.slots.items c.args.client.number (record { timestamp = c.args.timestamp; number = c.args.number; answer = c.args.answer }) c.reach.ensures.slots
+    (record { first = c.requires.timestamp; timestamp_fits = omega arith; number_fits = omega arith; answer = c.note_valid.ensures }) ((c.in_ok-reach.ensures {u = tt}).long))
