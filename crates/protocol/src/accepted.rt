@@ -26,7 +26,7 @@ pub fn a_prepared_batch_is_selected()
     ensures null { NullIsNotSelected }
 {}
 
-/// One replica that claims another batch prepared gets it selected in no case; over its view change and two others
+/// One replica that lists another batch as prepared gets it selected in no case; over its view change and two others
 /// nothing is selected, and with a third the prepared batch is.
 pub fn one_lie_is_not_selected()
     ensures lie { LieIsNotSelected }

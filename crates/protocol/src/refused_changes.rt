@@ -3,8 +3,8 @@
 ghost use Rattle.protocol.specs.Evidence.RefusedChanges.{ChangesAboveView, ChangesAboveEarlier, ChangesToNumbers, BatchEntriesPreparedInMarks, BatchEntriesProposedInMarks, BatchEntriesAscend, BatchEntriesDiffer, ChangesAgainLast, NoCallWhileOpen, CallsOperations, DropsWrites, DropsRequestsOfReplicas, DropsOldRequests, DropsPassedRequests, DropsPrePreparesOfBackups, DropsPrePreparesWhileInactive, DropsPrePreparesOutsideMarks, DropsSecondPrePrepares, DropsPreparesOfPrimaries, DropsPreparesWhileInactive, DropsSecondPrepares, DropsCommitsWhileInactive, DropsSecondCommits, DropsLowCheckpoints, DropsCheckpointsOfNoNumber, DropsSecondCheckpoints, DropsPassedCheckpoints, DropsLowChanges, DropsUnboundChanges, DropsPassedChanges, DropsNewViews, DropsFetches, DropsLowDigests, DropsLowPages, DropsOtherRoots, DropsOtherDigests, DropsOtherPages, WaitsOnceGot, WaitsOverFrames, WaitsUntilRun, WaitsNoLonger};
 
 /// A right replica sends a new view change only for a view above its own, above those of its earlier ones and below
-/// 2^48, with claims of numbers in the marks, the prepared ones ascending, and no digest of a number pre-prepared
-/// twice. It sends no view change again but the last.
+/// 2^48, with batch entries of numbers in the marks, the prepared ones ascending, and no digest of a number
+/// pre-prepared twice. It sends no view change again but the last.
 pub fn right_replicas_change_upwards()
     ensures views { ChangesAboveView }
     ensures earlier { ChangesAboveEarlier }

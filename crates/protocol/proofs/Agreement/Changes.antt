@@ -162,7 +162,7 @@ logged_within c me v i batch xs right h =
 
 -- ---- what the view change says, as the whole history has it
 
-pub record Claimed (c : Configuration) (s v i : ℕ) (batch_entry : BatchEntry) (past : List Entry) : Type 0 where
+pub record Listed (c : Configuration) (s v i : ℕ) (batch_entry : BatchEntry) (past : List Entry) : Type 0 where
   pub batch : List ℕ
   pub prepared : Prepared c s past batch_entry.view i batch
   pub digest_is : sha256 batch ≡ batch_entry.digest
@@ -170,7 +170,7 @@ pub record Claimed (c : Configuration) (s v i : ℕ) (batch_entry : BatchEntry) 
 
 pub record Pledged (c : Configuration) (s v i : ℕ) (vc : ViewChangeData) (past : List Entry) : Type 0 where
   pub has : vc.low < i → Has (λ x. x.number ≡ i) vc.prepared
-  pub each : (batch_entry : BatchEntry) → Has (λ x. x ≡ batch_entry) vc.prepared → batch_entry.number ≡ i → Claimed c s v i batch_entry past
+  pub each : (batch_entry : BatchEntry) → Has (λ x. x ≡ batch_entry) vc.prepared → batch_entry.number ≡ i → Listed c s v i batch_entry past
 
 pledged_stays : (c : Configuration) (s v i : ℕ) (vc : ViewChangeData) (e : Entry) (past : List Entry) → Pledged c s v i vc past → Pledged c s v i vc (e ∷ past)
 pledged_stays c s v i vc e past p = record {
@@ -190,7 +190,7 @@ pledged_at c s v i d vc past right p = record { has = has; each = each }
         p.is_new.prepared.all v i p.batch (and_from (nat_lt (low c s past) i && nat_le i (low c s past + span c)) (is_number i)
         (and_from (nat_lt (low c s past) i) (nat_le i (low c s past + span c)) (lt-ltb (low c s past) i a) (le-leb i (low c s past + span c) within.0)) (lt-ltb i (2 ^ 48) within.1)) p.prepared
 
-    each : (batch_entry : BatchEntry) → Has (λ x. x ≡ batch_entry) vc.prepared → batch_entry.number ≡ i → Claimed c s v i batch_entry past
+    each : (batch_entry : BatchEntry) → Has (λ x. x ≡ batch_entry) vc.prepared → batch_entry.number ≡ i → Listed c s v i batch_entry past
     each batch_entry h is =
         let l = p.is_new.prepared.listed batch_entry h in
         let prepared : Prepared c s past batch_entry.view i l.0.0 = subst (λ (x : ℕ). Prepared c s past batch_entry.view x l.0.0) is l.0.1 in

@@ -56,64 +56,64 @@ executed_append c trace first (x ∷ batches) batch k is a h =
 abbrev pub checking : ℕ → ℕ → List ℕ → Body
 checking s k root = record { sender = s; message = Checkpoint k root }
 
-pub has_take : (checkpoint : CheckpointEntry) (n : ℕ) (marks : List CheckpointEntry) → says_checkpoint checkpoint (take n marks) ≡ true → says_checkpoint checkpoint marks ≡ true
+pub has_take : (checkpoint : CheckpointEntry) (n : ℕ) (checkpoints : List CheckpointEntry) → says_checkpoint checkpoint (take n checkpoints) ≡ true → says_checkpoint checkpoint checkpoints ≡ true
 has_take checkpoint zero [] h = h
-has_take checkpoint zero (m ∷ marks) h = absurd cc
+has_take checkpoint zero (m ∷ checkpoints) h = absurd cc
 has_take checkpoint (suc n) [] h = h
-has_take checkpoint (suc n) (m ∷ marks) h = go ((m.number == checkpoint.number) && bytes_eq m.digest checkpoint.digest) h (has_take checkpoint n marks)
+has_take checkpoint (suc n) (m ∷ checkpoints) h = go ((m.number == checkpoint.number) && bytes_eq m.digest checkpoint.digest) h (has_take checkpoint n checkpoints)
   where
-    go : (b : Bool) → (b || says_checkpoint checkpoint (take n marks)) ≡ true → (says_checkpoint checkpoint (take n marks) ≡ true → says_checkpoint checkpoint marks ≡ true) → (b || says_checkpoint checkpoint marks) ≡ true
+    go : (b : Bool) → (b || says_checkpoint checkpoint (take n checkpoints)) ≡ true → (says_checkpoint checkpoint (take n checkpoints) ≡ true → says_checkpoint checkpoint checkpoints ≡ true) → (b || says_checkpoint checkpoint checkpoints) ≡ true
     go true k below = refl
     go false k below = below k
 
-abbrev pub is_mark : CheckpointEntry → CheckpointEntry → Bool
-is_mark checkpoint m = (m.number == checkpoint.number) && bytes_eq m.digest checkpoint.digest
+abbrev pub is_checkpoint : CheckpointEntry → CheckpointEntry → Bool
+is_checkpoint checkpoint m = (m.number == checkpoint.number) && bytes_eq m.digest checkpoint.digest
 
-pub has_insert : (checkpoint new : CheckpointEntry) (marks : List CheckpointEntry) → says_checkpoint checkpoint (insert_checkpoint new marks) ≡ true → (is_mark checkpoint new ≡ true) ⊎ (says_checkpoint checkpoint marks ≡ true)
-has_insert checkpoint new [] h = go (is_mark checkpoint new) h
+pub has_insert : (checkpoint new : CheckpointEntry) (checkpoints : List CheckpointEntry) → says_checkpoint checkpoint (insert_checkpoint new checkpoints) ≡ true → (is_checkpoint checkpoint new ≡ true) ⊎ (says_checkpoint checkpoint checkpoints ≡ true)
+has_insert checkpoint new [] h = go (is_checkpoint checkpoint new) h
   where
     go : (b : Bool) → (b || false) ≡ true → (b ≡ true) ⊎ (false ≡ true)
     go true k = inl refl
     go false k = inr k
-has_insert checkpoint new (m ∷ marks) h = go (m.number == new.number) (nat_lt m.number new.number) h (has_insert checkpoint new marks)
+has_insert checkpoint new (m ∷ checkpoints) h = go (m.number == new.number) (nat_lt m.number new.number) h (has_insert checkpoint new checkpoints)
   where
-    keep : (x : Bool) → (x || says_checkpoint checkpoint (insert_checkpoint new marks)) ≡ true → (says_checkpoint checkpoint (insert_checkpoint new marks) ≡ true → (is_mark checkpoint new ≡ true) ⊎ (says_checkpoint checkpoint marks ≡ true))
-        → (is_mark checkpoint new ≡ true) ⊎ ((x || says_checkpoint checkpoint marks) ≡ true)
+    keep : (x : Bool) → (x || says_checkpoint checkpoint (insert_checkpoint new checkpoints)) ≡ true → (says_checkpoint checkpoint (insert_checkpoint new checkpoints) ≡ true → (is_checkpoint checkpoint new ≡ true) ⊎ (says_checkpoint checkpoint checkpoints ≡ true))
+        → (is_checkpoint checkpoint new ≡ true) ⊎ ((x || says_checkpoint checkpoint checkpoints) ≡ true)
     keep true k below = inr refl
     keep false k below = below k
 
-    go : (a b : Bool) → says_checkpoint checkpoint (cond a (m ∷ marks) (cond b (new ∷ m ∷ marks) (m ∷ insert_checkpoint new marks))) ≡ true
-        → (says_checkpoint checkpoint (insert_checkpoint new marks) ≡ true → (is_mark checkpoint new ≡ true) ⊎ (says_checkpoint checkpoint marks ≡ true))
-        → (is_mark checkpoint new ≡ true) ⊎ (says_checkpoint checkpoint (m ∷ marks) ≡ true)
+    go : (a b : Bool) → says_checkpoint checkpoint (cond a (m ∷ checkpoints) (cond b (new ∷ m ∷ checkpoints) (m ∷ insert_checkpoint new checkpoints))) ≡ true
+        → (says_checkpoint checkpoint (insert_checkpoint new checkpoints) ≡ true → (is_checkpoint checkpoint new ≡ true) ⊎ (says_checkpoint checkpoint checkpoints ≡ true))
+        → (is_checkpoint checkpoint new ≡ true) ⊎ (says_checkpoint checkpoint (m ∷ checkpoints) ≡ true)
     go true b k below = inr k
-    go false true k below = or_cases (is_mark checkpoint new) (says_checkpoint checkpoint (m ∷ marks)) k
-    go false false k below = keep (is_mark checkpoint m) k below
+    go false true k below = or_cases (is_checkpoint checkpoint new) (says_checkpoint checkpoint (m ∷ checkpoints)) k
+    go false false k below = keep (is_checkpoint checkpoint m) k below
 
-marks_source : (c : Configuration) (s : ℕ) (checkpoint : CheckpointEntry) (xs : List Entry) → says_checkpoint checkpoint (checkpoints_of c xs s) ≡ true
-    → Once (λ past e. (m : CheckpointEntry) × (checkpoint_in c e ≡ Some (s, m)) × (is_mark checkpoint m ≡ true)) xs
+checkpoints_source : (c : Configuration) (s : ℕ) (checkpoint : CheckpointEntry) (xs : List Entry) → says_checkpoint checkpoint (checkpoints_of c xs s) ≡ true
+    → Once (λ past e. (m : CheckpointEntry) × (checkpoint_in c e ≡ Some (s, m)) × (is_checkpoint checkpoint m ≡ true)) xs
 unfolding checkpoints_of
-marks_source c s checkpoint [] h = absurd cc
-marks_source c s checkpoint (e ∷ past) h = go (checkpoint_in c e) refl h (marks_source c s checkpoint past)
+checkpoints_source c s checkpoint [] h = absurd cc
+checkpoints_source c s checkpoint (e ∷ past) h = go (checkpoint_in c e) refl h (checkpoints_source c s checkpoint past)
   where
     go : (o : Option (ℕ × CheckpointEntry)) → checkpoint_in c e ≡ o → says_checkpoint checkpoint (with_checkpoint s o (checkpoints_of c past s)) ≡ true
-        → (says_checkpoint checkpoint (checkpoints_of c past s) ≡ true → Once (λ past e. (m : CheckpointEntry) × (checkpoint_in c e ≡ Some (s, m)) × (is_mark checkpoint m ≡ true)) past)
-        → Once (λ past e. (m : CheckpointEntry) × (checkpoint_in c e ≡ Some (s, m)) × (is_mark checkpoint m ≡ true)) (e ∷ past)
+        → (says_checkpoint checkpoint (checkpoints_of c past s) ≡ true → Once (λ past e. (m : CheckpointEntry) × (checkpoint_in c e ≡ Some (s, m)) × (is_checkpoint checkpoint m ≡ true)) past)
+        → Once (λ past e. (m : CheckpointEntry) × (checkpoint_in c e ≡ Some (s, m)) × (is_checkpoint checkpoint m ≡ true)) (e ∷ past)
     go None is k below = inr (below k)
     go (Some x) is k below = from (x.0 == s) refl k
       where
         here : x.0 ≡ s → checkpoint_in c e ≡ Some (s, x.1)
         here own = is ∙ ap (λ (t : ℕ). Some (let p : ℕ × CheckpointEntry = (t, x.1) in p)) own
 
-        pick : x.0 ≡ s → (is_mark checkpoint x.1 ≡ true) ⊎ (says_checkpoint checkpoint (checkpoints_of c past s) ≡ true) → Once (λ past e. (m : CheckpointEntry) × (checkpoint_in c e ≡ Some (s, m)) × (is_mark checkpoint m ≡ true)) (e ∷ past)
+        pick : x.0 ≡ s → (is_checkpoint checkpoint x.1 ≡ true) ⊎ (says_checkpoint checkpoint (checkpoints_of c past s) ≡ true) → Once (λ past e. (m : CheckpointEntry) × (checkpoint_in c e ≡ Some (s, m)) × (is_checkpoint checkpoint m ≡ true)) (e ∷ past)
         pick own (inl y) = inl (x.1, here own, y)
         pick own (inr y) = inr (below y)
 
         from : (b : Bool) → (x.0 == s) ≡ b → says_checkpoint checkpoint (cond b (take 3 (insert_checkpoint x.1 (checkpoints_of c past s))) (checkpoints_of c past s)) ≡ true
-            → Once (λ past e. (m : CheckpointEntry) × (checkpoint_in c e ≡ Some (s, m)) × (is_mark checkpoint m ≡ true)) (e ∷ past)
+            → Once (λ past e. (m : CheckpointEntry) × (checkpoint_in c e ≡ Some (s, m)) × (is_checkpoint checkpoint m ≡ true)) (e ∷ past)
         from true own k = pick (eqb-true x.0 s own) (has_insert checkpoint x.1 (checkpoints_of c past s) (has_take checkpoint 3 (insert_checkpoint x.1 (checkpoints_of c past s)) k))
         from false own k = inr (below k)
 
-checkpoint_body : (s : ℕ) (checkpoint m : CheckpointEntry) (sender : ℕ) (message : Message) → checkpoint_from (record { sender = sender; message = message }) ≡ Some (s, m) → is_mark checkpoint m ≡ true
+checkpoint_body : (s : ℕ) (checkpoint m : CheckpointEntry) (sender : ℕ) (message : Message) → checkpoint_from (record { sender = sender; message = message }) ≡ Some (s, m) → is_checkpoint checkpoint m ≡ true
     → ◌≡◌ {A = Body} (record { sender = sender; message = message }) (checking s checkpoint.number checkpoint.digest)
 checkpoint_body s checkpoint m sender (Checkpoint number root) h k =
     let x : ℕ × CheckpointEntry = (sender, record { number = number; digest = root }) in
@@ -126,7 +126,7 @@ checkpoint_body s checkpoint m sender (Checkpoint number root) h k =
     rw (es, en, ed) refl
 checkpoint_body s checkpoint m sender _ h k = absurd cc
 
-checkpoint_brings : (c : Configuration) (s : ℕ) (checkpoint m : CheckpointEntry) (past : List Entry) (e : Entry) → checkpoint_in c e ≡ Some (s, m) → is_mark checkpoint m ≡ true
+checkpoint_brings : (c : Configuration) (s : ℕ) (checkpoint m : CheckpointEntry) (past : List Entry) (e : Entry) → checkpoint_in c e ≡ Some (s, m) → is_checkpoint checkpoint m ≡ true
     → Brings c (checking s checkpoint.number checkpoint.digest) past e
 checkpoint_brings c s checkpoint m past e h k =
     let r = and_then_some {B = ℕ × CheckpointEntry} checkpoint_from (brought c e) (s, m) h in
@@ -241,7 +241,7 @@ change_known c trace ys s k root vc right good h has =
     step : (past : List Entry) (e : Entry) → GoodHere c trace s past × NewChangeAt c s vc past e × Always (λ past e. GoodHere c trace s past) past → Known c trace k root
     step past e t =
         let listed : Has (λ (checkpoint : CheckpointEntry). (checkpoint.number ≡ k) × (checkpoint.digest ≡ root)) (map checkpoint_of (reverse (kept_states vc.low t.1.point.snapshots))) =
-        subst (λ (marks : List CheckpointEntry). Has (λ (checkpoint : CheckpointEntry). (checkpoint.number ≡ k) × (checkpoint.digest ≡ root)) marks) t.1.is_new.checkpoints has in
+        subst (λ (checkpoints : List CheckpointEntry). Has (λ (checkpoint : CheckpointEntry). (checkpoint.number ≡ k) × (checkpoint.digest ≡ root)) checkpoints) t.1.is_new.checkpoints has in
         let kept = has_map (λ (checkpoint : CheckpointEntry). (checkpoint.number ≡ k) × (checkpoint.digest ≡ root)) checkpoint_of (reverse (kept_states vc.low t.1.point.snapshots)) listed in
         let states : Has (λ (st : State). (st.number ≡ k) × (root_of st ≡ root)) (kept_states vc.low t.1.point.snapshots) =
         has_reverse (λ (st : State). (st.number ≡ k) × (root_of st ≡ root)) (kept_states vc.low t.1.point.snapshots) kept in
@@ -265,7 +265,7 @@ correct_of c setting test enough =
 module _ (c : Configuration) (setting : IsConfiguration c) (trace ys : List Entry) (right : AreReplicasSafe c ys) (unforged : Unforged c ys)
     (good : (s : ℕ) → is_correct_replica c s ≡ true → GoodAll c trace s (history_of s ys)) (r : ℕ) (correct : is_correct_replica c r ≡ true) (k : ℕ) (root : List ℕ) where
   Shows : ℕ → List Entry → Entry → Type 0
-  Shows s past e = (m : CheckpointEntry) × (checkpoint_in c e ≡ Some (s, m)) × (is_mark (record { number = k; digest = root }) m ≡ true)
+  Shows s past e = (m : CheckpointEntry) × (checkpoint_in c e ≡ Some (s, m)) × (is_checkpoint (record { number = k; digest = root }) m ≡ true)
 
   by_quorum : Once (λ earlier e. is_quorum c (count_checkpoints c (e ∷ earlier) (record { number = k; digest = root })) ≡ true) (history_of r ys) → Known c trace k root
   unfolding Shows
@@ -283,13 +283,13 @@ module _ (c : Configuration) (setting : IsConfiguration c) (trace ys : List Entr
       checkpoint_known c trace ys s.0 k root (right s.0 s.2) (good s.0 s.2) says
     where
       one : (past : List Entry) (e : Entry) → is_quorum c (count_checkpoints c (e ∷ past) (record { number = k; digest = root })) ≡ true
-          → (s : ℕ) × Once (λ past e. (m : CheckpointEntry) × (checkpoint_in c e ≡ Some (s, m)) × (is_mark (record { number = k; digest = root }) m ≡ true)) (e ∷ past) × (is_correct_replica c s ≡ true)
+          → (s : ℕ) × Once (λ past e. (m : CheckpointEntry) × (checkpoint_in c e ≡ Some (s, m)) × (is_checkpoint (record { number = k; digest = root }) m ≡ true)) (e ∷ past) × (is_correct_replica c s ≡ true)
       one past e q =
           let enough : 2 * c.faults + 1 ≤ count_below (λ s. says_checkpoint (record { number = k; digest = root }) (checkpoints_of c (e ∷ past) s)) (3 * c.faults + 1) =
           leb-true (2 * c.faults + 1) (count_checkpoints c (e ∷ past) (record { number = k; digest = root })) q in
           let more : c.faults < count_below (λ s. says_checkpoint (record { number = k; digest = root }) (checkpoints_of c (e ∷ past) s)) (3 * c.faults + 1) = omega arith in
           let s = correct_of c setting (λ s. says_checkpoint (record { number = k; digest = root }) (checkpoints_of c (e ∷ past) s)) more in
-          (s.0, marks_source c s.0 (record { number = k; digest = root }) (e ∷ past) s.2, s.1)
+          (s.0, checkpoints_source c s.0 (record { number = k; digest = root }) (e ∷ past) s.2, s.1)
 
   by_new_view : Once (StartsAt c k root) (history_of r ys) → Known c trace k root
   by_new_view h =

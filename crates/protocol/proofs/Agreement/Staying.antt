@@ -19,7 +19,7 @@ use Rattle.protocol.proofs.Agreement.Voting.{right_always}
 use Rattle.protocol.proofs.Agreement.Marks.{takes, selected_in, selects}
 use Rattle.protocol.proofs.Agreement.Signed.{change_was_said}
 use Rattle.protocol.proofs.Agreement.Commits.{voter_commits}
-use Rattle.protocol.proofs.Agreement.Changes.{Claimed, Pledged, pledged, proposed}
+use Rattle.protocol.proofs.Agreement.Changes.{Listed, Pledged, pledged, proposed}
 use Rattle.protocol.proofs.Words.Lists.{every_change, passes_change, largest_of-ge, get_there, stands_at, some_below}
 use Rattle.protocol.proofs.Agreement.Settling.{Settled, settled_logged}
 use Rattle.protocol.proofs.Agreement.Agreeing.{prepared_agree, has_digest_is}
@@ -47,7 +47,7 @@ batch_entry_within c vc batch_entry h =
     let b = and_parts (nat_lt batch_entry.view vc.view) (nat_lt vc.low batch_entry.number) a.0 in
     (ltb-true batch_entry.view vc.view b.0, leb-true batch_entry.number (vc.low + span c) a.1)
 
--- a member of the set: its view, and its claims within bounds
+-- a member of the set: its view, and its batch entries within bounds
 pub record Member (c : Configuration) (new : NewViewData) (vc : ViewChangeData) : Type 0 where
   pub view_is : vc.view ≡ new.view
   pub prepared : (batch_entry : BatchEntry) → Has (λ x. x ≡ batch_entry) vc.prepared → (batch_entry.view < vc.view) × (batch_entry.number ≤ vc.low + span c)
@@ -76,7 +76,7 @@ module _ (c : Configuration) (setting : IsConfiguration c) (trace : List Entry) 
   is_correct : (s : ℕ) → s < 3 * c.faults + 1 → is_faulty_replica c s ≡ false → is_correct_replica c s ≡ true
   is_correct s l f = and_from (is_replica c s) (not (is_faulty_replica c s)) (lt-ltb s (3 * c.faults + 1) l) (not_from_false (is_faulty_replica c s) f)
 
-  -- each quorum of a new view has a correct replica that committed, with what it claims
+  -- each quorum of a new view has a correct replica that committed, with what it lists
   record Witness (new : NewViewData) (test : ViewChangeData → Bool) : Type 0 where
     who : ℕ
     vc : ViewChangeData
@@ -107,9 +107,9 @@ module _ (c : Configuration) (setting : IsConfiguration c) (trace : List Entry) 
         pledged = pledged c s.0 v i (sha256 a) t.0 (history_of s.0 trace) (right_always c s.0 (history_of s.0 trace) r.0 r.1) commits says higher;
       }
 
-  -- what a committer claims prepared has the digest
+  -- what a committer lists as prepared has the digest
   batch_entry_digest : (w : ℕ) → ((u : ℕ) → v < u → u < w → Settled c trace i (sha256 a) u) → (s : ℕ) → is_correct_replica c s ≡ true → (batch_entry : BatchEntry) → batch_entry.view < w
-      → Claimed c s v i batch_entry (history_of s trace) → batch_entry.digest ≡ sha256 a
+      → Listed c s v i batch_entry (history_of s trace) → batch_entry.digest ≡ sha256 a
   batch_entry_digest w below s who batch_entry lt k = go (cases_order v batch_entry.view)
     where
       go : (v ≡ batch_entry.view) ⊎ ((v < batch_entry.view) ⊎ (batch_entry.view < v)) → batch_entry.digest ≡ sha256 a
@@ -164,7 +164,7 @@ module _ (c : Configuration) (setting : IsConfiguration c) (trace : List Entry) 
           × (is_weak_quorum c (count_in c (vouches i x (sha256 b)) (changes_of c new)) ≡ true)
       rules = and_parts (is_quorum c (count_in c (λ vc. nat_lt vc.low i && agrees i x (sha256 b) vc) (changes_of c new))) (is_weak_quorum c (count_in c (vouches i x (sha256 b)) (changes_of c new))) h
 
-      -- a committer, and its claim for the number
+      -- a committer, and its prepared entry for the number
       w : (w : Witness new (λ vc. nat_lt vc.low i && agrees i x (sha256 b) vc)) × ((batch_entry : BatchEntry) × Has (λ y. y ≡ batch_entry) w.vc.prepared × (batch_entry.number ≡ i))
       w = let m = witness q new (λ vc. nat_lt vc.low i && agrees i x (sha256 b) vc) correct' takes' sel above rules.0 in
           let l = (and_parts (nat_lt m.vc.low i) (agrees i x (sha256 b) m.vc) m.passes).0 in
@@ -177,14 +177,14 @@ module _ (c : Configuration) (setting : IsConfiguration c) (trace : List Entry) 
       bound : w.1.0.view < new.view
       bound = let m = member_of c new w.0.who w.0.vc sel w.0.change in let t = (m.prepared w.1.0 w.1.1).0 in let e = m.view_is in omega arith
 
-      claimed : Claimed c w.0.who v i w.1.0 (history_of w.0.who trace)
-      claimed = w.0.pledged.each w.1.0 w.1.1 w.1.2
+      listed : Listed c w.0.who v i w.1.0 (history_of w.0.who trace)
+      listed = w.0.pledged.each w.1.0 w.1.1 w.1.2
 
       earlier : (not (w.1.0.number == i) ≡ true) ⊎ (nat_lt w.1.0.view x ≡ true) → sha256 b ≡ sha256 a
       earlier (inl n) = let e = eq-eqb w.1.0.number i w.1.2 in let f = not_from_true (w.1.0.number == i) e in absurd (let bad : false ≡ true = sym f ∙ n in cc)
       earlier (inr l) =
           let lt : w.1.0.view < x = ltb-true w.1.0.view x l in
-          let at_least = claimed.at_least in
+          let at_least = listed.at_least in
           let high : v < x = omega arith in
           vouched q new correct' takes' sel below x b high rules.1
 
@@ -192,7 +192,7 @@ module _ (c : Configuration) (setting : IsConfiguration c) (trace : List Entry) 
       go (inl k) = earlier (or_cases (not (w.1.0.number == i)) (nat_lt w.1.0.view x) k)
       go (inr k) =
           let e : w.1.0.digest ≡ sha256 b = (bytes_eq-Decides w.1.0.digest (sha256 b)).0 (and_parts (w.1.0.view == x) (bytes_eq w.1.0.digest (sha256 b)) k).1 in
-          sym e ∙ batch_entry_digest new.view below w.0.who w.0.is_correct w.1.0 bound claimed
+          sym e ∙ batch_entry_digest new.view below w.0.who w.0.is_correct w.1.0 bound listed
 
   -- no null batch may stand at the number
   not_null : (q : ℕ) (new : NewViewData) → is_correct_replica c q ≡ true → Once (Takes c new) (history_of q trace) → Selected c new → v < new.view

@@ -24,7 +24,7 @@ use Rattle.protocol.specs.System.Schedule.{is_party, sealed_bytes}
 use Rattle.protocol.specs.Evidence.FirstOperation.{IsFrom, SealedFramesAreHeard}
 use Rattle.wire.proofs.Saying.{reads_frames, reads_said}
 
--- ---- the entries of a proof
+-- ---- the entries of an authenticator
 
 are_macs : (seed : List ℕ) (sender : ℕ) (text : List ℕ) (ps : List ℕ) → Each (λ p. p < 2 ^ 16) ps → Each IsMac (map (entry_for seed sender text) ps)
 are_macs seed sender text [] h = tt

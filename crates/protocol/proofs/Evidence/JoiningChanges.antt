@@ -30,7 +30,7 @@ use Rattle.protocol.proofs.Words.Plain.{Plain, taken_none}
 
 -- ---- a signed frame is sealed, and for all
 
--- what makes a frame sealed, of one proof
+-- what makes a frame sealed, of one authenticator
 abbrev IsSealedBy : Configuration → Frame → Authenticator → Type 0
 IsSealedBy c frame (macs entries) = All (λ x. x.mac ≡ mac_of c.seed x.receiver frame.body) entries
 IsSealedBy c frame (signature s) = has_signature c.seed frame ≡ true
@@ -74,7 +74,7 @@ module _ (clients : ℕ) (seed : List ℕ) (me one other : ℕ) (first second ow
     says : said own ≡ Some (changing me)
     says = signed_said c own (changing me) z
 
-    -- a view change that is got changes no view and no mark
+    -- a view change that is got changes neither view nor low mark
     plain : (past : List Entry) (s : ℕ) (bytes : List ℕ) → s ≢ me → ChangesInBeginning c s bytes → Plain c past (Got me bytes)
     plain past s bytes other is = record {
       view = ap (option_and_then (new_view_from c)) (hears s bytes other is);

@@ -56,19 +56,19 @@ no_batch c me v i sender (NewView new) h = refl
 no_batch c me v i sender (Prepare w k digest) h = refl
 no_batch c me v i sender _ h = absurd h
 
-no_mark : (sender : ℕ) (message : Message) → IsNoProposal message → checkpoint_from (record { sender = sender; message = message }) ≡ None
-no_mark sender (ViewChange vc) h = refl
-no_mark sender (NewView new) h = refl
-no_mark sender (Prepare w k digest) h = refl
-no_mark sender _ h = absurd h
+no_checkpoint : (sender : ℕ) (message : Message) → IsNoProposal message → checkpoint_from (record { sender = sender; message = message }) ≡ None
+no_checkpoint sender (ViewChange vc) h = refl
+no_checkpoint sender (NewView new) h = refl
+no_checkpoint sender (Prepare w k digest) h = refl
+no_checkpoint sender _ h = absurd h
 
 -- what is no checkpoint brings none
-pub brings_no_mark : (c : Configuration) (e : Entry) (body : Body) → brought c e ≡ Some body → IsNoProposal body.message → checkpoint_in c e ≡ None
-brings_no_mark c e body is h = ap (option_and_then checkpoint_from) is ∙ no_mark body.sender body.message h
+pub brings_no_checkpoint : (c : Configuration) (e : Entry) (body : Body) → brought c e ≡ Some body → IsNoProposal body.message → checkpoint_in c e ≡ None
+brings_no_checkpoint c e body is h = ap (option_and_then checkpoint_from) is ∙ no_checkpoint body.sender body.message h
 
 pub same_checkpoints : (c : Configuration) (past : List Entry) (e : Entry) (body : Body) → brought c e ≡ Some body → IsNoProposal body.message → (s : ℕ) → checkpoints_of c (e ∷ past) s ≡ checkpoints_of c past s
 same_checkpoints c past e body is h s =
-    checkpoints_next c past e s ∙ ap (λ (o : Option (ℕ × CheckpointEntry)). with_checkpoint s o (checkpoints_of c past s)) (brings_no_mark c e body is h)
+    checkpoints_next c past e s ∙ ap (λ (o : Option (ℕ × CheckpointEntry)). with_checkpoint s o (checkpoints_of c past s)) (brings_no_checkpoint c e body is h)
 
 -- what is no pre-prepare logs at most what a new view begins with
 entry_none : (c : Configuration) (me : ℕ) (past : List Entry) (e : Entry) (body : Body) → brought c e ≡ Some body → IsNoProposal body.message → (v i : ℕ) → entry_proposal c me past e v i ≡ None

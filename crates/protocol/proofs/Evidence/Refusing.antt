@@ -380,7 +380,7 @@ fetches_above c me k index level bytes past says below right =
 
 -- ---- whom a frame is for
 
--- what makes a frame sealed, of one proof
+-- what makes a frame sealed, of one authenticator
 abbrev IsSealedBy : Configuration → Frame → Authenticator → Type 0
 IsSealedBy c frame (macs entries) = All (λ x. x.mac ≡ mac_of c.seed x.receiver frame.body) entries
 IsSealedBy c frame (signature s) = has_signature c.seed frame ≡ true

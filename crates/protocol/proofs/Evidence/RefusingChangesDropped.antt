@@ -188,12 +188,12 @@ pub drops_checkpoints_of_no_number : DropsCheckpointsOfNoNumber
 drops_checkpoints_of_no_number c me s k root bytes past large a =
     answered c me s (Checkpoint k root) bytes past a (λ point leaves counts. let few = ltb-true k (2 ^ 48) counts.1 in absurd (omega (arith, large)))
 
-numbered : (k : ℕ) (marks : List CheckpointEntry) → Has (λ (checkpoint : CheckpointEntry). checkpoint.number ≡ k) marks → has_number k marks ≡ true
+numbered : (k : ℕ) (checkpoints : List CheckpointEntry) → Has (λ (checkpoint : CheckpointEntry). checkpoint.number ≡ k) checkpoints → has_number k checkpoints ≡ true
 numbered k [] h = absurd h
-numbered k (checkpoint ∷ marks) (inl h) = rw (eq-eqb checkpoint.number k h) refl
-numbered k (checkpoint ∷ marks) (inr h) = go (checkpoint.number == k) (numbered k marks h)
+numbered k (checkpoint ∷ checkpoints) (inl h) = rw (eq-eqb checkpoint.number k h) refl
+numbered k (checkpoint ∷ checkpoints) (inr h) = go (checkpoint.number == k) (numbered k checkpoints h)
   where
-    go : (b : Bool) → list_any (λ (m : CheckpointEntry). m.number == k) marks ≡ true → (b || list_any (λ (m : CheckpointEntry). m.number == k) marks) ≡ true
+    go : (b : Bool) → list_any (λ (m : CheckpointEntry). m.number == k) checkpoints ≡ true → (b || list_any (λ (m : CheckpointEntry). m.number == k) checkpoints) ≡ true
     go true e = refl
     go false e = e
 

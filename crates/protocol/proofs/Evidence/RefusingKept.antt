@@ -162,9 +162,9 @@ snapshots_fall c me (e ∷ past) point h = go e h.2.may h.2.moves (snapshots_fal
 -- each is at or above the number, and above the one before it
 abbrev Rises : ℕ → List CheckpointEntry → Type 0
 Rises n [] = ⊤
-Rises n (checkpoint ∷ marks) = (n ≤ checkpoint.number) × Rises (suc checkpoint.number) marks
+Rises n (checkpoint ∷ checkpoints) = (n ≤ checkpoint.number) × Rises (suc checkpoint.number) checkpoints
 
-rises_above : (n m : ℕ) (marks : List CheckpointEntry) → m ≤ n → Rises n marks → Rises m marks
+rises_above : (n m : ℕ) (checkpoints : List CheckpointEntry) → m ≤ n → Rises n checkpoints → Rises m checkpoints
 rises_above n m [] l h = tt
 rises_above n m (x ∷ xs) l h = let a = h.0 in (omega arith, h.1)
 
@@ -172,12 +172,12 @@ turned : (n : ℕ) (xs ys : List State) → Falls n xs → Rises n (map checkpoi
 turned n [] ys h r = let l : 0 ≤ n = omega arith in rises_above n 0 (map checkpoint_of ys) l r
 turned n (x ∷ xs) ys h r = let a = h.0 in let l : suc x.number ≤ n = omega arith in turned x.number xs (x ∷ ys) h.1 (omega arith, rises_above n (suc x.number) (map checkpoint_of ys) l r)
 
-above : (n i : ℕ) (marks : List CheckpointEntry) (a : CheckpointEntry) → Rises n marks → slice_get marks i ≡ Some a → n ≤ a.number
+above : (n i : ℕ) (checkpoints : List CheckpointEntry) (a : CheckpointEntry) → Rises n checkpoints → slice_get checkpoints i ≡ Some a → n ≤ a.number
 above n i [] a r get = absurd cc
 above n zero (x ∷ xs) a r get = let same : x ≡ a = cc in subst (λ (y : CheckpointEntry). n ≤ y.number) same r.0
 above n (suc i) (x ∷ xs) a r get = let l = r.0 in let m = above (suc x.number) i xs a r.1 get in omega arith
 
-ordered : (n i j : ℕ) (marks : List CheckpointEntry) (a b : CheckpointEntry) → Rises n marks → i < j → slice_get marks i ≡ Some a → slice_get marks j ≡ Some b → a.number < b.number
+ordered : (n i j : ℕ) (checkpoints : List CheckpointEntry) (a b : CheckpointEntry) → Rises n checkpoints → i < j → slice_get checkpoints i ≡ Some a → slice_get checkpoints j ≡ Some b → a.number < b.number
 ordered n i j [] a b r less first second = absurd cc
 ordered n i zero (x ∷ xs) a b r less first second = absurd (omega arith)
 ordered n zero (suc j) (x ∷ xs) a b r less first second =
@@ -188,19 +188,19 @@ ordered n (suc i) (suc j) (x ∷ xs) a b r less first second = let l : i < j = o
 
 -- ---- parts of states
 
--- what is kept is at or above the mark, where what holds of the snapshots holds too
-kept_above : (P : State → Type 0) (checkpoint : ℕ) (snapshots : List State) → Each P snapshots → Each (λ (st : State). (checkpoint ≤ st.number) × P st) (kept_states checkpoint snapshots)
-kept_above P checkpoint snapshots e = each_filtered P (λ (st : State). (checkpoint ≤ st.number) × P st) (λ (st : State). nat_le checkpoint st.number) (λ st t p. (leb-true checkpoint st.number t, p)) snapshots e
+-- what is kept is at or above the low mark, where what holds of the snapshots holds too
+kept_above : (P : State → Type 0) (low_mark : ℕ) (snapshots : List State) → Each P snapshots → Each (λ (st : State). (low_mark ≤ st.number) × P st) (kept_states low_mark snapshots)
+kept_above P low_mark snapshots e = each_filtered P (λ (st : State). (low_mark ≤ st.number) × P st) (λ (st : State). nat_le low_mark st.number) (λ st t p. (leb-true low_mark st.number t, p)) snapshots e
 
 each_any : (xs : List State) → Each (λ (st : State). ⊤) xs
 each_any [] = tt
 each_any (x ∷ xs) = (tt, each_any xs)
 
-at_or_above : (checkpoint k : ℕ) (P : State → Type 0) (snapshots : List State) → Has (λ (st : State). (st.number ≡ k) × P st) (kept_states checkpoint snapshots) → checkpoint ≤ k
-at_or_above checkpoint k P snapshots h =
-    let x = has_some (λ (st : State). (st.number ≡ k) × P st) (kept_states checkpoint snapshots) h in
-    let high = each_has (λ (st : State). (checkpoint ≤ st.number) × ⊤) (kept_states checkpoint snapshots) x.0 (kept_above (λ (st : State). ⊤) checkpoint snapshots (each_any snapshots)) x.1 in
-    subst (λ (n : ℕ). checkpoint ≤ n) x.2.0 high.0
+at_or_above : (low_mark k : ℕ) (P : State → Type 0) (snapshots : List State) → Has (λ (st : State). (st.number ≡ k) × P st) (kept_states low_mark snapshots) → low_mark ≤ k
+at_or_above low_mark k P snapshots h =
+    let x = has_some (λ (st : State). (st.number ≡ k) × P st) (kept_states low_mark snapshots) h in
+    let high = each_has (λ (st : State). (low_mark ≤ st.number) × ⊤) (kept_states low_mark snapshots) x.0 (kept_above (λ (st : State). ⊤) low_mark snapshots (each_any snapshots)) x.1 in
+    subst (λ (n : ℕ). low_mark ≤ n) x.2.0 high.0
 
 pub gives_no_low_digests : GivesNoLowDigests
 gives_no_low_digests c me k index level digests bytes past says right =
@@ -222,7 +222,7 @@ listed : (c : Configuration) (me : ℕ) (vc : ViewChangeData) (bytes : List ℕ)
     → (vc.low ≤ checkpoint.number) × HasSnapshot c checkpoint.number past
 listed c me vc bytes past sends checkpoint has =
     each_has P vc.checkpoints checkpoint
-    (subst (λ (marks : List CheckpointEntry). Each P marks) (sym change.checkpoints)
+    (subst (λ (checkpoints : List CheckpointEntry). Each P checkpoints) (sym change.checkpoints)
     (each_mapped P checkpoint_of (reverse (kept_states vc.low point.snapshots))
     (each_turned Q (kept_states vc.low point.snapshots) [] (kept_above (λ (st : State). HasSnapshot c st.number past) vc.low point.snapshots (each_snapshot c me past point sends.is_safe.1.1)) tt))) has
   where
@@ -248,7 +248,7 @@ lists_snapshots c me vc checkpoint bytes past sends has = (listed c me vc bytes 
 
 pub lists_each_snapshot : ListsEachSnapshot
 lists_each_snapshot c me k vc bytes past sends is high =
-    subst (λ (marks : List CheckpointEntry). Has (λ (checkpoint : CheckpointEntry). checkpoint.number ≡ k) marks) (sym change.checkpoints)
+    subst (λ (checkpoints : List CheckpointEntry). Has (λ (checkpoint : CheckpointEntry). checkpoint.number ≡ k) checkpoints) (sym change.checkpoints)
     (has_mapped (λ (checkpoint : CheckpointEntry). checkpoint.number ≡ k) checkpoint_of (reverse (kept_states vc.low point.snapshots))
     (has_turned (λ (st : State). st.number ≡ k) (kept_states vc.low point.snapshots) []
     (inl (has_filtered (λ (st : State). st.number ≡ k) (λ (st : State). nat_le vc.low st.number) passes point.snapshots (has_snapshot c me k past point sends.is_safe.1.1 is)))))
@@ -273,5 +273,5 @@ checkpoints_ascend c me i j vc a b bytes past sends less first second = ordered 
 
     rising : Rises 0 vc.checkpoints
     rising =
-        subst (λ (marks : List CheckpointEntry). Rises 0 marks) (sym change.checkpoints)
+        subst (λ (checkpoints : List CheckpointEntry). Rises 0 checkpoints) (sym change.checkpoints)
         (turned (suc point.state.number) (kept_states vc.low point.snapshots) [] (falls_filtered (λ (st : State). nat_le vc.low st.number) (suc point.state.number) point.snapshots (snapshots_fall c me past point sends.is_safe.1.1)) tt)

@@ -15,35 +15,35 @@ use Rattle.protocol.specs.Replica.Certificates.{taken, checkpoint_in, insert_che
 use Rattle.protocol.specs.Evidence.RefusedMarks.{IsStable, InstallsNumber, IsMarkAt, LowIsNoLower, LowIsMarked}
 use Rattle.protocol.proofs.Words.Temporal.{once_weaker, once_stays_from}
 use Rattle.protocol.proofs.Agreement.Marks.{low_grows, takes}
-use Rattle.protocol.proofs.Agreement.States.{has_insert, has_take, is_mark}
+use Rattle.protocol.proofs.Agreement.States.{has_insert, has_take, is_checkpoint}
 use Rattle.protocol.proofs.Words.Elements.{has_of_any}
 
 -- ---- what is said
 
-abbrev pub marked : ℕ → List ℕ → CheckpointEntry
-marked k root = record { number = k; digest = root }
+abbrev pub entry_of : ℕ → List ℕ → CheckpointEntry
+entry_of k root = record { number = k; digest = root }
 
-said_has : (k : ℕ) (root : List ℕ) (marks : List CheckpointEntry) → says_checkpoint (marked k root) marks ≡ true → Has (λ (m : CheckpointEntry). (m.number ≡ k) × (m.digest ≡ root)) marks
-said_has k root marks h =
+said_has : (k : ℕ) (root : List ℕ) (checkpoints : List CheckpointEntry) → says_checkpoint (entry_of k root) checkpoints ≡ true → Has (λ (m : CheckpointEntry). (m.number ≡ k) × (m.digest ≡ root)) checkpoints
+said_has k root checkpoints h =
     has_of_any (λ (m : CheckpointEntry). (m.number ≡ k) × (m.digest ≡ root)) (λ (m : CheckpointEntry). (m.number == k) && bytes_eq m.digest root)
-    (λ m t. let p = and_parts (m.number == k) (bytes_eq m.digest root) t in (eqb-true m.number k p.0, (bytes_eq-Decides m.digest root).0 p.1)) marks h
+    (λ m t. let p = and_parts (m.number == k) (bytes_eq m.digest root) t in (eqb-true m.number k p.0, (bytes_eq-Decides m.digest root).0 p.1)) checkpoints h
 
-has_said : (k : ℕ) (root : List ℕ) (marks : List CheckpointEntry) → Has (λ (m : CheckpointEntry). (m.number ≡ k) × (m.digest ≡ root)) marks → says_checkpoint (marked k root) marks ≡ true
+has_said : (k : ℕ) (root : List ℕ) (checkpoints : List CheckpointEntry) → Has (λ (m : CheckpointEntry). (m.number ≡ k) × (m.digest ≡ root)) checkpoints → says_checkpoint (entry_of k root) checkpoints ≡ true
 has_said k root [] h = absurd h
-has_said k root (m ∷ marks) (inl h) = rw (eq-eqb m.number k h.0, (bytes_eq-Decides m.digest root).1 h.1) refl
-has_said k root (m ∷ marks) (inr h) = go ((m.number == k) && bytes_eq m.digest root) (has_said k root marks h)
+has_said k root (m ∷ checkpoints) (inl h) = rw (eq-eqb m.number k h.0, (bytes_eq-Decides m.digest root).1 h.1) refl
+has_said k root (m ∷ checkpoints) (inr h) = go ((m.number == k) && bytes_eq m.digest root) (has_said k root checkpoints h)
   where
-    go : (b : Bool) → says_checkpoint (marked k root) marks ≡ true → (b || says_checkpoint (marked k root) marks) ≡ true
+    go : (b : Bool) → says_checkpoint (entry_of k root) checkpoints ≡ true → (b || says_checkpoint (entry_of k root) checkpoints) ≡ true
     go true e = refl
     go false e = e
 
-stable_of : (c : Configuration) (me : ℕ) (past : List Entry) (k : ℕ) (root : List ℕ) → IsStable c me past k root → is_stable c me past (marked k root) ≡ true
+stable_of : (c : Configuration) (me : ℕ) (past : List Entry) (k : ℕ) (root : List ℕ) → IsStable c me past k root → is_stable c me past (entry_of k root) ≡ true
 stable_of c me past k root h =
-    let more : count_below h.from (replicas c) ≤ count_checkpoints c past (marked k root) =
-    count_mono h.from (λ s. says_checkpoint (marked k root) (checkpoints_of c past s)) (replicas c) (λ s within t. has_said k root (checkpoints_of c past s) (h.alike s t)) in
+    let more : count_below h.from (replicas c) ≤ count_checkpoints c past (entry_of k root) =
+    count_mono h.from (λ s. says_checkpoint (entry_of k root) (checkpoints_of c past s)) (replicas c) (λ s within t. has_said k root (checkpoints_of c past s) (h.alike s t)) in
     let full = h.enough in
-    and_from (is_quorum c (count_checkpoints c past (marked k root))) (says_checkpoint (marked k root) (checkpoints_of c past me))
-    (le-leb (2 * c.faults + 1) (count_checkpoints c past (marked k root)) (omega arith)) (has_said k root (checkpoints_of c past me) h.own)
+    and_from (is_quorum c (count_checkpoints c past (entry_of k root))) (says_checkpoint (entry_of k root) (checkpoints_of c past me))
+    (le-leb (2 * c.faults + 1) (count_checkpoints c past (entry_of k root)) (omega arith)) (has_said k root (checkpoints_of c past me) h.own)
 
 of_stable : (c : Configuration) (me : ℕ) (past : List Entry) (checkpoint : CheckpointEntry) → is_stable c me past checkpoint ≡ true → IsStable c me past checkpoint.number checkpoint.digest
 of_stable c me past checkpoint h =
@@ -74,18 +74,18 @@ unfolding low
 low_at_first c me = refl
 
 -- what another checkpoint leaves said was said before
-said_before : (checkpoint : CheckpointEntry) (x : ℕ × CheckpointEntry) (s : ℕ) (marks : List CheckpointEntry) → is_mark checkpoint x.1 ≡ false → says_checkpoint checkpoint (with_checkpoint s (Some x) marks) ≡ true → says_checkpoint checkpoint marks ≡ true
-said_before checkpoint x s marks other h = go (x.0 == s) h
+said_before : (checkpoint : CheckpointEntry) (x : ℕ × CheckpointEntry) (s : ℕ) (checkpoints : List CheckpointEntry) → is_checkpoint checkpoint x.1 ≡ false → says_checkpoint checkpoint (with_checkpoint s (Some x) checkpoints) ≡ true → says_checkpoint checkpoint checkpoints ≡ true
+said_before checkpoint x s checkpoints other h = go (x.0 == s) h
   where
-    pick : (is_mark checkpoint x.1 ≡ true) ⊎ (says_checkpoint checkpoint marks ≡ true) → says_checkpoint checkpoint marks ≡ true
+    pick : (is_checkpoint checkpoint x.1 ≡ true) ⊎ (says_checkpoint checkpoint checkpoints ≡ true) → says_checkpoint checkpoint checkpoints ≡ true
     pick (inl same) = absurd (let bad : false ≡ true = sym other ∙ same in cc)
     pick (inr was) = was
 
-    go : (b : Bool) → says_checkpoint checkpoint (cond b (take 3 (insert_checkpoint x.1 marks)) marks) ≡ true → says_checkpoint checkpoint marks ≡ true
-    go true k = pick (has_insert checkpoint x.1 marks (has_take checkpoint 3 (insert_checkpoint x.1 marks) k))
+    go : (b : Bool) → says_checkpoint checkpoint (cond b (take 3 (insert_checkpoint x.1 checkpoints)) checkpoints) ≡ true → says_checkpoint checkpoint checkpoints ≡ true
+    go true k = pick (has_insert checkpoint x.1 checkpoints (has_take checkpoint 3 (insert_checkpoint x.1 checkpoints) k))
     go false k = k
 
--- what a checkpoint makes stable is no higher than the mark
+-- what a checkpoint makes stable is no higher than the low mark
 stable_here : (c : Configuration) (me : ℕ) (checkpoint : CheckpointEntry) (x : ℕ × CheckpointEntry) (e : Entry) (past : List Entry) → checkpoint_in c e ≡ Some x → x.1 ≡ checkpoint → is_stable c me (e ∷ past) checkpoint ≡ true
     → checkpoint.number ≤ low c me (e ∷ past)
 stable_here c me checkpoint x e past is same h =
@@ -119,21 +119,21 @@ low_stable c me checkpoint (e ∷ past) h = go (checkpoint_in c e) refl (low_sta
         let grows = low_grows c me e past in
         omega arith
 
-    same_mark : (m : CheckpointEntry) → is_mark checkpoint m ≡ true → m ≡ checkpoint
-    same_mark m t =
+    same_checkpoint : (m : CheckpointEntry) → is_checkpoint checkpoint m ≡ true → m ≡ checkpoint
+    same_checkpoint m t =
         let p = and_parts (m.number == checkpoint.number) (bytes_eq m.digest checkpoint.digest) t in
-        ap₂ (λ (n : ℕ) (d : List ℕ). marked n d) (eqb-true m.number checkpoint.number p.0) ((bytes_eq-Decides m.digest checkpoint.digest).0 p.1)
+        ap₂ (λ (n : ℕ) (d : List ℕ). entry_of n d) (eqb-true m.number checkpoint.number p.0) ((bytes_eq-Decides m.digest checkpoint.digest).0 p.1)
 
     go : (o : Option (ℕ × CheckpointEntry)) → checkpoint_in c e ≡ o → (is_stable c me past checkpoint ≡ true → checkpoint.number ≤ low c me past) → checkpoint.number ≤ low c me (e ∷ past)
     go None is below = was None is (λ s t. t) below
-    go (Some x) is below = pick (is_mark checkpoint x.1) refl
+    go (Some x) is below = pick (is_checkpoint checkpoint x.1) refl
       where
-        pick : (b : Bool) → is_mark checkpoint x.1 ≡ b → checkpoint.number ≤ low c me (e ∷ past)
-        pick true same = stable_here c me checkpoint x e past is (same_mark x.1 same) h
+        pick : (b : Bool) → is_checkpoint checkpoint x.1 ≡ b → checkpoint.number ≤ low c me (e ∷ past)
+        pick true same = stable_here c me checkpoint x e past is (same_checkpoint x.1 same) h
         pick false other = was (Some x) is (λ s t. said_before checkpoint x s (checkpoints_of c past s) other t) below
 
 marked_low : (c : Configuration) (me k : ℕ) (past : List Entry) (e : Entry) → IsMarkAt c me k past e → k ≤ low c me (e ∷ past)
-marked_low c me k past e (inl h) = low_stable c me (marked k h.0) (e ∷ past) (stable_of c me (e ∷ past) k h.0 h.1)
+marked_low c me k past e (inl h) = low_stable c me (entry_of k h.0) (e ∷ past) (stable_of c me (e ∷ past) k h.0 h.1)
 marked_low c me k past e (inr (inr h)) =
     let start = (takes c me past e h.0 h.1).low_is in
     let is = h.2 in

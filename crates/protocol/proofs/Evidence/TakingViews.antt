@@ -23,7 +23,7 @@ use Rattle.protocol.specs.Evidence.ExamplesOfChanges.{holding_view, IsForOthers,
 use Rattle.signing.proofs.Heard.{signed_is_heard}
 use Rattle.protocol.proofs.Words.Options.{some_injective}
 use Rattle.protocol.proofs.Evidence.Selecting.{prepared_is_selected}
-use Rattle.protocol.proofs.Evidence.JoiningChangesOwing.{Due, owes, none_if, none_logged, none_checked, brings_no_mark, same_checkpoints, logs_begun, logs_nothing, moves_nothing}
+use Rattle.protocol.proofs.Evidence.JoiningChangesOwing.{Due, owes, none_if, none_logged, none_checked, brings_no_checkpoint, same_checkpoints, logs_begun, logs_nothing, moves_nothing}
 
 prepare_next : (c : Configuration) (me : ℕ) (past : List Entry) (e : Entry) (v i s : ℕ) → prepare_of c me (e ∷ past) v i s ≡ or_else (prepare_of c me past v i s) (vote_in c me past e (prepare_from c s v i) v i)
 unfolding prepare_of
@@ -78,7 +78,7 @@ module _ (clients : ℕ) (seed : List ℕ) (me : ℕ) (batch root a b d new_view
     view_is = ap (view_after (view c []) (target [])) brings
 
     stable_none : stable_at c me [] (Got me new_view) ≡ 0
-    stable_none = ap (λ (o : Option (ℕ × CheckpointEntry)). option_map_or (λ (y : ℕ × CheckpointEntry). cond (is_stable c me h1 y.1) y.1.number 0) o 0) (brings_no_mark c (Got me new_view) begins hears tt)
+    stable_none = ap (λ (o : Option (ℕ × CheckpointEntry)). option_map_or (λ (y : ℕ × CheckpointEntry). cond (is_stable c me h1 y.1) y.1.number 0) o 0) (brings_no_checkpoint c (Got me new_view) begins hears tt)
 
     starts : started_at c [] (Got me new_view) ≡ 0
     starts = ap (λ (o : Option NewViewData). option_map_or (λ (n : NewViewData). n.start) o 0) takes

@@ -94,8 +94,8 @@ NullIsNotSelected =
     → signed_change (four clients seed) d ≡ Some (3, holding batch root)
     → may_select (four clients seed) (record { view = 1; changes = a ∷ b ∷ d ∷ []; start = 0; root = root; batches = null_batch ∷ [] }) ≡ false
 
--- Replica 3 lies: it claims another batch prepared. Over its view change and those of two that tell the truth neither
--- batch is selected; with a third that tells the truth the prepared one is.
+-- Replica 3 lies: it lists another batch as prepared. Over its view change and those of two that tell the truth
+-- neither batch is selected; with a third that tells the truth the prepared one is.
 abbrev pub LieIsNotSelected : Type 0
 LieIsNotSelected =
     (clients : ℕ) (seed batch lie root a b d : List ℕ) → sha256 batch ≢ sha256 lie

@@ -45,11 +45,11 @@ ChangesAboveEarlier =
 abbrev pub ChangesToNumbers : Type 0
 ChangesToNumbers = (c : Configuration) (me : ℕ) (vc : ViewChangeData) (bytes : List ℕ) (past : List Entry) → SendsNewChange c me vc bytes past → vc.view < 2 ^ 48
 
--- the claim's number is in the marks
+-- the batch entry's number is in the marks
 abbrev pub IsInMarks : Configuration → ℕ → List Entry → BatchEntry → Type 0
 IsInMarks c me past batch_entry = (low c me past < batch_entry.number) × (batch_entry.number ≤ low c me past + 2 * c.period) × (batch_entry.number < 2 ^ 48)
 
--- A new view change that claims a number outside the marks prepared, or pre-prepared.
+-- A new view change with a prepared, or a pre-prepared, entry of a number outside the marks.
 abbrev pub BatchEntriesPreparedInMarks : Type 0
 BatchEntriesPreparedInMarks =
     (c : Configuration) (me : ℕ) (vc : ViewChangeData) (batch_entry : BatchEntry) (bytes : List ℕ) (past : List Entry) → SendsNewChange c me vc bytes past
@@ -60,13 +60,13 @@ BatchEntriesProposedInMarks =
     (c : Configuration) (me : ℕ) (vc : ViewChangeData) (batch_entry : BatchEntry) (bytes : List ℕ) (past : List Entry) → SendsNewChange c me vc bytes past
     → Has (λ x. x ≡ batch_entry) vc.pre_prepared → IsInMarks c me past batch_entry
 
--- A new view change whose prepared claims don't ascend, as two of one number.
+-- A new view change whose prepared entries don't ascend, as two of one number.
 abbrev pub BatchEntriesAscend : Type 0
 BatchEntriesAscend =
     (c : Configuration) (me i j : ℕ) (vc : ViewChangeData) (a b : BatchEntry) (bytes : List ℕ) (past : List Entry) → SendsNewChange c me vc bytes past
     → i < j → slice_get vc.prepared i ≡ Some a → slice_get vc.prepared j ≡ Some b → a.number < b.number
 
--- A new view change that claims one digest of one number pre-prepared twice.
+-- A new view change with two pre-prepared entries of one number and digest.
 abbrev pub BatchEntriesDiffer : Type 0
 BatchEntriesDiffer =
     (c : Configuration) (me i j : ℕ) (vc : ViewChangeData) (a b : BatchEntry) (bytes : List ℕ) (past : List Entry) → SendsNewChange c me vc bytes past

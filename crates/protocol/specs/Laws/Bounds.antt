@@ -4,14 +4,14 @@ use Rattle.protocol.specs.System.Configuration.{Configuration}
 use Rattle.wire.specs.Messages.{ViewChangeData, CheckpointEntryData as CheckpointEntry, BatchEntryData as BatchEntry}
 use Rattle.protocol.specs.System.Trace.{Has}
 
--- a claim within the bounds of its view change
+-- a batch entry within the bounds of its view change
 pub record IsBatchEntryBounded (c : Configuration) (vc : ViewChangeData) (batch_entry : BatchEntry) : Type 0 where
   pub earlier : batch_entry.view < vc.view
   pub above : vc.low < batch_entry.number
   pub within : batch_entry.number ≤ vc.low + 2 * c.period
   pub number : batch_entry.number < 2 ^ 48
 
--- a checkpoint within the bounds of its view change
+-- a checkpoint entry within the bounds of its view change
 pub record IsCheckpointBounded (c : Configuration) (vc : ViewChangeData) (checkpoint : CheckpointEntry) : Type 0 where
   pub from : vc.low ≤ checkpoint.number
   pub within : checkpoint.number ≤ vc.low + 2 * c.period

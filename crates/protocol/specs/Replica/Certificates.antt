@@ -94,8 +94,8 @@ insert_checkpoint checkpoint (m ∷ ms) = if m.number == checkpoint.number then 
 
 -- a sender's checkpoints behind an entry that brings this one: another's changes nothing, and three stay
 abbrev pub with_checkpoint : ℕ → Option (ℕ × CheckpointEntry) → List CheckpointEntry → List CheckpointEntry
-with_checkpoint s None marks = marks
-with_checkpoint s (Some x) marks = if x.0 == s then take 3 (insert_checkpoint x.1 marks) else marks
+with_checkpoint s None checkpoints = checkpoints
+with_checkpoint s (Some x) checkpoints = if x.0 == s then take 3 (insert_checkpoint x.1 checkpoints) else checkpoints
 
 -- of each sender the checkpoints of the three largest numbers, the largest first; of one number the first counts
 unfoldable pub checkpoints_of : Configuration → List Entry → ℕ → List CheckpointEntry
@@ -104,7 +104,7 @@ checkpoints_of c (e ∷ past) s = with_checkpoint s (checkpoint_in c e) (checkpo
 
 -- one of these checkpoints has this number and digest
 abbrev pub says_checkpoint : CheckpointEntry → List CheckpointEntry → Bool
-says_checkpoint checkpoint marks = list_any (λ m. (m.number == checkpoint.number) && bytes_eq m.digest checkpoint.digest) marks
+says_checkpoint checkpoint checkpoints = list_any (λ m. (m.number == checkpoint.number) && bytes_eq m.digest checkpoint.digest) checkpoints
 
 -- how many different replicas' checkpoints say this
 abbrev pub count_checkpoints : Configuration → List Entry → CheckpointEntry → ℕ

@@ -137,7 +137,7 @@ IsAwaited c me past point k level index digest = (asked_last past ≡ Some (k, (
 
 -- one of the checkpoints has the number
 abbrev pub has_number : ℕ → List CheckpointEntry → Bool
-has_number k marks = list_any (λ m. m.number == k) marks
+has_number k checkpoints = list_any (λ m. m.number == k) checkpoints
 
 -- the view of the view change that an entry brings of the replica, where it is above the view then and within its
 -- bounds

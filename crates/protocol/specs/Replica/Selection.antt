@@ -51,7 +51,7 @@ count_in c test set = count_below (passes_by test set) (replicas c)
 
 -- ---- a view change within its bounds: views in it are below its own, numbers within its marks, and all below 2^48
 
--- a claim, prepared or pre-prepared; a checkpoint; and the whole
+-- a batch entry, prepared or pre-prepared; a checkpoint entry; and the whole
 abbrev pub is_batch_entry_within : Configuration → ViewChangeData → BatchEntry → Bool
 is_batch_entry_within c vc batch_entry = nat_lt batch_entry.view vc.view && nat_lt vc.low batch_entry.number && nat_le batch_entry.number (vc.low + span c) && is_number batch_entry.number
 
@@ -70,7 +70,7 @@ is_start c set start root =
     is_quorum c (count_in c (λ vc. nat_le vc.low start) set)
     && is_weak_quorum c (count_in c (λ vc. list_any (λ checkpoint. (checkpoint.number == start) && bytes_eq checkpoint.digest root) vc.checkpoints) set)
 
--- no claim of the view change for the number speaks against this digest in this view
+-- no prepared entry of the view change for the number speaks against this digest in this view
 abbrev pub agrees : ℕ → ℕ → List ℕ → ViewChangeData → Bool
 agrees number view digest vc = list_all (λ batch_entry. not (batch_entry.number == number) || nat_lt batch_entry.view view || ((batch_entry.view == view) && bytes_eq batch_entry.digest digest)) vc.prepared
 
