@@ -70,8 +70,8 @@ pub fn a_first_fetch_is_answered()
     ensures fetch { FirstFetchIsAnswered }
 {}
 
-/// A replica that is behind and asks for the root at the third checkpoint that has it, and at each part that it gets for
-/// the next, is a right one.
+/// A replica that is behind and asks for the root at the third checkpoint that has it, and at each part that it
+/// gets for the next, is a right one.
 pub fn a_transfer_begins()
     ensures begins { TransferBegins }
 {}

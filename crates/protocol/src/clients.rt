@@ -1,21 +1,22 @@
-//! Laws of the definitions of clients and of parties that stop: which replies count, when a client gives nothing, what all
-//! that is correct keeps, and histories of clients that are accepted.
+//! Laws of the definitions of clients and of parties that stop: which replies count, when a client gives nothing,
+//! what all that is correct keeps, and histories of clients that are accepted.
 
 ghost use Rattle.protocol.specs.Evidence.Clients.{HeardIsLatest, LatestStays, CallsForget, WaitsForAnswers, FallsBackOnce, WeaklyWaits, IgnoresOthers, RestsWithoutCall};
 ghost use Rattle.protocol.specs.Evidence.Correct.{ReplicasHaveOwn, ClientsHaveOwn, SealsRequests, AsksItsCall, ReplicasAreSafe, ClientsAreSafe, WeakClientsAreSafe};
 ghost use Rattle.protocol.specs.Evidence.ExamplesOfClients.{FirstReadIsAccepted, FirstWeakOperationIsRun, FirstWeakOperationIsUnforged};
 ghost use Rattle.protocol.specs.Evidence.Stopping.{ReplicasMayStop, ClientsMayStop, WeakClientsMayStop};
 
-/// A reply that is heard is its sender's latest of its mode, whatever was heard before, until the sender's next of that mode.
-/// A call begins with none.
+/// A reply that is heard is its sender's latest of its mode, whatever was heard before, until the sender's next of
+/// that mode. A call begins with none.
 pub fn latest_replies_count()
     ensures heard { HeardIsLatest }
     ensures stays { LatestStays }
     ensures call { CallsForget }
 {}
 
-/// A correct client that goes on gives nothing at a reply that completes nothing, if a replica has not answered read-only
-/// or the call's request went ordered before, at a frame that is no reply to its call, and while it has no call.
+/// A correct client that goes on gives nothing at a reply that completes nothing, if a replica has not answered
+/// read-only or the call's request went ordered before, at a frame that is no reply to its call, and while it has
+/// no call.
 pub fn clients_wait()
     ensures answers { WaitsForAnswers }
     ensures once { FallsBackOnce }
@@ -24,8 +25,8 @@ pub fn clients_wait()
     ensures calls { RestsWithoutCall }
 {}
 
-/// Each entry of a correct party's history is its own. All that a client sends are requests of its open call, read-only ones
-/// for reads alone, with the MACs of their bodies. And what is correct is safe.
+/// Each entry of a correct party's history is its own. All that a client sends are requests of its open call,
+/// read-only ones for reads alone, with the MACs of their bodies. And what is correct is safe.
 pub fn correct_histories_are_safe()
     ensures replicas_have_own { ReplicasHaveOwn }
     ensures clients_have_own { ClientsHaveOwn }
@@ -48,8 +49,8 @@ pub fn a_first_read_is_accepted()
     ensures read { FirstReadIsAccepted }
 {}
 
-/// A weak client's first operation at four replicas, whole, is a weak client's run, accepted at the second of its replies,
-/// and no message of it is forged.
+/// A weak client's first operation at four replicas, whole, is a weak client's run, accepted at the second of its
+/// replies, and no message of it is forged.
 pub fn a_first_weak_operation_is_a_run()
     ensures run { FirstWeakOperationIsRun }
     ensures unforged { FirstWeakOperationIsUnforged }

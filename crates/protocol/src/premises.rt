@@ -32,8 +32,8 @@ pub fn runs_have_whole_histories()
     ensures weak_clients { WeakRunsHaveClients }
 {}
 
-/// A run goes on with whatever a correct party gets, with a tick at any time, and with any call of a correct client that
-/// has none open; and so does a safe replica's history, with what it gets and with ticks.
+/// A run goes on with whatever a correct party gets, with a tick at any time, and with any call of a correct client
+/// that has none open; and so does a safe replica's history, with what it gets and with ticks.
 pub fn runs_go_on()
     ensures inputs { RunsGoOn }
     ensures weak_inputs { WeakRunsGoOn }

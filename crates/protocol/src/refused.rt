@@ -65,10 +65,10 @@ pub fn correct_replicas_answer()
     ensures ran { AnswersRan }
 {}
 
-/// A correct replica that goes on has prepared, as an active backup, what it logged in the event, committed what became
-/// prepared, executed what is committed and next, and numbered, as the active primary, the requests that wait, none of
-/// them twice in a view or in a batch; it has sent a checkpoint of each multiple of the period that it executed, and begun a transfer
-/// where a quorum of checkpoints is ahead.
+/// A correct replica that goes on has prepared, as an active backup, what it logged in the event, committed what
+/// became prepared, executed what is committed and next, and numbered, as the active primary, the requests that
+/// wait, none of them twice in a view or in a batch; it has sent a checkpoint of each multiple of the period that
+/// it executed, and begun a transfer where a quorum of checkpoints is ahead.
 pub fn correct_replicas_go_on()
     ensures prepares { PreparesLogged }
     ensures commits { CommitsPrepared }

@@ -4,9 +4,10 @@ ghost use Rattle.protocol.specs.Evidence.RefusedItems.{AnswersAsOneSpace, ListsW
 ghost use Rattle.protocol.specs.Evidence.FirstOperation.{FirstOperationHasItsPoint};
 ghost use Rattle.protocol.specs.Evidence.FirstReads.{ReadsHaveTheirPoints};
 
-/// Each answer of a legal list is that of one space. What covers a trace lists what correct clients accepted, with that
-/// answer, nothing of a correct client that it did not call, nothing of a faulty one that no correct replica was asked for
-/// by then, and nothing twice. What is placed never falls, and is between call and acceptance. What is linear is all three.
+/// Each answer of a legal list is that of one space. What covers a trace lists what correct clients accepted, with
+/// that answer, nothing of a correct client that it did not call, nothing of a faulty one that no correct replica
+/// was asked for by then, and nothing twice. What is placed never falls, and is between call and acceptance. What
+/// is linear is all three.
 pub fn lists_are_refused()
     ensures answers { AnswersAsOneSpace }
     ensures accepted { ListsWhatIsAccepted }
@@ -33,8 +34,8 @@ pub fn a_first_operation_has_its_point()
     ensures point { FirstOperationHasItsPoint }
 {}
 
-/// Beside it, the points of reads: those that were called before it stand where the third replica executes it, behind it
-/// and by client, and one that is called behind it stands where it is called.
+/// Beside it, the points of reads: those that were called before it stand where the third replica executes it,
+/// behind it and by client, and one that is called behind it stands where it is called.
 pub fn first_reads_have_their_points()
     ensures points { ReadsHaveTheirPoints }
 {}

@@ -8,8 +8,9 @@ pub fn right_replicas_give_no_low_parts()
     ensures pages { GivesNoLowPages }
 {}
 
-/// A right replica's new view change says its low mark, and lists, in ascending order, a checkpoint of each number at or above
-/// it that is 0, or a multiple of the period that it executed, or that it installed, and of no other number.
+/// A right replica's new view change says its low mark, and lists, in ascending order, a checkpoint of each number
+/// at or above it that is 0, or a multiple of the period that it executed, or that it installed, and of no other
+/// number.
 pub fn right_replicas_list_checkpoints()
     ensures marks { ChangesFromLowMark }
     ensures below { ListsNoneBelow }

@@ -2,8 +2,8 @@
 
 ghost use Rattle.protocol.specs.Evidence.RefusedSteps.{ReportsExist, ReportsAll, ReportsNoOther, ReportsInOrder, ReportsAreLinear, FirstOperationIsReported, FeedsWhatMayBeFed, FeedsWhatMayBeMade, FlushDeliversSealed, FlushDeliversSigned, SealedIsNewest, SignedIsNewest, StopsAtNone, StopsAtEach};
 
-/// Each trace has a report. It lists the trace's acceptances and no others, each with its position, in the order of their
-/// positions, and the items that it lists of a run are legal, cover the run and are placed.
+/// Each trace has a report. It lists the trace's acceptances and no others, each with its position, in the order of
+/// their positions, and the items that it lists of a run are legal, cover the run and are placed.
 pub fn reports_are_exact()
     ensures exist { ReportsExist }
     ensures all { ReportsAll }
@@ -12,16 +12,16 @@ pub fn reports_are_exact()
     ensures points { ReportsAreLinear }
 {}
 
-/// A report of a client's first operation at four replicas lists one acceptance: client 0's, of timestamp 1, behind 49
-/// entries, with the empty space's answer, and one item: that operation with this answer, at the position at which the third
-/// replica executes it.
+/// A report of a client's first operation at four replicas lists one acceptance: client 0's, of timestamp 1, behind
+/// 49 entries, with the empty space's answer, and one item: that operation with this answer, at the position at
+/// which the third replica executes it.
 pub fn a_first_operation_is_reported()
     ensures reported { FirstOperationIsReported }
 {}
 
-/// Inputs are fed to correct parties alone, and calls only where none of the client is open, of operations within the
-/// limits. Steps make frames of faulty parties alone, for 1 to 10 parties in ascending order, and sign with the 64 leaves of
-/// a replica.
+/// Inputs are fed to correct parties alone, and calls only where none of the client is open, of operations within
+/// the limits. Steps make frames of faulty parties alone, for 1 to 10 parties in ascending order, and sign with the
+/// 64 leaves of a replica.
 pub fn steps_are_allowed()
     ensures inputs { FeedsWhatMayBeFed }
     ensures frames { FeedsWhatMayBeMade }

@@ -6,10 +6,6 @@ abbrev pub or_else : {A : Type 0} → Option A → Option A → Option A
 or_else (Some x) later = Some x
 or_else None later = later
 
-abbrev pub give_if : {A : Type 0} → Bool → A → Option A
-give_if true x = Some x
-give_if false x = None
-
 -- whether a vote is given, and for this digest
 abbrev pub has_digest : List ℕ → Option (List ℕ) → Bool
 has_digest digest None = false

@@ -1,5 +1,5 @@
 -- The requests of what is logged were got, genuine to a correct replica.
-use Rattle.std.proofs.Common.{◌≡◌, ℕ, zero, suc, ◌+◌, ◌-◌, ◌*◌, ◌≤◌, ◌<◌, ◌⊎◌, inl, inr, Bool, true, false, not, cond, List, [], ◌∷◌, slice_get, refl, sym, ◌∙◌, subst, arith, ◌&&◌, Some, None, bytes_eq, is_some}
+use Rattle.std.proofs.Common.{◌≡◌, ℕ, zero, suc, ◌+◌, ◌-◌, ◌*◌, ◌≤◌, ◌<◌, ◌⊎◌, inl, inr, Bool, true, false, cond, List, [], ◌∷◌, slice_get, refl, sym, ◌∙◌, subst, arith, ◌&&◌, Some, None, bytes_eq, is_some}
 use Rattle.std.specs.Prelude.{◌==◌, nat_lt, nat_le, option_and_then}
 use Rattle.std.proofs.lemmas.Bool.{and_parts, or_cases, leb-true, ltb-true}
 use Rattle.std.proofs.lemmas.Slice.Eq.{bytes_eq-Decides}
@@ -10,7 +10,8 @@ use Rattle.wire.specs.Messages.{BodyData as Body, MessageData as Message, NewVie
 use Rattle.wire.specs.Words.{carried, requests_of, said}
 use Rattle.wire.specs.Reading.{requests_at}
 use Rattle.signing.specs.Heard.{heard}
-use Rattle.protocol.specs.System.Frames.{reads_only}
+use Rattle.terms.specs.declared.order.Mode.TheVariants as modes
+use Rattle.protocol.specs.System.Frames.{same_mode}
 use Rattle.protocol.specs.System.Trace.{Entry, party_of, history_of, Once, Always, Unforged, frames_in, carried_by, Has}
 use Rattle.protocol.specs.System.Trace.Entry.{Invoke, Got, Tick, Executed, Installed, Sent, Accepted}
 use Rattle.protocol.specs.Replica.Certificates.{proposal, begun_proposal, entry_proposal, logged, taken, batch_begun, are_genuine, is_in_marks, low}
@@ -20,7 +21,7 @@ use Rattle.protocol.specs.System.Texts.{NoCollision}
 use Rattle.protocol.specs.Replica.State.{Call, call_in, call_of}
 use Rattle.protocol.specs.Laws.Histories.{AreReplicasSafe, Takes}
 use Rattle.protocol.proofs.Words.Temporal.{once_weaker, once_in_trace}
-use Rattle.protocol.proofs.Words.Options.{and_then_some, give_if_some, some_injective, given_once, or_else_cases}
+use Rattle.protocol.proofs.Words.Options.{and_then_some, then_some_gives, some_injective, given_once, or_else_cases}
 use Rattle.protocol.proofs.Words.Linking.{heard_said}
 use Rattle.protocol.proofs.Agreement.Voting.{RightAt, right_always}
 use Rattle.protocol.proofs.Agreement.Marks.{takes, proposes, Proposes, selected_in}
@@ -58,12 +59,12 @@ call_client c frame call body h is =
     subst (λ (x : Body). is_client c x.sender ≡ true) same (client r.0.sender r.0.message r.2)
   where
     client : (sender : ℕ) (message : Message) → call_in c (record { sender = sender; message = message }) ≡ Some call → is_client c sender ≡ true
-    client sender (Request t mode op) h = go (reads_only mode) (is_client c sender) refl h
+    client sender (Request t mode op) h = go (same_mode mode modes.Ordered) (is_client c sender) refl h
       where
-        go : (x y : Bool) → is_client c sender ≡ y → cond (not x && y) (Some (record { client = sender - 256; timestamp = t; op = op })) None ≡ Some call → is_client c sender ≡ true
-        go false true e h = e
-        go false false e h = absurd cc
-        go true y e h = absurd cc
+        go : (x y : Bool) → is_client c sender ≡ y → cond (x && y) (Some (record { client = sender - 256; timestamp = t; op = op })) None ≡ Some call → is_client c sender ≡ true
+        go true true e h = e
+        go true false e h = absurd cc
+        go false y e h = absurd cc
     client sender _ h = absurd cc
 
 -- what a correct replica has seen of a client's frames, a correct replica got
@@ -107,7 +108,7 @@ heard_asked : (c : Configuration) (r v i : ℕ) (a : List ℕ) (bytes : List ℕ
     → batch_from c r v i (record { sender = sender; message = message }) ≡ Some a → (frame : List ℕ) → Has (λ x. x ≡ frame) (requests_of a)
     → (is_some (heard (members c) r frame) ≡ true) × Has (λ x. x ≡ frame) (frames_in bytes)
 heard_asked c r v i a bytes sender (PrePrepare view number b) is h frame has =
-    let g = give_if_some ((view == v) && (number == i) && (sender == primary c v) && are_genuine c r b) b a h in
+    let g = then_some_gives ((view == v) && (number == i) && (sender == primary c v) && are_genuine c r b) b a h in
     let p = and_parts ((view == v) && (number == i) && (sender == primary c v)) (are_genuine c r b) g.0 in
     let has' : Has (λ x. x ≡ frame) (requests_of b) = subst (λ (x : List ℕ). Has (λ y. y ≡ frame) (requests_of x)) (sym g.1) has in
     let says : said bytes ≡ Some (record { sender = sender; message = PrePrepare view number b }) = heard_said c r bytes (record { sender = sender; message = PrePrepare view number b }) is in (
@@ -119,7 +120,7 @@ heard_asked c r v i a bytes sender _ is h frame has = absurd cc
 sent_genuine : (c : Configuration) (r v i : ℕ) (a : List ℕ) (sender : ℕ) (message : Message)
     → batch_from c r v i (record { sender = sender; message = message }) ≡ Some a → (are_genuine c r a ≡ true) × ((frame : List ℕ) → Has (λ x. x ≡ frame) (requests_of a) → Has (λ x. x ≡ frame) (carried message))
 sent_genuine c r v i a sender (PrePrepare view number b) h =
-    let g = give_if_some ((view == v) && (number == i) && (sender == primary c v) && are_genuine c r b) b a h in
+    let g = then_some_gives ((view == v) && (number == i) && (sender == primary c v) && are_genuine c r b) b a h in
     let p = and_parts ((view == v) && (number == i) && (sender == primary c v)) (are_genuine c r b) g.0 in (
       subst (λ (x : List ℕ). are_genuine c r x ≡ true) g.1 p.1,
       λ frame has. subst (λ (x : List ℕ). Has (λ y. y ≡ frame) (requests_of x)) (sym g.1) has,

@@ -13,7 +13,7 @@ use Rattle.quorum.specs.Votes.{has_digest}
 use Rattle.protocol.specs.Replica.RightReplica.{MaySay, MayCommit}
 use Rattle.protocol.specs.Laws.Histories.{AreReplicasSafe}
 use Rattle.protocol.proofs.Words.Temporal.{once_weaker}
-use Rattle.protocol.proofs.Words.Options.{give_if_some, given_stays, given_once, some_injective}
+use Rattle.protocol.proofs.Words.Options.{then_some_gives, given_stays, given_once, some_injective}
 use Rattle.protocol.proofs.Words.Linking.{Speaks}
 use Rattle.protocol.proofs.Agreement.Voting.{vote_brought, RightAt, once_right, Brings, brought_was_said, logged_stays}
 
@@ -23,7 +23,7 @@ committing s v i digest = record { sender = s; message = Commit v i digest }
 commit_is : (s v i : ℕ) (d : List ℕ) (sender : ℕ) (message : Message) → commit_from s v i (record { sender = sender; message = message }) ≡ Some d
     → ◌≡◌ {A = Body} (record { sender = sender; message = message }) (committing s v i d)
 commit_is s v i d sender (Commit view number digest) h =
-    let g = give_if_some ((sender == s) && (view == v) && (number == i)) digest d h in
+    let g = then_some_gives ((sender == s) && (view == v) && (number == i)) digest d h in
     let p = and_parts ((sender == s) && (view == v)) (number == i) g.0 in
     let q = and_parts (sender == s) (view == v) p.0 in
     let es : sender ≡ s = eqb-true sender s q.0 in

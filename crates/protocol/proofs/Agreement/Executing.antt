@@ -14,7 +14,7 @@ use Rattle.protocol.specs.System.Texts.{IsText, HasBatch, batches_of, ExecutesBa
 use Rattle.protocol.specs.System.Texts.IsText.{batch}
 use Rattle.protocol.specs.Laws.Histories.{AreReplicasSafe, ExecutedAgree}
 use Rattle.protocol.proofs.Words.Temporal.{once_weaker, once_stays, once_in_trace, once_in_history}
-use Rattle.protocol.proofs.Words.Options.{given_stays, given_once, give_if_some}
+use Rattle.protocol.proofs.Words.Options.{given_stays, given_once, then_some_gives}
 use Rattle.protocol.proofs.Words.Linking.{heard_said}
 use Rattle.protocol.proofs.Agreement.Voting.{RightAt, once_right, Brings}
 use Rattle.protocol.proofs.Agreement.Offers.{offer_from, proposal_offer}
@@ -100,7 +100,7 @@ begun_has v i new a h = go ((new.view == v) && nat_lt new.start i) h
     go false h = absurd cc
 
 offer_has : (v i : ℕ) (a : List ℕ) (sender : ℕ) (message : Message) → offer_from v i (record { sender = sender; message = message }) ≡ Some a → Has (λ x. x ≡ a) (batches_of message)
-offer_has v i a sender (PrePrepare view number b) h = inl (give_if_some ((view == v) && (number == i)) b a h).1
+offer_has v i a sender (PrePrepare view number b) h = inl (then_some_gives ((view == v) && (number == i)) b a h).1
 offer_has v i a sender (NewView new) h = begun_has v i new a h
 offer_has v i a sender _ h = absurd cc
 

@@ -11,8 +11,8 @@ use Rattle.protocol.specs.System.Trace.{Entry}
 use Rattle.protocol.specs.System.Trace.Entry.{Invoke, Got, Tick, Executed, Installed, Sent, Accepted}
 use Rattle.protocol.specs.Replica.Certificates.{view, view_after, target, taken, new_view_in, new_view_from, low, batch_begun, is_later}
 use Rattle.protocol.specs.Replica.Selection.{may_select, largest, largest_of, changes_of, may_all_stand, is_within, is_batch_entry_within, how_many, is_start, is_checkpoint_within, ascending, is_quorum, count_in}
-use Rattle.protocol.proofs.Words.Options.{and_then_some, give_if_some}
-use Rattle.quorum.specs.Votes.{give_if}
+use Rattle.protocol.proofs.Words.Options.{and_then_some, then_some_gives}
+use Rattle.std.specs.Bool.{then_some}
 use Rattle.std.specs.List.{list_all}
 
 after_grows : (v t : ℕ) (o : Option NewViewData) → v ≤ view_after v t o
@@ -46,8 +46,8 @@ taken_view v t new h = (ltb-true v new.view (and_parts (nat_lt v new.view) (nat_
 pub takes : (c : Configuration) (me : ℕ) (past : List Entry) (e : Entry) (new : NewViewData) → taken c past e ≡ Some new → Takes c me past e new
 unfolding view low
 takes c me past e new h =
-    let r = and_then_some (λ (x : NewViewData). give_if (is_later (view c past) (target past) x) x) (new_view_in c e) new h in
-    let g = give_if_some (is_later (view c past) (target past) r.0) r.0 new r.2 in
+    let r = and_then_some (λ (x : NewViewData). then_some (is_later (view c past) (target past) x) x) (new_view_in c e) new h in
+    let g = then_some_gives (is_later (view c past) (target past) r.0) r.0 new r.2 in
     let brought : new_view_in c e ≡ Some new = r.1 ∙ ap Some g.1 in
     let test : (nat_lt (view c past) new.view && nat_le (target past) new.view) ≡ true = subst (λ (x : NewViewData). (nat_lt (view c past) x.view && nat_le (target past) x.view) ≡ true) g.1 g.0 in
     let t = taken_view (view c past) (target past) new test in
@@ -68,7 +68,7 @@ pub record Begins (c : Configuration) (body : Body) (new : NewViewData) : Type 0
 
 begins_by : (c : Configuration) (sender : ℕ) (message : Message) (new : NewViewData) → new_view_from c (record { sender = sender; message = message }) ≡ Some new → Begins c (record { sender = sender; message = message }) new
 begins_by c sender (NewView x) new h =
-    let g = give_if_some ((sender == primary c x.view) && may_select c x) x new h in
+    let g = then_some_gives ((sender == primary c x.view) && may_select c x) x new h in
     let p = and_parts (sender == primary c x.view) (may_select c x) g.0 in
     record {
       sender_is = eqb-true sender (primary c x.view) p.0 ∙ ap (λ (y : NewViewData). primary c y.view) g.1;

@@ -9,17 +9,18 @@ use Rattle.signing.specs.Heard.{heard}
 use Rattle.wire.specs.Words.{said}
 use Rattle.protocol.specs.System.Trace.{Entry, Once, Always}
 use Rattle.protocol.specs.System.Trace.Entry.{Invoke, Got, Tick, Executed, Installed, Sent, Accepted}
-use Rattle.quorum.specs.Votes.{or_else, give_if}
+use Rattle.std.specs.Bool.{then_some}
+use Rattle.quorum.specs.Votes.{or_else}
 use Rattle.protocol.specs.Replica.Certificates.{first_given, view, target, taken, new_view_in, new_view_from, low, is_in_marks, is_active_in, batch_begun, are_genuine, entry_proposal, proposal, logged, batch_from, counts_at, brought}
 use Rattle.protocol.specs.Replica.RightReplica.{Point, MaySay, MayPrePrepare, SentBefore, SendsBytes}
 use Rattle.protocol.proofs.Words.Temporal.{once_weaker, once_always, once_stays_from}
-use Rattle.protocol.proofs.Words.Options.{and_then_some, give_if_some, or_else_cases, or_else_first, given_once, given_stays, some_injective}
+use Rattle.protocol.proofs.Words.Options.{and_then_some, then_some_gives, or_else_cases, or_else_first, given_once, given_stays, some_injective}
 use Rattle.protocol.proofs.Agreement.Voting.{RightAt, Brings, logged_stays}
 use Rattle.protocol.proofs.Agreement.Marks.{view_grows, low_grows, takes, begins, few_batches, selected_in, proposes}
 
 -- the batch that a body offers for the view and number, and the batch that an entry does
 abbrev pub offer_from : ℕ → ℕ → Body → Option (List ℕ)
-offer_from v i body = elim body.message [ PrePrepare view number batch ↦ give_if ((view == v) && (number == i)) batch | NewView new ↦ batch_begun v i new | _ ↦ None ]
+offer_from v i body = elim body.message [ PrePrepare view number batch ↦ then_some ((view == v) && (number == i)) batch | NewView new ↦ batch_begun v i new | _ ↦ None ]
 
 abbrev pub offer_in : ℕ → ℕ → Entry → Option (List ℕ)
 offer_in v i (Sent p bytes) = option_and_then (offer_from v i) (said bytes)
@@ -40,7 +41,7 @@ batch_offer : (c : Configuration) (me v i : ℕ) (batch : List ℕ) (sender : �
     → batch_from c me v i (record { sender = sender; message = message }) ≡ Some batch
     → (sender ≡ primary c v) × (offer_from v i (record { sender = sender; message = message }) ≡ Some batch)
 batch_offer c me v i batch sender (PrePrepare view number b) h =
-    let g = give_if_some ((view == v) && (number == i) && (sender == primary c v) && are_genuine c me b) b batch h in
+    let g = then_some_gives ((view == v) && (number == i) && (sender == primary c v) && are_genuine c me b) b batch h in
     let p = and_parts ((view == v) && (number == i) && (sender == primary c v)) (are_genuine c me b) g.0 in
     let q = and_parts ((view == v) && (number == i)) (sender == primary c v) p.0 in
     (eqb-true sender (primary c v) q.1, rw q.0 (ap Some g.1))
@@ -137,7 +138,7 @@ offer_by : (c : Configuration) (me v i : ℕ) (batch : List ℕ) (past : List En
     → option_and_then (offer_from v i) (said bytes) ≡ Some batch
     → offer_from v i (record { sender = sender; message = message }) ≡ Some batch → MaySay c me past point (Sent p bytes) bytes message → IsOffer c me v i batch past (Sent p bytes)
 offer_by c me v i batch past point p bytes sender (PrePrepare view number b) whole h say =
-    let g = give_if_some ((view == v) && (number == i)) b batch h in
+    let g = then_some_gives ((view == v) && (number == i)) b batch h in
     let q = and_parts (view == v) (number == i) g.0 in
     let ev : view ≡ v = eqb-true view v q.0 in
     let ei : number ≡ i = eqb-true number i q.1 in
@@ -176,7 +177,7 @@ sent_view : (c : Configuration) (me v i : ℕ) (past : List Entry) (point : Poin
     → batch_from c me v i (record { sender = sender; message = message }) ≡ Some batch → MaySay c me past point e bytes message
     → (view c past ≡ v) × (is_in_marks c (low c me past) i ≡ true)
 sent_view c me v i past point e bytes batch sender (PrePrepare view number b) h say =
-    let g = give_if_some ((view == v) && (number == i) && (sender == primary c v) && are_genuine c me b) b batch h in
+    let g = then_some_gives ((view == v) && (number == i) && (sender == primary c v) && are_genuine c me b) b batch h in
     let o = and_parts ((view == v) && (number == i) && (sender == primary c v)) (are_genuine c me b) g.0 in
     let q = and_parts ((view == v) && (number == i)) (sender == primary c v) o.0 in
     let p = and_parts (view == v) (number == i) q.0 in

@@ -18,7 +18,7 @@ use Rattle.protocol.specs.System.Texts.{NoCollision, IsText, Holds, HasPart, Are
 use Rattle.protocol.specs.System.Texts.IsText.{part, held, page_of, under}
 use Rattle.protocol.specs.Laws.Histories.{AreReplicasSafe, Takes, IsRootOf, IsStateOf, Installs, Had}
 use Rattle.protocol.proofs.Words.Temporal.{once_weaker, once_always, once_stays, once_in_trace}
-use Rattle.protocol.proofs.Words.Options.{and_then_some, give_if_some, some_injective}
+use Rattle.protocol.proofs.Words.Options.{and_then_some, then_some_gives, some_injective}
 use Rattle.protocol.proofs.Words.Linking.{Speaks, heard_said}
 use Rattle.protocol.proofs.Agreement.Voting.{RightAt, right_always, once_right, Brings, brought_was_said}
 use Rattle.protocol.proofs.Agreement.Signed.{changing, change_was_said}
@@ -118,7 +118,7 @@ checkpoint_body : (s : ℕ) (checkpoint m : CheckpointEntry) (sender : ℕ) (mes
 checkpoint_body s checkpoint m sender (Checkpoint number root) h k =
     let x : ℕ × CheckpointEntry = (sender, record { number = number; digest = root }) in
     let y : ℕ × CheckpointEntry = (s, m) in
-    let g = give_if_some {A = ℕ × CheckpointEntry} (is_number number) x y h in
+    let g = then_some_gives {A = ℕ × CheckpointEntry} (is_number number) x y h in
     let q = and_parts (m.number == checkpoint.number) (bytes_eq m.digest checkpoint.digest) k in
     let es : sender ≡ s = ap (λ (z : ℕ × CheckpointEntry). z.0) g.1 in
     let en : number ≡ checkpoint.number = ap (λ (z : ℕ × CheckpointEntry). z.1.number) g.1 ∙ eqb-true m.number checkpoint.number q.0 in

@@ -12,7 +12,7 @@ use Rattle.protocol.specs.Replica.Certificates.{proposal, logged, prepare_from, 
 use Rattle.protocol.specs.Replica.RightReplica.{Point, Leaves, May, MaySay, MayPrepare, SafeReplica}
 use Rattle.protocol.specs.Laws.Histories.{AreReplicasSafe}
 use Rattle.protocol.proofs.Words.Temporal.{once_weaker, once_always, once_stays}
-use Rattle.protocol.proofs.Words.Options.{and_then_some, give_if_some, given_stays, given_once, some_injective}
+use Rattle.protocol.proofs.Words.Options.{and_then_some, then_some_gives, given_stays, given_once, some_injective}
 use Rattle.protocol.proofs.Words.Linking.{Speaks, heard_was_said}
 
 -- ---- a right history is right at each entry
@@ -39,7 +39,7 @@ preparing s v i digest = record { sender = s; message = Prepare v i digest }
 prepare_is : (c : Configuration) (s v i : ℕ) (d : List ℕ) (sender : ℕ) (message : Message) → prepare_from c s v i (record { sender = sender; message = message }) ≡ Some d
     → (◌≡◌ {A = Body} (record { sender = sender; message = message }) (preparing s v i d)) × (not (s == primary c v) ≡ true)
 prepare_is c s v i d sender (Prepare view number digest) h =
-    let g = give_if_some ((sender == s) && (view == v) && (number == i) && not (s == primary c v)) digest d h in
+    let g = then_some_gives ((sender == s) && (view == v) && (number == i) && not (s == primary c v)) digest d h in
     let o = and_parts ((sender == s) && (view == v) && (number == i)) (not (s == primary c v)) g.0 in
     let p = and_parts ((sender == s) && (view == v)) (number == i) o.0 in
     let q = and_parts (sender == s) (view == v) p.0 in

@@ -9,7 +9,6 @@ use Rattle.terms.specs.declared.state.Level.TheVariants as levels
 use Rattle.wire.specs.Messages.{BodyData as Body, CheckpointEntryData as CheckpointEntry, request as Request, reply as Reply, fetch as Fetch}
 use Rattle.protocol.specs.System.Configuration.{Configuration, members}
 use Rattle.signing.specs.Heard.{heard}
-use Rattle.protocol.specs.System.Frames.{reads_only}
 use Rattle.protocol.specs.System.Trace.{Entry}
 use Rattle.protocol.specs.System.Trace.Entry.{Got, Sent}
 use Rattle.protocol.specs.Replica.Certificates.{says_checkpoint, checkpoints_of, count_checkpoints, Prepared}
@@ -100,7 +99,7 @@ module _ (o : Part) where
     heard_is body h = some_injective (asks op) body (sym hears ∙ h)
 
     abbrev IsOrdered : Body → Type 0
-    IsOrdered body = elim body.message [ Request t mode o ↦ (body.sender ≡ 256) × (reads_only mode ≡ false) | _ ↦ ⊥ ]
+    IsOrdered body = elim body.message [ Request t mode o ↦ (body.sender ≡ 256) × (mode ≡ modes.Ordered) | _ ↦ ⊥ ]
 
     is_ordered : (body : Body) → heard (members c) me w.request ≡ Some body → IsOrdered body
     is_ordered body h = subst IsOrdered (heard_is body h) (refl, refl)
@@ -144,7 +143,7 @@ module _ (o : Part) where
       replies = λ ran h. absurd h;
       checkpoints = λ n h multiple. absurd (events.none_executed o (w.reply me) n h);
       again = λ n t other kept asks there same. sends_again n kept (is_ordered (record { sender = 256 + n; message = Request t modes.Ordered other }) asks).0 there;
-      reads = λ s t other asks read_only. absurd (let bad : true ≡ false = (is_ordered (record { sender = s; message = Request t modes.ReadOnly other }) asks).1 in cc);
+      reads = λ s t other asks read_only. absurd (let bad : modes.ReadOnly ≡ modes.Ordered = (is_ordered (record { sender = s; message = Request t modes.ReadOnly other }) asks).1 in cc);
       fetched_digests = λ s n index level children asks state kept. absurd (is_ordered (record { sender = s; message = Fetch n level index }) asks);
       fetched_page = λ s n index asks state kept. absurd (is_ordered (record { sender = s; message = Fetch n levels.Page index }) asks);
       fetches = λ n root quorum above newer. absurd (no_quorum (record { number = n; digest = root }) quorum);

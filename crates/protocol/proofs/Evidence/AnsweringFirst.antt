@@ -10,7 +10,6 @@ use Rattle.terms.specs.declared.state.Level.TheVariants as levels
 use Rattle.wire.specs.Messages.{BodyData as Body, MessageData as Message, AuthenticatorData as Authenticator, CheckpointEntryData as CheckpointEntry, macs, signature, request as Request, pre_prepare as PrePrepare, reply as Reply, fetch as Fetch}
 use Rattle.signing.specs.Heard.{heard}
 use Rattle.wire.specs.Words.{receivers_of}
-use Rattle.protocol.specs.System.Frames.{reads_only}
 use Rattle.protocol.specs.System.Trace.{Entry, Has}
 use Rattle.protocol.specs.System.Trace.Entry.{Got, Sent}
 use Rattle.protocol.specs.Replica.Certificates.{says_checkpoint, checkpoints_of, count_checkpoints}
@@ -56,7 +55,7 @@ module _ (clients : ℕ) (seed : List ℕ) (me client timestamp : ℕ) (op : Ope
 
     -- what is heard is a read
     abbrev IsRead : Body → Type 0
-    IsRead body = elim body.message [ Request t mode o ↦ reads_only mode ≡ true | _ ↦ ⊥ ]
+    IsRead body = elim body.message [ Request t mode o ↦ mode ≡ modes.ReadOnly | _ ↦ ⊥ ]
 
     only_read : (other : Body) → heard (members c) me read ≡ Some other → IsRead other
     only_read other h = subst IsRead (heard_is other h) refl
@@ -81,7 +80,7 @@ module _ (clients : ℕ) (seed : List ℕ) (me client timestamp : ℕ) (op : Ope
       executes = λ v b h. absurd (let it = is_prepared clients seed [] me now false _ _ stage v 1 b h.prepared in let bad : false ≡ true = it.1 in cc);
       replies = λ ran h. absurd h;
       checkpoints = λ k h multiple. absurd (none_executed k h);
-      again = λ k t o kept asks there same. absurd (let bad : false ≡ true = only_read (record { sender = 256 + k; message = Request t modes.Ordered o }) asks in cc);
+      again = λ k t o kept asks there same. absurd (let bad : modes.Ordered ≡ modes.ReadOnly = only_read (record { sender = 256 + k; message = Request t modes.Ordered o }) asks in cc);
       reads = λ s t o asks read_only. inl (a.says ∙ ap (λ (x : Body). let y : Body = record { sender = me; message = answered x } in Some y) (heard_is (record { sender = s; message = Request t modes.ReadOnly o }) asks));
       fetched_digests = λ s k index level children asks st kept. absurd (only_read (record { sender = s; message = Fetch k level index }) asks);
       fetched_page = λ s k index asks st kept. absurd (only_read (record { sender = s; message = Fetch k levels.Page index }) asks);

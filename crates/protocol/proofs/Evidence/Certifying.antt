@@ -3,7 +3,7 @@ use Rattle.std.proofs.Common.{◌≡◌, ℕ, ◌+◌, ◌*◌, ◌^◌, ◌≤�
 use Rattle.std.specs.Prelude.{◌==◌, nat_lt, nat_le, option_and_then}
 use Rattle.std.proofs.lemmas.Bool.{and_parts, leb-true, ltb-true}
 use Rattle.sha2.specs.Sha256.{sha256}
-use Rattle.quorum.specs.Votes.{give_if}
+use Rattle.std.specs.Bool.{then_some}
 use Rattle.protocol.specs.System.Configuration.{Configuration, primary, span, is_number, members}
 use Rattle.wire.specs.Messages.{BodyData as Body, MessageData as Message, NewViewData, pre_prepare as PrePrepare}
 use Rattle.signing.specs.Heard.{heard}
@@ -14,7 +14,7 @@ use Rattle.protocol.specs.Replica.RightReplica.{Point, MaySay, MaySend, MayPrePr
 use Rattle.protocol.specs.Laws.Histories.{Takes}
 use Rattle.protocol.specs.Evidence.Certified.{Brings, ExecutesWithOwnCommit, ExecutesNotByOthersAlone, ExecutesWhatItCommits, TakesLater, TakesInOrder, LogsInMarks, LogsWhatBegins}
 use Rattle.protocol.proofs.Words.Temporal.{once_weaker, once_stays_from, once_in_trace}
-use Rattle.protocol.proofs.Words.Options.{and_then_some, give_if_some, some_injective, or_else_cases, given_once}
+use Rattle.protocol.proofs.Words.Options.{and_then_some, then_some_gives, some_injective, or_else_cases, given_once}
 use Rattle.protocol.proofs.Agreement.Voting.{right_always}
 use Rattle.protocol.proofs.Agreement.Marks.{takes, view_grows}
 use Rattle.protocol.proofs.Agreement.Commits.{committing, commit_source, CommitsAt, voter_commits}
@@ -60,8 +60,8 @@ executes_what_it_commits c trace right unforged r k batch correct h =
 
 pub takes_later : TakesLater
 takes_later c past e new h =
-    let r = and_then_some (λ (x : NewViewData). give_if (is_later (view c past) (target past) x) x) (new_view_in c e) new h in
-    let g = give_if_some (is_later (view c past) (target past) r.0) r.0 new r.2 in
+    let r = and_then_some (λ (x : NewViewData). then_some (is_later (view c past) (target past) x) x) (new_view_in c e) new h in
+    let g = then_some_gives (is_later (view c past) (target past) r.0) r.0 new r.2 in
     let t : is_later (view c past) (target past) new ≡ true = subst (λ (x : NewViewData). is_later (view c past) (target past) x ≡ true) g.1 g.0 in
     let p = and_parts (nat_lt (view c past) new.view) (nat_le (target past) new.view) t in
     (ltb-true (view c past) new.view p.0, leb-true (target past) new.view p.1)
@@ -99,7 +99,7 @@ proposed_in_marks : (c : Configuration) (me v i : ℕ) (batch : List ℕ) (past 
     → MaySay c me past point e bytes message → batch_from c me v i (record { sender = sender; message = message }) ≡ Some batch → is_in_marks c (low c me past) i ≡ true
 proposed_in_marks c me v i batch past point e bytes sender (PrePrepare w number b) say h =
     let m : MayPrePrepare c me past e w number b = say in
-    let g = give_if_some ((w == v) && (number == i) && (sender == primary c v) && are_genuine c me b) b batch h in
+    let g = then_some_gives ((w == v) && (number == i) && (sender == primary c v) && are_genuine c me b) b batch h in
     let p = and_parts ((w == v) && (number == i) && (sender == primary c v)) (are_genuine c me b) g.0 in
     let q = and_parts ((w == v) && (number == i)) (sender == primary c v) p.0 in
     subst (λ (n : ℕ). is_in_marks c (low c me past) n ≡ true) (eqb-true number i (and_parts (w == v) (number == i) q.0).1) m.in_marks

@@ -1,5 +1,5 @@
 -- What holds of each history of a correct party.
-use Rattle.std.proofs.Common.{◌≡◌, ℕ, inl, inr, true, List, [], ◌∷◌, ap, subst, Some}
+use Rattle.std.proofs.Common.{◌≡◌, ℕ, inl, inr, true, List, [], ◌∷◌, subst, Some}
 use Rattle.std.specs.Prelude.{All}
 use Rattle.space.specs.Applying.{is_read_only}
 use Rattle.terms.specs.declared.order.Mode.{Mode}
@@ -10,7 +10,6 @@ use Rattle.signing.specs.Heard.{has_signature}
 use Rattle.tuple_codec.specs.Operations.{Outcome}
 use Rattle.protocol.specs.System.Configuration.{Configuration}
 use Rattle.wire.specs.Words.{frame_of, said}
-use Rattle.protocol.specs.System.Frames.{reads_only}
 use Rattle.protocol.specs.System.Trace.{Entry, party_of, Always}
 use Rattle.protocol.specs.System.Trace.Entry.{Sent}
 use Rattle.protocol.specs.Client.RightClient.{OpenCall, open_call, Reaction, reaction, weak_reaction, MayAccept, MayWeaklyAccept, MayAsk, MayClient, RightBy}
@@ -48,7 +47,7 @@ asked Accepting me bytes past may = go may.0.sender may.0.message may.1 may.2 ma
         → (mode : Mode) × (call : OpenCall) × (said bytes ≡ Some (record { sender = me; message = Request call.timestamp mode call.op }))
         × (open_call past ≡ Some call) × (mode ≡ modes.ReadOnly → is_read_only call.op ≡ true)
     go s (Request t mode op) says own ask =
-        (mode, record { timestamp = t; op = op }, subst (λ (n : ℕ). said bytes ≡ Some (record { sender = n; message = Request t mode op })) own says, ask.0, λ e. ask.1 (ap reads_only e))
+        (mode, record { timestamp = t; op = op }, subst (λ (n : ℕ). said bytes ≡ Some (record { sender = n; message = Request t mode op })) own says, ask.0, ask.1)
     go s _ says own ask = absurd ask
 
 pub asks_its_call : AsksItsCall

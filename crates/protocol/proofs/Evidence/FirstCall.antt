@@ -3,16 +3,15 @@ use Rattle.std.proofs.Common.{◌≡◌, ℕ, ◌+◌, ◌*◌, ◌<◌, Bool, t
 use Rattle.std.specs.Prelude.{◌==◌}
 use Rattle.std.proofs.lemmas.Bool.{and_parts, ltb-true}
 use Rattle.tuple_codec.specs.Operations.{Operation, IsOperation}
-use Rattle.space.specs.Applying.{is_read_only}
 use Rattle.protocol.specs.System.Configuration.{Configuration, IsConfiguration, is_replica, is_faulty_replica, is_correct_replica, is_correct_client, is_correct}
 use Rattle.protocol.specs.System.Trace.Entry.{Invoke, Sent}
-use Rattle.protocol.specs.Client.RightClient.{IsRequest, IsClient}
+use Rattle.protocol.specs.Client.RightClient.{first_mode, IsRequest, IsClient}
 use Rattle.protocol.specs.Replica.Owed.{IsReplica}
 use Rattle.protocol.specs.System.Run.{IsRun}
 use Rattle.protocol.specs.Evidence.Examples.{FirstCallIsRun}
 
 module _ (c : Configuration) (setting : IsConfiguration c) (k : ℕ) (op : Operation) (request : List ℕ) (correct : is_correct_client c (256 + k) ≡ true)
-    (valid : IsOperation op) (asks : IsRequest c (256 + k) (is_read_only op) (record { timestamp = 1; op = op }) request) where
+    (valid : IsOperation op) (asks : IsRequest c (256 + k) (first_mode op) (record { timestamp = 1; op = op }) request) where
   no_replica : (p : ℕ) → is_correct_replica c p ≡ true → 256 + k ≡ p → ⊥
   no_replica p h e =
       let l : p < 3 * c.faults + 1 = ltb-true p (3 * c.faults + 1) (and_parts (is_replica c p) (not (is_faulty_replica c p)) h).0 in

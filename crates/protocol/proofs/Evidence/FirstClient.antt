@@ -6,7 +6,7 @@ use Rattle.std.proofs.lemmas.Slice.Eq.{bytes_eq-Decides}
 use Rattle.tuple_codec.specs.Operations.{Operation}
 use Rattle.tuple_codec.specs.Spelling.{outcome_spelling}
 use Rattle.quorum.specs.Quorum.{count_below}
-use Rattle.quorum.specs.Votes.{give_if}
+use Rattle.std.specs.Bool.{then_some}
 use Rattle.std.specs.List.{range_with_len}
 use Rattle.std.proofs.lemmas.Bool.{eq-eqb}
 use Rattle.terms.specs.declared.order.Mode.TheVariants as modes
@@ -37,7 +37,7 @@ module _ (clients : ℕ) (seed : List ℕ) (op : Operation) (batch : List ℕ) (
 
   -- what each reply says
   abbrev vote : Vote
-  vote = record { read_only = false; number = 1; answer = first_answer op }
+  vote = record { mode = modes.Ordered; number = 1; answer = first_answer op }
 
   abbrev asked : List Entry
   asked = Sent 256 w.request ∷ Invoke 0 1 op ∷ []
@@ -65,37 +65,37 @@ module _ (clients : ℕ) (seed : List ℕ) (op : Operation) (batch : List ℕ) (
   abbrev is_of : ℕ → ℕ → Bool
   is_of r s = ((r == s) && true) && true
 
-  latest_asked : (s : ℕ) → latest c 256 asked 1 false s ≡ None
+  latest_asked : (s : ℕ) → latest c 256 asked 1 modes.Ordered s ≡ None
   unfolding latest
   latest_asked s = refl
 
-  latest_next : (r : ℕ) → r < 4 → (s : ℕ) (past : List Entry) (o : Option Vote) → latest c 256 past 1 false s ≡ o
-      → latest c 256 (Got 256 (w.reply r) ∷ past) 1 false s ≡ cond (is_of r s) (Some vote) o
+  latest_next : (r : ℕ) → r < 4 → (s : ℕ) (past : List Entry) (o : Option Vote) → latest c 256 past 1 modes.Ordered s ≡ o
+      → latest c 256 (Got 256 (w.reply r) ∷ past) 1 modes.Ordered s ≡ cond (is_of r s) (Some vote) o
   unfolding latest
   latest_next r l s past o e = rw (hears r l, e) (go (is_of r s))
     where
-      go : (b : Bool) → later_vote false (give_if b vote) o ≡ cond b (Some vote) o
+      go : (b : Bool) → later_vote modes.Ordered (then_some b vote) o ≡ cond b (Some vote) o
       go true = refl
       go false = refl
 
-  pub latest_one : (s : ℕ) → latest c 256 one 1 false s ≡ cond (is_of 0 s) (Some vote) None
+  pub latest_one : (s : ℕ) → latest c 256 one 1 modes.Ordered s ≡ cond (is_of 0 s) (Some vote) None
   latest_one s = latest_next 0 (omega arith) s asked None (latest_asked s)
 
-  pub latest_two : (s : ℕ) → latest c 256 two 1 false s ≡ cond (is_of 1 s) (Some vote) (cond (is_of 0 s) (Some vote) None)
+  pub latest_two : (s : ℕ) → latest c 256 two 1 modes.Ordered s ≡ cond (is_of 1 s) (Some vote) (cond (is_of 0 s) (Some vote) None)
   latest_two s = latest_next 1 (omega arith) s one (cond (is_of 0 s) (Some vote) None) (latest_one s)
 
-  latest_three : (s : ℕ) → latest c 256 three 1 false s ≡ cond (is_of 2 s) (Some vote) (cond (is_of 1 s) (Some vote) (cond (is_of 0 s) (Some vote) None))
+  latest_three : (s : ℕ) → latest c 256 three 1 modes.Ordered s ≡ cond (is_of 2 s) (Some vote) (cond (is_of 1 s) (Some vote) (cond (is_of 0 s) (Some vote) None))
   latest_three s = latest_next 2 (omega arith) s two (cond (is_of 1 s) (Some vote) (cond (is_of 0 s) (Some vote) None)) (latest_two s)
 
   -- ---- one and two replies are not enough, and three are
 
   abbrev alike : List Entry → ℕ → Bool
-  alike now s = is_alike vote (latest c 256 now 1 false s)
+  alike now s = is_alike vote (latest c 256 now 1 modes.Ordered s)
 
-  at : (now : List Entry) (s : ℕ) → latest c 256 now 1 false s ≡ Some vote → alike now s ≡ true
+  at : (now : List Entry) (s : ℕ) → latest c 256 now 1 modes.Ordered s ≡ Some vote → alike now s ≡ true
   at now s e = ap (is_alike vote) e ∙ same
 
-  off : (now : List Entry) (s : ℕ) → latest c 256 now 1 false s ≡ None → alike now s ≡ false
+  off : (now : List Entry) (s : ℕ) → latest c 256 now 1 modes.Ordered s ≡ None → alike now s ≡ false
   off now s e = ap (is_alike vote) e
 
   one_waits : is_complete c 256 one 1 vote ≡ false
@@ -112,28 +112,28 @@ module _ (clients : ℕ) (seed : List ℕ) (op : Operation) (batch : List ℕ) (
 
   pub newest : (r : ℕ) → r < 4 → (past : List Entry) → newest_vote c 256 (Got 256 (w.reply r) ∷ past) 1 ≡ Some vote
   newest r l past =
-      ap (option_and_then (λ (body : Body). vote_of 256 1 body.sender body)) (hears r l) ∙ ap (λ (b : Bool). give_if ((b && true) && true) vote) (eq-eqb r r refl)
+      ap (option_and_then (λ (body : Body). vote_of 256 1 body.sender body)) (hears r l) ∙ ap (λ (b : Bool). then_some ((b && true) && true) vote) (eq-eqb r r refl)
 
   gives : (now : List Entry) (b : Bool) → newest_vote c 256 now 1 ≡ Some vote → went_ordered now 1 ≡ true → is_complete c 256 now 1 vote ≡ b
       → on_got c 256 now call ≡ cond b (accepts 1 (first_answer op)) nothing
   gives now b e f g = rw e (rw g (go b))
     where
       falls : fallback c 256 now call ≡ nothing
-      falls = ap (λ (o : Bool). cond (not o && is_answered c 256 now 1) (asks false call) nothing) f
+      falls = ap (λ (o : Bool). cond (not o && is_answered c 256 now 1) (asks modes.Ordered call) nothing) f
 
       go : (b : Bool) → cond b (accepts 1 (first_answer op)) (fallback c 256 now call) ≡ cond b (accepts 1 (first_answer op)) nothing
       go true = refl
       go false = falls
 
-  pub is_request : IsRequest c 256 false call w.request
+  pub is_request : IsRequest c 256 modes.Ordered call w.request
   is_request = record {
     says = x.asks.says;
     is_sealed = λ frame is.
         subst (λ (f : Frame). IsSealed c f × (receivers_of f.authenticator ≡ range_with_len 0 4)) (some_injective x.asks.frame frame (sym x.asks.spells ∙ is)) (x.asks.is_sealed, x.asks.is_for);
   }
 
-  calls : reaction c 256 (Invoke 0 1 op ∷ []) ≡ asks false call
-  calls = ap (λ (b : Bool). asks b call) x.writes
+  calls : reaction c 256 (Invoke 0 1 op ∷ []) ≡ asks modes.Ordered call
+  calls = ap (λ (b : Bool). asks (cond b modes.ReadOnly modes.Ordered) call) x.writes
 
   first : reaction c 256 one ≡ nothing
   first = gives one false (newest 0 (omega arith) asked) goes_ordered one_waits
@@ -151,7 +151,7 @@ module _ (clients : ℕ) (seed : List ℕ) (op : Operation) (batch : List ℕ) (
   reacts r s outputs e h = rw e h
 
   after_call : Reacts c 256 (reaction c 256) [] asked
-  after_call = (refl, (refl, ((refl, refl, x.operation), reacts (reaction c 256 (Invoke 0 1 op ∷ [])) (asks false call) (Sent 256 w.request ∷ []) calls (w.request, refl, is_request), refl)))
+  after_call = (refl, (refl, ((refl, refl, x.operation), reacts (reaction c 256 (Invoke 0 1 op ∷ [])) (asks modes.Ordered call) (Sent 256 w.request ∷ []) calls (w.request, refl, is_request), refl)))
 
   after_two : Reacts c 256 (reaction c 256) [] two
   after_two = (refl, (tt, reacts (reaction c 256 two) nothing [] second refl, (refl, (tt, reacts (reaction c 256 one) nothing [] first refl, after_call))))

@@ -1,11 +1,12 @@
 -- The points of the first operation.
-use Rattle.std.proofs.Common.{◌≡◌, ℕ, false, not, filter, List, [], ◌∷◌, ◌++◌, map, refl, ap, ◌∙◌, arith, Option, Some}
+use Rattle.std.proofs.Common.{◌≡◌, ℕ, not, filter, List, [], ◌∷◌, ◌++◌, map, refl, ap, ◌∙◌, arith, Option, Some}
 use Rattle.std.specs.Prelude.{option_and_then}
 use Rattle.std.specs.Option.{option_map_or}
 use Rattle.tuple_codec.specs.Operations.{Operation}
 use Rattle.reply_cache.specs.Replies.{no_replies}
 use Rattle.wire.specs.Words.{requests_of}
 use Rattle.protocol.specs.System.Configuration.{Configuration, IsConfiguration}
+use Rattle.terms.specs.declared.order.Mode.TheVariants as modes
 use Rattle.protocol.specs.System.Trace.{Entry}
 use Rattle.protocol.specs.System.Trace.Entry.{Invoke, Got, Sent}
 use Rattle.protocol.specs.Replica.State.{Call, Ran, opening, ran_in, ran_by}
@@ -54,7 +55,7 @@ module _ (clients : ℕ) (seed : List ℕ) (op : Operation) (batch : List ℕ) (
   third = refl
 
   abbrev point : Placing
-  point = record { item = first_item op; number = 1; read_only = false }
+  point = record { item = first_item op; number = 1; mode = modes.Ordered }
 
   ordered : ordered_points c trace opening 1 (last_executed trace) ≡ point ∷ []
   ordered =

@@ -3,7 +3,7 @@ use Rattle.std.proofs.Common.{◌≡◌, ℕ, ◌<◌, Bool, true, false, not, c
 use Rattle.std.specs.Prelude.{◌==◌, option_and_then, nat_le, is_some}
 use Rattle.std.specs.List.{range_with_len}
 use Rattle.tuple_codec.specs.Operations.{Operation, Outcome}
-use Rattle.quorum.specs.Votes.{give_if}
+use Rattle.std.specs.Bool.{then_some}
 use Rattle.std.proofs.lemmas.Bool.{eq-eqb}
 use Rattle.terms.specs.declared.order.Mode.TheVariants as modes
 use Rattle.wire.specs.Messages.{BodyData as Body, FrameData as Frame, reply as Reply}
@@ -30,7 +30,7 @@ module _ (clients number : ℕ) (seed : List ℕ) (op : Operation) (answer : Out
 
   -- what each reply says
   abbrev vote : Vote
-  vote = record { read_only = true; number = number; answer = answer }
+  vote = record { mode = modes.ReadOnly; number = number; answer = answer }
 
   abbrev asked : List Entry
   asked = Sent 256 request ∷ Invoke 0 1 op ∷ []
@@ -52,40 +52,40 @@ module _ (clients number : ℕ) (seed : List ℕ) (op : Operation) (answer : Out
   abbrev is_of : ℕ → ℕ → Bool
   is_of r s = ((r == s) && true) && true
 
-  latest_asked : (s : ℕ) → latest c 256 asked 1 true s ≡ None
+  latest_asked : (s : ℕ) → latest c 256 asked 1 modes.ReadOnly s ≡ None
   unfolding latest
   latest_asked s = refl
 
-  latest_next : (r : ℕ) → r < 4 → (s : ℕ) (past : List Entry) (o : Option Vote) → latest c 256 past 1 true s ≡ o
-      → latest c 256 (Got 256 (reply r) ∷ past) 1 true s ≡ cond (is_of r s) (Some vote) o
+  latest_next : (r : ℕ) → r < 4 → (s : ℕ) (past : List Entry) (o : Option Vote) → latest c 256 past 1 modes.ReadOnly s ≡ o
+      → latest c 256 (Got 256 (reply r) ∷ past) 1 modes.ReadOnly s ≡ cond (is_of r s) (Some vote) o
   unfolding latest
   latest_next r l s past o e = rw (hears r l, e) (go (is_of r s))
     where
-      go : (b : Bool) → later_vote true (give_if b vote) o ≡ cond b (Some vote) o
+      go : (b : Bool) → later_vote modes.ReadOnly (then_some b vote) o ≡ cond b (Some vote) o
       go true = refl
       go false = refl
 
-  latest_one : (s : ℕ) → latest c 256 one 1 true s ≡ cond (is_of 0 s) (Some vote) None
+  latest_one : (s : ℕ) → latest c 256 one 1 modes.ReadOnly s ≡ cond (is_of 0 s) (Some vote) None
   latest_one s = latest_next 0 (omega arith) s asked None (latest_asked s)
 
-  latest_two : (s : ℕ) → latest c 256 two 1 true s ≡ cond (is_of 1 s) (Some vote) (cond (is_of 0 s) (Some vote) None)
+  latest_two : (s : ℕ) → latest c 256 two 1 modes.ReadOnly s ≡ cond (is_of 1 s) (Some vote) (cond (is_of 0 s) (Some vote) None)
   latest_two s = latest_next 1 (omega arith) s one (cond (is_of 0 s) (Some vote) None) (latest_one s)
 
-  latest_three : (s : ℕ) → latest c 256 three 1 true s ≡ cond (is_of 2 s) (Some vote) (cond (is_of 1 s) (Some vote) (cond (is_of 0 s) (Some vote) None))
+  latest_three : (s : ℕ) → latest c 256 three 1 modes.ReadOnly s ≡ cond (is_of 2 s) (Some vote) (cond (is_of 1 s) (Some vote) (cond (is_of 0 s) (Some vote) None))
   latest_three s = latest_next 2 (omega arith) s two (cond (is_of 1 s) (Some vote) (cond (is_of 0 s) (Some vote) None)) (latest_two s)
 
   -- ---- one and two replies are not enough, and three are
 
   abbrev counts : List Entry → ℕ → Bool
-  counts now s = is_alike vote (latest c 256 now 1 true s)
+  counts now s = is_alike vote (latest c 256 now 1 modes.ReadOnly s)
 
   abbrev answers : List Entry → ℕ → Bool
-  answers now s = is_some (latest c 256 now 1 true s)
+  answers now s = is_some (latest c 256 now 1 modes.ReadOnly s)
 
-  at : (now : List Entry) (s : ℕ) → latest c 256 now 1 true s ≡ Some vote → counts now s ≡ true
+  at : (now : List Entry) (s : ℕ) → latest c 256 now 1 modes.ReadOnly s ≡ Some vote → counts now s ≡ true
   at now s e = ap (is_alike vote) e ∙ alike vote
 
-  off : (now : List Entry) (s : ℕ) → latest c 256 now 1 true s ≡ None → counts now s ≡ false
+  off : (now : List Entry) (s : ℕ) → latest c 256 now 1 modes.ReadOnly s ≡ None → counts now s ≡ false
   off now s e = ap (is_alike vote) e
 
   one_waits : is_complete c 256 one 1 vote ≡ false
@@ -111,25 +111,25 @@ module _ (clients number : ℕ) (seed : List ℕ) (op : Operation) (answer : Out
 
   newest : (r : ℕ) → r < 4 → (past : List Entry) → newest_vote c 256 (Got 256 (reply r) ∷ past) 1 ≡ Some vote
   newest r l past =
-      ap (option_and_then (λ (body : Body). vote_of 256 1 body.sender body)) (hears r l) ∙ ap (λ (b : Bool). give_if ((b && true) && true) vote) (eq-eqb r r refl)
+      ap (option_and_then (λ (body : Body). vote_of 256 1 body.sender body)) (hears r l) ∙ ap (λ (b : Bool). then_some ((b && true) && true) vote) (eq-eqb r r refl)
 
   waits : (now : List Entry) → newest_vote c 256 now 1 ≡ Some vote → is_complete c 256 now 1 vote ≡ false → is_answered c 256 now 1 ≡ false
       → on_got c 256 now call ≡ nothing
-  waits now e g f = rw e (rw g (ap (λ (b : Bool). cond (not (went_ordered now 1) && b) (asks false call) nothing) f ∙ rests (went_ordered now 1)))
+  waits now e g f = rw e (rw g (ap (λ (b : Bool). cond (not (went_ordered now 1) && b) (asks modes.Ordered call) nothing) f ∙ rests (went_ordered now 1)))
     where
-      rests : (b : Bool) → cond (not b && false) (asks false call) nothing ≡ nothing
+      rests : (b : Bool) → cond (not b && false) (asks modes.Ordered call) nothing ≡ nothing
       rests true = refl
       rests false = refl
 
-  is_request : IsRequest c 256 true call request
+  is_request : IsRequest c 256 modes.ReadOnly call request
   is_request = record {
     says = x.asks.says;
     is_sealed = λ frame is.
         subst (λ (f : Frame). IsSealed c f × (receivers_of f.authenticator ≡ range_with_len 0 4)) (some_injective x.asks.frame frame (sym x.asks.spells ∙ is)) (x.asks.is_sealed, x.asks.is_for);
   }
 
-  calls : reaction c 256 (Invoke 0 1 op ∷ []) ≡ asks true call
-  calls = ap (λ (b : Bool). asks b call) x.reads
+  calls : reaction c 256 (Invoke 0 1 op ∷ []) ≡ asks modes.ReadOnly call
+  calls = ap (λ (b : Bool). asks (cond b modes.ReadOnly modes.Ordered) call) x.reads
 
   first : reaction c 256 one ≡ nothing
   first = waits one (newest 0 (omega arith) asked) one_waits one_answers
@@ -144,7 +144,7 @@ module _ (clients number : ℕ) (seed : List ℕ) (op : Operation) (answer : Out
   reacts r s outputs e h = rw e h
 
   after_call : Reacts c 256 (reaction c 256) [] asked
-  after_call = (refl, (refl, ((refl, refl, x.operation), reacts (reaction c 256 (Invoke 0 1 op ∷ [])) (asks true call) (Sent 256 request ∷ []) calls (request, refl, is_request), refl)))
+  after_call = (refl, (refl, ((refl, refl, x.operation), reacts (reaction c 256 (Invoke 0 1 op ∷ [])) (asks modes.ReadOnly call) (Sent 256 request ∷ []) calls (request, refl, is_request), refl)))
 
   after_two : Reacts c 256 (reaction c 256) [] two
   after_two = (refl, (tt, reacts (reaction c 256 two) nothing [] second refl, (refl, (tt, reacts (reaction c 256 one) nothing [] first refl, after_call))))

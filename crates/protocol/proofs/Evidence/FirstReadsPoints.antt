@@ -1,11 +1,12 @@
 -- The points of three reads beside the first operation.
-use Rattle.std.proofs.Common.{◌≡◌, ℕ, ◌+◌, false, true, not, filter, List, [], ◌∷◌, ◌++◌, map, reverse, refl, ap, ◌∙◌, arith, Option, Some}
+use Rattle.std.proofs.Common.{◌≡◌, ℕ, ◌+◌, not, filter, List, [], ◌∷◌, ◌++◌, map, reverse, refl, ap, ◌∙◌, arith, Option, Some}
 use Rattle.std.specs.Prelude.{option_and_then}
 use Rattle.std.specs.Option.{option_map_or}
 use Rattle.tuple_codec.specs.Operations.{Operation, Outcome}
 use Rattle.wire.specs.Messages.{BodyData as Body}
 use Rattle.wire.specs.Words.{requests_of}
 use Rattle.protocol.specs.System.Configuration.{Configuration, IsConfiguration}
+use Rattle.terms.specs.declared.order.Mode.TheVariants as modes
 use Rattle.protocol.specs.System.Trace.{Entry}
 use Rattle.protocol.specs.System.Trace.Entry.{Invoke, Got, Sent}
 use Rattle.protocol.specs.Replica.State.{Ran, opening, ran_in}
@@ -36,7 +37,7 @@ module _ (clients : ℕ) (seed : List ℕ) (op : Operation) (batch : List ℕ) (
   point_at p o a past vote = option_map_or (λ (point : Placing). point ∷ []) (option_and_then (read_point c trace p (call o) a past) vote) []
 
   abbrev vote : ℕ → Vote
-  vote k = record { read_only = true; number = 1; answer = (read k).answer }
+  vote k = record { mode = modes.ReadOnly; number = 1; answer = (read k).answer }
 
   -- the past of an acceptance: what came before, and the replies without it
   abbrev waits : ℕ → List Entry → List Entry
@@ -58,7 +59,7 @@ module _ (clients : ℕ) (seed : List ℕ) (op : Operation) (batch : List ℕ) (
   past_2 = waits 2 (reverse (before_3 ++ answered 3 (read 3) ++ answered 1 (read 1)))
 
   abbrev read_of : ℕ → ℕ → Placing
-  read_of k position = record { item = read_item k (read k) position; number = 1; read_only = true }
+  read_of k position = record { item = read_item k (read k) position; number = 1; mode = modes.ReadOnly }
 
   abbrev brings : ℕ → Option Body → Option Vote
   brings k o = option_and_then (λ (body : Body). vote_of (256 + k) 1 body.sender body) o
@@ -77,7 +78,7 @@ module _ (clients : ℕ) (seed : List ℕ) (op : Operation) (batch : List ℕ) (
   third = refl
 
   abbrev point : Placing
-  point = record { item = record { client = 256; timestamp = 1; op = op; answer = first_answer op; position = 42 }; number = 1; read_only = false }
+  point = record { item = record { client = 256; timestamp = 1; op = op; answer = first_answer op; position = 42 }; number = 1; mode = modes.Ordered }
 
   ordered : ordered_points c trace opening 1 (last_executed trace) ≡ point ∷ []
   ordered =

@@ -4,7 +4,7 @@ use Rattle.std.proofs.Common.{◌≡◌, ℕ, ◌<◌, ◌⊎◌, inl, inr, Bool
 use Rattle.std.specs.Prelude.{◌==◌, ⊤}
 use Rattle.std.proofs.lemmas.Bool.{and_parts, both_ways}
 use Rattle.sha2.specs.Sha256.{sha256}
-use Rattle.quorum.specs.Votes.{give_if}
+use Rattle.std.specs.Bool.{then_some}
 use Rattle.tuple_codec.specs.Operations.{Operation}
 use Rattle.protocol.specs.System.Configuration.{Configuration, members}
 use Rattle.terms.specs.declared.order.Mode.TheVariants as modes
@@ -176,8 +176,8 @@ module _ (o : Part) where
     dropped = λ drops.
         absurd (drops (prepares batch r) (hears_prepare r s) (
           gives clients seed batch me before (Got me (w.prepare r)) (prepares batch r) (got clients seed batch me before (w.prepare r) (prepares batch r) st.plain (hears_prepare r s) tt)
-              0 1 (prepare_from c r 0 1) (r == r) (sha256 batch) (prepare_given clients seed batch me r backup 0 1 r) ∙ ap (λ (y : Bool). give_if y (sha256 batch)) (eq-eqb r r refl),
-          st.prepare_is 0 1 r ∙ ap (λ (y : Bool). give_if y (sha256 batch)) fresh,
+              0 1 (prepare_from c r 0 1) (r == r) (sha256 batch) (prepare_given clients seed batch me r backup 0 1 r) ∙ ap (λ (y : Bool). then_some y (sha256 batch)) (eq-eqb r r refl),
+          st.prepare_is 0 1 r ∙ ap (λ (y : Bool). then_some y (sha256 batch)) fresh,
         ));
   }
 
@@ -198,8 +198,8 @@ module _ (o : Part) where
     dropped = λ drops.
         absurd (drops (commits batch r) (hears_commit r s) (
           gives clients seed batch me before (Got me (w.commit r)) (commits batch r) (got clients seed batch me before (w.commit r) (commits batch r) st.plain (hears_commit r s) tt)
-              0 1 (commit_from r 0 1) (r == r) (sha256 batch) (commit_given clients seed batch me r 0 1 r) ∙ ap (λ (y : Bool). give_if y (sha256 batch)) (eq-eqb r r refl),
-          st.commit_is 0 1 r ∙ ap (λ (y : Bool). give_if y (sha256 batch)) fresh,
+              0 1 (commit_from r 0 1) (r == r) (sha256 batch) (commit_given clients seed batch me r 0 1 r) ∙ ap (λ (y : Bool). then_some y (sha256 batch)) (eq-eqb r r refl),
+          st.commit_is 0 1 r ∙ ap (λ (y : Bool). then_some y (sha256 batch)) fresh,
         ));
   }
     where

@@ -4,13 +4,13 @@ use Rattle.std.specs.Prelude.{◌==◌, ◌%◌, nat_le, ⊤}
 use Rattle.std.proofs.lemmas.Bool.{and_parts, leb-true, le-leb, false_from_ne_true}
 use Rattle.sha2.specs.Sha256.{sha256}
 use Rattle.quorum.specs.Quorum.{count_below}
-use Rattle.quorum.specs.Votes.{has_digest, give_if}
+use Rattle.std.specs.Bool.{then_some}
+use Rattle.quorum.specs.Votes.{has_digest}
 use Rattle.protocol.specs.System.Configuration.{Configuration, primary, members}
 use Rattle.terms.specs.declared.order.Mode.TheVariants as modes
 use Rattle.terms.specs.declared.state.Level.TheVariants as levels
 use Rattle.wire.specs.Messages.{BodyData as Body, MessageData as Message, CheckpointEntryData as CheckpointEntry, request as Request, pre_prepare as PrePrepare, prepare as Prepare, commit as Commit, fetch as Fetch}
 use Rattle.signing.specs.Heard.{heard}
-use Rattle.protocol.specs.System.Frames.{reads_only}
 use Rattle.protocol.specs.System.Trace.{Entry, Has}
 use Rattle.protocol.specs.System.Trace.Entry.{Got}
 use Rattle.protocol.specs.Replica.Certificates.{view, target, is_active_in, logged, prepare_of, commit_of, checkpoints_of, says_checkpoint, count_checkpoints, Prepared, Committed}
@@ -21,11 +21,11 @@ use Rattle.protocol.specs.Replica.Selection.{is_quorum}
 use Rattle.protocol.specs.Evidence.Examples.{four}
 use Rattle.protocol.proofs.Evidence.FirstBatch.{still, same_digest}
 use Rattle.protocol.proofs.Evidence.FirstReplicasStages.{here, only_here, Stage}
-use Rattle.protocol.proofs.Words.Options.{some_injective, give_if_some}
+use Rattle.protocol.proofs.Words.Options.{some_injective, then_some_gives}
 use Rattle.protocol.proofs.Words.Leaving.{none_kept}
 use Rattle.quorum.proofs.Counting.{count_same}
 
-digest_if : (b : Bool) (d : List ℕ) → has_digest d (give_if b d) ≡ b
+digest_if : (b : Bool) (d : List ℕ) → has_digest d (then_some b d) ≡ b
 digest_if true d = same_digest d
 digest_if false d = refl
 
@@ -57,7 +57,7 @@ module _ (clients : ℕ) (seed batch : List ℕ) (me : ℕ) where
 
   pub logs_it : (past : List Entry) (l : Bool) (p k : ℕ → Bool) → At past l p k → (v i : ℕ) (b : List ℕ) → logged c me past v i ≡ Some b → IsIt v i b × (l ≡ true)
   logs_it past l p k st v i b h =
-      let g = give_if_some (here v i && l) batch b (sym (st.logged_is v i) ∙ h) in
+      let g = then_some_gives (here v i && l) batch b (sym (st.logged_is v i) ∙ h) in
       let t = and_parts (here v i) l g.0 in
       let w = only_here v i t.0 in
       (record { view_is = w.0; number_is = w.1; batch_is = sym g.1 }, t.1)
@@ -112,7 +112,7 @@ module _ (clients : ℕ) (seed batch : List ℕ) (me : ℕ) where
     commits =
         let same = count_same (λ s. has_digest (sha256 batch) (commit_of c me past 0 1 s)) k (λ s. ap (has_digest (sha256 batch)) (st.commit_is 0 1 s) ∙ digest_if (k s) (sha256 batch)) 4 in
         subst (λ (n : ℕ). 3 ≤ n) (sym same) (leb-true 3 (count_below k 4) f);
-    own = st.commit_is 0 1 me ∙ ap (λ (b : Bool). give_if b (sha256 batch)) own;
+    own = st.commit_is 0 1 me ∙ ap (λ (b : Bool). then_some b (sha256 batch)) own;
   }
 
   active_zero : (past : List Entry) (l : Bool) (p k : ℕ → Bool) → At past l p k → (v : ℕ) → is_active_in c past v ≡ true → v ≡ 0
@@ -148,7 +148,7 @@ module _ (clients : ℕ) (seed batch : List ℕ) (me : ℕ) where
   heard_is bytes body other h k = some_injective body other (sym h ∙ k)
 
   is_ordered : modes.ReadOnly ≡ modes.Ordered → ⊥
-  is_ordered h = let bad : true ≡ false = ap reads_only h in absurd cc
+  is_ordered h = cc
 
   pub owes : (before : List Entry) (bytes : List ℕ) (outputs now : List Entry) (old new : Point) (l l' : Bool) (p p' k k' : ℕ → Bool)
       → At before l p k → At now l' p' k' → Due before bytes outputs now old new l l' p p' k' → Owes c me before (Got me bytes) outputs now old new
@@ -186,11 +186,11 @@ module _ (clients : ℕ) (seed batch : List ℕ) (me : ℕ) where
       at_it : (P : ℕ → ℕ → List ℕ → Type 0) (v i : ℕ) (b : List ℕ) → IsIt v i b → P 0 1 batch → P v i b
       at_it P v i b it h = subst (λ (x : ℕ). P x i b) (sym it.view_is) (subst (λ (x : ℕ). P 0 x b) (sym it.number_is) (subst (λ (x : List ℕ). P 0 1 x) (sym it.batch_is) h))
 
-      none_there : (v i : ℕ) (b : List ℕ) → IsIt v i b → logged c me before v i ≡ None → give_if l batch ≡ None
+      none_there : (v i : ℕ) (b : List ℕ) → IsIt v i b → logged c me before v i ≡ None → then_some l batch ≡ None
       none_there v i b it h =
           sym (was.logged_is 0 1) ∙ sym (ap (logged c me before 0) it.number_is) ∙ sym (ap (λ (x : ℕ). logged c me before x i) it.view_is) ∙ h
 
-      unlogged : (x : Bool) → give_if x batch ≡ None → x ≡ false
+      unlogged : (x : Bool) → then_some x batch ≡ None → x ≡ false
       unlogged true h = absurd cc
       unlogged false h = refl
 

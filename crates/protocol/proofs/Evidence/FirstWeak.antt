@@ -7,6 +7,7 @@ use Rattle.std.proofs.lemmas.Slice.Eq.{bytes_eq-Decides}
 use Rattle.tuple_codec.specs.Operations.{Operation}
 use Rattle.tuple_codec.specs.Spelling.{outcome_spelling}
 use Rattle.protocol.specs.System.Configuration.{Configuration, IsConfiguration, is_replica, is_correct_client}
+use Rattle.terms.specs.declared.order.Mode.TheVariants as modes
 use Rattle.protocol.specs.System.Trace.{Entry, party_of, history_of, Unforged}
 use Rattle.protocol.specs.System.Trace.Entry.{Invoke, Got, Sent, Accepted}
 use Rattle.protocol.specs.Client.RightClient.{OpenCall, Vote, latest, newest_vote, is_same_answer, is_weakly_complete, weakly_on_got, Reaction, weak_reaction, IsReaction, Reacts, IsWeakClient}
@@ -31,7 +32,7 @@ module _ (clients : ℕ) (seed : List ℕ) (op : Operation) (batch : List ℕ) (
 
   -- what each reply says
   abbrev vote : Vote
-  vote = record { read_only = false; number = 1; answer = first_answer op }
+  vote = record { mode = modes.Ordered; number = 1; answer = first_answer op }
 
   abbrev asked : List Entry
   asked = Sent 256 w.request ∷ Invoke 0 1 op ∷ []
@@ -48,18 +49,18 @@ module _ (clients : ℕ) (seed : List ℕ) (op : Operation) (batch : List ℕ) (
   same = (bytes_eq-Decides (outcome_spelling (first_answer op)) (outcome_spelling (first_answer op))).1 refl
 
   abbrev alike : List Entry → ℕ → Bool
-  alike now s = is_same_answer vote (latest c 256 now 1 false s)
+  alike now s = is_same_answer vote (latest c 256 now 1 modes.Ordered s)
 
-  at : (now : List Entry) (s : ℕ) → latest c 256 now 1 false s ≡ Some vote → alike now s ≡ true
+  at : (now : List Entry) (s : ℕ) → latest c 256 now 1 modes.Ordered s ≡ Some vote → alike now s ≡ true
   at now s e = ap (is_same_answer vote) e ∙ same
 
-  off : (now : List Entry) (s : ℕ) → latest c 256 now 1 false s ≡ None → alike now s ≡ false
+  off : (now : List Entry) (s : ℕ) → latest c 256 now 1 modes.Ordered s ≡ None → alike now s ≡ false
   off now s e = ap (is_same_answer vote) e
 
-  abbrev from_one : (s : ℕ) → latest c 256 one 1 false s ≡ cond (((0 == s) && true) && true) (Some vote) None
+  abbrev from_one : (s : ℕ) → latest c 256 one 1 modes.Ordered s ≡ cond (((0 == s) && true) && true) (Some vote) None
   from_one = client.latest_one clients seed op batch w x
 
-  abbrev from_two : (s : ℕ) → latest c 256 two 1 false s ≡ cond (((1 == s) && true) && true) (Some vote) (cond (((0 == s) && true) && true) (Some vote) None)
+  abbrev from_two : (s : ℕ) → latest c 256 two 1 modes.Ordered s ≡ cond (((1 == s) && true) && true) (Some vote) (cond (((0 == s) && true) && true) (Some vote) None)
   from_two = client.latest_two clients seed op batch w x
 
   one_waits : is_weakly_complete c 256 one 1 vote ≡ false

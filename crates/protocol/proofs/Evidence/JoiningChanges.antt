@@ -3,6 +3,7 @@ use Rattle.std.proofs.Common.{◌≡◌, ◌≢◌, ℕ, ◌<◌, max, inl, inr,
 use Rattle.std.specs.Prelude.{◌==◌, nat_lt, option_and_then, All}
 use Rattle.std.specs.Option.{option_map_or}
 use Rattle.std.proofs.lemmas.Bool.{ne_eqb}
+use Rattle.std.specs.Bool.{then_some}
 use Rattle.wire.specs.Messages.{BodyData as Body, FrameData as Frame, AuthenticatorData as Authenticator, ViewChangeData, NewViewData, macs, signature, pre_prepare as PrePrepare, view_change as ViewChange}
 use Rattle.wire.specs.Spelling.{body_spelling}
 use Rattle.wire.proofs.Saying.{reads_frames}
@@ -98,7 +99,7 @@ module _ (clients : ℕ) (seed : List ℕ) (me one other : ℕ) (first second ow
     logs2 v i = logs_nothing c me h1 (Got me second) (changing other) (hears other second second_other y) tt (taken_none c h1 (Got me second) (plain h1 other second second_other y)) v i ∙ logs1 v i
 
     takes_own : taken c h2 (Sent me own) ≡ None
-    takes_own = ap (option_and_then (λ (new : NewViewData). Rattle.quorum.specs.Votes.give_if (is_later (view c h2) (target h2) new) new)) (ap (option_and_then (new_view_from c)) says)
+    takes_own = ap (option_and_then (λ (new : NewViewData). then_some (is_later (view c h2) (target h2) new) new)) (ap (option_and_then (new_view_from c)) says)
 
     logs3 : (v i : ℕ) → logged c me now v i ≡ None
     logs3 v i = logs_nothing c me h2 (Sent me own) (changing me) says tt takes_own v i ∙ logs2 v i

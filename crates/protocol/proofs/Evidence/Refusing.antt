@@ -9,11 +9,11 @@ use Rattle.tuple_codec.specs.Spelling.{outcome_spelling}
 use Rattle.sha2.specs.Sha256.{sha256}
 use Rattle.quorum.specs.Quorum.{count_below}
 use Rattle.protocol.specs.System.Configuration.{Configuration, replicas, span, is_number, members}
+use Rattle.terms.specs.declared.order.Mode.{Mode}
 use Rattle.terms.specs.declared.order.Mode.TheVariants as modes
 use Rattle.wire.specs.Messages.{fetch as Fetch, BodyData as Body, FrameData as Frame, AuthenticatorData as Authenticator, MacData, macs, signature, ViewChangeData, NewViewData, BatchEntryData as BatchEntry, pre_prepare as PrePrepare, prepare as Prepare, commit as Commit, checkpoint as Checkpoint, view_change as ViewChange, new_view as NewView, reply as Reply, meta as Meta, page as Page}
 use Rattle.authenticator.specs.Authentic.{mac_of}
 use Rattle.signing.specs.Heard.{has_signature, heard}
-use Rattle.protocol.specs.System.Frames.{mode_of}
 use Rattle.protocol.specs.System.Trace.{Entry, party_of, Once, Always, Has, Hears}
 use Rattle.protocol.specs.System.Trace.Entry.{Invoke, Got, Tick, Executed, Installed, Sent, Accepted}
 use Rattle.protocol.specs.Replica.Selection.{is_quorum, is_weak_quorum, passes_by, count_in, vouches, agrees, may_stand_at, may_be_null, null_batch, is_null, is_within, changes_of, how_many}
@@ -26,12 +26,11 @@ use Rattle.protocol.specs.Evidence.Refused.{SealsWell, SignsWell, PrePreparesAsP
 use Rattle.wire.specs.Words.{requests_of, frame_of, said}
 use Rattle.protocol.specs.Replica.Owed.{IsSaying, Owes, Counts, IsReplica}
 use Rattle.protocol.proofs.Words.Temporal.{once_weaker, once_stays_from}
-use Rattle.protocol.proofs.Words.Options.{and_then_some, give_if_some, some_injective}
+use Rattle.protocol.proofs.Words.Options.{and_then_some, then_some_gives, some_injective}
 use Rattle.protocol.proofs.Agreement.Voting.{right_always, logged_stays}
 use Rattle.protocol.proofs.Agreement.Marks.{Selects, selects, selected_in, takes}
 use Rattle.protocol.proofs.Words.Lists.{passes_change, change_there, largest_of-has, stands_at, some_below}
 use Rattle.protocol.proofs.Points.Reading.{latest_heard}
-use Rattle.protocol.proofs.Points.Ordering.{latest_ordered}
 use Rattle.protocol.proofs.Agreement.Changes.{change_target, target_grows}
 use Rattle.protocol.proofs.Agreement.Offers.{offer_in, offers_kept, marks_above}
 use Rattle.signing.proofs.Heard.{heard_was_opened}
@@ -43,7 +42,7 @@ use Rattle.space.specs.Births.{SpaceState}
 use Rattle.space.proofs.Determining.{number_split}
 use Rattle.std.specs.Int.{w64, to_be_bytes}
 use Rattle.protocol.specs.Replica.RightReplica.{IsInstalled, IsHeld}
-use Rattle.quorum.specs.Votes.{give_if}
+use Rattle.std.specs.Bool.{then_some}
 use Rattle.protocol.proofs.Words.Elements.{has_of_any, every_has, has_some}
 
 -- what the newest frame says, a right replica may say
@@ -560,8 +559,8 @@ takes_well_selected c past e new h = record {
 
 pub takes_no_lower : TakesNoLower
 takes_no_lower c me past e new vc h changed =
-    let r = and_then_some (λ (x : NewViewData). give_if (is_later (view c past) (target past) x) x) (new_view_in c e) new h in
-    let g = give_if_some (is_later (view c past) (target past) r.0) r.0 new r.2 in
+    let r = and_then_some (λ (x : NewViewData). then_some (is_later (view c past) (target past) x) x) (new_view_in c e) new h in
+    let g = then_some_gives (is_later (view c past) (target past) r.0) r.0 new r.2 in
     let t : is_later (view c past) (target past) new ≡ true = subst (λ (x : NewViewData). is_later (view c past) (target past) x ≡ true) g.1 g.0 in
     let p = and_parts (nat_lt (view c past) new.view) (nat_le (target past) new.view) t in
     let a = leb-true (target past) new.view p.1 in
@@ -579,25 +578,24 @@ accepts_at_quorum c me k timestamp answer past right =
     let m = right.0.1 in
     let full = leb-true (2 * c.faults + 1) (count_alike c me past m.0.timestamp m.1) m.6 in
     let enough = subst (λ (t : ℕ). 2 * c.faults + 1 ≤ count_alike c me past t m.1) m.3 full in (
-      mode_of m.1.read_only,
+      m.1.mode,
       m.1.number,
-      λ s. is_alike m.1 (latest c me past timestamp m.1.read_only s),
+      λ s. is_alike m.1 (latest c me past timestamp m.1.mode s),
       enough,
-      λ s h. answers s m.1 m.4 m.1.read_only (latest c me past timestamp m.1.read_only s) refl h,
+      λ s h. answers s m.1 m.4 m.1.mode (latest c me past timestamp m.1.mode s) refl h,
     )
   where
     own : Always (λ past e. party_of e ≡ me) past
     own = own_parties c me past right.1
 
-    hears : (s : ℕ) (kind : Bool) (v : Vote) → latest c me past timestamp kind s ≡ Some v → Once (Hears c me (record { sender = s; message = Reply me timestamp (mode_of kind) v.number v.answer })) past
-    hears s true v is = latest_heard c me timestamp s v past own is
-    hears s false v is = latest_ordered c me timestamp s v past own is
+    hears : (s : ℕ) (mode : Mode) (v : Vote) → latest c me past timestamp mode s ≡ Some v → Once (Hears c me (record { sender = s; message = Reply me timestamp mode v.number v.answer })) past
+    hears s mode v is = latest_heard c me timestamp mode s v past own is
 
-    answers : (s : ℕ) (vote : Vote) → vote.answer ≡ answer → (kind : Bool) (o : Option Vote) → latest c me past timestamp kind s ≡ o → is_alike vote o ≡ true
-        → (other : Outcome) × (outcome_spelling other ≡ outcome_spelling answer) × Once (Hears c me (record { sender = s; message = Reply me timestamp (mode_of kind) vote.number other })) past
-    answers s vote same kind None is h = absurd cc
-    answers s vote same kind (Some v) is h =
+    answers : (s : ℕ) (vote : Vote) → vote.answer ≡ answer → (mode : Mode) (o : Option Vote) → latest c me past timestamp mode s ≡ o → is_alike vote o ≡ true
+        → (other : Outcome) × (outcome_spelling other ≡ outcome_spelling answer) × Once (Hears c me (record { sender = s; message = Reply me timestamp mode vote.number other })) past
+    answers s vote same mode None is h = absurd cc
+    answers s vote same mode (Some v) is h =
         let q = and_parts (v.number == vote.number) (bytes_eq (outcome_spelling v.answer) (outcome_spelling vote.answer)) h in
         let n : v.number ≡ vote.number = eqb-true v.number vote.number q.0 in
         let spelled = (bytes_eq-Decides (outcome_spelling v.answer) (outcome_spelling vote.answer)).0 q.1 in
-        (v.answer, spelled ∙ ap outcome_spelling same, subst (λ (i : ℕ). Once (Hears c me (record { sender = s; message = Reply me timestamp (mode_of kind) i v.answer })) past) n (hears s kind v is))
+        (v.answer, spelled ∙ ap outcome_spelling same, subst (λ (i : ℕ). Once (Hears c me (record { sender = s; message = Reply me timestamp mode i v.answer })) past) n (hears s mode v is))

@@ -6,7 +6,7 @@ use Rattle.std.specs.Option.{option_map_or}
 use Rattle.std.proofs.lemmas.Bool.{and_parts, ltb-false, ltb-true}
 use Rattle.tuple_codec.specs.Operations.{Operation}
 use Rattle.partition_tree.specs.Digests.{digest_of_children}
-use Rattle.quorum.specs.Votes.{give_if}
+use Rattle.std.specs.Bool.{then_some}
 use Rattle.protocol.specs.System.Configuration.{Configuration, primary, is_number, members}
 use Rattle.terms.specs.declared.order.Mode.TheVariants as modes
 use Rattle.terms.specs.declared.state.Level.TheVariants as levels
@@ -22,7 +22,7 @@ use Rattle.protocol.specs.Replica.RightReplica.{Point, Leaves, kept_states, IsRo
 use Rattle.protocol.specs.Replica.Owed.{Owes, Counts, IsReplica, IsNoOlder, change_taken, latest_change, has_number}
 use Rattle.protocol.specs.Evidence.RefusedChanges.{Answers, GotChange, IsNoRoot, DropsWrites, DropsRequestsOfReplicas, DropsOldRequests, DropsPassedRequests, DropsPrePreparesOfBackups, DropsPrePreparesWhileInactive, DropsPrePreparesOutsideMarks, DropsSecondPrePrepares, DropsPreparesOfPrimaries, DropsPreparesWhileInactive, DropsSecondPrepares, DropsCommitsWhileInactive, DropsSecondCommits, DropsLowCheckpoints, DropsCheckpointsOfNoNumber, DropsSecondCheckpoints, DropsPassedCheckpoints, DropsLowChanges, DropsUnboundChanges, DropsPassedChanges, DropsNewViews, DropsFetches, DropsLowDigests, DropsLowPages, DropsOtherRoots, DropsOtherDigests, DropsOtherPages}
 use Rattle.protocol.proofs.Words.Temporal.{once_weaker, once_stays_from}
-use Rattle.protocol.proofs.Words.Options.{give_if_some, some_injective}
+use Rattle.protocol.proofs.Words.Options.{then_some_gives, some_injective}
 use Rattle.protocol.proofs.Agreement.Marks.{view_grows}
 use Rattle.protocol.proofs.Words.Reacting.{proceeds_leaves}
 use Rattle.protocol.proofs.Evidence.Refusing.{newest_state}
@@ -128,7 +128,7 @@ pub drops_pre_prepares_of_backups : DropsPrePreparesOfBackups
 drops_pre_prepares_of_backups c me s v i batch bytes past other a =
     answered c me s (PrePrepare v i batch) bytes past a (λ point leaves k.
     let g = given_at c me past v i bytes (record { sender = s; message = PrePrepare v i batch }) (batch_from c me v i) batch a.hears k.0 in
-    let t = give_if_some ((v == v) && (i == i) && (s == primary c v) && are_genuine c me batch) batch batch g.gives in
+    let t = then_some_gives ((v == v) && (i == i) && (s == primary c v) && are_genuine c me batch) batch batch g.gives in
     let p = and_parts ((v == v) && (i == i) && (s == primary c v)) (are_genuine c me batch) t.0 in
     let q = and_parts ((v == v) && (i == i)) (s == primary c v) p.0 in
     other (sym (eqb-true s (primary c v) q.1)))
@@ -153,7 +153,7 @@ pub drops_prepares_of_primaries : DropsPreparesOfPrimaries
 drops_prepares_of_primaries c me s v i digest bytes past is a =
     answered c me s (Prepare v i digest) bytes past a (λ point leaves k.
     let g = given_at c me past v i bytes (record { sender = s; message = Prepare v i digest }) (prepare_from c s v i) digest a.hears k.0 in
-    let t = give_if_some ((s == s) && (v == v) && (i == i) && not (s == primary c v)) digest digest g.gives in
+    let t = then_some_gives ((s == s) && (v == v) && (i == i) && not (s == primary c v)) digest digest g.gives in
     let p = and_parts ((s == s) && (v == v) && (i == i)) (not (s == primary c v)) t.0 in
     let same = eq-eqb s (primary c v) (sym is) in
     absurd (let bad : not true ≡ true = subst (λ (b : Bool). not b ≡ true) same p.1 in cc))
@@ -227,7 +227,7 @@ drops_passed_checkpoints c me s k root bytes a b d past are below first second a
         go false false false false false false e0 e1 e2 e3 e4 e5 = refl
 
     brings : is_number k ≡ true → checkpoint_in c (Got me bytes) ≡ Some (s, checkpoint)
-    brings is = ap (option_and_then checkpoint_from) answers.hears ∙ ap (λ (x : Bool). give_if x (s, checkpoint)) is
+    brings is = ap (option_and_then checkpoint_from) answers.hears ∙ ap (λ (x : Bool). then_some x (s, checkpoint)) is
 
     now : is_number k ≡ true → checkpoints_of c (Got me bytes ∷ past) s ≡ a ∷ b ∷ d ∷ []
     now is =

@@ -2,14 +2,14 @@
 use Rattle.std.proofs.Common.{◌≡◌, ◌^◌, ℕ, zero, suc, ◌≤◌, ◌<◌, ◌⊎◌, inl, inr, Bool, true, false, cond, List, [], ◌∷◌, length, take, slice_get, refl, sym, ap, ◌∙◌, subst, arith, Option, Some, None, eqb-true, eq-eqb}
 use Rattle.std.specs.Prelude.{◌==◌, nat_lt, option_and_then}
 use Rattle.std.proofs.lemmas.Bool.{eqb-false, ltb-false, ltb-true, lt-ltb}
-use Rattle.quorum.specs.Votes.{give_if}
+use Rattle.std.specs.Bool.{then_some}
 use Rattle.protocol.specs.System.Configuration.{Configuration, is_number}
 use Rattle.wire.specs.Messages.{MessageData as Message, CheckpointEntryData as CheckpointEntry, checkpoint as Checkpoint}
 use Rattle.protocol.specs.System.Trace.{Entry, Once, Has}
 use Rattle.protocol.specs.System.Trace.Entry.{Invoke, Got, Tick, Executed, Installed, Sent, Accepted}
 use Rattle.protocol.specs.Replica.Certificates.{brought, checkpoint_from, checkpoint_in, insert_checkpoint, with_checkpoint, checkpoints_of}
 use Rattle.protocol.specs.Evidence.RefusedMarks.{BringsCheckpoint, FirstCheckpointCounts, NewCheckpointCounts, CheckpointsStay, CheckpointsAreFew, CheckpointsDescend, CheckpointsWereBrought}
-use Rattle.protocol.proofs.Words.Options.{and_then_some, give_if_some}
+use Rattle.protocol.proofs.Words.Options.{and_then_some, then_some_gives}
 use Rattle.protocol.proofs.Evidence.RefusingMarksLow.{entry_of, checkpoints_with, no_checkpoints}
 use Rattle.wire.specs.Lists.{Each}
 
@@ -213,17 +213,17 @@ brings_message c s k root (Executed x y z) h = absurd cc
 brings_message c s k root (Installed x y z) h = absurd cc
 brings_message c s k root (Accepted x y z) h = absurd cc
 
-given : (c : Configuration) (s k : ℕ) (root : List ℕ) (e : Entry) → BringsCheckpoint c s k root e → checkpoint_in c e ≡ give_if (is_number k) (s, entry_of k root)
+given : (c : Configuration) (s k : ℕ) (root : List ℕ) (e : Entry) → BringsCheckpoint c s k root e → checkpoint_in c e ≡ then_some (is_number k) (s, entry_of k root)
 given c s k root e h = ap (option_and_then checkpoint_from) (brought_message c s k root e h)
 
 -- what is there behind an entry, by what it gives
 behind : (c : Configuration) (s k : ℕ) (root : List ℕ) (e : Entry) (past : List Entry) (b : Bool) → BringsCheckpoint c s k root e → is_number k ≡ b
     → checkpoints_of c (e ∷ past) s ≡ cond b (take 3 (insert_checkpoint (entry_of k root) (checkpoints_of c past s))) (checkpoints_of c past s)
 behind c s k root e past true h is =
-    checkpoints_with c e past s ∙ ap (λ (o : Option (ℕ × CheckpointEntry)). with_checkpoint s o (checkpoints_of c past s)) (given c s k root e h ∙ ap (λ (b : Bool). give_if b (s, entry_of k root)) is)
+    checkpoints_with c e past s ∙ ap (λ (o : Option (ℕ × CheckpointEntry)). with_checkpoint s o (checkpoints_of c past s)) (given c s k root e h ∙ ap (λ (b : Bool). then_some b (s, entry_of k root)) is)
     ∙ ap (λ (b : Bool). cond b (take 3 (insert_checkpoint (entry_of k root) (checkpoints_of c past s))) (checkpoints_of c past s)) (eq-eqb s s refl)
 behind c s k root e past false h is =
-    checkpoints_with c e past s ∙ ap (λ (o : Option (ℕ × CheckpointEntry)). with_checkpoint s o (checkpoints_of c past s)) (given c s k root e h ∙ ap (λ (b : Bool). give_if b (s, entry_of k root)) is)
+    checkpoints_with c e past s ∙ ap (λ (o : Option (ℕ × CheckpointEntry)). with_checkpoint s o (checkpoints_of c past s)) (given c s k root e h ∙ ap (λ (b : Bool). then_some b (s, entry_of k root)) is)
 
 -- a checkpoint's number and root are its message's
 record Gives (c : Configuration) (s : ℕ) (checkpoint : CheckpointEntry) (e : Entry) : Type 0 where
@@ -237,7 +237,7 @@ gives c x e h =
   where
     by : (sender : ℕ) (message : Message) → brought c e ≡ Some (record { sender = sender; message = message }) → checkpoint_from (record { sender = sender; message = message }) ≡ Some x → Gives c x.0 x.1 e
     by sender (Checkpoint number root) is from =
-        let g = give_if_some {A = ℕ × CheckpointEntry} (is_number number) (sender, entry_of number root) x from in
+        let g = then_some_gives {A = ℕ × CheckpointEntry} (is_number number) (sender, entry_of number root) x from in
         subst (λ (y : ℕ × CheckpointEntry). Gives c y.0 y.1 e) g.1 (record { number = ltb-true number (2 ^ 48) g.0; brings = brings_message c sender number root e is })
     by sender _ is from = absurd cc
 

@@ -18,7 +18,7 @@ use Rattle.terms.specs.declared.order.Mode.TheVariants as modes
 use Rattle.wire.specs.Messages.{BodyData as Body, FrameData as Frame, MacData, macs, MessageData as Message, BatchEntryData as BatchEntry, request as Request, view_change as ViewChange, new_view as NewView, reply as Reply}
 use Rattle.signing.specs.Heard.{heard}
 use Rattle.wire.specs.Words.{frame_of, said, receivers_of}
-use Rattle.protocol.specs.System.Frames.{reads_only, mode_of}
+use Rattle.protocol.specs.System.Frames.{same_mode}
 use Rattle.protocol.specs.System.Trace.{Entry, party_of, is_output, Once, Always, Has, AreOutputs, Hears, either}
 use Rattle.protocol.specs.System.Trace.Entry.{Invoke, Got, Tick, Executed, Installed, Sent, Accepted}
 use Rattle.protocol.specs.Replica.Certificates.{view, target, is_active_in, taken}
@@ -32,7 +32,7 @@ use Rattle.protocol.proofs.Words.Options.{some_injective}
 use Rattle.protocol.proofs.Agreement.Voting.{RightAt, right_always}
 use Rattle.protocol.proofs.Agreement.Marks.{takes, view_grows}
 use Rattle.protocol.proofs.Agreement.Changes.{logged_within}
-use Rattle.protocol.proofs.Points.Ordering.{latest_ordered}
+use Rattle.protocol.proofs.Points.Reading.{latest_heard}
 use Rattle.protocol.proofs.Words.Reacting.{one_output}
 
 -- ---- clients
@@ -65,13 +65,13 @@ accepts_only c me t a r outputs is h =
     let k = subst (λ (x : Reaction). IsReaction c me x (reverse outputs)) is h in
     (k.0, sym (reverse-reverse outputs) ∙ ap reverse k.1)
 
-asks_only : (c : Configuration) (me : ℕ) (call : OpenCall) (r : Reaction) (outputs : List Entry) → r ≡ asks false call → IsReaction c me r (reverse outputs) → IsOrderedRequest me call outputs
+asks_only : (c : Configuration) (me : ℕ) (call : OpenCall) (r : Reaction) (outputs : List Entry) → r ≡ asks modes.Ordered call → IsReaction c me r (reverse outputs) → IsOrderedRequest me call outputs
 asks_only c me call r outputs is h =
     let k = subst (λ (x : Reaction). IsReaction c me x (reverse outputs)) is h in
     (k.0, sym (reverse-reverse outputs) ∙ ap reverse k.1, k.2.says)
 
 abbrev pub vote_in : Mode → ℕ → Outcome → Vote
-vote_in mode number answer = record { read_only = reads_only mode; number = number; answer = answer }
+vote_in mode number answer = record { mode = mode; number = number; answer = answer }
 
 pub brings : (c : Configuration) (me s t number : ℕ) (mode : Mode) (answer : Outcome) (bytes : List ℕ) (past : List Entry) → heard (members c) me bytes ≡ Some (record { sender = s; message = Reply me t mode number answer })
     → newest_vote c me (Got me bytes ∷ past) t ≡ Some (vote_in mode number answer)
@@ -87,11 +87,11 @@ accepts_alike c me s number call mode answer bytes later from outputs past opene
     votes : on_got c me (Got me bytes ∷ past) call ≡ on_reply c me (Got me bytes ∷ past) call (vote_in mode number answer)
     votes = ap (λ (o : Option Vote). option_map_or (on_reply c me (Got me bytes ∷ past) call) o nothing) (brings c me s call.timestamp number mode answer bytes past hears)
 
-    each : (r : ℕ) → from r ≡ true → is_alike (vote_in mode number answer) (latest c me (Got me bytes ∷ past) call.timestamp (reads_only mode) r) ≡ true
+    each : (r : ℕ) → from r ≡ true → is_alike (vote_in mode number answer) (latest c me (Got me bytes ∷ past) call.timestamp mode r) ≡ true
     each r h = ap (is_alike (vote_in mode number answer)) (same r h) ∙ alike (vote_in mode number answer)
 
     full : 2 * c.faults + 1 ≤ count_alike c me (Got me bytes ∷ past) call.timestamp (vote_in mode number answer)
-    full = let more = count_mono from (λ r. is_alike (vote_in mode number answer) (latest c me (Got me bytes ∷ past) call.timestamp (reads_only mode) r)) (replicas c) (λ r l h. each r h) in omega arith
+    full = let more = count_mono from (λ r. is_alike (vote_in mode number answer) (latest c me (Got me bytes ∷ past) call.timestamp mode r)) (replicas c) (λ r l h. each r h) in omega arith
 
     completes : on_reply c me (Got me bytes ∷ past) call (vote_in mode number answer) ≡ accepts call.timestamp answer
     completes = rw (le-leb (2 * c.faults + 1) (count_alike c me (Got me bytes ∷ past) call.timestamp (vote_in mode number answer)) full) refl
@@ -107,7 +107,7 @@ went_asked t (Installed x y z ∷ past) h = inr (went_asked t past h)
 went_asked t (Accepted x y z ∷ past) h = inr (went_asked t past h)
 went_asked t (Sent p bytes ∷ past) h = go (or_cases (option_map_or (is_ordered_request t) (said bytes) false) (went_ordered past t) h) (went_asked t past)
   where
-    ordered : (sender timestamp : ℕ) (mode : Mode) (op : Operation) → ((timestamp == t) && not (reads_only mode)) ≡ true
+    ordered : (sender timestamp : ℕ) (mode : Mode) (op : Operation) → ((timestamp == t) && same_mode mode modes.Ordered) ≡ true
         → (op' : Operation) × (◌≡◌ {A = Body} (record { sender = sender; message = Request timestamp mode op }) (record { sender = sender; message = Request t modes.Ordered op' }))
     ordered sender timestamp modes.Ordered op k =
         let e = eqb-true timestamp t (and_parts (timestamp == t) true k).0 in
@@ -154,21 +154,21 @@ falls_back c me s number call answer bytes later outputs past opened hears answe
 
     all_answered : is_answered c me (Got me bytes ∷ past) call.timestamp ≡ true
     all_answered =
-        let all = all_below (λ r. is_some (latest c me (Got me bytes ∷ past) call.timestamp true r)) (replicas c) (λ r l. some_answer (latest c me (Got me bytes ∷ past) call.timestamp true r) (answered r l)) in
-        le-leb (replicas c) (count_below (λ r. is_some (latest c me (Got me bytes ∷ past) call.timestamp true r)) (replicas c)) (omega arith)
+        let all = all_below (λ r. is_some (latest c me (Got me bytes ∷ past) call.timestamp modes.ReadOnly r)) (replicas c) (λ r l. some_answer (latest c me (Got me bytes ∷ past) call.timestamp modes.ReadOnly r) (answered r l)) in
+        le-leb (replicas c) (count_below (λ r. is_some (latest c me (Got me bytes ∷ past) call.timestamp modes.ReadOnly r)) (replicas c)) (omega arith)
 
-    falls : fallback c me (Got me bytes ∷ past) call ≡ asks false call
+    falls : fallback c me (Got me bytes ∷ past) call ≡ asks modes.Ordered call
     falls = go (went_ordered past call.timestamp) refl
       where
-        go : (b : Bool) → went_ordered past call.timestamp ≡ b → cond (not b && is_answered c me (Got me bytes ∷ past) call.timestamp) (asks false call) nothing ≡ asks false call
+        go : (b : Bool) → went_ordered past call.timestamp ≡ b → cond (not b && is_answered c me (Got me bytes ∷ past) call.timestamp) (asks modes.Ordered call) nothing ≡ asks modes.Ordered call
         go true e = absurd (never (went_asked call.timestamp past e))
         go false e = rw all_answered refl
 
 pub asks_at_ticks : AsksAtTicks
 asks_at_ticks c me call later outputs past opened are (inl h) =
-    asks_only c me call (reaction c me (Tick me ∷ past)) outputs (ap (λ (o : Option OpenCall). option_map_or (asks false) o nothing) opened) (gave c me (reaction c me) later outputs (Tick me) past refl are h)
+    asks_only c me call (reaction c me (Tick me ∷ past)) outputs (ap (λ (o : Option OpenCall). option_map_or (asks modes.Ordered) o nothing) opened) (gave c me (reaction c me) later outputs (Tick me) past refl are h)
 asks_at_ticks c me call later outputs past opened are (inr h) =
-    asks_only c me call (weak_reaction c me (Tick me ∷ past)) outputs (ap (λ (o : Option OpenCall). option_map_or (asks false) o nothing) opened) (gave c me (weak_reaction c me) later outputs (Tick me) past refl are h)
+    asks_only c me call (weak_reaction c me (Tick me ∷ past)) outputs (ap (λ (o : Option OpenCall). option_map_or (asks modes.Ordered) o nothing) opened) (gave c me (weak_reaction c me) later outputs (Tick me) past refl are h)
 
 -- one request is another's bytes
 same_request : (me : ℕ) (x y : List ℕ) → Sent me x ∷ [] ≡ Sent me y ∷ [] → y ≡ x
@@ -177,10 +177,10 @@ same_request me x y e = cc
 -- a frame that a client sends is a request that it was to give
 pub record Asked (c : Configuration) (me : ℕ) (react : List Entry → Reaction) (bytes : List ℕ) : Type 0 where
   pub now : List Entry
-  pub read_only : Bool
+  pub mode : Mode
   pub call : OpenCall
-  pub given : react now ≡ asks read_only call
-  pub request : IsRequest c me read_only call bytes
+  pub given : react now ≡ asks mode call
+  pub request : IsRequest c me mode call bytes
 
 asked_here : (c : Configuration) (me : ℕ) (react : List Entry → Reaction) (bytes : List ℕ) (past : List Entry) → Reacts c me react (Sent me bytes ∷ []) past → Asked c me react bytes
 asked_here c me react bytes [] h = absurd cc
@@ -188,7 +188,7 @@ asked_here c me react bytes (e ∷ past) h = go (is_output e) h.1
   where
     by : (r : Reaction) → react (e ∷ past) ≡ r → IsReaction c me r (Sent me bytes ∷ []) → Asked c me react bytes
     by nothing is k = absurd cc
-    by (asks read_only call) is k = record { now = e ∷ past; read_only = read_only; call = call; given = is; request = subst (IsRequest c me read_only call) (same_request me bytes k.0 k.1) k.2 }
+    by (asks mode call) is k = record { now = e ∷ past; mode = mode; call = call; given = is; request = subst (IsRequest c me mode call) (same_request me bytes k.0 k.1) k.2 }
     by (accepts t a) is k = let bad = k.1 in absurd cc
 
     go : (b : Bool) → either b (Reacts c me react (e ∷ Sent me bytes ∷ []) past) (MayInput past e × IsReaction c me (react (e ∷ past)) (Sent me bytes ∷ []) × Reacts c me react [] past) → Asked c me react bytes
@@ -229,14 +229,14 @@ weakly_accepts_alike c me s number call answer bytes later from outputs past ope
         ≡ cond (is_weakly_complete c me (Got me bytes ∷ past) call.timestamp (vote_in modes.Ordered number answer)) (accepts call.timestamp answer) nothing
     votes = ap (λ (o : Option Vote). option_map_or (λ (vote : Vote). cond (is_weakly_complete c me (Got me bytes ∷ past) call.timestamp vote) (accepts call.timestamp vote.answer) nothing) o nothing) (brings c me s call.timestamp number modes.Ordered answer bytes past hears)
 
-    each : (r : ℕ) → from r ≡ true → is_same_answer (vote_in modes.Ordered number answer) (latest c me (Got me bytes ∷ past) call.timestamp false r) ≡ true
+    each : (r : ℕ) → from r ≡ true → is_same_answer (vote_in modes.Ordered number answer) (latest c me (Got me bytes ∷ past) call.timestamp modes.Ordered r) ≡ true
     each r k = let x = same r k in ap (is_same_answer (vote_in modes.Ordered number answer)) x.1 ∙ same_answer (vote_in modes.Ordered number answer) (vote_in modes.Ordered x.0 answer) refl
 
-    full : c.faults + 1 ≤ count_below (λ r. is_same_answer (vote_in modes.Ordered number answer) (latest c me (Got me bytes ∷ past) call.timestamp false r)) (replicas c)
-    full = let more = count_mono from (λ r. is_same_answer (vote_in modes.Ordered number answer) (latest c me (Got me bytes ∷ past) call.timestamp false r)) (replicas c) (λ r l h. each r h) in omega arith
+    full : c.faults + 1 ≤ count_below (λ r. is_same_answer (vote_in modes.Ordered number answer) (latest c me (Got me bytes ∷ past) call.timestamp modes.Ordered r)) (replicas c)
+    full = let more = count_mono from (λ r. is_same_answer (vote_in modes.Ordered number answer) (latest c me (Got me bytes ∷ past) call.timestamp modes.Ordered r)) (replicas c) (λ r l h. each r h) in omega arith
 
     completes : cond (is_weakly_complete c me (Got me bytes ∷ past) call.timestamp (vote_in modes.Ordered number answer)) (accepts call.timestamp answer) nothing ≡ accepts call.timestamp answer
-    completes = rw (le-leb (c.faults + 1) (count_below (λ r. is_same_answer (vote_in modes.Ordered number answer) (latest c me (Got me bytes ∷ past) call.timestamp false r)) (replicas c)) full) refl
+    completes = rw (le-leb (c.faults + 1) (count_below (λ r. is_same_answer (vote_in modes.Ordered number answer) (latest c me (Got me bytes ∷ past) call.timestamp modes.Ordered r)) (replicas c)) full) refl
 
 weakly_own : (c : Configuration) (me : ℕ) (xs : List Entry) → SafeWeakClient c me xs → Always (λ past e. party_of e ≡ me) xs
 weakly_own c me [] r = tt
@@ -245,59 +245,59 @@ weakly_own c me (e ∷ xs) r = (r.0.0, weakly_own c me xs r.1)
 pub weakly_accepts_at_weak_quorum : WeaklyAcceptsAtWeakQuorum
 weakly_accepts_at_weak_quorum c me k timestamp answer past right =
     let m = right.0.1 in
-    let q = and_parts (not m.1.read_only) (nat_le (c.faults + 1) (count_below (λ s. is_same_answer m.1 (latest c me past m.0.timestamp false s)) (replicas c))) m.6 in
-    let full = leb-true (c.faults + 1) (count_below (λ s. is_same_answer m.1 (latest c me past m.0.timestamp false s)) (replicas c)) q.1 in (
-      λ s. is_same_answer m.1 (latest c me past timestamp false s),
-      subst (λ (t : ℕ). c.faults + 1 ≤ count_below (λ s. is_same_answer m.1 (latest c me past t false s)) (replicas c)) m.3 full,
-      λ s h. answers s m.1 m.4 (latest c me past timestamp false s) refl h,
+    let q = and_parts (same_mode m.1.mode modes.Ordered) (nat_le (c.faults + 1) (count_below (λ s. is_same_answer m.1 (latest c me past m.0.timestamp modes.Ordered s)) (replicas c))) m.6 in
+    let full = leb-true (c.faults + 1) (count_below (λ s. is_same_answer m.1 (latest c me past m.0.timestamp modes.Ordered s)) (replicas c)) q.1 in (
+      λ s. is_same_answer m.1 (latest c me past timestamp modes.Ordered s),
+      subst (λ (t : ℕ). c.faults + 1 ≤ count_below (λ s. is_same_answer m.1 (latest c me past t modes.Ordered s)) (replicas c)) m.3 full,
+      λ s h. answers s m.1 m.4 (latest c me past timestamp modes.Ordered s) refl h,
     )
   where
-    answers : (s : ℕ) (vote : Vote) → vote.answer ≡ answer → (o : Option Vote) → latest c me past timestamp false s ≡ o → is_same_answer vote o ≡ true
+    answers : (s : ℕ) (vote : Vote) → vote.answer ≡ answer → (o : Option Vote) → latest c me past timestamp modes.Ordered s ≡ o → is_same_answer vote o ≡ true
         → (number : ℕ) × (other : Outcome) × (outcome_spelling other ≡ outcome_spelling answer) × Once (Hears c me (record { sender = s; message = Reply me timestamp modes.Ordered number other })) past
     answers s vote is None e h = absurd cc
     answers s vote is (Some v) e h =
         let spelled = (bytes_eq-Decides (outcome_spelling v.answer) (outcome_spelling vote.answer)).0 h in
-        (v.number, v.answer, spelled ∙ ap outcome_spelling is, latest_ordered c me timestamp s v past (weakly_own c me past right.1) e)
+        (v.number, v.answer, spelled ∙ ap outcome_spelling is, latest_heard c me timestamp modes.Ordered s v past (weakly_own c me past right.1) e)
 
 -- all that it asks is ordered
-asks_false : (c : Configuration) (me : ℕ) (now : List Entry) (read_only : Bool) (call : OpenCall) → weak_reaction c me now ≡ asks read_only call → read_only ≡ false
-asks_false c me [] read_only call h = absurd cc
-asks_false c me (Invoke client t op ∷ past) read_only call h = kind h
+asks_mode : (c : Configuration) (me : ℕ) (now : List Entry) (mode : Mode) (call : OpenCall) → weak_reaction c me now ≡ asks mode call → mode ≡ modes.Ordered
+asks_mode c me [] mode call h = absurd cc
+asks_mode c me (Invoke client t op ∷ past) mode call h = in_mode h
   where
-    kind : asks false (let x : OpenCall = record { timestamp = t; op = op } in x) ≡ asks read_only call → read_only ≡ false
-    kind e = cc
-asks_false c me (Got p bytes ∷ past) read_only call h = absurd (go (open_call past) h)
+    in_mode : asks modes.Ordered (let x : OpenCall = record { timestamp = t; op = op } in x) ≡ asks mode call → mode ≡ modes.Ordered
+    in_mode e = cc
+asks_mode c me (Got p bytes ∷ past) mode call h = absurd (go (open_call past) h)
   where
-    go : (o : Option OpenCall) → option_map_or (weakly_on_got c me (Got p bytes ∷ past)) o nothing ≡ asks read_only call → ⊥
+    go : (o : Option OpenCall) → option_map_or (weakly_on_got c me (Got p bytes ∷ past)) o nothing ≡ asks mode call → ⊥
     go None h = cc
     go (Some x) h = votes (newest_vote c me (Got p bytes ∷ past) x.timestamp) h
       where
-        votes : (o : Option Vote) → option_map_or (λ vote. cond (is_weakly_complete c me (Got p bytes ∷ past) x.timestamp vote) (accepts x.timestamp vote.answer) nothing) o nothing ≡ asks read_only call → ⊥
+        votes : (o : Option Vote) → option_map_or (λ vote. cond (is_weakly_complete c me (Got p bytes ∷ past) x.timestamp vote) (accepts x.timestamp vote.answer) nothing) o nothing ≡ asks mode call → ⊥
         votes None h = cc
         votes (Some vote) h = test (is_weakly_complete c me (Got p bytes ∷ past) x.timestamp vote) h
           where
-            test : (b : Bool) → cond b (accepts x.timestamp vote.answer) nothing ≡ asks read_only call → ⊥
+            test : (b : Bool) → cond b (accepts x.timestamp vote.answer) nothing ≡ asks mode call → ⊥
             test true h = cc
             test false h = cc
-asks_false c me (Tick p ∷ past) read_only call h = go (open_call past) h
+asks_mode c me (Tick p ∷ past) mode call h = go (open_call past) h
   where
-    go : (o : Option OpenCall) → option_map_or (asks false) o nothing ≡ asks read_only call → read_only ≡ false
+    go : (o : Option OpenCall) → option_map_or (asks modes.Ordered) o nothing ≡ asks mode call → mode ≡ modes.Ordered
     go None h = absurd cc
-    go (Some x) h = kind h
+    go (Some x) h = in_mode h
       where
-        kind : asks false x ≡ asks read_only call → read_only ≡ false
-        kind e = cc
-asks_false c me (Executed x y z ∷ past) read_only call h = absurd cc
-asks_false c me (Installed x y z ∷ past) read_only call h = absurd cc
-asks_false c me (Sent x y ∷ past) read_only call h = absurd cc
-asks_false c me (Accepted x y z ∷ past) read_only call h = absurd cc
+        in_mode : asks modes.Ordered x ≡ asks mode call → mode ≡ modes.Ordered
+        in_mode e = cc
+asks_mode c me (Executed x y z ∷ past) mode call h = absurd cc
+asks_mode c me (Installed x y z ∷ past) mode call h = absurd cc
+asks_mode c me (Sent x y ∷ past) mode call h = absurd cc
+asks_mode c me (Accepted x y z ∷ past) mode call h = absurd cc
 
 pub weakly_asks_ordered : WeaklyAsksOrdered
 weakly_asks_ordered c me timestamp mode op bytes past says h =
     let a = asked_by c me (weak_reaction c me) bytes past h in
-    let kind = asks_false c me a.now a.read_only a.call a.given in
-    let same = some_injective (record { sender = me; message = Request timestamp mode op }) (record { sender = me; message = Request a.call.timestamp (mode_of a.read_only) a.call.op }) (sym says ∙ a.request.says) in
-    modes_same same ∙ ap mode_of kind
+    let ordered = asks_mode c me a.now a.mode a.call a.given in
+    let same = some_injective (record { sender = me; message = Request timestamp mode op }) (record { sender = me; message = Request a.call.timestamp a.mode a.call.op }) (sym says ∙ a.request.says) in
+    modes_same same ∙ ordered
   where
     modes_same : {t : ℕ} {m : Mode} {o : Operation} → ◌≡◌ {A = Body} (record { sender = me; message = Request timestamp mode op }) (record { sender = me; message = Request t m o }) → mode ≡ m
     modes_same e = let messages : Request timestamp mode op ≡ Request _ _ _ = ap (λ (b : Body). b.message) e in cc

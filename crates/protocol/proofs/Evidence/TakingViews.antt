@@ -6,7 +6,8 @@ use Rattle.std.proofs.lemmas.Bool.{and_parts, ltb-true}
 use Rattle.sha2.specs.Sha256.{sha256}
 use Rattle.tuple_codec.proofs.Readers.{guard_holds}
 use Rattle.quorum.specs.Quorum.{count_below, member}
-use Rattle.quorum.specs.Votes.{or_else, give_if, has_digest}
+use Rattle.std.specs.Bool.{then_some}
+use Rattle.quorum.specs.Votes.{or_else, has_digest}
 use Rattle.quorum.proofs.Counting.{count_mono, count_members}
 use Rattle.wire.specs.Messages.{BodyData as Body, AuthenticatorData as Authenticator, NewViewData, CheckpointEntryData as CheckpointEntry, macs, signature, pre_prepare as PrePrepare, prepare as Prepare, new_view as NewView}
 use Rattle.protocol.specs.System.Configuration.{Configuration, primary, members}
@@ -33,7 +34,7 @@ none_prepared : (c : Configuration) (me v i s : ℕ) → prepare_of c me [] v i 
 unfolding prepare_of
 none_prepared c me v i s = refl
 
-if_digest : (b : Bool) (digest given : List ℕ) → has_digest digest (give_if b given) ≡ true → b ≡ true
+if_digest : (b : Bool) (digest given : List ℕ) → has_digest digest (then_some b given) ≡ true → b ≡ true
 if_digest true digest given h = refl
 if_digest false digest given h = absurd cc
 
@@ -67,11 +68,11 @@ module _ (clients : ℕ) (seed : List ℕ) (me : ℕ) (batch root a b d new_view
     -- ---- the new view is taken
 
     brings : new_view_in c (Got me new_view) ≡ Some new
-    brings = ap (option_and_then (new_view_from c)) hears ∙ ap (λ (t : Bool). give_if t new) selected
+    brings = ap (option_and_then (new_view_from c)) hears ∙ ap (λ (t : Bool). then_some t new) selected
 
     takes : taken c [] (Got me new_view) ≡ Some new
     unfolding view
-    takes = ap (option_and_then (λ (n : NewViewData). give_if (is_later (view c []) (target []) n) n)) brings
+    takes = ap (option_and_then (λ (n : NewViewData). then_some (is_later (view c []) (target []) n) n)) brings
 
     view_is : view c h1 ≡ 1
     unfolding view
@@ -120,14 +121,14 @@ module _ (clients : ℕ) (seed : List ℕ) (me : ℕ) (batch root a b d new_view
         record { view_one = sym (eqb-true 1 v t.0); number_one = omega arith; batch_is = sym first.1 }
 
     takes_no_more : taken c h1 (Sent me prepare) ≡ None
-    takes_no_more = ap (option_and_then (λ (n : NewViewData). give_if (is_later (view c h1) (target h1) n) n)) (ap (option_and_then (new_view_from c)) x.says)
+    takes_no_more = ap (option_and_then (λ (n : NewViewData). then_some (is_later (view c h1) (target h1) n) n)) (ap (option_and_then (new_view_from c)) x.says)
 
     logs : (v i : ℕ) → logged c me now v i ≡ logged c me h1 v i
     logs v i = logs_nothing c me h1 (Sent me prepare) prepares x.says tt takes_no_more v i
 
     -- ---- no backup but this one has prepared it
 
-    votes : (v i s : ℕ) → prepare_of c me now v i s ≡ give_if ((me == s) && (1 == v) && (1 == i) && not (s == primary c v)) (sha256 batch)
+    votes : (v i s : ℕ) → prepare_of c me now v i s ≡ then_some ((me == s) && (1 == v) && (1 == i) && not (s == primary c v)) (sha256 batch)
     votes v i s =
         prepare_next c me h1 (Sent me prepare) v i s
         ∙ ap (λ (o : Option (List ℕ)). or_else o (vote_in c me h1 (Sent me prepare) (prepare_from c s v i) v i)) before

@@ -6,7 +6,8 @@ use Rattle.std.specs.Option.{option_map_or}
 use Rattle.std.proofs.lemmas.Bool.{and_parts}
 use Rattle.std.proofs.lemmas.Slice.Eq.{bytes_eq-Decides}
 use Rattle.quorum.specs.Quorum.{count_below}
-use Rattle.quorum.specs.Votes.{or_else, give_if}
+use Rattle.std.specs.Bool.{then_some}
+use Rattle.quorum.specs.Votes.{or_else}
 use Rattle.protocol.specs.System.Configuration.{Configuration, members}
 use Rattle.terms.specs.declared.state.Level.{Level}
 use Rattle.wire.specs.Messages.{BodyData as Body, MessageData as Message, NewViewData, CheckpointEntryData as CheckpointEntry, checkpoint as Checkpoint, fetch as Fetch, meta as Meta, page as Page}
@@ -114,7 +115,7 @@ module _ (clients : ℕ) (seed root : List ℕ) where
   log_with e past v i = refl
 
   takes_none : (past : List Entry) (e : Entry) (body : Body) → Brings e body → taken c past e ≡ None
-  takes_none past e body x = ap (option_and_then (λ (new : NewViewData). give_if (is_later (view c past) (target past) new) new)) x.no_view
+  takes_none past e body x = ap (option_and_then (λ (new : NewViewData). then_some (is_later (view c past) (target past) new) new)) x.no_view
 
   proposes_none : (past : List Entry) (e : Entry) (body : Body) → Brings e body → (v i : ℕ) → proposal c 0 past e v i ≡ None
   proposes_none past e body x v i =

@@ -6,7 +6,7 @@ use Rattle.std.specs.Option.{option_map_or}
 use Rattle.std.proofs.lemmas.Bool.{eqb-false, and_parts, leb-true}
 use Rattle.tuple_codec.specs.Operations.{Outcome}
 use Rattle.quorum.specs.Quorum.{count_below}
-use Rattle.quorum.specs.Votes.{give_if}
+use Rattle.std.specs.Bool.{then_some}
 use Rattle.quorum.proofs.Counting.{count_not}
 use Rattle.protocol.specs.System.Configuration.{Configuration, replicas, members}
 use Rattle.terms.specs.declared.order.Mode.{Mode}
@@ -63,7 +63,7 @@ waits_for_answers c me s r number call mode answer bytes later outputs past open
     (gave c me (reaction c me) later outputs (Got me bytes) past refl are h)
   where
     answered : ℕ → Bool
-    answered q = is_some (latest c me (Got me bytes ∷ past) call.timestamp true q)
+    answered q = is_some (latest c me (Got me bytes ∷ past) call.timestamp modes.ReadOnly q)
 
     not_answered : (b : Bool) → nat_le (replicas c) (count_below answered (replicas c)) ≡ b → b ≡ false
     not_answered true e =
@@ -72,9 +72,9 @@ waits_for_answers c me s r number call mode answer bytes later outputs past open
         absurd (omega arith)
     not_answered false e = refl
 
-    rests : (b : Bool) → cond (not b && is_answered c me (Got me bytes ∷ past) call.timestamp) (asks false call) nothing ≡ nothing
+    rests : (b : Bool) → cond (not b && is_answered c me (Got me bytes ∷ past) call.timestamp) (asks modes.Ordered call) nothing ≡ nothing
     rests true = refl
-    rests false = ap (λ (x : Bool). cond x (asks false call) nothing) (not_answered (is_answered c me (Got me bytes ∷ past) call.timestamp) refl)
+    rests false = ap (λ (x : Bool). cond x (asks modes.Ordered call) nothing) (not_answered (is_answered c me (Got me bytes ∷ past) call.timestamp) refl)
 
 -- ---- a request that went ordered
 
@@ -98,7 +98,7 @@ module _ (c : Configuration) (me : ℕ) where
   asked_last t (Sent p bytes ∷ past) right (inl h) =
       let m = right.0.1 in
       let is = some_injective m.0 (record { sender = h.0; message = Request t modes.Ordered h.1 }) (sym m.1 ∙ h.2) in
-      let ask : MayRequest past t false h.1 = subst (λ (b : Body). MayAsk past b.message) is m.3 in
+      let ask : MayRequest past t modes.Ordered h.1 = subst (λ (b : Body). MayAsk past b.message) is m.3 in
       opened_last (record { timestamp = t; op = h.1 }) past ask.0
   asked_last t (Sent p bytes ∷ past) right (inr h) = asked_last t past right.1 h
   asked_last t (Invoke x y z ∷ past) right (inl h) = absurd h
@@ -151,7 +151,7 @@ pub falls_back_once : FallsBackOnce
 falls_back_once c me s number call mode answer bytes later outputs past opened hears few before are h =
     nothing_only c me (reaction c me (Got me bytes ∷ past)) outputs
     (reply_falls c me s number call mode answer bytes past opened hears few
-    ∙ ap (λ (b : Bool). cond (not b && is_answered c me (Got me bytes ∷ past) call.timestamp) (asks false call) nothing) (asked_went c me call past earlier opened before))
+    ∙ ap (λ (b : Bool). cond (not b && is_answered c me (Got me bytes ∷ past) call.timestamp) (asks modes.Ordered call) nothing) (asked_went c me call past earlier opened before))
     (gave c me (reaction c me) later outputs (Got me bytes) past refl are h)
   where
     all : SafeClient c me (going_on me later outputs (Got me bytes) past)
@@ -169,14 +169,14 @@ weakly_waits c me s number call mode answer bytes later outputs past opened hear
     (gave c me (weak_reaction c me) later outputs (Got me bytes) past refl are h)
   where
     alike : ℕ
-    alike = count_below (λ r. is_same_answer (vote_in modes.Ordered number answer) (latest c me (Got me bytes ∷ past) call.timestamp false r)) (replicas c)
+    alike = count_below (λ r. is_same_answer (vote_in modes.Ordered number answer) (latest c me (Got me bytes ∷ past) call.timestamp modes.Ordered r)) (replicas c)
 
     votes : weakly_on_got c me (Got me bytes ∷ past) call ≡ cond (is_weakly_complete c me (Got me bytes ∷ past) call.timestamp (vote_in mode number answer)) (accepts call.timestamp answer) nothing
     votes = ap (λ (o : Option Vote). option_map_or (λ (vote : Vote). cond (is_weakly_complete c me (Got me bytes ∷ past) call.timestamp vote) (accepts call.timestamp vote.answer) nothing) o nothing) (brings c me s call.timestamp number mode answer bytes past hears)
 
-    go : (kind : Mode) → (kind ≡ modes.ReadOnly) ⊎ (alike ≤ c.faults) → (b : Bool) → is_weakly_complete c me (Got me bytes ∷ past) call.timestamp (vote_in kind number answer) ≡ b
+    go : (mode : Mode) → (mode ≡ modes.ReadOnly) ⊎ (alike ≤ c.faults) → (b : Bool) → is_weakly_complete c me (Got me bytes ∷ past) call.timestamp (vote_in mode number answer) ≡ b
         → cond b (accepts call.timestamp answer) nothing ≡ nothing
-    go kind few false e = refl
+    go mode few false e = refl
     go modes.ReadOnly few true e = absurd cc
     go modes.Ordered (inl few) true e = absurd cc
     go modes.Ordered (inr few) true e = let l = leb-true (c.faults + 1) alike e in absurd (omega arith)
@@ -189,7 +189,7 @@ module _ (c : Configuration) (me timestamp : ℕ) (bytes : List ℕ) (past : Lis
   no_vote = go (heard (members c) me bytes) refl
     where
       reply : (s client t number : ℕ) (mode : Mode) (answer : Outcome) → heard (members c) me bytes ≡ Some (record { sender = s; message = Reply client t mode number answer })
-          → (b : Bool) → ((s == s) && (client == me) && (t == timestamp)) ≡ b → give_if b (vote_in mode number answer) ≡ None
+          → (b : Bool) → ((s == s) && (client == me) && (t == timestamp)) ≡ b → then_some b (vote_in mode number answer) ≡ None
       reply s client t number mode answer is false e = refl
       reply s client t number mode answer is true e =
           let k = and_parts ((s == s) && (client == me)) (t == timestamp) e in
@@ -222,8 +222,8 @@ pub rests_without_call : RestsWithoutCall
 rests_without_call c me input later outputs past closed (inl is) are h = go (subst (λ (e : Entry). IsClient c me (going_on me later outputs e past) ⊎ IsWeakClient c me (going_on me later outputs e past)) is h)
   where
     go : IsClient c me (going_on me later outputs (Tick me) past) ⊎ IsWeakClient c me (going_on me later outputs (Tick me) past) → outputs ≡ []
-    go (inl h) = nothing_only c me (reaction c me (Tick me ∷ past)) outputs (ap (λ (o : Option OpenCall). option_map_or (asks false) o nothing) closed) (gave c me (reaction c me) later outputs (Tick me) past refl are h)
-    go (inr h) = nothing_only c me (weak_reaction c me (Tick me ∷ past)) outputs (ap (λ (o : Option OpenCall). option_map_or (asks false) o nothing) closed) (gave c me (weak_reaction c me) later outputs (Tick me) past refl are h)
+    go (inl h) = nothing_only c me (reaction c me (Tick me ∷ past)) outputs (ap (λ (o : Option OpenCall). option_map_or (asks modes.Ordered) o nothing) closed) (gave c me (reaction c me) later outputs (Tick me) past refl are h)
+    go (inr h) = nothing_only c me (weak_reaction c me (Tick me ∷ past)) outputs (ap (λ (o : Option OpenCall). option_map_or (asks modes.Ordered) o nothing) closed) (gave c me (weak_reaction c me) later outputs (Tick me) past refl are h)
 rests_without_call c me input later outputs past closed (inr is) are h = go is.0 (subst (λ (e : Entry). IsClient c me (going_on me later outputs e past) ⊎ IsWeakClient c me (going_on me later outputs e past)) is.1 h)
   where
     go : (bytes : List ℕ) → IsClient c me (going_on me later outputs (Got me bytes) past) ⊎ IsWeakClient c me (going_on me later outputs (Got me bytes) past) → outputs ≡ []

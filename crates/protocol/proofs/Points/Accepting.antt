@@ -7,10 +7,10 @@ use Rattle.protocol.specs.Replica.RightReplica
 use Rattle.protocol.proofs.Points.Running
 use Rattle.quorum.specs.Quorum.{count_below}
 use Rattle.protocol.specs.System.Configuration.{Configuration, is_replica, is_correct_replica, is_correct_client, members}
+use Rattle.terms.specs.declared.order.Mode.{Mode}
 use Rattle.terms.specs.declared.order.Mode.TheVariants as modes
 use Rattle.wire.specs.Messages.{BodyData as Body, MessageData as Message, reply as Reply}
 use Rattle.signing.specs.Heard.{heard}
-use Rattle.protocol.specs.System.Frames.{mode_of, reads_only}
 use Rattle.protocol.specs.System.Trace.{Entry, party_of, history_of, Once, Always, Hears}
 use Rattle.protocol.specs.System.Trace.Entry.{Invoke, Got, Tick, Executed, Installed, Sent, Accepted}
 use Rattle.space.specs.Applying.{is_read_only, outcome}
@@ -20,14 +20,15 @@ use Rattle.protocol.specs.Replica.RightReplica.{Leaves, MaySay, MayReply}
 use Rattle.protocol.specs.Client.RightClient.{SafeClient, OpenCall, open_call, last_call, Vote, latest, is_alike, count_alike, newest_vote, MayAccept, vote_of}
 use Rattle.protocol.specs.System.Texts.{ExecutesBatch}
 use Rattle.protocol.specs.Space.Linear.{batch_of, first_position, is_level, Invokes, Accepts}
-use Rattle.quorum.specs.Votes.{give_if, or_else}
+use Rattle.std.specs.Bool.{then_some}
+use Rattle.quorum.specs.Votes.{or_else}
 use Rattle.protocol.proofs.Words.Temporal.{once_weaker, once_always, once_in_trace, once_in_history}
-use Rattle.protocol.proofs.Words.Options.{some_injective, given_stays, give_if_some, and_then_some}
+use Rattle.protocol.proofs.Words.Options.{some_injective, given_stays, then_some_gives, and_then_some}
 use Rattle.protocol.proofs.Words.Linking.{Speaks, heard_was_said}
 use Rattle.protocol.proofs.Agreement.Voting.{RightAt, once_right, correct_replica}
 use Rattle.protocol.proofs.Agreement.States.{GoodHere, GoodAll, states_agree, correct_of, once_append}
 use Rattle.protocol.proofs.Points.Reading.{own_entries, asking, correct_client, latest_heard, last_of, last_of-history, read_level_after, read_level_before}
-use Rattle.protocol.proofs.Points.Ordering.{latest_ordered, ordered_level, replies_to}
+use Rattle.protocol.proofs.Points.Ordering.{ordered_level, replies_to}
 use Rattle.protocol.proofs.Points.Running.{Run, run_earlier, state_by, is_by, executed_greatest}
 use Rattle.protocol.proofs.Points.Ran.{place_before}
 use Rattle.protocol.proofs.Points.Keeping.{RanBy, IsRun, Keeps, rans_ran, kept_ran-opening, ran_by-more}
@@ -71,7 +72,7 @@ pub record Accepting (c : Configuration) (past : List Entry) (p t : ℕ) (a : Ou
   pub time : call.timestamp ≡ t
   pub answer : vote.answer ≡ a
   pub newest : newest_vote c p (history_of p past) t ≡ Some vote
-  pub complete : 2 * c.faults + 1 ≤ count_below (λ s. is_alike vote (latest c p (history_of p past) t vote.read_only s)) (3 * c.faults + 1)
+  pub complete : 2 * c.faults + 1 ≤ count_below (λ s. is_alike vote (latest c p (history_of p past) t vote.mode s)) (3 * c.faults + 1)
 
 pub accepting : (c : Configuration) (past : List Entry) (cl t : ℕ) (a : Outcome) → FullRun c (Accepted cl t a ∷ past) → Accepting c past (256 + cl) t a
 accepting c past cl t a full = go (is_correct_replica c (256 + cl)) refl full.run.parties.0
@@ -95,7 +96,7 @@ accepting c past cl t a full = go (is_correct_replica c (256 + cl)) refl full.ru
       newest = m.5;
       complete =
           let q : 2 * c.faults + 1 ≤ count_alike c (256 + cl) (history_of (256 + cl) past) m.0.timestamp m.1 = leb-true (2 * c.faults + 1) (count_alike c (256 + cl) (history_of (256 + cl) past) m.0.timestamp m.1) m.6 in
-          subst (λ (i : ℕ). 2 * c.faults + 1 ≤ count_below (λ s. is_alike m.1 (latest c (256 + cl) (history_of (256 + cl) past) i m.1.read_only s)) (3 * c.faults + 1)) m.3 q;
+          subst (λ (i : ℕ). 2 * c.faults + 1 ≤ count_below (λ s. is_alike m.1 (latest c (256 + cl) (history_of (256 + cl) past) i m.1.mode s)) (3 * c.faults + 1)) m.3 q;
     }
 
     head : (b : Bool) → b ≡ true → is_correct_client c (256 + cl) ≡ true → SafeClient c (256 + cl) (cond b (Accepted cl t a ∷ history_of (256 + cl) past) (history_of (256 + cl) past)) → Accepting c past (256 + cl) t a
@@ -173,35 +174,35 @@ last_time_is : (c : Configuration) (past : List Entry) (p t : ℕ) (a : Outcome)
 last_time_is c past p t a x = sym (last_of-history p past) ∙ open_last (history_of p past) x.call x.opened ∙ x.time
 
 pub accepted_level : (c : Configuration) (past : List Entry) (p t : ℕ) (a : Outcome) (x : Accepting c past p t a) → is_level c past x.vote.number ≡ true
-accepted_level c past p t a x = go x.vote.read_only refl x.complete
+accepted_level c past p t a x = go x.vote.mode refl x.complete
   where
-    go : (b : Bool) → x.vote.read_only ≡ b → 2 * c.faults + 1 ≤ count_below (λ s. is_alike x.vote (latest c p (history_of p past) t b s)) (3 * c.faults + 1) → is_level c past x.vote.number ≡ true
-    go true is enough = read_level_after c x.run.setting past x.run.runs p t x.client x.vote is (last_time_is c past p t a x) enough
-    go false is enough = ordered_level c x.run.setting past x.run.runs x.run.apart p t x.client x.vote enough
+    go : (mode : Mode) → x.vote.mode ≡ mode → 2 * c.faults + 1 ≤ count_below (λ s. is_alike x.vote (latest c p (history_of p past) t mode s)) (3 * c.faults + 1) → is_level c past x.vote.number ≡ true
+    go modes.ReadOnly is enough = read_level_after c x.run.setting past x.run.runs p t x.client x.vote is (last_time_is c past p t a x) enough
+    go modes.Ordered is enough = ordered_level c x.run.setting past x.run.runs x.run.apart p t x.client x.vote enough
 
-pub read_before : (c : Configuration) (past : List Entry) (p t : ℕ) (a : Outcome) (x : Accepting c past p t a) → x.vote.read_only ≡ true → (k : ℕ) → x.vote.number < k → is_level c (invoke_past p past) k ≡ true → ⊥
+pub read_before : (c : Configuration) (past : List Entry) (p t : ℕ) (a : Outcome) (x : Accepting c past p t a) → x.vote.mode ≡ modes.ReadOnly → (k : ℕ) → x.vote.number < k → is_level c (invoke_past p past) k ≡ true → ⊥
 read_before c past p t a x is =
     read_level_before c x.run.setting past x.run.runs p t x.client x.vote is (last_time_is c past p t a x)
-    (subst (λ (b : Bool). 2 * c.faults + 1 ≤ count_below (λ s. is_alike x.vote (latest c p (history_of p past) t b s)) (3 * c.faults + 1)) is x.complete)
+    (subst (λ (mode : Mode). 2 * c.faults + 1 ≤ count_below (λ s. is_alike x.vote (latest c p (history_of p past) t mode s)) (3 * c.faults + 1)) is x.complete)
 
 level_place : (c : Configuration) (xs : List Entry) (k : ℕ) → (xs ≡ [] → ⊥) → is_level c xs k ≡ true → (q : ℕ) × (first_position c xs k ≡ Some q)
 level_place c [] k none h = absurd (none refl)
 level_place c (e ∷ past) k none h = go (first_position c past k)
   where
-    go : (o : Option ℕ) → (q : ℕ) × (or_else o (give_if (is_level c (e ∷ past) k) (length past)) ≡ Some q)
+    go : (o : Option ℕ) → (q : ℕ) × (or_else o (then_some (is_level c (e ∷ past) k) (length past)) ≡ Some q)
     go (Some q) = (q, refl)
     go None = (length past, rw h refl)
 
 place_grows : (c : Configuration) (later xs : List Entry) (k q : ℕ) → first_position c xs k ≡ Some q → first_position c (later ++ xs) k ≡ Some q
 place_grows c [] xs k q h = h
-place_grows c (e ∷ later) xs k q h = given_stays (λ past e. give_if (is_level c (e ∷ past) k) (length past)) q e (later ++ xs) (place_grows c later xs k q h)
+place_grows c (e ∷ later) xs k q h = given_stays (λ past e. then_some (is_level c (e ∷ past) k) (length past)) q e (later ++ xs) (place_grows c later xs k q h)
 
 pub accepted_place : (c : Configuration) (trace later past : List Entry) (e : Entry) (p t : ℕ) (a : Outcome) → trace ≡ later ++ e ∷ past → (x : Accepting c past p t a)
     → (q : ℕ) × (first_position c trace x.vote.number ≡ Some q) × (q < length past)
 accepted_place c trace later past e p t a is x =
     let q = level_place c past x.vote.number some (accepted_level c past p t a x) in
     let l = place_before c past x.vote.number q.0 q.1 in
-    let up : first_position c (e ∷ past) x.vote.number ≡ Some q.0 = given_stays (λ past e. give_if (is_level c (e ∷ past) x.vote.number) (length past)) q.0 e past q.1 in
+    let up : first_position c (e ∷ past) x.vote.number ≡ Some q.0 = given_stays (λ past e. then_some (is_level c (e ∷ past) x.vote.number) (length past)) q.0 e past q.1 in
     (q.0, subst (λ (ys : List Entry). first_position c ys x.vote.number ≡ Some q.0) (sym is) (place_grows c later (e ∷ past) x.vote.number q.0 up), l)
   where
     some : past ≡ [] → ⊥
@@ -223,20 +224,20 @@ once_history_later Q s (e ∷ later) xs h = once_history_more Q s e (later ++ xs
 pub embedded : (Q : List Entry → Entry → Type 0) (s : ℕ) (trace later past : List Entry) (e : Entry) → trace ≡ later ++ e ∷ past → Once Q (history_of s past) → Once Q (history_of s trace)
 embedded Q s trace later past e is h = subst (λ (ys : List Entry). Once Q (history_of s ys)) (sym is) (once_history_later Q s later (e ∷ past) (once_history_more Q s e past h))
 
-reply_may : (c : Configuration) (s p t : ℕ) (kind : Bool) (number : ℕ) (answer : Outcome) (past : List Entry) (e : Entry) → RightAt c s past e → Speaks (record { sender = s; message = Reply p t (mode_of kind) number answer }) past e
-    → (point : RightReplica.Point) × Leaves c s past point × MayReply c s past point p t (mode_of kind) number answer
-reply_may c s p t kind number answer past (Sent q bytes) r h =
-    let is = some_injective r.may.body (record { sender = s; message = Reply p t (mode_of kind) number answer }) (sym r.may.says ∙ h) in
+reply_may : (c : Configuration) (s p t : ℕ) (mode : Mode) (number : ℕ) (answer : Outcome) (past : List Entry) (e : Entry) → RightAt c s past e → Speaks (record { sender = s; message = Reply p t mode number answer }) past e
+    → (point : RightReplica.Point) × Leaves c s past point × MayReply c s past point p t mode number answer
+reply_may c s p t mode number answer past (Sent q bytes) r h =
+    let is = some_injective r.may.body (record { sender = s; message = Reply p t mode number answer }) (sym r.may.says ∙ h) in
     (r.point, r.leaves, subst (λ (x : Body). MaySay c s past r.point (Sent q bytes) bytes x.message) is r.may.say)
-reply_may c s p t kind number answer past (Invoke x y z) r h = absurd h
-reply_may c s p t kind number answer past (Got x y) r h = absurd h
-reply_may c s p t kind number answer past (Tick x) r h = absurd h
-reply_may c s p t kind number answer past (Executed x y z) r h = absurd h
-reply_may c s p t kind number answer past (Installed x y z) r h = absurd h
-reply_may c s p t kind number answer past (Accepted x y z) r h = absurd h
+reply_may c s p t mode number answer past (Invoke x y z) r h = absurd h
+reply_may c s p t mode number answer past (Got x y) r h = absurd h
+reply_may c s p t mode number answer past (Tick x) r h = absurd h
+reply_may c s p t mode number answer past (Executed x y z) r h = absurd h
+reply_may c s p t mode number answer past (Installed x y z) r h = absurd h
+reply_may c s p t mode number answer past (Accepted x y z) r h = absurd h
 
 -- where it replied
-pub record Replied (c : Configuration) (trace : List Entry) (s p t : ℕ) (kind : Bool) (number : ℕ) (answer : Outcome) : Type 0 where
+pub record Replied (c : Configuration) (trace : List Entry) (s p t : ℕ) (mode : Mode) (number : ℕ) (answer : Outcome) : Type 0 where
   pub past : List Entry
   pub entry : Entry
   pub later : List Entry
@@ -244,39 +245,39 @@ pub record Replied (c : Configuration) (trace : List Entry) (s p t : ℕ) (kind 
   pub good : GoodAll c trace s past
   pub point : RightReplica.Point
   pub leaves : Leaves c s past point
-  pub may : MayReply c s past point p t (mode_of kind) number answer
+  pub may : MayReply c s past point p t mode number answer
 
-pub replied : (c : Configuration) (trace : List Entry) (s p t : ℕ) (kind : Bool) (number : ℕ) (answer : Outcome) → Run c trace → is_correct_replica c s ≡ true
-    → Once (Speaks (record { sender = s; message = Reply p t (mode_of kind) number answer })) (history_of s trace) → Replied c trace s p t kind number answer
-replied c trace s p t kind number answer run correct h =
+pub replied : (c : Configuration) (trace : List Entry) (s p t : ℕ) (mode : Mode) (number : ℕ) (answer : Outcome) → Run c trace → is_correct_replica c s ≡ true
+    → Once (Speaks (record { sender = s; message = Reply p t mode number answer })) (history_of s trace) → Replied c trace s p t mode number answer
+replied c trace s p t mode number answer run correct h =
     let goods = states_agree c run.setting trace run.runs.replicas run.runs.unforged run.apart s correct in
-    let at = once_split (λ past e. GoodHere c trace s past × (RightAt c s past e × Speaks (record { sender = s; message = Reply p t (mode_of kind) number answer }) past e × Always (RightAt c s) past) × Always (λ past e. GoodHere c trace s past) past)
+    let at = once_split (λ past e. GoodHere c trace s past × (RightAt c s past e × Speaks (record { sender = s; message = Reply p t mode number answer }) past e × Always (RightAt c s) past) × Always (λ past e. GoodHere c trace s past) past)
     (history_of s trace)
-    (once_always (λ past e. GoodHere c trace s past) (λ past e. RightAt c s past e × Speaks (record { sender = s; message = Reply p t (mode_of kind) number answer }) past e × Always (RightAt c s) past) (history_of s trace) goods.1
-    (once_right c s (Speaks (record { sender = s; message = Reply p t (mode_of kind) number answer })) (history_of s trace) (run.runs.replicas s correct) h)) in
-    let m = reply_may c s p t kind number answer at.past at.entry at.holds.1.0 at.holds.1.1 in
+    (once_always (λ past e. GoodHere c trace s past) (λ past e. RightAt c s past e × Speaks (record { sender = s; message = Reply p t mode number answer }) past e × Always (RightAt c s) past) (history_of s trace) goods.1
+    (once_right c s (Speaks (record { sender = s; message = Reply p t mode number answer })) (history_of s trace) (run.runs.replicas s correct) h)) in
+    let m = reply_may c s p t mode number answer at.past at.entry at.holds.1.0 at.holds.1.1 in
     record { past = at.past; entry = at.entry; later = at.later; is = at.is; good = (at.holds.0, at.holds.2); point = m.0; leaves = m.1; may = m.2 }
 
 -- a read-only reply is the space's answer at its number
 pub record IsSpaceAnswer (c : Configuration) (trace : List Entry) (p t number : ℕ) (answer : Outcome) : Type 0 where
   pub op : Operation
-  pub kind : is_read_only op ≡ true
+  pub is_read : is_read_only op ≡ true
   pub invoked : Once (Invokes p t op) (history_of p trace)
   pub answer_is : answer ≡ outcome (tuples (state_by c trace opening 1 number)) op
 
 pub read_replied : (c : Configuration) (trace : List Entry) (s p t number : ℕ) (answer : Outcome) → Run c trace → is_correct_replica c s ≡ true → is_correct_client c p ≡ true
-    → Replied c trace s p t true number answer → IsSpaceAnswer c trace p t number answer
+    → Replied c trace s p t modes.ReadOnly number answer → IsSpaceAnswer c trace p t number answer
 read_replied c trace s p t number answer run correct client r =
     let m : MayReplyRead c s r.past r.point p t number answer = r.may in
-    let hears : Once (Hears c s (asking p t true m.op)) (history_of s trace) =
-    subst (λ (ys : List Entry). Once (Hears c s (asking p t true m.op)) ys) (sym r.is) (once_append (Hears c s (asking p t true m.op)) r.later (r.entry ∷ r.past) (inr m.heard)) in
-    let said' = heard_was_said c trace s (asking p t true m.op) run.runs.unforged (correct_replica c s correct) (correct_client c p client) hears in
+    let hears : Once (Hears c s (asking p t modes.ReadOnly m.op)) (history_of s trace) =
+    subst (λ (ys : List Entry). Once (Hears c s (asking p t modes.ReadOnly m.op)) ys) (sym r.is) (once_append (Hears c s (asking p t modes.ReadOnly m.op)) r.later (r.entry ∷ r.past) (inr m.heard)) in
+    let said' = heard_was_said c trace s (asking p t modes.ReadOnly m.op) run.runs.unforged (correct_replica c s correct) (correct_client c p client) hears in
     let by = is_by c trace r.point.state run (r.good.0 r.point r.leaves).state in
     let state : r.point.state ≡ state_by c trace opening 1 number = by.is ∙ ap (state_by c trace opening 1) (sym m.number_is) in
     record {
       op = m.op;
-      kind = m.is_read;
-      invoked = asked_op c p t true m.op (history_of p trace) (run.runs.clients p client) said';
+      is_read = m.is_read;
+      invoked = asked_op c p t modes.ReadOnly m.op (history_of p trace) (run.runs.clients p client) said';
       answer_is = m.answer_is ∙ ap (λ (st : State). outcome (tuples st) m.op) state;
     }
 
@@ -299,7 +300,7 @@ executes_any c k b past other (Installed x y z) h = absurd h
 executes_any c k b past other (Accepted x y z) h = absurd h
 
 pub ordered_replied : (c : Configuration) (trace : List Entry) (s p t number : ℕ) (answer : Outcome) → Run c trace → is_correct_replica c s ≡ true → is_correct_client c p ≡ true
-    → Replied c trace s p t false number answer → RanBy c trace opening 1 (last_executed trace) (Answers p t number answer)
+    → Replied c trace s p t modes.Ordered number answer → RanBy c trace opening 1 (last_executed trace) (Answers p t number answer)
 ordered_replied c trace s p t number answer run correct client r = go r.may
   where
     by : Running.IsBy c trace r.point.state
@@ -350,11 +351,11 @@ ordered_replied c trace s p t number answer run correct client r = go r.may
 
 -- ---- answers that are heard are within the limits
 
-pub heard_answer : (c : Configuration) (p s t : ℕ) (kind : Bool) (number : ℕ) (answer : Outcome) (xs : List Entry) → Once (Hears c p (record { sender = s; message = Reply p t (mode_of kind) number answer })) xs → IsOutcome answer
-heard_answer c p s t kind number answer xs h = once_stays (λ past. IsOutcome answer) (λ e past k. k) xs (once_weaker (Hears c p (record { sender = s; message = Reply p t (mode_of kind) number answer })) (λ past e. IsOutcome answer) step xs h)
+pub heard_answer : (c : Configuration) (p s t : ℕ) (mode : Mode) (number : ℕ) (answer : Outcome) (xs : List Entry) → Once (Hears c p (record { sender = s; message = Reply p t mode number answer })) xs → IsOutcome answer
+heard_answer c p s t mode number answer xs h = once_stays (λ past. IsOutcome answer) (λ e past k. k) xs (once_weaker (Hears c p (record { sender = s; message = Reply p t mode number answer })) (λ past e. IsOutcome answer) step xs h)
   where
-    step : (past : List Entry) (e : Entry) → Hears c p (record { sender = s; message = Reply p t (mode_of kind) number answer }) past e → IsOutcome answer
-    step past (Got q bytes) h = heard_fits c p bytes (record { sender = s; message = Reply p t (mode_of kind) number answer }) h
+    step : (past : List Entry) (e : Entry) → Hears c p (record { sender = s; message = Reply p t mode number answer }) past e → IsOutcome answer
+    step past (Got q bytes) h = heard_fits c p bytes (record { sender = s; message = Reply p t mode number answer }) h
     step past (Invoke x y z) h = absurd h
     step past (Tick x) h = absurd h
     step past (Executed x y z) h = absurd h
@@ -364,7 +365,7 @@ heard_answer c p s t kind number answer xs h = once_stays (λ past. IsOutcome an
 
 vote_answer : (me t s : ℕ) (vote : Vote) (sender : ℕ) (message : Message) → vote_of me t s (record { sender = sender; message = message }) ≡ Some vote → FitsMessage message → IsOutcome vote.answer
 vote_answer me t s vote sender (Reply client timestamp mode number answer) h f =
-    let g = give_if_some ((sender == s) && (client == me) && (timestamp == t)) (record { read_only = reads_only mode; number = number; answer = answer }) vote h in
+    let g = then_some_gives ((sender == s) && (client == me) && (timestamp == t)) (record { mode = mode; number = number; answer = answer }) vote h in
     subst IsOutcome (ap (λ (v : Vote). v.answer) g.1) f
 vote_answer me t s vote sender _ h f = absurd cc
 
@@ -382,34 +383,33 @@ newest_answer c me t vote (Accepted x y z ∷ past) h = absurd cc
 
 -- ---- among those that are alike one is correct
 
-pub record Voted (c : Configuration) (past : List Entry) (p t : ℕ) (kind : Bool) (vote : Vote) : Type 0 where
+pub record Voted (c : Configuration) (past : List Entry) (p t : ℕ) (mode : Mode) (vote : Vote) : Type 0 where
   pub replica : ℕ
   pub is_correct : is_correct_replica c replica ≡ true
-  pub says : Once (Speaks (record { sender = replica; message = Reply p t (mode_of kind) vote.number vote.answer })) (history_of replica past)
+  pub says : Once (Speaks (record { sender = replica; message = Reply p t mode vote.number vote.answer })) (history_of replica past)
 
-pub voted : (c : Configuration) (past : List Entry) (p t : ℕ) (a : Outcome) (x : Accepting c past p t a) → Voted c past p t x.vote.read_only x.vote
+pub voted : (c : Configuration) (past : List Entry) (p t : ℕ) (a : Outcome) (x : Accepting c past p t a) → Voted c past p t x.vote.mode x.vote
 voted c past p t a x =
     let enough = x.complete in
-    let more : c.faults < count_below (λ s. is_alike x.vote (latest c p (history_of p past) t x.vote.read_only s)) (3 * c.faults + 1) = omega arith in
-    let s = correct_of c x.run.setting (λ s. is_alike x.vote (latest c p (history_of p past) t x.vote.read_only s)) more in
-    record { replica = s.0; is_correct = s.1; says = go s.0 s.1 x.vote.read_only (latest c p (history_of p past) t x.vote.read_only s.0) refl s.2 }
+    let more : c.faults < count_below (λ s. is_alike x.vote (latest c p (history_of p past) t x.vote.mode s)) (3 * c.faults + 1) = omega arith in
+    let s = correct_of c x.run.setting (λ s. is_alike x.vote (latest c p (history_of p past) t x.vote.mode s)) more in
+    record { replica = s.0; is_correct = s.1; says = go s.0 s.1 x.vote.mode (latest c p (history_of p past) t x.vote.mode s.0) refl s.2 }
   where
     own : Always (λ past e. party_of e ≡ p) (history_of p past)
     own = own_entries c p (history_of p past) (x.run.runs.clients p x.client)
 
-    hears : (s : ℕ) (kind : Bool) (v : Vote) → latest c p (history_of p past) t kind s ≡ Some v → Once (Hears c p (record { sender = s; message = Reply p t (mode_of kind) v.number v.answer })) (history_of p past)
-    hears s true v is = latest_heard c p t s v (history_of p past) own is
-    hears s false v is = latest_ordered c p t s v (history_of p past) own is
+    hears : (s : ℕ) (mode : Mode) (v : Vote) → latest c p (history_of p past) t mode s ≡ Some v → Once (Hears c p (record { sender = s; message = Reply p t mode v.number v.answer })) (history_of p past)
+    hears s mode v is = latest_heard c p t mode s v (history_of p past) own is
 
-    go : (s : ℕ) → is_correct_replica c s ≡ true → (kind : Bool) (o : Option Vote) → latest c p (history_of p past) t kind s ≡ o → is_alike x.vote o ≡ true
-        → Once (Speaks (record { sender = s; message = Reply p t (mode_of kind) x.vote.number x.vote.answer })) (history_of s past)
-    go s correct kind None is k = absurd cc
-    go s correct kind (Some v) is k =
+    go : (s : ℕ) → is_correct_replica c s ≡ true → (mode : Mode) (o : Option Vote) → latest c p (history_of p past) t mode s ≡ o → is_alike x.vote o ≡ true
+        → Once (Speaks (record { sender = s; message = Reply p t mode x.vote.number x.vote.answer })) (history_of s past)
+    go s correct mode None is k = absurd cc
+    go s correct mode (Some v) is k =
         let q = and_parts (v.number == x.vote.number) (bytes_eq (outcome_spelling v.answer) (outcome_spelling x.vote.answer)) k in
         let n : v.number ≡ x.vote.number = eqb-true v.number x.vote.number q.0 in
         let m : v.answer ≡ x.vote.answer =
-        same_outcome v.answer x.vote.answer (heard_answer c p s t kind v.number v.answer (history_of p past) (hears s kind v is)) (newest_answer c p t x.vote (history_of p past) x.newest)
+        same_outcome v.answer x.vote.answer (heard_answer c p s t mode v.number v.answer (history_of p past) (hears s mode v is)) (newest_answer c p t x.vote (history_of p past) x.newest)
         ((bytes_eq-Decides (outcome_spelling v.answer) (outcome_spelling x.vote.answer)).0 q.1) in
-        let said' = heard_was_said c past p (record { sender = s; message = Reply p t (mode_of kind) v.number v.answer }) x.run.runs.unforged (correct_client c p x.client) (correct_replica c s correct) (hears s kind v is) in
-        subst (λ (i : ℕ). Once (Speaks (record { sender = s; message = Reply p t (mode_of kind) i x.vote.answer })) (history_of s past)) n
-        (subst (λ (b : Outcome). Once (Speaks (record { sender = s; message = Reply p t (mode_of kind) v.number b })) (history_of s past)) m said')
+        let said' = heard_was_said c past p (record { sender = s; message = Reply p t mode v.number v.answer }) x.run.runs.unforged (correct_client c p x.client) (correct_replica c s correct) (hears s mode v is) in
+        subst (λ (i : ℕ). Once (Speaks (record { sender = s; message = Reply p t mode i x.vote.answer })) (history_of s past)) n
+        (subst (λ (b : Outcome). Once (Speaks (record { sender = s; message = Reply p t mode v.number b })) (history_of s past)) m said')

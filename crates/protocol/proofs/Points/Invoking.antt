@@ -1,5 +1,5 @@
 -- Where a request that runs was invoked, or asked.
-use Rattle.std.proofs.Common.{◌≡◌, ℕ, suc, ◌+◌, ◌-◌, ◌≤◌, ◌<◌, inl, inr, Bool, true, false, not, cond, List, [], ◌∷◌, ◌++◌, length, refl, sym, ap, ◌∙◌, subst, arith, ◌&&◌, Option, Some, None, is_some}
+use Rattle.std.proofs.Common.{◌≡◌, ℕ, suc, ◌+◌, ◌-◌, ◌≤◌, ◌<◌, inl, inr, Bool, true, false, cond, List, [], ◌∷◌, ◌++◌, length, refl, sym, ap, ◌∙◌, subst, arith, ◌&&◌, Option, Some, None, is_some}
 use Rattle.std.specs.Prelude.{nat_lt, nat_le}
 use Rattle.std.proofs.lemmas.Bool.{and_parts, leb-true}
 use Rattle.protocol.specs.System.Configuration.{Configuration, is_client, is_correct, is_correct_client, members}
@@ -8,16 +8,16 @@ use Rattle.wire.specs.Messages.{BodyData as Body, MessageData as Message, reques
 use Rattle.wire.specs.Words.{requests_of, said}
 use Rattle.terms.specs.declared.order.Mode.{Mode}
 use Rattle.signing.specs.Heard.{heard}
-use Rattle.protocol.specs.System.Frames.{reads_only, mode_of}
+use Rattle.protocol.specs.System.Frames.{same_mode}
 use Rattle.protocol.specs.System.Trace.{Entry, party_of, history_of, Once, Always, frames_in, SendsBody, IsFromSender, IsUnforgedAt, Has}
 use Rattle.protocol.specs.System.Trace.Entry.{Invoke, Got, Tick, Executed, Installed, Sent, Accepted}
 use Rattle.protocol.specs.Replica.State.{Call, call_in, call_of}
 use Rattle.protocol.specs.Client.RightClient.{AnyClient, MayAsk, MayRequest, OpenCall, open_call, last_call}
 use Rattle.protocol.specs.System.Texts.{ExecutesBatch}
 use Rattle.protocol.specs.Space.Linear.{Placing, batch_of, is_level, Invokes, Asks}
-use Rattle.quorum.specs.Votes.{give_if}
+use Rattle.std.specs.Bool.{then_some}
 use Rattle.protocol.proofs.Words.Temporal.{once_weaker, once_always, once_once, once_in_history, once_in_trace}
-use Rattle.protocol.proofs.Words.Options.{and_then_some, some_injective, given_once, give_if_some}
+use Rattle.protocol.proofs.Words.Options.{and_then_some, some_injective, given_once, then_some_gives}
 use Rattle.protocol.proofs.Words.Linking.{Speaks, heard_said, sent_spoken}
 use Rattle.protocol.proofs.Agreement.Voting.{correct_replica}
 use Rattle.protocol.proofs.Agreement.States.{once_append}
@@ -69,20 +69,20 @@ opened_op p t op (Installed x y z ∷ past) own h = inr (opened_op p t op past o
 pub opened_invoked : (c : Configuration) (p : ℕ) (call : OpenCall) (xs : List Entry) → AnyClient p xs → open_call xs ≡ Some call → Once (Invokes p call.timestamp call.op) xs
 opened_invoked c p call xs r h = opened_op p call.timestamp call.op xs (own_entries c p xs r) h
 
-pub asked_op : (c : Configuration) (p t : ℕ) (read_only : Bool) (text : Operation) (xs : List Entry) → AnyClient p xs → Once (Speaks (asking p t read_only text)) xs → Once (Invokes p t text) xs
-asked_op c p t read_only text [] r h = absurd h
-asked_op c p t read_only text (e ∷ past) r (inr h) = inr (asked_op c p t read_only text past r.1 h)
-asked_op c p t read_only text (Sent x bytes ∷ past) r (inl h) =
+pub asked_op : (c : Configuration) (p t : ℕ) (mode : Mode) (text : Operation) (xs : List Entry) → AnyClient p xs → Once (Speaks (asking p t mode text)) xs → Once (Invokes p t text) xs
+asked_op c p t mode text [] r h = absurd h
+asked_op c p t mode text (e ∷ past) r (inr h) = inr (asked_op c p t mode text past r.1 h)
+asked_op c p t mode text (Sent x bytes ∷ past) r (inl h) =
     let m = r.0.1 in
-    let is : m.0 ≡ asking p t read_only text = some_injective m.0 (asking p t read_only text) (sym m.1 ∙ h) in
-    let ask : MayRequest past t (reads_only (mode_of read_only)) text = subst (λ (b : Body). MayAsk past b.message) is m.3 in
+    let is : m.0 ≡ asking p t mode text = some_injective m.0 (asking p t mode text) (sym m.1 ∙ h) in
+    let ask : MayRequest past t mode text = subst (λ (b : Body). MayAsk past b.message) is m.3 in
     inr (opened_op p t text past (own_entries c p past r.1) ask.0)
-asked_op c p t read_only text (Invoke x y z ∷ past) r (inl h) = absurd h
-asked_op c p t read_only text (Got x y ∷ past) r (inl h) = absurd h
-asked_op c p t read_only text (Tick x ∷ past) r (inl h) = absurd h
-asked_op c p t read_only text (Executed x y z ∷ past) r (inl h) = absurd h
-asked_op c p t read_only text (Installed x y z ∷ past) r (inl h) = absurd h
-asked_op c p t read_only text (Accepted x y z ∷ past) r (inl h) = absurd h
+asked_op c p t mode text (Invoke x y z ∷ past) r (inl h) = absurd h
+asked_op c p t mode text (Got x y ∷ past) r (inl h) = absurd h
+asked_op c p t mode text (Tick x ∷ past) r (inl h) = absurd h
+asked_op c p t mode text (Executed x y z ∷ past) r (inl h) = absurd h
+asked_op c p t mode text (Installed x y z ∷ past) r (inl h) = absurd h
+asked_op c p t mode text (Accepted x y z ∷ past) r (inl h) = absurd h
 
 invokes_any : (p t : ℕ) (op : Operation) (past other : List Entry) (e : Entry) → Invokes p t op past e → Invokes p t op other e
 invokes_any p t op past other (Invoke x y z) h = h
@@ -166,16 +166,16 @@ asks_said c xs frame body runs is from h =
     step past (Installed a b d) t = absurd t.1
     step past (Accepted a b d) t = absurd t.1
 
-pub call_body : (c : Configuration) (frame : List ℕ) (call : Call) → call_of c frame ≡ Some call → said frame ≡ Some (asking (256 + call.client) call.timestamp false call.op)
+pub call_body : (c : Configuration) (frame : List ℕ) (call : Call) → call_of c frame ≡ Some call → said frame ≡ Some (asking (256 + call.client) call.timestamp modes.Ordered call.op)
 call_body c frame call h =
     let r = and_then_some (call_in c) (said frame) call h in
     r.1 ∙ ap Some (go r.0.sender r.0.message r.2)
   where
-    go : (sender : ℕ) (message : Message) → call_in c (record { sender = sender; message = message }) ≡ Some call → ◌≡◌ {A = Body} (record { sender = sender; message = message }) (asking (256 + call.client) call.timestamp false call.op)
+    go : (sender : ℕ) (message : Message) → call_in c (record { sender = sender; message = message }) ≡ Some call → ◌≡◌ {A = Body} (record { sender = sender; message = message }) (asking (256 + call.client) call.timestamp modes.Ordered call.op)
     go sender (Request t mode op) h = test mode (is_client c sender) refl h
       where
-        test : (x : Mode) (y : Bool) → is_client c sender ≡ y → cond (not (reads_only x) && y) (Some (let z : Call = record { client = sender - 256; timestamp = t; op = op } in z)) None ≡ Some call
-            → ◌≡◌ {A = Body} (record { sender = sender; message = Request t x op }) (asking (256 + call.client) call.timestamp false call.op)
+        test : (x : Mode) (y : Bool) → is_client c sender ≡ y → cond (same_mode x modes.Ordered && y) (Some (let z : Call = record { client = sender - 256; timestamp = t; op = op } in z)) None ≡ Some call
+            → ◌≡◌ {A = Body} (record { sender = sender; message = Request t x op }) (asking (256 + call.client) call.timestamp modes.Ordered call.op)
         test modes.Ordered true e h =
             let is : ◌≡◌ {A = Call} (record { client = sender - 256; timestamp = t; op = op }) call = some_injective {A = Call} (record { client = sender - 256; timestamp = t; op = op }) call h in
             let cl : sender - 256 ≡ call.client = ap (λ (x : Call). x.client) is in
@@ -189,11 +189,11 @@ call_body c frame call h =
         test modes.ReadOnly y e h = absurd cc
     go sender _ h = absurd cc
 
-pub asks_request : (c : Configuration) (frame : List ℕ) (sender t : ℕ) (op : Operation) → said frame ≡ Some (asking sender t false op) → (past : List Entry) (e : Entry) → AsksFrame c frame past e → Asks c sender t op past e
+pub asks_request : (c : Configuration) (frame : List ℕ) (sender t : ℕ) (op : Operation) → said frame ≡ Some (asking sender t modes.Ordered op) → (past : List Entry) (e : Entry) → AsksFrame c frame past e → Asks c sender t op past e
 unfolding AsksFrame
 asks_request c frame sender t op is past (Got p bytes) h = (h.0, there (frames_in bytes) h.2)
   where
-    known : (o : Option Body) → heard (members c) p frame ≡ o → is_some o ≡ true → heard (members c) p frame ≡ Some (asking sender t false op)
+    known : (o : Option Body) → heard (members c) p frame ≡ o → is_some o ≡ true → heard (members c) p frame ≡ Some (asking sender t modes.Ordered op)
     known None e s = absurd cc
     known (Some b) e s =
         let said' : said frame ≡ Some b = heard_said c p frame b e in
@@ -201,7 +201,7 @@ asks_request c frame sender t op is past (Got p bytes) h = (h.0, there (frames_i
 
     there : (xs : List (List ℕ)) → Has (λ x. x ≡ frame) xs → Has (λ x. heard (members c) p x ≡ Some (record { sender = sender; message = Request t modes.Ordered op })) xs
     there [] k = k
-    there (x ∷ xs) (inl k) = inl (subst (λ (y : List ℕ). heard (members c) p y ≡ Some (asking sender t false op)) (sym k) (known (heard (members c) p frame) refl h.1))
+    there (x ∷ xs) (inl k) = inl (subst (λ (y : List ℕ). heard (members c) p y ≡ Some (asking sender t modes.Ordered op)) (sym k) (known (heard (members c) p frame) refl h.1))
     there (x ∷ xs) (inr k) = inr (there xs k)
 asks_request c frame sender t op is past (Invoke x y z) h = absurd h
 asks_request c frame sender t op is past (Tick x) h = absurd h
@@ -224,9 +224,9 @@ module _ (c : Configuration) (trace : List Entry) (run : Run c trace) (x : Placi
   -- the request was asked where its batch's level came, or before
   source_asked : At (λ past e. (length past ≡ s.position) × Once (AsksFrame c s.from.frame) (e ∷ past)) trace
   source_asked =
-      let given = given_once (λ past e. give_if (is_level c (e ∷ past) s.number) (length past)) s.position trace s.place in
-      let at = once_split (λ past e. give_if (is_level c (e ∷ past) s.number) (length past) ≡ Some s.position) trace given in
-      let g = give_if_some (is_level c (at.entry ∷ at.past) s.number) (length at.past) s.position at.holds in
+      let given = given_once (λ past e. then_some (is_level c (e ∷ past) s.number) (length past)) s.position trace s.place in
+      let at = once_split (λ past e. then_some (is_level c (e ∷ past) s.number) (length past) ≡ Some s.position) trace given in
+      let g = then_some_gives (is_level c (at.entry ∷ at.past) s.number) (length at.past) s.position at.holds in
       let whole : Run c (at.later ++ at.entry ∷ at.past) = subst (Run c) at.is run in
       let here : Run c (at.entry ∷ at.past) = run_part c at.later (at.entry ∷ at.past) whole in
       let number : x.number ≡ s.number = ap (λ (y : Placing). y.number) s.is in
@@ -244,7 +244,7 @@ module _ (c : Configuration) (trace : List Entry) (run : Run c trace) (x : Placi
         holds = (g.1, executed_asked c (at.entry ∷ at.past) s.number ex.0 here ex.1 s.from.frame s.ran.call has s.from.is_call);
       }
 
-  spelled : said s.from.frame ≡ Some (asking (256 + s.ran.call.client) s.ran.call.timestamp false s.ran.call.op)
+  spelled : said s.from.frame ≡ Some (asking (256 + s.ran.call.client) s.ran.call.timestamp modes.Ordered s.ran.call.op)
   spelled = call_body c s.from.frame s.ran.call s.from.is_call
 
   whole_once : (Q : List Entry → Entry → Type 0) (at : At (λ past e. (length past ≡ s.position) × Once (AsksFrame c s.from.frame) (e ∷ past)) trace) → Once Q (at.entry ∷ at.past) → Once (λ past e. Q past e × (length past ≤ s.position)) trace
@@ -269,8 +269,8 @@ module _ (c : Configuration) (trace : List Entry) (run : Run c trace) (x : Placi
       let client : is_correct_client c (256 + s.ran.call.client) ≡ true = subst (λ (y : Placing). is_correct_client c y.item.client ≡ true) s.is correct in
       let whole : Run c (at.later ++ at.entry ∷ at.past) = subst (Run c) at.is run in
       let here : Run c (at.entry ∷ at.past) = run_part c at.later (at.entry ∷ at.past) whole in
-      let says = asks_said c (at.entry ∷ at.past) s.from.frame (asking (256 + s.ran.call.client) s.ran.call.timestamp false s.ran.call.op) here.runs spelled (correct_client c (256 + s.ran.call.client) client) at.holds.1 in
-      let invoked = asked_op c (256 + s.ran.call.client) s.ran.call.timestamp false s.ran.call.op (history_of (256 + s.ran.call.client) (at.entry ∷ at.past)) (here.runs.clients (256 + s.ran.call.client) client) says in
+      let says = asks_said c (at.entry ∷ at.past) s.from.frame (asking (256 + s.ran.call.client) s.ran.call.timestamp modes.Ordered s.ran.call.op) here.runs spelled (correct_client c (256 + s.ran.call.client) client) at.holds.1 in
+      let invoked = asked_op c (256 + s.ran.call.client) s.ran.call.timestamp modes.Ordered s.ran.call.op (history_of (256 + s.ran.call.client) (at.entry ∷ at.past)) (here.runs.clients (256 + s.ran.call.client) client) says in
       subst (λ (y : Placing). Once (λ past e. Invokes y.item.client y.item.timestamp y.item.op past e × (length past ≤ y.item.position)) trace) (sym s.is)
       (whole_once (Invokes (256 + s.ran.call.client) s.ran.call.timestamp s.ran.call.op) at
       (invoked_in_trace (256 + s.ran.call.client) s.ran.call.timestamp s.ran.call.op (at.entry ∷ at.past) invoked))

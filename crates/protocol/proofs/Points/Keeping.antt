@@ -1,5 +1,5 @@
 -- A kept reply is of a request that ran in the batch of its number, and no request runs twice.
-use Rattle.std.proofs.Common.{◌≡◌, ℕ, zero, suc, ◌+◌, ◌-◌, ◌≤◌, ◌<◌, ◌⊎◌, inl, inr, Bool, true, false, not, cond, List, [], ◌∷◌, ◌++◌, length, map, fold, filter, refl, sym, ap, ◌∙◌, subst, arith, ◌&&◌, Option, Some, None, eqb-true}
+use Rattle.std.proofs.Common.{◌≡◌, ℕ, zero, suc, ◌+◌, ◌-◌, ◌≤◌, ◌<◌, ◌⊎◌, inl, inr, Bool, true, false, cond, List, [], ◌∷◌, ◌++◌, length, map, fold, filter, refl, sym, ap, ◌∙◌, subst, arith, ◌&&◌, Option, Some, None, eqb-true}
 use Rattle.std.specs.Prelude.{◌==◌, nat_lt, nat_le, ⊤}
 use Rattle.std.specs.Option.{option_map_or}
 use Rattle.std.proofs.lemmas.Bool.{and_parts, leb-true, ltb-true, eqb-false}
@@ -9,7 +9,8 @@ use Rattle.protocol.proofs.Points.Sorting
 use Rattle.protocol.specs.System.Configuration.{Configuration, IsConfiguration, is_client, is_correct_replica}
 use Rattle.wire.specs.Messages.{MessageData as Message, request as Request}
 use Rattle.wire.specs.Words.{requests_of, said}
-use Rattle.protocol.specs.System.Frames.{reads_only}
+use Rattle.terms.specs.declared.order.Mode.TheVariants as modes
+use Rattle.protocol.specs.System.Frames.{same_mode}
 use Rattle.protocol.specs.System.Trace.{Entry, party_of, Once, Has}
 use Rattle.protocol.specs.System.Trace.Entry.{Invoke, Got, Tick, Executed, Installed, Sent, Accepted}
 use Rattle.protocol.specs.Replica.State.{State, Call, Ran, opening, runs, run_call, call_in, call_of, run_frame, execute, ran_by, ran_in, kept_by, kept_of, last_time}
@@ -282,13 +283,13 @@ call_small c setting frame call h =
     few = setting.clients
 
     go : (sender : ℕ) (message : Message) → call_in c (record { sender = sender; message = message }) ≡ Some call → call.client < 256
-    go sender (Request t mode op) h = test (not (reads_only mode) && is_client c sender) refl h
+    go sender (Request t mode op) h = test (same_mode mode modes.Ordered && is_client c sender) refl h
       where
-        test : (b : Bool) → (not (reads_only mode) && is_client c sender) ≡ b → cond b (Some (let x : Call = record { client = sender - 256; timestamp = t; op = op } in x)) None ≡ Some call → call.client < 256
+        test : (b : Bool) → (same_mode mode modes.Ordered && is_client c sender) ≡ b → cond b (Some (let x : Call = record { client = sender - 256; timestamp = t; op = op } in x)) None ≡ Some call → call.client < 256
         test true e h =
             let is : ◌≡◌ {A = Call} (record { client = sender - 256; timestamp = t; op = op }) call = some_injective {A = Call} (record { client = sender - 256; timestamp = t; op = op }) call h in
             let at : sender - 256 ≡ call.client = ap (λ (x : Call). x.client) is in
-            let p = and_parts (not (reads_only mode)) (is_client c sender) e in
+            let p = and_parts (same_mode mode modes.Ordered) (is_client c sender) e in
             let u = and_parts (nat_le 256 sender) (nat_lt sender (256 + c.clients)) p.1 in
             let a : 256 ≤ sender = leb-true 256 sender u.0 in
             let b : sender < 256 + c.clients = ltb-true sender (256 + c.clients) u.1 in

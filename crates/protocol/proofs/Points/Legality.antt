@@ -7,7 +7,8 @@ use Rattle.protocol.specs.System.Trace.{Entry}
 use Rattle.protocol.specs.Replica.State.{State, Call, Ran, tuples, runs, run_call, call_of, run_frame, execute, ran_by, ran_in, kept_by}
 use Rattle.protocol.specs.Space.Linear.{Item, LegalFrom, Placing, ordered_point, ordered_points, first_position, batch_of, is_level}
 use Rattle.protocol.specs.Replica.Certificates.{first_given}
-use Rattle.quorum.specs.Votes.{give_if, or_else}
+use Rattle.std.specs.Bool.{then_some}
+use Rattle.quorum.specs.Votes.{or_else}
 use Rattle.protocol.proofs.Points.Levels.{level_below}
 use Rattle.space.proofs.Keeping.{tuples_of-state_after}
 use Rattle.tuple_tree.specs.Values.{TupleTree}
@@ -43,10 +44,10 @@ legal_ran c position k st (frame ∷ frames) rest h = go (call_of c frame) refl 
 
 pub none_later : (c : Configuration) (k : ℕ) (xs : List Entry) → first_position c xs k ≡ None → first_position c xs (suc k) ≡ None
 none_later c k [] h = refl
-none_later c k (e ∷ past) h = go (first_given (λ past e. give_if (is_level c (e ∷ past) k) (length past)) past) refl (is_level c (e ∷ past) k) refl (is_level c (e ∷ past) (suc k)) refl h (none_later c k past)
+none_later c k (e ∷ past) h = go (first_given (λ past e. then_some (is_level c (e ∷ past) k) (length past)) past) refl (is_level c (e ∷ past) k) refl (is_level c (e ∷ past) (suc k)) refl h (none_later c k past)
   where
     go : (o : Option ℕ) → first_position c past k ≡ o → (x : Bool) → is_level c (e ∷ past) k ≡ x → (y : Bool) → is_level c (e ∷ past) (suc k) ≡ y
-        → or_else o (give_if x (length past)) ≡ None → (first_position c past k ≡ None → first_position c past (suc k) ≡ None) → or_else (first_position c past (suc k)) (give_if y (length past)) ≡ None
+        → or_else o (then_some x (length past)) ≡ None → (first_position c past k ≡ None → first_position c past (suc k) ≡ None) → or_else (first_position c past (suc k)) (then_some y (length past)) ≡ None
     go (Some p) is x ex y ey g below = absurd cc
     go None is true ex y ey g below = absurd cc
     go None is false ex true ey g below = let l : k ≤ suc k = omega arith in absurd (let bad : false ≡ true = sym ex ∙ level_below c (e ∷ past) k (suc k) l ey in cc)

@@ -1,30 +1,27 @@
 -- A number that an ordered call is accepted with was reached by all but f correct replicas.
-use Rattle.std.proofs.Common.{◌≡◌, ℕ, suc, ◌+◌, ◌*◌, ◌≤◌, ◌⊎◌, inl, inr, Bool, true, false, cond, List, [], ◌∷◌, ◌++◌, fold, refl, sym, ap, ◌∙◌, subst, arith, ◌&&◌, Option, Some, None, eqb-true, bytes_eq}
-use Rattle.std.specs.Prelude.{option_and_then, ◌==◌}
+use Rattle.std.proofs.Common.{◌≡◌, ℕ, suc, ◌+◌, ◌*◌, ◌≤◌, ◌⊎◌, inl, inr, Bool, true, false, cond, List, [], ◌∷◌, ◌++◌, fold, refl, sym, ap, ◌∙◌, subst, arith, Option, Some, None, eqb-true, bytes_eq}
+use Rattle.std.specs.Prelude.{◌==◌}
 use Rattle.std.specs.Option.{option_map_or}
 use Rattle.std.proofs.lemmas.Bool.{and_parts}
 use Rattle.protocol.specs.Replica.RightReplica
 use Rattle.quorum.specs.Quorum.{count_below}
-use Rattle.protocol.specs.System.Configuration.{Configuration, IsConfiguration, is_correct_replica, is_correct_client, members}
+use Rattle.protocol.specs.System.Configuration.{Configuration, IsConfiguration, is_correct_replica, is_correct_client}
 use Rattle.terms.specs.declared.order.Mode.TheVariants as modes
-use Rattle.wire.specs.Messages.{BodyData as Body, MessageData as Message, reply as Reply}
+use Rattle.wire.specs.Messages.{BodyData as Body, reply as Reply}
 use Rattle.wire.specs.Words.{requests_of}
-use Rattle.signing.specs.Heard.{heard}
-use Rattle.protocol.specs.System.Frames.{reads_only}
-use Rattle.protocol.specs.System.Trace.{Entry, party_of, history_of, Once, Always, Has, Hears}
+use Rattle.protocol.specs.System.Trace.{Entry, history_of, Once, Always, Has}
 use Rattle.protocol.specs.System.Trace.Entry.{Invoke, Got, Tick, Executed, Installed, Sent, Accepted}
 use Rattle.protocol.specs.Replica.State.{State, Call, Ran, opening, runs, run_call, call_of, run_frame, execute, ran_by, ran_in, kept_by, kept_of}
 use Rattle.reply_cache.specs.Replies.{Kept}
 use Rattle.protocol.specs.Replica.RightReplica.{Leaves, May, Moves, MaySay, MayReply, snapshots_after}
-use Rattle.protocol.specs.Client.RightClient.{Vote, vote_of, later_vote, latest, is_alike}
+use Rattle.protocol.specs.Client.RightClient.{Vote, latest, is_alike}
 use Rattle.protocol.specs.Space.Linear.{reached, is_level}
-use Rattle.protocol.proofs.Words.Modes.{mode_is}
 use Rattle.protocol.proofs.Words.Temporal.{once_weaker, once_always, once_stays}
-use Rattle.protocol.proofs.Words.Options.{and_then_some, give_if_some, some_injective}
+use Rattle.protocol.proofs.Words.Options.{some_injective}
 use Rattle.protocol.proofs.Words.Linking.{Speaks, heard_was_said}
 use Rattle.protocol.proofs.Agreement.Voting.{RightAt, once_right, correct_replica}
 use Rattle.protocol.proofs.Points.Levels.{reached_grows, reached_history, number_reached, level_after}
-use Rattle.protocol.proofs.Points.Reading.{Runs, correct_client, own_entries}
+use Rattle.protocol.proofs.Points.Reading.{Runs, correct_client, own_entries, latest_heard}
 use Rattle.protocol.specs.Replica.State.{after_batches, ran_call}
 use Rattle.protocol.specs.Replica.RightReplica.{executed_point, waiting_after, reply_of}
 use Rattle.protocol.specs.System.Texts.{NoCollision}
@@ -167,61 +164,21 @@ ordered_reached c setting s p t number answer xs runs apart correct h =
     (once_right c s (Speaks (ordering s p t number answer)) (history_of s xs) (runs.replicas s correct) h))) in
     let same = reached_history s xs in omega arith
 
-vote_body : (me t s : ℕ) (vote : Vote) (sender : ℕ) (message : Message) → vote_of me t s (record { sender = sender; message = message }) ≡ Some vote → vote.read_only ≡ false
-    → ◌≡◌ {A = Body} (record { sender = sender; message = message }) (ordering s me t vote.number vote.answer)
-vote_body me t s vote sender (Reply client timestamp mode number answer) h ro =
-    let g = give_if_some ((sender == s) && (client == me) && (timestamp == t)) (record { read_only = reads_only mode; number = number; answer = answer }) vote h in
-    let p = and_parts ((sender == s) && (client == me)) (timestamp == t) g.0 in
-    let q = and_parts (sender == s) (client == me) p.0 in
-    let es : sender ≡ s = eqb-true sender s q.0 in
-    let ec : client ≡ me = eqb-true client me q.1 in
-    let et : timestamp ≡ t = eqb-true timestamp t p.1 in
-    let er : mode ≡ modes.Ordered = mode_is mode false (ap (λ (x : Vote). x.read_only) g.1 ∙ ro) in
-    let en : number ≡ vote.number = ap (λ (x : Vote). x.number) g.1 in
-    let ea : answer ≡ vote.answer = ap (λ (x : Vote). x.answer) g.1 in
-    rw (es, ec, et, er, en, ea) refl
-vote_body me t s vote sender _ h ro = absurd cc
-
-pub latest_ordered : (c : Configuration) (me t s : ℕ) (vote : Vote) (xs : List Entry) → Always (λ past e. party_of e ≡ me) xs → latest c me xs t false s ≡ Some vote
-    → Once (Hears c me (ordering s me t vote.number vote.answer)) xs
-unfolding latest
-latest_ordered c me t s vote [] own h = absurd cc
-latest_ordered c me t s vote (Invoke x y z ∷ past) own h = absurd cc
-latest_ordered c me t s vote (Got p bytes ∷ past) own h = go (option_and_then (vote_of me t s) (heard (members c) me bytes)) refl h (latest_ordered c me t s vote past own.1)
-  where
-    go : (o : Option Vote) → option_and_then (vote_of me t s) (heard (members c) me bytes) ≡ o → later_vote false o (latest c me past t false s) ≡ Some vote
-        → (latest c me past t false s ≡ Some vote → Once (Hears c me (ordering s me t vote.number vote.answer)) past) → Once (Hears c me (ordering s me t vote.number vote.answer)) (Got p bytes ∷ past)
-    go None is k below = inr (below k)
-    go (Some v) is k below = test v.read_only refl k
-      where
-        test : (b : Bool) → v.read_only ≡ b → cond b (latest c me past t false s) (Some v) ≡ Some vote → Once (Hears c me (ordering s me t vote.number vote.answer)) (Got p bytes ∷ past)
-        test true e k = inr (below k)
-        test false e k =
-            let same : v ≡ vote = some_injective v vote k in
-            let r = and_then_some (vote_of me t s) (heard (members c) me bytes) v is in
-            let body = vote_body me t s v r.0.sender r.0.message r.2 e in
-            inl (r.1 ∙ ap Some body ∙ ap (λ (x : Vote). Some (ordering s me t x.number x.answer)) same)
-latest_ordered c me t s vote (Tick x ∷ past) own h = inr (latest_ordered c me t s vote past own.1 h)
-latest_ordered c me t s vote (Sent x y ∷ past) own h = inr (latest_ordered c me t s vote past own.1 h)
-latest_ordered c me t s vote (Executed x y z ∷ past) own h = inr (latest_ordered c me t s vote past own.1 h)
-latest_ordered c me t s vote (Installed x y z ∷ past) own h = inr (latest_ordered c me t s vote past own.1 h)
-latest_ordered c me t s vote (Accepted x y z ∷ past) own h = inr (latest_ordered c me t s vote past own.1 h)
-
 -- a number with which 2f + 1 ordered replies are alike is one of the level
 pub ordered_level : (c : Configuration) → IsConfiguration c → (past : List Entry) → Runs c past → NoCollision c past → (p t : ℕ) → is_correct_client c p ≡ true → (vote : Vote)
-    → 2 * c.faults + 1 ≤ count_below (λ s. is_alike vote (latest c p (history_of p past) t false s)) (3 * c.faults + 1) → is_level c past vote.number ≡ true
+    → 2 * c.faults + 1 ≤ count_below (λ s. is_alike vote (latest c p (history_of p past) t modes.Ordered s)) (3 * c.faults + 1) → is_level c past vote.number ≡ true
 ordered_level c setting past runs apart p t client vote enough =
-    level_after c setting [] past vote.number (λ s. is_alike vote (latest c p (history_of p past) t false s)) enough high (λ s correct h. omega arith)
+    level_after c setting [] past vote.number (λ s. is_alike vote (latest c p (history_of p past) t modes.Ordered s)) enough high (λ s correct h. omega arith)
   where
-    high : (s : ℕ) → is_correct_replica c s ≡ true → is_alike vote (latest c p (history_of p past) t false s) ≡ true → vote.number ≤ reached past s
-    high s correct h = go (latest c p (history_of p past) t false s) refl h
+    high : (s : ℕ) → is_correct_replica c s ≡ true → is_alike vote (latest c p (history_of p past) t modes.Ordered s) ≡ true → vote.number ≤ reached past s
+    high s correct h = go (latest c p (history_of p past) t modes.Ordered s) refl h
       where
-        go : (o : Option Vote) → latest c p (history_of p past) t false s ≡ o → is_alike vote o ≡ true → vote.number ≤ reached past s
+        go : (o : Option Vote) → latest c p (history_of p past) t modes.Ordered s ≡ o → is_alike vote o ≡ true → vote.number ≤ reached past s
         go None is k = absurd cc
         go (Some v) is k =
             let q = and_parts (v.number == vote.number) (bytes_eq (outcome_spelling v.answer) (outcome_spelling vote.answer)) k in
             let n : v.number ≡ vote.number = eqb-true v.number vote.number q.0 in
-            let hears = latest_ordered c p t s v (history_of p past) (own_entries c p (history_of p past) (runs.clients p client)) is in
+            let hears = latest_heard c p t modes.Ordered s v (history_of p past) (own_entries c p (history_of p past) (runs.clients p client)) is in
             let said' = heard_was_said c past p (ordering s p t v.number v.answer) runs.unforged (correct_client c p client) (correct_replica c s correct) hears in
             let m = ordered_reached c setting s p t v.number v.answer past runs apart correct said' in
             omega arith

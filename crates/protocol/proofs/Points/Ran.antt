@@ -9,7 +9,8 @@ use Rattle.protocol.specs.System.Trace.{Entry, Has}
 use Rattle.space.specs.Applying.{tuples_after}
 use Rattle.protocol.specs.Replica.State.{State, Call, Ran, tuples, runs, run_call, call_of, run_frame, execute, ran_by, ran_in, kept_by}
 use Rattle.protocol.specs.Space.Linear.{Placing, ordered_point, ordered_points, first_position, batch_of, is_level}
-use Rattle.quorum.specs.Votes.{give_if, or_else}
+use Rattle.std.specs.Bool.{then_some}
+use Rattle.quorum.specs.Votes.{or_else}
 use Rattle.protocol.proofs.Words.Options.{some_injective}
 use Rattle.protocol.proofs.Points.Levels.{level_below}
 use Rattle.protocol.proofs.Points.Legality.{executed_tuples}
@@ -26,7 +27,7 @@ pub place_before : (c : Configuration) (xs : List Entry) (k q : ℕ) → first_p
 place_before c [] k q h = absurd cc
 place_before c (e ∷ past) k q h = go (first_position c past k) refl (is_level c (e ∷ past) k) h (place_before c past k q)
   where
-    go : (o : Option ℕ) → first_position c past k ≡ o → (b : Bool) → or_else o (give_if b (length past)) ≡ Some q → (first_position c past k ≡ Some q → q < length past) → q < suc (length past)
+    go : (o : Option ℕ) → first_position c past k ≡ o → (b : Bool) → or_else o (then_some b (length past)) ≡ Some q → (first_position c past k ≡ Some q → q < length past) → q < suc (length past)
     go (Some p) is b h below = let e : p ≡ q = some_injective p q h in let l = below (is ∙ h) in omega arith
     go None is true h below = let e : length past ≡ q = some_injective (length past) q h in omega arith
     go None is false h below = absurd cc
@@ -36,12 +37,12 @@ place_lower c [] k n p l h = absurd cc
 place_lower c (e ∷ past) k n p l h =
     go (first_position c past n) refl (is_level c (e ∷ past) n) refl h (first_position c past k) refl (is_level c (e ∷ past) k) refl (place_lower c past k n p l)
   where
-    go : (o : Option ℕ) → first_position c past n ≡ o → (b : Bool) → is_level c (e ∷ past) n ≡ b → or_else o (give_if b (length past)) ≡ Some p
+    go : (o : Option ℕ) → first_position c past n ≡ o → (b : Bool) → is_level c (e ∷ past) n ≡ b → or_else o (then_some b (length past)) ≡ Some p
         → (u : Option ℕ) → first_position c past k ≡ u → (d : Bool) → is_level c (e ∷ past) k ≡ d
-        → (first_position c past n ≡ Some p → (q : ℕ) × (first_position c past k ≡ Some q) × (q ≤ p)) → (q : ℕ) × (or_else u (give_if d (length past)) ≡ Some q) × (q ≤ p)
+        → (first_position c past n ≡ Some p → (q : ℕ) × (first_position c past k ≡ Some q) × (q ≤ p)) → (q : ℕ) × (or_else u (then_some d (length past)) ≡ Some q) × (q ≤ p)
     go (Some x) is b eb h u us d ed below = let t = below (is ∙ h) in later t.0 t.2 u (sym us ∙ t.1)
       where
-        later : (q : ℕ) → q ≤ p → (u : Option ℕ) → u ≡ Some q → (q : ℕ) × (or_else u (give_if d (length past)) ≡ Some q) × (q ≤ p)
+        later : (q : ℕ) → q ≤ p → (u : Option ℕ) → u ≡ Some q → (q : ℕ) × (or_else u (then_some d (length past)) ≡ Some q) × (q ≤ p)
         later q m (Some y) e = (q, e, m)
         later q m None e = absurd cc
     go None is true eb h (Some y) us d ed below = let at : length past ≡ p = some_injective (length past) p h in let m = place_before c past k y us in (y, refl, omega arith)
@@ -99,7 +100,7 @@ pub source_ordered : (c : Configuration) (trace : List Entry) (x : Placing) → 
 source_ordered c trace x s = subst (IsOrdered (first_position c trace)) (sym s.is) (record {
   stands = record { at = s.position; is_at = s.place; after = omega arith; before = before };
   exact = omega arith;
-  kind = refl;
+  mode_is = refl;
 })
   where
     before : (k p : ℕ) → s.number < k → first_position c trace k ≡ Some p → s.position ≤ p

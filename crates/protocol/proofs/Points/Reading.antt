@@ -4,19 +4,20 @@ use Rattle.std.specs.Prelude.{◌==◌, option_and_then}
 use Rattle.std.proofs.lemmas.Bool.{and_parts}
 use Rattle.quorum.specs.Quorum.{count_below}
 use Rattle.protocol.specs.System.Configuration.{Configuration, IsConfiguration, is_correct, is_correct_replica, is_correct_client, members}
+use Rattle.terms.specs.declared.order.Mode.{Mode}
 use Rattle.terms.specs.declared.order.Mode.TheVariants as modes
 use Rattle.wire.specs.Messages.{BodyData as Body, MessageData as Message, request as Request, reply as Reply}
 use Rattle.signing.specs.Heard.{heard}
-use Rattle.protocol.specs.System.Frames.{reads_only, mode_of}
+use Rattle.protocol.specs.System.Frames.{same_mode}
 use Rattle.protocol.specs.System.Trace.{Entry, party_of, history_of, Once, Always, Unforged, Hears}
 use Rattle.protocol.specs.System.Trace.Entry.{Invoke, Got, Tick, Executed, Installed, Sent, Accepted}
 use Rattle.protocol.specs.Replica.RightReplica.{MaySay, MayReply}
 use Rattle.protocol.specs.Client.RightClient.{AnyClient, MayAsk, MayRequest, OpenCall, open_call, last_call, Vote, vote_of, later_vote, latest, is_alike}
 use Rattle.protocol.specs.Space.Linear.{reached, is_level}
 use Rattle.protocol.specs.Laws.Histories.{AreReplicasSafe}
-use Rattle.protocol.proofs.Words.Modes.{mode_is}
+use Rattle.protocol.proofs.Words.Modes.{same_mode-true}
 use Rattle.protocol.proofs.Words.Temporal.{once_weaker, once_in_trace}
-use Rattle.protocol.proofs.Words.Options.{and_then_some, give_if_some, some_injective}
+use Rattle.protocol.proofs.Words.Options.{and_then_some, then_some_gives, some_injective}
 use Rattle.protocol.proofs.Words.Linking.{Speaks, heard_was_said}
 use Rattle.protocol.proofs.Agreement.Voting.{RightAt, once_right, correct_replica}
 use Rattle.protocol.proofs.Agreement.States.{right_append}
@@ -78,37 +79,37 @@ pub own_entries : (c : Configuration) (p : ℕ) (xs : List Entry) → AnyClient 
 own_entries c p [] r = tt
 own_entries c p (e ∷ xs) r = (r.0.0, own_entries c p xs r.1)
 
-abbrev pub asking : ℕ → ℕ → Bool → Operation → Body
-asking p t read_only text = record { sender = p; message = Request t (mode_of read_only) text }
+abbrev pub asking : ℕ → ℕ → Mode → Operation → Body
+asking p t mode text = record { sender = p; message = Request t mode text }
 
 -- what a right client asks it invoked
-pub asked_invoked : (c : Configuration) (p t : ℕ) (read_only : Bool) (text : Operation) (xs : List Entry) → AnyClient p xs → Once (Speaks (asking p t read_only text)) xs → Once (InvokesAt p t) xs
-asked_invoked c p t read_only text [] r h = absurd h
-asked_invoked c p t read_only text (e ∷ past) r (inr h) = inr (asked_invoked c p t read_only text past r.1 h)
-asked_invoked c p t read_only text (Sent x bytes ∷ past) r (inl h) =
+pub asked_invoked : (c : Configuration) (p t : ℕ) (mode : Mode) (text : Operation) (xs : List Entry) → AnyClient p xs → Once (Speaks (asking p t mode text)) xs → Once (InvokesAt p t) xs
+asked_invoked c p t mode text [] r h = absurd h
+asked_invoked c p t mode text (e ∷ past) r (inr h) = inr (asked_invoked c p t mode text past r.1 h)
+asked_invoked c p t mode text (Sent x bytes ∷ past) r (inl h) =
     let m = r.0.1 in
-    let is : m.0 ≡ asking p t read_only text = some_injective m.0 (asking p t read_only text) (sym m.1 ∙ h) in
-    let ask : MayRequest past t (reads_only (mode_of read_only)) text = subst (λ (b : Body). MayAsk past b.message) is m.3 in
+    let is : m.0 ≡ asking p t mode text = some_injective m.0 (asking p t mode text) (sym m.1 ∙ h) in
+    let ask : MayRequest past t mode text = subst (λ (b : Body). MayAsk past b.message) is m.3 in
     inr (opened p t text past (own_entries c p past r.1) ask.0)
-asked_invoked c p t read_only text (Invoke x y z ∷ past) r (inl h) = absurd h
-asked_invoked c p t read_only text (Got x y ∷ past) r (inl h) = absurd h
-asked_invoked c p t read_only text (Tick x ∷ past) r (inl h) = absurd h
-asked_invoked c p t read_only text (Executed x y z ∷ past) r (inl h) = absurd h
-asked_invoked c p t read_only text (Installed x y z ∷ past) r (inl h) = absurd h
-asked_invoked c p t read_only text (Accepted x y z ∷ past) r (inl h) = absurd h
+asked_invoked c p t mode text (Invoke x y z ∷ past) r (inl h) = absurd h
+asked_invoked c p t mode text (Got x y ∷ past) r (inl h) = absurd h
+asked_invoked c p t mode text (Tick x ∷ past) r (inl h) = absurd h
+asked_invoked c p t mode text (Executed x y z ∷ past) r (inl h) = absurd h
+asked_invoked c p t mode text (Installed x y z ∷ past) r (inl h) = absurd h
+asked_invoked c p t mode text (Accepted x y z ∷ past) r (inl h) = absurd h
 
 -- ---- a read-only reply stands behind its request's invocation, at the replica's number
 
-abbrev pub replying : ℕ → ℕ → ℕ → ℕ → Outcome → Body
-replying s p t number answer = record { sender = s; message = Reply p t modes.ReadOnly number answer }
+abbrev pub replying : ℕ → ℕ → ℕ → Mode → ℕ → Outcome → Body
+replying s p t mode number answer = record { sender = s; message = Reply p t mode number answer }
 
 pub ReadAt : Configuration → ℕ → ℕ → ℕ → ℕ → List Entry → Entry → Type 0
-ReadAt c s p t number past e = (reached past s ≡ number) × ((text : Operation) × Once (Hears c s (asking p t true text)) past)
+ReadAt c s p t number past e = (reached past s ≡ number) × ((text : Operation) × Once (Hears c s (asking p t modes.ReadOnly text)) past)
 
-says_read : (c : Configuration) (s p t number : ℕ) (answer : Outcome) (past : List Entry) (e : Entry) → RightAt c s past e → Speaks (replying s p t number answer) past e → ReadAt c s p t number past e
+says_read : (c : Configuration) (s p t number : ℕ) (answer : Outcome) (past : List Entry) (e : Entry) → RightAt c s past e → Speaks (replying s p t modes.ReadOnly number answer) past e → ReadAt c s p t number past e
 unfolding ReadAt
 says_read c s p t number answer past (Sent q bytes) r h =
-    let is = some_injective r.may.body (replying s p t number answer) (sym r.may.says ∙ h) in
+    let is = some_injective r.may.body (replying s p t modes.ReadOnly number answer) (sym r.may.says ∙ h) in
     let m : MayReply c s past r.point p t modes.ReadOnly number answer = subst (λ (x : Body). MaySay c s past r.point (Sent q bytes) bytes x.message) is r.may.say in
     (sym (m.number_is ∙ number_reached c s past r.point r.leaves), (m.op, m.heard))
 says_read c s p t number answer past (Invoke x y z) r h = absurd h
@@ -132,66 +133,66 @@ invokes_any p t q past (Sent x y) h = absurd h.1
 invokes_any p t q past (Accepted x y z) h = absurd h.1
 
 pub read_answered : (c : Configuration) (s p t number : ℕ) (answer : Outcome) (xs : List Entry) → Runs c xs → is_correct_replica c s ≡ true → is_correct_client c p ≡ true
-    → Once (Speaks (replying s p t number answer)) (history_of s xs) → Once (Answered s p t number) xs
+    → Once (Speaks (replying s p t modes.ReadOnly number answer)) (history_of s xs) → Once (Answered s p t number) xs
 unfolding Answered ReadAt
 read_answered c s p t number answer xs runs correct client h =
     let reads : Once (ReadAt c s p t number) (history_of s xs) =
-    once_weaker (λ past e. RightAt c s past e × Speaks (replying s p t number answer) past e × Always (RightAt c s) past) (ReadAt c s p t number)
+    once_weaker (λ past e. RightAt c s past e × Speaks (replying s p t modes.ReadOnly number answer) past e × Always (RightAt c s) past) (ReadAt c s p t number)
     (λ past e u. says_read c s p t number answer past e u.0 u.1) (history_of s xs)
-    (once_right c s (Speaks (replying s p t number answer)) (history_of s xs) (runs.replicas s correct) h) in
+    (once_right c s (Speaks (replying s p t modes.ReadOnly number answer)) (history_of s xs) (runs.replicas s correct) h) in
     once_weaker (λ past e. Runs c past × ((party_of e ≡ s) × ReadAt c s p t number (history_of s past) e)) (Answered s p t number) step xs
     (once_runs c (λ past e. (party_of e ≡ s) × ReadAt c s p t number (history_of s past) e) xs runs (once_in_trace (ReadAt c s p t number) s xs reads))
   where
-    step : (past : List Entry) (e : Entry) → Runs c past × ((party_of e ≡ s) × ((reached (history_of s past) s ≡ number) × ((text : Operation) × Once (Hears c s (asking p t true text)) (history_of s past))))
+    step : (past : List Entry) (e : Entry) → Runs c past × ((party_of e ≡ s) × ((reached (history_of s past) s ≡ number) × ((text : Operation) × Once (Hears c s (asking p t modes.ReadOnly text)) (history_of s past))))
         → (reached past s ≡ number) × Once (InvokesAt p t) past
     step past e u =
-        let said' = heard_was_said c past s (asking p t true u.1.1.1.0) u.0.unforged (correct_replica c s correct) (correct_client c p client) u.1.1.1.1 in
-        let invoked = asked_invoked c p t true u.1.1.1.0 (history_of p past) (u.0.clients p client) said' in (
+        let said' = heard_was_said c past s (asking p t modes.ReadOnly u.1.1.1.0) u.0.unforged (correct_replica c s correct) (correct_client c p client) u.1.1.1.1 in
+        let invoked = asked_invoked c p t modes.ReadOnly u.1.1.1.0 (history_of p past) (u.0.clients p client) said' in (
           sym (reached_history s past) ∙ u.1.1.0,
           once_weaker (λ past e. (party_of e ≡ p) × InvokesAt p t (history_of p past) e) (InvokesAt p t) (invokes_any p t p) past (once_in_trace (InvokesAt p t) p past invoked),
         )
 
 -- ---- the votes of a client
 
-vote_body : (me t s : ℕ) (vote : Vote) (sender : ℕ) (message : Message) → vote_of me t s (record { sender = sender; message = message }) ≡ Some vote → vote.read_only ≡ true
-    → ◌≡◌ {A = Body} (record { sender = sender; message = message }) (replying s me t vote.number vote.answer)
-vote_body me t s vote sender (Reply client timestamp mode number answer) h ro =
-    let g = give_if_some ((sender == s) && (client == me) && (timestamp == t)) (record { read_only = reads_only mode; number = number; answer = answer }) vote h in
+vote_body : (me t s : ℕ) (vote : Vote) (sender : ℕ) (message : Message) → vote_of me t s (record { sender = sender; message = message }) ≡ Some vote
+    → ◌≡◌ {A = Body} (record { sender = sender; message = message }) (replying s me t vote.mode vote.number vote.answer)
+vote_body me t s vote sender (Reply client timestamp mode number answer) h =
+    let g = then_some_gives ((sender == s) && (client == me) && (timestamp == t)) (record { mode = mode; number = number; answer = answer }) vote h in
     let p = and_parts ((sender == s) && (client == me)) (timestamp == t) g.0 in
     let q = and_parts (sender == s) (client == me) p.0 in
     let es : sender ≡ s = eqb-true sender s q.0 in
     let ec : client ≡ me = eqb-true client me q.1 in
     let et : timestamp ≡ t = eqb-true timestamp t p.1 in
-    let er : mode ≡ modes.ReadOnly = mode_is mode true (ap (λ (x : Vote). x.read_only) g.1 ∙ ro) in
+    let er : mode ≡ vote.mode = ap (λ (x : Vote). x.mode) g.1 in
     let en : number ≡ vote.number = ap (λ (x : Vote). x.number) g.1 in
     let ea : answer ≡ vote.answer = ap (λ (x : Vote). x.answer) g.1 in
     rw (es, ec, et, er, en, ea) refl
-vote_body me t s vote sender _ h ro = absurd cc
+vote_body me t s vote sender _ h = absurd cc
 
-pub latest_heard : (c : Configuration) (me t s : ℕ) (vote : Vote) (xs : List Entry) → Always (λ past e. party_of e ≡ me) xs → latest c me xs t true s ≡ Some vote
-    → Once (Hears c me (replying s me t vote.number vote.answer)) xs
+pub latest_heard : (c : Configuration) (me t : ℕ) (mode : Mode) (s : ℕ) (vote : Vote) (xs : List Entry) → Always (λ past e. party_of e ≡ me) xs → latest c me xs t mode s ≡ Some vote
+    → Once (Hears c me (replying s me t mode vote.number vote.answer)) xs
 unfolding latest
-latest_heard c me t s vote [] own h = absurd cc
-latest_heard c me t s vote (Invoke x y z ∷ past) own h = absurd cc
-latest_heard c me t s vote (Got p bytes ∷ past) own h = go (option_and_then (vote_of me t s) (heard (members c) me bytes)) refl h (latest_heard c me t s vote past own.1)
+latest_heard c me t mode s vote [] own h = absurd cc
+latest_heard c me t mode s vote (Invoke x y z ∷ past) own h = absurd cc
+latest_heard c me t mode s vote (Got p bytes ∷ past) own h = go (option_and_then (vote_of me t s) (heard (members c) me bytes)) refl h (latest_heard c me t mode s vote past own.1)
   where
-    go : (o : Option Vote) → option_and_then (vote_of me t s) (heard (members c) me bytes) ≡ o → later_vote true o (latest c me past t true s) ≡ Some vote
-        → (latest c me past t true s ≡ Some vote → Once (Hears c me (replying s me t vote.number vote.answer)) past) → Once (Hears c me (replying s me t vote.number vote.answer)) (Got p bytes ∷ past)
+    go : (o : Option Vote) → option_and_then (vote_of me t s) (heard (members c) me bytes) ≡ o → later_vote mode o (latest c me past t mode s) ≡ Some vote
+        → (latest c me past t mode s ≡ Some vote → Once (Hears c me (replying s me t mode vote.number vote.answer)) past) → Once (Hears c me (replying s me t mode vote.number vote.answer)) (Got p bytes ∷ past)
     go None is k below = inr (below k)
-    go (Some v) is k below = test v.read_only refl k
+    go (Some v) is k below = test (same_mode v.mode mode) refl k
       where
-        test : (b : Bool) → v.read_only ≡ b → cond b (Some v) (latest c me past t true s) ≡ Some vote → Once (Hears c me (replying s me t vote.number vote.answer)) (Got p bytes ∷ past)
+        test : (b : Bool) → same_mode v.mode mode ≡ b → cond b (Some v) (latest c me past t mode s) ≡ Some vote → Once (Hears c me (replying s me t mode vote.number vote.answer)) (Got p bytes ∷ past)
         test false e k = inr (below k)
         test true e k =
             let same : v ≡ vote = some_injective v vote k in
             let r = and_then_some (vote_of me t s) (heard (members c) me bytes) v is in
-            let body = vote_body me t s v r.0.sender r.0.message r.2 e in
-            inl (r.1 ∙ ap Some body ∙ ap (λ (x : Vote). Some (replying s me t x.number x.answer)) same)
-latest_heard c me t s vote (Tick x ∷ past) own h = inr (latest_heard c me t s vote past own.1 h)
-latest_heard c me t s vote (Sent x y ∷ past) own h = inr (latest_heard c me t s vote past own.1 h)
-latest_heard c me t s vote (Executed x y z ∷ past) own h = inr (latest_heard c me t s vote past own.1 h)
-latest_heard c me t s vote (Installed x y z ∷ past) own h = inr (latest_heard c me t s vote past own.1 h)
-latest_heard c me t s vote (Accepted x y z ∷ past) own h = inr (latest_heard c me t s vote past own.1 h)
+            let body = vote_body me t s v r.0.sender r.0.message r.2 in
+            inl (r.1 ∙ ap Some body ∙ ap (λ (m : Mode). Some (replying s me t m v.number v.answer)) (same_mode-true v.mode mode e) ∙ ap (λ (x : Vote). Some (replying s me t mode x.number x.answer)) same)
+latest_heard c me t mode s vote (Tick x ∷ past) own h = inr (latest_heard c me t mode s vote past own.1 h)
+latest_heard c me t mode s vote (Sent x y ∷ past) own h = inr (latest_heard c me t mode s vote past own.1 h)
+latest_heard c me t mode s vote (Executed x y z ∷ past) own h = inr (latest_heard c me t mode s vote past own.1 h)
+latest_heard c me t mode s vote (Installed x y z ∷ past) own h = inr (latest_heard c me t mode s vote past own.1 h)
+latest_heard c me t mode s vote (Accepted x y z ∷ past) own h = inr (latest_heard c me t mode s vote past own.1 h)
 
 -- ---- the latest invocation
 
@@ -322,28 +323,28 @@ answered_high s p t number (e ∷ past) (inr h) = let g = reached_grows e past s
 -- ---- an accepted read
 
 module _ (c : Configuration) (setting : IsConfiguration c) (past : List Entry) (runs : Runs c past) (p t : ℕ) (client : is_correct_client c p ≡ true) (vote : Vote)
-    (read_only : vote.read_only ≡ true) (open' : last_of p past ≡ t)
-    (enough : 2 * c.faults + 1 ≤ count_below (λ s. is_alike vote (latest c p (history_of p past) t true s)) (3 * c.faults + 1)) where
-  answers : (s : ℕ) → is_correct_replica c s ≡ true → is_alike vote (latest c p (history_of p past) t true s) ≡ true → Once (Answered s p t vote.number) past
-  answers s correct h = go (latest c p (history_of p past) t true s) refl h
+    (is_read : vote.mode ≡ modes.ReadOnly) (open' : last_of p past ≡ t)
+    (enough : 2 * c.faults + 1 ≤ count_below (λ s. is_alike vote (latest c p (history_of p past) t modes.ReadOnly s)) (3 * c.faults + 1)) where
+  answers : (s : ℕ) → is_correct_replica c s ≡ true → is_alike vote (latest c p (history_of p past) t modes.ReadOnly s) ≡ true → Once (Answered s p t vote.number) past
+  answers s correct h = go (latest c p (history_of p past) t modes.ReadOnly s) refl h
     where
-      go : (o : Option Vote) → latest c p (history_of p past) t true s ≡ o → is_alike vote o ≡ true → Once (Answered s p t vote.number) past
+      go : (o : Option Vote) → latest c p (history_of p past) t modes.ReadOnly s ≡ o → is_alike vote o ≡ true → Once (Answered s p t vote.number) past
       go None is k = absurd cc
       go (Some v) is k =
           let q = and_parts (v.number == vote.number) (bytes_eq (outcome_spelling v.answer) (outcome_spelling vote.answer)) k in
           let n : v.number ≡ vote.number = eqb-true v.number vote.number q.0 in
-          let hears = latest_heard c p t s v (history_of p past) (own_entries c p (history_of p past) (runs.clients p client)) is in
-          let said' = heard_was_said c past p (replying s p t v.number v.answer) runs.unforged (correct_client c p client) (correct_replica c s correct) hears in
+          let hears = latest_heard c p t modes.ReadOnly s v (history_of p past) (own_entries c p (history_of p past) (runs.clients p client)) is in
+          let said' = heard_was_said c past p (replying s p t modes.ReadOnly v.number v.answer) runs.unforged (correct_client c p client) (correct_replica c s correct) hears in
           subst (λ (x : ℕ). Once (Answered s p t x) past) n (read_answered c s p t v.number v.answer past runs correct client said')
 
   -- the level at the acceptance is at least the number
   pub read_level_after : is_level c past vote.number ≡ true
-  read_level_after = level_after c setting (invoke_past p past) past vote.number (λ s. is_alike vote (latest c p (history_of p past) t true s)) enough
+  read_level_after = level_after c setting (invoke_past p past) past vote.number (λ s. is_alike vote (latest c p (history_of p past) t modes.ReadOnly s)) enough
       (λ s correct h. answered_high s p t vote.number past (answers s correct h))
       (λ s correct h. at_latest c s p t vote.number past runs client open' (answered_low s p t vote.number past (answers s correct h)))
 
   -- the level at the invocation is at most the number
   pub read_level_before : (k : ℕ) → vote.number < k → is_level c (invoke_past p past) k ≡ true → ⊥
-  read_level_before = level_before c setting (invoke_past p past) past vote.number (λ s. is_alike vote (latest c p (history_of p past) t true s)) enough
+  read_level_before = level_before c setting (invoke_past p past) past vote.number (λ s. is_alike vote (latest c p (history_of p past) t modes.ReadOnly s)) enough
       (λ s correct h. answered_high s p t vote.number past (answers s correct h))
       (λ s correct h. at_latest c s p t vote.number past runs client open' (answered_low s p t vote.number past (answers s correct h)))

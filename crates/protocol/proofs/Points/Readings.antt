@@ -5,6 +5,9 @@ use Rattle.std.specs.Option.{option_map_or}
 use Rattle.std.proofs.lemmas.Bool.{cases_order}
 use Rattle.protocol.proofs.Points.Accepting
 use Rattle.protocol.specs.System.Configuration.{Configuration, is_correct_client}
+use Rattle.terms.specs.declared.order.Mode.{Mode}
+use Rattle.terms.specs.declared.order.Mode.TheVariants as modes
+use Rattle.protocol.specs.System.Frames.{same_mode}
 use Rattle.protocol.specs.System.Trace.{Entry, history_of, Once, Has}
 use Rattle.protocol.specs.System.Trace.Entry.{Invoke, Got, Tick, Executed, Installed, Sent, Accepted}
 use Rattle.space.specs.Applying.{is_read_only, outcome}
@@ -12,9 +15,11 @@ use Rattle.protocol.specs.Replica.State.{opening, tuples}
 use Rattle.protocol.specs.Client.RightClient.{OpenCall, open_call, Vote, newest_vote}
 use Rattle.protocol.specs.System.Texts.{ExecutesBatch}
 use Rattle.protocol.specs.Space.Linear.{Placing, first_position, is_level, ordered_points, invoked_at, read_point, read_points, Invokes, Accepts}
-use Rattle.quorum.specs.Votes.{give_if, or_else}
+use Rattle.std.specs.Bool.{then_some}
+use Rattle.quorum.specs.Votes.{or_else}
+use Rattle.protocol.proofs.Words.Modes.{same_mode-true}
 use Rattle.protocol.proofs.Words.Temporal.{once_weaker}
-use Rattle.protocol.proofs.Words.Options.{some_injective, and_then_some, give_if_some}
+use Rattle.protocol.proofs.Words.Options.{some_injective, and_then_some, then_some_gives}
 use Rattle.protocol.proofs.Agreement.States.{once_append}
 use Rattle.protocol.proofs.Points.Levels.{level_stays}
 use Rattle.protocol.proofs.Points.Running.{Run, state_by, level_executed, executed_greatest}
@@ -39,14 +44,14 @@ read_of c trace p call a past vote = record {
     position = max (invoked_at p past) (option_map_or (λ x. x) (first_position c trace vote.number) 0);
   };
   number = vote.number;
-  read_only = true;
+  mode = modes.ReadOnly;
 }
 
 -- the point is that of the read accepted at the entry
 abbrev pub MadeAt : Configuration → List Entry → Placing → List Entry → Entry → Type 0
 MadeAt c trace y past (Accepted cl t a) =
     (call : OpenCall) × (vote : Vote) × (open_call (history_of (256 + cl) past) ≡ Some call) × (newest_vote c (256 + cl) (history_of (256 + cl) past) t ≡ Some vote)
-    × (vote.read_only ≡ true) × (read_of c trace (256 + cl) call a past vote ≡ y)
+    × (vote.mode ≡ modes.ReadOnly) × (read_of c trace (256 + cl) call a past vote ≡ y)
 MadeAt c trace y past _ = ⊥
 
 abbrev made_option : Configuration → List Entry → ℕ → ℕ → Outcome → List Entry → Option Placing
@@ -56,14 +61,14 @@ made_here : (c : Configuration) (trace : List Entry) (y : Placing) (past : List 
 made_here c trace y past cl t a h =
     let r = and_then_some (λ (call : OpenCall). option_and_then (read_point c trace (256 + cl) call a past) (newest_vote c (256 + cl) (history_of (256 + cl) past) t)) (open_call (history_of (256 + cl) past)) y h in
     let q = and_then_some (read_point c trace (256 + cl) r.0 a past) (newest_vote c (256 + cl) (history_of (256 + cl) past) t) y r.2 in
-    let g = give_if_some q.0.read_only (read_of c trace (256 + cl) r.0 a past q.0) y q.2 in
-    (r.0, q.0, r.1, q.1, g.0, g.1)
+    let g = then_some_gives (same_mode q.0.mode modes.ReadOnly) (read_of c trace (256 + cl) r.0 a past q.0) y q.2 in
+    (r.0, q.0, r.1, q.1, same_mode-true q.0.mode modes.ReadOnly g.0, g.1)
 
 here_made : (c : Configuration) (trace : List Entry) (y : Placing) (past : List Entry) (cl t : ℕ) (a : Outcome) → MadeAt c trace y past (Accepted cl t a) → made_option c trace (256 + cl) t a past ≡ Some y
 here_made c trace y past cl t a m =
     ap (option_and_then (λ (call : OpenCall). option_and_then (read_point c trace (256 + cl) call a past) (newest_vote c (256 + cl) (history_of (256 + cl) past) t))) m.2
     ∙ ap (option_and_then (read_point c trace (256 + cl) m.0 a past)) m.3
-    ∙ ap (λ (b : Bool). give_if b (read_of c trace (256 + cl) m.0 a past m.1)) m.4
+    ∙ ap (λ (mode : Mode). then_some (same_mode mode modes.ReadOnly) (read_of c trace (256 + cl) m.0 a past m.1)) m.4
     ∙ ap Some m.5
 
 -- each read was made at an acceptance
@@ -100,71 +105,71 @@ made_read c trace y (Sent a b ∷ past) (inr h) = made_read c trace y past h
 made_read c trace y (Executed a b d ∷ past) (inr h) = made_read c trace y past h
 made_read c trace y (Installed a b d ∷ past) (inr h) = made_read c trace y past h
 
--- ---- kinds of acceptances
+-- ---- modes of acceptances
 
-abbrev pub KindAt : Configuration → Bool → ℕ → ℕ → List Entry → Entry → Type 0
-KindAt c b p t past (Accepted cl time a) =
-    (256 + cl ≡ p) × (time ≡ t) × ((vote : Vote) × (newest_vote c (256 + cl) (history_of (256 + cl) past) time ≡ Some vote) × (vote.read_only ≡ b))
-KindAt c b p t past _ = ⊥
+abbrev pub ModeAt : Configuration → Mode → ℕ → ℕ → List Entry → Entry → Type 0
+ModeAt c mode p t past (Accepted cl time a) =
+    (256 + cl ≡ p) × (time ≡ t) × ((vote : Vote) × (newest_vote c (256 + cl) (history_of (256 + cl) past) time ≡ Some vote) × (vote.mode ≡ mode))
+ModeAt c mode p t past _ = ⊥
 
-kind_accepts : (c : Configuration) (b : Bool) (p t : ℕ) (xs : List Entry) → Once (KindAt c b p t) xs → (a : Outcome) × Once (Accepts p t a) xs
-kind_accepts c b p t [] h = absurd h
-kind_accepts c b p t (e ∷ past) (inr h) = let r = kind_accepts c b p t past h in (r.0, inr r.1)
-kind_accepts c b p t (Accepted x y z ∷ past) (inl h) = (z, inl (h.0, h.1, refl))
-kind_accepts c b p t (Invoke x y z ∷ past) (inl h) = absurd h
-kind_accepts c b p t (Got x y ∷ past) (inl h) = absurd h
-kind_accepts c b p t (Tick x ∷ past) (inl h) = absurd h
-kind_accepts c b p t (Sent x y ∷ past) (inl h) = absurd h
-kind_accepts c b p t (Executed x y z ∷ past) (inl h) = absurd h
-kind_accepts c b p t (Installed x y z ∷ past) (inl h) = absurd h
+mode_accepts : (c : Configuration) (mode : Mode) (p t : ℕ) (xs : List Entry) → Once (ModeAt c mode p t) xs → (a : Outcome) × Once (Accepts p t a) xs
+mode_accepts c mode p t [] h = absurd h
+mode_accepts c mode p t (e ∷ past) (inr h) = let r = mode_accepts c mode p t past h in (r.0, inr r.1)
+mode_accepts c mode p t (Accepted x y z ∷ past) (inl h) = (z, inl (h.0, h.1, refl))
+mode_accepts c mode p t (Invoke x y z ∷ past) (inl h) = absurd h
+mode_accepts c mode p t (Got x y ∷ past) (inl h) = absurd h
+mode_accepts c mode p t (Tick x ∷ past) (inl h) = absurd h
+mode_accepts c mode p t (Sent x y ∷ past) (inl h) = absurd h
+mode_accepts c mode p t (Executed x y z ∷ past) (inl h) = absurd h
+mode_accepts c mode p t (Installed x y z ∷ past) (inl h) = absurd h
 
-not_again : (c : Configuration) (b d : Bool) (p t : ℕ) (past : List Entry) (e : Entry) → FullRun c (e ∷ past) → KindAt c b p t past e → Once (KindAt c d p t) past → ⊥
-not_again c b d p t past (Accepted x y z) run h k =
-    let r = kind_accepts c d p t past k in
+not_again : (c : Configuration) (mode other : Mode) (p t : ℕ) (past : List Entry) (e : Entry) → FullRun c (e ∷ past) → ModeAt c mode p t past e → Once (ModeAt c other p t) past → ⊥
+not_again c mode other p t past (Accepted x y z) run h k =
+    let r = mode_accepts c other p t past k in
     accepted_once c past (256 + x) y z r.0 (accepting c past x y z run)
     (subst (λ (i : ℕ). Once (Accepts i y r.0) past) (sym h.0) (subst (λ (i : ℕ). Once (Accepts p i r.0) past) (sym h.1) r.1))
-not_again c b d p t past (Invoke x y z) run h k = h
-not_again c b d p t past (Got x y) run h k = h
-not_again c b d p t past (Tick x) run h k = h
-not_again c b d p t past (Sent x y) run h k = h
-not_again c b d p t past (Executed x y z) run h k = h
-not_again c b d p t past (Installed x y z) run h k = h
+not_again c mode other p t past (Invoke x y z) run h k = h
+not_again c mode other p t past (Got x y) run h k = h
+not_again c mode other p t past (Tick x) run h k = h
+not_again c mode other p t past (Sent x y) run h k = h
+not_again c mode other p t past (Executed x y z) run h k = h
+not_again c mode other p t past (Installed x y z) run h k = h
 
-both_kinds : (c : Configuration) (p t : ℕ) (past : List Entry) (e : Entry) → KindAt c true p t past e → KindAt c false p t past e → ⊥
-both_kinds c p t past (Accepted x y z) h k =
+both_modes : (c : Configuration) (p t : ℕ) (past : List Entry) (e : Entry) → ModeAt c modes.ReadOnly p t past e → ModeAt c modes.Ordered p t past e → ⊥
+both_modes c p t past (Accepted x y z) h k =
     let same : h.2.0 ≡ k.2.0 = some_injective h.2.0 k.2.0 (sym h.2.1 ∙ k.2.1) in
-    let bad : true ≡ false = sym h.2.2 ∙ ap (λ (v : Vote). v.read_only) same ∙ k.2.2 in absurd cc
-both_kinds c p t past (Invoke x y z) h k = h
-both_kinds c p t past (Got x y) h k = h
-both_kinds c p t past (Tick x) h k = h
-both_kinds c p t past (Sent x y) h k = h
-both_kinds c p t past (Executed x y z) h k = h
-both_kinds c p t past (Installed x y z) h k = h
+    let bad : modes.ReadOnly ≡ modes.Ordered = sym h.2.2 ∙ ap (λ (v : Vote). v.mode) same ∙ k.2.2 in absurd cc
+both_modes c p t past (Invoke x y z) h k = h
+both_modes c p t past (Got x y) h k = h
+both_modes c p t past (Tick x) h k = h
+both_modes c p t past (Sent x y) h k = h
+both_modes c p t past (Executed x y z) h k = h
+both_modes c p t past (Installed x y z) h k = h
 
-pub one_kind : (c : Configuration) (p t : ℕ) (xs : List Entry) → FullRun c xs → Once (KindAt c true p t) xs → Once (KindAt c false p t) xs → ⊥
-one_kind c p t [] run h k = h
-one_kind c p t (e ∷ past) run (inl h) (inl k) = both_kinds c p t past e h k
-one_kind c p t (e ∷ past) run (inl h) (inr k) = not_again c true false p t past e run h k
-one_kind c p t (e ∷ past) run (inr h) (inl k) = not_again c false true p t past e run k h
-one_kind c p t (e ∷ past) run (inr h) (inr k) = one_kind c p t past (full_earlier c e past run) h k
+pub one_mode : (c : Configuration) (p t : ℕ) (xs : List Entry) → FullRun c xs → Once (ModeAt c modes.ReadOnly p t) xs → Once (ModeAt c modes.Ordered p t) xs → ⊥
+one_mode c p t [] run h k = h
+one_mode c p t (e ∷ past) run (inl h) (inl k) = both_modes c p t past e h k
+one_mode c p t (e ∷ past) run (inl h) (inr k) = not_again c modes.ReadOnly modes.Ordered p t past e run h k
+one_mode c p t (e ∷ past) run (inr h) (inl k) = not_again c modes.Ordered modes.ReadOnly p t past e run k h
+one_mode c p t (e ∷ past) run (inr h) (inr k) = one_mode c p t past (full_earlier c e past run) h k
 
-kind_made : (c : Configuration) (trace : List Entry) (y : Placing) (past : List Entry) (e : Entry) → FullRun c (e ∷ past) → MadeAt c trace y past e → KindAt c true y.item.client y.item.timestamp past e
-kind_made c trace y past (Accepted cl t a) run m =
+mode_made : (c : Configuration) (trace : List Entry) (y : Placing) (past : List Entry) (e : Entry) → FullRun c (e ∷ past) → MadeAt c trace y past e → ModeAt c modes.ReadOnly y.item.client y.item.timestamp past e
+mode_made c trace y past (Accepted cl t a) run m =
     let x = accepting c past cl t a run in
     let call : x.call ≡ m.0 = some_injective x.call m.0 (sym x.opened ∙ m.2) in
     let time : t ≡ y.item.timestamp = sym x.time ∙ ap (λ (o : OpenCall). o.timestamp) call ∙ ap (λ (z : Placing). z.item.timestamp) m.5 in
     (ap (λ (z : Placing). z.item.client) m.5, time, (m.1, m.3, m.4))
-kind_made c trace y past (Invoke x z w) run m = absurd m
-kind_made c trace y past (Got x z) run m = absurd m
-kind_made c trace y past (Tick x) run m = absurd m
-kind_made c trace y past (Sent x z) run m = absurd m
-kind_made c trace y past (Executed x z w) run m = absurd m
-kind_made c trace y past (Installed x z w) run m = absurd m
+mode_made c trace y past (Invoke x z w) run m = absurd m
+mode_made c trace y past (Got x z) run m = absurd m
+mode_made c trace y past (Tick x) run m = absurd m
+mode_made c trace y past (Sent x z) run m = absurd m
+mode_made c trace y past (Executed x z w) run m = absurd m
+mode_made c trace y past (Installed x z w) run m = absurd m
 
-pub made_kind : (c : Configuration) (trace : List Entry) (y : Placing) (xs : List Entry) → FullRun c xs → Once (MadeAt c trace y) xs → Once (KindAt c true y.item.client y.item.timestamp) xs
-made_kind c trace y [] run h = h
-made_kind c trace y (e ∷ past) run (inl h) = inl (kind_made c trace y past e run h)
-made_kind c trace y (e ∷ past) run (inr h) = inr (made_kind c trace y past (full_earlier c e past run) h)
+pub made_mode : (c : Configuration) (trace : List Entry) (y : Placing) (xs : List Entry) → FullRun c xs → Once (MadeAt c trace y) xs → Once (ModeAt c modes.ReadOnly y.item.client y.item.timestamp) xs
+made_mode c trace y [] run h = h
+made_mode c trace y (e ∷ past) run (inl h) = inl (mode_made c trace y past e run h)
+made_mode c trace y (e ∷ past) run (inr h) = inr (made_mode c trace y past (full_earlier c e past run) h)
 
 -- no read is there twice
 pub reads_differ : (c : Configuration) (trace xs : List Entry) → FullRun c xs → AllDiffer (read_points c trace xs)
@@ -175,10 +180,10 @@ reads_differ c trace (Accepted cl t a ∷ past) run = go (made_option c trace (2
     go None is rest = rest
     go (Some y) is rest = (
       all_weaker (λ z. Once (MadeAt c trace z) past) (Differ y) (λ z h same time.
-          let k = kind_made c trace y past (Accepted cl t a) run (made_here c trace y past cl t a is) in
-          let early = made_kind c trace z past (full_earlier c (Accepted cl t a) past run) h in
-          let moved : Once (KindAt c true y.item.client y.item.timestamp) past = subst (λ (i : ℕ). Once (KindAt c true i y.item.timestamp) past) (sym same) (subst (λ (i : ℕ). Once (KindAt c true z.item.client i) past) (sym time) early) in
-          not_again c true true y.item.client y.item.timestamp past (Accepted cl t a) run k moved)
+          let k = mode_made c trace y past (Accepted cl t a) run (made_here c trace y past cl t a is) in
+          let early = made_mode c trace z past (full_earlier c (Accepted cl t a) past run) h in
+          let moved : Once (ModeAt c modes.ReadOnly y.item.client y.item.timestamp) past = subst (λ (i : ℕ). Once (ModeAt c modes.ReadOnly i y.item.timestamp) past) (sym same) (subst (λ (i : ℕ). Once (ModeAt c modes.ReadOnly z.item.client i) past) (sym time) early) in
+          not_again c modes.ReadOnly modes.ReadOnly y.item.client y.item.timestamp past (Accepted cl t a) run k moved)
           (read_points c trace past) (reads_made c trace past),
       rest,
     )
@@ -195,7 +200,7 @@ level_at : (c : Configuration) (xs : List Entry) (k q : ℕ) → first_position 
 level_at c [] k q h = absurd cc
 level_at c (e ∷ past) k q h = go (first_position c past k) refl (is_level c (e ∷ past) k) refl h (level_at c past k)
   where
-    go : (o : Option ℕ) → first_position c past k ≡ o → (b : Bool) → is_level c (e ∷ past) k ≡ b → or_else o (give_if b (length past)) ≡ Some q → ((q : ℕ) → first_position c past k ≡ Some q → is_level c past k ≡ true) → is_level c (e ∷ past) k ≡ true
+    go : (o : Option ℕ) → first_position c past k ≡ o → (b : Bool) → is_level c (e ∷ past) k ≡ b → or_else o (then_some b (length past)) ≡ Some q → ((q : ℕ) → first_position c past k ≡ Some q → is_level c past k ≡ true) → is_level c (e ∷ past) k ≡ true
     go (Some x) is b eb h below = level_stays c e past k (below x is)
     go None is true eb h below = eb
     go None is false eb h below = absurd cc
@@ -208,7 +213,7 @@ level_behind : (c : Configuration) (later xs : List Entry) (k q : ℕ) → first
 level_behind c [] xs k q h l = level_at c xs k q h
 level_behind c (e ∷ later) xs k q h l = go (first_position c (later ++ xs) k) refl (is_level c (e ∷ later ++ xs) k) h (level_behind c later xs k q)
   where
-    go : (o : Option ℕ) → first_position c (later ++ xs) k ≡ o → (b : Bool) → or_else o (give_if b (length (later ++ xs))) ≡ Some q → (first_position c (later ++ xs) k ≡ Some q → q < length xs → is_level c xs k ≡ true) → is_level c xs k ≡ true
+    go : (o : Option ℕ) → first_position c (later ++ xs) k ≡ o → (b : Bool) → or_else o (then_some b (length (later ++ xs))) ≡ Some q → (first_position c (later ++ xs) k ≡ Some q → q < length xs → is_level c xs k ≡ true) → is_level c xs k ≡ true
     go (Some x) is b h below = below (is ∙ h) l
     go None is true h below = let e : length (later ++ xs) ≡ q = some_injective (length (later ++ xs)) q h in let m = length_behind later xs in absurd (omega arith)
     go None is false h below = absurd cc
@@ -283,8 +288,8 @@ module _ (c : Configuration) (trace : List Entry) (run : Run c trace) (later pas
   call_invoked : Once (Invokes p x.call.timestamp x.call.op) past
   call_invoked = invoked_in_trace p x.call.timestamp x.call.op past (opened_invoked c p x.call (history_of p past) (x.run.runs.clients p x.client) x.opened)
 
-  invoked_place : (k q : ℕ) → x.vote.read_only ≡ true → x.vote.number < k → first_position c trace k ≡ Some q → invoked_at p past ≤ q
-  invoked_place k q kind l h = go (cases_order (invoked_at p past) q)
+  invoked_place : (k q : ℕ) → x.vote.mode ≡ modes.ReadOnly → x.vote.number < k → first_position c trace k ≡ Some q → invoked_at p past ≤ q
+  invoked_place k q in_mode l h = go (cases_order (invoked_at p past) q)
     where
       go : (invoked_at p past ≡ q) ⊎ ((invoked_at p past < q) ⊎ (q < invoked_at p past)) → invoked_at p past ≤ q
       go (inl m) = omega arith
@@ -295,7 +300,7 @@ module _ (c : Configuration) (trace : List Entry) (run : Run c trace) (later pas
           is ∙ ap (λ (ys : List Entry). later ++ e ∷ ys) r.1 ∙ sym (append_assoc later (e ∷ r.0) (invoke_past p past)) in
           let near : q < length (invoke_past p past) = omega arith in
           let up : is_level c (invoke_past p past) k ≡ true = level_behind c (later ++ e ∷ r.0) (invoke_past p past) k q (subst (λ (ys : List Entry). first_position c ys k ≡ Some q) shape h) near in
-          absurd (read_before c past p t a x kind k l up)
+          absurd (read_before c past p t a x in_mode k l up)
 
   pub read_bound : (read_of c trace p x.call a past x.vote).item.position ≤ length past
   read_bound =
@@ -305,14 +310,14 @@ module _ (c : Configuration) (trace : List Entry) (run : Run c trace) (later pas
       let l = q.2 in
       omega arith
 
-  pub read_facts : x.vote.read_only ≡ true → ReadFacts c trace (read_of c trace p x.call a past x.vote)
-  read_facts kind =
+  pub read_facts : x.vote.mode ≡ modes.ReadOnly → ReadFacts c trace (read_of c trace p x.call a past x.vote)
+  read_facts in_mode =
       let q = place in
       let at : option_map_or (λ x. x) (first_position c trace x.vote.number) 0 ≡ q.0 = ap (λ (o : Option ℕ). option_map_or (λ x. x) o 0) q.1 in
       let v = voted c past p t a x in
       let there = embedded _ v.replica trace later past e is v.says in
-      let r = replied c trace v.replica p t x.vote.read_only x.vote.number x.vote.answer run v.is_correct there in
-      let reply = read_replied c trace v.replica p t x.vote.number x.vote.answer run v.is_correct x.client (subst (λ (b : Bool). Accepting.Replied c trace v.replica p t b x.vote.number x.vote.answer) kind r) in
+      let r = replied c trace v.replica p t x.vote.mode x.vote.number x.vote.answer run v.is_correct there in
+      let reply = read_replied c trace v.replica p t x.vote.number x.vote.answer run v.is_correct x.client (subst (λ (mode : Mode). Accepting.Replied c trace v.replica p t mode x.vote.number x.vote.answer) in_mode r) in
       let own : Once (Invokes p t x.call.op) (history_of p trace) =
       embedded (Invokes p t x.call.op) p trace later past e is (subst (λ (i : ℕ). Once (Invokes p i x.call.op) (history_of p past)) x.time (opened_invoked c p x.call (history_of p past) (x.run.runs.clients p x.client) x.opened)) in
       let same : reply.op ≡ x.call.op = one_invocation c p t reply.op x.call.op (history_of p trace) (run.runs.clients p x.client) reply.invoked own in
@@ -329,7 +334,7 @@ module _ (c : Configuration) (trace : List Entry) (run : Run c trace) (later pas
               let u = place_lower c trace x.vote.number k w m h in
               let eq : q.0 ≡ u.0 = some_injective q.0 u.0 (sym q.1 ∙ u.1) in
               let b = u.2 in
-              let i = invoked_place k w kind l h in
+              let i = invoked_place k w in_mode l h in
               omega arith;
         };
         client = x.client;
@@ -341,19 +346,19 @@ module _ (c : Configuration) (trace : List Entry) (run : Run c trace) (later pas
             subst (λ (ys : List Entry). Once (λ past' e'. Invokes p x.call.timestamp x.call.op past' e' × (length past' ≤ (read_of c trace p x.call a past x.vote).item.position)) ys) (sym is)
             (once_append (λ past' e'. Invokes p x.call.timestamp x.call.op past' e' × (length past' ≤ (read_of c trace p x.call a past x.vote).item.position)) later (e ∷ past) (inr near));
         right = record {
-          kind = subst (λ (o : Operation). is_read_only o ≡ true) same reply.kind;
+          is_read = subst (λ (o : Operation). is_read_only o ≡ true) same reply.is_read;
           answer = sym x.answer ∙ reply.answer_is ∙ ap (λ (ts : List TupleTree). outcome ts reply.op) (sym state) ∙ ap (outcome (tuples_at x.vote.number [] (all_ordered c trace))) same;
         };
       }
 
   -- an ordered call's request ran
-  pub ordered_has : x.vote.read_only ≡ false → Has (IsRanPoint c trace (Answers p t x.vote.number x.vote.answer)) (all_ordered c trace)
-  ordered_has kind =
+  pub ordered_has : x.vote.mode ≡ modes.Ordered → Has (IsRanPoint c trace (Answers p t x.vote.number x.vote.answer)) (all_ordered c trace)
+  ordered_has in_mode =
       let q = place in
       let v = voted c past p t a x in
       let there = embedded _ v.replica trace later past e is v.says in
-      let r = replied c trace v.replica p t x.vote.read_only x.vote.number x.vote.answer run v.is_correct there in
-      let ran = ordered_replied c trace v.replica p t x.vote.number x.vote.answer run v.is_correct x.client (subst (λ (b : Bool). Accepting.Replied c trace v.replica p t b x.vote.number x.vote.answer) kind r) in
+      let r = replied c trace v.replica p t x.vote.mode x.vote.number x.vote.answer run v.is_correct there in
+      let ran = ordered_replied c trace v.replica p t x.vote.number x.vote.answer run v.is_correct x.client (subst (λ (mode : Mode). Accepting.Replied c trace v.replica p t mode x.vote.number x.vote.answer) in_mode r) in
       let self : last_executed trace ≤ last_executed trace = omega arith in
       ran_point c trace opening 1 (last_executed trace) (last_executed trace) (Answers p t x.vote.number x.vote.answer)
       (λ j y u. (q.0, subst (λ (i : ℕ). first_position c trace i ≡ Some q.0) u.3 q.1)) self ran

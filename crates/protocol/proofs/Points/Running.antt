@@ -10,7 +10,8 @@ use Rattle.protocol.specs.System.Configuration.{Configuration, IsConfiguration, 
 use Rattle.protocol.specs.System.Trace.{Entry, party_of, history_of, Once, Always}
 use Rattle.protocol.specs.System.Trace.Entry.{Invoke, Got, Tick, Executed, Installed, Sent, Accepted}
 use Rattle.protocol.specs.Replica.Certificates.{first_given}
-use Rattle.quorum.specs.Votes.{give_if, or_else}
+use Rattle.std.specs.Bool.{then_some}
+use Rattle.quorum.specs.Votes.{or_else}
 use Rattle.protocol.specs.Replica.RightReplica.{Leaves}
 use Rattle.protocol.specs.Client.RightClient.{AnyClient}
 use Rattle.protocol.specs.Replica.State.{State, opening, execute, after_batches}
@@ -18,7 +19,7 @@ use Rattle.protocol.specs.System.Texts.{IsText, Holds, NoCollision, AreExecuted,
 use Rattle.protocol.specs.System.Texts.IsText.{null, batch, part, held, page_of, under}
 use Rattle.protocol.specs.Space.Linear.{last_executed, reached, count_correct, has_reached, is_level, batch_at, batch_of}
 use Rattle.protocol.proofs.Words.Temporal.{once_weaker}
-use Rattle.protocol.proofs.Words.Options.{given_once, give_if_some}
+use Rattle.protocol.proofs.Words.Options.{given_once, then_some_gives}
 use Rattle.protocol.proofs.Agreement.Executing.{executed_agree}
 use Rattle.protocol.specs.Laws.Histories.{IsStateOf}
 use Rattle.protocol.proofs.Agreement.States.{number_after, states_agree}
@@ -87,7 +88,7 @@ always_run c Q (e ∷ past) f r = (f past e r, always_run c Q past f (run_earlie
 
 pub given_executed : (c : Configuration) (k : ℕ) (b : List ℕ) (past : List Entry) (e : Entry) → Run c (e ∷ past) → batch_at k e ≡ Some b → ExecutesBatch c k b past e
 given_executed c k b past (Executed r number text) run h =
-    let g = give_if_some (number == k) text b h in
+    let g = then_some_gives (number == k) text b h in
     (pick (is_correct_replica c r) refl run.parties.0, eqb-true number k g.0, g.1)
   where
     own : (x : Bool) → (r == r) ≡ x → x ≡ true → AnyClient r (cond x (Executed r number text ∷ history_of r past) (history_of r past)) → ⊥
@@ -113,7 +114,7 @@ some_given c k b (e ∷ past) (inr h) = go (first_given (λ past e. batch_at k e
     go (Some y) t = (y, refl)
 some_given c k b (Executed r number text ∷ past) (inl h) = go (first_given (λ past e. batch_at k e) past)
   where
-    go : (o : Option (List ℕ)) → (x : List ℕ) × (or_else o (give_if (number == k) text) ≡ Some x)
+    go : (o : Option (List ℕ)) → (x : List ℕ) × (or_else o (then_some (number == k) text) ≡ Some x)
     go None = (text, rw (eq-eqb number k h.1) refl)
     go (Some y) = (y, refl)
 some_given c k b (Invoke x y z ∷ past) (inl h) = absurd h

@@ -1,10 +1,13 @@
 -- The points in order: the ordered requests as they ran, each read behind the requests of its number.
-use Rattle.std.proofs.Common.{◌≡◌, ℕ, ◌≤◌, ◌<◌, ◌⊎◌, inl, inr, Bool, true, false, not, cond, List, [], ◌∷◌, ◌++◌, map, filter, refl, sym, ap, ◌∙◌, subst, arith, ◌&&◌, ◌||◌, Option, Some, eqb-true}
+use Rattle.std.proofs.Common.{◌≡◌, ℕ, ◌≤◌, ◌<◌, ◌⊎◌, inl, inr, Bool, true, false, cond, List, [], ◌∷◌, ◌++◌, map, filter, refl, sym, ap, ◌∙◌, subst, arith, ◌&&◌, ◌||◌, Option, Some, eqb-true}
 use Rattle.std.specs.Prelude.{◌==◌, nat_lt, nat_le, ⊤}
 use Rattle.std.proofs.lemmas.Bool.{ltb-true, ltb-false, leb-true, leb-false, eqb-false, le-leb, cases_order}
 use Rattle.space.specs.Applying.{is_read_only, outcome, tuples_after}
 use Rattle.tuple_codec.specs.Operations.{Operation, out, rdp, inp, cas, rd_all}
 use Rattle.tuple_tree.specs.Values.{TupleTree}
+use Rattle.terms.specs.declared.order.Mode.{Mode}
+use Rattle.terms.specs.declared.order.Mode.TheVariants as modes
+use Rattle.protocol.specs.System.Frames.{same_mode}
 use Rattle.protocol.specs.System.Trace.{Has}
 use Rattle.protocol.specs.Space.Linear.{Item, LegalFrom, Placing, NeverFall, comes_before, insert_point, sorted}
 use Rattle.protocol.proofs.Words.Options.{some_injective}
@@ -58,7 +61,7 @@ pub comes_cases : (x y : Placing) → comes_before x y ≡ true → (x.item.posi
 comes_cases x y h = go (nat_lt x.item.position y.item.position) refl (x.item.position == y.item.position) refl (nat_lt x.number y.number) refl (x.number == y.number) refl h
   where
     go : (a : Bool) → nat_lt x.item.position y.item.position ≡ a → (b : Bool) → (x.item.position == y.item.position) ≡ b → (d : Bool) → nat_lt x.number y.number ≡ d → (e : Bool) → (x.number == y.number) ≡ e
-        → (a || (b && (d || (e && (not x.read_only || (y.read_only && (nat_lt x.item.client y.item.client || ((x.item.client == y.item.client) && nat_le x.item.timestamp y.item.timestamp)))))))) ≡ true
+        → (a || (b && (d || (e && (same_mode x.mode modes.Ordered || (same_mode y.mode modes.ReadOnly && (nat_lt x.item.client y.item.client || ((x.item.client == y.item.client) && nat_le x.item.timestamp y.item.timestamp)))))))) ≡ true
         → (x.item.position < y.item.position) ⊎ ((x.item.position ≡ y.item.position) × (x.number ≤ y.number))
     go true ea b eb d ed e ee h = inl (ltb-true x.item.position y.item.position ea)
     go false ea true eb true ed e ee h = let l = ltb-true x.number y.number ed in inr (eqb-true x.item.position y.item.position eb, omega arith)
@@ -67,17 +70,17 @@ comes_cases x y h = go (nat_lt x.item.position y.item.position) refl (x.item.pos
     go false ea false eb d ed e ee h = absurd cc
 
 pub comes_not_cases : (x y : Placing) → comes_before x y ≡ false
-    → (y.item.position < x.item.position) ⊎ ((x.item.position ≡ y.item.position) × ((y.number < x.number) ⊎ ((x.number ≡ y.number) × (x.read_only ≡ true))))
-comes_not_cases x y h = go (nat_lt x.item.position y.item.position) refl (x.item.position == y.item.position) refl (nat_lt x.number y.number) refl (x.number == y.number) refl x.read_only refl h
+    → (y.item.position < x.item.position) ⊎ ((x.item.position ≡ y.item.position) × ((y.number < x.number) ⊎ ((x.number ≡ y.number) × (x.mode ≡ modes.ReadOnly))))
+comes_not_cases x y h = go (nat_lt x.item.position y.item.position) refl (x.item.position == y.item.position) refl (nat_lt x.number y.number) refl (x.number == y.number) refl x.mode refl h
   where
     go : (a : Bool) → nat_lt x.item.position y.item.position ≡ a → (b : Bool) → (x.item.position == y.item.position) ≡ b → (d : Bool) → nat_lt x.number y.number ≡ d → (e : Bool) → (x.number == y.number) ≡ e
-        → (r : Bool) → x.read_only ≡ r
-        → (a || (b && (d || (e && (not r || (y.read_only && (nat_lt x.item.client y.item.client || ((x.item.client == y.item.client) && nat_le x.item.timestamp y.item.timestamp)))))))) ≡ false
-        → (y.item.position < x.item.position) ⊎ ((x.item.position ≡ y.item.position) × ((y.number < x.number) ⊎ ((x.number ≡ y.number) × (x.read_only ≡ true))))
+        → (r : Mode) → x.mode ≡ r
+        → (a || (b && (d || (e && (same_mode r modes.Ordered || (same_mode y.mode modes.ReadOnly && (nat_lt x.item.client y.item.client || ((x.item.client == y.item.client) && nat_le x.item.timestamp y.item.timestamp)))))))) ≡ false
+        → (y.item.position < x.item.position) ⊎ ((x.item.position ≡ y.item.position) × ((y.number < x.number) ⊎ ((x.number ≡ y.number) × (x.mode ≡ modes.ReadOnly))))
     go true ea b eb d ed e ee r er h = absurd cc
     go false ea true eb true ed e ee r er h = absurd cc
-    go false ea true eb false ed true ee true er h = inr (eqb-true x.item.position y.item.position eb, inr (eqb-true x.number y.number ee, er))
-    go false ea true eb false ed true ee false er h = absurd cc
+    go false ea true eb false ed true ee modes.ReadOnly er h = inr (eqb-true x.item.position y.item.position eb, inr (eqb-true x.number y.number ee, er))
+    go false ea true eb false ed true ee modes.Ordered er h = absurd cc
     go false ea true eb false ed false ee r er h = let l = ltb-false x.number y.number ed in let n = eqb-false x.number y.number ee in inr (eqb-true x.item.position y.item.position eb, inl (omega arith))
     go false ea false eb d ed e ee r er h = let l = ltb-false x.item.position y.item.position ea in let n = eqb-false x.item.position y.item.position eb in inl (omega arith)
 
@@ -92,7 +95,7 @@ pub record Stands (place : ℕ → Option ℕ) (x : Placing) : Type 0 where
 pub record IsOrdered (place : ℕ → Option ℕ) (x : Placing) : Type 0 where
   pub stands : Stands place x
   pub exact : x.item.position ≤ stands.at
-  pub kind : x.read_only ≡ false
+  pub mode_is : x.mode ≡ modes.Ordered
 
 module _ (place : ℕ → Option ℕ) where
   comes_number : (x y : Placing) → Stands place x → Stands place y → comes_before x y ≡ true → x.number ≤ y.number
@@ -116,7 +119,7 @@ module _ (place : ℕ → Option ℕ) where
       late : x.number < y.number → x.item.position ≤ y.item.position
       late l = let b = s.before y.number t.at l t.is_at in let a = t.after in omega arith
 
-      go : (y.item.position < x.item.position) ⊎ ((x.item.position ≡ y.item.position) × ((y.number < x.number) ⊎ ((x.number ≡ y.number) × (x.read_only ≡ true)))) → y.number ≤ x.number
+      go : (y.item.position < x.item.position) ⊎ ((x.item.position ≡ y.item.position) × ((y.number < x.number) ⊎ ((x.number ≡ y.number) × (x.mode ≡ modes.ReadOnly)))) → y.number ≤ x.number
       go (inl l) = order (cases_order x.number y.number)
         where
           order : (x.number ≡ y.number) ⊎ ((x.number < y.number) ⊎ (y.number < x.number)) → y.number ≤ x.number
@@ -125,7 +128,7 @@ module _ (place : ℕ → Option ℕ) where
           order (inr (inr m)) = omega arith
       go (inr e) = pick e.1
         where
-          pick : (y.number < x.number) ⊎ ((x.number ≡ y.number) × (x.read_only ≡ true)) → y.number ≤ x.number
+          pick : (y.number < x.number) ⊎ ((x.number ≡ y.number) × (x.mode ≡ modes.ReadOnly)) → y.number ≤ x.number
           pick (inl l) = omega arith
           pick (inr l) = let n = l.0 in omega arith
 
@@ -142,7 +145,7 @@ module _ (place : ℕ → Option ℕ) where
       go true e = refl
       go false e = pick (comes_not_cases o x e)
         where
-          pick : (x.item.position < o.item.position) ⊎ ((o.item.position ≡ x.item.position) × ((x.number < o.number) ⊎ ((o.number ≡ x.number) × (o.read_only ≡ true)))) → false ≡ true
+          pick : (x.item.position < o.item.position) ⊎ ((o.item.position ≡ x.item.position) × ((x.number < o.number) ⊎ ((o.number ≡ x.number) × (o.mode ≡ modes.ReadOnly)))) → false ≡ true
           pick (inl m) = order (cases_order o.number x.number)
             where
               order : (o.number ≡ x.number) ⊎ ((o.number < x.number) ⊎ (x.number < o.number)) → false ≡ true
@@ -151,9 +154,9 @@ module _ (place : ℕ → Option ℕ) where
               order (inr (inr n)) = absurd (omega arith)
           pick (inr m) = last m.1
             where
-              last : (x.number < o.number) ⊎ ((o.number ≡ x.number) × (o.read_only ≡ true)) → false ≡ true
+              last : (x.number < o.number) ⊎ ((o.number ≡ x.number) × (o.mode ≡ modes.ReadOnly)) → false ≡ true
               last (inl n) = absurd (omega arith)
-              last (inr n) = sym s.kind ∙ n.1
+              last (inr n) = let bad : modes.Ordered ≡ modes.ReadOnly = sym s.mode_is ∙ n.1 in absurd cc
 
   ordered_not_first : (o x : Placing) → Stands place o → Stands place x → x.number < o.number → comes_before o x ≡ false
   ordered_not_first o x s t l = go (comes_before o x) refl
@@ -198,7 +201,7 @@ position_fits x y = (λ h. one (comes_cases x y h), λ h. two (comes_not_cases x
     one (inl l) = omega arith
     one (inr e) = let k = e.0 in omega arith
 
-    two : (y.item.position < x.item.position) ⊎ ((x.item.position ≡ y.item.position) × ((y.number < x.number) ⊎ ((x.number ≡ y.number) × (x.read_only ≡ true)))) → y.item.position ≤ x.item.position
+    two : (y.item.position < x.item.position) ⊎ ((x.item.position ≡ y.item.position) × ((y.number < x.number) ⊎ ((x.number ≡ y.number) × (x.mode ≡ modes.ReadOnly)))) → y.item.position ≤ x.item.position
     two (inl l) = omega arith
     two (inr e) = let k = e.0 in omega arith
 
@@ -259,7 +262,7 @@ tuples_at r tuples [] = tuples
 tuples_at r tuples (o ∷ os) = tuples_at r (cond (nat_le o.number r) (after_item tuples o.item) tuples) os
 
 pub record IsReadAt (tuples : List TupleTree) (item : Item) : Type 0 where
-  pub kind : is_read_only item.op ≡ true
+  pub is_read : is_read_only item.op ≡ true
   pub answer : item.answer ≡ outcome tuples item.op
 
 pub read_same : (tuples : List TupleTree) (op : Operation) → is_read_only op ≡ true → tuples_after tuples op ≡ tuples
@@ -273,7 +276,7 @@ abbrev items : List Placing → List Item
 items xs = map (λ (x : Placing). x.item) xs
 
 read_legal : (tuples : List TupleTree) (item : Item) (rest : List Item) → IsReadAt tuples item → LegalFrom tuples rest → LegalFrom tuples (item ∷ rest)
-read_legal tuples item rest r h = (r.answer, subst (λ t. LegalFrom t rest) (sym (read_same tuples item.op r.kind)) h)
+read_legal tuples item rest r h = (r.answer, subst (λ t. LegalFrom t rest) (sym (read_same tuples item.op r.is_read)) h)
 
 reads_legal : (tuples : List TupleTree) (rs : List Placing) → AllOf (λ x. IsReadAt tuples x.item) rs → LegalFrom tuples (items rs)
 reads_legal tuples [] a = tt

@@ -1,5 +1,5 @@
 -- Under the weak client too the accepted answers are those of one space.
-use Rattle.std.proofs.Common.{◌≡◌, ℕ, zero, suc, ◌+◌, ◌*◌, ◌≤◌, ◌<◌, inl, inr, true, false, not, List, [], ◌∷◌, ◌++◌, length, map, fold, refl, sym, ap, ◌∙◌, subst, arith, Option, Some, None}
+use Rattle.std.proofs.Common.{◌≡◌, ℕ, zero, suc, ◌+◌, ◌*◌, ◌≤◌, ◌<◌, inl, inr, true, List, [], ◌∷◌, ◌++◌, length, map, fold, refl, sym, ap, ◌∙◌, subst, arith, Option, Some, None}
 use Rattle.std.specs.Prelude.{nat_le, ⊤}
 use Rattle.std.proofs.lemmas.Bool.{and_parts, leb-true}
 use Rattle.std.proofs.lemmas.Slice.Eq.{bytes_eq-Decides}
@@ -8,7 +8,9 @@ use Rattle.tuple_codec.specs.Operations.{Outcome}
 use Rattle.tuple_codec.specs.Spelling.{outcome_spelling}
 use Rattle.quorum.specs.Quorum.{count_below}
 use Rattle.protocol.specs.System.Configuration.{Configuration, IsConfiguration, is_correct, is_correct_replica, is_correct_client}
+use Rattle.terms.specs.declared.order.Mode.TheVariants as modes
 use Rattle.wire.specs.Words.{requests_of, said}
+use Rattle.protocol.specs.System.Frames.{same_mode}
 use Rattle.wire.specs.Reading.{requests_at}
 use Rattle.protocol.specs.System.Trace.{Entry, party_of, history_of, Once, Always, Has, Unforged}
 use Rattle.protocol.specs.System.Trace.Entry.{Invoke, Got, Tick, Executed, Installed, Sent, Accepted}
@@ -21,8 +23,8 @@ use Rattle.protocol.proofs.Words.Temporal.{once_weaker, once_in_history}
 use Rattle.protocol.proofs.Words.Linking.{heard_was_said}
 use Rattle.protocol.proofs.Agreement.Voting.{correct_replica}
 use Rattle.protocol.proofs.Agreement.States.{once_append, always_append, correct_of}
-use Rattle.protocol.proofs.Points.Reading.{asking, correct_client, own_entries}
-use Rattle.protocol.proofs.Points.Ordering.{ordering, latest_ordered}
+use Rattle.protocol.proofs.Points.Reading.{asking, correct_client, own_entries, latest_heard}
+use Rattle.protocol.proofs.Points.Ordering.{ordering}
 use Rattle.protocol.proofs.Points.Legality.{item_of, legal_ran, map_items, ran_items, executed_tuples}
 use Rattle.protocol.proofs.Points.Running.{Run, given_executed, once_run}
 use Rattle.protocol.proofs.Points.Sorting.{AllOf, all_weaker, all_append, all_has}
@@ -189,7 +191,7 @@ module _ (c : Configuration) (setting : IsConfiguration c) (trace : List Entry) 
       asks : Once (AsksFrame c s.from.frame) trace
       asks = executed_asked c trace s.number (batch_of trace s.number) run (batch_executed c trace s.number s.from.frame run s.from.is_there) s.from.frame s.ran.call s.from.is_there s.from.is_call
 
-      spelled : said s.from.frame ≡ Some (asking (256 + s.ran.call.client) s.ran.call.timestamp false s.ran.call.op)
+      spelled : said s.from.frame ≡ Some (asking (256 + s.ran.call.client) s.ran.call.timestamp modes.Ordered s.ran.call.op)
       spelled = call_body c s.from.frame s.ran.call s.from.is_call
 
       asked : Once (λ past e. Asks c (256 + s.ran.call.client) s.ran.call.timestamp s.ran.call.op past e × (length past ≤ length trace)) trace
@@ -202,9 +204,9 @@ module _ (c : Configuration) (setting : IsConfiguration c) (trace : List Entry) 
 
       invoked : is_correct_client c (256 + s.ran.call.client) ≡ true → Once (Invokes (256 + s.ran.call.client) s.ran.call.timestamp s.ran.call.op) trace
       invoked correct =
-          let says = asks_said c trace s.from.frame (asking (256 + s.ran.call.client) s.ran.call.timestamp false s.ran.call.op) run.runs spelled (correct_client c (256 + s.ran.call.client) correct) asks in
+          let says = asks_said c trace s.from.frame (asking (256 + s.ran.call.client) s.ran.call.timestamp modes.Ordered s.ran.call.op) run.runs spelled (correct_client c (256 + s.ran.call.client) correct) asks in
           invoked_in_trace (256 + s.ran.call.client) s.ran.call.timestamp s.ran.call.op trace
-          (asked_op c (256 + s.ran.call.client) s.ran.call.timestamp false s.ran.call.op (history_of (256 + s.ran.call.client) trace) (run.runs.clients (256 + s.ran.call.client) correct) says)
+          (asked_op c (256 + s.ran.call.client) s.ran.call.timestamp modes.Ordered s.ran.call.op (history_of (256 + s.ran.call.client) trace) (run.runs.clients (256 + s.ran.call.client) correct) says)
 
   all_facts : AllOf (λ x. Facts x.item) all_ran
   all_facts = all_weaker (RanFrom c trace (length trace)) (λ x. Facts x.item) facts_of all_ran (ran_sources c trace (length trace) opening 1 (last_executed trace))
@@ -235,11 +237,11 @@ module _ (c : Configuration) (setting : IsConfiguration c) (trace : List Entry) 
           → ((Q : List Entry → Entry → Type 0) → Once Q past → Once Q (history_of p trace)) → Always (λ past e. party_of e ≡ p) past
           → Has (λ x. (x.item.client ≡ p) × (x.item.timestamp ≡ t) × (x.item.answer ≡ a) × Once (Invokes p t x.item.op) trace) all_ran
       found past vote answer newest complete emb own =
-          let q = and_parts (not vote.read_only) (nat_le (c.faults + 1) (count_below (λ s. is_same_answer vote (latest c p past t false s)) (3 * c.faults + 1))) complete in
-          let enough : c.faults + 1 ≤ count_below (λ s. is_same_answer vote (latest c p past t false s)) (3 * c.faults + 1) = leb-true (c.faults + 1) (count_below (λ s. is_same_answer vote (latest c p past t false s)) (3 * c.faults + 1)) q.1 in
-          let more : c.faults < count_below (λ s. is_same_answer vote (latest c p past t false s)) (3 * c.faults + 1) = omega arith in
-          let s = correct_of c setting (λ s. is_same_answer vote (latest c p past t false s)) more in
-          by s.0 s.1 (latest c p past t false s.0) refl s.2
+          let q = and_parts (same_mode vote.mode modes.Ordered) (nat_le (c.faults + 1) (count_below (λ s. is_same_answer vote (latest c p past t modes.Ordered s)) (3 * c.faults + 1))) complete in
+          let enough : c.faults + 1 ≤ count_below (λ s. is_same_answer vote (latest c p past t modes.Ordered s)) (3 * c.faults + 1) = leb-true (c.faults + 1) (count_below (λ s. is_same_answer vote (latest c p past t modes.Ordered s)) (3 * c.faults + 1)) q.1 in
+          let more : c.faults < count_below (λ s. is_same_answer vote (latest c p past t modes.Ordered s)) (3 * c.faults + 1) = omega arith in
+          let s = correct_of c setting (λ s. is_same_answer vote (latest c p past t modes.Ordered s)) more in
+          by s.0 s.1 (latest c p past t modes.Ordered s.0) refl s.2
         where
           shows : (x : Placing) → Has (λ y. y ≡ x) all_ran → x.item.client ≡ p → x.item.timestamp ≡ t → x.item.answer ≡ a
               → Has (λ x. (x.item.client ≡ p) × (x.item.timestamp ≡ t) × (x.item.answer ≡ a) × Once (Invokes p t x.item.op) trace) all_ran
@@ -249,16 +251,16 @@ module _ (c : Configuration) (setting : IsConfiguration c) (trace : List Entry) 
               let moved : Once (Invokes p t x.item.op) trace = subst (λ (i : ℕ). Once (Invokes p i x.item.op) trace) is_t (subst (λ (i : ℕ). Once (Invokes i x.item.timestamp x.item.op) trace) is_p own) in
               has_at (λ x. (x.item.client ≡ p) × (x.item.timestamp ≡ t) × (x.item.answer ≡ a) × Once (Invokes p t x.item.op) trace) all_ran x has (is_p, is_t, is_a, moved)
 
-          by : (s : ℕ) → is_correct_replica c s ≡ true → (o : Option Vote) → latest c p past t false s ≡ o → is_same_answer vote o ≡ true
+          by : (s : ℕ) → is_correct_replica c s ≡ true → (o : Option Vote) → latest c p past t modes.Ordered s ≡ o → is_same_answer vote o ≡ true
               → Has (λ x. (x.item.client ≡ p) × (x.item.timestamp ≡ t) × (x.item.answer ≡ a) × Once (Invokes p t x.item.op) trace) all_ran
           by s from None is k = absurd cc
           by s from (Some v) is k =
-              let hears = emb (Hears c p (ordering s p t v.number v.answer)) (latest_ordered c p t s v past own is) in
+              let hears = emb (Hears c p (ordering s p t v.number v.answer)) (latest_heard c p t modes.Ordered s v past own is) in
               let said' = heard_was_said c trace p (ordering s p t v.number v.answer) unforged (correct_client c p client) (correct_replica c s from) hears in
-              let r = replied c trace s p t false v.number v.answer run from said' in
+              let r = replied c trace s p t modes.Ordered v.number v.answer run from said' in
               let ran = ordered_replied c trace s p t v.number v.answer run from client r in
               let there = has_some (IsRanAt (length trace) (Answers p t v.number v.answer)) all_ran (ran_there c trace (length trace) opening 1 (last_executed trace) (Answers p t v.number v.answer) ran) in
-              let same : v.answer ≡ vote.answer = same_outcome v.answer vote.answer (heard_answer c p s t false v.number v.answer (history_of p trace) hears) (newest_answer c p t vote past newest)
+              let same : v.answer ≡ vote.answer = same_outcome v.answer vote.answer (heard_answer c p s t modes.Ordered v.number v.answer (history_of p trace) hears) (newest_answer c p t vote past newest)
               ((bytes_eq-Decides (outcome_spelling v.answer) (outcome_spelling vote.answer)).0 k) in
               shows there.0 there.1 (ap (λ (x : Placing). x.item.client) there.2.is ∙ there.2.holds.0) (ap (λ (x : Placing). x.item.timestamp) there.2.is ∙ there.2.holds.1)
               (ap (λ (x : Placing). x.item.answer) there.2.is ∙ there.2.holds.2 ∙ same ∙ answer)

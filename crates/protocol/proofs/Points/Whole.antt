@@ -5,6 +5,8 @@ use Rattle.std.proofs.lemmas.Bool.{and_parts}
 use Rattle.protocol.proofs.Words.Options
 use Rattle.protocol.proofs.Agreement.States
 use Rattle.protocol.specs.System.Configuration.{Configuration, IsConfiguration, is_correct_client}
+use Rattle.terms.specs.declared.order.Mode.{Mode}
+use Rattle.terms.specs.declared.order.Mode.TheVariants as modes
 use Rattle.protocol.specs.System.Trace.{Entry, party_of, history_of, Once, Always, Unforged, Has}
 use Rattle.protocol.specs.System.Trace.Entry.{Invoke, Got, Tick, Executed, Installed, Sent, Accepted}
 use Rattle.space.specs.Applying.{tuples_after}
@@ -21,7 +23,7 @@ use Rattle.protocol.proofs.Points.Ran.{Source, ordered_sources, source_ordered, 
 use Rattle.protocol.proofs.Points.Keeping.{IsRanPoint, Differ, AllDiffer, differ_filter, differ_append, differ_sorted, differ_same, none_twice, points_differ, opening_full}
 use Rattle.protocol.proofs.Points.Invoking.{once_split, one_invocation, ran_asked, ran_invoked}
 use Rattle.protocol.proofs.Points.Accepting.{FullRun, full_part, Accepting, accepting, Answers, accepted_place, accepted_level, read_before, full_earlier}
-use Rattle.protocol.proofs.Points.Readings.{read_of, MadeAt, KindAt, reads_made, made_read, made_kind, one_kind, reads_differ, all_ordered, ReadFacts, read_facts, read_bound, ordered_has}
+use Rattle.protocol.proofs.Points.Readings.{read_of, MadeAt, ModeAt, reads_made, made_read, made_mode, one_mode, reads_differ, all_ordered, ReadFacts, read_facts, read_bound, ordered_has}
 use Rattle.protocol.specs.Space.Linear.{last_executed}
 use Rattle.tuple_codec.specs.Operations.{Operation, Outcome}
 use Rattle.protocol.specs.System.Run.{IsRun}
@@ -155,10 +157,10 @@ module _ (c : Configuration) (trace : List Entry) (full : FullRun c trace) where
           let x = accepting c past cl t a (full_part c later (Accepted cl t a ∷ past) (subst (FullRun c) is full)) in
           let call = Options.some_injective x.call m.0 (sym x.opened ∙ m.2) in
           let vote = Options.some_injective x.vote m.1 (sym x.newest ∙ m.3) in
-          let kind : x.vote.read_only ≡ true = ap (λ (v : Vote). v.read_only) vote ∙ m.4 in
+          let in_mode : x.vote.mode ≡ modes.ReadOnly = ap (λ (v : Vote). v.mode) vote ∙ m.4 in
           let same : read_of c trace (256 + cl) x.call a past x.vote ≡ y =
           ap (λ (o : OpenCall). read_of c trace (256 + cl) o a past x.vote) call ∙ ap (λ (v : Vote). read_of c trace (256 + cl) m.0 a past v) vote ∙ m.5 in
-          subst (ReadFacts c trace) same (read_facts c trace run later past (Accepted cl t a) is (256 + cl) t a x kind)
+          subst (ReadFacts c trace) same (read_facts c trace run later past (Accepted cl t a) is (256 + cl) t a x in_mode)
       go later past (Invoke x z w) is m = absurd m
       go later past (Got x z) is m = absurd m
       go later past (Tick x) is m = absurd m
@@ -188,7 +190,7 @@ module _ (c : Configuration) (trace : List Entry) (full : FullRun c trace) where
           let same : o.item.op ≡ d.0.item.op =
           one_invocation c o.item.client o.item.timestamp o.item.op d.0.item.op (history_of o.item.client trace) (run.runs.clients o.item.client client)
           (invoked_in_history o.item.client o.item.timestamp o.item.op trace own) (invoked_in_history o.item.client o.item.timestamp d.0.item.op trace moved) in
-          ap (tuples_after ts) same ∙ read_same ts d.0.item.op y.right.kind
+          ap (tuples_after ts) same ∙ read_same ts d.0.item.op y.right.is_read
         where
           double : (b : Bool) → not b ≡ false → b ≡ true
           double true e = refl
@@ -228,7 +230,7 @@ module _ (c : Configuration) (trace : List Entry) (full : FullRun c trace) where
     bound : point.item.position ≤ length past
 
   shown : (later past : List Entry) (cl t : ℕ) (a : Outcome) → trace ≡ later ++ Accepted cl t a ∷ past → Shown (256 + cl) t a past
-  shown later past cl t a is = go x.vote.read_only refl
+  shown later past cl t a is = go x.vote.mode refl
     where
       x : Accepting c past (256 + cl) t a
       x = accepting c past cl t a (full_part c later (Accepted cl t a ∷ past) (subst (FullRun c) is full))
@@ -236,18 +238,18 @@ module _ (c : Configuration) (trace : List Entry) (full : FullRun c trace) where
       whole : (Q : List Entry → Entry → Type 0) → Q past (Accepted cl t a) → Once Q trace
       whole Q h = subst (λ (ys : List Entry). Once Q ys) (sym is) (States.once_append Q later (Accepted cl t a ∷ past) (inl h))
 
-      go : (b : Bool) → x.vote.read_only ≡ b → Shown (256 + cl) t a past
-      go true kind = record {
+      go : (mode : Mode) → x.vote.mode ≡ mode → Shown (256 + cl) t a past
+      go modes.ReadOnly in_mode = record {
         point = read_of c trace (256 + cl) x.call a past x.vote;
         is_there = has_right (λ z. z ≡ read_of c trace (256 + cl) x.call a past x.vote) kept reads
-            (made_read c trace (read_of c trace (256 + cl) x.call a past x.vote) trace (whole (MadeAt c trace (read_of c trace (256 + cl) x.call a past x.vote)) (x.call, x.vote, x.opened, x.newest, kind, refl)));
+            (made_read c trace (read_of c trace (256 + cl) x.call a past x.vote) trace (whole (MadeAt c trace (read_of c trace (256 + cl) x.call a past x.vote)) (x.call, x.vote, x.opened, x.newest, in_mode, refl)));
         client = refl;
         time = x.time;
         answer = refl;
         bound = read_bound c trace run later past (Accepted cl t a) is (256 + cl) t a x;
       }
-      go false kind =
-          let r = has_some (IsRanPoint c trace (Answers (256 + cl) t x.vote.number x.vote.answer)) (all_ordered c trace) (ordered_has c trace run later past (Accepted cl t a) is (256 + cl) t a x kind) in
+      go modes.Ordered in_mode =
+          let r = has_some (IsRanPoint c trace (Answers (256 + cl) t x.vote.number x.vote.answer)) (all_ordered c trace) (ordered_has c trace run later past (Accepted cl t a) is (256 + cl) t a x in_mode) in
           let q = accepted_place c trace later past (Accepted cl t a) (256 + cl) t a is x in
           let f = r.2 in
           let client : r.0.item.client ≡ 256 + cl = ap (λ (z : Placing). z.item.client) f.is ∙ f.holds.0 in
@@ -269,9 +271,9 @@ module _ (c : Configuration) (trace : List Entry) (full : FullRun c trace) where
           single z client time true e =
               let d = double_has reads z e in
               let made = all_has (λ y. Once (MadeAt c trace y) trace) reads d.0 (reads_made c trace trace) d.1 in
-              let read = made_kind c trace d.0 trace full made in
-              let moved : Once (KindAt c true (256 + cl) t) trace = subst (λ (i : ℕ). Once (KindAt c true (256 + cl) i) trace) (d.3 ∙ time) (subst (λ (i : ℕ). Once (KindAt c true i d.0.item.timestamp) trace) (d.2 ∙ client) read) in
-              absurd (one_kind c (256 + cl) t trace full moved (whole (KindAt c false (256 + cl) t) (refl, refl, (x.vote, x.newest, kind))))
+              let read = made_mode c trace d.0 trace full made in
+              let moved : Once (ModeAt c modes.ReadOnly (256 + cl) t) trace = subst (λ (i : ℕ). Once (ModeAt c modes.ReadOnly (256 + cl) i) trace) (d.3 ∙ time) (subst (λ (i : ℕ). Once (ModeAt c modes.ReadOnly i d.0.item.timestamp) trace) (d.2 ∙ client) read) in
+              absurd (one_mode c (256 + cl) t trace full moved (whole (ModeAt c modes.Ordered (256 + cl) t) (refl, refl, (x.vote, x.newest, in_mode))))
 
   accepted_there : (p t : ℕ) (a : Outcome) → is_correct_client c p ≡ true → Once (Accepts p t a) trace
       → Has (λ item. (item.client ≡ p) × (item.timestamp ≡ t) × (item.answer ≡ a) × Once (Invokes p t item.op) trace) (map (λ (x : Placing). x.item) (sorted all_points))
@@ -389,7 +391,7 @@ levels_of_safe c setting trace right unforged apart = each trace (full_run c set
   where
     at : (past : List Entry) (e : Entry) → FullRun c (e ∷ past) → AtItsLevel c past e
     at past (Accepted k t a) full =
-        let x = accepting c past k t a full in (x.vote, x.newest, accepted_level c past (256 + k) t a x, λ kind n above. read_before c past (256 + k) t a x kind n above)
+        let x = accepting c past k t a full in (x.vote, x.newest, accepted_level c past (256 + k) t a x, λ in_mode n above. read_before c past (256 + k) t a x in_mode n above)
     at past (Invoke x y z) full = tt
     at past (Got x y) full = tt
     at past (Tick x) full = tt

@@ -1,5 +1,5 @@
 -- Batches leave states.
-use Rattle.std.proofs.Common.{◌≡◌, ℕ, zero, suc, ◌+◌, ◌-◌, ◌*◌, ◌^◌, ◌≤◌, ◌<◌, ◌⊎◌, inl, inr, Bool, true, false, not, cond, List, [], ◌∷◌, length, map, take, refl, sym, ap, ◌∙◌, subst, arith, ◌&&◌, Option, Some, None}
+use Rattle.std.proofs.Common.{◌≡◌, ℕ, zero, suc, ◌+◌, ◌-◌, ◌*◌, ◌^◌, ◌≤◌, ◌<◌, ◌⊎◌, inl, inr, Bool, true, false, cond, List, [], ◌∷◌, length, map, take, refl, sym, ap, ◌∙◌, subst, arith, ◌&&◌, Option, Some, None}
 use Rattle.std.specs.Prelude.{fold, filter, find, replicate, is_some, All}
 use Rattle.std.specs.Option.{option_map_or}
 use Rattle.std.proofs.lemmas.Bool.{ltb-true}
@@ -15,7 +15,8 @@ use Rattle.space.proofs.Batches.{next_after}
 use Rattle.protocol.specs.System.Configuration.{Configuration, is_client}
 use Rattle.wire.specs.Messages.{MessageData as Message, request as Request}
 use Rattle.wire.specs.Words.{requests_of, said}
-use Rattle.protocol.specs.System.Frames.{reads_only}
+use Rattle.terms.specs.declared.order.Mode.TheVariants as modes
+use Rattle.protocol.specs.System.Frames.{same_mode}
 use Rattle.reply_cache.specs.Replies.{Kept, Replies, no_replies, last_of, with_reply, IsKept, IsReply, AreReplies}
 use Rattle.reply_cache.proofs.Slots.{AreReplies-none}
 use Rattle.protocol.specs.Replica.State.{State, IsState, Call, opening, tuples, kept_of, last_time, call_in, call_of, runs, kept_by, ran_call, run_call, run_frame, execute, after_batches}
@@ -118,7 +119,7 @@ call_fits c frame call h =
     go r.0.sender r.0.message (said_fits frame r.0 r.1) r.2
   where
     go : (sender : ℕ) (message : Message) → FitsMessage message → call_in c (record { sender = sender; message = message }) ≡ Some call → (call.timestamp < 2 ^ 64) × IsOperation call.op
-    go sender (Request t mode op) f h = pick (not (reads_only mode) && is_client c sender) h
+    go sender (Request t mode op) f h = pick (same_mode mode modes.Ordered && is_client c sender) h
       where
         pick : (b : Bool) → cond b (Some (let x : Call = record { client = sender - 256; timestamp = t; op = op } in x)) None ≡ Some call → (call.timestamp < 2 ^ 64) × IsOperation call.op
         pick true h =

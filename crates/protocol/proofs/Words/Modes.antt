@@ -1,15 +1,15 @@
--- The two modes are the two truth values.
-use Rattle.std.proofs.Common.{◌≡◌, Bool, true, false, refl}
+-- Laws of the test of two modes.
+use Rattle.std.proofs.Common.{◌≡◌, true, refl}
 use Rattle.terms.specs.declared.order.Mode.{Mode}
 use Rattle.terms.specs.declared.order.Mode.TheVariants as modes
-use Rattle.protocol.specs.System.Frames.{reads_only, mode_of}
+use Rattle.protocol.specs.System.Frames.{same_mode}
 
-pub mode_is : (mode : Mode) (b : Bool) → reads_only mode ≡ b → mode ≡ mode_of b
-mode_is modes.Ordered false h = refl
-mode_is modes.Ordered true h = absurd cc
-mode_is modes.ReadOnly true h = refl
-mode_is modes.ReadOnly false h = absurd cc
+pub same_mode-refl : (mode : Mode) → same_mode mode mode ≡ true
+same_mode-refl modes.Ordered = refl
+same_mode-refl modes.ReadOnly = refl
 
-pub reads_mode : (b : Bool) → reads_only (mode_of b) ≡ b
-reads_mode false = refl
-reads_mode true = refl
+pub same_mode-true : (mode other : Mode) → same_mode mode other ≡ true → mode ≡ other
+same_mode-true modes.Ordered modes.Ordered h = refl
+same_mode-true modes.ReadOnly modes.ReadOnly h = refl
+same_mode-true modes.Ordered modes.ReadOnly h = absurd cc
+same_mode-true modes.ReadOnly modes.Ordered h = absurd cc

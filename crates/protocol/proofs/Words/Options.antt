@@ -2,7 +2,8 @@
 use Rattle.std.proofs.Common.{◌≡◌, ◌⊎◌, inl, inr, Bool, true, false, List, [], ◌∷◌, Option, Some, None, refl}
 use Rattle.std.specs.Prelude.{option_and_then}
 use Rattle.protocol.specs.System.Trace.{Entry, Once}
-use Rattle.quorum.specs.Votes.{or_else, give_if}
+use Rattle.std.specs.Bool.{then_some}
+use Rattle.quorum.specs.Votes.{or_else}
 use Rattle.protocol.specs.Replica.Certificates.{first_given}
 
 pub or_else_first : {A : Type 0} (o later : Option A) (x : A) → o ≡ Some x → or_else o later ≡ Some x
@@ -21,9 +22,9 @@ pub or_else_cases : {A : Type 0} (o later : Option A) (x : A) → or_else o late
 or_else_cases None later x e = inr e
 or_else_cases (Some y) later x e = inl e
 
-pub give_if_some : {A : Type 0} (b : Bool) (x y : A) → give_if b x ≡ Some y → (b ≡ true) × (x ≡ y)
-give_if_some true x y e = (refl, cc)
-give_if_some false x y e = absurd cc
+pub then_some_gives : {A : Type 0} (b : Bool) (x y : A) → then_some b x ≡ Some y → (b ≡ true) × (x ≡ y)
+then_some_gives true x y e = (refl, cc)
+then_some_gives false x y e = absurd cc
 
 pub some_injective : {A : Type 0} (x y : A) → Some x ≡ Some y → x ≡ y
 some_injective x y e = cc

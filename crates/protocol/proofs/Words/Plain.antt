@@ -3,7 +3,7 @@
 use Rattle.std.specs.Option.{option_map_or}
 use Rattle.std.proofs.Common.{◌≡◌, ℕ, Bool, true, false, cond, List, ◌∷◌, refl, ap, ◌∙◌, arith, Option, Some, None}
 use Rattle.std.specs.Prelude.{option_and_then, ⊤}
-use Rattle.quorum.specs.Votes.{give_if}
+use Rattle.std.specs.Bool.{then_some}
 use Rattle.protocol.specs.System.Configuration.{Configuration, members}
 use Rattle.wire.specs.Messages.{BodyData as Body, MessageData as Message, CheckpointEntryData as CheckpointEntry, NewViewData, request as Request, pre_prepare as PrePrepare, prepare as Prepare, commit as Commit, reply as Reply, fetch as Fetch, meta as Meta, page as Page}
 use Rattle.signing.specs.Heard.{heard}
@@ -82,11 +82,11 @@ unfolding low
 low_same c me past e no_checkpoint no_installation no_view =
     let stable : stable_at c me past e ≡ 0 = ap (λ (o : Option (ℕ × CheckpointEntry)). option_map_or (λ (x : ℕ × CheckpointEntry). cond (is_stable c me (e ∷ past) x.1) x.1.number 0) o 0) no_checkpoint in
     let started : started_at c past e ≡ 0 =
-    ap (λ (o : Option NewViewData). option_map_or (λ (new : NewViewData). new.start) (option_and_then (λ (new : NewViewData). give_if (is_later (view c past) (target past) new) new) o) 0) no_view in
+    ap (λ (o : Option NewViewData). option_map_or (λ (new : NewViewData). new.start) (option_and_then (λ (new : NewViewData). then_some (is_later (view c past) (target past) new) new) o) 0) no_view in
     omega arith
 
 pub taken_none : (c : Configuration) (past : List Entry) (e : Entry) → Plain c past e → taken c past e ≡ None
-taken_none c past e q = ap (option_and_then (λ (new : NewViewData). give_if (is_later (view c past) (target past) new) new)) q.view
+taken_none c past e q = ap (option_and_then (λ (new : NewViewData). then_some (is_later (view c past) (target past) new) new)) q.view
 
 pub plain_view : (c : Configuration) (past : List Entry) (e : Entry) → Plain c past e → view c (e ∷ past) ≡ view c past
 unfolding view

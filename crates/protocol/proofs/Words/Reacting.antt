@@ -1,15 +1,15 @@
 -- What a client gives in its events, it may do; and so for a replica.
 use Rattle.std.proofs.Common.{◌≡◌, ℕ, inl, inr, Bool, true, false, not, cond, List, [], ◌∷◌, ◌++◌, refl, sym, ap, ◌∙◌, subst, ◌&&◌, Option, Some, None, reverse}
 use Rattle.std.specs.Option.{option_map_or}
-use Rattle.tuple_codec.specs.Operations.{Outcome}
 use Rattle.space.specs.Applying.{is_read_only}
-use Rattle.protocol.specs.System.Frames.{mode_of}
-use Rattle.protocol.proofs.Words.Modes.{reads_mode}
+use Rattle.terms.specs.declared.order.Mode.{Mode}
+use Rattle.terms.specs.declared.order.Mode.TheVariants as modes
+use Rattle.tuple_codec.specs.Operations.{Operation, Outcome}
 use Rattle.protocol.specs.System.Configuration.{Configuration}
 use Rattle.wire.specs.Messages.{request as Request}
 use Rattle.protocol.specs.System.Trace.{Entry, party_of, is_output, Always, either}
 use Rattle.protocol.specs.System.Trace.Entry.{Invoke, Got, Tick, Executed, Installed, Sent, Accepted}
-use Rattle.protocol.specs.Client.RightClient.{OpenCall, open_call, Vote, newest_vote, is_complete, went_ordered, is_answered, Reaction, fallback, on_reply, on_got, reaction, is_weakly_complete, weakly_on_got, weak_reaction, IsReaction, MayInput, Reacts, IsClientBy, IsClient, IsWeakClient, MayAccept, MayWeaklyAccept, MayClient, RightBy, SafeClient, SafeWeakClient}
+use Rattle.protocol.specs.Client.RightClient.{OpenCall, open_call, Vote, newest_vote, is_complete, went_ordered, is_answered, Reaction, fallback, on_reply, on_got, first_mode, reaction, is_weakly_complete, weakly_on_got, weak_reaction, IsReaction, MayInput, Reacts, IsClientBy, IsClient, IsWeakClient, MayAccept, MayWeaklyAccept, MayClient, RightBy, SafeClient, SafeWeakClient}
 use Rattle.protocol.specs.Client.RightClient.Reaction.{nothing, asks, accepts}
 use Rattle.protocol.specs.Replica.RightReplica.{first_point, Point, Leaves, SafeReplica, waiting_after}
 use Rattle.protocol.specs.Replica.Owed.{Owes, Proceeds, IsInput, IsReplica}
@@ -24,7 +24,7 @@ module _ (c : Configuration) (me : ℕ) (react : List Entry → Reaction) where
     where
       two : (r : Reaction) → IsReaction c me r (x ∷ y ∷ outputs) → ⊥
       two nothing k = cc
-      two (asks read_only call) k = let bad : x ∷ y ∷ outputs ≡ Sent me k.0 ∷ [] = k.1 in cc
+      two (asks mode call) k = let bad : x ∷ y ∷ outputs ≡ Sent me k.0 ∷ [] = k.1 in cc
       two (accepts t a) k = let bad : x ∷ y ∷ outputs ≡ Accepted k.0 t a ∷ [] = k.1 in cc
 
       go : (b : Bool) → either b (Reacts c me react (e ∷ x ∷ y ∷ outputs) past) (MayInput past e × IsReaction c me (react (e ∷ past)) (x ∷ y ∷ outputs) × Reacts c me react [] past)
@@ -33,18 +33,18 @@ module _ (c : Configuration) (me : ℕ) (react : List Entry → Reaction) where
       go false k below = two (react (e ∷ past)) k.1
 
 module _ (c : Configuration) (me : ℕ) (react : List Entry → Reaction) (Accepting : List Entry → ℕ → Outcome → Type 0)
-    (asks_open : (now : List Entry) (read_only : Bool) (call : OpenCall) → react now ≡ asks read_only call → (open_call now ≡ Some call) × (read_only ≡ true → is_read_only call.op ≡ true))
+    (asks_open : (now : List Entry) (mode : Mode) (call : OpenCall) → react now ≡ asks mode call → (open_call now ≡ Some call) × (mode ≡ modes.ReadOnly → is_read_only call.op ≡ true))
     (accepts_may : (now : List Entry) (t : ℕ) (a : Outcome) → react now ≡ accepts t a → Accepting now t a) where
   -- it is what the client may do
   output_may : (e : Entry) (outputs now : List Entry) (r : Reaction) → react now ≡ r → IsReaction c me r (e ∷ outputs) → MayClient Accepting me now e
   output_may e outputs now nothing is h = absurd cc
-  output_may e outputs now (asks read_only call) is h = subst (MayClient Accepting me now) (sym (head e (Sent me h.0) outputs h.1)) asked
+  output_may e outputs now (asks mode call) is h = subst (MayClient Accepting me now) (sym (head e (Sent me h.0) outputs h.1)) asked
     where
       head : (x y : Entry) (xs : List Entry) → x ∷ xs ≡ y ∷ [] → x ≡ y
       head x y xs e = cc
 
       asked : MayClient Accepting me now (Sent me h.0)
-      asked = let may = asks_open now read_only call is in (record { sender = me; message = Request call.timestamp (mode_of read_only) call.op }, h.2.says, refl, (may.0, λ e. may.1 (sym (reads_mode read_only) ∙ e)))
+      asked = (record { sender = me; message = Request call.timestamp mode call.op }, h.2.says, refl, asks_open now mode call is)
   output_may e outputs now (accepts t a) is h = subst (MayClient Accepting me now) (sym (head e (Accepted h.0 t a) outputs h.1)) (accepts_may now t a is)
     where
       head : (x y : Entry) (xs : List Entry) → x ∷ xs ≡ y ∷ [] → x ≡ y
@@ -83,72 +83,80 @@ module _ (c : Configuration) (me : ℕ) (react : List Entry → Reaction) (Accep
 
 -- ---- the client
 
-falls_back : (c : Configuration) (me : ℕ) (now : List Entry) (call x : OpenCall) (read_only : Bool) → fallback c me now call ≡ asks read_only x → (x ≡ call) × (read_only ≡ false)
-falls_back c me now call x read_only h = go (not (went_ordered now call.timestamp) && is_answered c me now call.timestamp) h
+falls_back : (c : Configuration) (me : ℕ) (now : List Entry) (call x : OpenCall) (mode : Mode) → fallback c me now call ≡ asks mode x → (x ≡ call) × (mode ≡ modes.Ordered)
+falls_back c me now call x mode h = go (not (went_ordered now call.timestamp) && is_answered c me now call.timestamp) h
   where
-    go : (b : Bool) → cond b (asks false call) nothing ≡ asks read_only x → (x ≡ call) × (read_only ≡ false)
-    go true h = (sym (called h), sym (kind h))
+    go : (b : Bool) → cond b (asks modes.Ordered call) nothing ≡ asks mode x → (x ≡ call) × (mode ≡ modes.Ordered)
+    go true h = (sym (called h), sym (in_mode h))
       where
-        called : asks false call ≡ asks read_only x → call ≡ x
+        called : asks modes.Ordered call ≡ asks mode x → call ≡ x
         called e = cc
 
-        kind : asks false call ≡ asks read_only x → false ≡ read_only
-        kind e = cc
+        in_mode : asks modes.Ordered call ≡ asks mode x → modes.Ordered ≡ mode
+        in_mode e = cc
     go false h = absurd cc
 
 falls_not : (c : Configuration) (me : ℕ) (now : List Entry) (call : OpenCall) (t : ℕ) (a : Outcome) → fallback c me now call ≡ accepts t a → ⊥
 falls_not c me now call t a h = go (not (went_ordered now call.timestamp) && is_answered c me now call.timestamp) h
   where
-    go : (b : Bool) → cond b (asks false call) nothing ≡ accepts t a → ⊥
+    go : (b : Bool) → cond b (asks modes.Ordered call) nothing ≡ accepts t a → ⊥
     go true h = cc
     go false h = cc
 
-not_true : (b : Bool) → b ≡ false → b ≡ true → (X : Type 0) → X
-not_true true e f X = absurd cc
-not_true false e f X = absurd cc
+not_read : (mode : Mode) → mode ≡ modes.Ordered → mode ≡ modes.ReadOnly → (X : Type 0) → X
+not_read modes.Ordered e f X = absurd cc
+not_read modes.ReadOnly e f X = absurd cc
 
-got_asks : (c : Configuration) (me : ℕ) (now : List Entry) (call x : OpenCall) (read_only : Bool) → on_got c me now call ≡ asks read_only x → (x ≡ call) × (read_only ≡ false)
-got_asks c me now call x read_only h = go (newest_vote c me now call.timestamp) h
+-- what is asked read-only first is a read
+first_read : (op : Operation) → first_mode op ≡ modes.ReadOnly → is_read_only op ≡ true
+first_read op h = go (is_read_only op) h
   where
-    go : (o : Option Vote) → option_map_or (on_reply c me now call) o nothing ≡ asks read_only x → (x ≡ call) × (read_only ≡ false)
+    go : (b : Bool) → cond b modes.ReadOnly modes.Ordered ≡ modes.ReadOnly → b ≡ true
+    go true h = refl
+    go false h = absurd cc
+
+got_asks : (c : Configuration) (me : ℕ) (now : List Entry) (call x : OpenCall) (mode : Mode) → on_got c me now call ≡ asks mode x → (x ≡ call) × (mode ≡ modes.Ordered)
+got_asks c me now call x mode h = go (newest_vote c me now call.timestamp) h
+  where
+    go : (o : Option Vote) → option_map_or (on_reply c me now call) o nothing ≡ asks mode x → (x ≡ call) × (mode ≡ modes.Ordered)
     go None h = absurd cc
     go (Some vote) h = test (is_complete c me now call.timestamp vote) h
       where
-        test : (b : Bool) → cond b (accepts call.timestamp vote.answer) (fallback c me now call) ≡ asks read_only x → (x ≡ call) × (read_only ≡ false)
+        test : (b : Bool) → cond b (accepts call.timestamp vote.answer) (fallback c me now call) ≡ asks mode x → (x ≡ call) × (mode ≡ modes.Ordered)
         test true h = absurd cc
-        test false h = falls_back c me now call x read_only h
+        test false h = falls_back c me now call x mode h
 
-client_asks : (c : Configuration) (me : ℕ) (now : List Entry) (read_only : Bool) (call : OpenCall) → reaction c me now ≡ asks read_only call → (open_call now ≡ Some call) × (read_only ≡ true → is_read_only call.op ≡ true)
-client_asks c me [] read_only call h = absurd cc
-client_asks c me (Invoke client t op ∷ past) read_only call h =
+client_asks : (c : Configuration) (me : ℕ) (now : List Entry) (mode : Mode) (call : OpenCall) → reaction c me now ≡ asks mode call → (open_call now ≡ Some call) × (mode ≡ modes.ReadOnly → is_read_only call.op ≡ true)
+client_asks c me [] mode call h = absurd cc
+client_asks c me (Invoke client t op ∷ past) mode call h =
     let same : ◌≡◌ {A = OpenCall} (record { timestamp = t; op = op }) call = called h in
-    (ap Some same, λ e. ap (λ (o : OpenCall). is_read_only o.op) (sym same) ∙ kind h ∙ e)
+    (ap Some same, λ e. ap (λ (o : OpenCall). is_read_only o.op) (sym same) ∙ first_read op (in_mode h ∙ e))
   where
-    called : asks (is_read_only op) (let x : OpenCall = record { timestamp = t; op = op } in x) ≡ asks read_only call → ◌≡◌ {A = OpenCall} (record { timestamp = t; op = op }) call
+    called : asks (first_mode op) (let x : OpenCall = record { timestamp = t; op = op } in x) ≡ asks mode call → ◌≡◌ {A = OpenCall} (record { timestamp = t; op = op }) call
     called e = cc
 
-    kind : asks (is_read_only op) (let x : OpenCall = record { timestamp = t; op = op } in x) ≡ asks read_only call → is_read_only op ≡ read_only
-    kind e = cc
-client_asks c me (Got p bytes ∷ past) read_only call h = go (open_call past) h
+    in_mode : asks (first_mode op) (let x : OpenCall = record { timestamp = t; op = op } in x) ≡ asks mode call → first_mode op ≡ mode
+    in_mode e = cc
+client_asks c me (Got p bytes ∷ past) mode call h = go (open_call past) h
   where
-    go : (o : Option OpenCall) → option_map_or (on_got c me (Got p bytes ∷ past)) o nothing ≡ asks read_only call → (o ≡ Some call) × (read_only ≡ true → is_read_only call.op ≡ true)
+    go : (o : Option OpenCall) → option_map_or (on_got c me (Got p bytes ∷ past)) o nothing ≡ asks mode call → (o ≡ Some call) × (mode ≡ modes.ReadOnly → is_read_only call.op ≡ true)
     go None h = absurd cc
-    go (Some x) h = let r = got_asks c me (Got p bytes ∷ past) x call read_only h in (ap Some (sym r.0), λ e. not_true read_only r.1 e (is_read_only call.op ≡ true))
-client_asks c me (Tick p ∷ past) read_only call h = go (open_call past) h
+    go (Some x) h = let r = got_asks c me (Got p bytes ∷ past) x call mode h in (ap Some (sym r.0), λ e. not_read mode r.1 e (is_read_only call.op ≡ true))
+client_asks c me (Tick p ∷ past) mode call h = go (open_call past) h
   where
-    go : (o : Option OpenCall) → option_map_or (asks false) o nothing ≡ asks read_only call → (o ≡ Some call) × (read_only ≡ true → is_read_only call.op ≡ true)
+    go : (o : Option OpenCall) → option_map_or (asks modes.Ordered) o nothing ≡ asks mode call → (o ≡ Some call) × (mode ≡ modes.ReadOnly → is_read_only call.op ≡ true)
     go None h = absurd cc
-    go (Some x) h = (ap Some (called h), λ e. not_true read_only (sym (kind h)) e (is_read_only call.op ≡ true))
+    go (Some x) h = (ap Some (called h), λ e. not_read mode (sym (in_mode h)) e (is_read_only call.op ≡ true))
       where
-        called : asks false x ≡ asks read_only call → x ≡ call
+        called : asks modes.Ordered x ≡ asks mode call → x ≡ call
         called e = cc
 
-        kind : asks false x ≡ asks read_only call → false ≡ read_only
-        kind e = cc
-client_asks c me (Executed x y z ∷ past) read_only call h = absurd cc
-client_asks c me (Installed x y z ∷ past) read_only call h = absurd cc
-client_asks c me (Sent x y ∷ past) read_only call h = absurd cc
-client_asks c me (Accepted x y z ∷ past) read_only call h = absurd cc
+        in_mode : asks modes.Ordered x ≡ asks mode call → modes.Ordered ≡ mode
+        in_mode e = cc
+client_asks c me (Executed x y z ∷ past) mode call h = absurd cc
+client_asks c me (Installed x y z ∷ past) mode call h = absurd cc
+client_asks c me (Sent x y ∷ past) mode call h = absurd cc
+client_asks c me (Accepted x y z ∷ past) mode call h = absurd cc
 
 accepted : (t u : ℕ) (a b : Outcome) → accepts t a ≡ accepts u b → (t ≡ u) × (a ≡ b)
 accepted t u a b e = (cc, cc)
@@ -173,7 +181,7 @@ client_accepts c me (Got p bytes ∷ past) t a h = go (open_call past) refl h
 client_accepts c me (Invoke x y z ∷ past) t a h = absurd cc
 client_accepts c me (Tick x ∷ past) t a h = absurd (go (open_call past) h)
   where
-    go : (o : Option OpenCall) → option_map_or (asks false) o nothing ≡ accepts t a → ⊥
+    go : (o : Option OpenCall) → option_map_or (asks modes.Ordered) o nothing ≡ accepts t a → ⊥
     go None h = cc
     go (Some x) h = cc
 client_accepts c me (Executed x y z ∷ past) t a h = absurd cc
@@ -186,43 +194,43 @@ is_client_right c me xs h = client_right c me (reaction c me) (MayAccept c me) (
 
 -- ---- the weak client
 
-weak_asks : (c : Configuration) (me : ℕ) (now : List Entry) (read_only : Bool) (call : OpenCall) → weak_reaction c me now ≡ asks read_only call → (open_call now ≡ Some call) × (read_only ≡ true → is_read_only call.op ≡ true)
-weak_asks c me [] read_only call h = absurd cc
-weak_asks c me (Invoke client t op ∷ past) read_only call h = (ap Some (called h), λ e. not_true read_only (sym (kind h)) e (is_read_only call.op ≡ true))
+weak_asks : (c : Configuration) (me : ℕ) (now : List Entry) (mode : Mode) (call : OpenCall) → weak_reaction c me now ≡ asks mode call → (open_call now ≡ Some call) × (mode ≡ modes.ReadOnly → is_read_only call.op ≡ true)
+weak_asks c me [] mode call h = absurd cc
+weak_asks c me (Invoke client t op ∷ past) mode call h = (ap Some (called h), λ e. not_read mode (sym (in_mode h)) e (is_read_only call.op ≡ true))
   where
-    called : asks false (let x : OpenCall = record { timestamp = t; op = op } in x) ≡ asks read_only call → ◌≡◌ {A = OpenCall} (record { timestamp = t; op = op }) call
+    called : asks modes.Ordered (let x : OpenCall = record { timestamp = t; op = op } in x) ≡ asks mode call → ◌≡◌ {A = OpenCall} (record { timestamp = t; op = op }) call
     called e = cc
 
-    kind : asks false (let x : OpenCall = record { timestamp = t; op = op } in x) ≡ asks read_only call → false ≡ read_only
-    kind e = cc
-weak_asks c me (Got p bytes ∷ past) read_only call h = absurd (go (open_call past) h)
+    in_mode : asks modes.Ordered (let x : OpenCall = record { timestamp = t; op = op } in x) ≡ asks mode call → modes.Ordered ≡ mode
+    in_mode e = cc
+weak_asks c me (Got p bytes ∷ past) mode call h = absurd (go (open_call past) h)
   where
-    go : (o : Option OpenCall) → option_map_or (weakly_on_got c me (Got p bytes ∷ past)) o nothing ≡ asks read_only call → ⊥
+    go : (o : Option OpenCall) → option_map_or (weakly_on_got c me (Got p bytes ∷ past)) o nothing ≡ asks mode call → ⊥
     go None h = cc
     go (Some x) h = votes (newest_vote c me (Got p bytes ∷ past) x.timestamp) h
       where
-        votes : (o : Option Vote) → option_map_or (λ vote. cond (is_weakly_complete c me (Got p bytes ∷ past) x.timestamp vote) (accepts x.timestamp vote.answer) nothing) o nothing ≡ asks read_only call → ⊥
+        votes : (o : Option Vote) → option_map_or (λ vote. cond (is_weakly_complete c me (Got p bytes ∷ past) x.timestamp vote) (accepts x.timestamp vote.answer) nothing) o nothing ≡ asks mode call → ⊥
         votes None h = cc
         votes (Some vote) h = test (is_weakly_complete c me (Got p bytes ∷ past) x.timestamp vote) h
           where
-            test : (b : Bool) → cond b (accepts x.timestamp vote.answer) nothing ≡ asks read_only call → ⊥
+            test : (b : Bool) → cond b (accepts x.timestamp vote.answer) nothing ≡ asks mode call → ⊥
             test true h = cc
             test false h = cc
-weak_asks c me (Tick p ∷ past) read_only call h = go (open_call past) h
+weak_asks c me (Tick p ∷ past) mode call h = go (open_call past) h
   where
-    go : (o : Option OpenCall) → option_map_or (asks false) o nothing ≡ asks read_only call → (o ≡ Some call) × (read_only ≡ true → is_read_only call.op ≡ true)
+    go : (o : Option OpenCall) → option_map_or (asks modes.Ordered) o nothing ≡ asks mode call → (o ≡ Some call) × (mode ≡ modes.ReadOnly → is_read_only call.op ≡ true)
     go None h = absurd cc
-    go (Some x) h = (ap Some (called h), λ e. not_true read_only (sym (kind h)) e (is_read_only call.op ≡ true))
+    go (Some x) h = (ap Some (called h), λ e. not_read mode (sym (in_mode h)) e (is_read_only call.op ≡ true))
       where
-        called : asks false x ≡ asks read_only call → x ≡ call
+        called : asks modes.Ordered x ≡ asks mode call → x ≡ call
         called e = cc
 
-        kind : asks false x ≡ asks read_only call → false ≡ read_only
-        kind e = cc
-weak_asks c me (Executed x y z ∷ past) read_only call h = absurd cc
-weak_asks c me (Installed x y z ∷ past) read_only call h = absurd cc
-weak_asks c me (Sent x y ∷ past) read_only call h = absurd cc
-weak_asks c me (Accepted x y z ∷ past) read_only call h = absurd cc
+        in_mode : asks modes.Ordered x ≡ asks mode call → modes.Ordered ≡ mode
+        in_mode e = cc
+weak_asks c me (Executed x y z ∷ past) mode call h = absurd cc
+weak_asks c me (Installed x y z ∷ past) mode call h = absurd cc
+weak_asks c me (Sent x y ∷ past) mode call h = absurd cc
+weak_asks c me (Accepted x y z ∷ past) mode call h = absurd cc
 
 weak_accepts : (c : Configuration) (me : ℕ) (now : List Entry) (t : ℕ) (a : Outcome) → weak_reaction c me now ≡ accepts t a → MayWeaklyAccept c me now t a
 weak_accepts c me [] t a h = absurd cc
@@ -245,7 +253,7 @@ weak_accepts c me (Got p bytes ∷ past) t a h = go (open_call past) refl h
 weak_accepts c me (Invoke x y z ∷ past) t a h = absurd cc
 weak_accepts c me (Tick x ∷ past) t a h = absurd (go (open_call past) h)
   where
-    go : (o : Option OpenCall) → option_map_or (asks false) o nothing ≡ accepts t a → ⊥
+    go : (o : Option OpenCall) → option_map_or (asks modes.Ordered) o nothing ≡ accepts t a → ⊥
     go None h = cc
     go (Some x) h = cc
 weak_accepts c me (Executed x y z ∷ past) t a h = absurd cc

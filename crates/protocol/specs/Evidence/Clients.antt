@@ -1,5 +1,5 @@
 -- What counts at a client, and where a client that goes on gives nothing.
-use Rattle.std.specs.Prelude.{◌≡◌, ◌≢◌, ℕ, ◌*◌, ◌≤◌, ◌<◌, ◌⊎◌, Bool, true, false, List, [], ◌∷◌, Some, None}
+use Rattle.std.specs.Prelude.{◌≡◌, ◌≢◌, ℕ, ◌*◌, ◌≤◌, ◌<◌, ◌⊎◌, List, [], ◌∷◌, Some, None}
 use Rattle.tuple_codec.specs.Operations.{Operation, Outcome}
 use Rattle.quorum.specs.Quorum.{count_below}
 use Rattle.protocol.specs.System.Configuration.{Configuration, replicas, members}
@@ -7,7 +7,6 @@ use Rattle.terms.specs.declared.order.Mode.{Mode}
 use Rattle.terms.specs.declared.order.Mode.TheVariants as modes
 use Rattle.wire.specs.Messages.{reply as Reply}
 use Rattle.signing.specs.Heard.{heard}
-use Rattle.protocol.specs.System.Frames.{reads_only}
 use Rattle.protocol.specs.System.Trace.{Entry, Once, AreOutputs, Hears}
 use Rattle.protocol.specs.System.Trace.Entry.{Invoke, Got, Tick}
 use Rattle.protocol.specs.Client.RightClient.{OpenCall, open_call, latest, is_same_answer, count_alike, IsClient, IsWeakClient}
@@ -18,23 +17,26 @@ use Rattle.protocol.specs.Evidence.RefusedRuns.{going_on, AsksOrdered, IsAnyClie
 -- A reply that is heard is its sender's latest of its mode, behind an earlier one too.
 abbrev pub HeardIsLatest : Type 0
 HeardIsLatest =
-    (c : Configuration) (me s timestamp number : ℕ) (mode : Mode) (answer : Outcome) (bytes : List ℕ) (past : List Entry)
+    (c : Configuration) (me s timestamp number : ℕ) (mode : Mode) (answer : Outcome) (bytes : List ℕ)
+    (past : List Entry)
     → heard (members c) me bytes ≡ Some (record { sender = s; message = Reply me timestamp mode number answer })
-    → latest c me (Got me bytes ∷ past) timestamp (reads_only mode) s ≡ Some (record { read_only = reads_only mode; number = number; answer = answer })
+    → latest c me (Got me bytes ∷ past) timestamp mode s
+    ≡ Some (record { mode = mode; number = number; answer = answer })
 
 -- It stays so at an entry that is no call and brings no reply of that replica in that mode.
 abbrev pub LatestStays : Type 0
 LatestStays =
     (c : Configuration) (me s timestamp : ℕ) (mode : Mode) (e : Entry) (past : List Entry)
     → ((k t : ℕ) (op : Operation) → e ≢ Invoke k t op)
-    → ((number : ℕ) (answer : Outcome) → Hears c me (record { sender = s; message = Reply me timestamp mode number answer }) past e → ⊥)
-    → latest c me (e ∷ past) timestamp (reads_only mode) s ≡ latest c me past timestamp (reads_only mode) s
+    → ((number : ℕ) (answer : Outcome)
+    → Hears c me (record { sender = s; message = Reply me timestamp mode number answer }) past e → ⊥)
+    → latest c me (e ∷ past) timestamp mode s ≡ latest c me past timestamp mode s
 
 -- A call begins with none: what was got before it does not count.
 abbrev pub CallsForget : Type 0
 CallsForget =
-    (c : Configuration) (me s k timestamp : ℕ) (read_only : Bool) (op : Operation) (past : List Entry)
-    → latest c me (Invoke k timestamp op ∷ past) timestamp read_only s ≡ None
+    (c : Configuration) (me s k timestamp : ℕ) (mode : Mode) (op : Operation) (past : List Entry)
+    → latest c me (Invoke k timestamp op ∷ past) timestamp mode s ≡ None
 
 -- ---- events in which a client gives nothing
 
@@ -42,18 +44,24 @@ CallsForget =
 -- no output: a client falls back only once all have answered.
 abbrev pub WaitsForAnswers : Type 0
 WaitsForAnswers =
-    (c : Configuration) (me s r number : ℕ) (call : OpenCall) (mode : Mode) (answer : Outcome) (bytes later : List ℕ) (outputs past : List Entry)
-    → open_call past ≡ Some call → heard (members c) me bytes ≡ Some (record { sender = s; message = Reply me call.timestamp mode number answer })
-    → count_alike c me (Got me bytes ∷ past) call.timestamp (record { read_only = reads_only mode; number = number; answer = answer }) ≤ 2 * c.faults
-    → r < replicas c → latest c me (Got me bytes ∷ past) call.timestamp true r ≡ None
+    (c : Configuration) (me s r number : ℕ) (call : OpenCall) (mode : Mode) (answer : Outcome) (bytes later : List ℕ)
+    (outputs past : List Entry)
+    → open_call past ≡ Some call
+    → heard (members c) me bytes ≡ Some (record { sender = s; message = Reply me call.timestamp mode number answer })
+    → count_alike c me (Got me bytes ∷ past) call.timestamp
+    (record { mode = mode; number = number; answer = answer }) ≤ 2 * c.faults
+    → r < replicas c → latest c me (Got me bytes ∷ past) call.timestamp modes.ReadOnly r ≡ None
     → AreOutputs outputs → IsClient c me (going_on me later outputs (Got me bytes) past) → outputs ≡ []
 
 -- Nor is there at such a reply where the call's request went ordered before: a client falls back once.
 abbrev pub FallsBackOnce : Type 0
 FallsBackOnce =
-    (c : Configuration) (me s number : ℕ) (call : OpenCall) (mode : Mode) (answer : Outcome) (bytes later : List ℕ) (outputs past : List Entry)
-    → open_call past ≡ Some call → heard (members c) me bytes ≡ Some (record { sender = s; message = Reply me call.timestamp mode number answer })
-    → count_alike c me (Got me bytes ∷ past) call.timestamp (record { read_only = reads_only mode; number = number; answer = answer }) ≤ 2 * c.faults
+    (c : Configuration) (me s number : ℕ) (call : OpenCall) (mode : Mode) (answer : Outcome) (bytes later : List ℕ)
+    (outputs past : List Entry)
+    → open_call past ≡ Some call
+    → heard (members c) me bytes ≡ Some (record { sender = s; message = Reply me call.timestamp mode number answer })
+    → count_alike c me (Got me bytes ∷ past) call.timestamp
+    (record { mode = mode; number = number; answer = answer }) ≤ 2 * c.faults
     → Once (AsksOrdered call.timestamp) past
     → AreOutputs outputs → IsClient c me (going_on me later outputs (Got me bytes) past) → outputs ≡ []
 
@@ -61,9 +69,13 @@ FallsBackOnce =
 -- answer.
 abbrev pub WeaklyWaits : Type 0
 WeaklyWaits =
-    (c : Configuration) (me s number : ℕ) (call : OpenCall) (mode : Mode) (answer : Outcome) (bytes later : List ℕ) (outputs past : List Entry)
-    → open_call past ≡ Some call → heard (members c) me bytes ≡ Some (record { sender = s; message = Reply me call.timestamp mode number answer })
-    → (mode ≡ modes.ReadOnly) ⊎ (count_below (λ r. is_same_answer (record { read_only = false; number = number; answer = answer }) (latest c me (Got me bytes ∷ past) call.timestamp false r)) (replicas c) ≤ c.faults)
+    (c : Configuration) (me s number : ℕ) (call : OpenCall) (mode : Mode) (answer : Outcome) (bytes later : List ℕ)
+    (outputs past : List Entry)
+    → open_call past ≡ Some call
+    → heard (members c) me bytes ≡ Some (record { sender = s; message = Reply me call.timestamp mode number answer })
+    → (mode ≡ modes.ReadOnly)
+    ⊎ (count_below (λ r. is_same_answer (record { mode = modes.Ordered; number = number; answer = answer })
+    (latest c me (Got me bytes ∷ past) call.timestamp modes.Ordered r)) (replicas c) ≤ c.faults)
     → AreOutputs outputs → IsWeakClient c me (going_on me later outputs (Got me bytes) past) → outputs ≡ []
 
 -- At a frame that is no reply to the open call neither client gives an output,
@@ -71,7 +83,8 @@ abbrev pub IgnoresOthers : Type 0
 IgnoresOthers =
     (c : Configuration) (me : ℕ) (call : OpenCall) (bytes later : List ℕ) (outputs past : List Entry)
     → open_call past ≡ Some call
-    → ((s number : ℕ) (mode : Mode) (answer : Outcome) → heard (members c) me bytes ≢ Some (record { sender = s; message = Reply me call.timestamp mode number answer }))
+    → ((s number : ℕ) (mode : Mode) (answer : Outcome)
+    → heard (members c) me bytes ≢ Some (record { sender = s; message = Reply me call.timestamp mode number answer }))
     → AreOutputs outputs → IsAnyClient c me (going_on me later outputs (Got me bytes) past) → outputs ≡ []
 
 -- nor at a frame or a tick while no call is open.

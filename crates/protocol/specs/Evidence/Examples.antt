@@ -3,7 +3,6 @@
 use Rattle.std.specs.Prelude.{◌≡◌, ◌≢◌, ℕ, ◌+◌, true, false, List, [], ◌∷◌, Some}
 use Rattle.sha2.specs.Sha256.{sha256}
 use Rattle.tuple_codec.specs.Operations.{Operation, IsOperation}
-use Rattle.space.specs.Applying.{is_read_only}
 use Rattle.protocol.specs.System.Configuration.{Configuration, IsConfiguration, is_correct_client, members}
 use Rattle.wire.specs.Messages.{FrameData as Frame, ViewChangeData, pre_prepare as PrePrepare, prepare as Prepare, commit as Commit}
 use Rattle.signing.specs.Heard.{heard}
@@ -14,45 +13,57 @@ use Rattle.protocol.specs.System.Trace.Entry.{Invoke, Got, Executed, Sent}
 use Rattle.protocol.specs.Replica.Selection.{null_batch, signed_change, may_select}
 use Rattle.protocol.specs.Replica.Certificates.{are_genuine, Committed}
 use Rattle.protocol.specs.Replica.RightReplica.{SafeReplica, others}
-use Rattle.protocol.specs.Client.RightClient.{IsRequest}
+use Rattle.protocol.specs.Client.RightClient.{IsRequest, first_mode}
 use Rattle.protocol.specs.System.Run.{IsRun}
 
 -- four replicas, none of them faulty
 abbrev pub four : ℕ → List ℕ → Configuration
-four clients seed = record { faults = 1; clients = clients; seed = seed; period = 16; faulty_replicas = []; faulty_clients = [] }
+four clients seed =
+    record { faults = 1; clients = clients; seed = seed; period = 16; faulty_replicas = []; faulty_clients = [] }
 
 -- What replica 1 gets and sends for the first batch in view 0: the primary's pre-prepare, prepares of 1 and 2, and
 -- commits of 1, 0 and 2.
-pub record IsFirstBatch (c : Configuration) (batch pre_prepare own_prepare other_prepare own_commit first_commit second_commit : List ℕ) : Type 0 where
+pub record IsFirstBatch (c : Configuration)
+    (batch pre_prepare own_prepare other_prepare own_commit first_commit second_commit : List ℕ) : Type 0 where
   pub proposed : heard (members c) 1 pre_prepare ≡ Some (record { sender = 0; message = PrePrepare 0 1 batch })
   pub genuine : are_genuine c 1 batch ≡ true
   pub prepares : said own_prepare ≡ Some (record { sender = 1; message = Prepare 0 1 (sha256 batch) })
-  pub other_prepares : heard (members c) 1 other_prepare ≡ Some (record { sender = 2; message = Prepare 0 1 (sha256 batch) })
+  pub other_prepares : heard (members c) 1 other_prepare
+      ≡ Some (record { sender = 2; message = Prepare 0 1 (sha256 batch) })
   pub commits : said own_commit ≡ Some (record { sender = 1; message = Commit 0 1 (sha256 batch) })
-  pub first_commits : heard (members c) 1 first_commit ≡ Some (record { sender = 0; message = Commit 0 1 (sha256 batch) })
-  pub second_commits : heard (members c) 1 second_commit ≡ Some (record { sender = 2; message = Commit 0 1 (sha256 batch) })
-  pub prepare_sealed : (frame : Frame) → frame_of own_prepare ≡ Some frame → IsSealed c frame × (receivers_of frame.authenticator ≡ others c 1)
-  pub commit_sealed : (frame : Frame) → frame_of own_commit ≡ Some frame → IsSealed c frame × (receivers_of frame.authenticator ≡ others c 1)
+  pub first_commits : heard (members c) 1 first_commit
+      ≡ Some (record { sender = 0; message = Commit 0 1 (sha256 batch) })
+  pub second_commits : heard (members c) 1 second_commit
+      ≡ Some (record { sender = 2; message = Commit 0 1 (sha256 batch) })
+  pub prepare_sealed : (frame : Frame) → frame_of own_prepare ≡ Some frame
+      → IsSealed c frame × (receivers_of frame.authenticator ≡ others c 1)
+  pub commit_sealed : (frame : Frame) → frame_of own_commit ≡ Some frame
+      → IsSealed c frame × (receivers_of frame.authenticator ≡ others c 1)
 
 -- its history, the newest first, up to the quorum of commits
-abbrev pub first_batch : (pre_prepare own_prepare other_prepare own_commit first_commit second_commit : List ℕ) → List Entry
+abbrev pub first_batch : (pre_prepare own_prepare other_prepare own_commit first_commit second_commit : List ℕ)
+    → List Entry
 first_batch pre_prepare own_prepare other_prepare own_commit first_commit second_commit =
-    Got 1 second_commit ∷ Got 1 first_commit ∷ Sent 1 own_commit ∷ Got 1 other_prepare ∷ Sent 1 own_prepare ∷ Got 1 pre_prepare ∷ []
+    Got 1 second_commit ∷ Got 1 first_commit ∷ Sent 1 own_commit ∷ Got 1 other_prepare ∷ Sent 1 own_prepare
+    ∷ Got 1 pre_prepare ∷ []
 
 -- Then the batch is committed, and a right replica executes it.
 abbrev pub FirstBatchExecutes : Type 0
 FirstBatchExecutes =
     (clients : ℕ) (seed batch pre_prepare own_prepare other_prepare own_commit first_commit second_commit : List ℕ)
     → IsFirstBatch (four clients seed) batch pre_prepare own_prepare other_prepare own_commit first_commit second_commit
-    → Committed (four clients seed) 1 (first_batch pre_prepare own_prepare other_prepare own_commit first_commit second_commit) 0 1 batch
-    × SafeReplica (four clients seed) 1 (Executed 1 1 batch ∷ first_batch pre_prepare own_prepare other_prepare own_commit first_commit second_commit)
+    → Committed (four clients seed) 1
+    (first_batch pre_prepare own_prepare other_prepare own_commit first_commit second_commit) 0 1 batch
+    × SafeReplica (four clients seed) 1
+    (Executed 1 1 batch ∷ first_batch pre_prepare own_prepare other_prepare own_commit first_commit second_commit)
 
 -- A trace in which a correct client has invoked an operation and asked all replicas for it, and nothing has come yet,
 -- is a run.
 abbrev pub FirstCallIsRun : Type 0
 FirstCallIsRun =
-    (c : Configuration) → IsConfiguration c → (k : ℕ) (op : Operation) (request : List ℕ) → is_correct_client c (256 + k) ≡ true → IsOperation op
-    → IsRequest c (256 + k) (is_read_only op) (record { timestamp = 1; op = op }) request
+    (c : Configuration) → IsConfiguration c → (k : ℕ) (op : Operation) (request : List ℕ)
+    → is_correct_client c (256 + k) ≡ true → IsOperation op
+    → IsRequest c (256 + k) (first_mode op) (record { timestamp = 1; op = op }) request
     → IsRun c (Sent (256 + k) request ∷ Invoke k 1 op ∷ [])
 
 -- ---- over a view change
@@ -74,7 +85,8 @@ PreparedIsSelected =
     → signed_change (four clients seed) a ≡ Some (1, holding batch root)
     → signed_change (four clients seed) b ≡ Some (2, holding batch root)
     → signed_change (four clients seed) d ≡ Some (3, holding batch root)
-    → may_select (four clients seed) (record { view = 1; changes = a ∷ b ∷ d ∷ []; start = 0; root = root; batches = batch ∷ [] }) ≡ true
+    → may_select (four clients seed)
+    (record { view = 1; changes = a ∷ b ∷ d ∷ []; start = 0; root = root; batches = batch ∷ [] }) ≡ true
 
 -- Without a batch for that number it does not.
 abbrev pub EmptyIsNotSelected : Type 0
@@ -83,7 +95,8 @@ EmptyIsNotSelected =
     → signed_change (four clients seed) a ≡ Some (1, holding batch root)
     → signed_change (four clients seed) b ≡ Some (2, holding batch root)
     → signed_change (four clients seed) d ≡ Some (3, holding batch root)
-    → may_select (four clients seed) (record { view = 1; changes = a ∷ b ∷ d ∷ []; start = 0; root = root; batches = [] }) ≡ false
+    → may_select (four clients seed)
+    (record { view = 1; changes = a ∷ b ∷ d ∷ []; start = 0; root = root; batches = [] }) ≡ false
 
 -- Nor with the null batch there, where its digest is another.
 abbrev pub NullIsNotSelected : Type 0
@@ -92,7 +105,8 @@ NullIsNotSelected =
     → signed_change (four clients seed) a ≡ Some (1, holding batch root)
     → signed_change (four clients seed) b ≡ Some (2, holding batch root)
     → signed_change (four clients seed) d ≡ Some (3, holding batch root)
-    → may_select (four clients seed) (record { view = 1; changes = a ∷ b ∷ d ∷ []; start = 0; root = root; batches = null_batch ∷ [] }) ≡ false
+    → may_select (four clients seed)
+    (record { view = 1; changes = a ∷ b ∷ d ∷ []; start = 0; root = root; batches = null_batch ∷ [] }) ≡ false
 
 -- Replica 3 lies: it lists another batch as prepared. Over its view change and those of two that tell the truth
 -- neither batch is selected; with a third that tells the truth the prepared one is.
@@ -102,7 +116,8 @@ LieIsNotSelected =
     → signed_change (four clients seed) a ≡ Some (1, holding batch root)
     → signed_change (four clients seed) b ≡ Some (2, holding batch root)
     → signed_change (four clients seed) d ≡ Some (3, holding lie root)
-    → may_select (four clients seed) (record { view = 1; changes = a ∷ b ∷ d ∷ []; start = 0; root = root; batches = lie ∷ [] }) ≡ false
+    → may_select (four clients seed)
+    (record { view = 1; changes = a ∷ b ∷ d ∷ []; start = 0; root = root; batches = lie ∷ [] }) ≡ false
 
 abbrev pub TruthWaits : Type 0
 TruthWaits =
@@ -110,7 +125,8 @@ TruthWaits =
     → signed_change (four clients seed) a ≡ Some (1, holding batch root)
     → signed_change (four clients seed) b ≡ Some (2, holding batch root)
     → signed_change (four clients seed) d ≡ Some (3, holding lie root)
-    → may_select (four clients seed) (record { view = 1; changes = a ∷ b ∷ d ∷ []; start = 0; root = root; batches = batch ∷ [] }) ≡ false
+    → may_select (four clients seed)
+    (record { view = 1; changes = a ∷ b ∷ d ∷ []; start = 0; root = root; batches = batch ∷ [] }) ≡ false
 
 abbrev pub TruthIsSelected : Type 0
 TruthIsSelected =
@@ -119,4 +135,5 @@ TruthIsSelected =
     → signed_change (four clients seed) a ≡ Some (1, holding batch root)
     → signed_change (four clients seed) b ≡ Some (2, holding batch root)
     → signed_change (four clients seed) d ≡ Some (3, holding lie root)
-    → may_select (four clients seed) (record { view = 1; changes = e ∷ a ∷ b ∷ d ∷ []; start = 0; root = root; batches = batch ∷ [] }) ≡ true
+    → may_select (four clients seed)
+    (record { view = 1; changes = e ∷ a ∷ b ∷ d ∷ []; start = 0; root = root; batches = batch ∷ [] }) ≡ true

@@ -26,57 +26,71 @@ use Rattle.wire.specs.Lists.{Each}
 -- ---- view changes
 
 -- The newest entry sends a view change that was not sent before.
-pub record SendsNewChange (c : Configuration) (me : ℕ) (vc : ViewChangeData) (bytes : List ℕ) (past : List Entry) : Type 0 where
+pub record SendsNewChange (c : Configuration) (me : ℕ) (vc : ViewChangeData) (bytes : List ℕ)
+    (past : List Entry) : Type 0 where
   pub says : said bytes ≡ Some (record { sender = me; message = ViewChange vc })
   pub is_new : SentBefore bytes past → ⊥
   pub is_safe : SafeReplica c me (Sent me bytes ∷ past)
 
 -- A new view change for the own view, or one below it.
 abbrev pub ChangesAboveView : Type 0
-ChangesAboveView = (c : Configuration) (me : ℕ) (vc : ViewChangeData) (bytes : List ℕ) (past : List Entry) → SendsNewChange c me vc bytes past → view c past < vc.view
+ChangesAboveView =
+    (c : Configuration) (me : ℕ) (vc : ViewChangeData) (bytes : List ℕ) (past : List Entry)
+    → SendsNewChange c me vc bytes past → view c past < vc.view
 
 -- A new view change for a view at or below that of an earlier one.
 abbrev pub ChangesAboveEarlier : Type 0
 ChangesAboveEarlier =
-    (c : Configuration) (me : ℕ) (vc earlier : ViewChangeData) (bytes : List ℕ) (past : List Entry) → SendsNewChange c me vc bytes past
+    (c : Configuration) (me : ℕ) (vc earlier : ViewChangeData) (bytes : List ℕ) (past : List Entry)
+    → SendsNewChange c me vc bytes past
     → Once (λ before. IsSaying me (ViewChange earlier)) past → earlier.view < vc.view
 
 -- A new view change for a view at or above 2^48.
 abbrev pub ChangesToNumbers : Type 0
-ChangesToNumbers = (c : Configuration) (me : ℕ) (vc : ViewChangeData) (bytes : List ℕ) (past : List Entry) → SendsNewChange c me vc bytes past → vc.view < 2 ^ 48
+ChangesToNumbers =
+    (c : Configuration) (me : ℕ) (vc : ViewChangeData) (bytes : List ℕ) (past : List Entry)
+    → SendsNewChange c me vc bytes past → vc.view < 2 ^ 48
 
 -- the batch entry's number is in the marks
 abbrev pub IsInMarks : Configuration → ℕ → List Entry → BatchEntry → Type 0
-IsInMarks c me past batch_entry = (low c me past < batch_entry.number) × (batch_entry.number ≤ low c me past + 2 * c.period) × (batch_entry.number < 2 ^ 48)
+IsInMarks c me past batch_entry =
+    (low c me past < batch_entry.number) × (batch_entry.number ≤ low c me past + 2 * c.period)
+    × (batch_entry.number < 2 ^ 48)
 
 -- A new view change with a prepared, or a pre-prepared, entry of a number outside the marks.
 abbrev pub BatchEntriesPreparedInMarks : Type 0
 BatchEntriesPreparedInMarks =
-    (c : Configuration) (me : ℕ) (vc : ViewChangeData) (batch_entry : BatchEntry) (bytes : List ℕ) (past : List Entry) → SendsNewChange c me vc bytes past
+    (c : Configuration) (me : ℕ) (vc : ViewChangeData) (batch_entry : BatchEntry) (bytes : List ℕ) (past : List Entry)
+    → SendsNewChange c me vc bytes past
     → Has (λ x. x ≡ batch_entry) vc.prepared → IsInMarks c me past batch_entry
 
 abbrev pub BatchEntriesProposedInMarks : Type 0
 BatchEntriesProposedInMarks =
-    (c : Configuration) (me : ℕ) (vc : ViewChangeData) (batch_entry : BatchEntry) (bytes : List ℕ) (past : List Entry) → SendsNewChange c me vc bytes past
+    (c : Configuration) (me : ℕ) (vc : ViewChangeData) (batch_entry : BatchEntry) (bytes : List ℕ) (past : List Entry)
+    → SendsNewChange c me vc bytes past
     → Has (λ x. x ≡ batch_entry) vc.pre_prepared → IsInMarks c me past batch_entry
 
 -- A new view change whose prepared entries don't ascend, as two of one number.
 abbrev pub BatchEntriesAscend : Type 0
 BatchEntriesAscend =
-    (c : Configuration) (me i j : ℕ) (vc : ViewChangeData) (a b : BatchEntry) (bytes : List ℕ) (past : List Entry) → SendsNewChange c me vc bytes past
+    (c : Configuration) (me i j : ℕ) (vc : ViewChangeData) (a b : BatchEntry) (bytes : List ℕ) (past : List Entry)
+    → SendsNewChange c me vc bytes past
     → i < j → slice_get vc.prepared i ≡ Some a → slice_get vc.prepared j ≡ Some b → a.number < b.number
 
 -- A new view change with two pre-prepared entries of one number and digest.
 abbrev pub BatchEntriesDiffer : Type 0
 BatchEntriesDiffer =
-    (c : Configuration) (me i j : ℕ) (vc : ViewChangeData) (a b : BatchEntry) (bytes : List ℕ) (past : List Entry) → SendsNewChange c me vc bytes past
-    → i < j → slice_get vc.pre_prepared i ≡ Some a → slice_get vc.pre_prepared j ≡ Some b → a.number ≡ b.number → a.digest ≢ b.digest
+    (c : Configuration) (me i j : ℕ) (vc : ViewChangeData) (a b : BatchEntry) (bytes : List ℕ) (past : List Entry)
+    → SendsNewChange c me vc bytes past
+    → i < j → slice_get vc.pre_prepared i ≡ Some a → slice_get vc.pre_prepared j ≡ Some b → a.number ≡ b.number
+    → a.digest ≢ b.digest
 
 -- A view change that goes again, and is not the last that was sent.
 abbrev pub ChangesAgainLast : Type 0
 ChangesAgainLast =
     (c : Configuration) (me : ℕ) (vc earlier : ViewChangeData) (bytes : List ℕ) (past : List Entry)
-    → said bytes ≡ Some (record { sender = me; message = ViewChange vc }) → SentBefore bytes past → SafeReplica c me (Sent me bytes ∷ past)
+    → said bytes ≡ Some (record { sender = me; message = ViewChange vc }) → SentBefore bytes past
+    → SafeReplica c me (Sent me bytes ∷ past)
     → Once (λ before. IsSaying me (ViewChange earlier)) past → earlier.view ≤ vc.view
 
 -- ---- calls, of a client of either kind
@@ -96,7 +110,8 @@ CallsOperations =
 -- ---- what is dropped
 
 -- The input, of this sender and message, is answered by a frame.
-pub record Answers (c : Configuration) (me s : ℕ) (message : Message) (bytes : List ℕ) (past : List Entry) : Type 0 where
+pub record Answers (c : Configuration) (me s : ℕ) (message : Message) (bytes : List ℕ)
+    (past : List Entry) : Type 0 where
   pub hears : heard (members c) me bytes ≡ Some (record { sender = s; message = message })
   pub later : List ℕ
   pub is_replica : IsReplica c me (Sent me later ∷ Got me bytes ∷ past)
@@ -117,13 +132,17 @@ DropsRequestsOfReplicas =
 abbrev pub DropsOldRequests : Type 0
 DropsOldRequests =
     (c : Configuration) (me k timestamp : ℕ) (op : Operation) (bytes : List ℕ) (past : List Entry)
-    → AtEachPoint c me past (λ point. timestamp < last_time point.state k) → Answers c me (256 + k) (Request timestamp modes.Ordered op) bytes past → ⊥
+    → AtEachPoint c me past (λ point. timestamp < last_time point.state k)
+    → Answers c me (256 + k) (Request timestamp modes.Ordered op) bytes past → ⊥
 
 -- An ordered request older than one of the client's that waits, or another of its timestamp, and not the last that ran.
 abbrev pub DropsPassedRequests : Type 0
 DropsPassedRequests =
     (c : Configuration) (me k timestamp : ℕ) (op : Operation) (bytes : List ℕ) (past : List Entry)
-    → AtEachPoint c me past (λ point. (last_time point.state k ≢ timestamp) × Has (λ call. (call.client ≡ k) × (timestamp ≤ call.timestamp) × (call.timestamp ≡ timestamp → call.op ≢ op)) point.waiting)
+    → AtEachPoint c me past
+    (λ point. (last_time point.state k ≢ timestamp)
+    × Has (λ call. (call.client ≡ k) × (timestamp ≤ call.timestamp)
+    × (call.timestamp ≡ timestamp → call.op ≢ op)) point.waiting)
     → Answers c me (256 + k) (Request timestamp modes.Ordered op) bytes past → ⊥
 
 -- A pre-prepare by another than the view's primary, one while not active in the view, one outside the marks, and a
@@ -190,12 +209,14 @@ DropsCheckpointsOfNoNumber =
 abbrev pub DropsSecondCheckpoints : Type 0
 DropsSecondCheckpoints =
     (c : Configuration) (me s k : ℕ) (root bytes : List ℕ) (past : List Entry)
-    → Has (λ (checkpoint : CheckpointEntry). checkpoint.number ≡ k) (checkpoints_of c past s) → Answers c me s (Checkpoint k root) bytes past → ⊥
+    → Has (λ (checkpoint : CheckpointEntry). checkpoint.number ≡ k) (checkpoints_of c past s)
+    → Answers c me s (Checkpoint k root) bytes past → ⊥
 
 abbrev pub DropsPassedCheckpoints : Type 0
 DropsPassedCheckpoints =
     (c : Configuration) (me s k : ℕ) (root bytes : List ℕ) (a b d : CheckpointEntry) (past : List Entry)
-    → checkpoints_of c past s ≡ a ∷ b ∷ d ∷ [] → k < d.number → d.number < b.number → b.number < a.number → Answers c me s (Checkpoint k root) bytes past → ⊥
+    → checkpoints_of c past s ≡ a ∷ b ∷ d ∷ [] → k < d.number → d.number < b.number → b.number < a.number
+    → Answers c me s (Checkpoint k root) bytes past → ⊥
 
 -- A view change not above the view, and one beyond its bounds.
 abbrev pub DropsLowChanges : Type 0
@@ -234,7 +255,8 @@ DropsFetches =
 -- Digests, or a page, of a number not above the state's.
 abbrev pub DropsLowDigests : Type 0
 DropsLowDigests =
-    (c : Configuration) (me s k index : ℕ) (level : Level) (digests : List (List ℕ)) (bytes : List ℕ) (past : List Entry)
+    (c : Configuration) (me s k index : ℕ) (level : Level) (digests : List (List ℕ)) (bytes : List ℕ)
+    (past : List Entry)
     → k ≤ newest_number past → Answers c me s (Meta k level index digests) bytes past → ⊥
 
 abbrev pub DropsLowPages : Type 0
@@ -244,11 +266,13 @@ DropsLowPages =
 
 -- the root is that of no quorum of checkpoints, and of no new view's start
 abbrev pub IsNoRoot : Configuration → List Entry → ℕ → List ℕ → Type 0
-IsNoRoot c past k root = (HadQuorum c (record { number = k; digest = root }) past → ⊥) × (Once (StartsAt c k root) past → ⊥)
+IsNoRoot c past k root =
+    (HadQuorum c (record { number = k; digest = root }) past → ⊥) × (Once (StartsAt c k root) past → ⊥)
 
 -- the digests below a place were got
 abbrev pub GotDigests : Configuration → ℕ → List Entry → Level → ℕ → List (List ℕ) → Type 0
-GotDigests c me past level index digests = (s n : ℕ) × Once (Hears c me (record { sender = s; message = Meta n level index digests })) past
+GotDigests c me past level index digests =
+    (s n : ℕ) × Once (Hears c me (record { sender = s; message = Meta n level index digests })) past
 
 -- Digests of another root.
 abbrev pub DropsOtherRoots : Type 0
@@ -260,15 +284,18 @@ DropsOtherRoots =
 abbrev pub DropsOtherDigests : Type 0
 DropsOtherDigests =
     (c : Configuration) (me s k index : ℕ) (digests : List (List ℕ)) (bytes : List ℕ) (past : List Entry)
-    → ((upper : List (List ℕ)) → GotDigests c me past levels.Root 0 upper → slice_get upper index ≡ Some (digest_of_children digests) → IsNoRoot c past k (digest_of_children upper))
+    → ((upper : List (List ℕ)) → GotDigests c me past levels.Root 0 upper
+    → slice_get upper index ≡ Some (digest_of_children digests) → IsNoRoot c past k (digest_of_children upper))
     → Answers c me s (Meta k levels.Inner index digests) bytes past → ⊥
 
 -- A page that no got digests say which a root's got digests say.
 abbrev pub DropsOtherPages : Type 0
 DropsOtherPages =
     (c : Configuration) (me s k index : ℕ) (text bytes : List ℕ) (past : List Entry)
-    → ((upper lower : List (List ℕ)) → GotDigests c me past levels.Root 0 upper → GotDigests c me past levels.Inner (index / 32) lower
-    → slice_get upper (index / 32) ≡ Some (digest_of_children lower) → slice_get lower (index % 32) ≡ Some (sha256 text) → IsNoRoot c past k (digest_of_children upper))
+    → ((upper lower : List (List ℕ)) → GotDigests c me past levels.Root 0 upper
+    → GotDigests c me past levels.Inner (index / 32) lower
+    → slice_get upper (index / 32) ≡ Some (digest_of_children lower) → slice_get lower (index % 32) ≡ Some (sha256 text)
+    → IsNoRoot c past k (digest_of_children upper))
     → Answers c me s (Page k index text) bytes past → ⊥
 
 -- ---- requests that wait. A right primary numbers each (NumbersWaiting of Refused).
@@ -278,15 +305,21 @@ DropsOtherPages =
 abbrev pub WaitsOnceGot : Type 0
 WaitsOnceGot =
     (c : Configuration) (me k timestamp : ℕ) (op : Operation) (bytes : List ℕ) (past : List Entry)
-    → heard (members c) me bytes ≡ Some (record { sender = 256 + k; message = Request timestamp modes.Ordered op }) → k < c.clients
-    → AtEachPoint c me past (λ point. (last_time point.state k < timestamp) × Each (λ call. call.client ≡ k → call.timestamp < timestamp) point.waiting)
-    → AtEachPoint c me (Got me bytes ∷ past) (λ point. Has (λ call. call ≡ record { client = k; timestamp = timestamp; op = op }) point.waiting)
+    → heard (members c) me bytes ≡ Some (record { sender = 256 + k; message = Request timestamp modes.Ordered op })
+    → k < c.clients
+    → AtEachPoint c me past
+    (λ point. (last_time point.state k < timestamp)
+    × Each (λ call. call.client ≡ k → call.timestamp < timestamp) point.waiting)
+    → AtEachPoint c me (Got me bytes ∷ past)
+    (λ point. Has (λ call. call ≡ record { client = k; timestamp = timestamp; op = op }) point.waiting)
 
 -- A request that waits no more once a frame is got, though no newer one of its client waits.
 abbrev pub WaitsOverFrames : Type 0
 WaitsOverFrames =
-    (c : Configuration) (me : ℕ) (call : Call) (bytes : List ℕ) (past : List Entry) → AtEachPoint c me past (λ point. Has (λ x. x ≡ call) point.waiting)
-    → AtEachPoint c me (Got me bytes ∷ past) (λ point. Has (λ x. (x ≡ call) ⊎ ((x.client ≡ call.client) × (call.timestamp < x.timestamp))) point.waiting)
+    (c : Configuration) (me : ℕ) (call : Call) (bytes : List ℕ) (past : List Entry)
+    → AtEachPoint c me past (λ point. Has (λ x. x ≡ call) point.waiting)
+    → AtEachPoint c me (Got me bytes ∷ past)
+    (λ point. Has (λ x. (x ≡ call) ⊎ ((x.client ≡ call.client) × (call.timestamp < x.timestamp))) point.waiting)
 
 -- no frame is got
 abbrev pub is_other : Entry → Bool
@@ -295,8 +328,10 @@ is_other e = elim e [ Got p bytes ↦ false | _ ↦ true ]
 -- A request that waits no more over another entry, as an installation, though its client's last is still older.
 abbrev pub WaitsUntilRun : Type 0
 WaitsUntilRun =
-    (c : Configuration) (me : ℕ) (call : Call) (e : Entry) (past : List Entry) → is_other e ≡ true → AtEachPoint c me past (λ point. Has (λ x. x ≡ call) point.waiting)
-    → AtEachPoint c me (e ∷ past) (λ point. last_time point.state call.client < call.timestamp → Has (λ x. x ≡ call) point.waiting)
+    (c : Configuration) (me : ℕ) (call : Call) (e : Entry) (past : List Entry) → is_other e ≡ true
+    → AtEachPoint c me past (λ point. Has (λ x. x ≡ call) point.waiting)
+    → AtEachPoint c me (e ∷ past)
+    (λ point. last_time point.state call.client < call.timestamp → Has (λ x. x ≡ call) point.waiting)
 
 -- A request that still waits though it ran, or a newer one of its client did.
 abbrev pub WaitsNoLonger : Type 0

@@ -10,7 +10,6 @@ use Rattle.terms.specs.declared.order.Mode.TheVariants as modes
 use Rattle.wire.specs.Messages.{FrameData as Frame, MacData, macs, ViewChangeData, NewViewData, BatchEntryData as BatchEntry, request as Request, view_change as ViewChange, new_view as NewView, reply as Reply}
 use Rattle.signing.specs.Heard.{heard}
 use Rattle.wire.specs.Words.{frame_of, said}
-use Rattle.protocol.specs.System.Frames.{reads_only}
 use Rattle.protocol.specs.System.Trace.{Entry, party_of, is_output, Once, Has, AreOutputs, Hears}
 use Rattle.protocol.specs.System.Trace.Entry.{Invoke, Got, Tick, Installed, Sent, Accepted}
 use Rattle.protocol.specs.Replica.Certificates.{low, is_in_marks, is_active_in, logged}
@@ -30,32 +29,44 @@ going_on me later outputs input past = Sent me later ∷ Tick me ∷ outputs ++ 
 -- one output, the open call's ordered request
 abbrev pub IsOrderedRequest : ℕ → OpenCall → List Entry → Type 0
 IsOrderedRequest me call outputs =
-    (bytes : List ℕ) × (outputs ≡ Sent me bytes ∷ []) × (said bytes ≡ Some (record { sender = me; message = Request call.timestamp modes.Ordered call.op }))
+    (bytes : List ℕ) × (outputs ≡ Sent me bytes ∷ [])
+    × (said bytes ≡ Some (record { sender = me; message = Request call.timestamp modes.Ordered call.op }))
 
 -- A reply that makes 2f + 1 replicas' latest ones alike, and no acceptance, or more than that.
 abbrev pub AcceptsAlike : Type 0
 AcceptsAlike =
-    (c : Configuration) (me s number : ℕ) (call : OpenCall) (mode : Mode) (answer : Outcome) (bytes later : List ℕ) (from : ℕ → Bool) (outputs past : List Entry)
-    → open_call past ≡ Some call → heard (members c) me bytes ≡ Some (record { sender = s; message = Reply me call.timestamp mode number answer })
+    (c : Configuration) (me s number : ℕ) (call : OpenCall) (mode : Mode) (answer : Outcome) (bytes later : List ℕ)
+    (from : ℕ → Bool) (outputs past : List Entry)
+    → open_call past ≡ Some call
+    → heard (members c) me bytes ≡ Some (record { sender = s; message = Reply me call.timestamp mode number answer })
     → 2 * c.faults + 1 ≤ count_below from (replicas c)
-    → ((r : ℕ) → from r ≡ true → latest c me (Got me bytes ∷ past) call.timestamp (reads_only mode) r ≡ Some (record { read_only = reads_only mode; number = number; answer = answer }))
+    → ((r : ℕ) → from r ≡ true
+    → latest c me (Got me bytes ∷ past) call.timestamp mode r
+    ≡ Some (record { mode = mode; number = number; answer = answer }))
     → AreOutputs outputs → IsClient c me (going_on me later outputs (Got me bytes) past)
     → (k : ℕ) × (outputs ≡ Accepted k call.timestamp answer ∷ [])
 
 -- an ordered request of this timestamp is sent
 abbrev pub AsksOrdered : ℕ → List Entry → Entry → Type 0
-AsksOrdered timestamp past (Sent p bytes) = (sender : ℕ) × (op : Operation) × (said bytes ≡ Some (record { sender = sender; message = Request timestamp modes.Ordered op }))
+AsksOrdered timestamp past (Sent p bytes) =
+    (sender : ℕ) × (op : Operation)
+    × (said bytes ≡ Some (record { sender = sender; message = Request timestamp modes.Ordered op }))
 AsksOrdered timestamp past _ = ⊥
 
 -- A read that the last replica answers, without 2f + 1 answers like its own, and no ordered request, or more than that.
 abbrev pub FallsBack : Type 0
 FallsBack =
-    (c : Configuration) (me s number : ℕ) (call : OpenCall) (answer : Outcome) (bytes later : List ℕ) (outputs past : List Entry)
-    → open_call past ≡ Some call → heard (members c) me bytes ≡ Some (record { sender = s; message = Reply me call.timestamp modes.ReadOnly number answer })
-    → ((r : ℕ) → r < replicas c → latest c me (Got me bytes ∷ past) call.timestamp true r ≢ None)
-    → count_alike c me (Got me bytes ∷ past) call.timestamp (record { read_only = true; number = number; answer = answer }) ≤ 2 * c.faults
+    (c : Configuration) (me s number : ℕ) (call : OpenCall) (answer : Outcome) (bytes later : List ℕ)
+    (outputs past : List Entry)
+    → open_call past ≡ Some call
+    → heard (members c) me bytes
+    ≡ Some (record { sender = s; message = Reply me call.timestamp modes.ReadOnly number answer })
+    → ((r : ℕ) → r < replicas c → latest c me (Got me bytes ∷ past) call.timestamp modes.ReadOnly r ≢ None)
+    → count_alike c me (Got me bytes ∷ past) call.timestamp
+    (record { mode = modes.ReadOnly; number = number; answer = answer }) ≤ 2 * c.faults
     → (Once (AsksOrdered call.timestamp) past → ⊥)
-    → AreOutputs outputs → IsClient c me (going_on me later outputs (Got me bytes) past) → IsOrderedRequest me call outputs
+    → AreOutputs outputs → IsClient c me (going_on me later outputs (Got me bytes) past)
+    → IsOrderedRequest me call outputs
 
 -- a client of either kind
 abbrev pub IsAnyClient : Configuration → ℕ → List Entry → Type 0
@@ -65,23 +76,30 @@ IsAnyClient c me history = IsClient c me history ⊎ IsWeakClient c me history
 abbrev pub AsksAtTicks : Type 0
 AsksAtTicks =
     (c : Configuration) (me : ℕ) (call : OpenCall) (later : List ℕ) (outputs past : List Entry)
-    → open_call past ≡ Some call → AreOutputs outputs → IsAnyClient c me (going_on me later outputs (Tick me) past) → IsOrderedRequest me call outputs
+    → open_call past ≡ Some call → AreOutputs outputs → IsAnyClient c me (going_on me later outputs (Tick me) past)
+    → IsOrderedRequest me call outputs
 
 -- A request that is not sealed for each replica.
 abbrev pub AsksAll : Type 0
 AsksAll =
     (c : Configuration) (me s : ℕ) (bytes : List ℕ) (frame : Frame) (entries : List MacData) (past : List Entry)
-    → frame_of bytes ≡ Some frame → frame.authenticator ≡ macs entries → s < replicas c → IsAnyClient c me (Sent me bytes ∷ past)
+    → frame_of bytes ≡ Some frame → frame.authenticator ≡ macs entries → s < replicas c
+    → IsAnyClient c me (Sent me bytes ∷ past)
     → Has (λ r. r ≡ s) (map (λ x. x.receiver) entries)
 
 -- Of the weak client: an ordered reply that makes f + 1 replicas' latest ones of one answer, and no acceptance, or
 -- more than that.
 abbrev pub WeaklyAcceptsAlike : Type 0
 WeaklyAcceptsAlike =
-    (c : Configuration) (me s number : ℕ) (call : OpenCall) (answer : Outcome) (bytes later : List ℕ) (from : ℕ → Bool) (outputs past : List Entry)
-    → open_call past ≡ Some call → heard (members c) me bytes ≡ Some (record { sender = s; message = Reply me call.timestamp modes.Ordered number answer })
+    (c : Configuration) (me s number : ℕ) (call : OpenCall) (answer : Outcome) (bytes later : List ℕ) (from : ℕ → Bool)
+    (outputs past : List Entry)
+    → open_call past ≡ Some call
+    → heard (members c) me bytes
+    ≡ Some (record { sender = s; message = Reply me call.timestamp modes.Ordered number answer })
     → c.faults + 1 ≤ count_below from (replicas c)
-    → ((r : ℕ) → from r ≡ true → (n : ℕ) × (latest c me (Got me bytes ∷ past) call.timestamp false r ≡ Some (record { read_only = false; number = n; answer = answer })))
+    → ((r : ℕ) → from r ≡ true
+    → (n : ℕ) × (latest c me (Got me bytes ∷ past) call.timestamp modes.Ordered r
+    ≡ Some (record { mode = modes.Ordered; number = n; answer = answer })))
     → AreOutputs outputs → IsWeakClient c me (going_on me later outputs (Got me bytes) past)
     → (k : ℕ) × (outputs ≡ Accepted k call.timestamp answer ∷ [])
 
@@ -98,7 +116,8 @@ WeaklyAcceptsAtWeakQuorum =
 abbrev pub WeaklyAsksOrdered : Type 0
 WeaklyAsksOrdered =
     (c : Configuration) (me timestamp : ℕ) (mode : Mode) (op : Operation) (bytes : List ℕ) (past : List Entry)
-    → said bytes ≡ Some (record { sender = me; message = Request timestamp mode op }) → IsWeakClient c me (Sent me bytes ∷ past)
+    → said bytes ≡ Some (record { sender = me; message = Request timestamp mode op })
+    → IsWeakClient c me (Sent me bytes ∷ past)
     → mode ≡ modes.Ordered
 
 -- ---- a run
@@ -121,7 +140,13 @@ IsInputOf _ _ = ⊥
 
 -- the step brings an input of its own into the trace
 abbrev pub feeds_input : Step → Bool
-feeds_input step = elim step [ calls k op ↦ true | deliver frame party ↦ true | feed party text ↦ true | ticks party ↦ true | _ ↦ false ]
+feeds_input step = elim step [
+  | calls k op ↦ true
+  | deliver frame party ↦ true
+  | feed party text ↦ true
+  | ticks party ↦ true
+  | _ ↦ false
+]
 
 -- A trace without the input of one of the steps, as the empty one.
 abbrev pub FeedsEachStep : Type 0
@@ -156,7 +181,8 @@ FeedsEachTick =
 
 -- A trace that is no run, at which a schedule stops.
 abbrev pub StopsInRuns : Type 0
-StopsInRuns = (c : Configuration) (steps : List Step) (n : ℕ) (trace : List Entry) → StopsAt c steps n trace → IsRun c trace
+StopsInRuns =
+    (c : Configuration) (steps : List Step) (n : ℕ) (trace : List Entry) → StopsAt c steps n trace → IsRun c trace
 
 -- a frame is sent here
 abbrev pub is_sent : Entry → Bool
@@ -177,7 +203,8 @@ Gets q bytes _ = ⊥
 -- Behind a flush, a frame, made by whom it may be, that one of its correct receivers did not get.
 abbrev pub FlushDeliversAll : Type 0
 FlushDeliversAll =
-    (c : Configuration) (steps : List Step) (i q : ℕ) (made : Made) (trace : List Entry) (feeds : Feeds c (steps ++ flush ∷ []) trace)
+    (c : Configuration) (steps : List Step) (i q : ℕ) (made : Made) (trace : List Entry)
+    (feeds : Feeds c (steps ++ flush ∷ []) trace)
     → slice_get feeds.0.frames i ≡ Some made → Has (λ r. r ≡ q) made.receivers → is_correct c q ≡ true
     → Has (Gets q made.bytes) trace
 
@@ -201,25 +228,30 @@ LogsNumbers =
 abbrev pub NoBeginWhileInactive : Type 0
 NoBeginWhileInactive =
     (c : Configuration) (me : ℕ) (bytes : List ℕ) (new : NewViewData) (past : List Entry)
-    → said bytes ≡ Some (record { sender = me; message = NewView new }) → SentBefore bytes past → SafeReplica c me (Sent me bytes ∷ past)
+    → said bytes ≡ Some (record { sender = me; message = NewView new }) → SentBefore bytes past
+    → SafeReplica c me (Sent me bytes ∷ past)
     → is_active_in c past new.view ≡ true
 
 -- A new view change that leaves out a pre-prepared batch within the marks.
 abbrev pub KeepsProposed : Type 0
 KeepsProposed =
     (c : Configuration) (me v i : ℕ) (batch bytes : List ℕ) (vc : ViewChangeData) (past : List Entry)
-    → said bytes ≡ Some (record { sender = me; message = ViewChange vc }) → (SentBefore bytes past → ⊥) → SafeReplica c me (Sent me bytes ∷ past)
+    → said bytes ≡ Some (record { sender = me; message = ViewChange vc }) → (SentBefore bytes past → ⊥)
+    → SafeReplica c me (Sent me bytes ∷ past)
     → logged c me past v i ≡ Some batch → is_in_marks c (low c me past) i ≡ true
-    → Has (λ (batch_entry : BatchEntry). (batch_entry.number ≡ i) × (batch_entry.digest ≡ sha256 batch) × (v ≤ batch_entry.view)) vc.pre_prepared
+    → Has (λ (batch_entry : BatchEntry). (batch_entry.number ≡ i) × (batch_entry.digest ≡ sha256 batch)
+    × (v ≤ batch_entry.view)) vc.pre_prepared
 
 -- A request by a replica.
 abbrev pub NoRequestByReplica : Type 0
 NoRequestByReplica =
     (c : Configuration) (me timestamp : ℕ) (mode : Mode) (op : Operation) (bytes : List ℕ) (past : List Entry)
-    → said bytes ≡ Some (record { sender = me; message = Request timestamp mode op }) → SafeReplica c me (Sent me bytes ∷ past) → ⊥
+    → said bytes ≡ Some (record { sender = me; message = Request timestamp mode op })
+    → SafeReplica c me (Sent me bytes ∷ past) → ⊥
 
 -- An installation of a state of another number or root.
 abbrev pub InstallsItsRoot : Type 0
 InstallsItsRoot =
-    (c : Configuration) (me k : ℕ) (root : List ℕ) (past : List Entry) (right : SafeReplica c me (Installed me k root ∷ past))
+    (c : Configuration) (me k : ℕ) (root : List ℕ) (past : List Entry)
+    (right : SafeReplica c me (Installed me k root ∷ past))
     → (right.0.state.number ≡ k) × (root_of right.0.state ≡ root)

@@ -22,6 +22,9 @@ pub record IsCheckpointBounded (c : Configuration) (vc : ViewChangeData) (checkp
 pub record IsBounded (c : Configuration) (vc : ViewChangeData) : Type 0 where
   pub view : vc.view < 2 ^ 48
   pub low : vc.low < 2 ^ 48
-  pub prepared : (batch_entry : BatchEntry) → Has (λ x. x ≡ batch_entry) vc.prepared → IsBatchEntryBounded c vc batch_entry
-  pub pre_prepared : (batch_entry : BatchEntry) → Has (λ x. x ≡ batch_entry) vc.pre_prepared → IsBatchEntryBounded c vc batch_entry
-  pub checkpoints : (checkpoint : CheckpointEntry) → Has (λ x. x ≡ checkpoint) vc.checkpoints → IsCheckpointBounded c vc checkpoint
+  pub prepared : (batch_entry : BatchEntry) → Has (λ x. x ≡ batch_entry) vc.prepared
+      → IsBatchEntryBounded c vc batch_entry
+  pub pre_prepared : (batch_entry : BatchEntry) → Has (λ x. x ≡ batch_entry) vc.pre_prepared
+      → IsBatchEntryBounded c vc batch_entry
+  pub checkpoints : (checkpoint : CheckpointEntry) → Has (λ x. x ≡ checkpoint) vc.checkpoints
+      → IsCheckpointBounded c vc checkpoint

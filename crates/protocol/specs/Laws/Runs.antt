@@ -1,5 +1,6 @@
 -- What is proved of runs: the headline, the levels at which answers are accepted, and that none runs twice.
 use Rattle.std.specs.Prelude.{◌≡◌, ℕ, ◌+◌, ◌<◌, true, List, [], ◌∷◌, Some, ⊤, map, suc, ◌++◌}
+use Rattle.terms.specs.declared.order.Mode.TheVariants as modes
 use Rattle.protocol.specs.System.Configuration.{Configuration, IsConfiguration}
 use Rattle.protocol.specs.System.Trace.{Entry, history_of, Always, Unforged}
 use Rattle.protocol.specs.System.Trace.Entry.{Accepted}
@@ -17,18 +18,22 @@ use Rattle.protocol.specs.System.Run.{IsRun, IsWeakRun}
 -- between its invocation and its acceptance.
 abbrev pub PointsAreLinear : Type 0
 PointsAreLinear =
-    (c : Configuration) → IsConfiguration c → (trace : List Entry) → IsRun c trace → Unforged c trace → NoCollision c trace
+    (c : Configuration) → IsConfiguration c → (trace : List Entry) → IsRun c trace → Unforged c trace
+    → NoCollision c trace
     → IsLinear c (points c trace) trace
 
 -- So there is such a list of items: the run is linearizable.
 abbrev pub RunsAreLinear : Type 0
-RunsAreLinear = (c : Configuration) → IsConfiguration c → (trace : List Entry) → IsRun c trace → Unforged c trace → NoCollision c trace → Linear c trace
+RunsAreLinear =
+    (c : Configuration) → IsConfiguration c → (trace : List Entry) → IsRun c trace → Unforged c trace
+    → NoCollision c trace → Linear c trace
 
 -- Over every run of the weak client too, the accepted answers are those of one space: some list of items is legal and
 -- covers the trace. Positions are not promised.
 abbrev pub WeakAnswersAreOneSpace : Type 0
 WeakAnswersAreOneSpace =
-    (c : Configuration) → IsConfiguration c → (trace : List Entry) → IsWeakRun c trace → Unforged c trace → NoCollision c trace
+    (c : Configuration) → IsConfiguration c → (trace : List Entry) → IsWeakRun c trace → Unforged c trace
+    → NoCollision c trace
     → IsOneSpace c trace
 
 -- ---- the levels of what is accepted
@@ -39,19 +44,21 @@ abbrev pub AtItsLevel : Configuration → List Entry → Entry → Type 0
 AtItsLevel c past (Accepted k timestamp answer) =
     (vote : Vote) × (newest_vote c (256 + k) (history_of (256 + k) past) timestamp ≡ Some vote)
     × (is_level c past vote.number ≡ true)
-    × (vote.read_only ≡ true → (n : ℕ) → vote.number < n → is_level c (invoke_past (256 + k) past) n ≡ true → ⊥)
+    × (vote.mode ≡ modes.ReadOnly → (n : ℕ) → vote.number < n → is_level c (invoke_past (256 + k) past) n ≡ true → ⊥)
 AtItsLevel c past _ = ⊤
 
 -- It is so at each acceptance of a run.
 abbrev pub AcceptedAtLevels : Type 0
 AcceptedAtLevels =
-    (c : Configuration) → IsConfiguration c → (trace : List Entry) → IsRun c trace → Unforged c trace → NoCollision c trace
+    (c : Configuration) → IsConfiguration c → (trace : List Entry) → IsRun c trace → Unforged c trace
+    → NoCollision c trace
     → Always (AtItsLevel c) trace
 
 -- The same over a trace whose histories are safe.
 abbrev pub LevelsOfSafe : Type 0
 LevelsOfSafe =
-    (c : Configuration) → IsConfiguration c → (trace : List Entry) → IsSafeTrace c trace → Unforged c trace → NoCollision c trace
+    (c : Configuration) → IsConfiguration c → (trace : List Entry) → IsSafeTrace c trace → Unforged c trace
+    → NoCollision c trace
     → Always (AtItsLevel c) trace
 
 -- ---- over all batches
@@ -60,8 +67,11 @@ LevelsOfSafe =
 abbrev pub ran_points : Configuration → State → List (List ℕ) → List Placing
 ran_points c st [] = []
 ran_points c st (batch ∷ batches) =
-    map (ordered_point 0 (suc st.number)) (ran_in c (suc st.number) st (requests_of batch)) ++ ran_points c (execute c st batch) batches
+    map (ordered_point 0 (suc st.number)) (ran_in c (suc st.number) st (requests_of batch))
+    ++ ran_points c (execute c st batch) batches
 
 -- No client and timestamp runs twice, whatever the batches hold.
 abbrev pub NoneRunsTwice : Type 0
-NoneRunsTwice = (c : Configuration) → IsConfiguration c → (batches : List (List ℕ)) → NoneTwice (map (λ x. x.item) (ran_points c opening batches))
+NoneRunsTwice =
+    (c : Configuration) → IsConfiguration c → (batches : List (List ℕ))
+    → NoneTwice (map (λ x. x.item) (ran_points c opening batches))

@@ -3,11 +3,12 @@
 -- changes). Each word is a function of the past, the newest entry first. What counts first stays: a later message for
 -- the same place adds nothing.
 use Rattle.std.specs.Prelude.{◌≡◌, ℕ, ◌+◌, ◌-◌, ◌*◌, ◌≤◌, Bool, true, false, ◌&&◌, not, List, [], ◌∷◌, take, max, nat_lt, nat_le, ◌==◌, if◌then◌else◌, Option, Some, None, slice_get, option_and_then, bytes_eq, is_some}
+use Rattle.std.specs.Bool.{then_some}
 use Rattle.std.specs.List.{list_all, list_any}
 use Rattle.std.specs.Option.{option_map_or}
 use Rattle.sha2.specs.Sha256.{sha256}
 use Rattle.quorum.specs.Quorum.{count_below}
-use Rattle.quorum.specs.Votes.{or_else, give_if, has_digest}
+use Rattle.quorum.specs.Votes.{or_else, has_digest}
 use Rattle.protocol.specs.System.Configuration.{Configuration, replicas, primary, span, is_number, members}
 use Rattle.wire.specs.Messages.{BodyData as Body, NewViewData, CheckpointEntryData as CheckpointEntry, pre_prepare as PrePrepare, prepare as Prepare, commit as Commit, checkpoint as Checkpoint, view_change as ViewChange, new_view as NewView}
 use Rattle.wire.specs.Words.{requests_of, said}
@@ -36,7 +37,10 @@ first_given give (e ∷ past) = or_else (first_given give past) (give past e)
 
 -- a new view by the primary of its view, that meets the rules
 abbrev pub new_view_from : Configuration → Body → Option NewViewData
-new_view_from c body = elim body.message [ NewView new ↦ give_if ((body.sender == primary c new.view) && may_select c new) new | _ ↦ None ]
+new_view_from c body = elim body.message [
+  | NewView new ↦ then_some ((body.sender == primary c new.view) && may_select c new) new
+  | _ ↦ None
+]
 
 -- the new view that an entry brings
 abbrev pub new_view_in : Configuration → Entry → Option NewViewData
@@ -75,13 +79,16 @@ is_active_in c past v = (view c past == v) && nat_le (target past) v
 
 -- the new view that is taken, or sent, at an entry
 abbrev pub taken : Configuration → List Entry → Entry → Option NewViewData
-taken c past e = option_and_then (λ new. give_if (is_later (view c past) (target past) new) new) (new_view_in c e)
+taken c past e = option_and_then (λ new. then_some (is_later (view c past) (target past) new) new) (new_view_in c e)
 
 -- ---- checkpoints
 
 -- the checkpoint that a message is, with its sender, where its number is one
 abbrev pub checkpoint_from : Body → Option (ℕ × CheckpointEntry)
-checkpoint_from body = elim body.message [ Checkpoint number root ↦ give_if (is_number number) (body.sender, record { number = number; digest = root }) | _ ↦ None ]
+checkpoint_from body = elim body.message [
+  | Checkpoint number root ↦ then_some (is_number number) (body.sender, record { number = number; digest = root })
+  | _ ↦ None
+]
 
 -- the checkpoint that an entry brings, with its sender
 abbrev pub checkpoint_in : Configuration → Entry → Option (ℕ × CheckpointEntry)
@@ -90,7 +97,9 @@ checkpoint_in c e = option_and_then checkpoint_from (brought c e)
 -- one more among a sender's checkpoints, the largest number first; of one number the earlier stays
 abbrev pub insert_checkpoint : CheckpointEntry → List CheckpointEntry → List CheckpointEntry
 insert_checkpoint checkpoint [] = checkpoint ∷ []
-insert_checkpoint checkpoint (m ∷ ms) = if m.number == checkpoint.number then m ∷ ms else if nat_lt m.number checkpoint.number then checkpoint ∷ m ∷ ms else m ∷ insert_checkpoint checkpoint ms
+insert_checkpoint checkpoint (m ∷ ms) =
+    if m.number == checkpoint.number then m ∷ ms else
+    if nat_lt m.number checkpoint.number then checkpoint ∷ m ∷ ms else m ∷ insert_checkpoint checkpoint ms
 
 -- a sender's checkpoints behind an entry that brings this one: another's changes nothing, and three stay
 abbrev pub with_checkpoint : ℕ → Option (ℕ × CheckpointEntry) → List CheckpointEntry → List CheckpointEntry
@@ -104,21 +113,25 @@ checkpoints_of c (e ∷ past) s = with_checkpoint s (checkpoint_in c e) (checkpo
 
 -- one of these checkpoints has this number and digest
 abbrev pub says_checkpoint : CheckpointEntry → List CheckpointEntry → Bool
-says_checkpoint checkpoint checkpoints = list_any (λ m. (m.number == checkpoint.number) && bytes_eq m.digest checkpoint.digest) checkpoints
+says_checkpoint checkpoint checkpoints =
+    list_any (λ m. (m.number == checkpoint.number) && bytes_eq m.digest checkpoint.digest) checkpoints
 
 -- how many different replicas' checkpoints say this
 abbrev pub count_checkpoints : Configuration → List Entry → CheckpointEntry → ℕ
-count_checkpoints c past checkpoint = count_below (λ s. says_checkpoint checkpoint (checkpoints_of c past s)) (replicas c)
+count_checkpoints c past checkpoint =
+    count_below (λ s. says_checkpoint checkpoint (checkpoints_of c past s)) (replicas c)
 
 -- Stable: a quorum of checkpoints is alike, the own among them.
 abbrev pub is_stable : Configuration → ℕ → List Entry → CheckpointEntry → Bool
-is_stable c me past checkpoint = is_quorum c (count_checkpoints c past checkpoint) && says_checkpoint checkpoint (checkpoints_of c past me)
+is_stable c me past checkpoint =
+    is_quorum c (count_checkpoints c past checkpoint) && says_checkpoint checkpoint (checkpoints_of c past me)
 
 -- ---- the low mark
 
 -- the number that an entry makes stable, installs or starts at, else 0
 abbrev pub stable_at : Configuration → ℕ → List Entry → Entry → ℕ
-stable_at c me past e = option_map_or (λ x. if is_stable c me (e ∷ past) x.1 then x.1.number else 0) (checkpoint_in c e) 0
+stable_at c me past e =
+    option_map_or (λ x. if is_stable c me (e ∷ past) x.1 then x.1.number else 0) (checkpoint_in c e) 0
 
 abbrev pub installed_at : Entry → ℕ
 installed_at (Installed replica number root) = number
@@ -151,7 +164,11 @@ are_genuine c me batch = list_all (λ request. is_some (heard (members c) me req
 
 -- the batch that the view's primary proposes by a pre-prepare
 abbrev pub batch_from : Configuration → ℕ → ℕ → ℕ → Body → Option (List ℕ)
-batch_from c me v i body = elim body.message [ PrePrepare view number batch ↦ give_if ((view == v) && (number == i) && (body.sender == primary c v) && are_genuine c me batch) batch | _ ↦ None ]
+batch_from c me v i body = elim body.message [
+  | PrePrepare view number batch ↦
+      then_some ((view == v) && (number == i) && (body.sender == primary c v) && are_genuine c me batch) batch
+  | _ ↦ None
+]
 
 -- what a new view proposes for the number
 abbrev pub batch_begun : ℕ → ℕ → NewViewData → Option (List ℕ)
@@ -160,10 +177,12 @@ batch_begun v i new = if (new.view == v) && nat_lt new.start i then slice_get ne
 -- what the new view that an entry brings pre-prepares in the view v at i, within the marks then, and what a pre-prepare
 -- does
 abbrev pub begun_proposal : Configuration → ℕ → List Entry → Entry → ℕ → ℕ → Option (List ℕ)
-begun_proposal c me past e v i = if is_in_marks c (low c me (e ∷ past)) i then option_and_then (batch_begun v i) (taken c past e) else None
+begun_proposal c me past e v i = if is_in_marks c (low c me (e ∷ past)) i then
+    option_and_then (batch_begun v i) (taken c past e) else None
 
 abbrev pub entry_proposal : Configuration → ℕ → List Entry → Entry → ℕ → ℕ → Option (List ℕ)
-entry_proposal c me past e v i = if counts_at c me past e v i then option_and_then (batch_from c me v i) (brought c e) else None
+entry_proposal c me past e v i =
+    if counts_at c me past e v i then option_and_then (batch_from c me v i) (brought c e) else None
 
 -- what an entry pre-prepares, by a new view or by a pre-prepare
 abbrev pub proposal : Configuration → ℕ → List Entry → Entry → ℕ → ℕ → Option (List ℕ)
@@ -175,10 +194,17 @@ logged c me past v i = first_given (λ earlier e. proposal c me earlier e v i) p
 
 -- the digest that a message prepares, as a backup, or commits
 abbrev pub prepare_from : Configuration → ℕ → ℕ → ℕ → Body → Option (List ℕ)
-prepare_from c s v i body = elim body.message [ Prepare view number digest ↦ give_if ((body.sender == s) && (view == v) && (number == i) && not (s == primary c v)) digest | _ ↦ None ]
+prepare_from c s v i body = elim body.message [
+  | Prepare view number digest ↦
+      then_some ((body.sender == s) && (view == v) && (number == i) && not (s == primary c v)) digest
+  | _ ↦ None
+]
 
 abbrev pub commit_from : ℕ → ℕ → ℕ → Body → Option (List ℕ)
-commit_from s v i body = elim body.message [ Commit view number digest ↦ give_if ((body.sender == s) && (view == v) && (number == i)) digest | _ ↦ None ]
+commit_from s v i body = elim body.message [
+  | Commit view number digest ↦ then_some ((body.sender == s) && (view == v) && (number == i)) digest
+  | _ ↦ None
+]
 
 -- the vote that an entry brings
 abbrev pub vote_in : Configuration → ℕ → List Entry → Entry → (Body → Option (List ℕ)) → ℕ → ℕ → Option (List ℕ)

@@ -49,7 +49,8 @@ SentBefore bytes past = Once (SendsBytes bytes) past
 
 -- a page of this index and text was got
 abbrev pub GetsPage : Configuration → ℕ → ℕ → List ℕ → List Entry → Entry → Type 0
-GetsPage c me i text past (Got p bytes) = (sender number : ℕ) × (heard (members c) me bytes ≡ Some (record { sender = sender; message = Page number i text }))
+GetsPage c me i text past (Got p bytes) =
+    (sender number : ℕ) × (heard (members c) me bytes ≡ Some (record { sender = sender; message = Page number i text }))
 GetsPage c me i text past _ = ⊥
 
 -- a part of a checkpoint was asked for by the replica s
@@ -82,7 +83,9 @@ with_waiting st waiting call =
 
 -- the requests that wait once the bytes are got
 abbrev pub waiting_after : Configuration → ℕ → Point → List ℕ → List Call
-waiting_after c me point bytes = option_map_or (with_waiting point.state point.waiting) (option_and_then (call_in c) (heard (members c) me bytes)) point.waiting
+waiting_after c me point bytes =
+    option_map_or (with_waiting point.state point.waiting) (option_and_then (call_in c) (heard (members c) me bytes))
+    point.waiting
 
 -- It waits until its client's last timestamp is at least its own.
 abbrev pub still_waiting : State → List Call → List Call
@@ -98,7 +101,8 @@ IsHeld c me past st i text = (text ≡ page_text st i) ⊎ Once (GetsPage c me i
 
 -- What an installation leaves: a state of the number and root, made of such pages, and kept as a snapshot; what it has
 -- run waits no more.
-pub record IsInstalled (c : Configuration) (me : ℕ) (past : List Entry) (old : Point) (k : ℕ) (root : List ℕ) (new : Point) : Type 0 where
+pub record IsInstalled (c : Configuration) (me : ℕ) (past : List Entry) (old : Point) (k : ℕ) (root : List ℕ)
+    (new : Point) : Type 0 where
   pub is_state : IsState new.state
   pub number : new.state.number ≡ k
   pub root_is : root_of new.state ≡ root
@@ -136,9 +140,11 @@ abbrev pub checkpoint_of : State → CheckpointEntry
 checkpoint_of st = record { number = st.number; digest = root_of st }
 
 -- the latest prepared digest of each number in the marks, one a number
-pub record IsPreparedList (c : Configuration) (me : ℕ) (past : List Entry) (batch_entries : List BatchEntry) : Type 0 where
+pub record IsPreparedList (c : Configuration) (me : ℕ) (past : List Entry)
+    (batch_entries : List BatchEntry) : Type 0 where
   pub listed : (batch_entry : BatchEntry) → Has (λ x. x ≡ batch_entry) batch_entries
-      → ((batch : List ℕ) × Prepared c me past batch_entry.view batch_entry.number batch × (sha256 batch ≡ batch_entry.digest))
+      → ((batch : List ℕ) × Prepared c me past batch_entry.view batch_entry.number batch
+      × (sha256 batch ≡ batch_entry.digest))
       × (is_in_marks c (low c me past) batch_entry.number ≡ true)
       × ((v : ℕ) (batch : List ℕ) → batch_entry.view < v → Prepared c me past v batch_entry.number batch → ⊥)
   pub all : (v i : ℕ) (batch : List ℕ) → is_in_marks c (low c me past) i ≡ true → Prepared c me past v i batch
@@ -146,16 +152,19 @@ pub record IsPreparedList (c : Configuration) (me : ℕ) (past : List Entry) (ba
   pub ascending : AllPairs (λ x y. x.number < y.number) batch_entries
 
 -- each digest that was pre-prepared for a number in the marks, with its latest view
-pub record IsPrePreparedList (c : Configuration) (me : ℕ) (past : List Entry) (batch_entries : List BatchEntry) : Type 0 where
+pub record IsPrePreparedList (c : Configuration) (me : ℕ) (past : List Entry)
+    (batch_entries : List BatchEntry) : Type 0 where
   pub listed : (batch_entry : BatchEntry) → Has (λ x. x ≡ batch_entry) batch_entries
-      → ((batch : List ℕ) × (logged c me past batch_entry.view batch_entry.number ≡ Some batch) × (sha256 batch ≡ batch_entry.digest))
+      → ((batch : List ℕ) × (logged c me past batch_entry.view batch_entry.number ≡ Some batch)
+      × (sha256 batch ≡ batch_entry.digest))
       × (is_in_marks c (low c me past) batch_entry.number ≡ true)
   pub all : (v i : ℕ) (batch : List ℕ) → is_in_marks c (low c me past) i ≡ true → logged c me past v i ≡ Some batch
       → Has (λ x. (x.number ≡ i) × (x.digest ≡ sha256 batch) × (v ≤ x.view)) batch_entries
   pub differ : AllPairs (λ x y. (x.number ≡ y.number) → x.digest ≢ y.digest) batch_entries
 
 -- a view change for a view above the own one and above those sent before, with what the history says
-pub record IsNewViewChange (c : Configuration) (me : ℕ) (past : List Entry) (point : Point) (vc : ViewChangeData) : Type 0 where
+pub record IsNewViewChange (c : Configuration) (me : ℕ) (past : List Entry) (point : Point)
+    (vc : ViewChangeData) : Type 0 where
   pub above : view c past < vc.view
   pub newer : target past < vc.view
   pub is_view : is_number vc.view ≡ true
@@ -189,7 +198,8 @@ MayFetch c past point k = (root : List ℕ) × MayInstall c past point k root
 -- ---- what may be sent. Each clause covers sending again too.
 
 -- the active primary proposes, over requests authentic to it, for a number in the marks, one batch a view and number
-pub record MayPrePrepare (c : Configuration) (me : ℕ) (past : List Entry) (e : Entry) (v i : ℕ) (batch : List ℕ) : Type 0 where
+pub record MayPrePrepare (c : Configuration) (me : ℕ) (past : List Entry) (e : Entry) (v i : ℕ)
+    (batch : List ℕ) : Type 0 where
   pub is_primary : primary c v ≡ me
   pub active : is_active_in c past v ≡ true
   pub in_marks : is_in_marks c (low c me past) i ≡ true
@@ -225,7 +235,8 @@ MayViewChange c me past point bytes vc =
 -- a new view is sent by its primary: where it is taken, or again while active in it
 abbrev pub MayNewView : Configuration → ℕ → List Entry → Entry → List ℕ → NewViewData → Type 0
 MayNewView c me past e bytes new =
-    (primary c new.view ≡ me) × ((taken c past e ≡ Some new) ⊎ ((is_active_in c past new.view ≡ true) × SentBefore bytes past))
+    (primary c new.view ≡ me)
+    × ((taken c past e ≡ Some new) ⊎ ((is_active_in c past new.view ≡ true) × SentBefore bytes past))
 
 -- what is kept for the client k, as a reply to it
 abbrev pub reply_of : ℕ → Kept → Message
@@ -235,10 +246,12 @@ reply_of k kept = Reply (256 + k) kept.timestamp modes.Ordered kept.number kept.
 abbrev pub MayReplyOrdered : Point → ℕ → ℕ → ℕ → Outcome → Type 0
 MayReplyOrdered point client timestamp number answer =
     Has (λ ran. reply_of ran.call.client ran.kept ≡ Reply client timestamp modes.Ordered number answer) point.ran
-    ⊎ ((k : ℕ) × (kept : Kept) × (kept_of point.state k ≡ Some kept) × (reply_of k kept ≡ Reply client timestamp modes.Ordered number answer))
+    ⊎ ((k : ℕ) × (kept : Kept)
+    × (kept_of point.state k ≡ Some kept) × (reply_of k kept ≡ Reply client timestamp modes.Ordered number answer))
 
 -- a read that was got is answered from the executed state, with its number
-pub record MayReplyRead (c : Configuration) (me : ℕ) (past : List Entry) (point : Point) (client timestamp number : ℕ) (answer : Outcome) : Type 0 where
+pub record MayReplyRead (c : Configuration) (me : ℕ) (past : List Entry) (point : Point) (client timestamp number : ℕ)
+    (answer : Outcome) : Type 0 where
   pub op : Operation
   pub is_read : is_read_only op ≡ true
   pub heard : Once (Hears c me (record { sender = client; message = Request timestamp modes.ReadOnly op })) past
@@ -247,8 +260,10 @@ pub record MayReplyRead (c : Configuration) (me : ℕ) (past : List Entry) (poin
 
 -- an ordered reply and a read-only one each have their rule
 abbrev pub MayReply : Configuration → ℕ → List Entry → Point → ℕ → ℕ → Mode → ℕ → Outcome → Type 0
-MayReply c me past point client timestamp modes.Ordered number answer = MayReplyOrdered point client timestamp number answer
-MayReply c me past point client timestamp modes.ReadOnly number answer = MayReplyRead c me past point client timestamp number answer
+MayReply c me past point client timestamp modes.Ordered number answer =
+    MayReplyOrdered point client timestamp number answer
+MayReply c me past point client timestamp modes.ReadOnly number answer =
+    MayReplyRead c me past point client timestamp number answer
 
 -- a state of the number is kept, and this holds of it
 abbrev pub KeptState : Configuration → ℕ → List Entry → Point → ℕ → (State → Type 0) → Type 0
@@ -263,7 +278,8 @@ digests_at st levels.Page index = []
 -- Digests, or a page, of a kept state answer a fetch that was got.
 abbrev pub MayMeta : Configuration → ℕ → List Entry → Point → ℕ → Level → ℕ → List (List ℕ) → Type 0
 MayMeta c me past point k level index digests =
-    KeptState c me past point k (λ st. digests ≡ digests_at st level index) × ((s : ℕ) × WasAsked c me past s k level index)
+    KeptState c me past point k
+    (λ st. digests ≡ digests_at st level index) × ((s : ℕ) × WasAsked c me past s k level index)
 
 abbrev pub MayPage : Configuration → ℕ → List Entry → Point → ℕ → ℕ → List ℕ → Type 0
 MayPage c me past point k index text =
@@ -278,7 +294,8 @@ MaySay c me past point e bytes (Commit v i digest) = MayCommit c me past v i dig
 MaySay c me past point e bytes (Checkpoint k root) = MayCheckpoint c past point k root
 MaySay c me past point e bytes (ViewChange vc) = MayViewChange c me past point bytes vc
 MaySay c me past point e bytes (NewView new) = MayNewView c me past e bytes new
-MaySay c me past point e bytes (Reply client timestamp kind number answer) = MayReply c me past point client timestamp kind number answer
+MaySay c me past point e bytes (Reply client timestamp mode number answer) =
+    MayReply c me past point client timestamp mode number answer
 MaySay c me past point e bytes (Fetch k level index) = MayFetch c past point k
 MaySay c me past point e bytes (Meta k level index digests) = MayMeta c me past point k level index digests
 MaySay c me past point e bytes (Page k index text) = MayPage c me past point k index text
@@ -292,8 +309,10 @@ others c me = filter (λ r. not (r == me)) (range_with_len 0 (replicas c))
 -- a reply is for its client, a part for a replica that asked for it, all else for the other replicas
 abbrev pub IsFor : Configuration → ℕ → List Entry → Message → List ℕ → Type 0
 IsFor c me past (Reply client timestamp mode number answer) receivers = receivers ≡ client ∷ []
-IsFor c me past (Meta k level index digests) receivers = (s : ℕ) × (receivers ≡ s ∷ []) × WasAsked c me past s k level index
-IsFor c me past (Page k index text) receivers = (s : ℕ) × (receivers ≡ s ∷ []) × WasAsked c me past s k levels.Page index
+IsFor c me past (Meta k level index digests) receivers =
+    (s : ℕ) × (receivers ≡ s ∷ []) × WasAsked c me past s k level index
+IsFor c me past (Page k index text) receivers =
+    (s : ℕ) × (receivers ≡ s ∷ []) × WasAsked c me past s k levels.Page index
 IsFor c me past _ receivers = receivers ≡ others c me
 
 -- MACs are for those; a signature is for all
@@ -302,18 +321,21 @@ IsAddressed c me past message (macs entries) = IsFor c me past message (receiver
 IsAddressed c me past message (signature s) = ⊤
 
 -- a frame of the replica's own, sealed for those it is for, or signed, over frames that it has seen
-pub record MaySend (c : Configuration) (me : ℕ) (past : List Entry) (point : Point) (e : Entry) (bytes : List ℕ) : Type 0 where
+pub record MaySend (c : Configuration) (me : ℕ) (past : List Entry) (point : Point) (e : Entry)
+    (bytes : List ℕ) : Type 0 where
   pub body : Body
   pub says : said bytes ≡ Some body
   pub own : body.sender ≡ me
   pub seen : Each (λ frame. Once (HasSeen frame) past) (carried body.message)
   pub say : MaySay c me past point e bytes body.message
-  pub is_sealed : (frame : Frame) → frame_of bytes ≡ Some frame → IsSealed c frame × IsAddressed c me past body.message frame.authenticator
+  pub is_sealed : (frame : Frame) → frame_of bytes ≡ Some frame
+      → IsSealed c frame × IsAddressed c me past body.message frame.authenticator
 
 -- ---- what may be executed
 
 -- the next number, and a batch that is committed for it
-pub record MayExecute (c : Configuration) (me : ℕ) (past : List Entry) (point : Point) (k : ℕ) (batch : List ℕ) : Type 0 where
+pub record MayExecute (c : Configuration) (me : ℕ) (past : List Entry) (point : Point) (k : ℕ)
+    (batch : List ℕ) : Type 0 where
   pub next : k ≡ suc point.state.number
   pub in_view : ℕ
   pub committed : Committed c me past in_view k batch
@@ -329,7 +351,8 @@ May c me past point (Sent p bytes) = MaySend c me past point (Sent p bytes) byte
 May c me past point (Accepted client timestamp answer) = ⊥
 
 -- one entry that a replica may have, from the point before it to the one behind it
-pub record IsStep (c : Configuration) (me : ℕ) (past : List Entry) (old : Point) (e : Entry) (new : Point) : Type 0 where
+pub record IsStep (c : Configuration) (me : ℕ) (past : List Entry) (old : Point) (e : Entry)
+    (new : Point) : Type 0 where
   pub own : party_of e ≡ me
   pub may : May c me past old e
   pub moves : Moves c me past old e new

@@ -53,14 +53,19 @@ count_in c test set = count_below (passes_by test set) (replicas c)
 
 -- a batch entry, prepared or pre-prepared; a checkpoint entry; and the whole
 abbrev pub is_batch_entry_within : Configuration → ViewChangeData → BatchEntry → Bool
-is_batch_entry_within c vc batch_entry = nat_lt batch_entry.view vc.view && nat_lt vc.low batch_entry.number && nat_le batch_entry.number (vc.low + span c) && is_number batch_entry.number
+is_batch_entry_within c vc batch_entry =
+    nat_lt batch_entry.view vc.view && nat_lt vc.low batch_entry.number && nat_le batch_entry.number (vc.low + span c)
+    && is_number batch_entry.number
 
 abbrev pub is_checkpoint_within : Configuration → ViewChangeData → CheckpointEntry → Bool
-is_checkpoint_within c vc checkpoint = nat_le vc.low checkpoint.number && nat_le checkpoint.number (vc.low + span c) && (checkpoint.number % c.period == 0) && is_number checkpoint.number
+is_checkpoint_within c vc checkpoint =
+    nat_le vc.low checkpoint.number && nat_le checkpoint.number (vc.low + span c) && (checkpoint.number % c.period == 0)
+    && is_number checkpoint.number
 
 abbrev pub is_within : Configuration → ViewChangeData → Bool
 is_within c vc = is_number vc.view && is_number vc.low
-    && list_all (is_batch_entry_within c vc) vc.prepared && list_all (is_batch_entry_within c vc) vc.pre_prepared && list_all (is_checkpoint_within c vc) vc.checkpoints
+    && list_all (is_batch_entry_within c vc) vc.prepared && list_all (is_batch_entry_within c vc) vc.pre_prepared
+    && list_all (is_checkpoint_within c vc) vc.checkpoints
 
 -- ---- the rules
 
@@ -68,15 +73,20 @@ is_within c vc = is_number vc.view && is_number vc.low
 abbrev pub is_start : Configuration → List (ℕ × ViewChangeData) → ℕ → List ℕ → Bool
 is_start c set start root =
     is_quorum c (count_in c (λ vc. nat_le vc.low start) set)
-    && is_weak_quorum c (count_in c (λ vc. list_any (λ checkpoint. (checkpoint.number == start) && bytes_eq checkpoint.digest root) vc.checkpoints) set)
+    && is_weak_quorum c (count_in c (λ vc. list_any
+    (λ checkpoint. (checkpoint.number == start) && bytes_eq checkpoint.digest root) vc.checkpoints) set)
 
 -- no prepared entry of the view change for the number speaks against this digest in this view
 abbrev pub agrees : ℕ → ℕ → List ℕ → ViewChangeData → Bool
-agrees number view digest vc = list_all (λ batch_entry. not (batch_entry.number == number) || nat_lt batch_entry.view view || ((batch_entry.view == view) && bytes_eq batch_entry.digest digest)) vc.prepared
+agrees number view digest vc =
+    list_all (λ batch_entry. not (batch_entry.number == number)
+    || nat_lt batch_entry.view view || ((batch_entry.view == view) && bytes_eq batch_entry.digest digest)) vc.prepared
 
 -- it pre-prepared this digest for the number in this view or a later one
 abbrev pub vouches : ℕ → ℕ → List ℕ → ViewChangeData → Bool
-vouches number view digest vc = list_any (λ batch_entry. (batch_entry.number == number) && bytes_eq batch_entry.digest digest && nat_le view batch_entry.view) vc.pre_prepared
+vouches number view digest vc =
+    list_any (λ batch_entry. (batch_entry.number == number) && bytes_eq batch_entry.digest digest
+    && nat_le view batch_entry.view) vc.pre_prepared
 
 -- a digest may stand at the number by this view: a quorum has nothing against it, and f + 1 vouch for it
 abbrev pub may_stand_at : Configuration → List (ℕ × ViewChangeData) → ℕ → List ℕ → ℕ → Bool
@@ -87,7 +97,8 @@ may_stand_at c set number digest view =
 -- the null batch may stand at the number: a quorum has nothing prepared for it
 abbrev pub may_be_null : Configuration → List (ℕ × ViewChangeData) → ℕ → Bool
 may_be_null c set number =
-    is_quorum c (count_in c (λ vc. nat_lt vc.low number && list_all (λ batch_entry. not (batch_entry.number == number)) vc.prepared) set)
+    is_quorum c (count_in c (λ vc. nat_lt vc.low number
+    && list_all (λ batch_entry. not (batch_entry.number == number)) vc.prepared) set)
 
 -- the batch of no requests, which fills a number that nothing is prepared for
 abbrev pub null_batch : List ℕ
@@ -109,12 +120,16 @@ may_stand c view set number batch =
 -- each batch may stand at its number, from the given one on
 abbrev pub may_all_stand : Configuration → ℕ → List (ℕ × ViewChangeData) → ℕ → List (List ℕ) → Bool
 may_all_stand c view set number [] = true
-may_all_stand c view set number (batch ∷ batches) = may_stand c view set number batch && may_all_stand c view set (suc number) batches
+may_all_stand c view set number (batch ∷ batches) =
+    may_stand c view set number batch && may_all_stand c view set (suc number) batches
 
 -- the largest number that a view change has prepared, up to the limit
 abbrev pub largest : ℕ → List BatchEntry → ℕ
 largest limit [] = 0
-largest limit (batch_entry ∷ batch_entries) = if nat_le batch_entry.number limit then max batch_entry.number (largest limit batch_entries) else largest limit batch_entries
+largest limit (batch_entry ∷ batch_entries) =
+    if nat_le batch_entry.number limit then
+    max batch_entry.number (largest limit batch_entries) else
+    largest limit batch_entries
 
 -- the largest over the whole set
 abbrev pub largest_of : ℕ → List (ℕ × ViewChangeData) → ℕ

@@ -1,6 +1,6 @@
 -- The state that batches leave, its pages and its root (Castro and Liskov, TOCS 2002, on normal-case
 -- operation and, of pages and root, on hierarchical state partitions).
-use Rattle.std.specs.Prelude.{ℕ, suc, ◌-◌, Bool, ◌&&◌, not, List, [], ◌∷◌, ◌++◌, map, nat_lt, ◌==◌, if◌then◌else◌, Option, Some, None, option_and_then, fold}
+use Rattle.std.specs.Prelude.{ℕ, suc, ◌-◌, Bool, ◌&&◌, List, [], ◌∷◌, ◌++◌, map, nat_lt, ◌==◌, if◌then◌else◌, Option, Some, None, option_and_then, fold}
 use Rattle.std.specs.List.{range_with_len}
 use Rattle.std.specs.Option.{option_map_or}
 use Rattle.tuple_tree.specs.Values.{TupleTree}
@@ -10,9 +10,10 @@ use Rattle.space.specs.Births.{SpaceState, empty_state, tuples_of, state_after}
 use Rattle.space.specs.Pages.{IsStateAt, header_text, page_text as tuple_page}
 use Rattle.partition_tree.specs.Digests.{root_of as root_of_pages}
 use Rattle.protocol.specs.System.Configuration.{Configuration, is_client}
+use Rattle.terms.specs.declared.order.Mode.TheVariants as modes
 use Rattle.wire.specs.Messages.{BodyData as Body, request as Request}
 use Rattle.wire.specs.Words.{requests_of, said}
-use Rattle.protocol.specs.System.Frames.{reads_only}
+use Rattle.protocol.specs.System.Frames.{same_mode}
 use Rattle.reply_cache.specs.Replies.{Kept, Replies, no_replies, last_of, seen_of, with_reply, AreReplies}
 use Rattle.reply_cache.specs.Pages.{reply_text}
 
@@ -49,7 +50,7 @@ pub record Call : Type 0 where
 -- the call that a message is
 abbrev pub call_in : Configuration → Body → Option Call
 call_in c body = elim body.message [
-  | Request timestamp mode op ↦ if not (reads_only mode) && is_client c body.sender
+  | Request timestamp mode op ↦ if same_mode mode modes.Ordered && is_client c body.sender
       then Some (record { client = body.sender - 256; timestamp = timestamp; op = op }) else None
   | _ ↦ None
 ]
@@ -69,7 +70,11 @@ kept_by st number call = record { timestamp = call.timestamp; number = number; o
 -- the state after a request that runs
 abbrev pub ran_call : State → ℕ → Call → State
 ran_call st number call =
-    record { space = state_after st.space call.op; number = st.number; replies = with_reply st.replies call.client (kept_by st number call) }
+    record {
+      space = state_after st.space call.op;
+      number = st.number;
+      replies = with_reply st.replies call.client (kept_by st number call);
+    }
 
 -- what a request does in the batch of a number
 abbrev pub run_call : State → ℕ → Call → State
@@ -100,7 +105,8 @@ ran_by st number call = if runs st call then record { call = call; kept = kept_b
 -- the requests of the frames that run, one after another
 abbrev pub ran_in : Configuration → ℕ → State → List (List ℕ) → List Ran
 ran_in c number st [] = []
-ran_in c number st (frame ∷ frames) = option_map_or (ran_by st number) (call_of c frame) [] ++ ran_in c number (run_frame c number st frame) frames
+ran_in c number st (frame ∷ frames) =
+    option_map_or (ran_by st number) (call_of c frame) [] ++ ran_in c number (run_frame c number st frame) frames
 
 -- ---- what a state is
 

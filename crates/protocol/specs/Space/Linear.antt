@@ -1,17 +1,19 @@
 -- What one sequential tuple space would do, and where; and the points of a trace.
 use Rattle.std.specs.Prelude.{◌≡◌, ℕ, zero, suc, ◌+◌, ◌≤◌, Bool, true, false, ◌&&◌, ◌||◌, not, List, [], ◌∷◌, ◌++◌, length, map, max, filter, nat_lt, nat_le, ◌==◌, if◌then◌else◌, Option, Some, None, option_and_then, ⊤}
+use Rattle.std.specs.Bool.{then_some}
 use Rattle.std.specs.Option.{option_map_or}
 use Rattle.tuple_tree.specs.Values.{TupleTree}
 use Rattle.tuple_codec.specs.Operations.{Operation, Outcome}
 use Rattle.space.specs.Applying.{outcome, tuples_after}
 use Rattle.quorum.specs.Quorum.{count_below}
-use Rattle.quorum.specs.Votes.{give_if}
 use Rattle.protocol.specs.Replica.Selection.{null_batch}
 use Rattle.protocol.specs.System.Configuration.{Configuration, replicas, is_correct_replica, is_correct_client, members}
+use Rattle.terms.specs.declared.order.Mode.{Mode}
 use Rattle.terms.specs.declared.order.Mode.TheVariants as modes
 use Rattle.wire.specs.Messages.{request as Request}
 use Rattle.wire.specs.Words.{requests_of}
 use Rattle.signing.specs.Heard.{heard}
+use Rattle.protocol.specs.System.Frames.{same_mode}
 use Rattle.protocol.specs.System.Trace.{Entry, history_of, frames_in, Once, Always, Has}
 use Rattle.protocol.specs.System.Trace.Entry.{Invoke, Got, Executed, Installed, Accepted}
 use Rattle.protocol.specs.Replica.Certificates.{first_given, greatest}
@@ -53,20 +55,25 @@ Accepts p timestamp answer past _ = ⊥
 abbrev pub Asks : Configuration → ℕ → ℕ → Operation → List Entry → Entry → Type 0
 Asks c client timestamp op past (Got p bytes) =
     (is_correct_replica c p ≡ true)
-    × Has (λ frame. heard (members c) p frame ≡ Some (record { sender = client; message = Request timestamp modes.Ordered op })) (frames_in bytes)
+    × Has (λ frame. heard (members c) p frame
+    ≡ Some (record { sender = client; message = Request timestamp modes.Ordered op })) (frames_in bytes)
 Asks c client timestamp op past _ = ⊥
 
 -- no two items are of one client and timestamp
 abbrev pub NoneTwice : List Item → Type 0
 NoneTwice [] = ⊤
-NoneTwice (item ∷ items) = (Has (λ x. (x.client ≡ item.client) × (x.timestamp ≡ item.timestamp)) items → ⊥) × NoneTwice items
+NoneTwice (item ∷ items) =
+    (Has (λ x. (x.client ≡ item.client) × (x.timestamp ≡ item.timestamp)) items → ⊥) × NoneTwice items
 
 -- Covers: what correct clients accepted is there, once; what is there of a correct client it invoked; what is there of
 -- a faulty one some correct replica had been asked by then; and nothing is there twice.
 pub record Covers (c : Configuration) (items : List Item) (trace : List Entry) : Type 0 where
-  pub accepted : (p timestamp : ℕ) (answer : Outcome) → is_correct_client c p ≡ true → Once (Accepts p timestamp answer) trace
-      → Has (λ item. (item.client ≡ p) × (item.timestamp ≡ timestamp) × (item.answer ≡ answer) × Once (Invokes p timestamp item.op) trace) items
-  pub invoked : (item : Item) → Has (λ x. x ≡ item) items → is_correct_client c item.client ≡ true → Once (Invokes item.client item.timestamp item.op) trace
+  pub accepted : (p timestamp : ℕ) (answer : Outcome) → is_correct_client c p ≡ true
+      → Once (Accepts p timestamp answer) trace
+      → Has (λ item. (item.client ≡ p) × (item.timestamp ≡ timestamp) × (item.answer ≡ answer)
+      × Once (Invokes p timestamp item.op) trace) items
+  pub invoked : (item : Item) → Has (λ x. x ≡ item) items
+      → is_correct_client c item.client ≡ true → Once (Invokes item.client item.timestamp item.op) trace
   pub asked : (item : Item) → Has (λ x. x ≡ item) items → is_correct_client c item.client ≡ false
       → Once (λ past e. Asks c item.client item.timestamp item.op past e × (length past ≤ item.position)) trace
   pub once : NoneTwice items
@@ -124,11 +131,11 @@ is_level c past k = nat_le (count_correct c) (count_below (has_reached c past k)
 
 -- the first position at which the level is at least the number
 abbrev pub first_position : Configuration → List Entry → ℕ → Option ℕ
-first_position c trace k = first_given (λ past e. give_if (is_level c (e ∷ past) k) (length past)) trace
+first_position c trace k = first_given (λ past e. then_some (is_level c (e ∷ past) k) (length past)) trace
 
 -- the batch that some replica executes here for the number k
 abbrev pub batch_at : ℕ → Entry → Option (List ℕ)
-batch_at k (Executed replica number batch) = give_if (number == k) batch
+batch_at k (Executed replica number batch) = then_some (number == k) batch
 batch_at k _ = None
 
 -- the batch of the first execution of the number
@@ -148,21 +155,28 @@ last_executed past = greatest executed_at past
 pub record Placing : Type 0 where
   pub item : Item
   pub number : ℕ
-  pub read_only : Bool
+  pub mode : Mode
 
 -- the item of a request that ran in the batch of this number, at the position of its level
 abbrev pub ordered_point : ℕ → ℕ → Ran → Placing
 ordered_point position number ran = record {
-  item = record { client = 256 + ran.call.client; timestamp = ran.call.timestamp; op = ran.call.op; answer = ran.kept.outcome; position = position };
+  item = record {
+    client = 256 + ran.call.client;
+    timestamp = ran.call.timestamp;
+    op = ran.call.op;
+    answer = ran.kept.outcome;
+    position = position;
+  };
   number = number;
-  read_only = false;
+  mode = modes.Ordered;
 }
 
 -- the requests that ran, batch by batch from the number k on, where their level comes
 abbrev pub ordered_points : Configuration → List Entry → State → ℕ → ℕ → List Placing
 ordered_points c trace st k zero = []
 ordered_points c trace st k (suc more) =
-    option_map_or (λ position. map (ordered_point position k) (ran_in c k st (requests_of (batch_of trace k)))) (first_position c trace k) []
+    option_map_or (λ position. map (ordered_point position k) (ran_in c k st (requests_of (batch_of trace k))))
+    (first_position c trace k) []
     ++ ordered_points c trace (execute c st (batch_of trace k)) (suc k) more
 
 -- the past of the client's latest invocation
@@ -177,7 +191,7 @@ invoked_at p past = length (invoke_past p past)
 
 -- the read that an acceptance ends, where its replies were read-only
 abbrev pub read_point : Configuration → List Entry → ℕ → OpenCall → Outcome → List Entry → Vote → Option Placing
-read_point c trace p call answer past vote = give_if vote.read_only (record {
+read_point c trace p call answer past vote = then_some (same_mode vote.mode modes.ReadOnly) (record {
   item = record {
     client = p;
     timestamp = call.timestamp;
@@ -186,7 +200,7 @@ read_point c trace p call answer past vote = give_if vote.read_only (record {
     position = max (invoked_at p past) (option_map_or (λ x. x) (first_position c trace vote.number) 0);
   };
   number = vote.number;
-  read_only = true;
+  mode = modes.ReadOnly;
 })
 
 -- those reads of the entries given; levels are those of the whole trace
@@ -194,7 +208,8 @@ abbrev pub read_points : Configuration → List Entry → List Entry → List Pl
 read_points c trace [] = []
 read_points c trace (Accepted client timestamp answer ∷ past) =
     option_map_or (λ point. point ∷ [])
-    (option_and_then (λ call. option_and_then (read_point c trace (256 + client) call answer past) (newest_vote c (256 + client) (history_of (256 + client) past) timestamp))
+    (option_and_then (λ call. option_and_then (read_point c trace (256 + client) call answer past)
+    (newest_vote c (256 + client) (history_of (256 + client) past) timestamp))
     (open_call (history_of (256 + client) past))) []
     ++ read_points c trace past
 read_points c trace (_ ∷ past) = read_points c trace past
@@ -205,7 +220,9 @@ abbrev pub comes_before : Placing → Placing → Bool
 comes_before x y =
     nat_lt x.item.position y.item.position || ((x.item.position == y.item.position)
     && (nat_lt x.number y.number || ((x.number == y.number)
-    && (not x.read_only || (y.read_only && (nat_lt x.item.client y.item.client || ((x.item.client == y.item.client) && nat_le x.item.timestamp y.item.timestamp)))))))
+    && (same_mode x.mode modes.Ordered || (same_mode y.mode modes.ReadOnly
+    && (nat_lt x.item.client y.item.client || ((x.item.client == y.item.client)
+    && nat_le x.item.timestamp y.item.timestamp)))))))
 
 -- one more in a sorted list, and a list sorted so; equals keep their order
 abbrev pub insert_point : Placing → List Placing → List Placing
@@ -226,4 +243,5 @@ is_double (y ∷ ys) x = ((y.item.client == x.item.client) && (y.item.timestamp 
 unfoldable pub points : Configuration → List Entry → List Item
 points c trace =
     let reads : List Placing = read_points c trace trace in
-    map (λ x. x.item) (sorted (filter (λ x. not (is_double reads x)) (ordered_points c trace opening 1 (last_executed trace)) ++ reads))
+    map (λ x. x.item)
+    (sorted (filter (λ x. not (is_double reads x)) (ordered_points c trace opening 1 (last_executed trace)) ++ reads))

@@ -11,20 +11,19 @@ use Rattle.protocol.specs.System.Configuration.{Configuration}
 
 -- each MAC is that of the body from its sender to the receiver; a signature is its sender's
 abbrev pub IsSealed : Configuration → Frame → Type 0
-IsSealed c frame = elim frame.authenticator [ macs entries ↦ All (λ x. x.mac ≡ mac_of c.seed x.receiver frame.body) entries | signature s ↦ has_signature c.seed frame ≡ true ]
+IsSealed c frame = elim frame.authenticator [
+  | macs entries ↦ All (λ x. x.mac ≡ mac_of c.seed x.receiver frame.body) entries
+  | signature s ↦ has_signature c.seed frame ≡ true
+]
 
 -- The bytes are a frame of the party's own that says this, sealed for these receivers; a signed one names none.
 pub record IsPosted (c : Configuration) (me : ℕ) (message : Message) (receivers bytes : List ℕ) : Type 0 where
   pub says : said bytes ≡ Some (record { sender = me; message = message })
-  pub is_sealed : (frame : Frame) → frame_of bytes ≡ Some frame → IsSealed c frame × (receivers_of frame.authenticator ≡ receivers)
+  pub is_sealed : (frame : Frame) → frame_of bytes ≡ Some frame
+      → IsSealed c frame × (receivers_of frame.authenticator ≡ receivers)
 
--- ---- the two modes of a request as a truth value: whether it is read-only
-
--- whether a mode is read-only, and back
-abbrev pub reads_only : Mode → Bool
-reads_only modes.Ordered = false
-reads_only modes.ReadOnly = true
-
-abbrev pub mode_of : Bool → Mode
-mode_of false = modes.Ordered
-mode_of true = modes.ReadOnly
+-- two modes are one
+abbrev pub same_mode : Mode → Mode → Bool
+same_mode modes.Ordered modes.Ordered = true
+same_mode modes.ReadOnly modes.ReadOnly = true
+same_mode _ _ = false
