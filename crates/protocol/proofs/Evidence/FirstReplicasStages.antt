@@ -1,5 +1,5 @@
--- What a replica's past certifies at each entry of the first operation: a few facts, and what each kind of entry does to
--- them.
+-- What a replica's past certifies at each entry of the first operation: a few facts, and what each kind of entry
+-- does to them.
 use Rattle.std.proofs.Common.{◌≡◌, ℕ, Bool, true, false, cond, not, ◌&&◌, ◌||◌, List, [], ◌∷◌, refl, sym, ap, ◌∙◌, subst, Option, Some, None, eqb-true, eq-eqb}
 use Rattle.std.specs.Prelude.{◌==◌, option_and_then}
 use Rattle.std.proofs.lemmas.Bool.{and_parts, eqb-false, ne_eqb}
@@ -85,8 +85,8 @@ module _ (clients : ℕ) (seed batch : List ℕ) (me : ℕ) where
   abbrev c : Configuration
   c = four clients seed
 
-  -- Whether the batch is logged, and whose prepares and commits of it count. Nothing else is, and nothing is begun, changed
-  -- or stable.
+  -- Whether the batch is logged, and whose prepares and commits of it count. Nothing else is, and nothing is begun,
+  -- changed or stable.
   pub record Stage (past : List Entry) (l : Bool) (p k : ℕ → Bool) : Type 0 where
     pub plain : AllPlain c past
     pub checkpoints_are : (s : ℕ) → checkpoints_of c past s ≡ []

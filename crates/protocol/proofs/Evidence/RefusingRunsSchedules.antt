@@ -1,5 +1,5 @@
--- The definition of schedules refuses steps that are skipped, stops where nothing stops, and a flush that leaves a frame
--- undelivered.
+-- The definition of schedules refuses steps that are skipped, stops where nothing stops, and a flush that leaves a
+-- frame undelivered.
 use Rattle.std.proofs.Common.{◌≡◌, ℕ, zero, suc, ◌+◌, ◌≤◌, ◌<◌, ◌⊎◌, inl, inr, Bool, true, false, not, cond, List, [], ◌∷◌, ◌++◌, length, filter, slice_get, refl, sym, ap, ◌∙◌, subst, arith, ◌&&◌, Option, Some, None, eqb-true, reverse}
 use Rattle.std.specs.Prelude.{◌==◌}
 use Rattle.std.proofs.lemmas.Bool.{and_parts, cases_lt}

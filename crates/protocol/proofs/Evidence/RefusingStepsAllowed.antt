@@ -1,5 +1,5 @@
--- The definition of schedules refuses inputs of faulty parties, frames of correct ones and for none, and a flush that leaves
--- such a frame undelivered.
+-- The definition of schedules refuses inputs of faulty parties, frames of correct ones and for none, and a flush
+-- that leaves such a frame undelivered.
 use Rattle.std.proofs.Common.{◌≡◌, ℕ, zero, suc, ◌⊎◌, inl, inr, Bool, true, false, List, [], ◌∷◌, ◌++◌, length, take, slice_get, refl, sym, ap, ◌∙◌, subst, ◌||◌, Some, reverse}
 use Rattle.protocol.specs.System.Configuration.{Configuration, is_replica, is_client}
 use Rattle.protocol.specs.System.Trace.{Entry, Always, Has, is_output}

@@ -1,5 +1,5 @@
--- Plain entries: those that bring no new view, no view change, no checkpoint and no installation. They leave the view, the
--- target and the low mark as they are, and log at most what they propose.
+-- Plain entries: those that bring no new view, no view change, no checkpoint and no installation. They leave the
+-- view, the target and the low mark as they are, and log at most what they propose.
 use Rattle.std.specs.Option.{option_map_or}
 use Rattle.std.proofs.Common.{◌≡◌, ℕ, Bool, true, false, cond, List, ◌∷◌, refl, ap, ◌∙◌, arith, Option, Some, None}
 use Rattle.std.specs.Prelude.{option_and_then, ⊤}

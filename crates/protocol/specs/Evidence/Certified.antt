@@ -63,7 +63,8 @@ LogsInMarks =
 -- What a new view that is taken has for a number above the low mark is logged.
 abbrev pub LogsWhatBegins : Type 0
 LogsWhatBegins =
-    (c : Configuration) (me i : ℕ) (batch : List ℕ) (e : Entry) (past : List Entry) (new : NewViewData) → SafeReplica c me past → taken c past e ≡ Some new
+    (c : Configuration) (me i : ℕ) (batch : List ℕ) (e : Entry) (past : List Entry) (new : NewViewData)
+    → SafeReplica c me past → taken c past e ≡ Some new
     → batch_begun new.view i new ≡ Some batch → low c me (e ∷ past) < i → logged c me (e ∷ past) new.view i ≡ Some batch
 
 -- ---- certificates stay
@@ -71,9 +72,11 @@ LogsWhatBegins =
 -- What is prepared stays so, whatever comes later, as a second prepare of a backup for another digest.
 abbrev pub PreparedRemains : Type 0
 PreparedRemains =
-    (c : Configuration) (me v i : ℕ) (batch : List ℕ) (later past : List Entry) → Prepared c me past v i batch → Prepared c me (later ++ past) v i batch
+    (c : Configuration) (me v i : ℕ) (batch : List ℕ) (later past : List Entry) → Prepared c me past v i batch
+    → Prepared c me (later ++ past) v i batch
 
 -- What is committed stays so, whatever comes later, as a second commit of a replica for another digest.
 abbrev pub CommittedRemains : Type 0
 CommittedRemains =
-    (c : Configuration) (me v i : ℕ) (batch : List ℕ) (later past : List Entry) → Committed c me past v i batch → Committed c me (later ++ past) v i batch
+    (c : Configuration) (me v i : ℕ) (batch : List ℕ) (later past : List Entry) → Committed c me past v i batch
+    → Committed c me (later ++ past) v i batch

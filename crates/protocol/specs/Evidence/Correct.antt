@@ -16,10 +16,14 @@ use Rattle.protocol.specs.Evidence.RefusedRuns.{IsAnyClient}
 
 -- It has entries of its own party alone.
 abbrev pub ReplicasHaveOwn : Type 0
-ReplicasHaveOwn = (c : Configuration) (me : ℕ) (history : List Entry) → IsReplica c me history → Always (λ past e. party_of e ≡ me) history
+ReplicasHaveOwn =
+    (c : Configuration) (me : ℕ) (history : List Entry) → IsReplica c me history
+    → Always (λ past e. party_of e ≡ me) history
 
 abbrev pub ClientsHaveOwn : Type 0
-ClientsHaveOwn = (c : Configuration) (me : ℕ) (history : List Entry) → IsAnyClient c me history → Always (λ past e. party_of e ≡ me) history
+ClientsHaveOwn =
+    (c : Configuration) (me : ℕ) (history : List Entry) → IsAnyClient c me history
+    → Always (λ past e. party_of e ≡ me) history
 
 -- Each MAC of a client's request is that of its body from the client to the receiver.
 abbrev pub SealsRequests : Type 0
@@ -33,15 +37,18 @@ abbrev pub AsksItsCall : Type 0
 AsksItsCall =
     (c : Configuration) (me : ℕ) (bytes : List ℕ) (past : List Entry)
     → SafeClient c me (Sent me bytes ∷ past) ⊎ SafeWeakClient c me (Sent me bytes ∷ past)
-    → (mode : Mode) × (call : OpenCall) × (said bytes ≡ Some (record { sender = me; message = Request call.timestamp mode call.op }))
+    → (mode : Mode) × (call : OpenCall)
+    × (said bytes ≡ Some (record { sender = me; message = Request call.timestamp mode call.op }))
     × (open_call past ≡ Some call) × (mode ≡ modes.ReadOnly → is_read_only call.op ≡ true)
 
 -- A correct party's history is safe.
 abbrev pub ReplicasAreSafe : Type 0
-ReplicasAreSafe = (c : Configuration) (me : ℕ) (history : List Entry) → IsReplica c me history → SafeReplica c me history
+ReplicasAreSafe =
+    (c : Configuration) (me : ℕ) (history : List Entry) → IsReplica c me history → SafeReplica c me history
 
 abbrev pub ClientsAreSafe : Type 0
 ClientsAreSafe = (c : Configuration) (me : ℕ) (history : List Entry) → IsClient c me history → SafeClient c me history
 
 abbrev pub WeakClientsAreSafe : Type 0
-WeakClientsAreSafe = (c : Configuration) (me : ℕ) (history : List Entry) → IsWeakClient c me history → SafeWeakClient c me history
+WeakClientsAreSafe =
+    (c : Configuration) (me : ℕ) (history : List Entry) → IsWeakClient c me history → SafeWeakClient c me history

@@ -19,13 +19,15 @@ use Rattle.protocol.specs.Evidence.Examples.{four}
 -- The bytes are the sender's message, sealed for one receiver.
 pub record IsAnswer (c : Configuration) (sender receiver : ℕ) (message : Message) (bytes : List ℕ) : Type 0 where
   pub says : said bytes ≡ Some (record { sender = sender; message = message })
-  pub is_sealed : (frame : Frame) → frame_of bytes ≡ Some frame → IsSealed c frame × (receivers_of frame.authenticator ≡ receiver ∷ [])
+  pub is_sealed : (frame : Frame) → frame_of bytes ≡ Some frame
+      → IsSealed c frame × (receivers_of frame.authenticator ≡ receiver ∷ [])
 
 -- A replica that gets a read in the beginning, and answers it from the empty space with the number 0, is a right one.
 abbrev pub FirstReadIsAnswered : Type 0
 FirstReadIsAnswered =
     (clients : ℕ) (seed : List ℕ) (me client timestamp : ℕ) (op : Operation) (read reply : List ℕ)
-    → heard (members (four clients seed)) me read ≡ Some (record { sender = client; message = Request timestamp modes.ReadOnly op }) → is_read_only op ≡ true
+    → heard (members (four clients seed)) me read
+    ≡ Some (record { sender = client; message = Request timestamp modes.ReadOnly op }) → is_read_only op ≡ true
     → IsAnswer (four clients seed) me client (Reply client timestamp modes.ReadOnly 0 (outcome [] op)) reply
     → IsReplica (four clients seed) me (Sent me reply ∷ Got me read ∷ [])
 
@@ -33,6 +35,7 @@ FirstReadIsAnswered =
 abbrev pub FirstFetchIsAnswered : Type 0
 FirstFetchIsAnswered =
     (clients : ℕ) (seed : List ℕ) (me other : ℕ) (fetch digests : List ℕ) (frame : Frame)
-    → heard (members (four clients seed)) me fetch ≡ Some (record { sender = other; message = Fetch 0 levels.Root 0 }) → frame_of digests ≡ Some frame
+    → heard (members (four clients seed)) me fetch ≡ Some (record { sender = other; message = Fetch 0 levels.Root 0 })
+    → frame_of digests ≡ Some frame
     → IsAnswer (four clients seed) me other (Meta 0 levels.Root 0 (digests_at opening levels.Root 0)) digests
     → IsReplica (four clients seed) me (Sent me digests ∷ Got me fetch ∷ [])

@@ -17,28 +17,33 @@ use Rattle.protocol.specs.Evidence.Examples.{four, holding}
 -- What a replica says that changes from view 0 to view 1 in the beginning: its low mark is 0, it has the checkpoint of
 -- the opening state alone, and nothing is prepared or pre-prepared.
 abbrev pub beginning_change : ViewChangeData
-beginning_change = record { view = 1; low = 0; checkpoints = checkpoint_of opening ∷ []; prepared = []; pre_prepared = [] }
+beginning_change =
+    record { view = 1; low = 0; checkpoints = checkpoint_of opening ∷ []; prepared = []; pre_prepared = [] }
 
 -- The bytes are this view change, signed by the sender.
 abbrev pub ChangesInBeginning : Configuration → ℕ → List ℕ → Type 0
-ChangesInBeginning c sender bytes = signed_body (members c) bytes ≡ Some (record { sender = sender; message = ViewChange beginning_change })
+ChangesInBeginning c sender bytes =
+    signed_body (members c) bytes ≡ Some (record { sender = sender; message = ViewChange beginning_change })
 
 -- A replica that gets the view changes of two different replicas for view 1 in the beginning, and sends its own at the
 -- second, is a right one.
 abbrev pub ViewChangesAreJoined : Type 0
 ViewChangesAreJoined =
     (clients : ℕ) (seed : List ℕ) (me one other : ℕ) (first second own : List ℕ) → one ≢ other → one ≢ me → other ≢ me
-    → ChangesInBeginning (four clients seed) one first → ChangesInBeginning (four clients seed) other second → ChangesInBeginning (four clients seed) me own
+    → ChangesInBeginning (four clients seed) one first → ChangesInBeginning (four clients seed) other second
+    → ChangesInBeginning (four clients seed) me own
     → IsReplica (four clients seed) me (Sent me own ∷ Got me second ∷ Got me first ∷ [])
 
 -- The new view 1 over three view changes, which starts at 0 with this root and has the batch for number 1.
 abbrev pub holding_view : List ℕ → List ℕ → List ℕ → List ℕ → List ℕ → NewViewData
-holding_view batch root a b d = record { view = 1; changes = a ∷ b ∷ d ∷ []; start = 0; root = root; batches = batch ∷ [] }
+holding_view batch root a b d =
+    record { view = 1; changes = a ∷ b ∷ d ∷ []; start = 0; root = root; batches = batch ∷ [] }
 
 -- The bytes are the sender's message, sealed for the other replicas.
 pub record IsForOthers (c : Configuration) (sender : ℕ) (message : Message) (bytes : List ℕ) : Type 0 where
   pub says : said bytes ≡ Some (record { sender = sender; message = message })
-  pub is_sealed : (frame : Frame) → frame_of bytes ≡ Some frame → IsSealed c frame × (receivers_of frame.authenticator ≡ others c sender)
+  pub is_sealed : (frame : Frame) → frame_of bytes ≡ Some frame
+      → IsSealed c frame × (receivers_of frame.authenticator ≡ others c sender)
 
 -- A backup of view 1 that gets in the beginning its primary's new view, over the view changes of three replicas that
 -- hold the batch prepared, and prepares that batch in view 1, is a right replica.
@@ -48,6 +53,7 @@ NewViewsAreTaken =
     → signed_change (four clients seed) a ≡ Some (1, holding batch root)
     → signed_change (four clients seed) b ≡ Some (2, holding batch root)
     → signed_change (four clients seed) d ≡ Some (3, holding batch root)
-    → signed_body (members (four clients seed)) new_view ≡ Some (record { sender = 1; message = NewView (holding_view batch root a b d) })
+    → signed_body (members (four clients seed)) new_view
+    ≡ Some (record { sender = 1; message = NewView (holding_view batch root a b d) })
     → IsForOthers (four clients seed) me (Prepare 1 1 (sha256 batch)) prepare
     → IsReplica (four clients seed) me (Sent me prepare ∷ Got me new_view ∷ [])

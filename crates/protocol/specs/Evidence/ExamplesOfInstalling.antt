@@ -17,16 +17,21 @@ later_state = record opening { number = 16 }
 
 -- The checkpoints of the replicas 1 to 3 with its root, and its header from replica 1.
 pub record AreInstallFrames (c : Configuration) (checkpoint : ℕ → List ℕ) (header : List ℕ) : Type 0 where
-  pub checkpoints : (r : ℕ) → 0 < r → r < replicas c → heard (members c) 0 (checkpoint r) ≡ Some (record { sender = r; message = Checkpoint 16 (root_of later_state) })
-  pub gives_header : heard (members c) 0 header ≡ Some (record { sender = 1; message = Page 16 512 (header_text later_state.space 16) })
+  pub checkpoints : (r : ℕ) → 0 < r → r < replicas c
+      → heard (members c) 0 (checkpoint r) ≡ Some (record { sender = r; message = Checkpoint 16 (root_of later_state) })
+  pub gives_header : heard (members c) 0 header
+      ≡ Some (record { sender = 1; message = Page 16 512 (header_text later_state.space 16) })
 
 -- The history of replica 0, the newest first: it gets them, and installs.
 abbrev pub installation : (checkpoint : ℕ → List ℕ) (header : List ℕ) → List Entry
 installation checkpoint header =
-    Installed 0 16 (root_of later_state) ∷ Got 0 header ∷ Got 0 (checkpoint 3) ∷ Got 0 (checkpoint 2) ∷ Got 0 (checkpoint 1) ∷ []
+    Installed 0 16 (root_of later_state) ∷ Got 0 header ∷ Got 0 (checkpoint 3) ∷ Got 0 (checkpoint 2)
+    ∷ Got 0 (checkpoint 1) ∷ []
 
 -- The replica may do so, and has the state then.
 abbrev pub StateIsInstalled : Type 0
 StateIsInstalled =
-    (clients : ℕ) (seed : List ℕ) (checkpoint : ℕ → List ℕ) (header : List ℕ) → AreInstallFrames (four clients seed) checkpoint header
-    → (point : Point) × Leaves (four clients seed) 0 (installation checkpoint header) point × (point.state ≡ later_state)
+    (clients : ℕ) (seed : List ℕ) (checkpoint : ℕ → List ℕ) (header : List ℕ)
+    → AreInstallFrames (four clients seed) checkpoint header
+    → (point : Point) × Leaves (four clients seed) 0 (installation checkpoint header) point
+    × (point.state ≡ later_state)

@@ -12,6 +12,8 @@ use Rattle.protocol.specs.Evidence.FirstOperation.{FirstFrames, AreFirstFrames, 
 -- right one.
 abbrev pub KeptReplyGoesAgain : Type 0
 KeptReplyGoesAgain =
-    (clients : ℕ) (seed : List ℕ) (op : Operation) (batch : List ℕ) (w : FirstFrames) → IsConfiguration (four clients seed)
+    (clients : ℕ) (seed : List ℕ) (op : Operation) (batch : List ℕ) (w : FirstFrames)
+    → IsConfiguration (four clients seed)
     → AreFirstFrames (four clients seed) op batch w
-    → (r : ℕ) → r < 4 → IsReplica (four clients seed) r (Sent r (w.reply r) ∷ Got r w.request ∷ history_of r (first_trace op batch w))
+    → (r : ℕ) → r < 4 → IsReplica (four clients seed) r
+    (Sent r (w.reply r) ∷ Got r w.request ∷ history_of r (first_trace op batch w))

@@ -46,7 +46,8 @@ pub record TransferFrames : Type 0 where
 
 -- The replicas 1 to 3 have checkpoints of number 16 with the root, replica 0 asks, and replica 1 answers.
 pub record AreTransferFrames (c : Configuration) (x : Parts) (w : TransferFrames) : Type 0 where
-  pub checkpoints : (r : ℕ) → 0 < r → r < replicas c → IsFrom c r (Checkpoint 16 (root_of_parts x)) (others c r) (w.checkpoint r)
+  pub checkpoints : (r : ℕ) → 0 < r → r < replicas c
+      → IsFrom c r (Checkpoint 16 (root_of_parts x)) (others c r) (w.checkpoint r)
   pub asks_root : IsFrom c 0 (Fetch 16 levels.Root 0) (others c 0) w.fetch_root
   pub gives_root : IsFrom c 1 (Meta 16 levels.Root 0 (digests_of_inner_parts x)) (0 ∷ []) w.below_root
   pub asks_inner : IsFrom c 0 (Fetch 16 levels.Inner 0) (others c 0) w.fetch_inner
@@ -59,11 +60,13 @@ pub record AreTransferFrames (c : Configuration) (x : Parts) (w : TransferFrames
 -- next.
 abbrev pub transfer : TransferFrames → List Entry
 transfer w =
-    Sent 0 w.fetch_next ∷ Got 0 w.page ∷ Sent 0 w.fetch_page ∷ Got 0 w.below_inner ∷ Sent 0 w.fetch_inner ∷ Got 0 w.below_root ∷ Sent 0 w.fetch_root
+    Sent 0 w.fetch_next ∷ Got 0 w.page ∷ Sent 0 w.fetch_page ∷ Got 0 w.below_inner ∷ Sent 0 w.fetch_inner
+    ∷ Got 0 w.below_root ∷ Sent 0 w.fetch_root
     ∷ Got 0 (w.checkpoint 3) ∷ Got 0 (w.checkpoint 2) ∷ Got 0 (w.checkpoint 1) ∷ []
 
 -- Such a replica is a right one, with all that it owes. So the third checkpoint, the digests and the page count, since
 -- to what does not count nothing is sent.
 abbrev pub TransferBegins : Type 0
 TransferBegins =
-    (clients : ℕ) (seed : List ℕ) (x : Parts) (w : TransferFrames) → AreTransferFrames (four clients seed) x w → IsReplica (four clients seed) 0 (transfer w)
+    (clients : ℕ) (seed : List ℕ) (x : Parts) (w : TransferFrames) → AreTransferFrames (four clients seed) x w
+    → IsReplica (four clients seed) 0 (transfer w)

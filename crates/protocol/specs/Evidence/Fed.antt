@@ -16,13 +16,15 @@ use Rattle.wire.specs.Lists.{Each}
 abbrev pub CallsAreFed : Type 0
 CallsAreFed =
     (c : Configuration) (steps : List Step) (k timestamp : ℕ) (op : Operation) (outputs trace : List Entry)
-    → Feeds c steps trace → is_correct_client c (256 + k) ≡ true → open_call (history_of (256 + k) trace) ≡ None → IsOperation op → AreOutputs outputs
+    → Feeds c steps trace → is_correct_client c (256 + k) ≡ true → open_call (history_of (256 + k) trace) ≡ None
+    → IsOperation op → AreOutputs outputs
     → Feeds c (steps ++ calls k op ∷ []) (outputs ++ Invoke k timestamp op ∷ trace)
 
 -- So is a frame that was made, to a correct party.
 abbrev pub DeliveriesAreFed : Type 0
 DeliveriesAreFed =
-    (c : Configuration) (steps : List Step) (frame party : ℕ) (made : Made) (outputs trace : List Entry) (feeds : Feeds c steps trace)
+    (c : Configuration) (steps : List Step) (frame party : ℕ) (made : Made) (outputs trace : List Entry)
+    (feeds : Feeds c steps trace)
     → slice_get feeds.0.frames frame ≡ Some made → is_correct c party ≡ true → AreOutputs outputs
     → Feeds c (steps ++ deliver frame party ∷ []) (outputs ++ Got party made.bytes ∷ trace)
 
@@ -45,18 +47,22 @@ TicksAreFed =
 -- A frame that may be sealed feeds no entry, and is the next one that may be delivered.
 abbrev pub SealedAreMade : Type 0
 SealedAreMade =
-    (c : Configuration) (steps : List Step) (sender : ℕ) (receivers body : List ℕ) (trace : List Entry) (feeds : Feeds c steps trace)
+    (c : Configuration) (steps : List Step) (sender : ℕ) (receivers body : List ℕ) (trace : List Entry)
+    (feeds : Feeds c steps trace)
     → MayMake c (seal sender receivers body)
     → (more : Feeds c (steps ++ seal sender receivers body ∷ []) trace)
-    × (more.0.frames ≡ feeds.0.frames ++ record { bytes = sealed_bytes c sender receivers body; receivers = receivers } ∷ [])
+    × (more.0.frames ≡ feeds.0.frames ++ record { bytes = sealed_bytes c sender receivers body; receivers = receivers }
+    ∷ [])
 
 -- So is one that may be signed.
 abbrev pub SignedAreMade : Type 0
 SignedAreMade =
-    (c : Configuration) (steps : List Step) (replica leaf : ℕ) (receivers body : List ℕ) (trace : List Entry) (feeds : Feeds c steps trace)
+    (c : Configuration) (steps : List Step) (replica leaf : ℕ) (receivers body : List ℕ) (trace : List Entry)
+    (feeds : Feeds c steps trace)
     → MayMake c (sign replica leaf receivers body)
     → (more : Feeds c (steps ++ sign replica leaf receivers body ∷ []) trace)
-    × (more.0.frames ≡ feeds.0.frames ++ record { bytes = signed_bytes c replica leaf body; receivers = receivers } ∷ [])
+    × (more.0.frames ≡ feeds.0.frames ++ record { bytes = signed_bytes c replica leaf body; receivers = receivers }
+    ∷ [])
 
 -- ---- flush
 
@@ -64,19 +70,21 @@ SignedAreMade =
 abbrev pub IsLeft : Configuration → World → ℕ → ℕ → Type 0
 IsLeft c w frame party = (is_correct c party ≡ true) × (Has (λ x. x ≡ (frame, party)) w.delivered → ⊥)
 
--- The first frame that is left for one of its receivers, and the first of these: nothing is left of an earlier frame, and
--- this one for no receiver that stands before.
+-- The first frame that is left for one of its receivers, and the first of these: nothing is left of an earlier
+-- frame, and this one for no receiver that stands before.
 pub record IsNext (c : Configuration) (w : World) (frame party : ℕ) (made : Made) : Type 0 where
   pub place : ℕ
   pub is_frame : slice_get w.frames frame ≡ Some made
   pub is_receiver : slice_get made.receivers place ≡ Some party
   pub is_left : IsLeft c w frame party
   pub first_receiver : (i q : ℕ) → i < place → slice_get made.receivers i ≡ Some q → IsLeft c w frame q → ⊥
-  pub first_frame : (n q : ℕ) (other : Made) → n < frame → slice_get w.frames n ≡ Some other → Has (λ r. r ≡ q) other.receivers → IsLeft c w n q → ⊥
+  pub first_frame : (n q : ℕ) (other : Made) → n < frame → slice_get w.frames n ≡ Some other
+      → Has (λ r. r ≡ q) other.receivers → IsLeft c w n q → ⊥
 
 -- the world behind a delivery
 abbrev pub with_delivery : Configuration → World → ℕ → ℕ → List ℕ → World
-with_delivery c w frame party bytes = record { frames = w.frames; delivered = (frame, party) ∷ w.delivered; past = Got party bytes ∷ w.past }
+with_delivery c w frame party bytes =
+    record { frames = w.frames; delivered = (frame, party) ∷ w.delivered; past = Got party bytes ∷ w.past }
 
 -- A flush delivers the next frame, and goes on.
 abbrev pub FlushDeliversNext : Type 0
@@ -97,7 +105,8 @@ FlushDeliversNoOther =
 abbrev pub FlushEnds : Type 0
 FlushEnds =
     (c : Configuration) (w : World)
-    → ((n q : ℕ) (other : Made) → slice_get w.frames n ≡ Some other → Has (λ r. r ≡ q) other.receivers → IsLeft c w n q → ⊥)
+    → ((n q : ℕ) (other : Made) → slice_get w.frames n ≡ Some other → Has (λ r. r ≡ q) other.receivers → IsLeft c w n q
+    → ⊥)
     → Goes c w (flush ∷ []) [] w
 
 -- the entry is a frame that a party gets

@@ -32,7 +32,8 @@ pub record FirstFrames : Type 0 where
   pub reply : ℕ → List ℕ
 
 -- The bytes spell the sender's message, sealed for these receivers, and each of them hears it.
-pub record IsFrom (c : Configuration) (sender : ℕ) (message : Message) (receivers : List ℕ) (bytes : List ℕ) : Type 0 where
+pub record IsFrom (c : Configuration) (sender : ℕ) (message : Message) (receivers : List ℕ)
+    (bytes : List ℕ) : Type 0 where
   pub frame : Frame
   pub entries : List MacData
   pub spells : frame_of bytes ≡ Some frame
@@ -40,7 +41,8 @@ pub record IsFrom (c : Configuration) (sender : ℕ) (message : Message) (receiv
   pub has_macs : frame.authenticator ≡ macs entries
   pub is_sealed : IsSealed c frame
   pub is_for : receivers_of frame.authenticator ≡ receivers
-  pub is_heard : (p : ℕ) → Has (λ r. r ≡ p) receivers → heard (members c) p bytes ≡ Some (record { sender = sender; message = message })
+  pub is_heard : (p : ℕ) → Has (λ r. r ≡ p) receivers
+      → heard (members c) p bytes ≡ Some (record { sender = sender; message = message })
 
 -- client 0's answer
 abbrev pub first_answer : Operation → Outcome
@@ -55,7 +57,8 @@ pub record AreFirstFrames (c : Configuration) (op : Operation) (batch : List ℕ
   pub proposes : IsFrom c 0 (PrePrepare 0 1 batch) (others c 0) w.pre_prepare
   pub prepares : (r : ℕ) → r < replicas c → IsFrom c r (Prepare 0 1 (sha256 batch)) (others c r) (w.prepare r)
   pub commits : (r : ℕ) → r < replicas c → IsFrom c r (Commit 0 1 (sha256 batch)) (others c r) (w.commit r)
-  pub replies : (r : ℕ) → r < replicas c → IsFrom c r (Reply 256 1 modes.Ordered 1 (first_answer op)) (256 ∷ []) (w.reply r)
+  pub replies : (r : ℕ) → r < replicas c
+      → IsFrom c r (Reply 256 1 modes.Ordered 1 (first_answer op)) (256 ∷ []) (w.reply r)
 
 -- The trace, the oldest first: the call; its request at each replica; the pre-prepare at each backup; each prepare,
 -- then each commit and each reply at each of its receivers, in the order in which they were sent.
@@ -63,7 +66,8 @@ abbrev pub first_operation : Operation → List ℕ → FirstFrames → List Ent
 first_operation op batch w =
     Invoke 0 1 op ∷ Sent 256 w.request
     ∷ Got 0 w.request ∷ Sent 0 w.pre_prepare ∷ Got 1 w.request ∷ Got 2 w.request ∷ Got 3 w.request
-    ∷ Got 1 w.pre_prepare ∷ Sent 1 (w.prepare 1) ∷ Got 2 w.pre_prepare ∷ Sent 2 (w.prepare 2) ∷ Got 3 w.pre_prepare ∷ Sent 3 (w.prepare 3)
+    ∷ Got 1 w.pre_prepare ∷ Sent 1 (w.prepare 1) ∷ Got 2 w.pre_prepare ∷ Sent 2 (w.prepare 2) ∷ Got 3 w.pre_prepare
+    ∷ Sent 3 (w.prepare 3)
     ∷ Got 0 (w.prepare 1) ∷ Got 2 (w.prepare 1) ∷ Sent 2 (w.commit 2) ∷ Got 3 (w.prepare 1) ∷ Sent 3 (w.commit 3)
     ∷ Got 0 (w.prepare 2) ∷ Sent 0 (w.commit 0) ∷ Got 1 (w.prepare 2) ∷ Sent 1 (w.commit 1) ∷ Got 3 (w.prepare 2)
     ∷ Got 0 (w.prepare 3) ∷ Got 1 (w.prepare 3) ∷ Got 2 (w.prepare 3)
@@ -73,7 +77,8 @@ first_operation op batch w =
     ∷ Got 1 (w.commit 0) ∷ Got 2 (w.commit 0) ∷ Executed 2 1 batch ∷ Sent 2 (w.reply 2)
     ∷ Got 3 (w.commit 0) ∷ Executed 3 1 batch ∷ Sent 3 (w.reply 3)
     ∷ Got 0 (w.commit 1) ∷ Got 2 (w.commit 1) ∷ Got 3 (w.commit 1)
-    ∷ Got 256 (w.reply 0) ∷ Got 256 (w.reply 1) ∷ Got 256 (w.reply 2) ∷ Accepted 0 1 (first_answer op) ∷ Got 256 (w.reply 3)
+    ∷ Got 256 (w.reply 0) ∷ Got 256 (w.reply 1) ∷ Got 256 (w.reply 2) ∷ Accepted 0 1 (first_answer op)
+    ∷ Got 256 (w.reply 3)
     ∷ []
 
 -- the same with the newest entry first, as traces are
@@ -83,27 +88,32 @@ first_trace op batch w = reverse (first_operation op batch w)
 -- It is a run.
 abbrev pub FirstOperationIsRun : Type 0
 FirstOperationIsRun =
-    (clients : ℕ) (seed : List ℕ) (op : Operation) (batch : List ℕ) (w : FirstFrames) → IsConfiguration (four clients seed)
+    (clients : ℕ) (seed : List ℕ) (op : Operation) (batch : List ℕ) (w : FirstFrames)
+    → IsConfiguration (four clients seed)
     → AreFirstFrames (four clients seed) op batch w → IsRun (four clients seed) (first_trace op batch w)
 
 -- Each replica then holds the batch committed, and so prepared.
 abbrev pub FirstOperationIsCommitted : Type 0
 FirstOperationIsCommitted =
-    (clients : ℕ) (seed : List ℕ) (op : Operation) (batch : List ℕ) (w : FirstFrames) → IsConfiguration (four clients seed)
+    (clients : ℕ) (seed : List ℕ) (op : Operation) (batch : List ℕ) (w : FirstFrames)
+    → IsConfiguration (four clients seed)
     → AreFirstFrames (four clients seed) op batch w
     → (r : ℕ) → r < 4 → Committed (four clients seed) r (history_of r (first_trace op batch w)) 0 1 batch
 
 -- No message of it is forged.
 abbrev pub FirstOperationIsUnforged : Type 0
 FirstOperationIsUnforged =
-    (clients : ℕ) (seed : List ℕ) (op : Operation) (batch : List ℕ) (w : FirstFrames) → IsConfiguration (four clients seed)
+    (clients : ℕ) (seed : List ℕ) (op : Operation) (batch : List ℕ) (w : FirstFrames)
+    → IsConfiguration (four clients seed)
     → AreFirstFrames (four clients seed) op batch w → Unforged (four clients seed) (first_trace op batch w)
 
 -- It is what the schedule feeds that calls the operation and then delivers all frames.
 abbrev pub FirstOperationIsFed : Type 0
 FirstOperationIsFed =
-    (clients : ℕ) (seed : List ℕ) (op : Operation) (batch : List ℕ) (w : FirstFrames) → IsConfiguration (four clients seed)
-    → AreFirstFrames (four clients seed) op batch w → Feeds (four clients seed) (calls 0 op ∷ flush ∷ []) (first_trace op batch w)
+    (clients : ℕ) (seed : List ℕ) (op : Operation) (batch : List ℕ) (w : FirstFrames)
+    → IsConfiguration (four clients seed)
+    → AreFirstFrames (four clients seed) op batch w
+    → Feeds (four clients seed) (calls 0 op ∷ flush ∷ []) (first_trace op batch w)
 
 -- its item, at the position at which all but one of the replicas, of whom none is faulty, have executed the number 1
 abbrev pub first_item : Operation → Item
@@ -112,13 +122,16 @@ first_item op = record { client = 256; timestamp = 1; op = op; answer = first_an
 -- The points of the trace are that item.
 abbrev pub FirstOperationHasItsPoint : Type 0
 FirstOperationHasItsPoint =
-    (clients : ℕ) (seed : List ℕ) (op : Operation) (batch : List ℕ) (w : FirstFrames) → IsConfiguration (four clients seed)
-    → AreFirstFrames (four clients seed) op batch w → points (four clients seed) (first_trace op batch w) ≡ first_item op ∷ []
+    (clients : ℕ) (seed : List ℕ) (op : Operation) (batch : List ℕ) (w : FirstFrames)
+    → IsConfiguration (four clients seed)
+    → AreFirstFrames (four clients seed) op batch w
+    → points (four clients seed) (first_trace op batch w) ≡ first_item op ∷ []
 
 -- There are such frames, whatever is written.
 abbrev pub FirstFramesExist : Type 0
 FirstFramesExist =
-    (clients : ℕ) (seed : List ℕ) (op : Operation) → IsConfiguration (four clients seed) → IsOperation op → is_read_only op ≡ false
+    (clients : ℕ) (seed : List ℕ) (op : Operation) → IsConfiguration (four clients seed) → IsOperation op
+    → is_read_only op ≡ false
     → (batch : List ℕ) × (w : FirstFrames) × AreFirstFrames (four clients seed) op batch w
 
 -- What a party of the right sort seals for others, each of them hears, if the message is one that may be said and goes
@@ -126,6 +139,9 @@ FirstFramesExist =
 abbrev pub SealedFramesAreHeard : Type 0
 SealedFramesAreHeard =
     (c : Configuration) → IsConfiguration c → (sender : ℕ) (message : Message) (receivers : List ℕ)
-    → sends (members c) sender message ≡ true → IsMessage message → is_signed message ≡ false → AreReceivers c receivers → (Has (λ r. r ≡ sender) receivers → ⊥)
-    → length (sealed_bytes c sender receivers (body_spelling (record { sender = sender; message = message }))) ≤ frame_limit message
-    → IsFrom c sender message receivers (sealed_bytes c sender receivers (body_spelling (record { sender = sender; message = message })))
+    → sends (members c) sender message ≡ true → IsMessage message → is_signed message ≡ false → AreReceivers c receivers
+    → (Has (λ r. r ≡ sender) receivers → ⊥)
+    → length (sealed_bytes c sender receivers
+    (body_spelling (record { sender = sender; message = message }))) ≤ frame_limit message
+    → IsFrom c sender message receivers
+    (sealed_bytes c sender receivers (body_spelling (record { sender = sender; message = message })))

@@ -25,7 +25,14 @@ use Rattle.wire.specs.Lists.{Each}
 -- Ten replicas of which any three are faulty, 256 clients of which any are, and the longest period.
 abbrev pub widest : (seed faulty_replicas faulty_clients : List ℕ) → Configuration
 widest seed faulty_replicas faulty_clients =
-    record { faults = 3; clients = 256; seed = seed; period = 16; faulty_replicas = faulty_replicas; faulty_clients = faulty_clients }
+    record {
+      faults = 3;
+      clients = 256;
+      seed = seed;
+      period = 16;
+      faulty_replicas = faulty_replicas;
+      faulty_clients = faulty_clients;
+    }
 
 abbrev pub WidestIsValid : Type 0
 WidestIsValid =
@@ -45,17 +52,22 @@ NarrowestIsValid = (seed : List ℕ) → length seed ≡ 32 → IsConfiguration 
 
 -- A replica is correct exactly where it is none of the faulty ones,
 abbrev pub ReplicasAreCorrect : Type 0
-ReplicasAreCorrect = (c : Configuration) (r : ℕ) → (is_correct_replica c r ≡ true) ↔ ((r < replicas c) × (Has (λ s. s ≡ r) c.faulty_replicas → ⊥))
+ReplicasAreCorrect =
+    (c : Configuration) (r : ℕ)
+    → (is_correct_replica c r ≡ true) ↔ ((r < replicas c) × (Has (λ s. s ≡ r) c.faulty_replicas → ⊥))
 
 -- and so is a client;
 abbrev pub ClientsAreCorrect : Type 0
-ClientsAreCorrect = (c : Configuration) (k : ℕ) → (is_correct_client c (256 + k) ≡ true) ↔ ((k < c.clients) × (Has (λ l. l ≡ k) c.faulty_clients → ⊥))
+ClientsAreCorrect =
+    (c : Configuration) (k : ℕ)
+    → (is_correct_client c (256 + k) ≡ true) ↔ ((k < c.clients) × (Has (λ l. l ≡ k) c.faulty_clients → ⊥))
 
 -- a correct party is one of the two.
 abbrev pub CorrectAreBoth : Type 0
 CorrectAreBoth =
     (c : Configuration) (p : ℕ)
-    → (is_correct c p ≡ true) ↔ ((is_correct_replica c p ≡ true) ⊎ ((k : ℕ) × (p ≡ 256 + k) × (is_correct_client c (256 + k) ≡ true)))
+    → (is_correct c p ≡ true) ↔
+    ((is_correct_replica c p ≡ true) ⊎ ((k : ℕ) × (p ≡ 256 + k) × (is_correct_client c (256 + k) ≡ true)))
 
 -- ---- primaries
 
@@ -71,18 +83,26 @@ PrimariesReturn = (c : Configuration) (view : ℕ) → primary c (view + replica
 
 -- In a run each correct replica's history is all that a correct replica's is,
 abbrev pub RunsHaveReplicas : Type 0
-RunsHaveReplicas = (c : Configuration) (trace : List Entry) → IsRun c trace → (p : ℕ) → is_correct_replica c p ≡ true → IsReplica c p (history_of p trace)
+RunsHaveReplicas =
+    (c : Configuration) (trace : List Entry) → IsRun c trace → (p : ℕ) → is_correct_replica c p ≡ true
+    → IsReplica c p (history_of p trace)
 
 -- and each correct client's a correct client's.
 abbrev pub RunsHaveClients : Type 0
-RunsHaveClients = (c : Configuration) (trace : List Entry) → IsRun c trace → (p : ℕ) → is_correct_client c p ≡ true → IsClient c p (history_of p trace)
+RunsHaveClients =
+    (c : Configuration) (trace : List Entry) → IsRun c trace → (p : ℕ) → is_correct_client c p ≡ true
+    → IsClient c p (history_of p trace)
 
 -- The same holds of a run of the first client.
 abbrev pub WeakRunsHaveReplicas : Type 0
-WeakRunsHaveReplicas = (c : Configuration) (trace : List Entry) → IsWeakRun c trace → (p : ℕ) → is_correct_replica c p ≡ true → IsReplica c p (history_of p trace)
+WeakRunsHaveReplicas =
+    (c : Configuration) (trace : List Entry) → IsWeakRun c trace → (p : ℕ) → is_correct_replica c p ≡ true
+    → IsReplica c p (history_of p trace)
 
 abbrev pub WeakRunsHaveClients : Type 0
-WeakRunsHaveClients = (c : Configuration) (trace : List Entry) → IsWeakRun c trace → (p : ℕ) → is_correct_client c p ≡ true → IsWeakClient c p (history_of p trace)
+WeakRunsHaveClients =
+    (c : Configuration) (trace : List Entry) → IsWeakRun c trace → (p : ℕ) → is_correct_client c p ≡ true
+    → IsWeakClient c p (history_of p trace)
 
 -- Whatever a correct party gets, and whenever it is ticked, the trace is a run still, of either client: the party may
 -- have stopped.
@@ -106,8 +126,10 @@ ReplicasGoOn =
 -- The trace is a run still where a correct client with no open call invokes any operation within the limits.
 abbrev pub CallsGoOn : (Configuration → List Entry → Type 0) → Type 0
 CallsGoOn Runs =
-    (c : Configuration) → IsConfiguration c → (trace : List Entry) → Runs c trace → (k : ℕ) (op : Operation) → is_correct_client c (256 + k) ≡ true
-    → IsOperation op → open_call (history_of (256 + k) trace) ≡ None → Runs c (Invoke k (suc (last_call (history_of (256 + k) trace))) op ∷ trace)
+    (c : Configuration) → IsConfiguration c → (trace : List Entry) → Runs c trace → (k : ℕ) (op : Operation)
+    → is_correct_client c (256 + k) ≡ true
+    → IsOperation op → open_call (history_of (256 + k) trace) ≡ None
+    → Runs c (Invoke k (suc (last_call (history_of (256 + k) trace))) op ∷ trace)
 
 abbrev pub RunsTakeCalls : Type 0
 RunsTakeCalls = CallsGoOn IsRun
@@ -120,7 +142,8 @@ WeakRunsTakeCalls = CallsGoOn IsWeakRun
 -- All but what is got leaves a trace unforged.
 abbrev pub OthersAreUnforged : Type 0
 OthersAreUnforged =
-    (c : Configuration) (e : Entry) (trace : List Entry) → Unforged c trace → ((p : ℕ) (bytes : List ℕ) → e ≢ Got p bytes) → Unforged c (e ∷ trace)
+    (c : Configuration) (e : Entry) (trace : List Entry) → Unforged c trace
+    → ((p : ℕ) (bytes : List ℕ) → e ≢ Got p bytes) → Unforged c (e ∷ trace)
 
 -- No body, or one of a sender that is faulty, or that sent it.
 abbrev pub MayBeTaken : Configuration → List Entry → Option Body → Type 0
@@ -129,18 +152,21 @@ MayBeTaken c past (Some body) = (is_correct c body.sender ≡ false) ⊎ Once (S
 
 -- What the party hears from the frame, and what is signed so, is such a body.
 abbrev pub MayBeGot : Configuration → ℕ → List Entry → List ℕ → Type 0
-MayBeGot c me past bytes = MayBeTaken c past (heard (members c) me bytes) × MayBeTaken c past (signed_body (members c) bytes)
+MayBeGot c me past bytes =
+    MayBeTaken c past (heard (members c) me bytes) × MayBeTaken c past (signed_body (members c) bytes)
 
 -- Frames of which each may be got, any party may get,
 abbrev pub FramesMayBeGot : Type 0
 FramesMayBeGot =
-    (c : Configuration) (me : ℕ) (bytes : List ℕ) (trace : List Entry) → Unforged c trace → Each (MayBeGot c me trace) (frames_in bytes)
+    (c : Configuration) (me : ℕ) (bytes : List ℕ) (trace : List Entry) → Unforged c trace
+    → Each (MayBeGot c me trace) (frames_in bytes)
     → Unforged c (Got me bytes ∷ trace)
 
 -- and a faulty one any bytes.
 abbrev pub FaultyHearAnything : Type 0
 FaultyHearAnything =
-    (c : Configuration) (me : ℕ) (bytes : List ℕ) (trace : List Entry) → Unforged c trace → is_correct c me ≡ false → Unforged c (Got me bytes ∷ trace)
+    (c : Configuration) (me : ℕ) (bytes : List ℕ) (trace : List Entry) → Unforged c trace → is_correct c me ≡ false
+    → Unforged c (Got me bytes ∷ trace)
 
 -- ---- the texts whose digests must differ
 
@@ -148,11 +174,17 @@ FaultyHearAnything =
 abbrev pub IsOpeningText : List ℕ → Type 0
 IsOpeningText text =
     ((i : ℕ) × (text ≡ page_text opening i))
-    ⊎ ((text ≡ concat (inner_digests (pages_of opening))) ⊎ ((j : ℕ) × (j < 32) × (text ≡ concat (page_digests (pages_of opening) j))))
+    ⊎ ((text ≡ concat (inner_digests (pages_of opening)))
+    ⊎ ((j : ℕ) × (j < 32) × (text ≡ concat (page_digests (pages_of opening) j))))
 
 -- The message has the text: its batch, one of its batches, or its digests one after another.
 abbrev pub HasText : List ℕ → Message → Type 0
-HasText text message = elim message [ PrePrepare view number batch ↦ batch ≡ text | NewView new ↦ Has (λ x. x ≡ text) new.batches | Meta number level index digests ↦ concat digests ≡ text | _ ↦ ⊥ ]
+HasText text message = elim message [
+  | PrePrepare view number batch ↦ batch ≡ text
+  | NewView new ↦ Has (λ x. x ≡ text) new.batches
+  | Meta number level index digests ↦ concat digests ≡ text
+  | _ ↦ ⊥
+]
 
 abbrev pub SaysText : List ℕ → List ℕ → Type 0
 SaysText text bytes = (body : Body) × (said bytes ≡ Some body) × HasText text body.message
@@ -168,10 +200,16 @@ is_page body = elim body.message [ Page number index text ↦ true | _ ↦ false
 
 -- The entry is no execution and no installation, and no page is got.
 abbrev pub is_quiet : Entry → Bool
-is_quiet e = elim e [ Got p bytes ↦ not (option_map_or is_page (said bytes) false) | Executed r number batch ↦ false | Installed r number root ↦ false | _ ↦ true ]
+is_quiet e = elim e [
+  | Got p bytes ↦ not (option_map_or is_page (said bytes) false)
+  | Executed r number batch ↦ false
+  | Installed r number root ↦ false
+  | _ ↦ true
+]
 
 -- As long as all entries are such there are only the null batch, the opening state's texts, and what frames bring.
 abbrev pub TextsAreFew : Type 0
 TextsAreFew =
-    (c : Configuration) (trace : List Entry) (text : List ℕ) → Always (λ past e. is_quiet e ≡ true) trace → IsText c trace text
+    (c : Configuration) (trace : List Entry) (text : List ℕ) → Always (λ past e. is_quiet e ≡ true) trace
+    → IsText c trace text
     → (text ≡ null_batch) ⊎ (IsOpeningText text ⊎ Once (BringsText text) trace)

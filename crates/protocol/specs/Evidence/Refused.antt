@@ -89,7 +89,8 @@ NoPrepareByPrimary =
 abbrev pub ProposesAuthentic : Type 0
 ProposesAuthentic =
     (c : Configuration) (me v i : ℕ) (batch bytes request : List ℕ) (past : List Entry)
-    → said bytes ≡ Some (record { sender = me; message = PrePrepare v i batch }) → SafeReplica c me (Sent me bytes ∷ past)
+    → said bytes ≡ Some (record { sender = me; message = PrePrepare v i batch })
+    → SafeReplica c me (Sent me bytes ∷ past)
     → Has (λ x. x ≡ request) (requests_of batch) → (body : Body) × (heard (members c) me request ≡ Some body)
 
 -- A pre-prepare by another than the view's primary, for a number outside the marks, or of a view after a view change
@@ -97,12 +98,14 @@ ProposesAuthentic =
 abbrev pub PrePreparesAsPrimary : Type 0
 PrePreparesAsPrimary =
     (c : Configuration) (me v i : ℕ) (batch bytes : List ℕ) (past : List Entry)
-    → said bytes ≡ Some (record { sender = me; message = PrePrepare v i batch }) → SafeReplica c me (Sent me bytes ∷ past) → primary c v ≡ me
+    → said bytes ≡ Some (record { sender = me; message = PrePrepare v i batch })
+    → SafeReplica c me (Sent me bytes ∷ past) → primary c v ≡ me
 
 abbrev pub PrePreparesInMarks : Type 0
 PrePreparesInMarks =
     (c : Configuration) (me v i : ℕ) (batch bytes : List ℕ) (past : List Entry)
-    → said bytes ≡ Some (record { sender = me; message = PrePrepare v i batch }) → SafeReplica c me (Sent me bytes ∷ past)
+    → said bytes ≡ Some (record { sender = me; message = PrePrepare v i batch })
+    → SafeReplica c me (Sent me bytes ∷ past)
     → (low c me past < i) × (i ≤ low c me past + 2 * c.period) × (i < 2 ^ 48)
 
 abbrev pub NoPrePrepareAfterChange : Type 0
@@ -115,19 +118,22 @@ NoPrePrepareAfterChange =
 abbrev pub CheckpointsMultiples : Type 0
 CheckpointsMultiples =
     (c : Configuration) (me k : ℕ) (root bytes : List ℕ) (past : List Entry)
-    → said bytes ≡ Some (record { sender = me; message = Checkpoint k root }) → SafeReplica c me (Sent me bytes ∷ past) → k % c.period ≡ 0
+    → said bytes ≡ Some (record { sender = me; message = Checkpoint k root }) → SafeReplica c me (Sent me bytes ∷ past)
+    → k % c.period ≡ 0
 
 -- A new view by another than its primary.
 abbrev pub BeginsAsPrimary : Type 0
 BeginsAsPrimary =
     (c : Configuration) (me : ℕ) (new : NewViewData) (bytes : List ℕ) (past : List Entry)
-    → said bytes ≡ Some (record { sender = me; message = NewView new }) → SafeReplica c me (Sent me bytes ∷ past) → primary c new.view ≡ me
+    → said bytes ≡ Some (record { sender = me; message = NewView new }) → SafeReplica c me (Sent me bytes ∷ past)
+    → primary c new.view ≡ me
 
 -- A view change that goes again while its sender is active.
 abbrev pub NoChangeWhileActive : Type 0
 NoChangeWhileActive =
     (c : Configuration) (me : ℕ) (bytes : List ℕ) (vc : ViewChangeData) (past : List Entry)
-    → said bytes ≡ Some (record { sender = me; message = ViewChange vc }) → SentBefore bytes past → target past ≤ view c past
+    → said bytes ≡ Some (record { sender = me; message = ViewChange vc }) → SentBefore bytes past
+    → target past ≤ view c past
     → SafeReplica c me (Sent me bytes ∷ past) → ⊥
 
 -- the number that was executed or installed last, first 0
@@ -141,15 +147,18 @@ newest_number (_ ∷ past) = newest_number past
 abbrev pub ReadsNewest : Type 0
 ReadsNewest =
     (c : Configuration) (me client timestamp number : ℕ) (answer : Outcome) (bytes : List ℕ) (past : List Entry)
-    → said bytes ≡ Some (record { sender = me; message = Reply client timestamp modes.ReadOnly number answer }) → SafeReplica c me (Sent me bytes ∷ past)
+    → said bytes ≡ Some (record { sender = me; message = Reply client timestamp modes.ReadOnly number answer })
+    → SafeReplica c me (Sent me bytes ∷ past)
     → number ≡ newest_number past
 
 -- A read-only reply to what was not asked, or with another answer than that of the state.
 abbrev pub ReadsWhatWasAsked : Type 0
 ReadsWhatWasAsked =
     (c : Configuration) (me client timestamp number : ℕ) (answer : Outcome) (bytes : List ℕ) (past : List Entry)
-    → said bytes ≡ Some (record { sender = me; message = Reply client timestamp modes.ReadOnly number answer }) → SafeReplica c me (Sent me bytes ∷ past)
-    → (op : Operation) × (is_read_only op ≡ true) × Once (Hears c me (record { sender = client; message = Request timestamp modes.ReadOnly op })) past
+    → said bytes ≡ Some (record { sender = me; message = Reply client timestamp modes.ReadOnly number answer })
+    → SafeReplica c me (Sent me bytes ∷ past)
+    → (op : Operation) × (is_read_only op ≡ true)
+    × Once (Hears c me (record { sender = client; message = Request timestamp modes.ReadOnly op })) past
     × (point : Point) × Leaves c me past point × (answer ≡ outcome (tuples point.state) op)
 
 -- An execution that skips a number, or goes back.
@@ -168,7 +177,8 @@ ExecutesWhatIsCommitted =
 abbrev pub KeepsPrepared : Type 0
 KeepsPrepared =
     (c : Configuration) (me v i : ℕ) (batch bytes : List ℕ) (vc : ViewChangeData) (past : List Entry)
-    → said bytes ≡ Some (record { sender = me; message = ViewChange vc }) → (SentBefore bytes past → ⊥) → SafeReplica c me (Sent me bytes ∷ past)
+    → said bytes ≡ Some (record { sender = me; message = ViewChange vc }) → (SentBefore bytes past → ⊥)
+    → SafeReplica c me (Sent me bytes ∷ past)
     → Prepared c me past v i batch → is_in_marks c (low c me past) i ≡ true
     → Has (λ (batch_entry : BatchEntry). batch_entry.number ≡ i) vc.prepared
 
@@ -178,27 +188,32 @@ abbrev pub InstallsWhatItHas : Type 0
 InstallsWhatItHas =
     (c : Configuration) (me k : ℕ) (root : List ℕ) (past : List Entry)
     → AtEachPoint c me past (λ point. (st : State) → st.number ≡ k → root_of st ≡ root
-    → (i : ℕ) × (i < 1024) × (page_text st i ≢ page_text point.state i) × (Once (GetsPage c me i (page_text st i)) past → ⊥))
+    → (i : ℕ) × (i < 1024) × (page_text st i ≢ page_text point.state i)
+    × (Once (GetsPage c me i (page_text st i)) past → ⊥))
     → SafeReplica c me (Installed me k root ∷ past) → ⊥
 
 -- An installation of a number of which no header page was got.
 abbrev pub InstallsWithHeader : Type 0
 InstallsWithHeader =
     (c : Configuration) (me k : ℕ) (root : List ℕ) (past : List Entry)
-    → SafeReplica c me (Installed me k root ∷ past) → (space : SpaceState) × Once (GetsPage c me 512 (header_text space k)) past
+    → SafeReplica c me (Installed me k root ∷ past)
+    → (space : SpaceState) × Once (GetsPage c me 512 (header_text space k)) past
 
 -- ---- what is answered with
 
 -- each state that is kept
 abbrev pub EachKept : Configuration → ℕ → List Entry → (State → Type 0) → Type 0
-EachKept c me history P = AtEachPoint c me history (λ point. (st : State) → Has (λ x. x ≡ st) (kept_states (low c me history) point.snapshots) → P st)
+EachKept c me history P =
+    AtEachPoint c me history
+    (λ point. (st : State) → Has (λ x. x ≡ st) (kept_states (low c me history) point.snapshots) → P st)
 
 -- Digests that no kept state of the number has there: those of another state, or of none.
 abbrev pub GivesKeptDigests : Type 0
 GivesKeptDigests =
     (c : Configuration) (me k index : ℕ) (level : Level) (digests : List (List ℕ)) (bytes : List ℕ) (past : List Entry)
     → said bytes ≡ Some (record { sender = me; message = Meta k level index digests })
-    → EachKept c me past (λ st. st.number ≡ k → digests_at st level index ≢ digests) → SafeReplica c me (Sent me bytes ∷ past) → ⊥
+    → EachKept c me past (λ st. st.number ≡ k → digests_at st level index ≢ digests)
+    → SafeReplica c me (Sent me bytes ∷ past) → ⊥
 
 -- A page that no kept state of the number has.
 abbrev pub GivesKeptPages : Type 0
@@ -211,7 +226,8 @@ GivesKeptPages =
 abbrev pub GivesAskedDigests : Type 0
 GivesAskedDigests =
     (c : Configuration) (me k index : ℕ) (level : Level) (digests : List (List ℕ)) (bytes : List ℕ) (past : List Entry)
-    → said bytes ≡ Some (record { sender = me; message = Meta k level index digests }) → SafeReplica c me (Sent me bytes ∷ past)
+    → said bytes ≡ Some (record { sender = me; message = Meta k level index digests })
+    → SafeReplica c me (Sent me bytes ∷ past)
     → (s : ℕ) × WasAsked c me past s k level index
 
 abbrev pub GivesAskedPages : Type 0
@@ -222,7 +238,8 @@ GivesAskedPages =
 
 -- the reply to the client k that gives what is kept
 abbrev pub IsReplyOf : ℕ → Kept → ℕ → ℕ → ℕ → Outcome → Type 0
-IsReplyOf k kept client timestamp number answer = (client ≡ 256 + k) × (kept.timestamp ≡ timestamp) × (kept.number ≡ number) × (kept.outcome ≡ answer)
+IsReplyOf k kept client timestamp number answer =
+    (client ≡ 256 + k) × (kept.timestamp ≡ timestamp) × (kept.number ≡ number) × (kept.outcome ≡ answer)
 
 -- An ordered reply, where no request ran in the event with that client, timestamp, number and answer, and none is kept.
 abbrev pub RepliesWhatRan : Type 0
@@ -251,7 +268,8 @@ RepliesOfExecuted =
 -- A reply that is sealed for another than its client.
 abbrev pub RepliesToItsClient : Type 0
 RepliesToItsClient =
-    (c : Configuration) (me client timestamp number : ℕ) (mode : Mode) (answer : Outcome) (bytes : List ℕ) (frame : Frame) (entries : List MacData) (past : List Entry)
+    (c : Configuration) (me client timestamp number : ℕ) (mode : Mode) (answer : Outcome) (bytes : List ℕ)
+    (frame : Frame) (entries : List MacData) (past : List Entry)
     → said bytes ≡ Some (record { sender = me; message = Reply client timestamp mode number answer })
     → frame_of bytes ≡ Some frame → frame.authenticator ≡ macs entries → SafeReplica c me (Sent me bytes ∷ past)
     → map (λ x. x.receiver) entries ≡ client ∷ []
@@ -259,14 +277,16 @@ RepliesToItsClient =
 -- Digests, or a page, sealed for another than one replica that asked for them.
 abbrev pub DigestsToWhoAsked : Type 0
 DigestsToWhoAsked =
-    (c : Configuration) (me k index : ℕ) (level : Level) (digests : List (List ℕ)) (bytes : List ℕ) (frame : Frame) (entries : List MacData) (past : List Entry)
+    (c : Configuration) (me k index : ℕ) (level : Level) (digests : List (List ℕ)) (bytes : List ℕ) (frame : Frame)
+    (entries : List MacData) (past : List Entry)
     → said bytes ≡ Some (record { sender = me; message = Meta k level index digests })
     → frame_of bytes ≡ Some frame → frame.authenticator ≡ macs entries → SafeReplica c me (Sent me bytes ∷ past)
     → (s : ℕ) × (map (λ x. x.receiver) entries ≡ s ∷ []) × WasAsked c me past s k level index
 
 abbrev pub PagesToWhoAsked : Type 0
 PagesToWhoAsked =
-    (c : Configuration) (me k index : ℕ) (text bytes : List ℕ) (frame : Frame) (entries : List MacData) (past : List Entry)
+    (c : Configuration) (me k index : ℕ) (text bytes : List ℕ) (frame : Frame) (entries : List MacData)
+    (past : List Entry)
     → said bytes ≡ Some (record { sender = me; message = Page k index text })
     → frame_of bytes ≡ Some frame → frame.authenticator ≡ macs entries → SafeReplica c me (Sent me bytes ∷ past)
     → (s : ℕ) × (map (λ x. x.receiver) entries ≡ s ∷ []) × WasAsked c me past s k levels.Page index
@@ -274,9 +294,11 @@ PagesToWhoAsked =
 -- A commit that is not sealed for each other replica.
 abbrev pub CommitsToAll : Type 0
 CommitsToAll =
-    (c : Configuration) (me v i s : ℕ) (digest bytes : List ℕ) (frame : Frame) (entries : List MacData) (past : List Entry)
+    (c : Configuration) (me v i s : ℕ) (digest bytes : List ℕ) (frame : Frame) (entries : List MacData)
+    (past : List Entry)
     → said bytes ≡ Some (record { sender = me; message = Commit v i digest })
-    → frame_of bytes ≡ Some frame → frame.authenticator ≡ macs entries → s < replicas c → s ≢ me → SafeReplica c me (Sent me bytes ∷ past)
+    → frame_of bytes ≡ Some frame → frame.authenticator ≡ macs entries → s < replicas c → s ≢ me
+    → SafeReplica c me (Sent me bytes ∷ past)
     → Has (λ r. r ≡ s) (map (λ x. x.receiver) entries)
 
 -- A MAC of the own frame that is not that of its body from the replica to the receiver, or a signature that is not its
@@ -290,27 +312,32 @@ SealsWell =
 abbrev pub SignsWell : Type 0
 SignsWell =
     (c : Configuration) (me : ℕ) (bytes s : List ℕ) (frame : Frame) (past : List Entry)
-    → frame_of bytes ≡ Some frame → frame.authenticator ≡ signature s → SafeReplica c me (Sent me bytes ∷ past) → has_signature c.seed frame ≡ true
+    → frame_of bytes ≡ Some frame → frame.authenticator ≡ signature s → SafeReplica c me (Sent me bytes ∷ past)
+    → has_signature c.seed frame ≡ true
 
 -- ---- what is dropped
 
 -- A frame that answers a part of a state that was not asked for last.
 abbrev pub DropsUnaskedDigests : Type 0
 DropsUnaskedDigests =
-    (c : Configuration) (me s k index : ℕ) (level : Level) (digests : List (List ℕ)) (bytes later : List ℕ) (past : List Entry)
-    → heard (members c) me bytes ≡ Some (record { sender = s; message = Meta k level index digests }) → asked_last past ≢ Some (k, (level, index))
+    (c : Configuration) (me s k index : ℕ) (level : Level) (digests : List (List ℕ)) (bytes later : List ℕ)
+    (past : List Entry)
+    → heard (members c) me bytes ≡ Some (record { sender = s; message = Meta k level index digests })
+    → asked_last past ≢ Some (k, (level, index))
     → IsReplica c me (Sent me later ∷ Got me bytes ∷ past) → ⊥
 
 abbrev pub DropsUnaskedPages : Type 0
 DropsUnaskedPages =
     (c : Configuration) (me s k index : ℕ) (text bytes later : List ℕ) (past : List Entry)
-    → heard (members c) me bytes ≡ Some (record { sender = s; message = Page k index text }) → asked_last past ≢ Some (k, (levels.Page, index))
+    → heard (members c) me bytes ≡ Some (record { sender = s; message = Page k index text })
+    → asked_last past ≢ Some (k, (levels.Page, index))
     → IsReplica c me (Sent me later ∷ Got me bytes ∷ past) → ⊥
 
 -- A frame that answers a reply.
 abbrev pub DropsReplies : Type 0
 DropsReplies =
-    (c : Configuration) (me s client timestamp number : ℕ) (mode : Mode) (answer : Outcome) (bytes later : List ℕ) (past : List Entry)
+    (c : Configuration) (me s client timestamp number : ℕ) (mode : Mode) (answer : Outcome) (bytes later : List ℕ)
+    (past : List Entry)
     → heard (members c) me bytes ≡ Some (record { sender = s; message = Reply client timestamp mode number answer })
     → IsReplica c me (Sent me later ∷ Got me bytes ∷ past) → ⊥
 
@@ -326,7 +353,8 @@ abbrev pub FetchesWhatIsWanted : Type 0
 FetchesWhatIsWanted =
     (c : Configuration) (me k index : ℕ) (level : Level) (bytes : List ℕ) (past : List Entry)
     → said bytes ≡ Some (record { sender = me; message = Fetch k level index })
-    → ((root : List ℕ) → (HadQuorum c (record { number = k; digest = root }) past → ⊥) × (Once (StartsAt c k root) past → ⊥))
+    → ((root : List ℕ) → (HadQuorum c (record { number = k; digest = root }) past → ⊥)
+    × (Once (StartsAt c k root) past → ⊥))
     → SafeReplica c me (Sent me bytes ∷ past) → ⊥
 
 -- A fetch of a part of a state that is not above the executed one.
@@ -352,24 +380,30 @@ pub record GoesOn (c : Configuration) (me : ℕ) (outputs : List Entry) (input :
 -- A read that is got, and is not answered from the executed state with its number.
 abbrev pub AnswersReads : Type 0
 AnswersReads =
-    (c : Configuration) (me client timestamp : ℕ) (op : Operation) (answer : Outcome) (bytes : List ℕ) (outputs past : List Entry)
-    → heard (members c) me bytes ≡ Some (record { sender = client; message = Request timestamp modes.ReadOnly op }) → is_read_only op ≡ true
-    → AtEachPoint c me past (λ point. outcome (tuples point.state) op ≡ answer) → GoesOn c me outputs (Got me bytes) past
+    (c : Configuration) (me client timestamp : ℕ) (op : Operation) (answer : Outcome) (bytes : List ℕ)
+    (outputs past : List Entry)
+    → heard (members c) me bytes ≡ Some (record { sender = client; message = Request timestamp modes.ReadOnly op })
+    → is_read_only op ≡ true
+    → AtEachPoint c me past (λ point. outcome (tuples point.state) op ≡ answer)
+    → GoesOn c me outputs (Got me bytes) past
     → Gives me (Reply client timestamp modes.ReadOnly (newest_number past) answer) outputs
 
 -- A fetch of digests, or of a page, of a kept state that is got and not answered to its sender.
 abbrev pub AnswersDigestFetches : Type 0
 AnswersDigestFetches =
     (c : Configuration) (me s index : ℕ) (level : Level) (st : State) (bytes : List ℕ) (outputs past : List Entry)
-    → heard (members c) me bytes ≡ Some (record { sender = s; message = Fetch st.number level index }) → has_children level ≡ true
-    → AtEachPoint c me past (λ point. Has (λ x. x ≡ st) (kept_states (low c me past) point.snapshots)) → GoesOn c me outputs (Got me bytes) past
+    → heard (members c) me bytes ≡ Some (record { sender = s; message = Fetch st.number level index })
+    → has_children level ≡ true
+    → AtEachPoint c me past (λ point. Has (λ x. x ≡ st) (kept_states (low c me past) point.snapshots))
+    → GoesOn c me outputs (Got me bytes) past
     → GivesTo me s (Meta st.number level index (digests_at st level index)) outputs
 
 abbrev pub AnswersPageFetches : Type 0
 AnswersPageFetches =
     (c : Configuration) (me s index : ℕ) (st : State) (bytes : List ℕ) (outputs past : List Entry)
     → heard (members c) me bytes ≡ Some (record { sender = s; message = Fetch st.number levels.Page index })
-    → AtEachPoint c me past (λ point. Has (λ x. x ≡ st) (kept_states (low c me past) point.snapshots)) → GoesOn c me outputs (Got me bytes) past
+    → AtEachPoint c me past (λ point. Has (λ x. x ≡ st) (kept_states (low c me past) point.snapshots))
+    → GoesOn c me outputs (Got me bytes) past
     → GivesTo me s (Page st.number index (page_text st index)) outputs
 
 -- A request of the last timestamp that is got again, and does not get the kept reply.
@@ -384,7 +418,8 @@ AnswersAgain =
 abbrev pub AnswersRan : Type 0
 AnswersRan =
     (c : Configuration) (me : ℕ) (ran : Ran) (input : Entry) (outputs past : List Entry)
-    → AtEachPoint c me (outputs ++ input ∷ past) (λ point. Has (λ x. x ≡ ran) point.ran) → GoesOn c me outputs input past
+    → AtEachPoint c me (outputs ++ input ∷ past) (λ point. Has (λ x. x ≡ ran) point.ran)
+    → GoesOn c me outputs input past
     → Gives me (reply_of ran.call.client ran.kept) outputs
 
 -- A batch that an active backup logs, and does not prepare.
@@ -407,7 +442,8 @@ CommitsPrepared =
 abbrev pub ExecutesCommitted : Type 0
 ExecutesCommitted =
     (c : Configuration) (me v : ℕ) (batch : List ℕ) (input : Entry) (outputs past : List Entry)
-    → Committed c me (outputs ++ input ∷ past) v (suc (newest_number (outputs ++ input ∷ past))) batch → GoesOn c me outputs input past → ⊥
+    → Committed c me (outputs ++ input ∷ past) v (suc (newest_number (outputs ++ input ∷ past))) batch
+    → GoesOn c me outputs input past → ⊥
 
 -- A waiting request that the active primary leaves without a number, while one is free.
 abbrev pub NumbersWaiting : Type 0
@@ -422,18 +458,23 @@ NumbersWaiting =
 -- A pre-prepare of a new number with a request that the view has numbered before.
 abbrev pub NumbersNoneTwice : Type 0
 NumbersNoneTwice =
-    (c : Configuration) (me v i client timestamp : ℕ) (batch bytes : List ℕ) (input : Entry) (newer older past : List Entry)
-    → said bytes ≡ Some (record { sender = me; message = PrePrepare v i batch }) → logged c me (older ++ input ∷ past) v i ≡ None
+    (c : Configuration) (me v i client timestamp : ℕ) (batch bytes : List ℕ) (input : Entry)
+    (newer older past : List Entry)
+    → said bytes ≡ Some (record { sender = me; message = PrePrepare v i batch })
+    → logged c me (older ++ input ∷ past) v i ≡ None
     → HasRequest c client timestamp batch → IsNumbered c me (older ++ input ∷ past) v client timestamp
     → GoesOn c me (newer ++ Sent me bytes ∷ older) input past → ⊥
 
 -- A pre-prepare of a new number with two requests of one client and timestamp.
 abbrev pub NumbersNoneTogether : Type 0
 NumbersNoneTogether =
-    (c : Configuration) (me v i one other : ℕ) (call twin : Call) (batch bytes : List ℕ) (input : Entry) (newer older past : List Entry)
-    → said bytes ≡ Some (record { sender = me; message = PrePrepare v i batch }) → logged c me (older ++ input ∷ past) v i ≡ None
+    (c : Configuration) (me v i one other : ℕ) (call twin : Call) (batch bytes : List ℕ) (input : Entry)
+    (newer older past : List Entry)
+    → said bytes ≡ Some (record { sender = me; message = PrePrepare v i batch })
+    → logged c me (older ++ input ∷ past) v i ≡ None
     → one < other → other < length (requests_of batch)
-    → call_of c (slice_index_or (requests_of batch) one []) ≡ Some call → call_of c (slice_index_or (requests_of batch) other []) ≡ Some twin
+    → call_of c (slice_index_or (requests_of batch) one []) ≡ Some call
+    → call_of c (slice_index_or (requests_of batch) other []) ≡ Some twin
     → call.client ≡ twin.client → call.timestamp ≡ twin.timestamp
     → GoesOn c me (newer ++ Sent me bytes ∷ older) input past → ⊥
 
@@ -450,14 +491,16 @@ abbrev pub SendsCheckpoints : Type 0
 SendsCheckpoints =
     (c : Configuration) (me k : ℕ) (input : Entry) (outputs past : List Entry)
     → Once (Executes k) outputs → k % c.period ≡ 0 → GoesOn c me outputs input past
-    → (point : Point) × Leaves c me (outputs ++ input ∷ past) point × Has (λ st. (st.number ≡ k) × Gives me (Checkpoint k (root_of st)) outputs) point.snapshots
+    → (point : Point) × Leaves c me (outputs ++ input ∷ past) point
+    × Has (λ st. (st.number ≡ k) × Gives me (Checkpoint k (root_of st)) outputs) point.snapshots
 
 -- ---- a new view
 
 -- at least so many different replicas have a view change in the set of which this holds
 abbrev pub SoManyHave : ℕ → Configuration → List (ℕ × ViewChangeData) → (ViewChangeData → Type 0) → Type 0
 SoManyHave count c set P =
-    (from : ℕ → Bool) × (count ≤ count_below from (replicas c)) × ((s : ℕ) → from s ≡ true → (vc : ViewChangeData) × Has (λ x. x ≡ (s, vc)) set × P vc)
+    (from : ℕ → Bool) × (count ≤ count_below from (replicas c))
+    × ((s : ℕ) → from s ≡ true → (vc : ViewChangeData) × Has (λ x. x ≡ (s, vc)) set × P vc)
 
 -- they have one in the set that a new view carries
 abbrev pub HasFrom : ℕ → Configuration → NewViewData → (ViewChangeData → Type 0) → Type 0
@@ -467,11 +510,14 @@ HasFrom count c new P = SoManyHave count c (changes_of c new) P
 abbrev pub SaysNothingAgainst : ℕ → ℕ → List ℕ → ViewChangeData → Type 0
 SaysNothingAgainst i w digest vc =
     (vc.low < i)
-    × ((batch_entry : BatchEntry) → Has (λ x. x ≡ batch_entry) vc.prepared → batch_entry.number ≡ i → (batch_entry.view < w) ⊎ ((batch_entry.view ≡ w) × (batch_entry.digest ≡ digest)))
+    × ((batch_entry : BatchEntry) → Has (λ x. x ≡ batch_entry) vc.prepared → batch_entry.number ≡ i
+    → (batch_entry.view < w) ⊎ ((batch_entry.view ≡ w) × (batch_entry.digest ≡ digest)))
 
 -- the digest was pre-prepared there for the number, in this view or a later one
 abbrev pub SaysForIt : ℕ → ℕ → List ℕ → ViewChangeData → Type 0
-SaysForIt i w digest vc = Has (λ (batch_entry : BatchEntry). (batch_entry.number ≡ i) × (batch_entry.digest ≡ digest) × (w ≤ batch_entry.view)) vc.pre_prepared
+SaysForIt i w digest vc =
+    Has (λ (batch_entry : BatchEntry). (batch_entry.number ≡ i) × (batch_entry.digest ≡ digest)
+    × (w ≤ batch_entry.view)) vc.pre_prepared
 
 -- nothing is prepared there for the number
 abbrev pub SaysNothing : ℕ → ViewChangeData → Type 0
@@ -482,15 +528,19 @@ SaysNothing i vc = (vc.low < i) × (Has (λ (batch_entry : BatchEntry). batch_en
 pub record IsWellSelected (c : Configuration) (new : NewViewData) : Type 0 where
   pub enough : HasFrom (2 * c.faults + 1) c new (λ vc. ⊤)
   pub of_its_view : (s : ℕ) (vc : ViewChangeData) → Has (λ x. x ≡ (s, vc)) (changes_of c new) → vc.view ≡ new.view
-  pub filled : (s : ℕ) (vc : ViewChangeData) (batch_entry : BatchEntry) → Has (λ x. x ≡ (s, vc)) (changes_of c new) → Has (λ x. x ≡ batch_entry) vc.prepared
+  pub filled : (s : ℕ) (vc : ViewChangeData) (batch_entry : BatchEntry) → Has (λ x. x ≡ (s, vc)) (changes_of c new)
+      → Has (λ x. x ≡ batch_entry) vc.prepared
       → batch_entry.number ≤ new.start + 2 * c.period → batch_entry.number ≤ new.start + length new.batches
   pub vouched : (i : ℕ) (batch : List ℕ) → slice_get new.batches (i - new.start - 1) ≡ Some batch → new.start < i
-      → ((w : ℕ) × (w < new.view) × HasFrom (2 * c.faults + 1) c new (SaysNothingAgainst i w (sha256 batch)) × HasFrom (c.faults + 1) c new (SaysForIt i w (sha256 batch)))
+      → ((w : ℕ) × (w < new.view) × HasFrom (2 * c.faults + 1) c new (SaysNothingAgainst i w (sha256 batch))
+      × HasFrom (c.faults + 1) c new (SaysForIt i w (sha256 batch)))
       ⊎ ((batch ≡ null_batch) × HasFrom (2 * c.faults + 1) c new (SaysNothing i))
 
 -- Each new view that is taken is well selected.
 abbrev pub TakesWellSelected : Type 0
-TakesWellSelected = (c : Configuration) (past : List Entry) (e : Entry) (new : NewViewData) → taken c past e ≡ Some new → IsWellSelected c new
+TakesWellSelected =
+    (c : Configuration) (past : List Entry) (e : Entry) (new : NewViewData) → taken c past e ≡ Some new
+    → IsWellSelected c new
 
 -- A new view below a view change that was sent.
 abbrev pub TakesNoLower : Type 0
@@ -504,12 +554,16 @@ TakesNoLower =
 -- later batch does as without it, so its client's reply stays and nothing of it runs.
 abbrev pub RunsOnce : Type 0
 RunsOnce =
-    (c : Configuration) → IsConfiguration c → (me m n : ℕ) (batch later frame again : List ℕ) (first rest : List (List ℕ)) (call other : Call) (between past : List Entry) (old new : Point)
+    (c : Configuration) → IsConfiguration c
+    → (me m n : ℕ) (batch later frame again : List ℕ) (first rest : List (List ℕ)) (call other : Call)
+    (between past : List Entry) (old new : Point)
     → call_of c frame ≡ Some call → Has (λ x. x ≡ frame) (requests_of batch)
-    → call_of c again ≡ Some other → other.client ≡ call.client → other.timestamp ≤ call.timestamp → requests_of later ≡ first ++ again ∷ rest
+    → call_of c again ≡ Some other → other.client ≡ call.client → other.timestamp ≤ call.timestamp
+    → requests_of later ≡ first ++ again ∷ rest
     → Always NoInstallation between → Leaves c me (between ++ Executed me m batch ∷ past) old
     → IsStep c me (between ++ Executed me m batch ∷ past) old (Executed me n later) new
-    → (new.state ≡ record (fold (run_frame c n) old.state (first ++ rest)) { number = n }) × (new.ran ≡ old.ran ++ ran_in c n old.state (first ++ rest))
+    → (new.state ≡ record (fold (run_frame c n) old.state (first ++ rest)) { number = n })
+    × (new.ran ≡ old.ran ++ ran_in c n old.state (first ++ rest))
 
 -- ---- a client
 

@@ -22,7 +22,9 @@ left_by ts (item ∷ items) = left_by (tuples_after ts item.op) items
 
 -- An item whose answer is not that of the space which the items before it leave.
 abbrev pub AnswersAsOneSpace : Type 0
-AnswersAsOneSpace = (before after : List Item) (item : Item) → Legal (before ++ item ∷ after) → item.answer ≡ outcome (left_by [] before) item.op
+AnswersAsOneSpace =
+    (before after : List Item) (item : Item) → Legal (before ++ item ∷ after)
+    → item.answer ≡ outcome (left_by [] before) item.op
 
 -- ---- covers
 
@@ -30,33 +32,42 @@ AnswersAsOneSpace = (before after : List Item) (item : Item) → Legal (before +
 -- than it called.
 abbrev pub ListsWhatIsAccepted : Type 0
 ListsWhatIsAccepted =
-    (c : Configuration) (items : List Item) (trace : List Entry) (client timestamp : ℕ) (answer : Outcome) → Covers c items trace
+    (c : Configuration) (items : List Item) (trace : List Entry) (client timestamp : ℕ) (answer : Outcome)
+    → Covers c items trace
     → is_correct_client c (256 + client) ≡ true → Has (λ e. e ≡ Accepted client timestamp answer) trace
-    → Has (λ (item : Item). (item.client ≡ 256 + client) × (item.timestamp ≡ timestamp) × (item.answer ≡ answer) × Has (λ e. e ≡ Invoke client timestamp item.op) trace) items
+    → Has (λ (item : Item). (item.client ≡ 256 + client) × (item.timestamp ≡ timestamp) × (item.answer ≡ answer)
+    × Has (λ e. e ≡ Invoke client timestamp item.op) trace) items
 
 -- A list with an item of a correct client that it did not call.
 abbrev pub ListsWhatIsCalled : Type 0
 ListsWhatIsCalled =
-    (c : Configuration) (items : List Item) (trace : List Entry) (item : Item) (client : ℕ) → Covers c items trace → Has (λ x. x ≡ item) items
-    → item.client ≡ 256 + client → is_correct_client c item.client ≡ true → Has (λ e. e ≡ Invoke client item.timestamp item.op) trace
+    (c : Configuration) (items : List Item) (trace : List Entry) (item : Item) (client : ℕ) → Covers c items trace
+    → Has (λ x. x ≡ item) items
+    → item.client ≡ 256 + client → is_correct_client c item.client ≡ true
+    → Has (λ e. e ≡ Invoke client item.timestamp item.op) trace
 
 -- a correct replica got the item's ordered request authentic to itself, alone or carried
 abbrev pub IsAskedAt : Configuration → Item → Entry → Type 0
 IsAskedAt c item e =
-    (p : ℕ) × (bytes frame : List ℕ) × (e ≡ Got p bytes) × (is_correct_replica c p ≡ true) × Has (λ x. x ≡ frame) (frames_in bytes)
-    × (heard (members c) p frame ≡ Some (record { sender = item.client; message = Request item.timestamp modes.Ordered item.op }))
+    (p : ℕ) × (bytes frame : List ℕ) × (e ≡ Got p bytes) × (is_correct_replica c p ≡ true)
+    × Has (λ x. x ≡ frame) (frames_in bytes)
+    × (heard (members c) p frame
+    ≡ Some (record { sender = item.client; message = Request item.timestamp modes.Ordered item.op }))
 
 -- A list with an item of a faulty client for which no correct replica had been asked by its position.
 abbrev pub ListsWhatIsAsked : Type 0
 ListsWhatIsAsked =
-    (c : Configuration) (items : List Item) (trace : List Entry) (item : Item) → Covers c items trace → Has (λ x. x ≡ item) items
-    → is_correct_client c item.client ≡ false → Once (λ past e. IsAskedAt c item e × (length past ≤ item.position)) trace
+    (c : Configuration) (items : List Item) (trace : List Entry) (item : Item) → Covers c items trace
+    → Has (λ x. x ≡ item) items
+    → is_correct_client c item.client ≡ false
+    → Once (λ past e. IsAskedAt c item e × (length past ≤ item.position)) trace
 
 -- A list with two items of one client and timestamp.
 abbrev pub ListsNoneTwice : Type 0
 ListsNoneTwice =
     (c : Configuration) (items : List Item) (trace : List Entry) (i j : ℕ) (x y : Item) → Covers c items trace
-    → i < j → slice_get items i ≡ Some x → slice_get items j ≡ Some y → x.client ≡ y.client → x.timestamp ≡ y.timestamp → ⊥
+    → i < j → slice_get items i ≡ Some x → slice_get items j ≡ Some y → x.client ≡ y.client → x.timestamp ≡ y.timestamp
+    → ⊥
 
 -- ---- placed
 
@@ -69,7 +80,8 @@ PlacesInOrder =
 -- A list with an item of a correct client before its call.
 abbrev pub PlacesBehindCalls : Type 0
 PlacesBehindCalls =
-    (c : Configuration) (items : List Item) (trace : List Entry) (item : Item) (client : ℕ) → Placed c items trace → Has (λ x. x ≡ item) items
+    (c : Configuration) (items : List Item) (trace : List Entry) (item : Item) (client : ℕ) → Placed c items trace
+    → Has (λ x. x ≡ item) items
     → item.client ≡ 256 + client → is_correct_client c item.client ≡ true
     → Once (λ past e. (e ≡ Invoke client item.timestamp item.op) × (length past ≤ item.position)) trace
 
@@ -84,22 +96,28 @@ PlacesBeforeAcceptances =
 
 -- A list that is linear, and is not legal, does not cover the trace or is not placed.
 abbrev pub LinearIsAllThree : Type 0
-LinearIsAllThree = (c : Configuration) (items : List Item) (trace : List Entry) → IsLinear c items trace → Legal items × Covers c items trace × Placed c items trace
+LinearIsAllThree =
+    (c : Configuration) (items : List Item) (trace : List Entry) → IsLinear c items trace
+    → Legal items × Covers c items trace × Placed c items trace
 
 -- Items of one space that are not legal, or don't cover the trace.
 abbrev pub OneSpaceIsBoth : Type 0
-OneSpaceIsBoth = (c : Configuration) (trace : List Entry) (space : IsOneSpace c trace) → Legal space.items × Covers c space.items trace
+OneSpaceIsBoth =
+    (c : Configuration) (trace : List Entry) (space : IsOneSpace c trace)
+    → Legal space.items × Covers c space.items trace
 
 -- A client writes a tuple; then another reads with a template that matches it, and finds nothing.
 abbrev pub WritesAreSeen : Type 0
 WritesAreSeen =
     (c : Configuration) (writer reader : ℕ) (t : TupleTree) (p : TemplateTree) → writer ≢ reader
     → is_correct_client c (256 + writer) ≡ true → is_correct_client c (256 + reader) ≡ true → is_match p t ≡ true
-    → Linear c (Accepted reader 1 absent ∷ Invoke reader 1 (rdp p) ∷ Accepted writer 1 done ∷ Invoke writer 1 (out t) ∷ []) → ⊥
+    → Linear c (Accepted reader 1 absent ∷ Invoke reader 1 (rdp p) ∷ Accepted writer 1 done ∷ Invoke writer 1 (out t)
+    ∷ []) → ⊥
 
 -- A client reads a tuple that is written only then.
 abbrev pub ReadsAreNotEarly : Type 0
 ReadsAreNotEarly =
     (c : Configuration) (writer reader : ℕ) (t : TupleTree) (p : TemplateTree) → writer ≢ reader
     → is_correct_client c (256 + writer) ≡ true → is_correct_client c (256 + reader) ≡ true
-    → Linear c (Accepted writer 1 done ∷ Invoke writer 1 (out t) ∷ Accepted reader 1 (found t) ∷ Invoke reader 1 (rdp p) ∷ []) → ⊥
+    → Linear c (Accepted writer 1 done ∷ Invoke writer 1 (out t) ∷ Accepted reader 1 (found t) ∷ Invoke reader 1 (rdp p)
+    ∷ []) → ⊥

@@ -17,7 +17,8 @@ use Rattle.protocol.specs.Evidence.RefusedChanges.{SendsNewChange}
 abbrev pub GivesNoLowDigests : Type 0
 GivesNoLowDigests =
     (c : Configuration) (me k index : ℕ) (level : Level) (digests : List (List ℕ)) (bytes : List ℕ) (past : List Entry)
-    → said bytes ≡ Some (record { sender = me; message = Meta k level index digests }) → SafeReplica c me (Sent me bytes ∷ past)
+    → said bytes ≡ Some (record { sender = me; message = Meta k level index digests })
+    → SafeReplica c me (Sent me bytes ∷ past)
     → low c me past ≤ k
 
 abbrev pub GivesNoLowPages : Type 0
@@ -39,29 +40,36 @@ HasSnapshot c k past = (k ≡ 0) ⊎ (((k % c.period ≡ 0) × Once (Executes k)
 
 -- A new view change with another low mark than its sender's.
 abbrev pub ChangesFromLowMark : Type 0
-ChangesFromLowMark = (c : Configuration) (me : ℕ) (vc : ViewChangeData) (bytes : List ℕ) (past : List Entry) → SendsNewChange c me vc bytes past → vc.low ≡ low c me past
+ChangesFromLowMark =
+    (c : Configuration) (me : ℕ) (vc : ViewChangeData) (bytes : List ℕ) (past : List Entry)
+    → SendsNewChange c me vc bytes past → vc.low ≡ low c me past
 
 -- A new view change that lists a checkpoint below the low mark.
 abbrev pub ListsNoneBelow : Type 0
 ListsNoneBelow =
-    (c : Configuration) (me : ℕ) (vc : ViewChangeData) (checkpoint : CheckpointEntry) (bytes : List ℕ) (past : List Entry) → SendsNewChange c me vc bytes past
+    (c : Configuration) (me : ℕ) (vc : ViewChangeData) (checkpoint : CheckpointEntry) (bytes : List ℕ)
+    (past : List Entry) → SendsNewChange c me vc bytes past
     → Has (λ x. x ≡ checkpoint) vc.checkpoints → low c me past ≤ checkpoint.number
 
 -- A new view change that lists a checkpoint of a number that was neither executed, as a multiple of the period, nor
 -- installed.
 abbrev pub ListsSnapshots : Type 0
 ListsSnapshots =
-    (c : Configuration) (me : ℕ) (vc : ViewChangeData) (checkpoint : CheckpointEntry) (bytes : List ℕ) (past : List Entry) → SendsNewChange c me vc bytes past
+    (c : Configuration) (me : ℕ) (vc : ViewChangeData) (checkpoint : CheckpointEntry) (bytes : List ℕ)
+    (past : List Entry) → SendsNewChange c me vc bytes past
     → Has (λ x. x ≡ checkpoint) vc.checkpoints → HasSnapshot c checkpoint.number past
 
 -- A new view change that leaves out such a number at or above the low mark.
 abbrev pub ListsEachSnapshot : Type 0
 ListsEachSnapshot =
-    (c : Configuration) (me k : ℕ) (vc : ViewChangeData) (bytes : List ℕ) (past : List Entry) → SendsNewChange c me vc bytes past
-    → HasSnapshot c k past → low c me past ≤ k → Has (λ (checkpoint : CheckpointEntry). checkpoint.number ≡ k) vc.checkpoints
+    (c : Configuration) (me k : ℕ) (vc : ViewChangeData) (bytes : List ℕ) (past : List Entry)
+    → SendsNewChange c me vc bytes past
+    → HasSnapshot c k past → low c me past ≤ k
+    → Has (λ (checkpoint : CheckpointEntry). checkpoint.number ≡ k) vc.checkpoints
 
 -- A new view change whose checkpoints don't ascend.
 abbrev pub CheckpointsAscend : Type 0
 CheckpointsAscend =
-    (c : Configuration) (me i j : ℕ) (vc : ViewChangeData) (a b : CheckpointEntry) (bytes : List ℕ) (past : List Entry) → SendsNewChange c me vc bytes past
+    (c : Configuration) (me i j : ℕ) (vc : ViewChangeData) (a b : CheckpointEntry) (bytes : List ℕ) (past : List Entry)
+    → SendsNewChange c me vc bytes past
     → i < j → slice_get vc.checkpoints i ≡ Some a → slice_get vc.checkpoints j ≡ Some b → a.number < b.number

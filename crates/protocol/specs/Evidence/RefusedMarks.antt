@@ -18,26 +18,36 @@ use Rattle.protocol.specs.Laws.Bounds.{IsBounded}
 abbrev pub SpellsChange : Configuration → List ℕ → ℕ → ViewChangeData → Type 0
 SpellsChange c bytes s vc = signed_body (members c) bytes ≡ Some (record { sender = s; message = ViewChange vc })
 
--- With bytes that are no signed view change, a sender twice or out of order, a view change for another view or beyond its
--- bounds, a start below the low mark of all but 2f, or one that only f list: such a new view is not taken.
+-- With bytes that are no signed view change, a sender twice or out of order, a view change for another view or
+-- beyond its bounds, a start below the low mark of all but 2f, or one that only f list: such a new view is not
+-- taken.
 pub record IsWellFounded (c : Configuration) (new : NewViewData) : Type 0 where
-  pub signed : (bytes : List ℕ) → Has (λ x. x ≡ bytes) new.changes → (s : ℕ) × (vc : ViewChangeData) × SpellsChange c bytes s vc
-  pub carried : (s : ℕ) (vc : ViewChangeData) → Has (λ x. x ≡ (s, vc)) (changes_of c new) → Has (λ bytes. SpellsChange c bytes s vc) new.changes
-  pub ascending : (i j : ℕ) (a b : ℕ × ViewChangeData) → i < j → slice_get (changes_of c new) i ≡ Some a → slice_get (changes_of c new) j ≡ Some b → a.0 < b.0
+  pub signed : (bytes : List ℕ) → Has (λ x. x ≡ bytes) new.changes
+      → (s : ℕ) × (vc : ViewChangeData) × SpellsChange c bytes s vc
+  pub carried : (s : ℕ) (vc : ViewChangeData) → Has (λ x. x ≡ (s, vc)) (changes_of c new)
+      → Has (λ bytes. SpellsChange c bytes s vc) new.changes
+  pub ascending : (i j : ℕ) (a b : ℕ × ViewChangeData) → i < j → slice_get (changes_of c new) i ≡ Some a
+      → slice_get (changes_of c new) j ≡ Some b → a.0 < b.0
   pub of_its_view : (s : ℕ) (vc : ViewChangeData) → Has (λ x. x ≡ (s, vc)) (changes_of c new) → vc.view ≡ new.view
   pub bounded : (s : ℕ) (vc : ViewChangeData) → Has (λ x. x ≡ (s, vc)) (changes_of c new) → IsBounded c vc
   pub started : HasFrom (2 * c.faults + 1) c new (λ vc. vc.low ≤ new.start)
-  pub listed : HasFrom (c.faults + 1) c new (λ vc. Has (λ (checkpoint : CheckpointEntry). (checkpoint.number ≡ new.start) × (checkpoint.digest ≡ new.root)) vc.checkpoints)
+  pub listed : HasFrom (c.faults + 1) c new
+      (λ vc. Has (λ (checkpoint : CheckpointEntry). (checkpoint.number ≡ new.start)
+      × (checkpoint.digest ≡ new.root)) vc.checkpoints)
 
 -- Each new view that is taken is well founded.
 abbrev pub TakesWellFounded : Type 0
-TakesWellFounded = (c : Configuration) (past : List Entry) (e : Entry) (new : NewViewData) → taken c past e ≡ Some new → IsWellFounded c new
+TakesWellFounded =
+    (c : Configuration) (past : List Entry) (e : Entry) (new : NewViewData) → taken c past e ≡ Some new
+    → IsWellFounded c new
 
 -- ---- the low mark
 
 -- the replica's checkpoints have this number with this root
 abbrev pub HasCheckpoint : Configuration → List Entry → ℕ → List ℕ → ℕ → Type 0
-HasCheckpoint c past k root s = Has (λ (checkpoint : CheckpointEntry). (checkpoint.number ≡ k) × (checkpoint.digest ≡ root)) (checkpoints_of c past s)
+HasCheckpoint c past k root s =
+    Has (λ (checkpoint : CheckpointEntry). (checkpoint.number ≡ k) × (checkpoint.digest ≡ root))
+    (checkpoints_of c past s)
 
 -- checkpoints of 2f + 1 different replicas are alike, the own among them
 pub record IsStable (c : Configuration) (me : ℕ) (past : List Entry) (k : ℕ) (root : List ℕ) : Type 0 where
@@ -63,13 +73,15 @@ LowIsNoLower = (c : Configuration) (me k : ℕ) (past : List Entry) → Once (Is
 
 -- A low mark above 0 that was none of these, as where all but the own checkpoint are alike, or 2f are.
 abbrev pub LowIsMarked : Type 0
-LowIsMarked = (c : Configuration) (me : ℕ) (past : List Entry) → (low c me past ≡ 0) ⊎ Once (IsMarkAt c me (low c me past)) past
+LowIsMarked =
+    (c : Configuration) (me : ℕ) (past : List Entry) → (low c me past ≡ 0) ⊎ Once (IsMarkAt c me (low c me past)) past
 
 -- ---- checkpoints
 
 -- the entry brings a checkpoint of the replica: it is heard, or said
 abbrev pub BringsCheckpoint : Configuration → ℕ → ℕ → List ℕ → Entry → Type 0
-BringsCheckpoint c s k root (Got p bytes) = heard (members c) p bytes ≡ Some (record { sender = s; message = Checkpoint k root })
+BringsCheckpoint c s k root (Got p bytes) =
+    heard (members c) p bytes ≡ Some (record { sender = s; message = Checkpoint k root })
 BringsCheckpoint c s k root (Sent p bytes) = said bytes ≡ Some (record { sender = s; message = Checkpoint k root })
 BringsCheckpoint c s k root _ = ⊥
 
@@ -77,19 +89,24 @@ BringsCheckpoint c s k root _ = ⊥
 abbrev pub FirstCheckpointCounts : Type 0
 FirstCheckpointCounts =
     (c : Configuration) (s k : ℕ) (root : List ℕ) (e : Entry) (past : List Entry) → BringsCheckpoint c s k root e
-    → Has (λ (checkpoint : CheckpointEntry). checkpoint.number ≡ k) (checkpoints_of c past s) → checkpoints_of c (e ∷ past) s ≡ checkpoints_of c past s
+    → Has (λ (checkpoint : CheckpointEntry). checkpoint.number ≡ k) (checkpoints_of c past s)
+    → checkpoints_of c (e ∷ past) s ≡ checkpoints_of c past s
 
 -- A checkpoint of another number that is lost, though its sender has less than three, or one of a lower number.
 abbrev pub NewCheckpointCounts : Type 0
 NewCheckpointCounts =
-    (c : Configuration) (s k : ℕ) (root : List ℕ) (e : Entry) (past : List Entry) → BringsCheckpoint c s k root e → k < 2 ^ 48
+    (c : Configuration) (s k : ℕ) (root : List ℕ) (e : Entry) (past : List Entry) → BringsCheckpoint c s k root e
+    → k < 2 ^ 48
     → (Has (λ (checkpoint : CheckpointEntry). checkpoint.number ≡ k) (checkpoints_of c past s) → ⊥)
-    → (length (checkpoints_of c past s) < 3) ⊎ Has (λ (checkpoint : CheckpointEntry). checkpoint.number < k) (checkpoints_of c past s) → HasCheckpoint c (e ∷ past) k root s
+    → (length (checkpoints_of c past s) < 3)
+    ⊎ Has (λ (checkpoint : CheckpointEntry). checkpoint.number < k) (checkpoints_of c past s)
+    → HasCheckpoint c (e ∷ past) k root s
 
 -- One that is dropped, though no three are of greater numbers.
 abbrev pub CheckpointsStay : Type 0
 CheckpointsStay =
-    (c : Configuration) (s : ℕ) (checkpoint : CheckpointEntry) (e : Entry) (past : List Entry) → Has (λ x. x ≡ checkpoint) (checkpoints_of c past s)
+    (c : Configuration) (s : ℕ) (checkpoint : CheckpointEntry) (e : Entry) (past : List Entry)
+    → Has (λ x. x ≡ checkpoint) (checkpoints_of c past s)
     → Has (λ x. x ≡ checkpoint) (checkpoints_of c (e ∷ past) s)
     ⊎ ((x y z : CheckpointEntry) × (checkpoints_of c (e ∷ past) s ≡ x ∷ y ∷ z ∷ []) × (checkpoint.number < z.number))
 
@@ -100,10 +117,12 @@ CheckpointsAreFew = (c : Configuration) (s : ℕ) (past : List Entry) → length
 abbrev pub CheckpointsDescend : Type 0
 CheckpointsDescend =
     (c : Configuration) (s i j : ℕ) (a b : CheckpointEntry) (past : List Entry)
-    → i < j → slice_get (checkpoints_of c past s) i ≡ Some a → slice_get (checkpoints_of c past s) j ≡ Some b → b.number < a.number
+    → i < j → slice_get (checkpoints_of c past s) i ≡ Some a → slice_get (checkpoints_of c past s) j ≡ Some b
+    → b.number < a.number
 
 -- One that its sender's checkpoints never brought, or of no number.
 abbrev pub CheckpointsWereBrought : Type 0
 CheckpointsWereBrought =
-    (c : Configuration) (s : ℕ) (checkpoint : CheckpointEntry) (past : List Entry) → Has (λ x. x ≡ checkpoint) (checkpoints_of c past s)
+    (c : Configuration) (s : ℕ) (checkpoint : CheckpointEntry) (past : List Entry)
+    → Has (λ x. x ≡ checkpoint) (checkpoints_of c past s)
     → (checkpoint.number < 2 ^ 48) × Once (λ earlier e. BringsCheckpoint c s checkpoint.number checkpoint.digest e) past

@@ -14,11 +14,13 @@ TakesInputs me Is past = ((bytes : List ℕ) → Is (Got me bytes ∷ past)) × 
 -- the client calls, where no call is open
 abbrev pub TakesCalls : ℕ → (List Entry → Type 0) → List Entry → Type 0
 TakesCalls me Is past =
-    (k : ℕ) (op : Operation) → me ≡ 256 + k → open_call past ≡ None → IsOperation op → Is (Invoke k (suc (last_call past)) op ∷ past)
+    (k : ℕ) (op : Operation) → me ≡ 256 + k → open_call past ≡ None → IsOperation op
+    → Is (Invoke k (suc (last_call past)) op ∷ past)
 
 -- A correct replica's history stays one where it takes an input and gives nothing: it stopped.
 abbrev pub ReplicasMayStop : Type 0
-ReplicasMayStop = (c : Configuration) (me : ℕ) (past : List Entry) → IsReplica c me past → TakesInputs me (IsReplica c me) past
+ReplicasMayStop =
+    (c : Configuration) (me : ℕ) (past : List Entry) → IsReplica c me past → TakesInputs me (IsReplica c me) past
 
 -- So does a client's, at a call too.
 abbrev pub ClientsMayStop : Type 0

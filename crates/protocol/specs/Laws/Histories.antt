@@ -20,7 +20,8 @@ use Rattle.wire.specs.Lists.{Each}
 -- What a replica posts for those it is for, over frames that it has seen, it may send where it may say the message.
 abbrev pub PostedMaySend : Type 0
 PostedMaySend =
-    (c : Configuration) (me : ℕ) (past : List Entry) (point : Point) (e : Entry) (bytes receivers : List ℕ) (message : Message)
+    (c : Configuration) (me : ℕ) (past : List Entry) (point : Point) (e : Entry) (bytes receivers : List ℕ)
+    (message : Message)
     → IsPosted c me message receivers bytes → IsFor c me past message receivers
     → Each (λ frame. Once (HasSeen frame) past) (carried message) → MaySay c me past point e bytes message
     → MaySend c me past point e bytes
@@ -40,7 +41,8 @@ PreparedAgree =
 
 -- the new view has a batch of this digest for the number, or starts at or above it
 abbrev pub HasOrStartsAbove : ℕ → List ℕ → NewViewData → Type 0
-HasOrStartsAbove i digest new = (i ≤ new.start) ⊎ ((batch : List ℕ) × (batch_begun new.view i new ≡ Some batch) × (sha256 batch ≡ digest))
+HasOrStartsAbove i digest new =
+    (i ≤ new.start) ⊎ ((batch : List ℕ) × (batch_begun new.view i new ≡ Some batch) × (sha256 batch ≡ digest))
 
 -- the new view is taken here, or sent
 abbrev pub Takes : Configuration → NewViewData → List Entry → Entry → Type 0
@@ -65,18 +67,23 @@ CommittedAgree =
 -- What two correct replicas execute for one number is one batch.
 abbrev pub ExecutedAgree : Type 0
 ExecutedAgree =
-    (c : Configuration) → IsConfiguration c → (trace : List Entry) → AreReplicasSafe c trace → Unforged c trace → NoCollision c trace
+    (c : Configuration) → IsConfiguration c → (trace : List Entry) → AreReplicasSafe c trace → Unforged c trace
+    → NoCollision c trace
     → (k : ℕ) (a b : List ℕ) → Once (ExecutesBatch c k a) trace → Once (ExecutesBatch c k b) trace → a ≡ b
 
 -- ---- states
 
 -- States are equal where their pages are.
 abbrev pub PagesDetermine : Type 0
-PagesDetermine = (st other : State) → IsState st → IsState other → ((i : ℕ) → i < 1024 → page_text st i ≡ page_text other i) → st ≡ other
+PagesDetermine =
+    (st other : State) → IsState st → IsState other → ((i : ℕ) → i < 1024 → page_text st i ≡ page_text other i)
+    → st ≡ other
 
 -- Batches leave a state, as long as there are fewer than 2^48.
 abbrev pub BatchesLeaveStates : Type 0
-BatchesLeaveStates = (c : Configuration) (batches : List (List ℕ)) → IsConfiguration c → length batches < 2 ^ 48 → IsState (after_batches c opening batches)
+BatchesLeaveStates =
+    (c : Configuration) (batches : List (List ℕ)) → IsConfiguration c → length batches < 2 ^ 48
+    → IsState (after_batches c opening batches)
 
 -- some correct replica had the state at some time of the trace, as its own or as a snapshot
 abbrev pub Had : Configuration → List Entry → State → Type 0
@@ -92,13 +99,15 @@ pub record IsStateOf (c : Configuration) (trace : List Entry) (st : State) : Typ
 -- number.
 abbrev pub StatesAreExecuted : Type 0
 StatesAreExecuted =
-    (c : Configuration) → IsConfiguration c → (trace : List Entry) → AreReplicasSafe c trace → Unforged c trace → NoCollision c trace
+    (c : Configuration) → IsConfiguration c → (trace : List Entry) → AreReplicasSafe c trace → Unforged c trace
+    → NoCollision c trace
     → (st : State) → Had c trace st → IsStateOf c trace st
 
 -- So those of one number, whenever and wherever, are one state.
 abbrev pub StatesAgree : Type 0
 StatesAgree =
-    (c : Configuration) → IsConfiguration c → (trace : List Entry) → AreReplicasSafe c trace → Unforged c trace → NoCollision c trace
+    (c : Configuration) → IsConfiguration c → (trace : List Entry) → AreReplicasSafe c trace → Unforged c trace
+    → NoCollision c trace
     → (x y : State) → Had c trace x → Had c trace y → x.number ≡ y.number → x ≡ y
 
 -- the root is that of the state of the executed batches up to the number
@@ -116,8 +125,10 @@ Installs k root past _ = ⊥
 -- what happens at a correct replica with a number and a root gives the root of the executed batches
 abbrev pub GivesRoots : (Configuration → ℕ → List ℕ → List Entry → Type 0) → Type 0
 GivesRoots Happens =
-    (c : Configuration) → IsConfiguration c → (trace : List Entry) → AreReplicasSafe c trace → Unforged c trace → NoCollision c trace
-    → (r k : ℕ) (root : List ℕ) → is_correct_replica c r ≡ true → Happens c k root (history_of r trace) → IsRootOf c trace k root
+    (c : Configuration) → IsConfiguration c → (trace : List Entry) → AreReplicasSafe c trace → Unforged c trace
+    → NoCollision c trace
+    → (r k : ℕ) (root : List ℕ) → is_correct_replica c r ≡ true → Happens c k root (history_of r trace)
+    → IsRootOf c trace k root
 
 -- What a quorum of checkpoints says, what is installed, and what a new view starts with, has the root of the executed
 -- batches.
@@ -141,7 +152,8 @@ pub record IsSafeTrace (c : Configuration) (trace : List Entry) : Type 0 where
 -- The headline, over all such traces: no party needs to be prompt.
 abbrev pub LinearOfSafe : Type 0
 LinearOfSafe =
-    (c : Configuration) → IsConfiguration c → (trace : List Entry) → IsSafeTrace c trace → Unforged c trace → NoCollision c trace
+    (c : Configuration) → IsConfiguration c → (trace : List Entry) → IsSafeTrace c trace → Unforged c trace
+    → NoCollision c trace
     → IsLinear c (points c trace) trace
 
 -- Some list of items is legal and covers the trace, under the client that accepts at f + 1 replies of one answer too:
@@ -159,22 +171,27 @@ AreClientsWeak c trace = (p : ℕ) → is_correct_client c p ≡ true → SafeWe
 abbrev pub WeakIsOneSpace : Type 0
 WeakIsOneSpace =
     (c : Configuration) → IsConfiguration c → (trace : List Entry) → AreReplicasSafe c trace → AreClientsWeak c trace
-    → Always (λ past e. is_correct c (party_of e) ≡ true) trace → Unforged c trace → NoCollision c trace → IsOneSpace c trace
+    → Always (λ past e. is_correct c (party_of e) ≡ true) trace → Unforged c trace → NoCollision c trace
+    → IsOneSpace c trace
 
 -- ---- the first view
 
 -- no correct replica sends a view change
 abbrev pub NoneChanges : Configuration → List Entry → Type 0
-NoneChanges c trace = (p : ℕ) (vc : ViewChangeData) → is_correct_replica c p ≡ true → Once (SendsBody (record { sender = p; message = ViewChange vc })) trace → ⊥
+NoneChanges c trace =
+    (p : ℕ) (vc : ViewChangeData) → is_correct_replica c p ≡ true
+    → Once (SendsBody (record { sender = p; message = ViewChange vc })) trace → ⊥
 
 -- Then none takes a new view: of the 2f + 1 signers of its view changes one is correct.
 abbrev pub NoneBegins : Type 0
 NoneBegins =
-    (c : Configuration) → IsConfiguration c → (trace : List Entry) → AreReplicasSafe c trace → Unforged c trace → NoneChanges c trace
+    (c : Configuration) → IsConfiguration c → (trace : List Entry) → AreReplicasSafe c trace → Unforged c trace
+    → NoneChanges c trace
     → (p : ℕ) (new : NewViewData) → is_correct_replica c p ≡ true → Once (Takes c new) (history_of p trace) → ⊥
 
 -- So each stays in the first view.
 abbrev pub FirstViewStays : Type 0
 FirstViewStays =
-    (c : Configuration) → IsConfiguration c → (trace : List Entry) → AreReplicasSafe c trace → Unforged c trace → NoneChanges c trace
+    (c : Configuration) → IsConfiguration c → (trace : List Entry) → AreReplicasSafe c trace → Unforged c trace
+    → NoneChanges c trace
     → (p : ℕ) → is_correct_replica c p ≡ true → view c (history_of p trace) ≡ 0

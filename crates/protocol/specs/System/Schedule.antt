@@ -44,15 +44,20 @@ meant_for c sender (signature s) = range_with_len 0 sender ++ range_with_len (su
 
 -- a frame that an output sends is made with it
 abbrev pub made_by : Configuration → Entry → List Made
-made_by c (Sent p bytes) = record { bytes = bytes; receivers = option_map_or (λ frame. meant_for c p frame.authenticator) (frame_of bytes) [] } ∷ []
+made_by c (Sent p bytes) = record {
+  bytes = bytes;
+  receivers = option_map_or (λ frame. meant_for c p frame.authenticator) (frame_of bytes) [];
+} ∷ []
 made_by c _ = []
 
 -- the bytes of a frame with MACs under the sender's keys, and of one signed with a leaf of the replica's seed
 abbrev pub sealed_bytes : Configuration → ℕ → List ℕ → List ℕ → List ℕ
-sealed_bytes c sender receivers body = piece body ++ authenticator_spelling (macs (map (entry_for c.seed sender body) receivers))
+sealed_bytes c sender receivers body =
+    piece body ++ authenticator_spelling (macs (map (entry_for c.seed sender body) receivers))
 
 abbrev pub signed_bytes : Configuration → ℕ → ℕ → List ℕ → List ℕ
-signed_bytes c replica leaf body = piece body ++ authenticator_spelling (signature (signature_of (signing_seed c.seed replica) leaf body))
+signed_bytes c replica leaf body =
+    piece body ++ authenticator_spelling (signature (signature_of (signing_seed c.seed replica) leaf body))
 
 -- ---- the world between steps
 
@@ -84,12 +89,14 @@ is_delivered delivered frame party = list_any (λ x. (x.0 == frame) && (x.1 == p
 abbrev pub next_receiver : Configuration → List (ℕ × ℕ) → ℕ → List ℕ → Option (ℕ × ℕ)
 next_receiver c delivered frame [] = None
 next_receiver c delivered frame (q ∷ receivers) =
-    if is_correct c q && not (is_delivered delivered frame q) then Some (frame, q) else next_receiver c delivered frame receivers
+    if is_correct c q && not (is_delivered delivered frame q) then Some (frame, q) else
+    next_receiver c delivered frame receivers
 
 -- the first frame that has one, and that receiver; frames are numbered from this one on
 abbrev pub next_pair : Configuration → List (ℕ × ℕ) → ℕ → List Made → Option (ℕ × ℕ)
 next_pair c delivered frame [] = None
-next_pair c delivered frame (made ∷ frames) = or_else (next_receiver c delivered frame made.receivers) (next_pair c delivered (suc frame) frames)
+next_pair c delivered frame (made ∷ frames) =
+    or_else (next_receiver c delivered frame made.receivers) (next_pair c delivered (suc frame) frames)
 
 -- what a flush delivers next, if anything is left
 abbrev pub pending : Configuration → World → Option (ℕ × ℕ)
@@ -111,11 +118,14 @@ pub record AreReceivers (c : Configuration) (receivers : List ℕ) : Type 0 wher
 -- A call's timestamp is no part of the step: in a run it is the client's next one. That holds of a client that stopped
 -- too, whose call stays open, so that it has no second one.
 abbrev pub IsAllowed : Configuration → World → Step → Type 0
-IsAllowed c w (calls k op) = (is_correct_client c (256 + k) ≡ true) × (open_call (history_of (256 + k) w.past) ≡ None) × IsOperation op
+IsAllowed c w (calls k op) =
+    (is_correct_client c (256 + k) ≡ true) × (open_call (history_of (256 + k) w.past) ≡ None) × IsOperation op
 IsAllowed c w (deliver frame party) = (frame < length w.frames) × (is_correct c party ≡ true)
 IsAllowed c w (feed party text) = is_correct c party ≡ true
-IsAllowed c w (seal sender receivers body) = (is_party c sender ≡ true) × (is_correct c sender ≡ false) × AreReceivers c receivers
-IsAllowed c w (sign replica leaf receivers body) = (is_replica c replica ≡ true) × (is_correct c replica ≡ false) × (leaf < 64) × AreReceivers c receivers
+IsAllowed c w (seal sender receivers body) =
+    (is_party c sender ≡ true) × (is_correct c sender ≡ false) × AreReceivers c receivers
+IsAllowed c w (sign replica leaf receivers body) =
+    (is_replica c replica ≡ true) × (is_correct c replica ≡ false) × (leaf < 64) × AreReceivers c receivers
 IsAllowed c w (ticks party) = is_correct c party ≡ true
 IsAllowed c w flush = ⊤
 
@@ -136,18 +146,22 @@ pub data Goes (c : Configuration) : World → List Step → List Entry → World
       → Goes c w (calls client op ∷ steps) (Invoke client timestamp op ∷ entries) v
   delivers : {w v : World} {steps : List Step} {entries : List Entry} {frame party : ℕ} {made : Made}
       → IsAllowed c w (deliver frame party) → slice_get w.frames frame ≡ Some made
-      → Goes c (record (with_entry c w (Got party made.bytes)) { delivered = (frame, party) ∷ w.delivered }) steps entries v
+      → Goes c (record (with_entry c w (Got party made.bytes)) { delivered = (frame, party) ∷ w.delivered })
+      steps entries v
       → Goes c w (deliver frame party ∷ steps) (Got party made.bytes ∷ entries) v
   gets : {w v : World} {steps : List Step} {entries : List Entry} {party : ℕ} {text : List ℕ}
       → IsAllowed c w (feed party text) → Goes c (with_entry c w (Got party text)) steps entries v
       → Goes c w (feed party text ∷ steps) (Got party text ∷ entries) v
   ticked : {w v : World} {steps : List Step} {entries : List Entry} {party : ℕ}
-      → IsAllowed c w (ticks party) → Goes c (with_entry c w (Tick party)) steps entries v → Goes c w (ticks party ∷ steps) (Tick party ∷ entries) v
+      → IsAllowed c w (ticks party) → Goes c (with_entry c w (Tick party)) steps entries v
+      → Goes c w (ticks party ∷ steps) (Tick party ∷ entries) v
   seals : {w v : World} {steps : List Step} {entries : List Entry} {sender : ℕ} {receivers body : List ℕ}
-      → IsAllowed c w (seal sender receivers body) → AtInput entries → Goes c (with_frame w (sealed_bytes c sender receivers body) receivers) steps entries v
+      → IsAllowed c w (seal sender receivers body) → AtInput entries
+      → Goes c (with_frame w (sealed_bytes c sender receivers body) receivers) steps entries v
       → Goes c w (seal sender receivers body ∷ steps) entries v
   signs : {w v : World} {steps : List Step} {entries : List Entry} {replica leaf : ℕ} {receivers body : List ℕ}
-      → IsAllowed c w (sign replica leaf receivers body) → AtInput entries → Goes c (with_frame w (signed_bytes c replica leaf body) receivers) steps entries v
+      → IsAllowed c w (sign replica leaf receivers body) → AtInput entries
+      → Goes c (with_frame w (signed_bytes c replica leaf body) receivers) steps entries v
       → Goes c w (sign replica leaf receivers body ∷ steps) entries v
   flushes : {w v : World} {steps : List Step} {entries : List Entry} {frame party : ℕ}
       → pending c w ≡ Some (frame, party) → Goes c w (deliver frame party ∷ flush ∷ steps) entries v
@@ -163,7 +177,8 @@ Feeds c steps trace = (w : World) × Goes c new_world steps (reverse trace) w
 abbrev pub StopsAt : Configuration → List Step → ℕ → List Entry → Type 0
 StopsAt c steps n trace =
     IsRun c trace
-    × ((w : World) × (step : Step) × Goes c new_world (take n steps) (reverse trace) w × (slice_get steps n ≡ Some step) × (IsAllowed c w step → ⊥))
+    × ((w : World) × (step : Step) × Goes c new_world (take n steps) (reverse trace) w
+    × (slice_get steps n ≡ Some step) × (IsAllowed c w step → ⊥))
 
 -- ---- the report
 
@@ -177,10 +192,12 @@ pub record Acceptance : Type 0 where
 -- the acceptances of a trace, the newest first
 abbrev pub acceptances : List Entry → List Acceptance
 acceptances [] = []
-acceptances (Accepted client timestamp answer ∷ past) = record { position = length past; client = client; timestamp = timestamp; answer = answer } ∷ acceptances past
+acceptances (Accepted client timestamp answer ∷ past) =
+    record { position = length past; client = client; timestamp = timestamp; answer = answer } ∷ acceptances past
 acceptances (_ ∷ past) = acceptances past
 
 -- the acceptances in order of position, and the points
-pub record IsReport (c : Configuration) (trace : List Entry) (accepted : List Acceptance) (items : List Item) : Type 0 where
+pub record IsReport (c : Configuration) (trace : List Entry) (accepted : List Acceptance)
+    (items : List Item) : Type 0 where
   pub accepted_are : accepted ≡ reverse (acceptances trace)
   pub points_are : items ≡ points c trace

@@ -17,7 +17,8 @@ abbrev pub batches_of : Message → List (List ℕ)
 batches_of message = elim message [ PrePrepare view number batch ↦ batch ∷ [] | NewView new ↦ new.batches | _ ↦ [] ]
 
 abbrev pub parts_of : Message → List (List ℕ)
-parts_of message = elim message [ Meta number level index digests ↦ concat digests ∷ [] | Page number index text ↦ text ∷ [] | _ ↦ [] ]
+parts_of message =
+    elim message [ Meta number level index digests ↦ concat digests ∷ [] | Page number index text ↦ text ∷ [] | _ ↦ [] ]
 
 -- the bytes spell a message that has the batch
 abbrev pub SaysBatch : List ℕ → List ℕ → Type 0
@@ -42,7 +43,8 @@ ExecutesBatch c k batch past _ = ⊥
 -- each batch was executed for its number, from the first on
 abbrev pub AreExecuted : Configuration → List Entry → ℕ → List (List ℕ) → Type 0
 AreExecuted c trace first [] = Unit {0}
-AreExecuted c trace first (batch ∷ batches) = Once (ExecutesBatch c first batch) trace × AreExecuted c trace (first + 1) batches
+AreExecuted c trace first (batch ∷ batches) =
+    Once (ExecutesBatch c first batch) trace × AreExecuted c trace (first + 1) batches
 
 -- the texts under the root of some pages
 pub data IsUnder (page : ℕ → List ℕ) : List ℕ → Type 0 where
@@ -73,8 +75,10 @@ pub data IsText (c : Configuration) (trace : List Entry) : List ℕ → Type 0 w
   batch : (text : List ℕ) → Once (HasBatch text) trace → IsText c trace text
   part : (text : List ℕ) → Once (HasPart text) trace → IsText c trace text
   held : (page : ℕ → List ℕ) (text : List ℕ) → Holds c trace page → IsUnder page text → IsText c trace text
-  page_of : (batches : List (List ℕ)) (i : ℕ) → AreExecuted c trace 1 batches → IsText c trace (page_text (after_batches c opening batches) i)
-  under : (batches : List (List ℕ)) (text : List ℕ) → AreExecuted c trace 1 batches → IsUnder (page_text (after_batches c opening batches)) text → IsText c trace text
+  page_of : (batches : List (List ℕ)) (i : ℕ) → AreExecuted c trace 1 batches
+      → IsText c trace (page_text (after_batches c opening batches) i)
+  under : (batches : List (List ℕ)) (text : List ℕ) → AreExecuted c trace 1 batches
+      → IsUnder (page_text (after_batches c opening batches)) text → IsText c trace text
 
 -- SHA-256 (FIPS 180-4) differs on different ones of them. There are finitely many; of all texts it would be false.
 abbrev pub NoCollision : Configuration → List Entry → Type 0

@@ -85,8 +85,10 @@ Hears c me body past _ = ⊥
 -- What a correct party hears from the frame as a correct sender's, or is signed so, the sender sent in a frame of that
 -- body before (a body has one spelling, of which MACs and signatures are made).
 pub record IsFromSender (c : Configuration) (me : ℕ) (past : List Entry) (bytes : List ℕ) : Type 0 where
-  pub hears : (body : Body) → heard (members c) me bytes ≡ Some body → is_correct c body.sender ≡ true → Once (SendsBody body) past
-  pub signed : (body : Body) → signed_body (members c) bytes ≡ Some body → is_correct c body.sender ≡ true → Once (SendsBody body) past
+  pub hears : (body : Body) → heard (members c) me bytes ≡ Some body → is_correct c body.sender ≡ true
+      → Once (SendsBody body) past
+  pub signed : (body : Body) → signed_body (members c) bytes ≡ Some body → is_correct c body.sender ≡ true
+      → Once (SendsBody body) past
 
 -- each frame that a correct party gets, alone or carried, is from its sender
 abbrev pub IsUnforgedAt : Configuration → List Entry → Entry → Type 0
