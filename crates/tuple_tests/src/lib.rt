@@ -13,6 +13,8 @@ mod operations;
 #[cfg(test)]
 mod refusals;
 #[cfg(test)]
+mod room;
+#[cfg(test)]
 mod rows;
 #[cfg(test)]
 mod spaces;

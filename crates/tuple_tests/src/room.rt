@@ -1,0 +1,190 @@
+//! How much memory calls take: what they give fills a heap, so they take no more beside it, not even for a while, and
+//! in a heap with one block less they say that memory ran out.
+//!
+//! A heap hands out blocks of multiples of 16 bytes. So each list of four is one block, and each short string another.
+
+use linked_list_allocator::LocalHeap;
+use std::alloc::{AllocError, Global};
+use std::mem::size_of;
+use std::test::Fail;
+use tuple_codec::{
+    Bad, decode_op, decode_result, decode_template, decode_tuple, encode_op, encode_result,
+    encode_template, encode_tuple,
+};
+use tuple_tree::{Field, Tuple, Value};
+
+type Heap = &'static LocalHeap;
+
+// The room of four values, of four fields, of four tuples, and of a string of up to 16 bytes.
+const VALUES: usize = 4 * size_of::<Value<Heap>>();
+
+const FIELDS: usize = 4 * size_of::<Field<Heap>>();
+
+const TUPLES: usize = 4 * size_of::<Tuple<Heap>>();
+
+const STRING: usize = 16;
+
+#[derive(Clone, Copy)]
+enum Sort {
+    Tuple,
+    Template,
+    Op,
+    Answer,
+}
+
+// The sort of a value, its spelling, and the room for its parts.
+type Row<'a> = (Sort, &'a [u8], usize);
+
+const ROWS: [Row<'static>; 6] = [
+    // (1 "a" x09 true)
+    (
+        Sort::Tuple,
+        b"\x04\x01\0\0\0\0\0\0\0\x01\x02\0\x01a\x03\0\x01\x09\x04\x01",
+        VALUES + 2 * STRING,
+    ),
+    // (("a" "b" "c" "d") x09 x0a "e")
+    (
+        Sort::Tuple,
+        b"\x04\x05\x04\x02\0\x01a\x02\0\x01b\x02\0\x01c\x02\0\x01d\x03\0\x01\x09\x03\0\x01\x0a\x02\0\x01e",
+        2 * VALUES + 7 * STRING,
+    ),
+    // (* ?text (* * * "a") "b")
+    (
+        Sort::Template,
+        b"\x04\x10\x12\x05\x04\x10\x10\x10\x02\0\x01a\x02\0\x01b",
+        2 * FIELDS + 2 * STRING,
+    ),
+    // cas ("k" * * *) ("k" 1 true "l")
+    (
+        Sort::Op,
+        b"\x24\x04\x02\0\x01k\x10\x10\x10\x04\x02\0\x01k\x01\0\0\0\0\0\0\0\x01\x04\x01\x02\0\x01l",
+        FIELDS + VALUES + 3 * STRING,
+    ),
+    // found ("k" true true true)
+    (
+        Sort::Answer,
+        b"\x32\x04\x02\0\x01k\x04\x01\x04\x01\x04\x01",
+        VALUES + STRING,
+    ),
+    // all 4 () () (true true true true) ()
+    (
+        Sort::Answer,
+        b"\x35\x04\0\0\x04\x04\x01\x04\x01\x04\x01\x04\x01\0",
+        TUPLES + VALUES,
+    ),
+];
+
+// Whether what is decoded fills the heap, where there is room for it.
+fn decoded(heap: &LocalHeap, sort: Sort, bytes: &[u8]) -> Result<bool, Bad> {
+    let is_full = match sort {
+        Sort::Tuple => {
+            let (_tuple, _len) = decode_tuple(heap, bytes)?;
+            heap.free() == 0
+        }
+        Sort::Template => {
+            let (_template, _len) = decode_template(heap, bytes)?;
+            heap.free() == 0
+        }
+        Sort::Op => {
+            let (_op, _len) = decode_op(heap, bytes)?;
+            heap.free() == 0
+        }
+        Sort::Answer => {
+            let (_answer, _len) = decode_result(heap, bytes)?;
+            heap.free() == 0
+        }
+    };
+    Ok(is_full)
+}
+
+fn fills(alloc: Global, (sort, bytes, room): Row<'_>) -> Result<bool, AllocError> {
+    let heap = LocalHeap::new(alloc, room)?;
+    Ok(decoded(&heap, sort, bytes) == Ok(true))
+}
+
+fn wants_all(alloc: Global, (sort, bytes, room): Row<'_>) -> Result<bool, AllocError> {
+    let heap = LocalHeap::new(alloc, room.saturating_sub(STRING))?;
+    Ok(decoded(&heap, sort, bytes) == Err(Bad::NoMemory) && heap.used() == 0)
+}
+
+#[test]
+fn decoded_values_fill_their_room(rt: HostRuntime) -> Result<(), Fail> {
+    for row in ROWS {
+        assert!(rt; fills(rt.alloc(), row)?);
+        assert!(rt; wants_all(rt.alloc(), row)?);
+    }
+    Ok(())
+}
+
+// Whether a copy of what ordinary memory holds fills the heap. There are no copies of operations.
+fn copied(alloc: Global, heap: &LocalHeap, sort: Sort, bytes: &[u8]) -> Result<bool, Bad> {
+    let is_full = match sort {
+        Sort::Tuple => {
+            let (tuple, _len) = decode_tuple(alloc, bytes)?;
+            let _copy = tuple.copy_in(heap)?;
+            heap.free() == 0
+        }
+        Sort::Template => {
+            let (template, _len) = decode_template(alloc, bytes)?;
+            let _copy = template.copy_in(heap)?;
+            heap.free() == 0
+        }
+        Sort::Op => true,
+        Sort::Answer => {
+            let (answer, _len) = decode_result(alloc, bytes)?;
+            let _copy = answer.copy_in(heap)?;
+            heap.free() == 0
+        }
+    };
+    Ok(is_full)
+}
+
+fn copy_fills(alloc: Global, (sort, bytes, room): Row<'_>) -> Result<bool, AllocError> {
+    let heap = LocalHeap::new(alloc, room)?;
+    Ok(copied(alloc, &heap, sort, bytes) == Ok(true))
+}
+
+#[test]
+fn copies_fill_their_room(rt: HostRuntime) -> Result<(), Fail> {
+    for row in ROWS {
+        assert!(rt; copy_fills(rt.alloc(), row)?);
+    }
+    Ok(())
+}
+
+// Whether these bytes are written where there is room for them alone.
+fn encoded(alloc: Global, heap: &LocalHeap, sort: Sort, bytes: &[u8]) -> Result<bool, Bad> {
+    let mut out = Vec::with_capacity(heap, bytes.len())?;
+    match sort {
+        Sort::Tuple => {
+            let (tuple, _len) = decode_tuple(alloc, bytes)?;
+            encode_tuple(&tuple, &mut out)?;
+        }
+        Sort::Template => {
+            let (template, _len) = decode_template(alloc, bytes)?;
+            encode_template(&template, &mut out)?;
+        }
+        Sort::Op => {
+            let (op, _len) = decode_op(alloc, bytes)?;
+            encode_op(&op, &mut out)?;
+        }
+        Sort::Answer => {
+            let (answer, _len) = decode_result(alloc, bytes)?;
+            encode_result(&answer, &mut out)?;
+        }
+    }
+    Ok(out.as_slice() == bytes)
+}
+
+fn is_written(alloc: Global, (sort, bytes, _room): Row<'_>) -> Result<bool, AllocError> {
+    let heap = LocalHeap::new(alloc, bytes.len())?;
+    Ok(encoded(alloc, &heap, sort, bytes) == Ok(true))
+}
+
+#[test]
+fn encoders_take_nothing_where_there_is_room(rt: HostRuntime) -> Result<(), Fail> {
+    for row in ROWS {
+        assert!(rt; is_written(rt.alloc(), row)?);
+    }
+    Ok(())
+}
