@@ -11,6 +11,7 @@ use crate::carried::{MAX_REQUESTS, is_request_frame};
 use crate::messages::Batch;
 use crate::put_lists::put_frames;
 use crate::reading::{read_byte, read_piece};
+use crate::sizes::frames_len;
 use arrayvec::ArrayVec;
 use std::alloc::Global;
 use terms::NoMemory;
@@ -26,7 +27,7 @@ impl Batch {
         ensures requests { IfOk result (λ batch.
             requests_of batch.text.items ≡ map (λ f. f.items) frames.now) }
     {
-        let mut text = Vec::new(alloc);
+        let mut text = Vec::with_capacity(alloc, frames_len(frames))?;
         put_frames(frames, &mut text)?;
         Ok(Batch { text })
     }

@@ -24,12 +24,13 @@ fn are_read(text: &[u8], first: &[u8], second: &[u8]) -> bool {
     found.len() == 2 && found[0] == first && found[1] == second
 }
 
+// Whether these are the frames' text, which fills the memory that was taken.
 fn is_made(alloc: Global, first: Vec<u8>, second: Vec<u8>, text: &[u8]) -> Result<bool, NoMemory>
     requires first { IsCarried is_ordered_request first.items }
     requires second { IsCarried is_ordered_request second.items }
 {
     let batch = Batch::of(alloc, &[first, second])?;
-    Ok(batch.text.as_slice() == text)
+    Ok(batch.text.as_slice() == text && batch.text.capacity() == text.len())
 }
 
 fn holds_both(alloc: Global, first: Vec<u8>, second: Vec<u8>) -> Result<bool, NoMemory> {

@@ -9,4 +9,4 @@ pub returns-clause-requests : goal.returns-clause-requests
 returns-clause-requests c =
     let frames : List (List ℕ) = map (λ f. f.items) c.args.frames.now in
     let few : length frames ≤ 16 = simp length-map c.requires.few in
-    ap requests_of (c.in_ok-put_frames.ensures ∙ ap (λ (x : List ℕ). x ++ pieces_spelling frames) c.new-text.ensures.items) ∙ reads_requests frames few c.requires.each
+    ap requests_of (c.in_ok-put_frames.ensures ∙ ap (λ (x : List ℕ). x ++ pieces_spelling frames) c.in_ok-text.ensures.items) ∙ reads_requests frames few c.requires.each
