@@ -147,9 +147,9 @@ impl Ring {
         entries
     }
 
-    /// The frame that the bytes spell, where its sender takes part and may send such a message, and its authenticator has the
-    /// right entry for `me` or is a signature, which is not tested here. The first refusal that applies is given, in
-    /// the order of [`OpenFault`]: bytes that are refused take no memory, and so want of it comes last.
+    /// The frame that the bytes spell, where its sender takes part and may send such a message, and its authenticator
+    /// has the right entry for `me` or is a signature, which is not tested here. The first refusal that applies is
+    /// given, in the order of [`OpenFault`]: bytes that are refused take no memory, and so want of it comes last.
     pub fn open(&mut self, alloc: Global, bytes: &[u8], me: Party) -> Result<Opened, OpenFault>
         ensures opened { IfOk result (λ o. Opens self.old (party_number me) bytes.now (frame_data o.frame)) }
         ensures all { (f : FrameData) → Opens self.old (party_number me) bytes.now f → MatchResult result (λ o. frame_data o.frame ≡ f) (λ e. e ≡ OpenFault.NoMemory) }

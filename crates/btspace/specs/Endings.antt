@@ -33,7 +33,8 @@ fault_at line (no.Refused fault) = Refused line fault
 fault_at line no.NoMemory = NoMemory
 fault_at line (no.Read error) = Read error
 
--- What was written and is pending, and any run over the lines that are left from number n on, make a run from the start.
+-- What was written and is pending, and any run over the lines that are left from number n on, make a run from the
+-- start.
 pub record Along (bytes : List ℕ) (known old new : Option (List ℕ)) (n : ℕ) (ts : List TupleTree) (pending : List ℕ) : Type 0 where
   pub rest : List ℕ
   pub done : List ℕ

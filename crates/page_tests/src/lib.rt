@@ -1,5 +1,5 @@
-//! Tests of the pages that replicas compare and pass on: their digests (`partition_tree`), those of tuples (`space`) and
-//! those of last replies (`reply_cache`).
+//! Tests of the pages that replicas compare and pass on: their digests (`partition_tree`), those of tuples (`space`)
+//! and those of last replies (`reply_cache`).
 #![tactic(auto)]
 
 #[cfg(test)]

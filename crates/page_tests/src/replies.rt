@@ -156,7 +156,8 @@ fn too_few_and_too_many_pages(rt: HostRuntime) {
     }
 }
 
-// Whether client 9 gets its first reply, at the second try where memory ran out at the first one, which changed nothing.
+// Whether client 9 gets its first reply, at the second try where memory ran out at the first one, which changed
+// nothing.
 fn gets_done(cache: &mut ReplyCache) -> bool {
     if cache.put(client(9), 1, 1, Answer::Done).is_ok() {
         return true;

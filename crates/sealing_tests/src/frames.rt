@@ -201,8 +201,8 @@ fn frames_too_long(rt: HostRuntime) -> Result<(), Fail> {
     Ok(())
 }
 
-// A view change to view 1 by this replica that lists nothing, with a signature of zeros: whether it verifies is not asked
-// here.
+// A view change to view 1 by this replica that lists nothing, with a signature of zeros: whether it verifies is not
+// asked here.
 fn view_change(alloc: Global, sender: u8) -> Result<Vec<u8>, AllocError> {
     let signature = Vec::from_elem(alloc, 0u8, 16_577)?;
     let mut frame = b"\0\0\0\x18\x46\0".to_vec(alloc)?;

@@ -1,7 +1,7 @@
 -- What a party hears: the bodies of frames that their senders made, as it can tell (Castro and Liskov, Practical
--- Byzantine fault tolerance and proactive recovery, TOCS 2002, on the authentication of messages). View changes and new
--- views count only with a signature that verifies, since others carry them on. A frame that a party gets in its own name
--- counts for nothing, whoever made it: its own messages count when they are sent.
+-- Byzantine fault tolerance and proactive recovery, TOCS 2002, on the authentication of messages). View changes and
+-- new views count only with a signature that verifies, since others carry them on. A frame that a party gets in its
+-- own name counts for nothing, whoever made it: its own messages count when they are sent.
 use Rattle.std.specs.Prelude.{ℕ, Bool, false, ◌&&◌, not, ◌==◌, if◌then◌else◌, List, Option, Some, None, option_and_then}
 use Rattle.wire.specs.Messages.{BodyData, AuthenticatorData, macs, signature, FrameData}
 use Rattle.wire.specs.Spelling.{body_spelling, is_signed}

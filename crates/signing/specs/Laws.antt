@@ -14,8 +14,8 @@ OpenedIsHeard =
     (m : Membership) (party : ℕ) (bytes : List ℕ) (frame : FrameData) → Opens m party bytes frame → frame.body.sender ≢ party
     → (IsTrue (is_signed frame.body.message) → IsTrue (has_signature m.seed frame)) → heard m party bytes ≡ Some frame.body
 
--- the bytes are a frame of this body that opens, with its sender's signature where it is to be signed, and the sender is
--- another party
+-- the bytes are a frame of this body that opens, with its sender's signature where it is to be signed, and the sender
+-- is another party
 pub record OpensAs (m : Membership) (party : ℕ) (bytes : List ℕ) (body : BodyData) : Type 0 where
   pub frame : FrameData
   pub opens : Opens m party bytes frame

@@ -14,11 +14,11 @@ use crate::public_keys::PublicKeys;
 use authenticator::Ring;
 use std::alloc::Global;
 use terms::Party;
-use wire::{Header, AuthenticatorBytes, decode_judged, judge};
+use wire::{AuthenticatorBytes, Header, decode_judged, judge};
 
 /// What `me` hears from the bytes: a frame of another party, which takes part and may send such a message, with the
-/// right MAC for `me`, or signed by its sender where it is a view change or a new view. The keys and the ring are of one
-/// seed.
+/// right MAC for `me`, or signed by its sender where it is a view change or a new view. The keys and the ring are of
+/// one seed.
 ///
 /// # Errors
 ///
@@ -58,6 +58,10 @@ fn signature_holds(publics: &PublicKeys, header: &Header<'_>) -> bool
 {
     match &header.authenticator {
         AuthenticatorBytes::Macs(_) => true,
-        AuthenticatorBytes::Signature(signature) => publics.verify(header.sender, header.text, signature),
+        AuthenticatorBytes::Signature(signature) => publics.verify(
+            header.sender,
+            header.text,
+            signature,
+        ),
     }
 }

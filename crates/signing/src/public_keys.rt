@@ -16,7 +16,7 @@ use std::array;
 use std::marker::Model;
 use std::sync::{Arc, OnceLock};
 use terms::{NoMemory, Party};
-use wire::{Frame, Authenticator, body_bytes};
+use wire::{Authenticator, Frame, body_bytes};
 
 /// The most replicas of a configuration.
 const MAX_REPLICAS: usize = 10;

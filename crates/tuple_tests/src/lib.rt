@@ -1,5 +1,5 @@
-//! Tests of tuples, templates and their bytes (`tuple_tree`, `tuple_codec`), of matching (`template_match`) and of spaces
-//! (`space`): worked rows, the same values under several allocators, and calls that memory is refused to.
+//! Tests of tuples, templates and their bytes (`tuple_tree`, `tuple_codec`), of matching (`template_match`) and of
+//! spaces (`space`): worked rows, the same values under several allocators, and calls that memory is refused to.
 #![tactic(auto)]
 
 #[cfg(test)]

@@ -76,7 +76,8 @@ done_right o bs =
     (λ _ front h c w e. absurd e)
     (ending_right bs) (λ _ rest. record { passed = []; whole = refl; is = (refl, refl) })
 
--- A word behind what is passed of the line already, and what is left of the line behind it; G, M and N are of whole lines.
+-- A word behind what is passed of the line already, and what is left of the line behind it; G, M and N are of whole
+-- lines.
 module _ (G : Operation → List ℕ → Type 0) (M : Limits → Operation → List ℕ → Type 0) (N : List ℕ → Type 0) (pre cs : List ℕ) (F : Operation → List ℕ → Type 0) (P : Limits → Operation → List ℕ → Type 0) (D : List ℕ → Type 0)
     (good : (o : Operation) (w : List ℕ) → F o w → G o (pre ++ (cs ++ w))) (limited : (c : Limits) (o : Operation) (w : List ℕ) → P c o w → M c o (pre ++ (cs ++ w))) (long : (w : List ℕ) → D w → N (pre ++ (cs ++ w)))
     (some : (c : Limits) → (o : Operation) × (w : List ℕ) × P c o w) where
