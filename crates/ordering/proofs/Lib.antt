@@ -1,0 +1,4 @@
+pub mod Counting
+pub mod Keeping
+pub mod Placing
+pub mod Voting

@@ -1,0 +1,11 @@
+use Rattle.std.proofs.Common.{◌≡◌, ◌-◌, true, subst, sym}
+use Rattle.ordering.specs.Log.{LogData, is_in_marks}
+use Rattle.ordering.specs.LogView.{log_data}
+use Rattle.ordering.proofs.Keeping.{in_span, batch_kept}
+use Rattle.ordering.proofs.log.Log.put_batch.Goals as goal
+
+pub invariant_of-self : goal.invariant_of-self
+invariant_of-self c =
+    let m : LogData = log_data c.self.inside in
+    let within : is_in_marks m c.args.number.0 ≡ true = subst (λ (x : LogData). is_in_marks x c.args.number.0 ≡ true) (sym c.self.view_is) c.requires in
+    batch_kept m (c.args.number.0 - m.low - 1) c.args.batch.value c.put_batch_at.new.slots.items (in_span m c.args.number.0 within) c.self.invariant c.put_batch_at.ensures

@@ -1,0 +1,132 @@
+-- PBFT's message log of one replica for one view, as plain data: what each message changes, and what is logged,
+-- prepared, committed and stable (Castro and Liskov, Practical Byzantine fault tolerance and proactive recovery, TOCS
+-- 2002, on normal-case operation and garbage collection).
+use Rattle.std.specs.Prelude.{ℕ, ◌+◌, ◌-◌, ◌*◌, ◌%◌, ◌^◌, Bool, true, false, ◌&&◌, not, List, [], ◌++◌, drop, replicate, nat_le, nat_lt, ◌==◌, if◌then◌else◌, Option, Some, None, slice_set, slice_index_or, option_map, min, is_none}
+use Rattle.std.specs.Option.{option_map_or}
+use Rattle.sha2.specs.Sha256.{sha256}
+use Rattle.quorum.specs.Quorum.{count_below}
+use Rattle.quorum.specs.Votes.{has_digest}
+use Rattle.wire.specs.Messages.{CheckpointEntryData}
+use Rattle.ordering.specs.declared.votes.Vote.{Vote}
+use Rattle.ordering.specs.Votes.{vote_of, voters, with_vote}
+use Rattle.ordering.specs.Checkpoints.{with_checkpoint, says_checkpoint}
+
+-- What is held for one number: the text of the batch that is logged, and the prepares and commits.
+pub record Row : Type 0 where
+  pub batch : Option (List ℕ)
+  pub prepares : List Vote
+  pub commits : List Vote
+
+abbrev pub no_row : Row
+no_row = record { batch = None; prepares = []; commits = [] }
+
+-- What the replica me holds: its view, and whether it is active there; the low mark, and a row for each of the span
+-- numbers above it, in order; and the checkpoints of each replica.
+pub record LogData : Type 0 where
+  pub me : ℕ
+  pub faults : ℕ
+  pub span : ℕ
+  pub view : ℕ
+  pub active : Bool
+  pub low : ℕ
+  pub rows : List Row
+  pub checkpoints : List (List CheckpointEntryData)
+
+-- nothing was taken yet
+abbrev pub new_log : ℕ → ℕ → ℕ → LogData
+new_log me faults span =
+    record { me = me; faults = faults; span = span; view = 0; active = true; low = 0; rows = replicate span no_row; checkpoints = replicate (3 * faults + 1) [] }
+
+abbrev pub replicas : LogData → ℕ
+replicas m = 3 * m.faults + 1
+
+abbrev pub primary : LogData → ℕ → ℕ
+primary m view = view % replicas m
+
+abbrev pub is_active_in : LogData → ℕ → Bool
+is_active_in m view = (view == m.view) && m.active
+
+-- above the low mark, at most the span above it, and a number
+abbrev pub is_in_marks : LogData → ℕ → Bool
+is_in_marks m i = nat_lt m.low i && nat_le i (m.low + m.span) && nat_lt i (2 ^ 48)
+
+-- the row of a number within the marks
+abbrev pub place : LogData → ℕ → ℕ
+place m i = i - m.low - 1
+
+abbrev pub row_of : LogData → ℕ → Row
+row_of m i = slice_index_or m.rows (place m i) no_row
+
+abbrev pub checkpoints_of : LogData → ℕ → List CheckpointEntryData
+checkpoints_of m s = slice_index_or m.checkpoints s []
+
+-- ---- changes
+
+abbrev pub with_row : LogData → ℕ → Row → LogData
+with_row m i row = record m { rows = slice_set m.rows (place m i) row }
+
+abbrev pub with_batch : LogData → ℕ → List ℕ → LogData
+with_batch m i text = with_row m i (record (row_of m i) { batch = Some text })
+
+abbrev pub with_prepare : LogData → ℕ → Vote → LogData
+with_prepare m i vote = with_row m i (record (row_of m i) { prepares = with_vote vote (row_of m i).prepares })
+
+abbrev pub with_commit : LogData → ℕ → Vote → LogData
+with_commit m i vote = with_row m i (record (row_of m i) { commits = with_vote vote (row_of m i).commits })
+
+abbrev pub with_checkpoint_of : LogData → ℕ → CheckpointEntryData → LogData
+with_checkpoint_of m s entry = record m { checkpoints = slice_set m.checkpoints s (with_checkpoint entry (checkpoints_of m s)) }
+
+-- The low mark moves up to h: the rows up to it go, and there are empty ones for the numbers that come within the marks.
+abbrev pub cut_rows : ℕ → List Row → List Row
+cut_rows count rows = drop count rows ++ replicate count no_row
+
+abbrev pub cut_to : LogData → ℕ → LogData
+cut_to m h = if nat_le h m.low then m else record m { low = h; rows = cut_rows (min (h - m.low) m.span) m.rows }
+
+-- ---- certificates
+
+-- Prepared: the batch is logged, and 2f different backups prepared its digest.
+abbrev pub is_row_prepared : ℕ → ℕ → Row → Bool
+is_row_prepared faults n row = option_map_or (λ text. nat_le (2 * faults) (voters n (sha256 text) row.prepares)) row.batch false
+
+abbrev pub is_prepared : LogData → ℕ → Bool
+is_prepared m i = is_in_marks m i && is_row_prepared m.faults (replicas m) (row_of m i)
+
+-- Committed: prepared, and 2f + 1 different replicas committed its digest, the own commit among them.
+abbrev pub is_row_committed : ℕ → ℕ → ℕ → Row → Bool
+is_row_committed faults n me row =
+    is_row_prepared faults n row
+    && option_map_or (λ text. nat_le (2 * faults + 1) (voters n (sha256 text) row.commits) && has_digest (sha256 text) (vote_of row.commits me)) row.batch false
+
+abbrev pub is_committed : LogData → ℕ → Bool
+is_committed m i = is_in_marks m i && is_row_committed m.faults (replicas m) m.me (row_of m i)
+
+-- PrePrepared: the batch that is logged for a number.
+abbrev pub logged_batch : LogData → ℕ → Option (List ℕ)
+logged_batch m i = if is_in_marks m i then (row_of m i).batch else None
+
+abbrev pub committed_batch : LogData → ℕ → Option (List ℕ)
+committed_batch m i = if is_committed m i then (row_of m i).batch else None
+
+-- ---- what the replica still has to say
+
+-- The digest of a batch that is logged at a backup which has not prepared it.
+abbrev pub due_prepare : LogData → ℕ → Option (List ℕ)
+due_prepare m i =
+    if is_in_marks m i && not (m.me == primary m m.view) && is_none (vote_of (row_of m i).prepares m.me) then option_map sha256 (row_of m i).batch else None
+
+-- The digest of a batch that is prepared, where the replica has not committed it.
+abbrev pub due_commit : LogData → ℕ → Option (List ℕ)
+due_commit m i =
+    if is_prepared m i && is_none (vote_of (row_of m i).commits m.me) then option_map sha256 (row_of m i).batch else None
+
+-- ---- stable checkpoints
+
+-- how many different replicas' checkpoints say this
+abbrev pub count_checkpoints : LogData → CheckpointEntryData → ℕ
+count_checkpoints m entry = count_below (λ s. says_checkpoint entry (checkpoints_of m s)) (replicas m)
+
+-- Stable: a quorum of checkpoints is alike, the own among them.
+abbrev pub is_stable : LogData → CheckpointEntryData → Bool
+is_stable m entry = nat_le (2 * m.faults + 1) (count_checkpoints m entry) && says_checkpoint entry (checkpoints_of m m.me)

@@ -1,0 +1,32 @@
+-- What the private functions that change a list in one place speak of.
+use Rattle.std.specs.Prelude.{ℕ, zero, suc, Bool, false, nat_le, List, [], ◌∷◌, ◌==◌, if◌then◌else◌, Some, slice_set, slice_index_or}
+use Rattle.wire.specs.Messages.{CheckpointEntryData}
+use Rattle.ordering.specs.declared.votes.Vote.{Vote}
+use Rattle.ordering.specs.Votes.{with_vote}
+use Rattle.ordering.specs.Checkpoints.{with_checkpoint}
+use Rattle.ordering.specs.Log.{Row, no_row}
+
+-- the rows with a batch, or one more vote, in the row at a place
+abbrev pub batch_put : List Row → ℕ → List ℕ → List Row
+batch_put rows at text = slice_set rows at (record (slice_index_or rows at no_row) { batch = Some text })
+
+abbrev pub prepare_put : List Row → ℕ → Vote → List Row
+prepare_put rows at vote = slice_set rows at (record (slice_index_or rows at no_row) { prepares = with_vote vote (slice_index_or rows at no_row).prepares })
+
+abbrev pub commit_put : List Row → ℕ → Vote → List Row
+commit_put rows at vote = slice_set rows at (record (slice_index_or rows at no_row) { commits = with_vote vote (slice_index_or rows at no_row).commits })
+
+-- the checkpoints of all replicas with one more of the replica at a place
+abbrev pub checkpoint_put : List (List CheckpointEntryData) → ℕ → CheckpointEntryData → List (List CheckpointEntryData)
+checkpoint_put checkpoints at entry = slice_set checkpoints at (with_checkpoint entry (slice_index_or checkpoints at []))
+
+-- how many stand before the first whose number is not larger
+abbrev pub place_in : ℕ → List CheckpointEntryData → ℕ
+place_in number [] = 0
+place_in number (e ∷ es) = if nat_le e.number number then 0 else suc (place_in number es)
+
+-- whether one of the number stands at the place
+abbrev pub stands_at : ℕ → ℕ → List CheckpointEntryData → Bool
+stands_at place number [] = false
+stands_at zero number (e ∷ es) = e.number == number
+stands_at (suc place) number (e ∷ es) = stands_at place number es

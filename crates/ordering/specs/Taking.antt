@@ -1,0 +1,50 @@
+-- Which messages a log takes, and why it drops the others (Castro and Liskov, TOCS 2002, on normal-case operation and
+-- garbage collection). The first fault that applies is told.
+use Rattle.std.specs.Prelude.{◌≡◌, ℕ, ◌^◌, ◌&&◌, ◌||◌, not, List, nat_le, nat_lt, ◌==◌, if◌then◌else◌, Option, Some, None, Result, Ok, Err, bytes_eq, option_map}
+use Rattle.sha2.specs.Sha256.{sha256}
+use Rattle.ordering.specs.declared.dropped.Dropped.{Dropped}
+use Rattle.ordering.specs.declared.dropped.Dropped.TheVariants.{WrongView, OutOfMarks, Conflict, UnknownSender, Duplicate}
+use Rattle.ordering.specs.Votes.{vote_of}
+use Rattle.ordering.specs.Checkpoints.{root_at}
+use Rattle.ordering.specs.Log.{LogData, replicas, primary, is_active_in, is_in_marks, row_of, checkpoints_of}
+
+-- What came first stays: the same digest again is a duplicate, another one a conflict.
+abbrev pub fault_beside : Option (List ℕ) → List ℕ → Option Dropped
+fault_beside None digest = None
+fault_beside (Some first) digest = Some (if bytes_eq first digest then Duplicate else Conflict)
+
+-- a pre-prepare is the primary's
+abbrev pub preprepare_fault : LogData → ℕ → ℕ → ℕ → List ℕ → Option Dropped
+preprepare_fault m s v i text =
+    if not (s == primary m v) then Some UnknownSender
+    else if not (is_active_in m v) then Some WrongView
+    else if not (is_in_marks m i) then Some OutOfMarks
+    else fault_beside (option_map sha256 (row_of m i).batch) (sha256 text)
+
+-- a prepare is a backup's
+abbrev pub prepare_fault : LogData → ℕ → ℕ → ℕ → List ℕ → Option Dropped
+prepare_fault m s v i digest =
+    if nat_le (replicas m) s || (s == primary m v) then Some UnknownSender
+    else if not (is_active_in m v) then Some WrongView
+    else if not (is_in_marks m i) then Some OutOfMarks
+    else fault_beside (vote_of (row_of m i).prepares s) digest
+
+abbrev pub commit_fault : LogData → ℕ → ℕ → ℕ → List ℕ → Option Dropped
+commit_fault m s v i digest =
+    if nat_le (replicas m) s then Some UnknownSender
+    else if not (is_active_in m v) then Some WrongView
+    else if not (is_in_marks m i) then Some OutOfMarks
+    else fault_beside (vote_of (row_of m i).commits s) digest
+
+-- a checkpoint may be of any number above the low mark
+abbrev pub checkpoint_fault : LogData → ℕ → ℕ → List ℕ → Option Dropped
+checkpoint_fault m s i root =
+    if nat_le (replicas m) s then Some UnknownSender
+    else if not (nat_lt m.low i && nat_lt i (2 ^ 48)) then Some OutOfMarks
+    else fault_beside (root_at (checkpoints_of m s) i) root
+
+-- A message is taken where there is no fault, and the log is then what it is after it; else it is dropped for that
+-- fault, and the log is as it was.
+abbrev pub Takes : Result Unit Dropped → Option Dropped → LogData → LogData → LogData → Type 0
+Takes (Ok done) fault old new after = (fault ≡ None) × (new ≡ after)
+Takes (Err dropped) fault old new after = (fault ≡ Some dropped) × (new ≡ old)

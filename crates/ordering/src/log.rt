@@ -1,0 +1,346 @@
+//! The log.
+
+ghost use Rattle.std.specs.Prelude.{◌≡◌, ◌+◌, ◌*◌, ◌^◌, ◌<◌, ◌≤◌, IfOk, true, option_map};
+ghost use Rattle.std.specs.Arc.{arc_value};
+ghost use Rattle.sha2.specs.Sha256.{sha256};
+ghost use Rattle.wire.specs.Views.{checkpoint_entry_data};
+ghost use Rattle.ordering.specs.Votes.{vote_of};
+ghost use Rattle.ordering.specs.Checkpoints.{says_checkpoint, root_at};
+ghost use Rattle.ordering.specs.Log as spec;
+ghost use Rattle.ordering.specs.Keeping.{IsRow, IsLog};
+
+use crate::batch::HashedBatch;
+use crate::checkpoints::Checkpoints;
+use crate::places::{
+    add_checkpoint_at, add_commit_at, add_prepare_at, cut_slots, no_checkpoints, no_slots,
+    put_batch_at,
+};
+use crate::row::Slot;
+use crate::votes::Vote;
+use std::alloc::Global;
+use std::marker::Model;
+use std::sync::Arc;
+use terms::{Digest, NoMemory, Number, ReplicaId, View};
+use wire::CheckpointEntry;
+
+/// Numbers end below this.
+pub(crate) const NUMBERS_END: u64 = 1 << 48;
+
+/// What one replica holds of the messages of its view: a row for each number within its marks, with the batch that is
+/// logged and the votes for it, and the last three checkpoints of each replica.
+///
+/// An operation costs a walk over the votes of one row, which are at most ten prepares and ten commits. The log takes
+/// its memory when it is made, under 1 KB for each number within the marks and each replica, and none later: a batch
+/// comes with its own, and at most one for each number is held.
+#[derive(Drop)]
+pub struct Log {
+    me: ReplicaId,
+    faults: u8,
+    span: u64,
+    view: View,
+    active: bool,
+    low: Number,
+    slots: Vec<Slot>,
+    checkpoints: Vec<Checkpoints>,
+}
+
+impl Model for Log {
+    ghost use Rattle.ordering.specs.Log.{LogData};
+
+    ghost Value = { LogData };
+
+    ghost use Rattle.ordering.specs.Keeping.{IsLog};
+    ghost use Rattle.ordering.specs.LogView.{log_data};
+
+    ghost view = { log_data };
+
+    ghost invariant = { λ l. IsLog (log_data l) };
+}
+
+impl Log {
+    /// The log of the replica `me`, which has taken nothing, in view 0. Up to `faults` of the `3 * faults + 1` replicas
+    /// may be faulty, and the marks reach `span` numbers.
+    pub fn new(alloc: Global, me: ReplicaId, faults: u8, span: u64) -> Result<Log, NoMemory>
+        requires some { 1 ≤ faults }
+        requires few { faults ≤ 3 }
+        requires me { me.0 < 3 * faults + 1 }
+        requires span { span ≤ 32 }
+        ensures { IfOk result (λ log. log ≡ spec.new_log me.0 faults span) }
+    {
+        let slots = no_slots(alloc, span)?;
+        let checkpoints = no_checkpoints(alloc, 3 * faults + 1)?;
+        Ok(Log {
+            me,
+            faults,
+            span,
+            view: View(0),
+            active: true,
+            low: Number(0),
+            slots,
+            checkpoints,
+        })
+    }
+
+    /// The replica whose log it is.
+    pub fn me(&self) -> ReplicaId
+        ensures { result.0 ≡ self.now.me }
+    {
+        self.me
+    }
+
+    /// How many replicas may be faulty.
+    pub fn faults(&self) -> u8
+        ensures value { result ≡ self.now.faults }
+        ensures some { 1 ≤ result }
+        ensures few { result ≤ 3 }
+    {
+        self.faults
+    }
+
+    /// How many replicas there are.
+    pub fn replicas(&self) -> u8
+        ensures value { result ≡ spec.replicas self.now }
+        ensures some { 4 ≤ result }
+        ensures few { result ≤ 10 }
+    {
+        3 * self.faults + 1
+    }
+
+    /// The view.
+    pub fn view(&self) -> View
+        ensures { result.0 ≡ self.now.view }
+    {
+        self.view
+    }
+
+    /// The low mark.
+    pub fn low(&self) -> Number
+        ensures value { result.0 ≡ self.now.low }
+        ensures fits { result.0 < 2 ^ 48 }
+    {
+        self.low
+    }
+
+    /// How many numbers are within the marks.
+    pub fn span(&self) -> u64
+        ensures value { result ≡ self.now.span }
+        ensures few { result ≤ 32 }
+    {
+        self.span
+    }
+
+    /// What each log keeps. Takes no steps.
+    pub fn keeps(&self)
+        ensures { IsLog self.now }
+    {
+        let _low = &self.low;
+    }
+
+    /// The replica whose view it is.
+    pub fn primary(&self, view: View) -> ReplicaId
+        ensures { result.0 ≡ spec.primary self.now view.0 }
+    {
+        ReplicaId((view.0 % u64::from(self.replicas())) as u8)
+    }
+
+    /// Whether the replica is active in the view.
+    pub fn is_active_in(&self, view: View) -> bool
+        ensures { result ≡ spec.is_active_in self.now view.0 }
+    {
+        view.0 == self.view.0 && self.active
+    }
+
+    /// Whether the number is within the marks.
+    pub fn is_in_marks(&self, number: Number) -> bool
+        ensures { result ≡ spec.is_in_marks self.now number.0 }
+    {
+        let low = self.low.0;
+        low < number.0 && number.0 - low <= self.span && number.0 < NUMBERS_END
+    }
+
+    fn slot(&self, number: Number) -> &Slot
+        requires { spec.is_in_marks self.now number.0 ≡ true }
+        ensures row { result.now ≡ spec.row_of self.now number.0 }
+        ensures valid { IsRow (spec.replicas self.now) (spec.row_of self.now number.0) }
+    {
+        &self.slots[(number.0 - self.low.0 - 1) as usize]
+    }
+
+    // ---- what is logged
+
+    /// Logs a batch: one's own, where it is proposed, and another's, where nothing speaks against it.
+    pub fn put_batch(&mut self, number: Number, batch: Arc<HashedBatch>)
+        requires { spec.is_in_marks self.old number.0 ≡ true }
+        ensures { self.new ≡ spec.with_batch self.old number.0 (arc_value batch) }
+    {
+        let at = (number.0 - self.low.0 - 1) as usize;
+        put_batch_at(&mut self.slots, at, batch);
+    }
+
+    /// Counts a prepare, unless its sender has one: one's own, where it is sent.
+    pub fn add_prepare(&mut self, number: Number, vote: Vote)
+        requires number { spec.is_in_marks self.old number.0 ≡ true }
+        requires sender { vote.sender.0 < spec.replicas self.old }
+        ensures { self.new ≡ spec.with_prepare self.old number.0 vote }
+    {
+        let at = (number.0 - self.low.0 - 1) as usize;
+        add_prepare_at(&mut self.slots, at, vote);
+    }
+
+    /// Counts a commit, unless its sender has one: one's own, where it is sent.
+    pub fn add_commit(&mut self, number: Number, vote: Vote)
+        requires number { spec.is_in_marks self.old number.0 ≡ true }
+        requires sender { vote.sender.0 < spec.replicas self.old }
+        ensures { self.new ≡ spec.with_commit self.old number.0 vote }
+    {
+        let at = (number.0 - self.low.0 - 1) as usize;
+        add_commit_at(&mut self.slots, at, vote);
+    }
+
+    /// The batch that is logged for the number.
+    pub fn logged_batch(&self, number: Number) -> Option<&Arc<HashedBatch>>
+        ensures { option_map (λ batch. arc_value batch.now) result ≡ spec.logged_batch self.now number.0 }
+    {
+        if !self.is_in_marks(number) {
+            return None;
+        }
+        self.slot(number).batch()
+    }
+
+    /// The digest of the batch that is logged for a number within the marks.
+    pub fn logged_digest(&self, number: Number) -> Option<Digest>
+        requires { spec.is_in_marks self.now number.0 ≡ true }
+        ensures { result ≡ option_map sha256 (spec.row_of self.now number.0).batch }
+    {
+        self.slot(number).digest()
+    }
+
+    /// The digest that a replica prepared for a number within the marks.
+    pub fn prepare_of(&self, number: Number, sender: ReplicaId) -> Option<Digest>
+        requires { spec.is_in_marks self.now number.0 ≡ true }
+        ensures { result ≡ vote_of (spec.row_of self.now number.0).prepares sender.0 }
+    {
+        self.slot(number).prepare_of(sender)
+    }
+
+    /// The digest that a replica committed for a number within the marks.
+    pub fn commit_of(&self, number: Number, sender: ReplicaId) -> Option<Digest>
+        requires { spec.is_in_marks self.now number.0 ≡ true }
+        ensures { result ≡ vote_of (spec.row_of self.now number.0).commits sender.0 }
+    {
+        self.slot(number).commit_of(sender)
+    }
+
+    // ---- certificates
+
+    /// Whether the number has a batch that is prepared.
+    pub fn is_prepared(&self, number: Number) -> bool
+        ensures { result ≡ spec.is_prepared self.now number.0 }
+    {
+        self.is_in_marks(number) && self.slot(number).is_prepared(self.faults)
+    }
+
+    /// Whether the number has a batch that is committed.
+    pub fn is_committed(&self, number: Number) -> bool
+        ensures { result ≡ spec.is_committed self.now number.0 }
+    {
+        self.is_in_marks(number) && self.slot(number).is_committed(self.faults, self.me)
+    }
+
+    /// The batch of the number, where it is committed.
+    pub fn next_batch(&self, number: Number) -> Option<&Arc<HashedBatch>>
+        ensures { option_map (λ batch. arc_value batch.now) result ≡ spec.committed_batch self.now number.0 }
+    {
+        if !self.is_committed(number) {
+            return None;
+        }
+        self.slot(number).batch()
+    }
+
+    /// The digest of a batch whose prepare the replica still has to send.
+    pub fn due_prepare(&self, number: Number) -> Option<Digest>
+        ensures { result ≡ spec.due_prepare self.now number.0 }
+    {
+        if !self.is_in_marks(number) || self.me.0 == self.primary(self.view).0 {
+            return None;
+        }
+        let slot = self.slot(number);
+        if slot.prepare_of(self.me).is_some() {
+            return None;
+        }
+        slot.digest()
+    }
+
+    /// The digest of a batch whose commit the replica still has to send.
+    pub fn due_commit(&self, number: Number) -> Option<Digest>
+        ensures { result ≡ spec.due_commit self.now number.0 }
+    {
+        if !self.is_in_marks(number) {
+            return None;
+        }
+        let slot = self.slot(number);
+        if slot.commit_of(self.me).is_some() || !slot.is_prepared(self.faults) {
+            return None;
+        }
+        slot.digest()
+    }
+
+    // ---- checkpoints
+
+    /// Counts a checkpoint: one's own, where it is sent. Of each sender those of the three largest numbers stay.
+    pub fn add_checkpoint(&mut self, sender: ReplicaId, entry: CheckpointEntry)
+        requires { sender.0 < spec.replicas self.old }
+        ensures { self.new ≡ spec.with_checkpoint_of self.old sender.0 (checkpoint_entry_data entry) }
+    {
+        add_checkpoint_at(&mut self.checkpoints, sender.0 as usize, entry);
+    }
+
+    /// The root of a replica's checkpoint of this number.
+    pub fn root_of(&self, sender: ReplicaId, number: Number) -> Option<Digest>
+        requires { sender.0 < spec.replicas self.now }
+        ensures { result ≡ root_at (spec.checkpoints_of self.now sender.0) number.0 }
+    {
+        self.checkpoints[sender.0 as usize].root_at(number)
+    }
+
+    fn has_checkpoint(&self, sender: u8, entry: &CheckpointEntry) -> bool
+        requires { sender < spec.replicas self.now }
+        ensures { result ≡ says_checkpoint (checkpoint_entry_data entry.now) (spec.checkpoints_of self.now sender) }
+    {
+        self.checkpoints[sender as usize].has(entry)
+    }
+
+    /// How many replicas' checkpoints have this number and root.
+    pub fn count_checkpoints(&self, entry: &CheckpointEntry) -> u8
+        ensures { result ≡ spec.count_checkpoints self.now (checkpoint_entry_data entry.now) }
+    {
+        let mut count = 0;
+        for sender in 0..self.replicas() {
+            if self.has_checkpoint(sender, entry) {
+                count += 1;
+            }
+        }
+        count
+    }
+
+    /// Whether a quorum of checkpoints has this number and root, the own among them.
+    pub fn is_stable(&self, entry: &CheckpointEntry) -> bool
+        ensures { result ≡ spec.is_stable self.now (checkpoint_entry_data entry.now) }
+    {
+        self.has_checkpoint(self.me.0, entry) && self.count_checkpoints(entry) > 2 * self.faults
+    }
+
+    /// Moves the low mark up, and drops the rows up to it.
+    pub fn cut(&mut self, low: Number)
+        requires { low.0 < 2 ^ 48 }
+        ensures { self.new ≡ spec.cut_to self.old low.0 }
+    {
+        if low.0 <= self.low.0 {
+            return;
+        }
+        let count = (low.0 - self.low.0).min(self.span) as usize;
+        let alloc = *self.slots.allocator();
+        cut_slots(&mut self.slots, alloc, count);
+        self.low = low;
+    }
+}

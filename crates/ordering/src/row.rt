@@ -1,0 +1,128 @@
+//! What is held for one number.
+
+ghost use Rattle.std.specs.Prelude.{◌≡◌, ℕ, ◌<◌, ◌≤◌, Some, option_map};
+ghost use Rattle.std.specs.Arc.{arc_value};
+ghost use Rattle.sha2.specs.Sha256.{sha256};
+ghost use Rattle.quorum.specs.Votes.{has_digest};
+ghost use Rattle.ordering.specs.Votes.{with_vote, vote_of};
+ghost use Rattle.ordering.specs.Log.{no_row, is_row_prepared, is_row_committed};
+ghost use Rattle.ordering.specs.Keeping.{IsRow};
+
+use crate::batch::HashedBatch;
+use crate::votes::{MAX_REPLICAS, Vote, Votes};
+use std::alloc::Global;
+use std::marker::Model;
+use std::sync::Arc;
+use terms::{Digest, ReplicaId};
+
+/// What is held for one number: the batch that is logged, and the prepares and commits.
+#[derive(Drop)]
+pub(crate) struct Slot {
+    batch: Option<Arc<HashedBatch>>,
+    prepares: Votes,
+    commits: Votes,
+}
+
+impl Model for Slot {
+    ghost use Rattle.std.specs.Prelude.{option_map};
+    ghost use Rattle.std.specs.Arc.{arc_value};
+    ghost use Rattle.ordering.specs.Log.{Row};
+
+    ghost Value = { Row };
+
+    ghost view = { λ s.
+        record { batch = option_map arc_value s.batch; prepares = s.prepares; commits = s.commits } };
+}
+
+impl Slot {
+    pub(crate) fn new(alloc: Global) -> Slot
+        ensures { result ≡ no_row }
+    {
+        Slot {
+            batch: None,
+            prepares: Votes::new(alloc),
+            commits: Votes::new(alloc),
+        }
+    }
+
+    pub(crate) fn put_batch(&mut self, batch: Arc<HashedBatch>)
+        ensures { self.new ≡ record self.old { batch = Some (arc_value batch) } }
+    {
+        self.batch = Some(batch);
+    }
+
+    pub(crate) fn add_prepare(&mut self, vote: Vote)
+        requires { vote.sender.0 < MAX_REPLICAS }
+        ensures { self.new ≡ record self.old { prepares = with_vote vote self.old.prepares } }
+    {
+        self.prepares.add(vote);
+    }
+
+    pub(crate) fn add_commit(&mut self, vote: Vote)
+        requires { vote.sender.0 < MAX_REPLICAS }
+        ensures { self.new ≡ record self.old { commits = with_vote vote self.old.commits } }
+    {
+        self.commits.add(vote);
+    }
+
+    pub(crate) fn prepare_of(&self, sender: ReplicaId) -> Option<Digest>
+        ensures { result ≡ vote_of self.now.prepares sender.0 }
+    {
+        self.prepares.of(sender)
+    }
+
+    pub(crate) fn commit_of(&self, sender: ReplicaId) -> Option<Digest>
+        ensures { result ≡ vote_of self.now.commits sender.0 }
+    {
+        self.commits.of(sender)
+    }
+
+    /// The batch that is logged.
+    pub(crate) fn batch(&self) -> Option<&Arc<HashedBatch>>
+        ensures { option_map (λ batch. arc_value batch.now) result ≡ self.now.batch }
+    {
+        self.batch.as_ref()
+    }
+
+    /// The digest of the batch that is logged.
+    pub(crate) fn digest(&self) -> Option<Digest>
+        ensures { result ≡ option_map sha256 self.now.batch }
+    {
+        match &self.batch {
+            Some(batch) => Some(batch.digest()),
+            None => None,
+        }
+    }
+
+    pub(crate) fn is_prepared(&self, faults: u8) -> bool
+        requires { faults ≤ 3 }
+        ensures { (n : ℕ) → IsRow n self.now → result ≡ is_row_prepared faults n self.now }
+    {
+        match self.digest() {
+            Some(digest) => self.prepares.count(&digest) >= 2 * faults as usize,
+            None => false,
+        }
+    }
+
+    pub(crate) fn is_committed(&self, faults: u8, me: ReplicaId) -> bool
+        requires { faults ≤ 3 }
+        ensures { (n : ℕ) → IsRow n self.now → result ≡ is_row_committed faults n me.0 self.now }
+    {
+        let Some(digest) = self.digest() else {
+            return false;
+        };
+        is_for(self.commits.of(me), &digest)
+            && self.prepares.count(&digest) >= 2 * faults as usize
+            && self.commits.count(&digest) > 2 * faults as usize
+    }
+}
+
+// Whether a vote is given, and for this digest.
+fn is_for(vote: Option<Digest>, digest: &Digest) -> bool
+    ensures { result ≡ has_digest digest.now vote }
+{
+    match vote {
+        Some(given) => *digest == given,
+        None => false,
+    }
+}

@@ -1,0 +1,193 @@
+//! Messages that are taken, or dropped.
+
+ghost use Rattle.std.specs.Prelude.{◌≡◌};
+ghost use Rattle.std.specs.Arc.{arc_value};
+ghost use Rattle.ordering.specs.Log.{with_batch, with_prepare, with_commit, with_checkpoint_of};
+ghost use Rattle.ordering.specs.Taking.{Takes, fault_beside, preprepare_fault, prepare_fault, commit_fault, checkpoint_fault};
+
+use crate::batch::HashedBatch;
+use crate::dropped::Dropped;
+use crate::log::{Log, NUMBERS_END};
+use crate::votes::Vote;
+use sha2::{Digest as _, Sha256};
+use std::sync::Arc;
+use terms::{Digest, Number, ReplicaId, View};
+use wire::{Checkpoint, CheckpointEntry, Commit, PrePrepare, Prepare};
+
+impl Log {
+    /// Why a pre-prepare would be dropped, or nothing. Its batch is hashed only where one is logged already.
+    pub fn preprepare_fault(&self, sender: ReplicaId, message: &PrePrepare) -> Option<Dropped>
+        ensures { result ≡ preprepare_fault self.now sender.0 message.now.view.0 message.now.number.0
+            message.now.batch.text.items }
+    {
+        if sender.0 != self.primary(message.view).0 {
+            return Some(Dropped::UnknownSender);
+        }
+        if !self.is_active_in(message.view) {
+            return Some(Dropped::WrongView);
+        }
+        if !self.is_in_marks(message.number) {
+            return Some(Dropped::OutOfMarks);
+        }
+        match self.logged_digest(message.number) {
+            Some(first) => fault_beside(Some(first), &Sha256::digest(&message.batch.text)),
+            None => None,
+        }
+    }
+
+    fn batch_fault(
+        &self,
+        sender: ReplicaId,
+        view: View,
+        number: Number,
+        batch: &HashedBatch,
+    ) -> Option<Dropped>
+        ensures { result ≡ preprepare_fault self.now sender.0 view.0 number.0 batch.now }
+    {
+        if sender.0 != self.primary(view).0 {
+            return Some(Dropped::UnknownSender);
+        }
+        if !self.is_active_in(view) {
+            return Some(Dropped::WrongView);
+        }
+        if !self.is_in_marks(number) {
+            return Some(Dropped::OutOfMarks);
+        }
+        fault_beside(self.logged_digest(number), &batch.digest())
+    }
+
+    /// Takes the primary's pre-prepare of a batch. It asks nothing of the requests, which are to be genuine.
+    pub fn on_preprepare(
+        &mut self,
+        sender: ReplicaId,
+        view: View,
+        number: Number,
+        batch: Arc<HashedBatch>,
+    ) -> Result<(), Dropped>
+        ensures { Takes result (preprepare_fault self.old sender.0 view.0 number.0 (arc_value batch))
+            self.old self.new (with_batch self.old number.0 (arc_value batch)) }
+    {
+        if let Some(fault) = self.batch_fault(sender, view, number, &batch) {
+            return Err(fault);
+        }
+        self.put_batch(number, batch);
+        Ok(())
+    }
+
+    fn prepare_fault(&self, sender: ReplicaId, prepare: &Prepare) -> Option<Dropped>
+        ensures { result ≡ prepare_fault self.now sender.0 prepare.now.view.0 prepare.now.number.0 prepare.now.digest }
+    {
+        if sender.0 >= self.replicas() || sender.0 == self.primary(prepare.view).0 {
+            return Some(Dropped::UnknownSender);
+        }
+        if !self.is_active_in(prepare.view) {
+            return Some(Dropped::WrongView);
+        }
+        if !self.is_in_marks(prepare.number) {
+            return Some(Dropped::OutOfMarks);
+        }
+        fault_beside(self.prepare_of(prepare.number, sender), &prepare.digest)
+    }
+
+    /// Takes a backup's prepare.
+    pub fn on_prepare(&mut self, sender: ReplicaId, prepare: &Prepare) -> Result<(), Dropped>
+        ensures { Takes result
+            (prepare_fault self.old sender.0 prepare.now.view.0 prepare.now.number.0 prepare.now.digest)
+            self.old self.new
+            (with_prepare self.old prepare.now.number.0 (record { sender = sender; digest = prepare.now.digest })) }
+    {
+        if let Some(fault) = self.prepare_fault(sender, prepare) {
+            return Err(fault);
+        }
+        let vote = Vote {
+            sender,
+            digest: prepare.digest,
+        };
+        self.add_prepare(prepare.number, vote);
+        Ok(())
+    }
+
+    fn commit_fault(&self, sender: ReplicaId, commit: &Commit) -> Option<Dropped>
+        ensures { result ≡ commit_fault self.now sender.0 commit.now.view.0 commit.now.number.0 commit.now.digest }
+    {
+        if sender.0 >= self.replicas() {
+            return Some(Dropped::UnknownSender);
+        }
+        if !self.is_active_in(commit.view) {
+            return Some(Dropped::WrongView);
+        }
+        if !self.is_in_marks(commit.number) {
+            return Some(Dropped::OutOfMarks);
+        }
+        fault_beside(self.commit_of(commit.number, sender), &commit.digest)
+    }
+
+    /// Takes a replica's commit.
+    pub fn on_commit(&mut self, sender: ReplicaId, commit: &Commit) -> Result<(), Dropped>
+        ensures { Takes result
+            (commit_fault self.old sender.0 commit.now.view.0 commit.now.number.0 commit.now.digest)
+            self.old self.new
+            (with_commit self.old commit.now.number.0 (record { sender = sender; digest = commit.now.digest })) }
+    {
+        if let Some(fault) = self.commit_fault(sender, commit) {
+            return Err(fault);
+        }
+        let vote = Vote {
+            sender,
+            digest: commit.digest,
+        };
+        self.add_commit(commit.number, vote);
+        Ok(())
+    }
+
+    fn checkpoint_fault(&self, sender: ReplicaId, checkpoint: &Checkpoint) -> Option<Dropped>
+        ensures { result ≡ checkpoint_fault self.now sender.0 checkpoint.now.number.0 checkpoint.now.root }
+    {
+        if sender.0 >= self.replicas() {
+            return Some(Dropped::UnknownSender);
+        }
+        if checkpoint.number.0 <= self.low().0 || checkpoint.number.0 >= NUMBERS_END {
+            return Some(Dropped::OutOfMarks);
+        }
+        fault_beside(self.root_of(sender, checkpoint.number), &checkpoint.root)
+    }
+
+    /// Takes a replica's checkpoint.
+    pub fn on_checkpoint(
+        &mut self,
+        sender: ReplicaId,
+        checkpoint: &Checkpoint,
+    ) -> Result<(), Dropped>
+        ensures { Takes result
+            (checkpoint_fault self.old sender.0 checkpoint.now.number.0 checkpoint.now.root)
+            self.old self.new
+            (with_checkpoint_of self.old sender.0
+            (record { number = checkpoint.now.number.0; digest = checkpoint.now.root })) }
+    {
+        if let Some(fault) = self.checkpoint_fault(sender, checkpoint) {
+            return Err(fault);
+        }
+        let entry = CheckpointEntry {
+            number: checkpoint.number,
+            digest: checkpoint.root,
+        };
+        self.add_checkpoint(sender, entry);
+        Ok(())
+    }
+}
+
+// What came first stays.
+fn fault_beside(first: Option<Digest>, digest: &Digest) -> Option<Dropped>
+    ensures { result ≡ fault_beside first digest.now }
+{
+    match first {
+        Some(first) => {
+            if first == *digest {
+                Some(Dropped::Duplicate)
+            } else {
+                Some(Dropped::Conflict)
+            }
+        }
+        None => None,
+    }
+}

@@ -1,0 +1,100 @@
+//! The votes for one number.
+
+ghost use Rattle.std.specs.Prelude.{◌≡◌, ℕ, ◌<◌, [], count_by, bytes_eq};
+ghost use Rattle.ordering.specs.Votes.{AreVotes, voters, vote_of, with_vote};
+
+use smallvec::SmallVec;
+use std::alloc::Global;
+use std::marker::Model;
+use terms::{Digest, ReplicaId};
+
+/// How many replicas there are at the most.
+pub(crate) const MAX_REPLICAS: usize = 10;
+
+/// What a replica votes for by a prepare, or by a commit: the digest of a batch.
+#[derive(Clone, Copy, Drop)]
+pub struct Vote {
+    pub sender: ReplicaId,
+    pub digest: Digest,
+}
+
+impl Default for Vote {
+    fn default() -> Vote {
+        Vote {
+            sender: ReplicaId(0),
+            digest: [0; 32],
+        }
+    }
+}
+
+/// The votes for one number, in order of arrival, the first of each sender. There is room for one of each replica from
+/// the start, so no vote takes memory.
+#[derive(Drop)]
+pub(crate) struct Votes {
+    cast: SmallVec<Vote, MAX_REPLICAS>,
+}
+
+impl Model for Votes {
+    ghost use Rattle.std.specs.Prelude.{◌≡◌, List};
+    ghost use Rattle.ordering.specs.declared.votes.Vote.{Vote};
+    ghost use Rattle.ordering.specs.Votes.{AreVotes};
+
+    ghost Value = { List Vote };
+
+    ghost view = { λ v. v.cast.items };
+
+    ghost invariant = { λ v. AreVotes 10 v.cast.items × (v.cast.capacity ≡ 10) };
+}
+
+impl Votes {
+    pub(crate) fn new(alloc: Global) -> Votes
+        ensures { result ≡ [] }
+    {
+        Votes {
+            cast: SmallVec::new(alloc),
+        }
+    }
+
+    /// Adds a vote, unless its sender has one.
+    #[tactic(auto, using(crate::proofs::Voting::room_for_one, crate::proofs::Voting::pushed_stay))]
+    pub(crate) fn add(&mut self, vote: Vote)
+        requires { vote.sender.0 < MAX_REPLICAS }
+        ensures { self.new ≡ with_vote vote self.old }
+    {
+        if vote_of(self.cast.as_slice(), vote.sender).is_none() {
+            self.cast.push_reserved(vote);
+        }
+    }
+
+    /// The digest that the sender votes for.
+    pub(crate) fn of(&self, sender: ReplicaId) -> Option<Digest>
+        ensures { result ≡ vote_of self.now sender.0 }
+    {
+        vote_of(self.cast.as_slice(), sender)
+    }
+
+    /// How many replicas vote for the digest.
+    #[tactic(auto, using(crate::proofs::Counting::voters_count))]
+    pub(crate) fn count(&self, digest: &Digest) -> usize
+        ensures { (n : ℕ) → AreVotes n self.now → result ≡ voters n digest.now self.now }
+    {
+        count_for(self.cast.as_slice(), digest)
+    }
+}
+
+fn vote_of(votes: &[Vote], sender: ReplicaId) -> Option<Digest>
+    ensures { result ≡ vote_of votes.now sender.0 }
+{
+    for vote in votes {
+        if vote.sender == sender {
+            return Some(vote.digest);
+        }
+    }
+    None
+}
+
+fn count_for(votes: &[Vote], digest: &Digest) -> usize
+    ensures { result ≡ count_by (λ vote. bytes_eq digest.now vote.digest) votes.now }
+{
+    votes.iter().filter(|vote| *digest == vote.digest).count()
+}
