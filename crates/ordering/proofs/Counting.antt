@@ -5,12 +5,9 @@ use Rattle.std.proofs.lemmas.Bool.{eqb-false}
 use Rattle.std.proofs.lemmas.List.Sums.{sum_by-cons}
 use Rattle.quorum.specs.Quorum.{count_below}
 use Rattle.quorum.specs.Votes.{has_digest}
+use Rattle.quorum.proofs.Counting.{count_same}
 use Rattle.ordering.specs.declared.votes.Vote.{Vote}
 use Rattle.ordering.specs.Votes.{vote_of, AreVotes, voters}
-
-count_same : (n : ℕ) (f g : ℕ → Bool) → ((s : ℕ) → f s ≡ g s) → count_below f n ≡ count_below g n
-count_same zero f g e = refl
-count_same (suc n) f g e = rw (e n, count_same n f g e) refl
 
 at_most : (f : ℕ → Bool) (n : ℕ) → count_below f n ≤ n
 at_most f zero = omega arith
@@ -50,8 +47,8 @@ tally test n [] h = none n
 tally test n (x ∷ xs) h =
     let out : passes test (vote_of xs x.sender.0) ≡ false = rw (h.1) refl in
     let one = (one_more (λ s. passes test (vote_of xs s)) x.sender.0 (test x.digest) n out).0 h.0 in
-    let same = count_same n (λ s. passes test (option_map (λ (vote : Vote). vote.digest) (cond (x.sender.0 == s) (Some x) (find (λ (vote : Vote). vote.sender.0 == s) xs))))
-    (λ s. cond (x.sender.0 == s) (test x.digest) (passes test (vote_of xs s))) (λ s. into (x.sender.0 == s) s) in
+    let same = count_same (λ s. passes test (option_map (λ (vote : Vote). vote.digest) (cond (x.sender.0 == s) (Some x) (find (λ (vote : Vote). vote.sender.0 == s) xs))))
+    (λ s. cond (x.sender.0 == s) (test x.digest) (passes test (vote_of xs s))) (λ s. into (x.sender.0 == s) s) n in
     same ∙ one ∙ ap (λ m. cond (test x.digest) 1 0 + m) (tally test n xs h.2) ∙ sym (sum_by-cons (λ (vote : Vote). cond (test vote.digest) 1 0) x xs)
   where
     into : (b : Bool) (s : ℕ) → passes test (option_map (λ (vote : Vote). vote.digest) (cond b (Some x) (find (λ (vote : Vote). vote.sender.0 == s) xs))) ≡ cond b (test x.digest) (passes test (vote_of xs s))
@@ -59,7 +56,7 @@ tally test n (x ∷ xs) h =
     into false s = refl
 
 pub voters_count : (n : ℕ) (digest : List ℕ) (votes : List Vote) → AreVotes n votes → voters n digest votes ≡ count_by (λ vote. bytes_eq digest vote.digest) votes
-voters_count n digest votes h = count_same n (λ s. has_digest digest (vote_of votes s)) (λ s. passes (bytes_eq digest) (vote_of votes s)) (λ s. same (vote_of votes s)) ∙ tally (bytes_eq digest) n votes h
+voters_count n digest votes h = count_same (λ s. has_digest digest (vote_of votes s)) (λ s. passes (bytes_eq digest) (vote_of votes s)) (λ s. same (vote_of votes s)) n ∙ tally (bytes_eq digest) n votes h
   where
     same : (vote : Option (List ℕ)) → has_digest digest vote ≡ passes (bytes_eq digest) vote
     same None = refl

@@ -1,12 +1,12 @@
 -- What the fields of a log keep.
-use Rattle.std.proofs.Common.{◌≡◌, ℕ, zero, suc, ◌+◌, ◌*◌, ◌≤◌, ◌<◌, ◌^◌, true, List, [], ◌∷◌, ◌++◌, length, drop, replicate, Some, refl, sym, ap, ◌∙◌, subst, arith, ◌&&◌, nat_lt, nat_le, slice_set, slice_index_or}
+use Rattle.std.proofs.Common.{◌≡◌, ℕ, zero, suc, ◌+◌, ◌<◌, ◌^◌, true, List, [], ◌∷◌, ◌++◌, length, drop, replicate, Some, refl, sym, ap, ◌∙◌, subst, arith, ◌&&◌, nat_lt, nat_le, slice_set, slice_index_or}
 use Rattle.std.specs.List.{All}
 use Rattle.std.proofs.lemmas.Bool.{and_parts, ltb-true, leb-true}
-use Rattle.std.proofs.lemmas.List.{length-set, length-append, length-drop, length-replicate}
-use Rattle.std.proofs.lemmas.List.Elements.{All-set, All-append, All-drop, All-replicate}
+use Rattle.std.proofs.lemmas.List.{length-set}
+use Rattle.std.proofs.lemmas.List.Elements.{All-set}
 use Rattle.ordering.specs.declared.votes.Vote.{Vote}
 use Rattle.ordering.specs.Votes.{with_vote}
-use Rattle.ordering.specs.Log.{Row, no_row, LogData, replicas, is_in_marks, place, cut_rows, new_log}
+use Rattle.ordering.specs.Log.{Row, no_row, LogData, replicas, is_in_marks, place}
 use Rattle.ordering.specs.Keeping.{IsRow, IsLog}
 use Rattle.ordering.specs.Places.{batch_put, prepare_put, commit_put}
 use Rattle.ordering.proofs.Voting.{with_vote_keeps}
@@ -17,9 +17,6 @@ in_span m i h =
     let a = and_parts (nat_lt m.low i && nat_le i (m.low + m.span)) (nat_lt i (2 ^ 48)) h in
     let b = and_parts (nat_lt m.low i) (nat_le i (m.low + m.span)) a.0 in
     let l = ltb-true m.low i b.0 in let k = leb-true i (m.low + m.span) b.1 in omega arith
-
-empty_row : (n : ℕ) → IsRow n no_row
-empty_row n = record { prepares = tt; commits = tt }
 
 row_put : (m : LogData) (at : ℕ) (row : Row) (rows : List Row) → IsLog m → IsRow (replicas m) row → rows ≡ slice_set m.rows at row → (let x : LogData = record m { rows = rows } in IsLog x)
 row_put m at row rows is k e = record {
@@ -61,33 +58,3 @@ pub cleared : (rows : List Row) (at : ℕ) → at < length rows → slice_set (r
 cleared [] at l = absurd (omega arith)
 cleared (x ∷ rows) zero l = refl
 cleared (x ∷ rows) (suc at) l = ap (λ ys. no_row ∷ ys) (cleared rows at (omega arith))
-
-pub cut_kept : (m : LogData) (low count : ℕ) (rows : List Row) → IsLog m → low < 2 ^ 48 → count ≤ m.span → rows ≡ cut_rows count m.rows → (let x : LogData = record m { low = low; rows = rows } in IsLog x)
-cut_kept m low count rows is l c e = record {
-  some = is.some;
-  few = is.few;
-  me = is.me;
-  span = is.span;
-  low = l;
-  size =
-      (let s = is.size in let a = length-append (drop count m.rows) (replicate count no_row) in let d = length-drop count m.rows in let r = length-replicate count no_row in
-      let k : length (cut_rows count m.rows) ≡ m.span = omega arith in ap length e ∙ k);
-  rows =
-      subst (All (IsRow (replicas m))) (sym e) (All-append (IsRow (replicas m)) (drop count m.rows) (replicate count no_row) (All-drop (IsRow (replicas m)) count m.rows is.rows)
-      (All-replicate (IsRow (replicas m)) count no_row (empty_row (replicas m))));
-  checkpoints = is.checkpoints;
-}
-
--- ---- a new log
-
-pub new_keeps : (me faults span : ℕ) → 1 ≤ faults → faults ≤ 3 → me < 3 * faults + 1 → span ≤ 32 → IsLog (new_log me faults span)
-new_keeps me faults span s f m p = record {
-  some = s;
-  few = f;
-  me = m;
-  span = p;
-  low = omega arith;
-  size = length-replicate span no_row;
-  rows = All-replicate (IsRow (3 * faults + 1)) span no_row (empty_row (3 * faults + 1));
-  checkpoints = length-replicate (3 * faults + 1) [];
-}

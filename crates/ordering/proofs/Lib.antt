@@ -1,4 +1,5 @@
 pub mod Counting
+pub mod Faults
 pub mod Keeping
 pub mod Placing
 pub mod Voting

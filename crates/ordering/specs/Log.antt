@@ -20,6 +20,9 @@ pub record Row : Type 0 where
 abbrev pub no_row : Row
 no_row = record { batch = None; prepares = []; commits = [] }
 
+abbrev pub digest_of : Row → Option (List ℕ)
+digest_of row = option_map sha256 row.batch
+
 -- What the replica me holds: its view, and whether it is active there; the low mark, and a row for each of the span
 -- numbers above it, in order; and the checkpoints of each replica.
 pub record LogData : Type 0 where
@@ -35,7 +38,16 @@ pub record LogData : Type 0 where
 -- nothing was taken yet
 abbrev pub new_log : ℕ → ℕ → ℕ → LogData
 new_log me faults span =
-    record { me = me; faults = faults; span = span; view = 0; active = true; low = 0; rows = replicate span no_row; checkpoints = replicate (3 * faults + 1) [] }
+    record {
+      me = me;
+      faults = faults;
+      span = span;
+      view = 0;
+      active = true;
+      low = 0;
+      rows = replicate span no_row;
+      checkpoints = replicate (3 * faults + 1) [];
+    }
 
 abbrev pub replicas : LogData → ℕ
 replicas m = 3 * m.faults + 1
@@ -75,37 +87,54 @@ abbrev pub with_commit : LogData → ℕ → Vote → LogData
 with_commit m i vote = with_row m i (record (row_of m i) { commits = with_vote vote (row_of m i).commits })
 
 abbrev pub with_checkpoint_of : LogData → ℕ → CheckpointEntryData → LogData
-with_checkpoint_of m s entry = record m { checkpoints = slice_set m.checkpoints s (with_checkpoint entry (checkpoints_of m s)) }
+with_checkpoint_of m s entry =
+    record m { checkpoints = slice_set m.checkpoints s (with_checkpoint entry (checkpoints_of m s)) }
 
--- The low mark moves up to h: the rows up to it go, and there are empty ones for the numbers that come within the marks.
+-- The low mark moves up to h: the rows up to it go, and there are empty ones for the numbers that come into the marks.
 abbrev pub cut_rows : ℕ → List Row → List Row
 cut_rows count rows = drop count rows ++ replicate count no_row
 
 abbrev pub cut_to : LogData → ℕ → LogData
 cut_to m h = if nat_le h m.low then m else record m { low = h; rows = cut_rows (min (h - m.low) m.span) m.rows }
 
+-- ---- what is logged within the marks
+
+-- PrePrepared: the batch that is logged, and its digest.
+abbrev pub logged_batch : LogData → ℕ → Option (List ℕ)
+logged_batch m i = if is_in_marks m i then (row_of m i).batch else None
+
+abbrev pub logged_digest : LogData → ℕ → Option (List ℕ)
+logged_digest m i = if is_in_marks m i then digest_of (row_of m i) else None
+
+-- the digest that the replica s prepared, or committed
+abbrev pub prepare_of : LogData → ℕ → ℕ → Option (List ℕ)
+prepare_of m i s = if is_in_marks m i then vote_of (row_of m i).prepares s else None
+
+abbrev pub commit_of : LogData → ℕ → ℕ → Option (List ℕ)
+commit_of m i s = if is_in_marks m i then vote_of (row_of m i).commits s else None
+
 -- ---- certificates
 
 -- Prepared: the batch is logged, and 2f different backups prepared its digest.
 abbrev pub is_row_prepared : ℕ → ℕ → Row → Bool
-is_row_prepared faults n row = option_map_or (λ text. nat_le (2 * faults) (voters n (sha256 text) row.prepares)) row.batch false
+is_row_prepared faults n row = option_map_or (λ digest. nat_le (2 * faults) (voters n digest row.prepares)) (digest_of row) false
 
 abbrev pub is_prepared : LogData → ℕ → Bool
 is_prepared m i = is_in_marks m i && is_row_prepared m.faults (replicas m) (row_of m i)
 
--- Committed: prepared, and 2f + 1 different replicas committed its digest, the own commit among them.
+-- 2f + 1 different replicas committed the digest, the own commit among them
+abbrev pub is_digest_committed : ℕ → ℕ → ℕ → List Vote → List ℕ → Bool
+is_digest_committed faults n me commits digest = nat_le (2 * faults + 1) (voters n digest commits) && has_digest digest (vote_of commits me)
+
+-- Committed: prepared, and its digest is committed.
 abbrev pub is_row_committed : ℕ → ℕ → ℕ → Row → Bool
 is_row_committed faults n me row =
-    is_row_prepared faults n row
-    && option_map_or (λ text. nat_le (2 * faults + 1) (voters n (sha256 text) row.commits) && has_digest (sha256 text) (vote_of row.commits me)) row.batch false
+    is_row_prepared faults n row && option_map_or (is_digest_committed faults n me row.commits) (digest_of row) false
 
 abbrev pub is_committed : LogData → ℕ → Bool
 is_committed m i = is_in_marks m i && is_row_committed m.faults (replicas m) m.me (row_of m i)
 
--- PrePrepared: the batch that is logged for a number.
-abbrev pub logged_batch : LogData → ℕ → Option (List ℕ)
-logged_batch m i = if is_in_marks m i then (row_of m i).batch else None
-
+-- the batch that is committed
 abbrev pub committed_batch : LogData → ℕ → Option (List ℕ)
 committed_batch m i = if is_committed m i then (row_of m i).batch else None
 
@@ -113,13 +142,11 @@ committed_batch m i = if is_committed m i then (row_of m i).batch else None
 
 -- The digest of a batch that is logged at a backup which has not prepared it.
 abbrev pub due_prepare : LogData → ℕ → Option (List ℕ)
-due_prepare m i =
-    if is_in_marks m i && not (m.me == primary m m.view) && is_none (vote_of (row_of m i).prepares m.me) then option_map sha256 (row_of m i).batch else None
+due_prepare m i = if not (m.me == primary m m.view) && is_none (prepare_of m i m.me) then logged_digest m i else None
 
 -- The digest of a batch that is prepared, where the replica has not committed it.
 abbrev pub due_commit : LogData → ℕ → Option (List ℕ)
-due_commit m i =
-    if is_prepared m i && is_none (vote_of (row_of m i).commits m.me) then option_map sha256 (row_of m i).batch else None
+due_commit m i = if is_prepared m i && is_none (commit_of m i m.me) then logged_digest m i else None
 
 -- ---- stable checkpoints
 

@@ -1,40 +1,36 @@
 -- Which messages a log takes, and why it drops the others (Castro and Liskov, TOCS 2002, on normal-case operation and
 -- garbage collection). The first fault that applies is told.
-use Rattle.std.specs.Prelude.{◌≡◌, ℕ, ◌^◌, ◌&&◌, ◌||◌, not, List, nat_le, nat_lt, ◌==◌, if◌then◌else◌, Option, Some, None, Result, Ok, Err, bytes_eq, option_map}
+use Rattle.std.specs.Prelude.{◌≡◌, ℕ, ◌^◌, Bool, ◌&&◌, not, List, nat_le, nat_lt, ◌==◌, if◌then◌else◌, Option, Some, None, Result, Ok, Err, bytes_eq}
 use Rattle.sha2.specs.Sha256.{sha256}
+use Rattle.quorum.specs.Votes.{or_else}
 use Rattle.ordering.specs.declared.dropped.Dropped.{Dropped}
 use Rattle.ordering.specs.declared.dropped.Dropped.TheVariants.{WrongView, OutOfMarks, Conflict, UnknownSender, Duplicate}
-use Rattle.ordering.specs.Votes.{vote_of}
 use Rattle.ordering.specs.Checkpoints.{root_at}
-use Rattle.ordering.specs.Log.{LogData, replicas, primary, is_active_in, is_in_marks, row_of, checkpoints_of}
+use Rattle.ordering.specs.Log.{LogData, replicas, primary, is_active_in, is_in_marks, checkpoints_of, logged_digest, prepare_of, commit_of}
 
 -- What came first stays: the same digest again is a duplicate, another one a conflict.
 abbrev pub fault_beside : Option (List ℕ) → List ℕ → Option Dropped
 fault_beside None digest = None
 fault_beside (Some first) digest = Some (if bytes_eq first digest then Duplicate else Conflict)
 
--- a pre-prepare is the primary's
-abbrev pub preprepare_fault : LogData → ℕ → ℕ → ℕ → List ℕ → Option Dropped
-preprepare_fault m s v i text =
-    if not (s == primary m v) then Some UnknownSender
+-- Why an ordering message for this view and number is dropped, whatever batch it is for. The sender may send it or not.
+abbrev pub ordering_fault : LogData → Bool → ℕ → ℕ → Option Dropped
+ordering_fault m may_send v i =
+    if not may_send then Some UnknownSender
     else if not (is_active_in m v) then Some WrongView
     else if not (is_in_marks m i) then Some OutOfMarks
-    else fault_beside (option_map sha256 (row_of m i).batch) (sha256 text)
+    else None
 
--- a prepare is a backup's
+-- The primary sends pre-prepares, backups send prepares, and all send commits.
+abbrev pub preprepare_fault : LogData → ℕ → ℕ → ℕ → List ℕ → Option Dropped
+preprepare_fault m s v i text = or_else (ordering_fault m (s == primary m v) v i) (fault_beside (logged_digest m i) (sha256 text))
+
 abbrev pub prepare_fault : LogData → ℕ → ℕ → ℕ → List ℕ → Option Dropped
 prepare_fault m s v i digest =
-    if nat_le (replicas m) s || (s == primary m v) then Some UnknownSender
-    else if not (is_active_in m v) then Some WrongView
-    else if not (is_in_marks m i) then Some OutOfMarks
-    else fault_beside (vote_of (row_of m i).prepares s) digest
+    or_else (ordering_fault m (nat_lt s (replicas m) && not (s == primary m v)) v i) (fault_beside (prepare_of m i s) digest)
 
 abbrev pub commit_fault : LogData → ℕ → ℕ → ℕ → List ℕ → Option Dropped
-commit_fault m s v i digest =
-    if nat_le (replicas m) s then Some UnknownSender
-    else if not (is_active_in m v) then Some WrongView
-    else if not (is_in_marks m i) then Some OutOfMarks
-    else fault_beside (vote_of (row_of m i).commits s) digest
+commit_fault m s v i digest = or_else (ordering_fault m (nat_lt s (replicas m)) v i) (fault_beside (commit_of m i s) digest)
 
 -- a checkpoint may be of any number above the low mark
 abbrev pub checkpoint_fault : LogData → ℕ → ℕ → List ℕ → Option Dropped

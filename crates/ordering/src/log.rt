@@ -1,10 +1,8 @@
 //! The log.
 
-ghost use Rattle.std.specs.Prelude.{◌≡◌, ◌+◌, ◌*◌, ◌^◌, ◌<◌, ◌≤◌, IfOk, true, option_map};
+ghost use Rattle.std.specs.Prelude.{◌≡◌, ◌+◌, ◌*◌, ◌^◌, ◌<◌, ◌≤◌, IfOk, true, false, option_map};
 ghost use Rattle.std.specs.Arc.{arc_value};
-ghost use Rattle.sha2.specs.Sha256.{sha256};
 ghost use Rattle.wire.specs.Views.{checkpoint_entry_data};
-ghost use Rattle.ordering.specs.Votes.{vote_of};
 ghost use Rattle.ordering.specs.Checkpoints.{says_checkpoint, root_at};
 ghost use Rattle.ordering.specs.Log as spec;
 ghost use Rattle.ordering.specs.Keeping.{IsRow, IsLog};
@@ -129,7 +127,7 @@ impl Log {
         self.span
     }
 
-    /// What each log keeps. Takes no steps.
+    /// Tells a proof what each log keeps. It does nothing.
     pub fn keeps(&self)
         ensures { IsLog self.now }
     {
@@ -148,6 +146,13 @@ impl Log {
         ensures { result ≡ spec.is_active_in self.now view.0 }
     {
         view.0 == self.view.0 && self.active
+    }
+
+    /// Leaves the view: the replica is not active any more, as where it moves to a later one.
+    pub fn leave(&mut self)
+        ensures { self.new ≡ record self.old { active = false } }
+    {
+        self.active = false;
     }
 
     /// Whether the number is within the marks.
@@ -199,7 +204,7 @@ impl Log {
 
     /// The batch that is logged for the number.
     pub fn logged_batch(&self, number: Number) -> Option<&Arc<HashedBatch>>
-        ensures { option_map (λ batch. arc_value batch.now) result ≡ spec.logged_batch self.now number.0 }
+        ensures { option_map (λ b. arc_value b.now) result ≡ spec.logged_batch self.now number.0 }
     {
         if !self.is_in_marks(number) {
             return None;
@@ -207,27 +212,33 @@ impl Log {
         self.slot(number).batch()
     }
 
-    /// The digest of the batch that is logged for a number within the marks.
+    /// The digest of the batch that is logged for the number.
     pub fn logged_digest(&self, number: Number) -> Option<Digest>
-        requires { spec.is_in_marks self.now number.0 ≡ true }
-        ensures { result ≡ option_map sha256 (spec.row_of self.now number.0).batch }
+        ensures { result ≡ spec.logged_digest self.now number.0 }
     {
+        if !self.is_in_marks(number) {
+            return None;
+        }
         self.slot(number).digest()
     }
 
-    /// The digest that a replica prepared for a number within the marks.
+    /// The digest that a replica prepared for the number.
     pub fn prepare_of(&self, number: Number, sender: ReplicaId) -> Option<Digest>
-        requires { spec.is_in_marks self.now number.0 ≡ true }
-        ensures { result ≡ vote_of (spec.row_of self.now number.0).prepares sender.0 }
+        ensures { result ≡ spec.prepare_of self.now number.0 sender.0 }
     {
+        if !self.is_in_marks(number) {
+            return None;
+        }
         self.slot(number).prepare_of(sender)
     }
 
-    /// The digest that a replica committed for a number within the marks.
+    /// The digest that a replica committed for the number.
     pub fn commit_of(&self, number: Number, sender: ReplicaId) -> Option<Digest>
-        requires { spec.is_in_marks self.now number.0 ≡ true }
-        ensures { result ≡ vote_of (spec.row_of self.now number.0).commits sender.0 }
+        ensures { result ≡ spec.commit_of self.now number.0 sender.0 }
     {
+        if !self.is_in_marks(number) {
+            return None;
+        }
         self.slot(number).commit_of(sender)
     }
 
@@ -249,7 +260,7 @@ impl Log {
 
     /// The batch of the number, where it is committed.
     pub fn next_batch(&self, number: Number) -> Option<&Arc<HashedBatch>>
-        ensures { option_map (λ batch. arc_value batch.now) result ≡ spec.committed_batch self.now number.0 }
+        ensures { option_map (λ b. arc_value b.now) result ≡ spec.committed_batch self.now number.0 }
     {
         if !self.is_committed(number) {
             return None;
@@ -261,28 +272,20 @@ impl Log {
     pub fn due_prepare(&self, number: Number) -> Option<Digest>
         ensures { result ≡ spec.due_prepare self.now number.0 }
     {
-        if !self.is_in_marks(number) || self.me.0 == self.primary(self.view).0 {
+        if self.me.0 == self.primary(self.view).0 || self.prepare_of(number, self.me).is_some() {
             return None;
         }
-        let slot = self.slot(number);
-        if slot.prepare_of(self.me).is_some() {
-            return None;
-        }
-        slot.digest()
+        self.logged_digest(number)
     }
 
     /// The digest of a batch whose commit the replica still has to send.
     pub fn due_commit(&self, number: Number) -> Option<Digest>
         ensures { result ≡ spec.due_commit self.now number.0 }
     {
-        if !self.is_in_marks(number) {
+        if self.commit_of(number, self.me).is_some() || !self.is_prepared(number) {
             return None;
         }
-        let slot = self.slot(number);
-        if slot.commit_of(self.me).is_some() || !slot.is_prepared(self.faults) {
-            return None;
-        }
-        slot.digest()
+        self.logged_digest(number)
     }
 
     // ---- checkpoints

@@ -2,10 +2,9 @@
 
 ghost use Rattle.std.specs.Prelude.{◌≡◌, ℕ, ◌<◌, ◌≤◌, Some, option_map};
 ghost use Rattle.std.specs.Arc.{arc_value};
-ghost use Rattle.sha2.specs.Sha256.{sha256};
 ghost use Rattle.quorum.specs.Votes.{has_digest};
 ghost use Rattle.ordering.specs.Votes.{with_vote, vote_of};
-ghost use Rattle.ordering.specs.Log.{no_row, is_row_prepared, is_row_committed};
+ghost use Rattle.ordering.specs.Log.{no_row, digest_of, is_row_prepared, is_row_committed};
 ghost use Rattle.ordering.specs.Keeping.{IsRow};
 
 use crate::batch::HashedBatch;
@@ -86,7 +85,7 @@ impl Slot {
 
     /// The digest of the batch that is logged.
     pub(crate) fn digest(&self) -> Option<Digest>
-        ensures { result ≡ option_map sha256 self.now.batch }
+        ensures { result ≡ digest_of self.now }
     {
         match &self.batch {
             Some(batch) => Some(batch.digest()),

@@ -1,9 +1,10 @@
 //! Messages that are taken, or dropped.
 
-ghost use Rattle.std.specs.Prelude.{◌≡◌};
+ghost use Rattle.std.specs.Prelude.{◌≡◌, ◌==◌};
 ghost use Rattle.std.specs.Arc.{arc_value};
+ghost use Rattle.ordering.specs.Log as spec;
 ghost use Rattle.ordering.specs.Log.{with_batch, with_prepare, with_commit, with_checkpoint_of};
-ghost use Rattle.ordering.specs.Taking.{Takes, fault_beside, preprepare_fault, prepare_fault, commit_fault, checkpoint_fault};
+ghost use Rattle.ordering.specs.Taking.{Takes, fault_beside, ordering_fault, preprepare_fault, prepare_fault, commit_fault, checkpoint_fault};
 
 use crate::batch::HashedBatch;
 use crate::dropped::Dropped;
@@ -15,19 +16,35 @@ use terms::{Digest, Number, ReplicaId, View};
 use wire::{Checkpoint, CheckpointEntry, Commit, PrePrepare, Prepare};
 
 impl Log {
+    // Why an ordering message would be dropped whatever batch it is for.
+    fn ordering_fault(&self, may_send: bool, view: View, number: Number) -> Option<Dropped>
+        ensures { result ≡ ordering_fault self.now may_send view.0 number.0 }
+    {
+        if !may_send {
+            return Some(Dropped::UnknownSender);
+        }
+        if !self.is_active_in(view) {
+            return Some(Dropped::WrongView);
+        }
+        if !self.is_in_marks(number) {
+            return Some(Dropped::OutOfMarks);
+        }
+        None
+    }
+
+    fn proposal_fault(&self, sender: ReplicaId, view: View, number: Number) -> Option<Dropped>
+        ensures { result ≡ ordering_fault self.now (sender.0 == spec.primary self.now view.0) view.0 number.0 }
+    {
+        self.ordering_fault(sender.0 == self.primary(view).0, view, number)
+    }
+
     /// Why a pre-prepare would be dropped, or nothing. Its batch is hashed only where one is logged already.
     pub fn preprepare_fault(&self, sender: ReplicaId, message: &PrePrepare) -> Option<Dropped>
         ensures { result ≡ preprepare_fault self.now sender.0 message.now.view.0 message.now.number.0
             message.now.batch.text.items }
     {
-        if sender.0 != self.primary(message.view).0 {
-            return Some(Dropped::UnknownSender);
-        }
-        if !self.is_active_in(message.view) {
-            return Some(Dropped::WrongView);
-        }
-        if !self.is_in_marks(message.number) {
-            return Some(Dropped::OutOfMarks);
+        if let Some(fault) = self.proposal_fault(sender, message.view, message.number) {
+            return Some(fault);
         }
         match self.logged_digest(message.number) {
             Some(first) => fault_beside(Some(first), &Sha256::digest(&message.batch.text)),
@@ -44,19 +61,14 @@ impl Log {
     ) -> Option<Dropped>
         ensures { result ≡ preprepare_fault self.now sender.0 view.0 number.0 batch.now }
     {
-        if sender.0 != self.primary(view).0 {
-            return Some(Dropped::UnknownSender);
-        }
-        if !self.is_active_in(view) {
-            return Some(Dropped::WrongView);
-        }
-        if !self.is_in_marks(number) {
-            return Some(Dropped::OutOfMarks);
+        if let Some(fault) = self.proposal_fault(sender, view, number) {
+            return Some(fault);
         }
         fault_beside(self.logged_digest(number), &batch.digest())
     }
 
     /// Takes the primary's pre-prepare of a batch. It asks nothing of the requests, which are to be genuine.
+    #[tactic(auto, using(crate::proofs::Faults::batch_in_marks))]
     pub fn on_preprepare(
         &mut self,
         sender: ReplicaId,
@@ -77,19 +89,15 @@ impl Log {
     fn prepare_fault(&self, sender: ReplicaId, prepare: &Prepare) -> Option<Dropped>
         ensures { result ≡ prepare_fault self.now sender.0 prepare.now.view.0 prepare.now.number.0 prepare.now.digest }
     {
-        if sender.0 >= self.replicas() || sender.0 == self.primary(prepare.view).0 {
-            return Some(Dropped::UnknownSender);
-        }
-        if !self.is_active_in(prepare.view) {
-            return Some(Dropped::WrongView);
-        }
-        if !self.is_in_marks(prepare.number) {
-            return Some(Dropped::OutOfMarks);
+        let is_backup = sender.0 < self.replicas() && sender.0 != self.primary(prepare.view).0;
+        if let Some(fault) = self.ordering_fault(is_backup, prepare.view, prepare.number) {
+            return Some(fault);
         }
         fault_beside(self.prepare_of(prepare.number, sender), &prepare.digest)
     }
 
     /// Takes a backup's prepare.
+    #[tactic(auto, using(crate::proofs::Faults::prepare_in_marks, crate::proofs::Faults::prepare_known))]
     pub fn on_prepare(&mut self, sender: ReplicaId, prepare: &Prepare) -> Result<(), Dropped>
         ensures { Takes result
             (prepare_fault self.old sender.0 prepare.now.view.0 prepare.now.number.0 prepare.now.digest)
@@ -110,19 +118,15 @@ impl Log {
     fn commit_fault(&self, sender: ReplicaId, commit: &Commit) -> Option<Dropped>
         ensures { result ≡ commit_fault self.now sender.0 commit.now.view.0 commit.now.number.0 commit.now.digest }
     {
-        if sender.0 >= self.replicas() {
-            return Some(Dropped::UnknownSender);
-        }
-        if !self.is_active_in(commit.view) {
-            return Some(Dropped::WrongView);
-        }
-        if !self.is_in_marks(commit.number) {
-            return Some(Dropped::OutOfMarks);
+        let is_known = sender.0 < self.replicas();
+        if let Some(fault) = self.ordering_fault(is_known, commit.view, commit.number) {
+            return Some(fault);
         }
         fault_beside(self.commit_of(commit.number, sender), &commit.digest)
     }
 
     /// Takes a replica's commit.
+    #[tactic(auto, using(crate::proofs::Faults::commit_in_marks, crate::proofs::Faults::commit_known))]
     pub fn on_commit(&mut self, sender: ReplicaId, commit: &Commit) -> Result<(), Dropped>
         ensures { Takes result
             (commit_fault self.old sender.0 commit.now.view.0 commit.now.number.0 commit.now.digest)
