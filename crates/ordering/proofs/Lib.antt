@@ -2,4 +2,5 @@ pub mod Counting
 pub mod Faults
 pub mod Keeping
 pub mod Placing
+pub mod Reading
 pub mod Voting

@@ -1,6 +1,7 @@
 pub mod Checkpoints
 pub mod Faults
 pub mod Keeping
+pub mod Laws
 pub mod Log
 pub mod LogView
 pub mod Places

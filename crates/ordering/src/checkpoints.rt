@@ -18,7 +18,7 @@ const KEPT: usize = 3;
 /// The checkpoints of one replica: of the three largest numbers, the largest first. There is room for them, and for one
 /// that comes, from the start, so no checkpoint takes memory.
 #[derive(Drop)]
-pub(crate) struct Checkpoints {
+pub struct Checkpoints {
     entries: SmallVec<CheckpointEntry, 4>,
 }
 
@@ -35,7 +35,7 @@ impl Model for Checkpoints {
 }
 
 impl Checkpoints {
-    pub(crate) fn new(alloc: Global) -> Checkpoints
+    pub fn new(alloc: Global) -> Checkpoints
         ensures { result ≡ [] }
     {
         Checkpoints {
@@ -44,7 +44,7 @@ impl Checkpoints {
     }
 
     /// Adds a checkpoint where it is one of the three largest; of one number the earlier stays.
-    pub(crate) fn add(&mut self, entry: CheckpointEntry)
+    pub fn add(&mut self, entry: CheckpointEntry)
         ensures { self.new ≡ with_checkpoint (checkpoint_entry_data entry) self.old }
     {
         let place = place_of(self.entries.as_slice(), entry.number);
@@ -57,7 +57,7 @@ impl Checkpoints {
     }
 
     /// The root that is there for the number.
-    pub(crate) fn root_at(&self, number: Number) -> Option<Digest>
+    pub fn root_at(&self, number: Number) -> Option<Digest>
         ensures { result ≡ root_at self.now number.0 }
     {
         for entry in self.entries.as_slice() {
@@ -69,7 +69,7 @@ impl Checkpoints {
     }
 
     /// Whether a checkpoint of this number and root is there.
-    pub(crate) fn has(&self, entry: &CheckpointEntry) -> bool
+    pub fn has(&self, entry: &CheckpointEntry) -> bool
         ensures { result ≡ says_checkpoint (checkpoint_entry_data entry.now) self.now }
     {
         has_entry(self.entries.as_slice(), entry)

@@ -12,6 +12,7 @@
 mod batch;
 mod checkpoints;
 mod dropped;
+mod laws;
 mod log;
 mod places;
 mod row;
@@ -20,5 +21,6 @@ mod votes;
 
 pub use batch::HashedBatch;
 pub use dropped::Dropped;
+pub use laws::{first_votes_count, messages_are_read};
 pub use log::Log;
 pub use votes::Vote;

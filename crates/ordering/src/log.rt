@@ -22,14 +22,14 @@ use terms::{Digest, NoMemory, Number, ReplicaId, View};
 use wire::CheckpointEntry;
 
 /// Numbers end below this.
-pub(crate) const NUMBERS_END: u64 = 1 << 48;
+pub const NUMBERS_END: u64 = 1 << 48;
 
 /// What one replica holds of the messages of its view: a row for each number within its marks, with the batch that is
 /// logged and the votes for it, and the last three checkpoints of each replica.
 ///
-/// An operation costs a walk over the votes of one row, which are at most ten prepares and ten commits. The log takes
-/// its memory when it is made, under 1 KB for each number within the marks and each replica, and none later: a batch
-/// comes with its own, and at most one for each number is held.
+/// A call goes over the votes of one row at most, ten prepares and ten commits, or over the three checkpoints of each
+/// replica; `cut` alone goes over all rows. A log takes its memory when it is made, under 1 KB for each number within the
+/// marks and for each replica, and none later: batches come with theirs, at most one for each number within the marks.
 #[derive(Drop)]
 pub struct Log {
     me: ReplicaId,
@@ -171,8 +171,6 @@ impl Log {
         &self.slots[(number.0 - self.low.0 - 1) as usize]
     }
 
-    // ---- what is logged
-
     /// Logs a batch: one's own, where it is proposed, and another's, where nothing speaks against it.
     pub fn put_batch(&mut self, number: Number, batch: Arc<HashedBatch>)
         requires { spec.is_in_marks self.old number.0 ≡ true }
@@ -242,8 +240,6 @@ impl Log {
         self.slot(number).commit_of(sender)
     }
 
-    // ---- certificates
-
     /// Whether the number has a batch that is prepared.
     pub fn is_prepared(&self, number: Number) -> bool
         ensures { result ≡ spec.is_prepared self.now number.0 }
@@ -288,8 +284,6 @@ impl Log {
         self.logged_digest(number)
     }
 
-    // ---- checkpoints
-
     /// Counts a checkpoint: one's own, where it is sent. Of each sender those of the three largest numbers stay.
     pub fn add_checkpoint(&mut self, sender: ReplicaId, entry: CheckpointEntry)
         requires { sender.0 < spec.replicas self.old }
@@ -299,18 +293,19 @@ impl Log {
     }
 
     /// The root of a replica's checkpoint of this number.
-    pub fn root_of(&self, sender: ReplicaId, number: Number) -> Option<Digest>
+    pub(crate) fn root_of(&self, sender: ReplicaId, number: Number) -> Option<Digest>
         requires { sender.0 < spec.replicas self.now }
         ensures { result ≡ root_at (spec.checkpoints_of self.now sender.0) number.0 }
     {
         self.checkpoints[sender.0 as usize].root_at(number)
     }
 
-    fn has_checkpoint(&self, sender: u8, entry: &CheckpointEntry) -> bool
-        requires { sender < spec.replicas self.now }
-        ensures { result ≡ says_checkpoint (checkpoint_entry_data entry.now) (spec.checkpoints_of self.now sender) }
+    fn has_checkpoint(&self, sender: ReplicaId, entry: &CheckpointEntry) -> bool
+        requires { sender.0 < spec.replicas self.now }
+        ensures { result ≡ says_checkpoint (checkpoint_entry_data entry.now)
+            (spec.checkpoints_of self.now sender.0) }
     {
-        self.checkpoints[sender as usize].has(entry)
+        self.checkpoints[sender.0 as usize].has(entry)
     }
 
     /// How many replicas' checkpoints have this number and root.
@@ -319,7 +314,7 @@ impl Log {
     {
         let mut count = 0;
         for sender in 0..self.replicas() {
-            if self.has_checkpoint(sender, entry) {
+            if self.has_checkpoint(ReplicaId(sender), entry) {
                 count += 1;
             }
         }
@@ -330,7 +325,7 @@ impl Log {
     pub fn is_stable(&self, entry: &CheckpointEntry) -> bool
         ensures { result ≡ spec.is_stable self.now (checkpoint_entry_data entry.now) }
     {
-        self.has_checkpoint(self.me.0, entry) && self.count_checkpoints(entry) > 2 * self.faults
+        self.has_checkpoint(self.me, entry) && self.count_checkpoints(entry) > 2 * self.faults
     }
 
     /// Moves the low mark up, and drops the rows up to it.

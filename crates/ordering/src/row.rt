@@ -16,7 +16,7 @@ use terms::{Digest, ReplicaId};
 
 /// What is held for one number: the batch that is logged, and the prepares and commits.
 #[derive(Drop)]
-pub(crate) struct Slot {
+pub struct Slot {
     batch: Option<Arc<HashedBatch>>,
     prepares: Votes,
     commits: Votes,
@@ -34,7 +34,7 @@ impl Model for Slot {
 }
 
 impl Slot {
-    pub(crate) fn new(alloc: Global) -> Slot
+    pub fn new(alloc: Global) -> Slot
         ensures { result ≡ no_row }
     {
         Slot {
@@ -44,47 +44,47 @@ impl Slot {
         }
     }
 
-    pub(crate) fn put_batch(&mut self, batch: Arc<HashedBatch>)
+    pub fn put_batch(&mut self, batch: Arc<HashedBatch>)
         ensures { self.new ≡ record self.old { batch = Some (arc_value batch) } }
     {
         self.batch = Some(batch);
     }
 
-    pub(crate) fn add_prepare(&mut self, vote: Vote)
+    pub fn add_prepare(&mut self, vote: Vote)
         requires { vote.sender.0 < MAX_REPLICAS }
         ensures { self.new ≡ record self.old { prepares = with_vote vote self.old.prepares } }
     {
         self.prepares.add(vote);
     }
 
-    pub(crate) fn add_commit(&mut self, vote: Vote)
+    pub fn add_commit(&mut self, vote: Vote)
         requires { vote.sender.0 < MAX_REPLICAS }
         ensures { self.new ≡ record self.old { commits = with_vote vote self.old.commits } }
     {
         self.commits.add(vote);
     }
 
-    pub(crate) fn prepare_of(&self, sender: ReplicaId) -> Option<Digest>
+    pub fn prepare_of(&self, sender: ReplicaId) -> Option<Digest>
         ensures { result ≡ vote_of self.now.prepares sender.0 }
     {
-        self.prepares.of(sender)
+        self.prepares.vote_of(sender)
     }
 
-    pub(crate) fn commit_of(&self, sender: ReplicaId) -> Option<Digest>
+    pub fn commit_of(&self, sender: ReplicaId) -> Option<Digest>
         ensures { result ≡ vote_of self.now.commits sender.0 }
     {
-        self.commits.of(sender)
+        self.commits.vote_of(sender)
     }
 
     /// The batch that is logged.
-    pub(crate) fn batch(&self) -> Option<&Arc<HashedBatch>>
+    pub fn batch(&self) -> Option<&Arc<HashedBatch>>
         ensures { option_map (λ batch. arc_value batch.now) result ≡ self.now.batch }
     {
         self.batch.as_ref()
     }
 
     /// The digest of the batch that is logged.
-    pub(crate) fn digest(&self) -> Option<Digest>
+    pub fn digest(&self) -> Option<Digest>
         ensures { result ≡ digest_of self.now }
     {
         match &self.batch {
@@ -93,7 +93,7 @@ impl Slot {
         }
     }
 
-    pub(crate) fn is_prepared(&self, faults: u8) -> bool
+    pub fn is_prepared(&self, faults: u8) -> bool
         requires { faults ≤ 3 }
         ensures { (n : ℕ) → IsRow n self.now → result ≡ is_row_prepared faults n self.now }
     {
@@ -103,14 +103,14 @@ impl Slot {
         }
     }
 
-    pub(crate) fn is_committed(&self, faults: u8, me: ReplicaId) -> bool
+    pub fn is_committed(&self, faults: u8, me: ReplicaId) -> bool
         requires { faults ≤ 3 }
         ensures { (n : ℕ) → IsRow n self.now → result ≡ is_row_committed faults n me.0 self.now }
     {
         let Some(digest) = self.digest() else {
             return false;
         };
-        is_for(self.commits.of(me), &digest)
+        is_for(self.commits.vote_of(me), &digest)
             && self.prepares.count(&digest) >= 2 * faults as usize
             && self.commits.count(&digest) > 2 * faults as usize
     }

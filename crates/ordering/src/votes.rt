@@ -9,7 +9,7 @@ use std::marker::Model;
 use terms::{Digest, ReplicaId};
 
 /// How many replicas there are at the most.
-pub(crate) const MAX_REPLICAS: usize = 10;
+pub const MAX_REPLICAS: usize = 10;
 
 /// What a replica votes for by a prepare, or by a commit: the digest of a batch.
 #[derive(Clone, Copy, Drop)]
@@ -30,7 +30,7 @@ impl Default for Vote {
 /// The votes for one number, in order of arrival, the first of each sender. There is room for one of each replica from
 /// the start, so no vote takes memory.
 #[derive(Drop)]
-pub(crate) struct Votes {
+pub struct Votes {
     cast: SmallVec<Vote, MAX_REPLICAS>,
 }
 
@@ -47,7 +47,7 @@ impl Model for Votes {
 }
 
 impl Votes {
-    pub(crate) fn new(alloc: Global) -> Votes
+    pub fn new(alloc: Global) -> Votes
         ensures { result ≡ [] }
     {
         Votes {
@@ -57,32 +57,32 @@ impl Votes {
 
     /// Adds a vote, unless its sender has one.
     #[tactic(auto, using(crate::proofs::Voting::room_for_one, crate::proofs::Voting::pushed_stay))]
-    pub(crate) fn add(&mut self, vote: Vote)
+    pub fn add(&mut self, vote: Vote)
         requires { vote.sender.0 < MAX_REPLICAS }
         ensures { self.new ≡ with_vote vote self.old }
     {
-        if vote_of(self.cast.as_slice(), vote.sender).is_none() {
+        if find_vote(self.cast.as_slice(), vote.sender).is_none() {
             self.cast.push_reserved(vote);
         }
     }
 
     /// The digest that the sender votes for.
-    pub(crate) fn of(&self, sender: ReplicaId) -> Option<Digest>
+    pub fn vote_of(&self, sender: ReplicaId) -> Option<Digest>
         ensures { result ≡ vote_of self.now sender.0 }
     {
-        vote_of(self.cast.as_slice(), sender)
+        find_vote(self.cast.as_slice(), sender)
     }
 
     /// How many replicas vote for the digest.
     #[tactic(auto, using(crate::proofs::Counting::voters_count))]
-    pub(crate) fn count(&self, digest: &Digest) -> usize
+    pub fn count(&self, digest: &Digest) -> usize
         ensures { (n : ℕ) → AreVotes n self.now → result ≡ voters n digest.now self.now }
     {
         count_for(self.cast.as_slice(), digest)
     }
 }
 
-fn vote_of(votes: &[Vote], sender: ReplicaId) -> Option<Digest>
+fn find_vote(votes: &[Vote], sender: ReplicaId) -> Option<Digest>
     ensures { result ≡ vote_of votes.now sender.0 }
 {
     for vote in votes {
