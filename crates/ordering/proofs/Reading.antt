@@ -11,7 +11,7 @@ use Rattle.ordering.specs.Laws.{BatchesAreLogged, PreparesCount, CommitsCount}
 use Rattle.ordering.proofs.Keeping.{in_span}
 use Rattle.ordering.proofs.Voting.{with_vote_of}
 
-above_low : (m : LogData) (i : ℕ) → is_in_marks m i ≡ true → m.low < i
+pub above_low : (m : LogData) (i : ℕ) → is_in_marks m i ≡ true → m.low < i
 above_low m i h =
     let a = and_parts (nat_lt m.low i && nat_le i (m.low + m.span)) (nat_lt i (2 ^ 48)) h in
     let b = and_parts (nat_lt m.low i) (nat_le i (m.low + m.span)) a.0 in

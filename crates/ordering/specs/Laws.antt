@@ -1,10 +1,10 @@
 -- What the changes of a log do to what is read of it. Within the marks what comes first stays, and a change is for one
 -- number alone.
-use Rattle.std.specs.Prelude.{◌≡◌, ℕ, true, List, ◌==◌, if◌then◌else◌, Some}
+use Rattle.std.specs.Prelude.{◌≡◌, ℕ, true, List, ◌==◌, if◌then◌else◌, Some, None}
 use Rattle.quorum.specs.Votes.{or_else, give_if}
 use Rattle.ordering.specs.declared.votes.Vote.{Vote}
 use Rattle.ordering.specs.Votes.{vote_of, with_vote}
-use Rattle.ordering.specs.Log.{LogData, is_in_marks, with_batch, with_prepare, with_commit, logged_batch, prepare_of, commit_of}
+use Rattle.ordering.specs.Log.{LogData, is_in_marks, with_batch, with_prepare, with_commit, cut_to, logged_batch, prepare_of, commit_of}
 use Rattle.ordering.specs.Keeping.{IsLog}
 
 -- A vote that is added is its sender's first, and nobody else's.
@@ -38,3 +38,11 @@ CommitsCount =
     × (prepare_of (with_commit m j vote) i s ≡ prepare_of m i s)
     × (commit_of (with_commit m j vote) i s
     ≡ (if i == j then or_else (commit_of m i s) (give_if (vote.sender.0 == s) vote.digest) else commit_of m i s))
+
+-- What is within the marks before and behind a cut stays, and nothing else is read.
+abbrev pub CutsKeep : Type 0
+CutsKeep =
+    (m : LogData) (h i s : ℕ) → IsLog m
+    → (logged_batch (cut_to m h) i ≡ (if is_in_marks (cut_to m h) i then logged_batch m i else None))
+    × (prepare_of (cut_to m h) i s ≡ (if is_in_marks (cut_to m h) i then prepare_of m i s else None))
+    × (commit_of (cut_to m h) i s ≡ (if is_in_marks (cut_to m h) i then commit_of m i s else None))

@@ -1,6 +1,6 @@
 //! Laws of what is read of a log behind a change.
 
-ghost use Rattle.ordering.specs.Laws.{FirstVotesCount, BatchesAreLogged, PreparesCount, CommitsCount};
+ghost use Rattle.ordering.specs.Laws.{FirstVotesCount, BatchesAreLogged, PreparesCount, CommitsCount, CutsKeep};
 
 /// Of each sender the first vote counts.
 pub fn first_votes_count()
@@ -12,4 +12,9 @@ pub fn messages_are_read()
     ensures batches { BatchesAreLogged }
     ensures prepares { PreparesCount }
     ensures commits { CommitsCount }
+{}
+
+/// A cut keeps what is within the marks before and behind it.
+pub fn cuts_keep()
+    ensures keep { CutsKeep }
 {}

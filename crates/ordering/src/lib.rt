@@ -6,7 +6,9 @@
 //!
 //! A [`Log`] is seen as plain data, and each call is an equation over it: what is logged, prepared, committed and
 //! stable follows from the messages that were taken, of which the first of a sender counts; a message is taken exactly
-//! where no refusal holds, and else the first one that holds is told and nothing changes.
+//! where no refusal holds, and else the first one that holds is told and nothing changes. Laws: `first_votes_count`,
+//! `messages_are_read` (a message that is taken is read again at its number, and at no other) and `cuts_keep` (what is
+//! within the marks before and behind a cut stays).
 #![tactic(auto)]
 
 mod batch;
@@ -21,6 +23,6 @@ mod votes;
 
 pub use batch::HashedBatch;
 pub use dropped::Dropped;
-pub use laws::{first_votes_count, messages_are_read};
+pub use laws::{cuts_keep, first_votes_count, messages_are_read};
 pub use log::Log;
 pub use votes::Vote;
