@@ -1,0 +1,8 @@
+//! Tests of a replica's message log (`ordering`): a number from its pre-prepare to the cut behind its checkpoint, each
+//! refusal, and memory refused.
+#![tactic(auto)]
+
+#[cfg(test)]
+mod phases;
+#[cfg(test)]
+mod refusals;

@@ -1,0 +1,165 @@
+//! A number's way through the log of replica 1 among four, in view 0, with marks of four numbers.
+
+use ordering::{HashedBatch, Log, Vote};
+use std::alloc::Global;
+use std::sync::Arc;
+use std::test::Fail;
+use terms::{Digest, NoMemory, Number, ReplicaId, View};
+use wire::{Batch, Checkpoint, CheckpointEntry, Commit, Prepare};
+
+const ME: ReplicaId = ReplicaId(1);
+
+const VIEW: View = View(0);
+
+const FIRST: Number = Number(1);
+
+// By Python: hashlib.sha256(bytes(1)).
+const DIGEST: Digest = [
+    0x6e, 0x34, 0x0b, 0x9c, 0xff, 0xb3, 0x7a, 0x98, 0x9c, 0xa5, 0x44, 0xe6, 0xbb, 0x78, 0x0a, 0x2c,
+    0x78, 0x90, 0x1d, 0x3f, 0xb3, 0x37, 0x38, 0x76, 0x85, 0x11, 0xa3, 0x06, 0x17, 0xaf, 0xa0, 0x1d,
+];
+
+// A state after number 1 may have any root here.
+const STATE: CheckpointEntry = CheckpointEntry {
+    number: FIRST,
+    digest: DIGEST,
+};
+
+fn new_log(alloc: Global) -> Result<Log, NoMemory> {
+    Log::new(alloc, ME, 1, 4)
+}
+
+fn batch_of(alloc: Global, text: &[u8]) -> Result<Arc<HashedBatch>, NoMemory> {
+    let text = Vec::from_slice(alloc, text)?;
+    let batch = HashedBatch::new(Batch { text });
+    Ok(Arc::new(alloc, batch)?)
+}
+
+// The primary's batch is logged, and the own prepare is due.
+fn is_logged(log: &mut Log, batch: Arc<HashedBatch>) -> bool {
+    log.on_preprepare(ReplicaId(0), VIEW, FIRST, batch).is_ok()
+        && log.logged_digest(FIRST) == Some(DIGEST)
+        && log.due_prepare(FIRST) == Some(DIGEST)
+}
+
+fn says_prepare(log: &mut Log) -> bool {
+    if !log.is_in_marks(FIRST) || ME.0 >= log.replicas() {
+        return false;
+    }
+    let vote = Vote {
+        sender: ME,
+        digest: DIGEST,
+    };
+    log.add_prepare(FIRST, vote);
+    log.due_prepare(FIRST).is_none() && !log.is_prepared(FIRST)
+}
+
+// The second of two backups prepares, and the own commit is due.
+fn is_prepared(log: &mut Log) -> bool {
+    let prepare = Prepare {
+        view: VIEW,
+        number: FIRST,
+        digest: DIGEST,
+    };
+    log.on_prepare(ReplicaId(2), &prepare).is_ok()
+        && log.is_prepared(FIRST)
+        && log.due_commit(FIRST) == Some(DIGEST)
+}
+
+fn says_commit(log: &mut Log) -> bool {
+    if !log.is_in_marks(FIRST) || ME.0 >= log.replicas() {
+        return false;
+    }
+    let vote = Vote {
+        sender: ME,
+        digest: DIGEST,
+    };
+    log.add_commit(FIRST, vote);
+    log.due_commit(FIRST).is_none() && !log.is_committed(FIRST)
+}
+
+fn commits(log: &mut Log, sender: ReplicaId) -> bool {
+    let commit = Commit {
+        view: VIEW,
+        number: FIRST,
+        digest: DIGEST,
+    };
+    log.on_commit(sender, &commit).is_ok()
+}
+
+fn is_committed(log: &mut Log) -> bool {
+    commits(log, ReplicaId(0)) && !log.is_committed(FIRST) && commits(log, ReplicaId(3))
+}
+
+fn has_text(log: &Log, text: &[u8]) -> bool {
+    match log.next_batch(FIRST) {
+        Some(batch) => batch.text() == text,
+        None => false,
+    }
+}
+
+#[test]
+fn a_batch_is_committed(rt: HostRuntime) -> Result<(), Fail> {
+    let mut log = new_log(rt.alloc())?;
+    let batch = batch_of(rt.alloc(), b"\0")?;
+    assert!(rt; is_logged(&mut log, batch));
+    assert!(rt; says_prepare(&mut log));
+    assert!(rt; is_prepared(&mut log));
+    assert!(rt; says_commit(&mut log));
+    assert!(rt; is_committed(&mut log));
+    assert!(rt; has_text(&log, b"\0"));
+    Ok(())
+}
+
+fn checkpoint_of(log: &mut Log, sender: ReplicaId) -> bool {
+    let checkpoint = Checkpoint {
+        number: FIRST,
+        root: DIGEST,
+    };
+    log.on_checkpoint(sender, &checkpoint).is_ok()
+}
+
+// Three checkpoints of others are no stable one without the own.
+fn becomes_stable(log: &mut Log) -> bool {
+    let is_of_others = checkpoint_of(log, ReplicaId(0))
+        && checkpoint_of(log, ReplicaId(2))
+        && checkpoint_of(log, ReplicaId(3))
+        && log.count_checkpoints(&STATE) == 3
+        && !log.is_stable(&STATE);
+    if ME.0 >= log.replicas() {
+        return false;
+    }
+    log.add_checkpoint(ME, STATE);
+    is_of_others && log.is_stable(&STATE)
+}
+
+fn is_cut(log: &mut Log) -> bool {
+    let was_logged = log.logged_batch(FIRST).is_some();
+    log.cut(FIRST);
+    was_logged
+        && log.low().0 == 1
+        && log.logged_batch(FIRST).is_none()
+        && log.is_in_marks(Number(5))
+        && !log.is_in_marks(Number(6))
+}
+
+#[test]
+fn a_stable_checkpoint_cuts(rt: HostRuntime) -> Result<(), Fail> {
+    let mut log = new_log(rt.alloc())?;
+    let batch = batch_of(rt.alloc(), b"\0")?;
+    assert!(rt; is_logged(&mut log, batch));
+    assert!(rt; becomes_stable(&mut log));
+    assert!(rt; is_cut(&mut log));
+    Ok(())
+}
+
+// Where a log can't be made it can be at the next try: to be run with each allocation refused in turn.
+#[test]
+fn refused_memory(rt: HostRuntime) -> Result<(), Fail> {
+    let log = match new_log(rt.alloc()) {
+        Ok(log) => log,
+        Err(NoMemory) => new_log(rt.alloc())?,
+    };
+    assert!(rt; log.is_in_marks(FIRST) && log.logged_batch(FIRST).is_none());
+    Ok(())
+}
