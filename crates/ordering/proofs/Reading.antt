@@ -2,7 +2,8 @@
 use Rattle.std.proofs.Common.{◌≡◌, ℕ, ◌+◌, ◌<◌, ◌^◌, Bool, true, false, cond, List, length, Option, Some, None, refl, sym, ap, ◌∙◌, subst, arith, ◌&&◌, ◌==◌, eqb-true, nat_lt, nat_le, slice_set, slice_index_or}
 use Rattle.std.proofs.lemmas.Bool.{and_parts, ltb-true, eqb-false}
 use Rattle.std.proofs.lemmas.List.{get_or-set_same, get_or-set_other}
-use Rattle.quorum.specs.Votes.{or_else, give_if}
+use Rattle.std.specs.Bool.{then_some}
+use Rattle.quorum.specs.Votes.{or_else}
 use Rattle.ordering.specs.declared.votes.Vote.{Vote}
 use Rattle.ordering.specs.Votes.{vote_of, with_vote}
 use Rattle.ordering.specs.Log.{Row, no_row, LogData, is_in_marks, place, row_of, with_row}
@@ -61,12 +62,12 @@ unread f m i j row is hj same = reads f m i j row is hj ∙ go (i == j) refl
 -- a vote is read at its number
 voted : (f : Row → List Vote) (m : LogData) (i j s : ℕ) (vote : Vote) (row : Row) → IsLog m → is_in_marks m j ≡ true → f row ≡ with_vote vote (f (row_of m j))
     → cond (is_in_marks m i) (vote_of (f (row_of (with_row m j row) i)) s) None
-    ≡ cond (i == j) (or_else (cond (is_in_marks m i) (vote_of (f (row_of m i)) s) None) (give_if (vote.sender.0 == s) vote.digest)) (cond (is_in_marks m i) (vote_of (f (row_of m i)) s) None)
+    ≡ cond (i == j) (or_else (cond (is_in_marks m i) (vote_of (f (row_of m i)) s) None) (then_some (vote.sender.0 == s) vote.digest)) (cond (is_in_marks m i) (vote_of (f (row_of m i)) s) None)
 voted f m i j s vote row is hj same = reads (λ r. vote_of (f r) s) m i j row is hj ∙ go (i == j) refl
   where
     go : (b : Bool) → (i == j) ≡ b
         → cond b (vote_of (f row) s) (cond (is_in_marks m i) (vote_of (f (row_of m i)) s) None)
-        ≡ cond b (or_else (cond (is_in_marks m i) (vote_of (f (row_of m i)) s) None) (give_if (vote.sender.0 == s) vote.digest)) (cond (is_in_marks m i) (vote_of (f (row_of m i)) s) None)
+        ≡ cond b (or_else (cond (is_in_marks m i) (vote_of (f (row_of m i)) s) None) (then_some (vote.sender.0 == s) vote.digest)) (cond (is_in_marks m i) (vote_of (f (row_of m i)) s) None)
     go true e =
         let is_same : i ≡ j = eqb-true i j e in let in_marks : is_in_marks m i ≡ true = subst (λ (n : ℕ). is_in_marks m n ≡ true) (sym is_same) hj in
         rw in_marks

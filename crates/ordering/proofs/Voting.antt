@@ -1,8 +1,9 @@
 -- A vote that is added.
 use Rattle.std.proofs.Common.{◌≡◌, ℕ, ◌<◌, Bool, true, false, cond, List, [], ◌∷◌, ◌++◌, Option, Some, None, option_map, is_some, find, refl, sym, ◌∙◌, subst, arith, eqb-true, eq-eqb, ◌==◌}
 use Rattle.std.proofs.lemmas.List.{length-append}
+use Rattle.std.specs.Bool.{then_some}
 use Rattle.smallvec.specs.SmallVec.{SmallVec, HasRoomFor}
-use Rattle.quorum.specs.Votes.{or_else, give_if}
+use Rattle.quorum.specs.Votes.{or_else}
 use Rattle.ordering.specs.declared.votes.Vote.{Vote}
 use Rattle.ordering.specs.Votes.{vote_of, AreVotes, with_vote}
 use Rattle.ordering.proofs.Counting.{no_more}
@@ -15,17 +16,17 @@ eqb_swap a b h = go (b == a) refl
     go true e = sym (eq-eqb a b (sym (eqb-true b a e))) ∙ h
 
 -- what a sender votes for behind one more vote at the end
-pushed_of : (vote : Vote) (votes : List Vote) (s : ℕ) → vote_of (votes ++ vote ∷ []) s ≡ or_else (vote_of votes s) (give_if (vote.sender.0 == s) vote.digest)
+pushed_of : (vote : Vote) (votes : List Vote) (s : ℕ) → vote_of (votes ++ vote ∷ []) s ≡ or_else (vote_of votes s) (then_some (vote.sender.0 == s) vote.digest)
 pushed_of vote [] s = go (vote.sender.0 == s)
   where
-    go : (b : Bool) → option_map (λ (v : Vote). v.digest) (cond b (Some vote) None) ≡ give_if b vote.digest
+    go : (b : Bool) → option_map (λ (v : Vote). v.digest) (cond b (Some vote) None) ≡ then_some b vote.digest
     go true = refl
     go false = refl
 pushed_of vote (x ∷ xs) s = go (x.sender.0 == s) (pushed_of vote xs s)
   where
-    go : (b : Bool) → vote_of (xs ++ vote ∷ []) s ≡ or_else (vote_of xs s) (give_if (vote.sender.0 == s) vote.digest)
+    go : (b : Bool) → vote_of (xs ++ vote ∷ []) s ≡ or_else (vote_of xs s) (then_some (vote.sender.0 == s) vote.digest)
         → option_map (λ (v : Vote). v.digest) (cond b (Some x) (find (λ (v : Vote). v.sender.0 == s) (xs ++ vote ∷ [])))
-        ≡ or_else (option_map (λ (v : Vote). v.digest) (cond b (Some x) (find (λ (v : Vote). v.sender.0 == s) xs))) (give_if (vote.sender.0 == s) vote.digest)
+        ≡ or_else (option_map (λ (v : Vote). v.digest) (cond b (Some x) (find (λ (v : Vote). v.sender.0 == s) xs))) (then_some (vote.sender.0 == s) vote.digest)
     go true h = refl
     go false h = h
 
@@ -58,10 +59,10 @@ pub pushed_stay : (vote : Vote) (cast new : SmallVec Vote) → AreVotes 10 cast.
 pushed_stay vote cast new h c e l items capacity = (subst (AreVotes 10) (sym items) (push_keeps 10 vote cast.items h e l), capacity ∙ c)
 
 -- A vote that is added is the sender's first, and nobody else's.
-pub with_vote_of : (vote : Vote) (votes : List Vote) (s : ℕ) → vote_of (with_vote vote votes) s ≡ or_else (vote_of votes s) (give_if (vote.sender.0 == s) vote.digest)
+pub with_vote_of : (vote : Vote) (votes : List Vote) (s : ℕ) → vote_of (with_vote vote votes) s ≡ or_else (vote_of votes s) (then_some (vote.sender.0 == s) vote.digest)
 with_vote_of vote votes s = go (vote_of votes vote.sender.0) refl
   where
-    stays : (d : List ℕ) (b : Bool) → (vote.sender.0 == s) ≡ b → vote_of votes vote.sender.0 ≡ Some d → vote_of votes s ≡ or_else (vote_of votes s) (give_if b vote.digest)
+    stays : (d : List ℕ) (b : Bool) → (vote.sender.0 == s) ≡ b → vote_of votes vote.sender.0 ≡ Some d → vote_of votes s ≡ or_else (vote_of votes s) (then_some b vote.digest)
     stays d true e h = let k : vote_of votes s ≡ Some d = subst (λ a. vote_of votes a ≡ Some d) (eqb-true vote.sender.0 s e) h in rw k refl
     stays d false e h = other (vote_of votes s)
       where
@@ -69,6 +70,6 @@ with_vote_of vote votes s = go (vote_of votes vote.sender.0) refl
         other None = refl
         other (Some x) = refl
 
-    go : (o : Option (List ℕ)) → vote_of votes vote.sender.0 ≡ o → vote_of (cond (is_some o) votes (votes ++ vote ∷ [])) s ≡ or_else (vote_of votes s) (give_if (vote.sender.0 == s) vote.digest)
+    go : (o : Option (List ℕ)) → vote_of votes vote.sender.0 ≡ o → vote_of (cond (is_some o) votes (votes ++ vote ∷ [])) s ≡ or_else (vote_of votes s) (then_some (vote.sender.0 == s) vote.digest)
     go (Some d) e = stays d (vote.sender.0 == s) refl e
     go None e = pushed_of vote votes s

@@ -1,7 +1,8 @@
 -- What the changes of a log do to what is read of it. Within the marks what comes first stays, and a change is for one
 -- number alone.
 use Rattle.std.specs.Prelude.{◌≡◌, ℕ, true, List, ◌==◌, if◌then◌else◌, Some, None}
-use Rattle.quorum.specs.Votes.{or_else, give_if}
+use Rattle.std.specs.Bool.{then_some}
+use Rattle.quorum.specs.Votes.{or_else}
 use Rattle.ordering.specs.declared.votes.Vote.{Vote}
 use Rattle.ordering.specs.Votes.{vote_of, with_vote}
 use Rattle.ordering.specs.Log.{LogData, is_in_marks, with_batch, with_prepare, with_commit, cut_to, logged_batch, prepare_of, commit_of}
@@ -11,7 +12,7 @@ use Rattle.ordering.specs.Keeping.{IsLog}
 abbrev pub FirstVotesCount : Type 0
 FirstVotesCount =
     (vote : Vote) (votes : List Vote) (s : ℕ)
-    → vote_of (with_vote vote votes) s ≡ or_else (vote_of votes s) (give_if (vote.sender.0 == s) vote.digest)
+    → vote_of (with_vote vote votes) s ≡ or_else (vote_of votes s) (then_some (vote.sender.0 == s) vote.digest)
 
 -- A batch is logged for its number, and no vote changes.
 abbrev pub BatchesAreLogged : Type 0
@@ -27,7 +28,7 @@ PreparesCount =
     (m : LogData) (i j s : ℕ) (vote : Vote) → IsLog m → is_in_marks m j ≡ true
     → (logged_batch (with_prepare m j vote) i ≡ logged_batch m i)
     × (prepare_of (with_prepare m j vote) i s
-    ≡ (if i == j then or_else (prepare_of m i s) (give_if (vote.sender.0 == s) vote.digest) else prepare_of m i s))
+    ≡ (if i == j then or_else (prepare_of m i s) (then_some (vote.sender.0 == s) vote.digest) else prepare_of m i s))
     × (commit_of (with_prepare m j vote) i s ≡ commit_of m i s)
 
 -- So does a commit.
@@ -37,7 +38,7 @@ CommitsCount =
     → (logged_batch (with_commit m j vote) i ≡ logged_batch m i)
     × (prepare_of (with_commit m j vote) i s ≡ prepare_of m i s)
     × (commit_of (with_commit m j vote) i s
-    ≡ (if i == j then or_else (commit_of m i s) (give_if (vote.sender.0 == s) vote.digest) else commit_of m i s))
+    ≡ (if i == j then or_else (commit_of m i s) (then_some (vote.sender.0 == s) vote.digest) else commit_of m i s))
 
 -- What is within the marks before and behind a cut stays, and nothing else is read.
 abbrev pub CutsKeep : Type 0
