@@ -12,7 +12,7 @@ use std::test::Fail;
 use terms::{ClientId, Mode, Party, ReplicaId, Timestamp};
 use tuple_codec::{Bad, Op, decode_op};
 use tuple_tree::{Atom, Value};
-use wire::{Body, Frame, Message, Authenticator, ReceiverMac, Request};
+use wire::{Authenticator, Body, Frame, Message, ReceiverMac, Request};
 
 const REPLICAS: [Party; 4] = [
     Party::Replica(ReplicaId(0)),
