@@ -3,3 +3,4 @@ pub mod RepliesCode
 pub mod ReplyView
 pub mod Pages
 pub mod Reading
+pub mod Laws

@@ -6,7 +6,8 @@ use Rattle.tuple_codec.specs.Spelling.{outcome_spelling}
 use Rattle.reply_cache.specs.Replies.{Kept, Replies, last_of, AreReplies}
 
 abbrev pub kept_text : Kept → List ℕ
-kept_text k = to_be_bytes w64 k.timestamp ++ (to_be_bytes w64 k.number ++ outcome_spelling k.outcome)
+kept_text k =
+    to_be_bytes w64 k.timestamp ++ (to_be_bytes w64 k.number ++ outcome_spelling k.outcome)
 
 abbrev pub reply_text : Option Kept → List ℕ
 reply_text None = []

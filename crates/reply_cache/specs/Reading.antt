@@ -1,7 +1,10 @@
 -- What the functions that read pages speak of.
-use Rattle.std.specs.Prelude.{◌≡◌, ℕ, ◌<◌, List, [], length, slice_index_or, Option, None}
-use Rattle.reply_cache.specs.Replies.{Kept, IsReply}
-use Rattle.reply_cache.specs.Pages.{reply_text}
+use Rattle.std.specs.Prelude.{◌≡◌, ℕ, ◌<◌, List, [], length, map, slice_index_or, Option, None, Result, MatchResult}
+use Rattle.std.specs.Borrow.{Bor}
+use Rattle.tuple_codec.specs.declared.bad.Bad.{Bad}
+use Rattle.tuple_codec.specs.declared.bad.Bad.TheVariants as bad
+use Rattle.reply_cache.specs.Replies.{Kept, Replies, IsReply}
+use Rattle.reply_cache.specs.Pages.{reply_text, ArePages}
 use Rattle.reply_cache.specs.ReplyView.{reply_of}
 use Rattle.reply_cache.specs.declared.cache.Reply.{Reply}
 
@@ -12,9 +15,25 @@ pub record SpellsReply (text : List ℕ) (o : Option Kept) : Type 0 where
 
 -- each of the first texts spells a reply or none
 abbrev pub EachSpelled : List (List ℕ) → ℕ → Type 0
-EachSpelled texts count = (client : ℕ) → client < count → (o : Option Kept) × SpellsReply (slice_index_or texts client []) o
+EachSpelled texts count =
+    (client : ℕ) → client < count
+    → (o : Option Kept) × SpellsReply (slice_index_or texts client []) o
 
 -- the first texts spell these slots
 pub record AreRead (texts : List (List ℕ)) (slots : List (Option Reply)) (count : ℕ) : Type 0 where
   pub long : length slots ≡ count
-  pub each : (client : ℕ) → client < count → SpellsReply (slice_index_or texts client []) (reply_of (slice_index_or slots client None))
+  pub each : (client : ℕ) → client < count
+      → SpellsReply (slice_index_or texts client []) (reply_of (slice_index_or slots client None))
+
+-- the text of each page
+abbrev pub texts_of : List (Bor (List ℕ)) → List (List ℕ)
+texts_of pages = map (λ page. page.now) pages
+
+-- the texts are the pages of some replies
+abbrev pub AreSomePages : List (List ℕ) → Type 0
+AreSomePages texts = (rs : Replies) × ArePages texts rs
+
+-- Each value of this sort is given, unless memory ran out. So there is one at the most, where it didn't.
+abbrev pub GivesEach : {X V : Type 0} → (X → V) → (V → Type 0) → Result X Bad → Type 0
+GivesEach {V = V} view IsOne result =
+    (v : V) → IsOne v → MatchResult result (λ x. view x ≡ v) (λ e. e ≡ bad.NoMemory)

@@ -41,11 +41,15 @@ outcome_from-parts full = refl
 outcome_from-parts refused = refl
 
 abbrev pub outcome_code : Coded Outcome
-outcome_code = code_by OutcomeParts (coded⊎ tuple_code (coded⊎ coded_bool (coded⊎ (coded_list tuple_code) coded_ℕ))) outcome_parts outcome_from outcome_from-parts
+outcome_code =
+    code_by OutcomeParts
+    (coded⊎ tuple_code (coded⊎ coded_bool (coded⊎ (coded_list tuple_code) coded_ℕ)))
+    outcome_parts outcome_from outcome_from-parts
 
 abbrev pub kept_code : Coded Kept
 kept_code =
-    code_by (ℕ × (ℕ × Outcome)) (coded× coded_ℕ (coded× coded_ℕ outcome_code)) (λ k. (k.timestamp, (k.number, k.outcome)))
+    code_by (ℕ × (ℕ × Outcome)) (coded× coded_ℕ (coded× coded_ℕ outcome_code))
+    (λ k. (k.timestamp, (k.number, k.outcome)))
     (λ p. record { timestamp = p.0; number = p.1.0; outcome = p.1.1 }) (λ _. refl)
 
 abbrev pub replies_code : Coded Replies

@@ -1,11 +1,19 @@
 -- What replies in memory stand for.
 use Rattle.std.specs.Prelude.{ℕ, ◌-◌, ◌≤◌, List, ◌++◌, length, map, replicate, slice_index_or, Option, Some, None}
+use Rattle.terms.specs.declared.parties.ClientId.{ClientId}
 use Rattle.tuple_codec.specs.OperationView.{outcome_of}
-use Rattle.reply_cache.specs.Replies.{Kept, Replies, IsReply}
+use Rattle.tuple_codec.specs.declared.operations.Answer.{Answer}
+use Rattle.reply_cache.specs.Replies.{Kept, Replies, IsReply, with_reply}
 use Rattle.reply_cache.specs.declared.cache.Reply.{Reply}
 
 abbrev pub kept_of : Reply → Kept
 kept_of r = record { timestamp = r.timestamp; number = r.number; outcome = outcome_of r.answer }
+
+-- the replies with one more to a client, of these parts
+abbrev pub with_answer : {A : Type 0} → Replies → ClientId → ℕ → ℕ → Answer A → Replies
+with_answer rs client timestamp number answer =
+    with_reply rs client.number
+    (record { timestamp = timestamp; number = number; outcome = outcome_of answer })
 
 abbrev pub reply_of : Option Reply → Option Kept
 reply_of None = None

@@ -1,11 +1,10 @@
 //! The replies by client.
 
-ghost use Rattle.std.specs.Prelude.{◌≡◌, ℕ, ◌≤◌, ◌<◌, ◌++◌, ◌∷◌, [], OnOk, OnErr, IfOk, MatchResult, IsTrue, length, map, option_map};
-ghost use Rattle.tuple_codec.specs.OperationView.{outcome_of};
-ghost use Rattle.reply_cache.specs.Replies.{Replies, no_replies, last_of, seen_of, with_reply, IsAbove, AreReplies};
-ghost use Rattle.reply_cache.specs.ReplyView.{kept_of, padded, AreSlots};
+ghost use Rattle.std.specs.Prelude.{◌≡◌, ℕ, ◌≤◌, ◌<◌, ◌++◌, ◌∷◌, [], OnOk, OnErr, IfOk, IsTrue, length, option_map};
+ghost use Rattle.reply_cache.specs.Replies.{Replies, no_replies, last_of, seen_of, IsAbove, AreReplies};
+ghost use Rattle.reply_cache.specs.ReplyView.{kept_of, padded, AreSlots, with_answer};
 ghost use Rattle.reply_cache.specs.Pages.{page_text, ArePages};
-ghost use Rattle.reply_cache.specs.Reading.{EachSpelled};
+ghost use Rattle.reply_cache.specs.Reading.{EachSpelled, texts_of, AreSomePages, GivesEach};
 
 use crate::pages::{is_page, put_reply, read_reply};
 use std::alloc::Global;
@@ -90,7 +89,7 @@ impl ReplyCache {
     ) -> Result<(), NoMemory>
         requires client { client.number < 256 }
         requires timestamp { 1 ≤ timestamp }
-        ensures ok { OnOk result (self.new ≡ with_reply self.old client.number (record { timestamp = timestamp; number = number; outcome = outcome_of answer })) }
+        ensures ok { OnOk result (self.new ≡ with_answer self.old client timestamp number answer) }
         ensures memory { OnErr result (IsAbove client.number self.old) }
         ensures err { OnErr result (self.new ≡ self.old) }
         ensures valid { AreReplies self.new }
@@ -125,13 +124,13 @@ impl ReplyCache {
     /// 256 texts. That is judged before memory is asked for. NoMemory where memory runs out.
     pub fn from_pages(alloc: Global, pages: &[&[u8]]) -> Result<ReplyCache, Bad>
         // What is read has these pages.
-        ensures found { IfOk result (λ c. ArePages (map (λ page. page.now) pages.now) c) }
+        ensures found { IfOk result (λ c. ArePages (texts_of pages.now) c) }
 
         // Texts that are the pages of no replies are refused as such, whatever memory there is.
-        ensures memory { (result ≡ Err Bad.NoMemory) → (rs : Replies) × ArePages (map (λ page. page.now) pages.now) rs }
+        ensures memory { (result ≡ Err Bad.NoMemory) → AreSomePages (texts_of pages.now) }
 
         // The replies with these pages are read, unless memory runs out.
-        ensures only { (rs : Replies) → ArePages (map (λ page. page.now) pages.now) rs → MatchResult result (λ c. c ≡ rs) (λ bad. bad ≡ Bad.NoMemory) }
+        ensures only { GivesEach (λ c. c) (ArePages (texts_of pages.now)) result }
     {
         if pages.len() != CLIENTS {
             return Err(Bad::Malformed);
@@ -151,8 +150,8 @@ impl ReplyCache {
 // Whether each text is that of a page.
 fn are_pages(pages: &[&[u8]]) -> bool
     requires { length pages.now ≡ 256 }
-    ensures found { IsTrue result → EachSpelled (map (λ page. page.now) pages.now) 256 }
-    ensures only { (rs : Replies) → ArePages (map (λ page. page.now) pages.now) rs → IsTrue result }
+    ensures found { IsTrue result → EachSpelled (texts_of pages.now) 256 }
+    ensures only { (rs : Replies) → ArePages (texts_of pages.now) rs → IsTrue result }
 {
     for text in pages {
         if !is_page(text) {

@@ -1,13 +1,12 @@
 //! The texts of pages, and back.
 
-ghost use Rattle.std.specs.Prelude.{◌≡◌, ◌++◌, Option, IfOk, OnOk, MatchResult, IsTrue};
-ghost use Rattle.tuple_codec.specs.Operations.{Outcome};
+ghost use Rattle.std.specs.Prelude.{◌≡◌, ◌++◌, Option, IfOk, OnOk, IsTrue};
 ghost use Rattle.tuple_codec.specs.OperationView.{outcome_of};
 ghost use Rattle.tuple_codec.specs.Spelling.{SpellsOutcome};
 ghost use Rattle.reply_cache.specs.Replies.{Kept};
 ghost use Rattle.reply_cache.specs.ReplyView.{kept_of, reply_of};
 ghost use Rattle.reply_cache.specs.Pages.{kept_text};
-ghost use Rattle.reply_cache.specs.Reading.{SpellsReply};
+ghost use Rattle.reply_cache.specs.Reading.{SpellsReply, GivesEach};
 
 use crate::cache::Reply;
 use byteorder::{BigEndian, ByteOrder};
@@ -30,7 +29,7 @@ pub fn put_reply(reply: &Reply, out: &mut Vec<u8>) -> Result<(), NoMemory>
 // The answer that bytes spell as a whole.
 fn read_answer(alloc: Global, bytes: &[u8]) -> Result<Answer<Global>, Bad>
     ensures found { IfOk result (λ a. SpellsOutcome bytes.now (outcome_of a)) }
-    ensures only { (r : Outcome) → SpellsOutcome bytes.now r → MatchResult result (λ a. outcome_of a ≡ r) (λ bad. bad ≡ Bad.NoMemory) }
+    ensures only { GivesEach outcome_of (SpellsOutcome bytes.now) result }
 {
     match decode_result(alloc, bytes) {
         Ok((answer, len)) => {
@@ -63,7 +62,7 @@ pub fn is_page(text: &[u8]) -> bool
 /// The reply that a page's text spells.
 pub fn read_reply(alloc: Global, text: &[u8]) -> Result<Option<Reply>, Bad>
     ensures found { IfOk result (λ r. SpellsReply text.now (reply_of r)) }
-    ensures only { (o : Option Kept) → SpellsReply text.now o → MatchResult result (λ r. reply_of r ≡ o) (λ bad. bad ≡ Bad.NoMemory) }
+    ensures only { GivesEach reply_of (SpellsReply text.now) result }
 {
     if text.is_empty() {
         return Ok(None);

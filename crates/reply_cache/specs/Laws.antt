@@ -1,0 +1,16 @@
+-- Laws of replies and their pages.
+use Rattle.std.specs.Prelude.{◌≡◌, ℕ, ◌<◌}
+use Rattle.reply_cache.specs.Replies.{Kept, Replies, IsKept, AreReplies, with_reply}
+use Rattle.reply_cache.specs.Pages.{page_text}
+
+-- Replies are equal where their pages are.
+abbrev pub PagesDetermine : Type 0
+PagesDetermine =
+    (rs qs : Replies) → AreReplies rs → AreReplies qs
+    → ((client : ℕ) → client < 256 → page_text rs client ≡ page_text qs client) → rs ≡ qs
+
+-- A reply that is put among replies leaves replies.
+abbrev pub RepliesStay : Type 0
+RepliesStay =
+    (rs : Replies) (client : ℕ) (k : Kept) → AreReplies rs → IsKept k → client < 256
+    → AreReplies (with_reply rs client k)
