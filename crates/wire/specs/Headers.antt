@@ -4,10 +4,9 @@ use Rattle.terms.specs.Parties.{party_number}
 use Rattle.wire.specs.declared.headers.Header.{Header}
 use Rattle.wire.specs.declared.headers.AuthenticatorBytes.{AuthenticatorBytes}
 use Rattle.wire.specs.declared.headers.AuthenticatorBytes.TheVariants as authenticator_bytes
-use Rattle.wire.specs.Messages.{MessageData, request, AuthenticatorData, macs, signature, FrameData}
-use Rattle.wire.specs.Views.{mac_data}
+use Rattle.wire.specs.Messages.{MessageData, request, AuthenticatorData, signature, FrameData}
+use Rattle.wire.specs.Views.{macs_of}
 use Rattle.wire.specs.Spelling.{body_spelling, SpellsFrame}
-use Rattle.std.specs.Prelude.{map}
 
 pub record HeaderData : Type 0 where
   pub sender : ℕ
@@ -40,7 +39,7 @@ HasHeader bytes header = (frame : FrameData) × SpellsFrame bytes frame × (head
 -- ---- of the program
 
 abbrev pub authenticator_bytes_data : AuthenticatorBytes → AuthenticatorData
-authenticator_bytes_data (authenticator_bytes.Macs ms) = macs (map mac_data ms.items)
+authenticator_bytes_data (authenticator_bytes.Macs ms) = macs_of ms.items
 authenticator_bytes_data (authenticator_bytes.Signature s) = signature s.now
 
 abbrev pub header_data : Header → HeaderData

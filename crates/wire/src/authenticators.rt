@@ -3,9 +3,10 @@
 ghost use Rattle.std.specs.Prelude.{◌≡◌, ◌+◌, ◌≤◌, length, map, [], true, false};
 ghost use Rattle.tuple_codec.specs.Gives.{Yields};
 ghost use Rattle.wire.specs.Messages.{macs, signature};
-ghost use Rattle.wire.specs.Views.{mac_data};
+ghost use Rattle.wire.specs.Views.{mac_data, macs_of};
 ghost use Rattle.wire.specs.Spelling.{mac_before};
 ghost use Rattle.wire.specs.Reading.{follows, mac_at, macs_at, authenticator_of};
+ghost use Rattle.wire.specs.Giving.{YieldsFront};
 
 use crate::frames::{MAX_RECEIVERS, ReceiverMac, SIGNATURE_LEN};
 use crate::reading::{party, read_byte, read_digest, read_u16};
@@ -13,7 +14,7 @@ use arrayvec::ArrayVec;
 
 #[tactic(auto, unfolding(crate::specs::Reading::mac_at))]
 fn read_mac(bytes: &[u8]) -> Option<(ReceiverMac, &[u8])>
-    ensures { Yields (λ x. (mac_data x.0, x.1.now)) result (mac_at bytes.now) }
+    ensures { YieldsFront mac_data result (mac_at bytes.now) }
 {
     let (number, rest) = read_u16(bytes)?;
     let (mac, rest) = read_digest(rest)?;
@@ -34,7 +35,7 @@ fn is_next(macs: &[ReceiverMac], mac: &ReceiverMac) -> bool
 
 #[tactic(auto, unfolding(crate::specs::Reading::macs_at))]
 fn read_macs(bytes: &[u8]) -> Option<(ArrayVec<ReceiverMac, MAX_RECEIVERS>, &[u8])>
-    ensures { Yields (λ x. (map mac_data x.0.items, x.1.now)) result (macs_at bytes.now) }
+    ensures { YieldsFront (λ ms. map mac_data ms.items) result (macs_at bytes.now) }
 {
     let (count, front) = read_byte(bytes)?;
     if count < 1 || count as usize > MAX_RECEIVERS {
@@ -55,7 +56,7 @@ fn read_macs(bytes: &[u8]) -> Option<(ArrayVec<ReceiverMac, MAX_RECEIVERS>, &[u8
 
 /// The MACs that the bytes, whole, are.
 pub fn read_mac_authenticator(bytes: &[u8]) -> Option<ArrayVec<ReceiverMac, MAX_RECEIVERS>>
-    ensures { Yields (λ ms. macs (map mac_data ms.items)) result (authenticator_of false bytes.now) }
+    ensures { Yields (λ ms. macs_of ms.items) result (authenticator_of false bytes.now) }
 {
     let (kind, rest) = read_byte(bytes)?;
     if kind != 0 {

@@ -1,11 +1,12 @@
 //! The text of a batch, made of request frames, and the frames in it.
 
 ghost use Rattle.std.specs.Prelude.{◌≡◌, ◌↔◌, ◌≤◌, IsTrue, length, map, IfOk};
-ghost use Rattle.tuple_codec.specs.Gives.{Yields};
 ghost use Rattle.wire.specs.Lists.{Each};
-ghost use Rattle.wire.specs.Reading.{passing, piece_at, is_request, requests_at};
+ghost use Rattle.wire.specs.Reading.{requests_at, request_frame_at};
 ghost use Rattle.wire.specs.Spelling.{IsCarried, is_ordered_request, pieces_spelling};
 ghost use Rattle.wire.specs.Words.{requests_of};
+ghost use Rattle.wire.specs.Giving.{YieldsFront};
+ghost use Rattle.wire.specs.Views.{texts_of, batch_text};
 
 use crate::carried::{MAX_REQUESTS, is_request_frame};
 use crate::messages::Batch;
@@ -21,11 +22,9 @@ impl Batch {
     #[tactic(auto, using(crate::proofs::Requesting::are_short))]
     pub fn of(alloc: Global, frames: &[Vec<u8>]) -> Result<Batch, NoMemory>
         requires few { length frames.now ≤ 16 }
-        requires each { Each (IsCarried is_ordered_request) (map (λ f. f.items) frames.now) }
-        ensures text { IfOk result (λ batch.
-            batch.text.items ≡ pieces_spelling (map (λ f. f.items) frames.now)) }
-        ensures requests { IfOk result (λ batch.
-            requests_of batch.text.items ≡ map (λ f. f.items) frames.now) }
+        requires each { Each (IsCarried is_ordered_request) (texts_of frames.now) }
+        ensures text { IfOk result (λ b. batch_text b ≡ pieces_spelling (texts_of frames.now)) }
+        ensures requests { IfOk result (λ b. requests_of (batch_text b) ≡ texts_of frames.now) }
     {
         let mut text = Vec::with_capacity(alloc, frames_len(frames))?;
         put_frames(frames, &mut text)?;
@@ -58,7 +57,7 @@ pub fn requests(text: &[u8]) -> ArrayVec<&[u8], MAX_REQUESTS>
 }
 
 fn read_request(bytes: &[u8]) -> Option<(&[u8], &[u8])>
-    ensures { Yields (λ x. (x.0.now, x.1.now)) result (passing is_request piece_at bytes.now) }
+    ensures { YieldsFront (λ x. x.now) result (request_frame_at bytes.now) }
 {
     let (frame, rest) = read_piece(bytes)?;
     if !is_request_frame(frame) {
@@ -70,8 +69,7 @@ fn read_request(bytes: &[u8]) -> Option<(&[u8], &[u8])>
 // The requests of a batch at the front, and the rest.
 #[tactic(auto, unfolding(crate::specs::Reading::requests_at))]
 fn read_requests(bytes: &[u8]) -> Option<(ArrayVec<&[u8], MAX_REQUESTS>, &[u8])>
-    ensures { Yields (λ x. (map (λ f. f.now) x.0.items, x.1.now)) result
-        (requests_at 0 bytes.now) }
+    ensures { YieldsFront (λ fs. map (λ f. f.now) fs.items) result (requests_at 0 bytes.now) }
 {
     let (count, front) = read_byte(bytes)?;
     if count as usize > MAX_REQUESTS {

@@ -2,7 +2,6 @@
 
 ghost use Rattle.std.specs.Prelude.{◌≡◌, ◌≢◌, ◌≤◌, ◌&&◌, ◌<◌, is_some, length, option_map, IfOk, IfErr, IsOk, [], nat_le, ◌==◌, ◌||◌};
 ghost use Rattle.tuple_codec.specs.Gives.{Yields};
-ghost use Rattle.tuple_codec.specs.Reading.{rest_of};
 ghost use Rattle.wire.specs.Messages.{FrameData};
 ghost use Rattle.wire.specs.Spelling as Spelling;
 ghost use Rattle.wire.specs.Spelling.{SpellsFrame};
@@ -10,6 +9,7 @@ ghost use Rattle.wire.specs.Faults.{IsTooLarge, limit_at};
 ghost use Rattle.wire.specs.Headers.{HasHeader, header_data, header_of, authenticator_bytes_data};
 ghost use Rattle.wire.specs.Judging.{Judges, ends};
 ghost use Rattle.wire.specs.Reading.{all_of, message_at, message_by, request_at, reply_at, pre_prepare_at, vote_at, checkpoint_at, fetch_at, meta_at, page_at, digests_at, new_view_at, authenticator_of, frame_read, too_large};
+ghost use Rattle.wire.specs.Giving.{YieldsRest};
 
 use crate::authenticators::{read_mac_authenticator, read_signature_authenticator};
 use crate::carried::{read_batch, skip_batches, skip_changes};
@@ -177,7 +177,7 @@ fn is_page(fields: &[u8]) -> bool
 // Each of these gives the bytes behind what stands at the front.
 #[tactic(auto, unfolding(crate::specs::Reading::pre_prepare_at))]
 fn skip_pre_prepare(bytes: &[u8]) -> Option<&[u8]>
-    ensures { Yields (λ rest. rest.now) result (rest_of (pre_prepare_at bytes.now)) }
+    ensures { YieldsRest result (pre_prepare_at bytes.now) }
 {
     let (_view, rest) = read_u64(bytes)?;
     let (_number, rest) = read_u64(rest)?;
@@ -186,7 +186,7 @@ fn skip_pre_prepare(bytes: &[u8]) -> Option<&[u8]>
 }
 
 fn skip_vote(bytes: &[u8]) -> Option<&[u8]>
-    ensures { Yields (λ rest. rest.now) result (rest_of (vote_at bytes.now)) }
+    ensures { YieldsRest result (vote_at bytes.now) }
 {
     let (_view, _number, _digest, rest) = read_vote(bytes)?;
     Some(rest)
@@ -194,7 +194,7 @@ fn skip_vote(bytes: &[u8]) -> Option<&[u8]>
 
 #[tactic(auto, unfolding(crate::specs::Reading::checkpoint_at))]
 fn skip_checkpoint(bytes: &[u8]) -> Option<&[u8]>
-    ensures { Yields (λ rest. rest.now) result (rest_of (checkpoint_at bytes.now)) }
+    ensures { YieldsRest result (checkpoint_at bytes.now) }
 {
     let (_number, rest) = read_u64(bytes)?;
     let (_root, rest) = read_digest(rest)?;
@@ -203,7 +203,7 @@ fn skip_checkpoint(bytes: &[u8]) -> Option<&[u8]>
 
 #[tactic(auto, unfolding(crate::specs::Reading::new_view_at))]
 fn skip_new_view(bytes: &[u8]) -> Option<&[u8]>
-    ensures { Yields (λ rest. rest.now) result (rest_of (new_view_at bytes.now)) }
+    ensures { YieldsRest result (new_view_at bytes.now) }
 {
     let (_view, rest) = read_u64(bytes)?;
     let rest = skip_changes(rest)?;
@@ -214,7 +214,7 @@ fn skip_new_view(bytes: &[u8]) -> Option<&[u8]>
 
 #[tactic(auto, unfolding(crate::specs::Reading::fetch_at))]
 fn skip_place(bytes: &[u8]) -> Option<&[u8]>
-    ensures { Yields (λ rest. rest.now) result (rest_of (fetch_at bytes.now)) }
+    ensures { YieldsRest result (fetch_at bytes.now) }
 {
     let (_number, _level, _index, rest) = read_place(bytes)?;
     Some(rest)
@@ -222,7 +222,7 @@ fn skip_place(bytes: &[u8]) -> Option<&[u8]>
 
 #[tactic(auto, unfolding(crate::specs::Reading::meta_at))]
 fn skip_meta(bytes: &[u8]) -> Option<&[u8]>
-    ensures { Yields (λ rest. rest.now) result (rest_of (meta_at bytes.now)) }
+    ensures { YieldsRest result (meta_at bytes.now) }
 {
     let (_number, level, _index, rest) = read_place(bytes)?;
     match level {
@@ -232,7 +232,7 @@ fn skip_meta(bytes: &[u8]) -> Option<&[u8]>
 }
 
 fn skip_digests(bytes: &[u8], count: u8) -> Option<&[u8]>
-    ensures { Yields (λ rest. rest.now) result (rest_of (digests_at count bytes.now)) }
+    ensures { YieldsRest result (digests_at count bytes.now) }
 {
     let mut rest = bytes;
     for _i in 0..count {
