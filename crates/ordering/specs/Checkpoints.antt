@@ -7,7 +7,10 @@ use Rattle.wire.specs.Messages.{CheckpointEntryData}
 -- one more in its place; of one number the earlier stays
 abbrev pub insert_checkpoint : CheckpointEntryData → List CheckpointEntryData → List CheckpointEntryData
 insert_checkpoint entry [] = entry ∷ []
-insert_checkpoint entry (e ∷ es) = if e.number == entry.number then e ∷ es else if nat_lt e.number entry.number then entry ∷ e ∷ es else e ∷ insert_checkpoint entry es
+insert_checkpoint entry (e ∷ es) =
+    if e.number == entry.number then e ∷ es
+    else if nat_lt e.number entry.number then entry ∷ e ∷ es
+    else e ∷ insert_checkpoint entry es
 
 -- the checkpoints with one more, of which three are kept
 abbrev pub with_checkpoint : CheckpointEntryData → List CheckpointEntryData → List CheckpointEntryData
@@ -19,4 +22,5 @@ root_at entries number = option_map (λ e. e.digest) (find (λ e. e.number == nu
 
 -- whether one of these checkpoints has this number and root
 abbrev pub says_checkpoint : CheckpointEntryData → List CheckpointEntryData → Bool
-says_checkpoint entry entries = list_any (λ e. (e.number == entry.number) && bytes_eq e.digest entry.digest) entries
+says_checkpoint entry entries =
+    list_any (λ e. (e.number == entry.number) && bytes_eq e.digest entry.digest) entries

@@ -12,7 +12,8 @@ use Rattle.ordering.specs.Keeping.{IsLog}
 abbrev pub FirstVotesCount : Type 0
 FirstVotesCount =
     (vote : Vote) (votes : List Vote) (s : ℕ)
-    → vote_of (with_vote vote votes) s ≡ or_else (vote_of votes s) (then_some (vote.sender.0 == s) vote.digest)
+    → vote_of (with_vote vote votes) s
+    ≡ or_else (vote_of votes s) (then_some (vote.sender.0 == s) vote.digest)
 
 -- A batch is logged for its number, and no vote changes.
 abbrev pub BatchesAreLogged : Type 0
@@ -28,7 +29,8 @@ PreparesCount =
     (m : LogData) (i j s : ℕ) (vote : Vote) → IsLog m → is_in_marks m j ≡ true
     → (logged_batch (with_prepare m j vote) i ≡ logged_batch m i)
     × (prepare_of (with_prepare m j vote) i s
-    ≡ (if i == j then or_else (prepare_of m i s) (then_some (vote.sender.0 == s) vote.digest) else prepare_of m i s))
+    ≡ (if i == j then or_else (prepare_of m i s) (then_some (vote.sender.0 == s) vote.digest)
+    else prepare_of m i s))
     × (commit_of (with_prepare m j vote) i s ≡ commit_of m i s)
 
 -- So does a commit.
@@ -38,7 +40,8 @@ CommitsCount =
     → (logged_batch (with_commit m j vote) i ≡ logged_batch m i)
     × (prepare_of (with_commit m j vote) i s ≡ prepare_of m i s)
     × (commit_of (with_commit m j vote) i s
-    ≡ (if i == j then or_else (commit_of m i s) (then_some (vote.sender.0 == s) vote.digest) else commit_of m i s))
+    ≡ (if i == j then or_else (commit_of m i s) (then_some (vote.sender.0 == s) vote.digest)
+    else commit_of m i s))
 
 -- What is within the marks before and behind a cut stays, and nothing else is read.
 abbrev pub CutsKeep : Type 0

@@ -4,6 +4,8 @@ pub mod Keeping
 pub mod Laws
 pub mod Log
 pub mod LogView
+pub mod Messages
 pub mod Places
+pub mod RowView
 pub mod Taking
 pub mod Votes

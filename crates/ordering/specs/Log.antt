@@ -81,21 +81,27 @@ abbrev pub with_batch : LogData → ℕ → List ℕ → LogData
 with_batch m i text = with_row m i (record (row_of m i) { batch = Some text })
 
 abbrev pub with_prepare : LogData → ℕ → Vote → LogData
-with_prepare m i vote = with_row m i (record (row_of m i) { prepares = with_vote vote (row_of m i).prepares })
+with_prepare m i vote =
+    with_row m i (record (row_of m i) { prepares = with_vote vote (row_of m i).prepares })
 
 abbrev pub with_commit : LogData → ℕ → Vote → LogData
-with_commit m i vote = with_row m i (record (row_of m i) { commits = with_vote vote (row_of m i).commits })
+with_commit m i vote =
+    with_row m i (record (row_of m i) { commits = with_vote vote (row_of m i).commits })
 
 abbrev pub with_checkpoint_of : LogData → ℕ → CheckpointEntryData → LogData
 with_checkpoint_of m s entry =
-    record m { checkpoints = slice_set m.checkpoints s (with_checkpoint entry (checkpoints_of m s)) }
+    record m {
+      checkpoints = slice_set m.checkpoints s (with_checkpoint entry (checkpoints_of m s));
+    }
 
 -- The low mark moves up to h: the rows up to it go, and there are empty ones for the numbers that come into the marks.
 abbrev pub cut_rows : ℕ → List Row → List Row
 cut_rows count rows = drop count rows ++ replicate count no_row
 
 abbrev pub cut_to : LogData → ℕ → LogData
-cut_to m h = if nat_le h m.low then m else record m { low = h; rows = cut_rows (min (h - m.low) m.span) m.rows }
+cut_to m h =
+    if nat_le h m.low then m
+    else record m { low = h; rows = cut_rows (min (h - m.low) m.span) m.rows }
 
 -- ---- what is logged within the marks
 
@@ -117,19 +123,23 @@ commit_of m i s = if is_in_marks m i then vote_of (row_of m i).commits s else No
 
 -- Prepared: the batch is logged, and 2f different backups prepared its digest.
 abbrev pub is_row_prepared : ℕ → ℕ → Row → Bool
-is_row_prepared faults n row = option_map_or (λ digest. nat_le (2 * faults) (voters n digest row.prepares)) (digest_of row) false
+is_row_prepared faults n row =
+    option_map_or (λ digest. nat_le (2 * faults) (voters n digest row.prepares))
+    (digest_of row) false
 
 abbrev pub is_prepared : LogData → ℕ → Bool
 is_prepared m i = is_in_marks m i && is_row_prepared m.faults (replicas m) (row_of m i)
 
 -- 2f + 1 different replicas committed the digest, the own commit among them
 abbrev pub is_digest_committed : ℕ → ℕ → ℕ → List Vote → List ℕ → Bool
-is_digest_committed faults n me commits digest = nat_le (2 * faults + 1) (voters n digest commits) && has_digest digest (vote_of commits me)
+is_digest_committed faults n me commits digest =
+    nat_le (2 * faults + 1) (voters n digest commits) && has_digest digest (vote_of commits me)
 
 -- Committed: prepared, and its digest is committed.
 abbrev pub is_row_committed : ℕ → ℕ → ℕ → Row → Bool
 is_row_committed faults n me row =
-    is_row_prepared faults n row && option_map_or (is_digest_committed faults n me row.commits) (digest_of row) false
+    is_row_prepared faults n row
+    && option_map_or (is_digest_committed faults n me row.commits) (digest_of row) false
 
 abbrev pub is_committed : LogData → ℕ → Bool
 is_committed m i = is_in_marks m i && is_row_committed m.faults (replicas m) m.me (row_of m i)
@@ -142,18 +152,24 @@ committed_batch m i = if is_committed m i then (row_of m i).batch else None
 
 -- The digest of a batch that is logged at a backup which has not prepared it.
 abbrev pub due_prepare : LogData → ℕ → Option (List ℕ)
-due_prepare m i = if not (m.me == primary m m.view) && is_none (prepare_of m i m.me) then logged_digest m i else None
+due_prepare m i =
+    if not (m.me == primary m m.view) && is_none (prepare_of m i m.me)
+    then logged_digest m i else None
 
 -- The digest of a batch that is prepared, where the replica has not committed it.
 abbrev pub due_commit : LogData → ℕ → Option (List ℕ)
-due_commit m i = if is_prepared m i && is_none (commit_of m i m.me) then logged_digest m i else None
+due_commit m i =
+    if is_prepared m i && is_none (commit_of m i m.me) then logged_digest m i else None
 
 -- ---- stable checkpoints
 
 -- how many different replicas' checkpoints say this
 abbrev pub count_checkpoints : LogData → CheckpointEntryData → ℕ
-count_checkpoints m entry = count_below (λ s. says_checkpoint entry (checkpoints_of m s)) (replicas m)
+count_checkpoints m entry =
+    count_below (λ s. says_checkpoint entry (checkpoints_of m s)) (replicas m)
 
 -- Stable: a quorum of checkpoints is alike, the own among them.
 abbrev pub is_stable : LogData → CheckpointEntryData → Bool
-is_stable m entry = nat_le (2 * m.faults + 1) (count_checkpoints m entry) && says_checkpoint entry (checkpoints_of m m.me)
+is_stable m entry =
+    nat_le (2 * m.faults + 1) (count_checkpoints m entry)
+    && says_checkpoint entry (checkpoints_of m m.me)

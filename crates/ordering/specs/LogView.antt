@@ -1,7 +1,26 @@
--- What the fields of a log stand for.
+-- What the fields of a log stand for, and the checkpoints of the program in it.
+use Rattle.std.specs.Prelude.{Bool}
+use Rattle.terms.specs.declared.parties.ReplicaId.{ReplicaId}
+use Rattle.wire.specs.declared.messages.CheckpointEntry.{CheckpointEntry}
+use Rattle.wire.specs.Views.{checkpoint_entry_data}
 use Rattle.ordering.specs.declared.log.Log.TheInside.{Inside}
-use Rattle.ordering.specs.Log.{LogData}
+use Rattle.ordering.specs.Checkpoints.{says_checkpoint}
+use Rattle.ordering.specs.Log.{LogData, checkpoints_of}
 
 abbrev pub log_data : Inside → LogData
 log_data l =
-    record { me = l.me.0; faults = l.faults; span = l.span; view = l.view.0; active = l.active; low = l.low.0; rows = l.slots.items; checkpoints = l.checkpoints.items }
+    record {
+      me = l.me.0;
+      faults = l.faults;
+      span = l.span;
+      view = l.view.0;
+      active = l.active;
+      low = l.low.0;
+      rows = l.slots.items;
+      checkpoints = l.checkpoints.items;
+    }
+
+-- whether a replica's checkpoints say this
+abbrev pub has_checkpoint : LogData → ReplicaId → CheckpointEntry → Bool
+has_checkpoint m sender entry =
+    says_checkpoint (checkpoint_entry_data entry) (checkpoints_of m sender.0)

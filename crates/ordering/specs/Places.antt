@@ -1,6 +1,7 @@
 -- What the private functions that change a list in one place speak of.
-use Rattle.std.specs.Prelude.{ℕ, zero, suc, Bool, false, nat_le, List, [], ◌∷◌, ◌==◌, if◌then◌else◌, Some, slice_set, slice_index_or}
+use Rattle.std.specs.Prelude.{ℕ, zero, suc, Bool, false, ◌&&◌, nat_le, bytes_eq, List, [], ◌∷◌, ◌==◌, if◌then◌else◌, Some, slice_set, slice_index_or}
 use Rattle.wire.specs.Messages.{CheckpointEntryData}
+use Rattle.wire.specs.declared.messages.CheckpointEntry.{CheckpointEntry}
 use Rattle.ordering.specs.declared.votes.Vote.{Vote}
 use Rattle.ordering.specs.Votes.{with_vote}
 use Rattle.ordering.specs.Checkpoints.{with_checkpoint}
@@ -8,17 +9,33 @@ use Rattle.ordering.specs.Log.{Row, no_row}
 
 -- the rows with a batch, or one more vote, in the row at a place
 abbrev pub batch_put : List Row → ℕ → List ℕ → List Row
-batch_put rows at text = slice_set rows at (record (slice_index_or rows at no_row) { batch = Some text })
+batch_put rows at text =
+    slice_set rows at (record (slice_index_or rows at no_row) { batch = Some text })
 
 abbrev pub prepare_put : List Row → ℕ → Vote → List Row
-prepare_put rows at vote = slice_set rows at (record (slice_index_or rows at no_row) { prepares = with_vote vote (slice_index_or rows at no_row).prepares })
+prepare_put rows at vote =
+    slice_set rows at
+    (record (slice_index_or rows at no_row) {
+      prepares = with_vote vote (slice_index_or rows at no_row).prepares;
+    })
 
 abbrev pub commit_put : List Row → ℕ → Vote → List Row
-commit_put rows at vote = slice_set rows at (record (slice_index_or rows at no_row) { commits = with_vote vote (slice_index_or rows at no_row).commits })
+commit_put rows at vote =
+    slice_set rows at
+    (record (slice_index_or rows at no_row) {
+      commits = with_vote vote (slice_index_or rows at no_row).commits;
+    })
 
 -- the checkpoints of all replicas with one more of the replica at a place
-abbrev pub checkpoint_put : List (List CheckpointEntryData) → ℕ → CheckpointEntryData → List (List CheckpointEntryData)
-checkpoint_put checkpoints at entry = slice_set checkpoints at (with_checkpoint entry (slice_index_or checkpoints at []))
+abbrev pub checkpoint_put : List (List CheckpointEntryData) → ℕ → CheckpointEntryData
+    → List (List CheckpointEntryData)
+checkpoint_put checkpoints at entry =
+    slice_set checkpoints at (with_checkpoint entry (slice_index_or checkpoints at []))
+
+-- an entry has the number and the root of this one
+abbrev pub is_entry : CheckpointEntry → CheckpointEntry → Bool
+is_entry wanted entry =
+    (entry.number.0 == wanted.number.0) && bytes_eq entry.digest wanted.digest
 
 -- how many stand before the first whose number is not larger
 abbrev pub place_in : ℕ → List CheckpointEntryData → ℕ

@@ -21,16 +21,23 @@ ordering_fault m may_send v i =
     else if not (is_in_marks m i) then Some OutOfMarks
     else None
 
+-- The same of a pre-prepare, which the primary sends.
+abbrev pub proposal_fault : LogData → ℕ → ℕ → ℕ → Option Dropped
+proposal_fault m s v i = ordering_fault m (s == primary m v) v i
+
 -- The primary sends pre-prepares, backups send prepares, and all send commits.
 abbrev pub preprepare_fault : LogData → ℕ → ℕ → ℕ → List ℕ → Option Dropped
-preprepare_fault m s v i text = or_else (ordering_fault m (s == primary m v) v i) (fault_beside (logged_digest m i) (sha256 text))
+preprepare_fault m s v i text =
+    or_else (proposal_fault m s v i) (fault_beside (logged_digest m i) (sha256 text))
 
 abbrev pub prepare_fault : LogData → ℕ → ℕ → ℕ → List ℕ → Option Dropped
 prepare_fault m s v i digest =
-    or_else (ordering_fault m (nat_lt s (replicas m) && not (s == primary m v)) v i) (fault_beside (prepare_of m i s) digest)
+    or_else (ordering_fault m (nat_lt s (replicas m) && not (s == primary m v)) v i)
+    (fault_beside (prepare_of m i s) digest)
 
 abbrev pub commit_fault : LogData → ℕ → ℕ → ℕ → List ℕ → Option Dropped
-commit_fault m s v i digest = or_else (ordering_fault m (nat_lt s (replicas m)) v i) (fault_beside (commit_of m i s) digest)
+commit_fault m s v i digest =
+    or_else (ordering_fault m (nat_lt s (replicas m)) v i) (fault_beside (commit_of m i s) digest)
 
 -- a checkpoint may be of any number above the low mark
 abbrev pub checkpoint_fault : LogData → ℕ → ℕ → List ℕ → Option Dropped

@@ -12,7 +12,8 @@ vote_of votes s = option_map (λ vote. vote.digest) (find (λ vote. vote.sender.
 -- Each replica below n votes at most once, and nobody else does.
 abbrev pub AreVotes : ℕ → List Vote → Type 0
 AreVotes n [] = ⊤
-AreVotes n (vote ∷ votes) = (vote.sender.0 < n) × (vote_of votes vote.sender.0 ≡ None) × AreVotes n votes
+AreVotes n (vote ∷ votes) =
+    (vote.sender.0 < n) × (vote_of votes vote.sender.0 ≡ None) × AreVotes n votes
 
 -- how many of the n replicas vote for the digest
 abbrev pub voters : ℕ → List ℕ → List Vote → ℕ

@@ -1,10 +1,10 @@
 //! The checkpoints of one replica.
 
-ghost use Rattle.std.specs.Prelude.{◌≡◌, ◌≤◌, ◌&&◌, ◌==◌, [], bytes_eq, map, length};
+ghost use Rattle.std.specs.Prelude.{◌≡◌, ◌≤◌, [], map, length};
 ghost use Rattle.std.specs.List.{list_any};
 ghost use Rattle.wire.specs.Views.{checkpoint_entry_data};
 ghost use Rattle.ordering.specs.Checkpoints.{with_checkpoint, root_at, says_checkpoint};
-ghost use Rattle.ordering.specs.Places.{place_in, stands_at};
+ghost use Rattle.ordering.specs.Places.{place_in, stands_at, is_entry};
 
 use smallvec::SmallVec;
 use std::alloc::Global;
@@ -77,8 +77,7 @@ impl Checkpoints {
 }
 
 fn has_entry(entries: &[CheckpointEntry], wanted: &CheckpointEntry) -> bool
-    ensures { result ≡ list_any
-        (λ entry. (entry.number.0 == wanted.now.number.0) && bytes_eq entry.digest wanted.now.digest) entries.now }
+    ensures { result ≡ list_any (is_entry wanted.now) entries.now }
 {
     entries.iter().any(|entry| entry.number.0 == wanted.number.0 && entry.digest == wanted.digest)
 }

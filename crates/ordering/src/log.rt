@@ -1,11 +1,14 @@
 //! The log.
 
-ghost use Rattle.std.specs.Prelude.{◌≡◌, ◌+◌, ◌*◌, ◌^◌, ◌<◌, ◌≤◌, IfOk, true, false, option_map};
+ghost use Rattle.std.specs.Prelude.{◌≡◌, ◌+◌, ◌*◌, ◌^◌, ◌<◌, ◌≤◌, IfOk, true, false};
 ghost use Rattle.std.specs.Arc.{arc_value};
 ghost use Rattle.wire.specs.Views.{checkpoint_entry_data};
-ghost use Rattle.ordering.specs.Checkpoints.{says_checkpoint, root_at};
+ghost use Rattle.ordering.specs.Checkpoints.{root_at};
 ghost use Rattle.ordering.specs.Log as spec;
 ghost use Rattle.ordering.specs.Keeping.{IsRow, IsLog};
+ghost use Rattle.ordering.specs.RowView.{batch_lent};
+ghost use Rattle.ordering.specs.LogView.{has_checkpoint};
+ghost use Rattle.ordering.specs.Log.{with_checkpoint_of};
 
 use crate::batch::HashedBatch;
 use crate::checkpoints::Checkpoints;
@@ -202,7 +205,7 @@ impl Log {
 
     /// The batch that is logged for the number.
     pub fn logged_batch(&self, number: Number) -> Option<&Arc<HashedBatch>>
-        ensures { option_map (λ b. arc_value b.now) result ≡ spec.logged_batch self.now number.0 }
+        ensures { batch_lent result ≡ spec.logged_batch self.now number.0 }
     {
         if !self.is_in_marks(number) {
             return None;
@@ -256,7 +259,7 @@ impl Log {
 
     /// The batch of the number, where it is committed.
     pub fn next_batch(&self, number: Number) -> Option<&Arc<HashedBatch>>
-        ensures { option_map (λ b. arc_value b.now) result ≡ spec.committed_batch self.now number.0 }
+        ensures { batch_lent result ≡ spec.committed_batch self.now number.0 }
     {
         if !self.is_committed(number) {
             return None;
@@ -287,7 +290,7 @@ impl Log {
     /// Counts a checkpoint: one's own, where it is sent. Of each sender those of the three largest numbers stay.
     pub fn add_checkpoint(&mut self, sender: ReplicaId, entry: CheckpointEntry)
         requires { sender.0 < spec.replicas self.old }
-        ensures { self.new ≡ spec.with_checkpoint_of self.old sender.0 (checkpoint_entry_data entry) }
+        ensures { self.new ≡ with_checkpoint_of self.old sender.0 (checkpoint_entry_data entry) }
     {
         add_checkpoint_at(&mut self.checkpoints, sender.0 as usize, entry);
     }
@@ -302,8 +305,7 @@ impl Log {
 
     fn has_checkpoint(&self, sender: ReplicaId, entry: &CheckpointEntry) -> bool
         requires { sender.0 < spec.replicas self.now }
-        ensures { result ≡ says_checkpoint (checkpoint_entry_data entry.now)
-            (spec.checkpoints_of self.now sender.0) }
+        ensures { result ≡ has_checkpoint self.now sender entry.now }
     {
         self.checkpoints[sender.0 as usize].has(entry)
     }

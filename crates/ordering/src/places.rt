@@ -63,11 +63,11 @@ pub fn add_commit_at(slots: &mut Vec<Slot>, at: usize, vote: Vote)
     slot.add_commit(vote);
 }
 
-pub fn add_checkpoint_at(checkpoints: &mut Vec<Checkpoints>, at: usize, entry: CheckpointEntry)
-    requires { at < length checkpoints.old.items }
-    ensures { checkpoints.new.items ≡ checkpoint_put checkpoints.old.items at (checkpoint_entry_data entry) }
+pub fn add_checkpoint_at(lists: &mut Vec<Checkpoints>, at: usize, entry: CheckpointEntry)
+    requires { at < length lists.old.items }
+    ensures { lists.new.items ≡ checkpoint_put lists.old.items at (checkpoint_entry_data entry) }
 {
-    let kept = &mut checkpoints[at];
+    let kept = &mut lists[at];
     kept.add(entry);
 }
 

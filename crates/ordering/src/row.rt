@@ -1,11 +1,12 @@
 //! What is held for one number.
 
-ghost use Rattle.std.specs.Prelude.{◌≡◌, ℕ, ◌<◌, ◌≤◌, Some, option_map};
+ghost use Rattle.std.specs.Prelude.{◌≡◌, ℕ, ◌<◌, ◌≤◌, Some};
 ghost use Rattle.std.specs.Arc.{arc_value};
 ghost use Rattle.quorum.specs.Votes.{has_digest};
 ghost use Rattle.ordering.specs.Votes.{with_vote, vote_of};
 ghost use Rattle.ordering.specs.Log.{no_row, digest_of, is_row_prepared, is_row_committed};
 ghost use Rattle.ordering.specs.Keeping.{IsRow};
+ghost use Rattle.ordering.specs.RowView.{batch_lent};
 
 use crate::batch::HashedBatch;
 use crate::votes::{MAX_REPLICAS, Vote, Votes};
@@ -23,14 +24,12 @@ pub struct Slot {
 }
 
 impl Model for Slot {
-    ghost use Rattle.std.specs.Prelude.{option_map};
-    ghost use Rattle.std.specs.Arc.{arc_value};
     ghost use Rattle.ordering.specs.Log.{Row};
+    ghost use Rattle.ordering.specs.RowView.{row_data};
 
     ghost Value = { Row };
 
-    ghost view = { λ s.
-        record { batch = option_map arc_value s.batch; prepares = s.prepares; commits = s.commits } };
+    ghost view = { row_data };
 }
 
 impl Slot {
@@ -78,7 +77,7 @@ impl Slot {
 
     /// The batch that is logged.
     pub fn batch(&self) -> Option<&Arc<HashedBatch>>
-        ensures { option_map (λ batch. arc_value batch.now) result ≡ self.now.batch }
+        ensures { batch_lent result ≡ self.now.batch }
     {
         self.batch.as_ref()
     }

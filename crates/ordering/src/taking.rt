@@ -1,10 +1,9 @@
 //! Messages that are taken, or dropped.
 
-ghost use Rattle.std.specs.Prelude.{◌≡◌, ◌==◌};
+ghost use Rattle.std.specs.Prelude.{◌≡◌};
 ghost use Rattle.std.specs.Arc.{arc_value};
-ghost use Rattle.ordering.specs.Log as spec;
-ghost use Rattle.ordering.specs.Log.{with_batch, with_prepare, with_commit, with_checkpoint_of};
-ghost use Rattle.ordering.specs.Taking.{Takes, fault_beside, ordering_fault, preprepare_fault, prepare_fault, commit_fault, checkpoint_fault};
+ghost use Rattle.ordering.specs.Taking.{fault_beside, ordering_fault, proposal_fault, preprepare_fault};
+ghost use Rattle.ordering.specs.Messages.{preprepare_fault_of, prepare_fault_of, commit_fault_of, checkpoint_fault_of, TakesBatch, TakesPrepare, TakesCommit, TakesCheckpoint};
 
 use crate::batch::HashedBatch;
 use crate::dropped::Dropped;
@@ -33,15 +32,14 @@ impl Log {
     }
 
     fn proposal_fault(&self, sender: ReplicaId, view: View, number: Number) -> Option<Dropped>
-        ensures { result ≡ ordering_fault self.now (sender.0 == spec.primary self.now view.0) view.0 number.0 }
+        ensures { result ≡ proposal_fault self.now sender.0 view.0 number.0 }
     {
         self.ordering_fault(sender.0 == self.primary(view).0, view, number)
     }
 
     /// Why a pre-prepare would be dropped, or nothing. Its batch is hashed only where one is logged already.
     pub fn preprepare_fault(&self, sender: ReplicaId, message: &PrePrepare) -> Option<Dropped>
-        ensures { result ≡ preprepare_fault self.now sender.0 message.now.view.0 message.now.number.0
-            message.now.batch.text.items }
+        ensures { result ≡ preprepare_fault_of self.now sender message.now }
     {
         if let Some(fault) = self.proposal_fault(sender, message.view, message.number) {
             return Some(fault);
@@ -76,8 +74,7 @@ impl Log {
         number: Number,
         batch: Arc<HashedBatch>,
     ) -> Result<(), Dropped>
-        ensures { Takes result (preprepare_fault self.old sender.0 view.0 number.0 (arc_value batch))
-            self.old self.new (with_batch self.old number.0 (arc_value batch)) }
+        ensures { TakesBatch self.old self.new sender view number (arc_value batch) result }
     {
         if let Some(fault) = self.batch_fault(sender, view, number, &batch) {
             return Err(fault);
@@ -87,7 +84,7 @@ impl Log {
     }
 
     fn prepare_fault(&self, sender: ReplicaId, prepare: &Prepare) -> Option<Dropped>
-        ensures { result ≡ prepare_fault self.now sender.0 prepare.now.view.0 prepare.now.number.0 prepare.now.digest }
+        ensures { result ≡ prepare_fault_of self.now sender prepare.now }
     {
         let is_backup = sender.0 < self.replicas() && sender.0 != self.primary(prepare.view).0;
         if let Some(fault) = self.ordering_fault(is_backup, prepare.view, prepare.number) {
@@ -99,10 +96,7 @@ impl Log {
     /// Takes a backup's prepare.
     #[tactic(auto, using(crate::proofs::Faults::prepare_in_marks, crate::proofs::Faults::prepare_known))]
     pub fn on_prepare(&mut self, sender: ReplicaId, prepare: &Prepare) -> Result<(), Dropped>
-        ensures { Takes result
-            (prepare_fault self.old sender.0 prepare.now.view.0 prepare.now.number.0 prepare.now.digest)
-            self.old self.new
-            (with_prepare self.old prepare.now.number.0 (record { sender = sender; digest = prepare.now.digest })) }
+        ensures { TakesPrepare self.old self.new sender prepare.now result }
     {
         if let Some(fault) = self.prepare_fault(sender, prepare) {
             return Err(fault);
@@ -116,7 +110,7 @@ impl Log {
     }
 
     fn commit_fault(&self, sender: ReplicaId, commit: &Commit) -> Option<Dropped>
-        ensures { result ≡ commit_fault self.now sender.0 commit.now.view.0 commit.now.number.0 commit.now.digest }
+        ensures { result ≡ commit_fault_of self.now sender commit.now }
     {
         let is_known = sender.0 < self.replicas();
         if let Some(fault) = self.ordering_fault(is_known, commit.view, commit.number) {
@@ -128,10 +122,7 @@ impl Log {
     /// Takes a replica's commit.
     #[tactic(auto, using(crate::proofs::Faults::commit_in_marks, crate::proofs::Faults::commit_known))]
     pub fn on_commit(&mut self, sender: ReplicaId, commit: &Commit) -> Result<(), Dropped>
-        ensures { Takes result
-            (commit_fault self.old sender.0 commit.now.view.0 commit.now.number.0 commit.now.digest)
-            self.old self.new
-            (with_commit self.old commit.now.number.0 (record { sender = sender; digest = commit.now.digest })) }
+        ensures { TakesCommit self.old self.new sender commit.now result }
     {
         if let Some(fault) = self.commit_fault(sender, commit) {
             return Err(fault);
@@ -145,7 +136,7 @@ impl Log {
     }
 
     fn checkpoint_fault(&self, sender: ReplicaId, checkpoint: &Checkpoint) -> Option<Dropped>
-        ensures { result ≡ checkpoint_fault self.now sender.0 checkpoint.now.number.0 checkpoint.now.root }
+        ensures { result ≡ checkpoint_fault_of self.now sender checkpoint.now }
     {
         if sender.0 >= self.replicas() {
             return Some(Dropped::UnknownSender);
@@ -162,11 +153,7 @@ impl Log {
         sender: ReplicaId,
         checkpoint: &Checkpoint,
     ) -> Result<(), Dropped>
-        ensures { Takes result
-            (checkpoint_fault self.old sender.0 checkpoint.now.number.0 checkpoint.now.root)
-            self.old self.new
-            (with_checkpoint_of self.old sender.0
-            (record { number = checkpoint.now.number.0; digest = checkpoint.now.root })) }
+        ensures { TakesCheckpoint self.old self.new sender checkpoint.now result }
     {
         if let Some(fault) = self.checkpoint_fault(sender, checkpoint) {
             return Err(fault);

@@ -1,0 +1,47 @@
+-- Why the messages of the program are dropped, and what taking them does.
+use Rattle.std.specs.Prelude.{ℕ, List, Option, Result}
+use Rattle.terms.specs.declared.order.Number.{Number}
+use Rattle.terms.specs.declared.order.View.{View}
+use Rattle.terms.specs.declared.parties.ReplicaId.{ReplicaId}
+use Rattle.wire.specs.declared.messages.PrePrepare.{PrePrepare}
+use Rattle.wire.specs.declared.messages.Prepare.{Prepare}
+use Rattle.wire.specs.declared.messages.Commit.{Commit}
+use Rattle.wire.specs.declared.messages.Checkpoint.{Checkpoint}
+use Rattle.ordering.specs.declared.dropped.Dropped.{Dropped}
+use Rattle.ordering.specs.Log.{LogData, with_batch, with_prepare, with_commit, with_checkpoint_of}
+use Rattle.ordering.specs.Taking.{Takes, preprepare_fault, prepare_fault, commit_fault, checkpoint_fault}
+
+abbrev pub preprepare_fault_of : LogData → ReplicaId → PrePrepare → Option Dropped
+preprepare_fault_of m sender p = preprepare_fault m sender.0 p.view.0 p.number.0 p.batch.text.items
+
+abbrev pub prepare_fault_of : LogData → ReplicaId → Prepare → Option Dropped
+prepare_fault_of m sender p = prepare_fault m sender.0 p.view.0 p.number.0 p.digest
+
+abbrev pub commit_fault_of : LogData → ReplicaId → Commit → Option Dropped
+commit_fault_of m sender c = commit_fault m sender.0 c.view.0 c.number.0 c.digest
+
+abbrev pub checkpoint_fault_of : LogData → ReplicaId → Checkpoint → Option Dropped
+checkpoint_fault_of m sender c = checkpoint_fault m sender.0 c.number.0 c.root
+
+-- A message is taken, and counts, or is dropped for its first fault.
+abbrev pub TakesBatch : LogData → LogData → ReplicaId → View → Number → List ℕ
+    → Result Unit Dropped → Type 0
+TakesBatch old new sender view number text result =
+    Takes result (preprepare_fault old sender.0 view.0 number.0 text)
+    old new (with_batch old number.0 text)
+
+abbrev pub TakesPrepare : LogData → LogData → ReplicaId → Prepare → Result Unit Dropped → Type 0
+TakesPrepare old new sender p result =
+    Takes result (prepare_fault_of old sender p)
+    old new (with_prepare old p.number.0 (record { sender = sender; digest = p.digest }))
+
+abbrev pub TakesCommit : LogData → LogData → ReplicaId → Commit → Result Unit Dropped → Type 0
+TakesCommit old new sender c result =
+    Takes result (commit_fault_of old sender c)
+    old new (with_commit old c.number.0 (record { sender = sender; digest = c.digest }))
+
+abbrev pub TakesCheckpoint : LogData → LogData → ReplicaId → Checkpoint
+    → Result Unit Dropped → Type 0
+TakesCheckpoint old new sender c result =
+    Takes result (checkpoint_fault_of old sender c)
+    old new (with_checkpoint_of old sender.0 (record { number = c.number.0; digest = c.root }))
