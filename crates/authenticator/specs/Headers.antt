@@ -14,10 +14,13 @@ takes_part m sender is_request = if is_request then is_client m sender else is_r
 
 -- the authenticator has the right entry for the party, or is a signature
 abbrev pub is_authenticated : List ℕ → ℕ → HeaderData → Bool
-is_authenticated seed party h = authenticator_is_signed h.authenticator || proves party (mac_between seed h.sender party h.text) h.authenticator
+is_authenticated seed party h =
+    authenticator_is_signed h.authenticator
+    || proves party (mac_between seed h.sender party h.text) h.authenticator
 
 -- why the party refuses a frame of this header, where it does
 abbrev pub header_refusal : Membership → ℕ → HeaderData → Option OpenFault
 header_refusal m party h =
-    if takes_part m h.sender h.is_request then (if is_authenticated m.seed party h then None else Some faults.BadMac)
+    if takes_part m h.sender h.is_request
+    then (if is_authenticated m.seed party h then None else Some faults.BadMac)
     else Some faults.UnknownSender

@@ -1,8 +1,10 @@
 pub mod Headers
 pub mod Authentic
 pub mod Faults
+pub mod Giving
 pub mod Kept
 pub mod Keys
+pub mod Laws
 pub mod Mac
 pub mod Membership
 pub mod Opening

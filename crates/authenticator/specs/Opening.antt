@@ -10,12 +10,14 @@ use Rattle.authenticator.specs.Authentic.{is_authentic}
 
 -- The authenticator of the frame has the right entry for the party, or is a signature.
 abbrev pub may_open : List ℕ → ℕ → FrameData → Bool
-may_open seed party frame = authenticator_is_signed frame.authenticator || is_authentic seed party frame
+may_open seed party frame =
+    authenticator_is_signed frame.authenticator || is_authentic seed party frame
 
 -- Why the party refuses the frame, where it does.
 abbrev pub refusal : Membership → ℕ → FrameData → Option OpenFault
 refusal m party frame =
-    if has_sender m frame.body then (if may_open m.seed party frame then None else Some faults.BadMac)
+    if has_sender m frame.body
+    then (if may_open m.seed party frame then None else Some faults.BadMac)
     else Some faults.UnknownSender
 
 -- The bytes are this frame, from a party that sends such messages, and authentic to the party or signed.
@@ -40,7 +42,8 @@ pub record HasNoMac (m : Membership) (party : ℕ) (bytes : List ℕ) : Type 0 w
 -- Why the bytes are refused. The earlier refusal goes before a later one.
 abbrev pub Refuses : Membership → ℕ → List ℕ → OpenFault → Type 0
 Refuses m party bytes faults.TooLarge = IsTooLarge bytes
-Refuses m party bytes faults.Malformed = ¬ IsTooLarge bytes × ((frame : FrameData) → ¬ SpellsFrame bytes frame)
+Refuses m party bytes faults.Malformed =
+    ¬ IsTooLarge bytes × ((frame : FrameData) → ¬ SpellsFrame bytes frame)
 Refuses m party bytes faults.UnknownSender = HasNoSender m bytes
 Refuses m party bytes faults.BadMac = HasNoMac m party bytes
 Refuses m party bytes faults.NoMemory = (frame : FrameData) × Opens m party bytes frame

@@ -7,12 +7,16 @@ use Rattle.authenticator.specs.Keys.{mac_between}
 
 -- the entry of an authenticator for a party
 abbrev pub entry_for : List ℕ → ℕ → List ℕ → ℕ → MacData
-entry_for seed sender text party = record { receiver = party; mac = mac_between seed sender party text }
+entry_for seed sender text party =
+    record { receiver = party; mac = mac_between seed sender party text }
 
 -- a body with its MACs for these parties
 abbrev pub sealed_for : List ℕ → BodyData → List ℕ → FrameData
 sealed_for seed body parties =
-    record { body = body; authenticator = macs (map (entry_for seed body.sender (body_spelling body)) parties) }
+    record {
+      body = body;
+      authenticator = macs (map (entry_for seed body.sender (body_spelling body)) parties);
+    }
 
 -- The body may be said and goes with MACs; 1 to 10 parties are to get it, ascending.
 pub record IsSealable (body : BodyData) (parties : List ℕ) : Type 0 where

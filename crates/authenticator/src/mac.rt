@@ -27,14 +27,13 @@ pub struct Key {
 
 impl Model for Key {
     ghost use Rattle.std.specs.Prelude.{ℕ, List};
-    ghost use Rattle.sha2.specs.Hashers.{Holds256};
-    ghost use Rattle.authenticator.specs.Mac.{xor_each};
+    ghost use Rattle.authenticator.specs.Kept.{AreReady};
 
     ghost Value = { List ℕ };
 
     ghost view = { λ k. k.block };
 
-    ghost invariant = { λ k. Holds256 k.inner (xor_each 0x36 k.block) × Holds256 k.outer (xor_each 0x5c k.block) };
+    ghost invariant = { λ k. AreReady k.inner k.outer k.block };
 }
 
 impl Key {

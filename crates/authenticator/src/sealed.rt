@@ -1,17 +1,17 @@
 //! Frames that parties seal for each other and open.
 
-ghost use Rattle.std.specs.Prelude.{◌≡◌, ◌↔◌, ◌+◌, ℕ, List, ◌++◌, IfOk, IfErr, IsTrue, MatchResult, map};
+ghost use Rattle.std.specs.Prelude.{◌≡◌, ◌+◌, ℕ, List, ◌++◌, IfOk, IfErr, IsTrue, map};
 ghost use Rattle.std.specs.Prelude.{◌≤◌, length};
-ghost use Rattle.wire.specs.Messages.{FrameData};
-ghost use Rattle.wire.specs.Spelling.{SpellsFrame, IsMac};
+ghost use Rattle.wire.specs.Spelling.{IsMac};
 ghost use Rattle.wire.specs.Lists.{Each};
-ghost use Rattle.authenticator.specs.Sealing.{IsSealable, IsTooLong, entry_for, sealed_for};
+ghost use Rattle.authenticator.specs.Sealing.{IsSealable};
 ghost use Rattle.terms.specs.Parties.{party_number};
-ghost use Rattle.wire.specs.Views.{body_data, frame_data, mac_data};
+ghost use Rattle.wire.specs.Views.{body_data, mac_data};
 ghost use Rattle.authenticator.specs.Authentic.{has_mac, is_mac_for};
-ghost use Rattle.authenticator.specs.Opening.{Opens, Refuses};
-ghost use Rattle.authenticator.specs.Headers.{is_authenticated, header_refusal};
+ghost use Rattle.authenticator.specs.Opening.{Refuses};
+ghost use Rattle.authenticator.specs.Headers.{is_authenticated};
 ghost use Rattle.wire.specs.Headers.{header_data};
+ghost use Rattle.authenticator.specs.Giving.{AreMacsFor, Seals, TellsTooLong, IsOpened, OpensEach, refusal_of};
 
 use crate::mac::same;
 use crate::ring::Ring;
@@ -109,8 +109,8 @@ impl Ring {
         receivers: &[Party],
     ) -> Result<Vec<u8>, SealFault>
         requires { IsSealable (body_data body.now) (map party_number receivers.now) }
-        ensures sealed { IfOk result (λ frame. SpellsFrame frame.items (sealed_for self.old.seed (body_data body.now) (map party_number receivers.now))) }
-        ensures large { (result ≡ Err SealFault.TooLarge) ↔ IsTooLong (sealed_for self.old.seed (body_data body.now) (map party_number receivers.now)) }
+        ensures sealed { IfOk result (Seals self.old.seed body.now receivers.now) }
+        ensures large { TellsTooLong self.old.seed body.now receivers.now result }
         ensures same { self.new ≡ self.old }
     {
         let mut frame = match begin_frame(alloc, body, 2 + 34 * receivers.len()) {
@@ -132,7 +132,7 @@ impl Ring {
         receivers: &[Party],
     ) -> ArrayVec<ReceiverMac, MAX_RECEIVERS>
         requires { length receivers.now ≤ 10 }
-        ensures made { map mac_data result.items ≡ map (entry_for self.old.seed sender text.now) (map party_number receivers.now) }
+        ensures made { AreMacsFor self.old.seed sender text.now receivers.now result.items }
         ensures formed { Each IsMac (map mac_data result.items) }
         ensures same { self.new ≡ self.old }
     {
@@ -151,8 +151,8 @@ impl Ring {
     /// has the right entry for `me` or is a signature, which is not tested here. The first refusal that applies is
     /// given, in the order of [`OpenFault`]: bytes that are refused take no memory, and so want of it comes last.
     pub fn open(&mut self, alloc: Global, bytes: &[u8], me: Party) -> Result<Opened, OpenFault>
-        ensures opened { IfOk result (λ o. Opens self.old (party_number me) bytes.now (frame_data o.frame)) }
-        ensures all { (f : FrameData) → Opens self.old (party_number me) bytes.now f → MatchResult result (λ o. frame_data o.frame ≡ f) (λ e. e ≡ OpenFault.NoMemory) }
+        ensures opened { IfOk result (IsOpened self.old me bytes.now) }
+        ensures all { OpensEach self.old me bytes.now result }
         ensures refused { IfErr result (Refuses self.old (party_number me) bytes.now) }
         ensures same { self.new ≡ self.old }
     {
@@ -167,7 +167,7 @@ impl Ring {
     /// Why `me` refuses a frame of this header, where it does: the sender is unknown, or else the MAC is wrong. A
     /// signature is not tested here. It takes no memory but for the keys that the ring keeps.
     pub fn refusal(&mut self, header: &Header<'_>, me: Party) -> Option<OpenFault>
-        ensures value { result ≡ header_refusal self.old (party_number me) (header_data header.now) }
+        ensures value { result ≡ refusal_of self.old me header.now }
         ensures same { self.new ≡ self.old }
     {
         if !self.takes_part(header.sender.number(), header.is_request) {

@@ -1,0 +1,21 @@
+-- What the words on sealing and opening come to.
+use Rattle.std.specs.Prelude.{ℕ, List, Contains, IsTrue}
+use Rattle.wire.specs.Messages.{BodyData}
+use Rattle.wire.specs.Spelling.{SpellsFrame}
+use Rattle.authenticator.specs.Membership.{Membership, has_sender}
+use Rattle.authenticator.specs.Authentic.{is_authentic}
+use Rattle.authenticator.specs.Opening.{Opens}
+use Rattle.authenticator.specs.Sealing.{sealed_for}
+
+-- What is sealed for a party is authentic to it.
+abbrev pub SealedIsAuthentic : Type 0
+SealedIsAuthentic =
+    (seed : List ℕ) (body : BodyData) (parties : List ℕ) (party : ℕ) → Contains parties party
+    → IsTrue (is_authentic seed party (sealed_for seed body parties))
+
+-- A party opens what is sealed for it by a sender that it knows.
+abbrev pub SealedOpens : Type 0
+SealedOpens =
+    (m : Membership) (body : BodyData) (parties : List ℕ) (party : ℕ) (bytes : List ℕ)
+    → SpellsFrame bytes (sealed_for m.seed body parties) → IsTrue (has_sender m body)
+    → Contains parties party → Opens m party bytes (sealed_for m.seed body parties)
