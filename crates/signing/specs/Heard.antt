@@ -18,7 +18,9 @@ signs public text (signature s) = verifies public text s
 
 -- the frame has a signature of its body by its sender
 abbrev pub has_signature : List ℕ → FrameData → Bool
-has_signature seed frame = signs (public_key (signing_seed seed frame.body.sender)) (body_spelling frame.body) frame.authenticator
+has_signature seed frame =
+    signs (public_key (signing_seed seed frame.body.sender)) (body_spelling frame.body)
+    frame.authenticator
 
 -- the body comes from another party, that sends such messages
 abbrev pub is_from_another : Membership → ℕ → BodyData → Bool
@@ -27,14 +29,23 @@ is_from_another m party body = has_sender m body && not (body.sender == party)
 -- and the frame was made by that party, as the receiver can tell
 abbrev pub is_heard : Membership → ℕ → FrameData → Bool
 is_heard m party frame =
-    is_from_another m party frame.body && (if is_signed frame.body.message then has_signature m.seed frame else is_authentic m.seed party frame)
+    is_from_another m party frame.body
+    && (if is_signed frame.body.message
+    then has_signature m.seed frame else is_authentic m.seed party frame)
 
 -- the body that a party hears from the bytes
 unfoldable pub heard : Membership → ℕ → List ℕ → Option BodyData
-heard m party bytes = option_and_then (λ frame. if is_heard m party frame then Some frame.body else None) (frame_of bytes)
+heard m party bytes =
+    option_and_then (λ frame. if is_heard m party frame then Some frame.body else None)
+    (frame_of bytes)
+
+-- the frame is a view change or new view from a party that sends such messages, with its signature
+abbrev pub is_signed_frame : Membership → FrameData → Bool
+is_signed_frame m frame =
+    is_signed frame.body.message && (has_sender m frame.body && has_signature m.seed frame)
 
 -- the body of a view change or new view, whoever gets the bytes, its sender too
 unfoldable pub signed_body : Membership → List ℕ → Option BodyData
 signed_body m bytes =
-    option_and_then (λ frame. if is_signed frame.body.message && (has_sender m frame.body && has_signature m.seed frame) then Some frame.body else None)
+    option_and_then (λ frame. if is_signed_frame m frame then Some frame.body else None)
     (frame_of bytes)

@@ -29,15 +29,18 @@ pub record IsOwn (party : ℕ) (bytes : List ℕ) : Type 0 where
 abbrev pub Refuses : Membership → ℕ → List ℕ → HearFault → Type 0
 Refuses m party bytes faults.TooLarge = RefusesToOpen m party bytes open_faults.TooLarge
 Refuses m party bytes faults.Malformed = RefusesToOpen m party bytes open_faults.Malformed
-Refuses m party bytes faults.UnknownSender = RefusesToOpen m party bytes open_faults.UnknownSender ⊎ IsOwn party bytes
-Refuses m party bytes faults.BadMac = RefusesToOpen m party bytes open_faults.BadMac × ¬ IsOwn party bytes
+Refuses m party bytes faults.UnknownSender =
+    RefusesToOpen m party bytes open_faults.UnknownSender ⊎ IsOwn party bytes
+Refuses m party bytes faults.BadMac =
+    RefusesToOpen m party bytes open_faults.BadMac × ¬ IsOwn party bytes
 Refuses m party bytes faults.BadSignature = HasNoSignature m party bytes × ¬ IsOwn party bytes
 Refuses m party bytes faults.NoMemory = (body : BodyData) × (heard m party bytes ≡ Some body)
 
 -- a signature of the text is its sender's; MACs are judged elsewhere
 abbrev pub authenticator_holds : List ℕ → ℕ → List ℕ → AuthenticatorData → Bool
 authenticator_holds seed sender text (macs entries) = true
-authenticator_holds seed sender text (signature s) = verifies (public_key (signing_seed seed sender)) text s
+authenticator_holds seed sender text (signature s) =
+    verifies (public_key (signing_seed seed sender)) text s
 
 abbrev pub signature_holds : List ℕ → HeaderData → Bool
 signature_holds seed h = authenticator_holds seed h.sender h.text h.authenticator

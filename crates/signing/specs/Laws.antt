@@ -1,18 +1,20 @@
 -- What the words on hearing come to.
-use Rattle.std.specs.Prelude.{◌≡◌, ◌≢◌, ◌<◌, ℕ, IsTrue, List, Some}
+use Rattle.std.specs.Prelude.{◌≡◌, ◌≢◌, ◌↔◌, ◌<◌, ℕ, IsTrue, List, Some}
 use Rattle.wire.specs.Messages.{BodyData, FrameData, signature}
 use Rattle.wire.specs.Spelling.{SpellsFrame, body_spelling, is_signed}
 use Rattle.authenticator.specs.Keys.{signing_seed}
 use Rattle.authenticator.specs.Membership.{Membership, has_sender}
 use Rattle.authenticator.specs.Opening.{Opens}
-use Rattle.signing.specs.Signatures.{signature_of}
+use Rattle.signing.specs.Signatures.{signature_of, verifies, Verifies}
 use Rattle.signing.specs.Heard.{has_signature, heard, signed_body}
 
 -- a frame of another party that opens is heard, where it is not to be signed or has its sender's signature
 abbrev pub OpenedIsHeard : Type 0
 OpenedIsHeard =
-    (m : Membership) (party : ℕ) (bytes : List ℕ) (frame : FrameData) → Opens m party bytes frame → frame.body.sender ≢ party
-    → (IsTrue (is_signed frame.body.message) → IsTrue (has_signature m.seed frame)) → heard m party bytes ≡ Some frame.body
+    (m : Membership) (party : ℕ) (bytes : List ℕ) (frame : FrameData)
+    → Opens m party bytes frame → frame.body.sender ≢ party
+    → (IsTrue (is_signed frame.body.message) → IsTrue (has_signature m.seed frame))
+    → heard m party bytes ≡ Some frame.body
 
 -- the bytes are a frame of this body that opens, with its sender's signature where it is to be signed, and the sender
 -- is another party
@@ -25,18 +27,21 @@ pub record OpensAs (m : Membership) (party : ℕ) (bytes : List ℕ) (body : Bod
 
 -- nothing else is heard
 abbrev pub HeardWasOpened : Type 0
-HeardWasOpened = (m : Membership) (party : ℕ) (bytes : List ℕ) (body : BodyData) → heard m party bytes ≡ Some body → OpensAs m party bytes body
+HeardWasOpened =
+    (m : Membership) (party : ℕ) (bytes : List ℕ) (body : BodyData)
+    → heard m party bytes ≡ Some body → OpensAs m party bytes body
 
 -- a signed body is heard by each party but its sender
 abbrev pub SignedIsHeard : Type 0
 SignedIsHeard =
-    (m : Membership) (party : ℕ) (bytes : List ℕ) (body : BodyData) → signed_body m bytes ≡ Some body → body.sender ≢ party
-    → heard m party bytes ≡ Some body
+    (m : Membership) (party : ℕ) (bytes : List ℕ) (body : BodyData)
+    → signed_body m bytes ≡ Some body → body.sender ≢ party → heard m party bytes ≡ Some body
 
 -- a view change or new view that is heard is signed
 abbrev pub HeardWasSigned : Type 0
 HeardWasSigned =
-    (m : Membership) (party : ℕ) (bytes : List ℕ) (body : BodyData) → heard m party bytes ≡ Some body → IsTrue (is_signed body.message)
+    (m : Membership) (party : ℕ) (bytes : List ℕ) (body : BodyData)
+    → heard m party bytes ≡ Some body → IsTrue (is_signed body.message)
     → signed_body m bytes ≡ Some body
 
 -- the bytes are a frame of this body, which is to be signed, with its sender's signature
@@ -50,11 +55,28 @@ pub record IsSignedFrame (m : Membership) (bytes : List ℕ) (body : BodyData) :
 
 -- nothing else is a signed body
 abbrev pub SignedWasSigned : Type 0
-SignedWasSigned = (m : Membership) (bytes : List ℕ) (body : BodyData) → signed_body m bytes ≡ Some body → IsSignedFrame m bytes body
+SignedWasSigned =
+    (m : Membership) (bytes : List ℕ) (body : BodyData)
+    → signed_body m bytes ≡ Some body → IsSignedFrame m bytes body
+
+-- the body with its sender's signature by a leaf
+abbrev pub signed_frame : List ℕ → BodyData → ℕ → FrameData
+signed_frame seed body leaf =
+    record {
+      body = body;
+      authenticator =
+          signature (signature_of (signing_seed seed body.sender) leaf (body_spelling body));
+    }
 
 -- what a party signs with one of its 64 leaves is a signed body
 abbrev pub SignerIsHeard : Type 0
 SignerIsHeard =
-    (m : Membership) (bytes : List ℕ) (body : BodyData) (leaf : ℕ) → leaf < 64 → IsTrue (has_sender m body)
-    → SpellsFrame bytes (record { body = body; authenticator = signature (signature_of (signing_seed m.seed body.sender) leaf (body_spelling body)) })
+    (m : Membership) (bytes : List ℕ) (body : BodyData) (leaf : ℕ) → leaf < 64
+    → IsTrue (has_sender m body) → SpellsFrame bytes (signed_frame m.seed body leaf)
     → signed_body m bytes ≡ Some body
+
+-- the test of a signature is true exactly where it verifies
+abbrev pub VerifyingIsDecided : Type 0
+VerifyingIsDecided =
+    (public text signature : List ℕ)
+    → IsTrue (verifies public text signature) ↔ Verifies public text signature

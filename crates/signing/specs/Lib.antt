@@ -1,4 +1,6 @@
 pub mod Faults
+pub mod Giving
+pub mod Hashing
 pub mod Heard
 pub mod Hearing
 pub mod Joined

@@ -14,14 +14,22 @@ abbrev pub signed_bit : List ℕ → ℕ → List ℕ → ℕ → List ℕ
 signed_bit seed leaf hash bit =
     secret seed leaf bit (bit_of hash bit) ++ public_hash seed leaf bit (1 - bit_of hash bit)
 
+-- what signs each bit of a hash, one after another
+abbrev pub signed_bits : List ℕ → ℕ → List ℕ → List ℕ
+signed_bits seed leaf hash = joined 256 (signed_bit seed leaf hash)
+
 -- the digest beside a leaf's path at a level
 abbrev pub sibling_digest : (ℕ → List ℕ) → ℕ → ℕ → List ℕ
 sibling_digest leaves leaf level = node leaves level (sibling (leaf / 2 ^ level))
 
+-- the digests beside the path at all levels, upwards
+abbrev pub path_digests : (ℕ → List ℕ) → ℕ → List ℕ
+path_digests leaves leaf = joined 6 (sibling_digest leaves leaf)
+
 -- the leaf's number in one byte, what signs each bit of the text's hash, and the siblings on the path, upwards
 unfoldable pub signature_of : List ℕ → ℕ → List ℕ → List ℕ
 signature_of seed leaf text =
-    leaf ∷ joined 256 (signed_bit seed leaf (sha256 text)) ++ joined 6 (sibling_digest (leaf_digest seed) leaf)
+    leaf ∷ signed_bits seed leaf (sha256 text) ++ path_digests (leaf_digest seed) leaf
 
 -- ---- the parts of a signature
 
@@ -67,4 +75,5 @@ pub record Verifies (public text signature : List ℕ) : Type 0 where
 -- the same by a test
 abbrev pub verifies : List ℕ → List ℕ → List ℕ → Bool
 verifies public text signature =
-    (length signature == 16577) && nat_lt (slice_index signature 0) 64 && bytes_eq (shown_root signature text) public
+    (length signature == 16577) && nat_lt (slice_index signature 0) 64
+    && bytes_eq (shown_root signature text) public

@@ -1,12 +1,11 @@
 //! From bytes to what a party hears.
 
-ghost use Rattle.std.specs.Prelude.{◌≡◌, IfOk, IfErr, MatchResult, IsTrue};
+ghost use Rattle.std.specs.Prelude.{◌≡◌, IfOk, IfErr, IsTrue};
 ghost use Rattle.terms.specs.Parties.{party_number};
-ghost use Rattle.wire.specs.Messages.{BodyData};
-ghost use Rattle.wire.specs.Views.{body_data};
 ghost use Rattle.wire.specs.Headers.{header_data};
 ghost use Rattle.signing.specs.Heard.{heard};
 ghost use Rattle.signing.specs.Hearing.{Refuses, signature_holds};
+ghost use Rattle.signing.specs.Giving.{IsHeard, HearsEach};
 
 use crate::hear_fault::HearFault;
 use crate::heard_frame::HeardFrame;
@@ -32,9 +31,9 @@ pub fn hear<'b>(
     me: Party,
 ) -> Result<HeardFrame<'b>, HearFault>
     requires { publics.now ≡ ring.old.seed }
-    ensures heard { IfOk result (λ h. heard ring.old (party_number me) bytes.now ≡ Some (body_data h.frame.body)) }
+    ensures heard { IfOk result (IsHeard ring.old me bytes.now) }
     ensures carried { IfOk result (λ h. h.bytes.now ≡ bytes.now) }
-    ensures all { (body : BodyData) → heard ring.old (party_number me) bytes.now ≡ Some body → MatchResult result (λ h. body_data h.frame.body ≡ body) (λ e. e ≡ HearFault.NoMemory) }
+    ensures all { HearsEach ring.old me bytes.now result }
     ensures refused { IfErr result (Refuses ring.old (party_number me) bytes.now) }
     ensures ring { ring.new ≡ ring.old }
 {

@@ -1,12 +1,10 @@
 //! Laws of the definitions.
 
-ghost use Rattle.std.specs.Prelude.{◌↔◌, List, ℕ, IsTrue};
-ghost use Rattle.signing.specs.Signatures.{Verifies, verifies};
-ghost use Rattle.signing.specs.Laws.{HeardWasOpened, HeardWasSigned, OpenedIsHeard, SignedIsHeard, SignedWasSigned, SignerIsHeard};
+ghost use Rattle.signing.specs.Laws.{HeardWasOpened, HeardWasSigned, OpenedIsHeard, SignedIsHeard, SignedWasSigned, SignerIsHeard, VerifyingIsDecided};
 
 /// The test of a signature is true exactly where it verifies.
 pub fn verifying_is_decided()
-    ensures { (public text signature : List ℕ) → IsTrue (verifies public text signature) ↔ Verifies public text signature }
+    ensures { VerifyingIsDecided }
 {}
 
 /// A party hears exactly the frames of others that open and, where they are to be signed, have their sender's

@@ -3,10 +3,10 @@
 ghost use Rattle.std.specs.Prelude.{◌≡◌, ◌↔◌, IsTrue, IfOk, IfSome};
 ghost use Rattle.authenticator.specs.Keys.{signing_seed};
 ghost use Rattle.signing.specs.Heard.{has_signature};
-ghost use Rattle.signing.specs.Signatures.{public_key, Verifies};
+ghost use Rattle.signing.specs.Signatures.{public_key};
 ghost use Rattle.wire.specs.Spelling.{SpellsFrame};
-ghost use Rattle.terms.specs.Parties.{party_number};
 ghost use Rattle.wire.specs.Views.{frame_data};
+ghost use Rattle.signing.specs.Giving.{IsSignedBy, public_key_of};
 
 use crate::signature::{is_signature, verify_bytes};
 use crate::tree::KeyTree;
@@ -32,7 +32,7 @@ struct Derived {
 
 impl Derived {
     fn new(seed: &[u8; 32], signer: Party) -> Derived
-        ensures { result.key ≡ public_key (signing_seed seed.now (party_number signer)) }
+        ensures { result.key ≡ public_key_of seed.now signer }
     {
         Derived {
             seed: *seed,
@@ -43,8 +43,7 @@ impl Derived {
 
     // The key, where it is this replica's under this seed.
     fn key_of(&self, seed: &[u8; 32], signer: Party) -> Option<[u8; 32]>
-        ensures { IfSome result (λ key.
-            key ≡ public_key (signing_seed seed.now (party_number signer))) }
+        ensures { IfSome result (λ key. key ≡ public_key_of seed.now signer) }
     {
         if self.seed == *seed && self.signer == signer.number() {
             Some(self.key)
@@ -93,7 +92,7 @@ impl PublicKeys {
 
     /// The public key of a replica.
     pub fn public(&self, signer: Party) -> [u8; 32]
-        ensures key { result ≡ public_key (signing_seed self.now (party_number signer)) }
+        ensures key { result ≡ public_key_of self.now signer }
     {
         match self.kept_key(signer) {
             Some(key) => key,
@@ -103,7 +102,7 @@ impl PublicKeys {
 
     /// Whether the bytes are a signature of the text by a replica. For bytes of another form no key is derived.
     pub fn verify(&self, signer: Party, text: &[u8], signature: &[u8]) -> bool
-        ensures verified { IsTrue result ↔ Verifies (public_key (signing_seed self.now (party_number signer))) text.now signature.now }
+        ensures verified { IsTrue result ↔ IsSignedBy self.now signer text.now signature.now }
     {
         is_signature(signature) && verify_bytes(&self.public(signer), text, signature)
     }
@@ -122,8 +121,7 @@ impl PublicKeys {
     }
 
     fn kept_key(&self, signer: Party) -> Option<[u8; 32]>
-        ensures { IfSome result (λ key.
-            key ≡ public_key (signing_seed self.now (party_number signer))) }
+        ensures { IfSome result (λ key. key ≡ public_key_of self.now signer) }
     {
         let place = self.kept.get(usize::from(signer.number()))?;
         place.get()?.key_of(&self.seed, signer)
@@ -131,7 +129,7 @@ impl PublicKeys {
 
     // Derives a key, and keeps it unless another thread keeps it just now or no replica has this number.
     fn derive(&self, signer: Party) -> [u8; 32]
-        ensures { result ≡ public_key (signing_seed self.now (party_number signer)) }
+        ensures { result ≡ public_key_of self.now signer }
     {
         let derived = Derived::new(&self.seed, signer);
         if let Some(place) = self.kept.get(usize::from(signer.number())) {

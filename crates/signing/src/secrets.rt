@@ -1,9 +1,9 @@
 //! The one-time keys that a seed gives.
 
-ghost use Rattle.std.specs.Prelude.{◌≡◌, ◌+◌, ◌<◌, ◌≤◌, ◌++◌, OnOk};
-ghost use Rattle.signing.specs.Joined.{joined};
+ghost use Rattle.std.specs.Prelude.{◌≡◌, ◌<◌, ◌≤◌};
 ghost use Rattle.signing.specs.Lamport.{bit_of, leaf_digest, public_hash, secret};
-ghost use Rattle.signing.specs.Signatures.{signed_bit};
+ghost use Rattle.signing.specs.Signatures.{signed_bits};
+ghost use Rattle.wire.specs.Appends.{Appends};
 
 use authenticator::Key;
 use sha2::{Digest, Sha256};
@@ -77,7 +77,7 @@ impl Secrets {
         hash: &[u8; 32],
         bytes: &mut Vec<u8>,
     ) -> Result<(), AllocError>
-        ensures { OnOk result (bytes.new.items ≡ bytes.old.items ++ joined 256 (signed_bit self.now leaf hash.now)) }
+        ensures { Appends (signed_bits self.now leaf hash.now) bytes.old bytes.new result }
     {
         for bit in 0..BITS {
             let value = bit_of(hash, bit);

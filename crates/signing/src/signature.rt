@@ -1,9 +1,10 @@
 //! Signatures, and whether they verify.
 
-ghost use Rattle.std.specs.Prelude.{◌≡◌, ◌↔◌, ◌+◌, ◌<◌, ◌≤◌, ℕ, List, ◌++◌, IfOk, OnErr, IsTrue, MatchOption, length, slice_index};
-ghost use Rattle.sha2.specs.Hashers.{Holds256};
+ghost use Rattle.std.specs.Prelude.{◌≡◌, ◌↔◌, ◌+◌, ◌<◌, ◌≤◌, ℕ, List, IfOk, OnErr, IsTrue, length, slice_index};
 ghost use Rattle.sha2.specs.Sha256.{sha256};
 ghost use Rattle.signing.specs.Signatures.{IsSignature, shown_digest, shown_pair, shown_root, Verifies};
+ghost use Rattle.signing.specs.Giving.{FindsSignature};
+ghost use Rattle.signing.specs.Hashing.{TakesIn};
 
 use crate::secrets::{BITS, bit_of};
 use crate::tree::{LEAVES, LEVELS, parent};
@@ -39,7 +40,7 @@ impl Signature {
     /// The signature of these bytes, in memory of its own, where they have the length and a leaf from 0 to 63, else
     /// none. The error is want of memory, which comes only where they are a signature.
     pub fn from_bytes(alloc: Global, bytes: &[u8]) -> Result<Option<Signature>, AllocError>
-        ensures found { IfOk result (λ found. MatchOption found (¬ IsSignature bytes.now) (λ s. (s ≡ bytes.now) × IsSignature bytes.now)) }
+        ensures found { IfOk result (FindsSignature bytes.now) }
         ensures memory { OnErr result (IsSignature bytes.now) }
     {
         if !is_signature(bytes) {
@@ -130,7 +131,7 @@ fn digest_shown(signature: &[u8], text: &[u8]) -> [u8; 32]
 fn add_pair(hasher: &mut Sha256, signature: &[u8], hash: &[u8; 32], bit: u16)
     requires whole { length signature.now ≡ 16577 }
     requires bit { bit < 256 }
-    ensures { (m : List ℕ) → Holds256 hasher.old m → Holds256 hasher.new (m ++ shown_pair signature.now hash.now bit) }
+    ensures { TakesIn (shown_pair signature.now hash.now bit) hasher.old hasher.new }
 {
     let at = 1 + 64 * bit as usize;
     let own = Sha256::digest(&signature[at..at + 32]);

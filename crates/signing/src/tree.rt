@@ -1,12 +1,12 @@
 //! The tree of hashes over the leaves of a seed.
 
-ghost use Rattle.std.specs.Prelude.{◌≡◌, ◌+◌, ◌-◌, ◌*◌, ◌^◌, ◌<◌, ◌≤◌, ℕ, List, [], ◌++◌, IfOk, OnOk, slice_index_or};
+ghost use Rattle.std.specs.Prelude.{◌≡◌, ◌+◌, ◌-◌, ◌^◌, ◌<◌, ◌≤◌, ℕ, List, ◌++◌, IfOk};
 ghost use Rattle.sha2.specs.Sha256.{sha256};
-ghost use Rattle.signing.specs.Joined.{joined};
 ghost use Rattle.signing.specs.Lamport.{leaf_digest};
 ghost use Rattle.signing.specs.Merkle.{sibling};
-ghost use Rattle.signing.specs.Signatures.{public_key, sibling_digest, signature_of, Verifies};
-ghost use Rattle.signing.specs.Signing.{HasNodes};
+ghost use Rattle.signing.specs.Signatures.{public_key, signature_of, Verifies};
+ghost use Rattle.signing.specs.Signing.{HasNodes, HasLeaves, digest_over};
+ghost use Rattle.signing.specs.Giving.{AppendsPath};
 
 use crate::secrets::Secrets;
 use crate::signature::{SIGNATURE_LEN, Signature};
@@ -80,7 +80,7 @@ impl KeyTree {
 
 // The leaves at their places, and nothing above them yet.
 fn leaf_nodes(secrets: &Secrets) -> [[u8; 32]; 128]
-    ensures { (leaf : ℕ) → leaf < 64 → slice_index_or result (64 + leaf) [] ≡ leaf_digest secrets.now leaf }
+    ensures { HasLeaves (leaf_digest secrets.now) result }
 {
     let mut nodes = [[0; 32]; 128];
     for leaf in 0..LEAVES {
@@ -91,7 +91,7 @@ fn leaf_nodes(secrets: &Secrets) -> [[u8; 32]; 128]
 
 // Puts the digests over the leaves in, upwards.
 fn join_pairs(nodes: &mut [[u8; 32]; 128])
-    ensures { (leaves : ℕ → List ℕ) → ((leaf : ℕ) → leaf < 64 → slice_index_or nodes.old (64 + leaf) [] ≡ leaves leaf) → HasNodes leaves nodes.new }
+    ensures { (leaves : ℕ → List ℕ) → HasLeaves leaves nodes.old → HasNodes leaves nodes.new }
 {
     for i in (1..FIRST_LEAF).rev() {
         nodes[i] = over_children(nodes, i);
@@ -101,7 +101,7 @@ fn join_pairs(nodes: &mut [[u8; 32]; 128])
 // The digest over the children of the node at `i`.
 fn over_children(nodes: &[[u8; 32]; 128], i: usize) -> [u8; 32]
     requires { i < 64 }
-    ensures { result ≡ sha256 (slice_index_or nodes.now (2 * i) [] ++ slice_index_or nodes.now (2 * i + 1) []) }
+    ensures { result ≡ digest_over nodes.now i }
 {
     parent(&nodes[2 * i], &nodes[2 * i + 1])
 }
@@ -119,7 +119,7 @@ pub(crate) fn parent(left: &[u8], right: &[u8]) -> [u8; 32]
 // Appends the digests beside a leaf's path, upwards.
 fn push_path(nodes: &[[u8; 32]; 128], leaf: u8, bytes: &mut Vec<u8>) -> Result<(), AllocError>
     requires { leaf < 64 }
-    ensures { (leaves : ℕ → List ℕ) → HasNodes leaves nodes.now → OnOk result (bytes.new.items ≡ bytes.old.items ++ joined 6 (sibling_digest leaves leaf)) }
+    ensures { AppendsPath nodes.now leaf bytes.old bytes.new result }
 {
     for level in 0..LEVELS {
         let beside = &nodes[node_index(level, sibling_of(leaf >> level))];
