@@ -19,16 +19,14 @@ pub struct Part {
 }
 
 impl Model for Part {
-    ghost use Rattle.std.specs.Prelude.{◌≡◌, ℕ, List, length, map};
-    ghost use Rattle.sha2.specs.Sha256.{sha256};
-    ghost use Rattle.partition_tree.specs.Texts.{texts_of};
+    ghost use Rattle.std.specs.Prelude.{ℕ, List};
+    ghost use Rattle.partition_tree.specs.Texts.{texts_of, IsPart};
 
     ghost Value = { List (List ℕ) };
 
     ghost view = { λ p. texts_of p.texts.items };
 
-    ghost invariant = { λ p.
-        (length p.texts.items ≡ 32) × (p.digests ≡ map sha256 (texts_of p.texts.items)) };
+    ghost invariant = { λ p. IsPart p.texts.items p.digests };
 }
 
 impl Part {

@@ -1,9 +1,10 @@
 //! The inner parts of a tree, each behind an owner of its own that others may share, and changes of their pages.
 
-ghost use Rattle.std.specs.Prelude.{◌≡◌, ◌<◌, false, IfOk, OnOk, OnErr, map, length, slice_set};
-ghost use Rattle.std.specs.Arc.{arc_value, arc_slice_items};
-ghost use Rattle.partition_tree.specs.Changes.{AreKnown, IsKept, pages_with};
-ghost use Rattle.partition_tree.specs.Parts.{AreFull, pages_of, parts_of, part_digest};
+ghost use Rattle.std.specs.Prelude.{◌≡◌, ◌<◌, false, IfOk, OnOk, OnErr, map, length};
+ghost use Rattle.std.specs.Arc.{arc_slice_items};
+ghost use Rattle.partition_tree.specs.Changes.{AreKnown};
+ghost use Rattle.partition_tree.specs.Owners.{SetsText, KeepsPart, SetsPages, KeepsOthers};
+ghost use Rattle.partition_tree.specs.Parts.{AreFull, parts_of, part_digest};
 
 use crate::digests::CHILDREN;
 use crate::page::Page;
@@ -14,8 +15,8 @@ use terms::{Digest, NoMemory};
 /// Puts a text in the place of a page's, in a copy of the part where others share it.
 pub fn put(part: &mut Arc<Part>, child: usize, text: ArcSlice<u8>) -> Result<(), NoMemory>
     requires { child < CHILDREN }
-    ensures ok { OnOk result (arc_value part.new ≡ slice_set (arc_value part.old) child (arc_slice_items text)) }
-    ensures err { OnErr result (arc_value part.new ≡ arc_value part.old) }
+    ensures ok { OnOk result (SetsText part.old part.new child (arc_slice_items text)) }
+    ensures err { OnErr result (KeepsPart part.old part.new) }
 {
     let part = Arc::make_mut(part)?;
     part.set(child, text);
@@ -25,8 +26,8 @@ pub fn put(part: &mut Arc<Part>, child: usize, text: ArcSlice<u8>) -> Result<(),
 // Puts a text in the place of a page's, unless the page has it already. Whether it had another.
 fn change(part: &mut Arc<Part>, child: usize, text: Vec<u8>) -> Result<bool, NoMemory>
     requires { child < CHILDREN }
-    ensures ok { OnOk result (arc_value part.new ≡ slice_set (arc_value part.old) child text.items) }
-    ensures kept { IfOk result (λ changed. changed ≡ false → arc_value part.new ≡ arc_value part.old) }
+    ensures ok { OnOk result (SetsText part.old part.new child text.items) }
+    ensures kept { IfOk result (λ changed. changed ≡ false → KeepsPart part.old part.new) }
 {
     if part.page(child) == text.as_slice() {
         return Ok(false);
@@ -42,10 +43,10 @@ pub fn change_all(
 ) -> Result<[bool; CHILDREN], NoMemory>
     requires full { AreFull (parts_of parts.old.items) }
     requires count { length parts.old.items ≡ CHILDREN }
-    ensures pages { OnOk result (pages_of parts.new.items ≡ pages_with pages.items (pages_of parts.old.items)) }
+    ensures pages { OnOk result (SetsPages pages.items parts.old.items parts.new.items) }
     ensures full { OnOk result (AreFull (parts_of parts.new.items)) }
     ensures count { OnOk result (length parts.new.items ≡ CHILDREN) }
-    ensures kept { IfOk result (λ changed. IsKept changed (parts_of parts.old.items) (parts_of parts.new.items)) }
+    ensures kept { IfOk result (λ changed. KeepsOthers changed parts.old.items parts.new.items) }
 {
     let mut changed = [false; CHILDREN];
     for page in pages {

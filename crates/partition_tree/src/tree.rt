@@ -28,18 +28,16 @@ pub struct Tree {
 }
 
 impl Model for Tree {
-    ghost use Rattle.std.specs.Prelude.{◌≡◌, ℕ, List, length, map};
+    ghost use Rattle.std.specs.Prelude.{ℕ, List};
 
     ghost Value = { List (List ℕ) };
 
-    ghost use Rattle.partition_tree.specs.Digests.{digest_of_children};
-    ghost use Rattle.partition_tree.specs.Parts.{AreFull, pages_of, parts_of, part_digest};
+    ghost use Rattle.partition_tree.specs.Parts.{pages_of};
+    ghost use Rattle.partition_tree.specs.Owners.{IsTree};
 
     ghost view = { λ t. pages_of t.parts.items };
 
-    ghost invariant = { λ t.
-        (length t.parts.items ≡ 32) × AreFull (parts_of t.parts.items)
-        × (t.inner ≡ map part_digest (parts_of t.parts.items)) × (t.root ≡ digest_of_children t.inner) };
+    ghost invariant = { λ t. IsTree t.parts.items t.inner t.root };
 }
 
 impl Tree {

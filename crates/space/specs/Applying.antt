@@ -29,7 +29,10 @@ abbrev pub outcome : List TupleTree → Operation → Outcome
 outcome ts (out t) = if has_room ts then done else full
 outcome ts (rdp p) = found_or_absent (first_match p ts)
 outcome ts (inp p) = found_or_absent (first_match p ts)
-outcome ts (cas p t) = if is_some (first_match p ts) then swapped false else (if has_room ts then swapped true else full)
+outcome ts (cas p t) =
+    if is_some (first_match p ts) then swapped false
+    else if has_room ts then swapped true
+    else full
 outcome ts (rd_all n p) = all (take n (filter (is_match p) ts))
 
 -- Whether an operation may want memory: it adds a tuple, or copies a match to answer with. One that is taken is moved.

@@ -6,7 +6,7 @@ use Rattle.tuple_tree.specs.Values.{TupleTree, TemplateTree, IsTuple}
 use Rattle.tuple_tree.specs.ValuesCode.{tuple_code}
 use Rattle.tuple_codec.specs.Operations.{Operation, out, rdp, inp, cas, rd_all}
 use Rattle.template_match.specs.Tests.{is_match}
-use Rattle.space.specs.Applying.{has_room, without_first, first_match, wants_memory}
+use Rattle.space.specs.Applying.{has_room, without_first, first_match, wants_memory, tuples_after}
 
 -- a birth number and its tuple
 abbrev pub Entry : Type 0
@@ -55,6 +55,14 @@ state_after s (inp p) = without_match s p
 state_after s (cas p t) = if is_some (first_match p (tuples_of s)) then s else with_tuple s t
 state_after s (rd_all n p) = s
 
+-- One state comes after the other by the operation.
+abbrev pub Follows : SpaceState → SpaceState → Operation → Type 0
+Follows old new o = new ≡ state_after old o
+
+-- So do their tuples, births aside.
+abbrev pub TuplesFollow : SpaceState → SpaceState → Operation → Type 0
+TuplesFollow old new o = tuples_of new ≡ tuples_after (tuples_of old) o
+
 -- The operation adds a tuple, or copies a match to answer with.
 abbrev pub WantsMemory : SpaceState → Operation → Type 0
 WantsMemory s o = wants_memory (tuples_of s) o ≡ true
@@ -77,4 +85,5 @@ pub record IsNextBirth (s : SpaceState) (birth : ℕ) : Type 0 where
 -- a state as the pair of its fields
 abbrev pub space_code : Coded SpaceState
 space_code =
-    code_by (List Entry × ℕ) (coded× (coded_list (coded× coded_ℕ tuple_code)) coded_ℕ) (λ s. (s.entries, s.next)) (λ p. record { entries = p.0; next = p.1 }) (λ _. refl)
+    code_by (List Entry × ℕ) (coded× (coded_list (coded× coded_ℕ tuple_code)) coded_ℕ)
+    (λ s. (s.entries, s.next)) (λ p. record { entries = p.0; next = p.1 }) (λ _. refl)

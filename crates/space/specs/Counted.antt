@@ -1,8 +1,12 @@
--- What the fields of a space keep.
-use Rattle.std.specs.Prelude.{◌≡◌, ℕ, ◌<◌, List, slice_index}
+-- What the private fields of a space keep.
+use Rattle.std.specs.Prelude.{◌≡◌, ℕ, ◌%◌, ◌<◌, Bool, nat_lt, List, slice_index}
 use Rattle.space.specs.Births.{Entry, SpaceState, IsState, page_count}
 use Rattle.space.specs.Filing.{IsIndexOf}
 use Rattle.space.specs.declared.index.Index.{Index}
+
+-- whether the page of a birth number has room, by how many tuples lie on each page
+abbrev pub has_counted_room : List ℕ → ℕ → Bool
+has_counted_room page_counts birth = nat_lt (slice_index page_counts (birth % 256)) 64
 
 -- The tuples and the next number are a state, and the table has how many tuples lie on each page.
 pub record IsCounted (entries : List Entry) (next : ℕ) (page_counts : List ℕ) : Type 0 where

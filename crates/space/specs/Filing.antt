@@ -4,7 +4,7 @@ use Rattle.std.specs.Str.{bytes_eq}
 use Rattle.std.specs.HashMap.{get_by}
 use Rattle.tuple_tree.specs.Items.{how_many}
 use Rattle.tuple_tree.specs.Values.{TemplateTree, IsTuple}
-use Rattle.space.specs.Ages.{without, ListedBirths}
+use Rattle.space.specs.Ages.{without, AreRising, ListedBirths}
 use Rattle.space.specs.Births.{Entry}
 use Rattle.space.specs.Candidates.{is_candidate}
 use Rattle.space.specs.Keys.{tuple_key}
@@ -51,12 +51,13 @@ pub record IsIndexOf (index : Index) (es : List Entry) : Type 0 where
 
 -- a birth is listed, the newest one, under a key
 abbrev pub AddsBirth : List ℕ → ℕ → Lists → Lists → Type 0
-AddsBirth key birth old new = (q : List ℕ) → births_at new q ≡ births_at old q ++ (if bytes_eq key q then birth ∷ [] else [])
+AddsBirth key birth old new =
+    (q : List ℕ) → births_at new q ≡ births_at old q ++ (if bytes_eq key q then birth ∷ [] else [])
 
 -- a birth is taken from those of a key, where these rise
 abbrev pub TakesBirth : List ℕ → ℕ → Lists → Lists → Type 0
 TakesBirth key birth old new =
-    AllPairs (λ a b. a < b) (births_at old key)
+    AreRising (births_at old key)
     → (q : List ℕ) → births_at new q ≡ (if bytes_eq key q then without birth (births_at old q) else births_at old q)
 
 -- under each key stands what stood there
@@ -94,3 +95,7 @@ births_on page es = births_by (λ e. bytes_eq (page_key e) (page ∷ [])) es
 -- these births are those of the tuples that the template may match
 abbrev pub AreCandidates : TemplateTree → List ℕ → List Entry → Type 0
 AreCandidates p births es = All (λ e. IsTuple e.1) es → births ≡ births_by (λ e. is_candidate p e.1) es
+
+-- they are so for all entries that the index is of
+abbrev pub FindsCandidates : TemplateTree → Index → List ℕ → Type 0
+FindsCandidates p index births = (es : List Entry) → IsIndexOf index es → AreCandidates p births es

@@ -1,11 +1,13 @@
--- The entries that births lead to.
-use Rattle.std.specs.Prelude.{ℕ, List, map, filter, find, flat_map, Option, option_to_list}
+-- What the private functions that find entries by their births speak of.
+use Rattle.std.specs.Prelude.{◌≡◌, ℕ, List, take, map, filter, find, flat_map, Option, option_map, option_to_list, Result, IfOk}
+use Rattle.std.specs.Borrow.{Bor}
 use Rattle.std.specs.Ordering.{nat_cmp}
-use Rattle.std.specs.Map.{lookup}
+use Rattle.std.specs.Map.{lookup, remove_entry}
 use Rattle.std.specs.BTreeMap.{is_at}
 use Rattle.tuple_tree.specs.Values.{TupleTree, TemplateTree}
 use Rattle.template_match.specs.Tests.{is_match}
-use Rattle.space.specs.Births.{Entry}
+use Rattle.space.specs.Births.{Entry, SpaceState}
+use Rattle.space.specs.Pages.{entries_text}
 
 -- the entry of a birth
 abbrev pub found_at : List Entry → ℕ → List Entry
@@ -15,6 +17,14 @@ found_at es birth = map (λ t. (birth, t)) (option_to_list (lookup (is_at (nat_c
 abbrev pub entries_at : List Entry → List ℕ → List Entry
 entries_at es births = flat_map (found_at es) births
 
+-- the text of the entries of these births
+abbrev pub births_text : List Entry → List ℕ → List ℕ
+births_text es births = entries_text (entries_at es births)
+
+-- the state without the entry of a birth
+abbrev pub without_birth : SpaceState → ℕ → SpaceState
+without_birth s birth = record s { entries = remove_entry (is_at (nat_cmp birth)) s.entries }
+
 -- the oldest entry that the template matches
 abbrev pub oldest_in : TemplateTree → List Entry → Option Entry
 oldest_in p es = find (λ e. is_match p e.1) es
@@ -22,3 +32,25 @@ oldest_in p es = find (λ e. is_match p e.1) es
 -- the tuples that the template matches
 abbrev pub matches_in : TemplateTree → List Entry → List TupleTree
 matches_in p es = filter (is_match p) (map (λ e. e.1) es)
+
+-- those of these births
+abbrev pub matches_at : TemplateTree → List Entry → List ℕ → List TupleTree
+matches_at p es births = matches_in p (entries_at es births)
+
+-- The tuple of the birth is found, where the template matches it.
+abbrev pub IsMatchAt : TemplateTree → List Entry → ℕ → Option (Bor TupleTree) → Type 0
+IsMatchAt p es birth found = option_map (λ t. (birth, t.now)) found ≡ oldest_in p (found_at es birth)
+
+-- The oldest match is found, with its birth: that of all, or that of these births.
+abbrev pub IsOldest : TemplateTree → List Entry → Option (ℕ × Bor TupleTree) → Type 0
+IsOldest p es found = option_map (λ x. (x.0, x.1.now)) found ≡ oldest_in p es
+
+abbrev pub IsOldestAt : TemplateTree → List Entry → List ℕ → Option (ℕ × Bor TupleTree) → Type 0
+IsOldestAt p es births found = IsOldest p (entries_at es births) found
+
+-- The n oldest matches are copied, or as many as there are: those of all, or those of these births.
+abbrev pub AreOldest : {E : Type 0} → ℕ → TemplateTree → List Entry → Result (List TupleTree) E → Type 0
+AreOldest n p es result = IfOk result (λ copies. copies ≡ take n (matches_in p es))
+
+abbrev pub AreOldestAt : {E : Type 0} → ℕ → TemplateTree → List Entry → List ℕ → Result (List TupleTree) E → Type 0
+AreOldestAt n p es births result = AreOldest n p (entries_at es births) result

@@ -1,11 +1,14 @@
 pub mod Ages
+pub mod Answers
 pub mod Applying
+pub mod BirthListView
 pub mod Births
 pub mod Candidates
 pub mod Counted
 pub mod Filing
 pub mod Found
 pub mod Keys
+pub mod Laws
 pub mod Pages
 pub mod Reading
 pub mod Watching

@@ -1,9 +1,12 @@
 -- The pages of a space. Page i, 0 to 255, has the tuples whose birth number has the remainder i by 256, in the order of
 -- births: each as its birth number in 8 bytes, high byte first, and its spelling. What else a state has stands in a
 -- header: a version byte, the number of executed batches and the next birth number, both in 8 bytes.
-use Rattle.std.specs.Prelude.{◌≡◌, ℕ, ◌*◌, ◌^◌, ◌≤◌, ◌<◌, ◌%◌, List, [], ◌∷◌, ◌++◌, length, filter, flat_map, slice_index_or, ◌==◌}
+use Rattle.std.specs.Prelude.{◌≡◌, ℕ, ◌*◌, ◌^◌, ◌≤◌, ◌<◌, ◌%◌, List, [], ◌∷◌, ◌++◌, length, map, filter, flat_map, slice_index_or, ◌==◌, Result, MatchResult}
+use Rattle.std.specs.Borrow.{Bor}
 use Rattle.std.specs.Int.{w64, to_be_bytes}
 use Rattle.tuple_codec.specs.Spelling.{tuple_spelling}
+use Rattle.tuple_codec.specs.declared.bad.Bad.{Bad}
+use Rattle.tuple_codec.specs.declared.bad.Bad.TheVariants.{NoMemory}
 use Rattle.space.specs.Births.{Entry, SpaceState, IsState}
 
 abbrev pub entry_text : Entry → List ℕ
@@ -41,3 +44,13 @@ pub record ArePages (texts : List (List ℕ)) (header : List ℕ) (s : SpaceStat
   pub heading : header ≡ header_text s number
   pub all : length texts ≡ 256
   pub each : (page : ℕ) → page < 256 → slice_index_or texts page [] ≡ page_text s page
+
+-- The state with these pages and this header is read, unless memory ran out.
+abbrev pub ReadsEachState : List (List ℕ) → List ℕ → Result (SpaceState × ℕ) Bad → Type 0
+ReadsEachState texts header result =
+    (s : SpaceState) (number : ℕ) → ArePages texts header s number
+    → MatchResult result (λ x. (x.0 ≡ s) × (x.1 ≡ number)) (λ fault. fault ≡ NoMemory)
+
+-- the texts that slices lend
+abbrev pub texts_of : List (Bor (List ℕ)) → List (List ℕ)
+texts_of pages = map (λ page. page.now) pages

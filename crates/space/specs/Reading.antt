@@ -1,9 +1,12 @@
 -- What the private functions that read pages speak of.
-use Rattle.std.specs.Prelude.{◌≡◌, ◌≢◌, ℕ, ◌*◌, ◌%◌, ◌^◌, ◌≤◌, ◌<◌, List, [], ◌∷◌, ◌++◌, length, take, drop, slice_index, slice_index_or, All, AllPairs}
+use Rattle.std.specs.Prelude.{◌≡◌, ◌≢◌, ℕ, ◌*◌, ◌%◌, ◌^◌, ◌≤◌, ◌<◌, List, [], ◌∷◌, ◌++◌, length, take, drop, slice_index, slice_index_or, All, AllPairs, Result, OnOk, IfOk, IfErr, MatchResult}
+use Rattle.std.specs.Borrow.{Bor}
 use Rattle.std.specs.Int.{w64, to_be_bytes}
 use Rattle.tuple_tree.specs.Values.{IsTuple}
+use Rattle.tuple_codec.specs.declared.bad.Bad.{Bad}
+use Rattle.tuple_codec.specs.declared.bad.Bad.TheVariants.{NoMemory}
 use Rattle.space.specs.Births.{Entry, SpaceState, IsState}
-use Rattle.space.specs.Pages.{entries_text, on_page, page_text}
+use Rattle.space.specs.Pages.{entry_text, entries_text, on_page, page_text}
 
 -- what can be written as an entry of a page
 pub record IsEntry (e : Entry) : Type 0 where
@@ -16,6 +19,16 @@ pub record IsEntryOf (page least next : ℕ) (e : Entry) : Type 0 where
   pub not_below : least ≤ e.0
   pub below : e.0 < next
   pub tuple : IsTuple e.1
+
+-- What is read is such an entry, by its text in front, and the bytes behind that.
+abbrev pub ReadsSpelled : (Entry → Type 0) → List ℕ → Result (Entry × Bor (List ℕ)) Bad → Type 0
+ReadsSpelled IsSuch bytes result = IfOk result (λ x. IsSuch x.0 × (bytes ≡ entry_text x.0 ++ x.1.now))
+
+-- Each such entry whose text stands in front is read, unless memory ran out.
+abbrev pub ReadsEach : (Entry → Type 0) → List ℕ → Result (Entry × Bor (List ℕ)) Bad → Type 0
+ReadsEach IsSuch bytes result =
+    (e : Entry) (rest : List ℕ) → IsSuch e → bytes ≡ entry_text e ++ rest
+    → MatchResult result (λ x. (x.0 ≡ e) × (x.1.now ≡ rest)) (λ fault. fault ≡ NoMemory)
 
 -- the tuples of one page of a state
 pub record IsPage (page next : ℕ) (es : List Entry) : Type 0 where
@@ -43,8 +56,18 @@ pub record IsPageRead (page next : ℕ) (text : List ℕ) (old new : List Entry)
   pub spelled : text ≡ entries_text (on_page page new)
   pub others : (p : ℕ) → p ≢ page → on_page p new ≡ on_page p old
 
+abbrev pub ReadsPage : {V : Type 0} → ℕ → ℕ → List ℕ → Result V Bad → List Entry → List Entry → Type 0
+ReadsPage page next text result old new = OnOk result (IsPageRead page next text old new)
+
+-- The text of a page is refused for want of memory alone.
+abbrev pub ReadsEachPage : {V : Type 0} → ℕ → ℕ → List ℕ → Result V Bad → Type 0
+ReadsEachPage page next text result =
+    (es : List Entry) → IsPage page next es → text ≡ entries_text es → IfErr result (λ fault. fault ≡ NoMemory)
+
 -- the same of the front of the text: least is the least birth that may follow
-pub record IsFrontRead (page next : ℕ) (text : List ℕ) (old new : List Entry) (rest : List ℕ) (count least : ℕ) : Type 0 where
+pub record IsFrontRead
+    (page next : ℕ) (text : List ℕ) (old new : List Entry) (rest : List ℕ) (count least : ℕ)
+    : Type 0 where
   pub rising : AllPairs (λ e f. e.0 < f.0) new
   pub valid : IsPage page next (on_page page new)
   pub spelled : text ≡ entries_text (on_page page new) ++ rest
@@ -73,3 +96,8 @@ pub record ArePagesOf (next : ℕ) (texts : List (List ℕ)) (s : SpaceState) : 
   pub state : IsState s
   pub same_next : s.next ≡ next
   pub each : (page : ℕ) → page < 256 → slice_index_or texts page [] ≡ page_text s page
+
+-- The texts of all pages are refused for want of memory alone.
+abbrev pub ReadsAllPages : {V : Type 0} → ℕ → List (List ℕ) → Result V Bad → Type 0
+ReadsAllPages next texts result =
+    (s : SpaceState) → ArePagesOf next texts s → IfErr result (λ fault. fault ≡ NoMemory)

@@ -1,7 +1,7 @@
 //! Births in order of age.
 
-ghost use Rattle.std.specs.Prelude.{◌≡◌, ◌<◌, ◌++◌, ◌∷◌, [], length, remove, AllPairs, OnOk, IfOk};
-ghost use Rattle.space.specs.Ages.{without};
+ghost use Rattle.std.specs.Prelude.{◌≡◌, ◌<◌, ◌++◌, ◌∷◌, [], length, remove, OnOk, IfOk};
+ghost use Rattle.space.specs.Ages.{without, AreRising};
 
 use std::alloc::Global;
 use std::marker::Model;
@@ -22,9 +22,10 @@ impl Model for BirthList {
 
     ghost coded = { listed_code };
 
-    ghost use Rattle.std.specs.Prelude.{drop, ◌-◌, ◌≤◌, length, vec_len, vec_capacity};
+    ghost use Rattle.std.specs.Prelude.{◌≤◌, length};
+    ghost use Rattle.space.specs.BirthListView.{listed_births};
 
-    ghost view = { λ a. record { births = drop a.taken a.births.items; room = vec_capacity a.births - vec_len a.births } };
+    ghost view = { listed_births };
 
     ghost invariant = { λ a. a.taken ≤ length a.births.items };
 }
@@ -65,7 +66,7 @@ impl BirthList {
 
     /// Takes a birth, where it is there.
     pub fn remove(&mut self, birth: u64)
-        ensures { AllPairs (λ a b. a < b) self.old.births → self.new.births ≡ without birth self.old.births }
+        ensures { AreRising self.old.births → self.new.births ≡ without birth self.old.births }
     {
         let births = self.as_slice();
         let place = births.partition_point(|other| *other < birth);

@@ -1,7 +1,8 @@
 //! Birth numbers of new tuples.
 
-ghost use Rattle.std.specs.Prelude.{◌≡◌, ℕ, ◌%◌, ◌^◌, ◌<◌, nat_lt, length, slice_index};
+ghost use Rattle.std.specs.Prelude.{◌≡◌, ℕ, ◌^◌, ◌<◌, length, slice_index};
 ghost use Rattle.space.specs.Births.{first_passing};
+ghost use Rattle.space.specs.Counted.{has_counted_room};
 
 /// How many pages there are. A birth number lies on the page of its remainder by this number.
 pub const PAGES: usize = 256;
@@ -21,7 +22,7 @@ pub fn empty_pages() -> [u8; PAGES]
 pub fn next_birth(page_counts: &[u8], next: u64) -> u64
     requires pages { length page_counts.now ≡ 256 }
     requires bound { next < 2 ^ 62 }
-    ensures { result ≡ first_passing (λ birth. nat_lt (slice_index page_counts.now (birth % 256)) 64) 256 next }
+    ensures { result ≡ first_passing (has_counted_room page_counts.now) 256 next }
 {
     let end = next + PAGES as u64;
     for birth in next..end {

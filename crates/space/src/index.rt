@@ -3,7 +3,7 @@
 ghost use Rattle.std.specs.Prelude.{◌≡◌, ◌<◌, ◌%◌, [], List, OnOk, IfOk};
 ghost use Rattle.tuple_tree.specs.Items.{how_many};
 ghost use Rattle.space.specs.Births.{Entry};
-ghost use Rattle.space.specs.Filing.{births_on, IsIndexOf, HasRoom, LetsGo, Files, FilesNothing, Unfiles, AreCandidates};
+ghost use Rattle.space.specs.Filing.{births_on, IsIndexOf, HasRoom, LetsGo, Files, FilesNothing, Unfiles, FindsCandidates};
 ghost use Rattle.space.specs.Keys.{tuple_key};
 
 use crate::births::PAGES;
@@ -102,7 +102,7 @@ impl Index {
     /// The births of the tuples that a template may match: those of its length and of its first value, where its first
     /// field is an actual.
     pub fn candidates<A: Allocator>(&self, template: &Template<A>) -> &[u64]
-        ensures { (es : List Entry) → IsIndexOf self.now es → AreCandidates template.now result.now es }
+        ensures { FindsCandidates template.now self.now result.now }
     {
         match key_of_template(template) {
             Some(key) => self.firsts.get(key.as_slice()),

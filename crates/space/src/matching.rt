@@ -1,7 +1,7 @@
 //! Matches among stored tuples.
 
-ghost use Rattle.std.specs.Prelude.{◌≡◌, ◌≢◌, [], take, option_map, IfOk, OnErr};
-ghost use Rattle.space.specs.Found.{found_at, entries_at, oldest_in, matches_in};
+ghost use Rattle.std.specs.Prelude.{◌≢◌, [], OnErr};
+ghost use Rattle.space.specs.Found.{IsMatchAt, IsOldest, IsOldestAt, AreOldest, AreOldestAt, matches_in, matches_at};
 
 use std::alloc::{Allocator, Global};
 use std::collections::BTreeMap;
@@ -16,7 +16,7 @@ fn match_at<'a, A: Allocator>(
     birth: u64,
     template: &Template<A>,
 ) -> Option<&'a Tuple<Global>>
-    ensures { option_map (λ t. (birth, t.now)) result ≡ oldest_in template.now (found_at tuples.now.entries birth) }
+    ensures { IsMatchAt template.now tuples.now.entries birth result }
 {
     match tuples.get(&birth) {
         Some(tuple) => {
@@ -36,7 +36,7 @@ pub fn oldest_match<'a, A: Allocator>(
     births: &[u64],
     template: &Template<A>,
 ) -> Option<(u64, &'a Tuple<Global>)>
-    ensures { option_map (λ x. (x.0, x.1.now)) result ≡ oldest_in template.now (entries_at tuples.now.entries births.now) }
+    ensures { IsOldestAt template.now tuples.now.entries births.now result }
 {
     for birth in births {
         if let Some(tuple) = match_at(tuples, *birth, template) {
@@ -54,8 +54,8 @@ pub fn copies_of_matches<A: Allocator>(
     template: &Template<A>,
     max: Max,
 ) -> Result<Tuples<Global>, NoMemory>
-    ensures value { IfOk result (λ copies. copies ≡ take max.count (matches_in template.now (entries_at tuples.now.entries births.now))) }
-    ensures memory { OnErr result (matches_in template.now (entries_at tuples.now.entries births.now) ≢ []) }
+    ensures value { AreOldestAt max.count template.now tuples.now.entries births.now result }
+    ensures memory { OnErr result (matches_at template.now tuples.now.entries births.now ≢ []) }
 {
     let mut copies = Tuples::new_in(alloc);
     for birth in births {
@@ -75,7 +75,7 @@ pub fn oldest_of_all<'a, A: Allocator>(
     tuples: &'a BTreeMap<u64, Tuple<Global>>,
     template: &Template<A>,
 ) -> Option<(u64, &'a Tuple<Global>)>
-    ensures { option_map (λ x. (x.0, x.1.now)) result ≡ oldest_in template.now tuples.now.entries }
+    ensures { IsOldest template.now tuples.now.entries result }
 {
     for (birth, tuple) in tuples {
         if matches(template, tuple) {
@@ -92,7 +92,7 @@ pub fn copies_of_all<A: Allocator>(
     template: &Template<A>,
     max: Max,
 ) -> Result<Tuples<Global>, NoMemory>
-    ensures value { IfOk result (λ copies. copies ≡ take max.count (matches_in template.now tuples.now.entries)) }
+    ensures value { AreOldest max.count template.now tuples.now.entries result }
     ensures memory { OnErr result (matches_in template.now tuples.now.entries ≢ []) }
 {
     let mut copies = Tuples::new_in(alloc);

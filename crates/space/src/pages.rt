@@ -2,8 +2,8 @@
 
 ghost use Rattle.std.specs.Prelude.{◌≡◌, ◌++◌, ◌∷◌, IfOk, OnOk};
 ghost use Rattle.std.specs.Int.{w64, to_be_bytes};
-ghost use Rattle.space.specs.Found.{entries_at};
-ghost use Rattle.space.specs.Pages.{entry_text, entries_text};
+ghost use Rattle.space.specs.Found.{births_text};
+ghost use Rattle.space.specs.Pages.{entry_text};
 
 use byteorder::{BigEndian, ByteOrder};
 use std::alloc::Global;
@@ -24,7 +24,7 @@ pub fn text_of(
     tuples: &BTreeMap<u64, Tuple<Global>>,
     births: &[u64],
 ) -> Result<Vec<u8>, NoMemory>
-    ensures { IfOk result (λ text. text.items ≡ entries_text (entries_at tuples.now.entries births.now)) }
+    ensures { IfOk result (λ text. text.items ≡ births_text tuples.now.entries births.now) }
 {
     let mut text = Vec::new(alloc);
     for birth in births {

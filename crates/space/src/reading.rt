@@ -1,10 +1,9 @@
 //! From the texts of pages back to births and tuples.
 
-ghost use Rattle.std.specs.Prelude.{◌≡◌, ◌≢◌, ℕ, ◌+◌, ◌*◌, ◌^◌, ◌≤◌, ◌<◌, ◌%◌, ◌++◌, ◌∷◌, [], List, length, All, AllPairs, IfOk, OnOk, IfErr, IfSome, IsSome, MatchResult};
+ghost use Rattle.std.specs.Prelude.{◌≡◌, ◌≢◌, ℕ, ◌+◌, ◌*◌, ◌^◌, ◌≤◌, ◌<◌, ◌%◌, ◌++◌, ◌∷◌, [], length, All, AllPairs, IfOk, OnOk, IfSome, IsSome};
 ghost use Rattle.std.specs.Int.{w64, to_be_bytes};
-ghost use Rattle.space.specs.Births.{Entry};
-ghost use Rattle.space.specs.Pages.{entry_text, entries_text, on_page};
-ghost use Rattle.space.specs.Reading.{IsEntry, IsEntryOf, IsPage, IsPlace, IsAdded, IsPageRead, IsHeader};
+ghost use Rattle.space.specs.Pages.{on_page};
+ghost use Rattle.space.specs.Reading.{IsEntry, IsEntryOf, IsAdded, IsHeader, ReadsSpelled, ReadsEach, ReadsPage, ReadsEachPage};
 
 use crate::births::{MAX_ON_PAGE, PAGES};
 use crate::pages::{HEADER_LEN, VERSION};
@@ -23,8 +22,8 @@ const BIRTHS_A_BATCH: u64 = 4096;
 
 // The birth and the tuple at the front, and the bytes behind them.
 fn read_entry(alloc: Global, bytes: &[u8]) -> Result<((u64, Tuple<Global>), &[u8]), Bad>
-    ensures found { IfOk result (λ x. IsEntry x.0 × (bytes.now ≡ entry_text x.0 ++ x.1.now)) }
-    ensures only { (e : Entry) (rest : List ℕ) → IsEntry e → bytes.now ≡ entry_text e ++ rest → MatchResult result (λ x. (x.0 ≡ e) × (x.1.now ≡ rest)) (λ bad. bad ≡ Bad.NoMemory) }
+    ensures found { ReadsSpelled IsEntry bytes.now result }
+    ensures only { ReadsEach IsEntry bytes.now result }
 {
     if bytes.len() < 8 {
         return Err(Bad::Malformed);
@@ -45,8 +44,8 @@ fn read_entry_of(
     least: u64,
     next: u64,
 ) -> Result<((u64, Tuple<Global>), &[u8]), Bad>
-    ensures found { IfOk result (λ x. IsEntryOf page least next x.0 × (bytes.now ≡ entry_text x.0 ++ x.1.now)) }
-    ensures only { (e : Entry) (rest : List ℕ) → IsEntryOf page least next e → bytes.now ≡ entry_text e ++ rest → MatchResult result (λ x. (x.0 ≡ e) × (x.1.now ≡ rest)) (λ bad. bad ≡ Bad.NoMemory) }
+    ensures found { ReadsSpelled (IsEntryOf page least next) bytes.now result }
+    ensures only { ReadsEach (IsEntryOf page least next) bytes.now result }
 {
     let (entry, rest) = read_entry(alloc, bytes)?;
     if entry.0 % PAGES as u64 != page as u64 || entry.0 < least || entry.0 >= next {
@@ -85,9 +84,9 @@ pub fn read_page(
 ) -> Result<u8, Bad>
     requires rising { AllPairs (λ e f. e.0 < f.0) tuples.old.entries }
     requires empty { on_page page tuples.old.entries ≡ [] }
-    ensures found { OnOk result (IsPageRead page next text.now tuples.old.entries tuples.new.entries) }
+    ensures found { ReadsPage page next text.now result tuples.old.entries tuples.new.entries }
     ensures count { IfOk result (λ n. n ≡ length (on_page page tuples.new.entries)) }
-    ensures only { (es : List Entry) → IsPage page next es → text.now ≡ entries_text es → IfErr result (λ bad. bad ≡ Bad.NoMemory) }
+    ensures only { ReadsEachPage page next text.now result }
 {
     let mut rest = text;
     let mut count = 0;

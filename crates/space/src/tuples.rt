@@ -1,19 +1,20 @@
 //! The space and its operations.
 
-ghost use Rattle.std.specs.Prelude.{◌≡◌, ◌+◌, ◌%◌, ◌^◌, ◌<◌, ◌≤◌, true, false, length, option_map, is_some, OnOk, OnErr, IfOk, IfErr, IfSome, MatchResult, IsTrue, ◌↔◌, ℕ, map};
+ghost use Rattle.std.specs.Prelude.{◌≡◌, ◌+◌, ◌%◌, ◌^◌, ◌<◌, ◌≤◌, true, length, is_some, OnOk, OnErr, IfOk, IfSome, IsTrue, ◌↔◌};
 ghost use Rattle.std.specs.Ordering.{nat_cmp};
-ghost use Rattle.std.specs.Map.{lookup, remove_entry};
+ghost use Rattle.std.specs.Map.{lookup};
 ghost use Rattle.std.specs.BTreeMap.{is_at};
 ghost use Rattle.tuple_tree.specs.Values.{IsTuple};
-ghost use Rattle.tuple_codec.specs.Operations.{cas, rd_all};
+ghost use Rattle.tuple_codec.specs.Operations.{rdp, inp, cas, rd_all};
 ghost use Rattle.tuple_codec.specs.OperationView.{operation_of, outcome_of};
+ghost use Rattle.space.specs.Answers.{Answers, RefusesChanges, LacksMemory};
 ghost use Rattle.space.specs.Candidates.{candidates_of};
-ghost use Rattle.space.specs.Applying.{outcome, tuples_after, first_match, found_or_absent, has_room, is_read_only};
-ghost use Rattle.space.specs.Pages.{page_text, header_text, ArePages, MayBePages};
-ghost use Rattle.space.specs.Reading.{ArePagesOf};
-ghost use Rattle.space.specs.Found.{oldest_in};
-ghost use Rattle.space.specs.Watching.{KeepsPage};
-ghost use Rattle.space.specs.Births.{SpaceState, IsState, empty_state, birth_of, tuples_of, state_after, with_birth, with_tuple, without_match, WantsMemory};
+ghost use Rattle.space.specs.Applying.{outcome, first_match, has_room};
+ghost use Rattle.space.specs.Pages.{page_text, header_text, texts_of, ArePages, MayBePages, ReadsEachState};
+ghost use Rattle.space.specs.Reading.{ArePagesOf, ReadsAllPages};
+ghost use Rattle.space.specs.Found.{IsOldest, without_birth};
+ghost use Rattle.space.specs.Watching.{KeepsOthers};
+ghost use Rattle.space.specs.Births.{IsState, Follows, TuplesFollow, WantsMemory, empty_state, birth_of, tuples_of, with_birth, with_tuple, without_match};
 
 use crate::births::{PAGES, empty_pages, next_birth};
 use crate::index::Index;
@@ -104,13 +105,13 @@ impl Space {
     /// the number of texts and the header are judged first.
     pub fn from_pages(alloc: Global, pages: &[&[u8]], header: &[u8]) -> Result<(Space, u64), Bad>
         // What is read has these pages.
-        ensures found { IfOk result (λ x. ArePages (map (λ page. page.now) pages.now) header.now x.0 x.1) }
+        ensures found { IfOk result (λ x. ArePages (texts_of pages.now) header.now x.0 x.1) }
 
         // A wrong number of texts, or a header that is no state's, is refused as such.
-        ensures memory { (result ≡ Err Bad.NoMemory) → MayBePages (map (λ page. page.now) pages.now) header.now }
+        ensures memory { (result ≡ Err Bad.NoMemory) → MayBePages (texts_of pages.now) header.now }
 
         // The state with these pages is read, unless memory runs out.
-        ensures only { (s : SpaceState) (number : ℕ) → ArePages (map (λ page. page.now) pages.now) header.now s number → MatchResult result (λ x. (x.0 ≡ s) × (x.1 ≡ number)) (λ bad. bad ≡ Bad.NoMemory) }
+        ensures only { ReadsEachState (texts_of pages.now) header.now result }
     {
         if pages.len() != PAGES {
             return Err(Bad::Malformed);
@@ -127,8 +128,8 @@ impl Space {
     // The space by the texts of its pages 0 to 255 and its next birth number.
     fn with_pages(alloc: Global, pages: &[&[u8]], next: u64) -> Result<Space, Bad>
         requires { length pages.now ≡ 256 }
-        ensures found { IfOk result (λ s. ArePagesOf next (map (λ page. page.now) pages.now) s) }
-        ensures only { (s : SpaceState) → ArePagesOf next (map (λ page. page.now) pages.now) s → IfErr result (λ bad. bad ≡ Bad.NoMemory) }
+        ensures found { IfOk result (λ s. ArePagesOf next (texts_of pages.now) s) }
+        ensures only { ReadsAllPages next (texts_of pages.now) result }
     {
         let mut tuples = BTreeMap::new(alloc);
         let mut page_counts = empty_pages();
@@ -237,7 +238,7 @@ impl Space {
     }
 
     fn oldest_match<A: Allocator>(&self, template: &Template<A>) -> Option<(u64, &Tuple<Global>)>
-        ensures value { option_map (λ x. (x.0, x.1.now)) result ≡ oldest_in template.now self.now.entries }
+        ensures value { IsOldest template.now self.now.entries result }
         ensures valid { IsState self.now }
     {
         let births = self.candidates(template);
@@ -250,7 +251,7 @@ impl Space {
     // Takes the tuple of this birth.
     fn remove(&mut self, birth: u64) -> Option<Tuple<Global>>
         ensures value { result ≡ lookup (is_at (nat_cmp birth)) self.old.entries }
-        ensures state { self.new ≡ record self.old { entries = remove_entry (is_at (nat_cmp birth)) self.old.entries } }
+        ensures state { self.new ≡ without_birth self.old birth }
     {
         match self.tuples.remove(&birth) {
             Some(tuple) => {
@@ -264,8 +265,8 @@ impl Space {
 
     // Reads the oldest match.
     fn read<A: Allocator>(&self, template: &Template<A>) -> Result<Answer<Global>, NoMemory>
-        ensures value { IfOk result (λ a. outcome_of a ≡ found_or_absent (first_match template.now (tuples_of self.now))) }
-        ensures memory { OnErr result (is_some (first_match template.now (tuples_of self.now)) ≡ true) }
+        ensures value { Answers result self.now (rdp template.now) }
+        ensures memory { OnErr result (WantsMemory self.now (rdp template.now)) }
     {
         match self.oldest_match(template) {
             Some((_, tuple)) => Ok(Answer::Found(tuple.copy_in(self.alloc)?)),
@@ -279,8 +280,8 @@ impl Space {
         max: Max,
         template: &Template<A>,
     ) -> Result<Answer<Global>, NoMemory>
-        ensures value { IfOk result (λ a. outcome_of a ≡ outcome (tuples_of self.now) (rd_all max.count template.now)) }
-        ensures memory { OnErr result (is_some (first_match template.now (tuples_of self.now)) ≡ true) }
+        ensures value { Answers result self.now (rd_all max.count template.now) }
+        ensures memory { OnErr result (WantsMemory self.now (rd_all max.count template.now)) }
     {
         let births = self.candidates(template);
         if self.are_many(births.len()) {
@@ -293,7 +294,7 @@ impl Space {
 
     // Takes the oldest match.
     fn take<A: Allocator>(&mut self, template: &Template<A>) -> Answer<Global>
-        ensures value { outcome_of result ≡ found_or_absent (first_match template.now (tuples_of self.old)) }
+        ensures value { outcome_of result ≡ outcome (tuples_of self.old) (inp template.now) }
         ensures state { self.new ≡ without_match self.old template.now }
     {
         let birth = match self.oldest_match(template) {
@@ -319,8 +320,8 @@ impl Space {
         tuple: &Tuple<A>,
     ) -> Result<Answer<Global>, NoMemory>
         requires { self.old.next < 2 ^ 62 }
-        ensures value { IfOk result (λ a. outcome_of a ≡ outcome (tuples_of self.old) (cas template.now tuple.now)) }
-        ensures ok { OnOk result (self.new ≡ state_after self.old (cas template.now tuple.now)) }
+        ensures value { Answers result self.old (cas template.now tuple.now) }
+        ensures ok { OnOk result (Follows self.old self.new (cas template.now tuple.now)) }
         ensures memory { OnErr result (WantsMemory self.old (cas template.now tuple.now)) }
         ensures err { OnErr result (self.new ≡ self.old) }
     {
@@ -338,9 +339,9 @@ impl Space {
     /// out. NoMemory comes only where a tuple is to be copied. It changes nothing.
     pub fn apply<A: Allocator>(&mut self, op: &Op<A>) -> Result<Answer<Global>, NoMemory>
         requires { self.old.next < 2 ^ 62 }
-        ensures answer { IfOk result (λ a. outcome_of a ≡ outcome (tuples_of self.old) (operation_of op.now)) }
-        ensures state { OnOk result (self.new ≡ state_after self.old (operation_of op.now)) }
-        ensures tuples { OnOk result (tuples_of self.new ≡ tuples_after (tuples_of self.old) (operation_of op.now)) }
+        ensures answer { Answers result self.old (operation_of op.now) }
+        ensures state { OnOk result (Follows self.old self.new (operation_of op.now)) }
+        ensures tuples { OnOk result (TuplesFollow self.old self.new (operation_of op.now)) }
         ensures valid { IsState self.new }
         ensures next { self.new.next ≤ self.old.next + 256 }
         ensures memory { OnErr result (WantsMemory self.old (operation_of op.now)) }
@@ -355,7 +356,7 @@ impl Space {
     pub(crate) fn page_changed_by<A: Allocator>(&self, op: &Op<A>) -> Option<usize>
         requires { self.now.next < 2 ^ 62 }
         ensures bound { IfSome result (λ page. page < 256) }
-        ensures others { (page : ℕ) → ¬ (result ≡ Some page) → KeepsPage self.now (operation_of op.now) page }
+        ensures others { KeepsOthers self.now (operation_of op.now) result }
     {
         match op {
             Op::Out(_) => Some(self.next_page()),
@@ -379,8 +380,8 @@ impl Space {
 
     fn answer<A: Allocator>(&mut self, op: &Op<A>) -> Result<Answer<Global>, NoMemory>
         requires { self.old.next < 2 ^ 62 }
-        ensures answer { IfOk result (λ a. outcome_of a ≡ outcome (tuples_of self.old) (operation_of op.now)) }
-        ensures state { OnOk result (self.new ≡ state_after self.old (operation_of op.now)) }
+        ensures answer { Answers result self.old (operation_of op.now) }
+        ensures state { OnOk result (Follows self.old self.new (operation_of op.now)) }
         ensures memory { OnErr result (WantsMemory self.old (operation_of op.now)) }
         ensures err { OnErr result (self.new ≡ self.old) }
     {
@@ -402,9 +403,9 @@ impl Space {
     /// Answers an operation that changes nothing; any other is refused before memory is looked at. NoMemory comes only
     /// where a match is to be copied.
     pub fn peek<A: Allocator>(&self, op: &Op<A>) -> Result<Answer<Global>, PeekFault>
-        ensures answer { IfOk result (λ a. outcome_of a ≡ outcome (tuples_of self.now) (operation_of op.now)) }
-        ensures not_read_only { (result ≡ Err PeekFault.NotReadOnly) ↔ (is_read_only (operation_of op.now) ≡ false) }
-        ensures memory { (result ≡ Err PeekFault.NoMemory) → WantsMemory self.now (operation_of op.now) }
+        ensures answer { Answers result self.now (operation_of op.now) }
+        ensures not_read_only { RefusesChanges result (operation_of op.now) }
+        ensures memory { LacksMemory result → WantsMemory self.now (operation_of op.now) }
         ensures valid { IsState self.now }
     {
         self.note_state();

@@ -1,9 +1,9 @@
 //! A space that notes which pages may have changed.
 
-ghost use Rattle.std.specs.Prelude.{◌≡◌, ◌^◌, ◌<◌, ℕ, true, false, OnOk, OnErr, IfOk, slice_index_or};
-ghost use Rattle.tuple_codec.specs.OperationView.{operation_of, outcome_of};
-ghost use Rattle.space.specs.Applying.{outcome};
-ghost use Rattle.space.specs.Births.{IsState, tuples_of, state_after, WantsMemory};
+ghost use Rattle.std.specs.Prelude.{◌≡◌, ◌^◌, ◌<◌, ℕ, true, false, OnOk, OnErr};
+ghost use Rattle.tuple_codec.specs.OperationView.{operation_of};
+ghost use Rattle.space.specs.Answers.{Answers};
+ghost use Rattle.space.specs.Births.{IsState, Follows, WantsMemory};
 ghost use Rattle.space.specs.Watching.{is_touched, TouchesChanges};
 
 use crate::births::PAGES;
@@ -53,8 +53,8 @@ impl Watched {
     /// leaves the space as it was.
     pub fn apply<A: Allocator>(&mut self, op: &Op<A>) -> Result<Answer<Global>, NoMemory>
         requires { self.old.state.next < 2 ^ 62 }
-        ensures answer { IfOk result (λ a. outcome_of a ≡ outcome (tuples_of self.old.state) (operation_of op.now)) }
-        ensures state { OnOk result (self.new.state ≡ state_after self.old.state (operation_of op.now)) }
+        ensures answer { Answers result self.old.state (operation_of op.now) }
+        ensures state { OnOk result (Follows self.old.state self.new.state (operation_of op.now)) }
         ensures valid { IsState self.new.state }
         ensures memory { OnErr result (WantsMemory self.old.state (operation_of op.now)) }
         ensures err { OnErr result (self.new.state ≡ self.old.state) }

@@ -1,5 +1,5 @@
 -- That a function of the program gives what reading gives.
-use Rattle.std.specs.Prelude.{◌≡◌, Option, Some, None, Result, Ok, Err}
+use Rattle.std.specs.Prelude.{◌≡◌, ℕ, ◌≤◌, List, length, take, Option, Some, None, Result, Ok, Err, IfOk, MatchResult}
 use Rattle.tuple_codec.specs.declared.bad.Bad.{Bad}
 use Rattle.tuple_codec.specs.declared.bad.Bad.TheVariants as bad
 
@@ -15,3 +15,14 @@ Fails bad.Malformed read = read ≡ None
 abbrev pub Gives : {X Y : Type 0} → (X → Y) → Result X Bad → Option Y → Type 0
 Gives view (Ok x) read = read ≡ Some (view x)
 Gives view (Err e) read = Fails e read
+
+-- What is decoded is spelled by the first bytes, so many of them.
+abbrev pub DecodesSpelled : {X V : Type 0} → (X → V) → (List ℕ → V → Type 0) → List ℕ → Result (X × ℕ) Bad → Type 0
+DecodesSpelled view SpellsValue bytes result =
+    IfOk result (λ x. (x.1 ≤ length bytes) × SpellsValue (take x.1 bytes) (view x.0))
+
+-- Each value that is spelled by the first k bytes is decoded, and so many bytes, unless memory ran out.
+abbrev pub DecodesEach : {X V : Type 0} → (X → V) → (List ℕ → V → Type 0) → List ℕ → Result (X × ℕ) Bad → Type 0
+DecodesEach {V = V} view SpellsValue bytes result =
+    (v : V) (k : ℕ) → k ≤ length bytes → SpellsValue (take k bytes) v
+    → MatchResult result (λ x. (view x.0 ≡ v) × (x.1 ≡ k)) (λ e. e ≡ bad.NoMemory)

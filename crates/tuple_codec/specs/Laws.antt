@@ -4,4 +4,6 @@ use Rattle.tuple_codec.specs.Spelling.{Spells}
 
 -- Where two spellings stand at the front of the same bytes, they are the same, and so are the values.
 abbrev pub HasOneSpelling : {V : Type 0} → (V → Type 0) → (V → List ℕ) → Type 0
-HasOneSpelling {V = V} IsValue spelling = (a b x y : List ℕ) (v w : V) → Spells IsValue spelling a v → Spells IsValue spelling b w → a ++ x ≡ b ++ y → (a ≡ b) × (v ≡ w)
+HasOneSpelling {V = V} IsValue spelling =
+    (a b x y : List ℕ) (v w : V) → Spells IsValue spelling a v → Spells IsValue spelling b w → a ++ x ≡ b ++ y
+    → (a ≡ b) × (v ≡ w)

@@ -1,5 +1,7 @@
--- What the operations and answers of the program stand for.
+-- What the operations and answers of the program stand for, and how they are spelled.
+use Rattle.std.specs.Prelude.{ℕ, List}
 use Rattle.tuple_codec.specs.Operations.{Operation, out, rdp, inp, cas, rd_all, Outcome, done, found, absent, swapped, all, full, refused}
+use Rattle.tuple_codec.specs.Spelling.{operation_spelling, outcome_spelling}
 use Rattle.tuple_codec.specs.declared.operations.Op.{Op}
 use Rattle.tuple_codec.specs.declared.operations.Op.TheVariants as ops
 use Rattle.tuple_codec.specs.declared.operations.Answer.{Answer}
@@ -21,3 +23,9 @@ module _ {A : Type 0} where
   outcome_of (answers.All ts) = all ts
   outcome_of answers.Full = full
   outcome_of answers.Refused = refused
+
+  abbrev pub op_spelling : Op A → List ℕ
+  op_spelling op = operation_spelling (operation_of op)
+
+  abbrev pub answer_spelling : Answer A → List ℕ
+  answer_spelling answer = outcome_spelling (outcome_of answer)

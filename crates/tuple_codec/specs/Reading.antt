@@ -54,20 +54,33 @@ flag_of b rest = if b == 0 then Some (false, rest) else (if b == 1 then Some (tr
 unfoldable pub flag_at : Reader Bool
 flag_at bs = byte_at bs >>= λ b. flag_of b.0 b.1
 
+-- a signed number of 64 bits
+abbrev pub signed_at : Reader Datum
+signed_at = read_as (λ n. number (cast_signed w64 n)) (number_of 8)
+
 -- the value behind a tag
 unfoldable pub datum_at : ℕ → Reader Datum
 datum_at tag bs =
-    if tag == 1 then read_as (λ n. number (cast_signed w64 n)) (number_of 8) bs
-    else (if tag == 2 then read_as text text_at bs else (if tag == 3 then read_as bytes string_at bs else (if tag == 4 then read_as truth flag_at bs else None)))
+    if tag == 1 then signed_at bs
+    else if tag == 2 then read_as text text_at bs
+    else if tag == 3 then read_as bytes string_at bs
+    else if tag == 4 then read_as truth flag_at bs
+    else None
 
 -- the field behind a tag
 unfoldable pub slot_at : ℕ → Reader Slot
 slot_at tag bs =
     if tag == 0x10 then Some (any, bs)
-    else (if tag == 0x11 then Some (formal kinds.Number, bs)
-    else (if tag == 0x12 then Some (formal kinds.Text, bs)
-    else (if tag == 0x13 then Some (formal kinds.Bytes, bs)
-    else (if tag == 0x14 then Some (formal kinds.Truth, bs) else (if tag == 0x15 then Some (formal kinds.Tuple, bs) else read_as actual (datum_at tag) bs)))))
+    else if tag == 0x11 then Some (formal kinds.Number, bs)
+    else if tag == 0x12 then Some (formal kinds.Text, bs)
+    else if tag == 0x13 then Some (formal kinds.Bytes, bs)
+    else if tag == 0x14 then Some (formal kinds.Truth, bs)
+    else if tag == 0x15 then Some (formal kinds.Tuple, bs)
+    else read_as actual (datum_at tag) bs
+
+-- the actual field behind a tag
+abbrev pub actual_at : ℕ → Reader (Item Slot)
+actual_at tag = read_as leaf (read_as actual (datum_at tag))
 
 module _ {L : Type 0} (leaf_at : ℕ → Reader L) where
   -- an item, where inner_at reads what stands behind a 5
@@ -114,7 +127,11 @@ rd_all_at bs = byte_at bs >>= λ n. if nat_le 1 n.0 && nat_le n.0 64 then read_a
 unfoldable pub operation_behind : ℕ → Reader Operation
 operation_behind tag bs =
     if tag == 0x21 then read_as out tuple_at bs
-    else (if tag == 0x22 then read_as rdp template_at bs else (if tag == 0x23 then read_as inp template_at bs else (if tag == 0x24 then cas_at bs else (if tag == 0x25 then rd_all_at bs else None))))
+    else if tag == 0x22 then read_as rdp template_at bs
+    else if tag == 0x23 then read_as inp template_at bs
+    else if tag == 0x24 then cas_at bs
+    else if tag == 0x25 then rd_all_at bs
+    else None
 
 unfoldable pub operation_at : Reader Operation
 operation_at bs = byte_at bs >>= λ x. operation_behind x.0 x.1
@@ -125,13 +142,26 @@ with_tuple ts t = ts ++ t ∷ []
 unfoldable pub tuples_at : Reader (List TupleTree)
 tuples_at bs = byte_at bs >>= λ n. if nat_lt 64 n.0 then None else more tuple_at with_tuple n.0 [] n.1
 
+-- the answers that have something behind their tag
+abbrev pub found_at : Reader Outcome
+found_at = read_as found tuple_at
+
+abbrev pub swapped_at : Reader Outcome
+swapped_at = read_as swapped flag_at
+
+abbrev pub all_at : Reader Outcome
+all_at = read_as all tuples_at
+
 unfoldable pub outcome_behind : ℕ → Reader Outcome
 outcome_behind tag bs =
     if tag == 0x31 then Some (done, bs)
-    else (if tag == 0x32 then read_as found tuple_at bs
-    else (if tag == 0x33 then Some (absent, bs)
-    else (if tag == 0x34 then read_as swapped flag_at bs
-    else (if tag == 0x35 then read_as all tuples_at bs else (if tag == 0x36 then Some (full, bs) else (if tag == 0x37 then Some (refused, bs) else None))))))
+    else if tag == 0x32 then found_at bs
+    else if tag == 0x33 then Some (absent, bs)
+    else if tag == 0x34 then swapped_at bs
+    else if tag == 0x35 then all_at bs
+    else if tag == 0x36 then Some (full, bs)
+    else if tag == 0x37 then Some (refused, bs)
+    else None
 
 unfoldable pub outcome_at : Reader Outcome
 outcome_at bs = byte_at bs >>= λ x. outcome_behind x.0 x.1

@@ -50,18 +50,32 @@ module _ {L : Type 0} (leaf_spelling : L → List ℕ) where
   abbrev pub whole_spelling : Items L → List ℕ
   whole_spelling xs = how_many xs ∷ items_spelling xs
 
+-- a value of a tuple, and a field of a template
+abbrev pub value_spelling : Item Datum → List ℕ
+value_spelling v = item_spelling datum_spelling v
+
+abbrev pub field_spelling : Item Slot → List ℕ
+field_spelling f = item_spelling slot_spelling f
+
 abbrev pub tuple_spelling : TupleTree → List ℕ
 tuple_spelling t = whole_spelling datum_spelling t
 
 abbrev pub template_spelling : TemplateTree → List ℕ
 template_spelling p = whole_spelling slot_spelling p
 
+-- an operation with two arguments: its tag, and then both
+abbrev pub cas_spelling : TemplateTree → TupleTree → List ℕ
+cas_spelling p t = 0x24 ∷ template_spelling p ++ tuple_spelling t
+
+abbrev pub rd_all_spelling : ℕ → TemplateTree → List ℕ
+rd_all_spelling n p = 0x25 ∷ n ∷ template_spelling p
+
 abbrev pub operation_spelling : Operation → List ℕ
 operation_spelling (out t) = 0x21 ∷ tuple_spelling t
 operation_spelling (rdp p) = 0x22 ∷ template_spelling p
 operation_spelling (inp p) = 0x23 ∷ template_spelling p
-operation_spelling (cas p t) = 0x24 ∷ template_spelling p ++ tuple_spelling t
-operation_spelling (rd_all n p) = 0x25 ∷ n ∷ template_spelling p
+operation_spelling (cas p t) = cas_spelling p t
+operation_spelling (rd_all n p) = rd_all_spelling n p
 
 abbrev pub tuples_spelling : List TupleTree → List ℕ
 tuples_spelling [] = []

@@ -1,15 +1,15 @@
 //! From bytes to tuples and templates.
 
-ghost use Rattle.std.specs.Prelude.{◌≡◌, ◌+◌, ◌*◌, ◌≤◌, length, take, ℕ, IfOk, IfErr, MatchResult, OnOk};
+ghost use Rattle.std.specs.Prelude.{◌≡◌, ◌+◌, ◌*◌, ◌≤◌, length, IfOk, IfErr, OnOk};
 ghost use Rattle.std.specs.Int.{w64, cast_signed};
 ghost use Rattle.tuple_tree.specs.Items.{leaf, with_last};
-ghost use Rattle.tuple_tree.specs.Values.{actual, text, bytes as byte_string, TupleTree, TemplateTree, IsTuple, IsTemplate};
+ghost use Rattle.tuple_tree.specs.Values.{text, bytes as byte_string, IsTuple, IsTemplate};
 ghost use Rattle.tuple_tree.specs.AtomView.{datum_of};
 ghost use Rattle.tuple_tree.specs.TupleView.{value_of};
 ghost use Rattle.tuple_tree.specs.TemplateView.{field_of};
-ghost use Rattle.tuple_codec.specs.Gives.{Gives};
+ghost use Rattle.tuple_codec.specs.Gives.{Gives, DecodesSpelled, DecodesEach};
 ghost use Rattle.tuple_codec.specs.Spelling.{SpellsTuple, SpellsTemplate, FrontSpellsTuple, FrontSpellsTemplate};
-ghost use Rattle.tuple_codec.specs.Reading.{read_as, byte_at, datum_at, slot_at, item_at, items_at, tuple_at, template_at};
+ghost use Rattle.tuple_codec.specs.Reading.{read_as, byte_at, datum_at, slot_at, actual_at, item_at, items_at, tuple_at, template_at};
 
 use crate::bad::Bad;
 use crate::check::{skip_template, skip_tuple};
@@ -25,10 +25,10 @@ use tuple_tree::{Atom, Field, Kind, MAX_FIELDS, Refusal, Template, Tuple, Value}
 /// Malformed where no front of the bytes spells a tuple within the limits, and else NoMemory where memory runs out.
 pub fn decode_tuple<A: Allocator + Clone>(alloc: A, bytes: &[u8]) -> Result<(Tuple<A>, usize), Bad>
     // What is read is spelled so.
-    ensures found { IfOk result (λ x. (x.1 ≤ length bytes.now) × SpellsTuple (take x.1 bytes.now) x.0) }
+    ensures found { DecodesSpelled (λ t. t) SpellsTuple bytes.now result }
 
     // What is spelled so is read, unless memory runs out.
-    ensures only { (t : TupleTree) (k : ℕ) → k ≤ length bytes.now → SpellsTuple (take k bytes.now) t → MatchResult result (λ x. (x.0 ≡ t) × (x.1 ≡ k)) (λ e. e ≡ Bad.NoMemory) }
+    ensures only { DecodesEach (λ t. t) SpellsTuple bytes.now result }
 
     // Memory runs out only where some front of the bytes is spelled so.
     ensures memory { IfErr result (λ bad. bad ≡ Bad.NoMemory → FrontSpellsTuple bytes.now) }
@@ -52,10 +52,10 @@ pub fn decode_template<A: Allocator + Clone>(
     bytes: &[u8],
 ) -> Result<(Template<A>, usize), Bad>
     // What is read is spelled so.
-    ensures found { IfOk result (λ x. (x.1 ≤ length bytes.now) × SpellsTemplate (take x.1 bytes.now) x.0) }
+    ensures found { DecodesSpelled (λ p. p) SpellsTemplate bytes.now result }
 
     // What is spelled so is read, unless memory runs out.
-    ensures only { (p : TemplateTree) (k : ℕ) → k ≤ length bytes.now → SpellsTemplate (take k bytes.now) p → MatchResult result (λ x. (x.0 ≡ p) × (x.1 ≡ k)) (λ e. e ≡ Bad.NoMemory) }
+    ensures only { DecodesEach (λ p. p) SpellsTemplate bytes.now result }
 
     // Memory runs out only where some front of the bytes is spelled so.
     ensures memory { IfErr result (λ bad. bad ≡ Bad.NoMemory → FrontSpellsTemplate bytes.now) }
@@ -251,7 +251,7 @@ fn read_actual<'b, A: Allocator + Clone>(
     tag: u8,
     bytes: &'b [u8],
 ) -> Result<(Field<A>, &'b [u8]), Bad>
-    ensures { Gives (λ x. (field_of x.0, x.1.now)) result (read_as leaf (read_as actual (datum_at tag)) bytes.now) }
+    ensures { Gives (λ x. (field_of x.0, x.1.now)) result (actual_at tag bytes.now) }
 {
     match read_atom(alloc, tag, bytes) {
         Ok((atom, rest)) => Ok((Field::Actual(atom), rest)),

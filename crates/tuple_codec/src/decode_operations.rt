@@ -1,11 +1,11 @@
 //! From bytes to operations and answers.
 
-ghost use Rattle.std.specs.Prelude.{◌≡◌, ◌≢◌, ◌+◌, ◌<◌, ◌≤◌, length, take, ℕ, IfOk, IfErr, MatchResult, OnOk};
-ghost use Rattle.tuple_codec.specs.Operations.{Operation, out, rdp, inp, Outcome, found as found_one, swapped as was_swapped, all};
+ghost use Rattle.std.specs.Prelude.{◌≡◌, ◌≢◌, ◌+◌, ◌<◌, ◌≤◌, length, IfErr, OnOk};
+ghost use Rattle.tuple_codec.specs.Operations.{out, rdp, inp};
 ghost use Rattle.tuple_codec.specs.OperationView.{operation_of, outcome_of};
-ghost use Rattle.tuple_codec.specs.Gives.{Gives};
+ghost use Rattle.tuple_codec.specs.Gives.{Gives, DecodesSpelled, DecodesEach};
 ghost use Rattle.tuple_codec.specs.Spelling.{SpellsOperation, SpellsOutcome, FrontSpellsOperation, FrontSpellsOutcome};
-ghost use Rattle.tuple_codec.specs.Reading.{read_as, tuple_at, template_at, flag_at, cas_at, rd_all_at, operation_behind, operation_at, tuples_at, outcome_behind, outcome_at, with_tuple};
+ghost use Rattle.tuple_codec.specs.Reading.{read_as, tuple_at, template_at, cas_at, rd_all_at, operation_behind, operation_at, tuples_at, found_at, swapped_at, all_at, outcome_behind, outcome_at, with_tuple};
 
 use crate::bad::Bad;
 use crate::check::{skip_answer, skip_op};
@@ -24,10 +24,10 @@ use tuple_tree::Tuple;
 /// out.
 pub fn decode_op<A: Allocator + Clone>(alloc: A, bytes: &[u8]) -> Result<(Op<A>, usize), Bad>
     // What is read is spelled so.
-    ensures found { IfOk result (λ x. (x.1 ≤ length bytes.now) × SpellsOperation (take x.1 bytes.now) (operation_of x.0)) }
+    ensures found { DecodesSpelled operation_of SpellsOperation bytes.now result }
 
     // What is spelled so is read, unless memory runs out.
-    ensures only { (o : Operation) (k : ℕ) → k ≤ length bytes.now → SpellsOperation (take k bytes.now) o → MatchResult result (λ x. (operation_of x.0 ≡ o) × (x.1 ≡ k)) (λ e. e ≡ Bad.NoMemory) }
+    ensures only { DecodesEach operation_of SpellsOperation bytes.now result }
 
     // Memory runs out only where some front of the bytes is spelled so.
     ensures memory { IfErr result (λ bad. bad ≡ Bad.NoMemory → FrontSpellsOperation bytes.now) }
@@ -51,10 +51,10 @@ pub fn decode_result<A: Allocator + Clone>(
     bytes: &[u8],
 ) -> Result<(Answer<A>, usize), Bad>
     // What is read is spelled so.
-    ensures found { IfOk result (λ x. (x.1 ≤ length bytes.now) × SpellsOutcome (take x.1 bytes.now) (outcome_of x.0)) }
+    ensures found { DecodesSpelled outcome_of SpellsOutcome bytes.now result }
 
     // What is spelled so is read, unless memory runs out.
-    ensures only { (r : Outcome) (k : ℕ) → k ≤ length bytes.now → SpellsOutcome (take k bytes.now) r → MatchResult result (λ x. (outcome_of x.0 ≡ r) × (x.1 ≡ k)) (λ e. e ≡ Bad.NoMemory) }
+    ensures only { DecodesEach outcome_of SpellsOutcome bytes.now result }
 
     // Memory runs out only where some front of the bytes is spelled so.
     ensures memory { IfErr result (λ bad. bad ≡ Bad.NoMemory → FrontSpellsOutcome bytes.now) }
@@ -182,7 +182,7 @@ fn read_found<'b, A: Allocator + Clone>(
     alloc: &A,
     bytes: &'b [u8],
 ) -> Result<(Answer<A>, &'b [u8]), Bad>
-    ensures { Gives (λ x. (outcome_of x.0, x.1.now)) result (read_as found_one tuple_at bytes.now) }
+    ensures { Gives (λ x. (outcome_of x.0, x.1.now)) result (found_at bytes.now) }
 {
     match read_tuple(alloc, bytes) {
         Ok((tuple, rest)) => Ok((Answer::Found(tuple), rest)),
@@ -191,7 +191,7 @@ fn read_found<'b, A: Allocator + Clone>(
 }
 
 fn read_swapped<A: Allocator>(bytes: &[u8]) -> Result<(Answer<A>, &[u8]), Bad>
-    ensures { Gives (λ x. (outcome_of x.0, x.1.now)) result (read_as was_swapped flag_at bytes.now) }
+    ensures { Gives (λ x. (outcome_of x.0, x.1.now)) result (swapped_at bytes.now) }
 {
     match read_flag(bytes) {
         Some((swapped, rest)) => Ok((Answer::Swapped(swapped), rest)),
@@ -203,7 +203,7 @@ fn read_all<'b, A: Allocator + Clone>(
     alloc: &A,
     bytes: &'b [u8],
 ) -> Result<(Answer<A>, &'b [u8]), Bad>
-    ensures { Gives (λ x. (outcome_of x.0, x.1.now)) result (read_as all tuples_at bytes.now) }
+    ensures { Gives (λ x. (outcome_of x.0, x.1.now)) result (all_at bytes.now) }
 {
     match read_tuples(alloc, bytes) {
         Ok((tuples, rest)) => Ok((Answer::All(tuples), rest)),

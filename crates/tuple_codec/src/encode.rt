@@ -7,9 +7,9 @@ ghost use Rattle.tuple_tree.specs.AtomView.{datum_of};
 ghost use Rattle.tuple_tree.specs.TupleView.{value_of};
 ghost use Rattle.tuple_tree.specs.TemplateView.{field_of};
 ghost use Rattle.tuple_codec.specs.Puts.{Puts};
-ghost use Rattle.tuple_codec.specs.Operations.{cas, rd_all, all};
-ghost use Rattle.tuple_codec.specs.OperationView.{operation_of, outcome_of};
-ghost use Rattle.tuple_codec.specs.Spelling.{flag, datum_spelling, slot_spelling, formal_tag, item_spelling, tuple_spelling, template_spelling, operation_spelling, tuples_spelling, outcome_spelling};
+ghost use Rattle.tuple_codec.specs.Operations.{all};
+ghost use Rattle.tuple_codec.specs.OperationView.{op_spelling, answer_spelling};
+ghost use Rattle.tuple_codec.specs.Spelling.{flag, datum_spelling, formal_tag, value_spelling, field_spelling, tuple_spelling, template_spelling, cas_spelling, rd_all_spelling, tuples_spelling, outcome_spelling};
 ghost use Rattle.tuple_codec.specs.Spelling as Spelling;
 
 use crate::operations::{Answer, Max, Op, Tuples};
@@ -60,7 +60,7 @@ pub fn encode_op<A: Allocator, B: Allocator>(
     op: &Op<A>,
     out: &mut Vec<u8, B>,
 ) -> Result<(), NoMemory>
-    ensures ok { OnOk result (out.new.items ≡ out.old.items ++ operation_spelling (operation_of op.now)) }
+    ensures ok { OnOk result (out.new.items ≡ out.old.items ++ op_spelling op.now) }
     ensures err { OnErr result (out.new.items ≡ out.old.items) }
 {
     let old_len = out.len();
@@ -78,7 +78,7 @@ pub fn encode_result<A: Allocator, B: Allocator>(
     answer: &Answer<A>,
     out: &mut Vec<u8, B>,
 ) -> Result<(), NoMemory>
-    ensures ok { OnOk result (out.new.items ≡ out.old.items ++ outcome_spelling (outcome_of answer.now)) }
+    ensures ok { OnOk result (out.new.items ≡ out.old.items ++ answer_spelling answer.now) }
     ensures err { OnErr result (out.new.items ≡ out.old.items) }
 {
     let old_len = out.len();
@@ -92,7 +92,7 @@ pub fn encode_result<A: Allocator, B: Allocator>(
 }
 
 fn put_op<A: Allocator, B: Allocator>(op: &Op<A>, out: &mut Vec<u8, B>) -> Result<(), NoMemory>
-    ensures { Puts (operation_spelling (operation_of op.now)) out.old.items out.new.items result }
+    ensures { Puts (op_spelling op.now) out.old.items out.new.items result }
 {
     match op {
         Op::Out(tuple) => put_tuple_behind(0x21, tuple, out),
@@ -108,7 +108,7 @@ fn put_cas<A: Allocator, B: Allocator>(
     tuple: &Tuple<A>,
     out: &mut Vec<u8, B>,
 ) -> Result<(), NoMemory>
-    ensures { Puts (operation_spelling (cas template.now tuple.now)) out.old.items out.new.items result }
+    ensures { Puts (cas_spelling template.now tuple.now) out.old.items out.new.items result }
 {
     put_template_behind(0x24, template, out)?;
     put_tuple(tuple, out)
@@ -119,7 +119,7 @@ fn put_rd_all<A: Allocator, B: Allocator>(
     template: &Template<A>,
     out: &mut Vec<u8, B>,
 ) -> Result<(), NoMemory>
-    ensures { Puts (operation_spelling (rd_all max.count template.now)) out.old.items out.new.items result }
+    ensures { Puts (rd_all_spelling max.count template.now) out.old.items out.new.items result }
 {
     put_byte(0x25, out)?;
     put_template_behind(max.count, template, out)
@@ -129,7 +129,7 @@ fn put_answer<A: Allocator, B: Allocator>(
     answer: &Answer<A>,
     out: &mut Vec<u8, B>,
 ) -> Result<(), NoMemory>
-    ensures { Puts (outcome_spelling (outcome_of answer.now)) out.old.items out.new.items result }
+    ensures { Puts (answer_spelling answer.now) out.old.items out.new.items result }
 {
     match answer {
         Answer::Done => put_byte(0x31, out),
@@ -206,7 +206,7 @@ fn put_value<A: Allocator, B: Allocator>(
     out: &mut Vec<u8, B>,
 ) -> Result<(), NoMemory>
     requires { item_length datum_length (value_of value.now) ≤ 1024 }
-    ensures { Puts (item_spelling datum_spelling (value_of value.now)) out.old.items out.new.items result }
+    ensures { Puts (value_spelling (value_of value.now)) out.old.items out.new.items result }
 {
     match value {
         Value::Atom(atom) => put_atom(atom, out),
@@ -237,7 +237,7 @@ fn put_field<A: Allocator, B: Allocator>(
     out: &mut Vec<u8, B>,
 ) -> Result<(), NoMemory>
     requires { item_length slot_length (field_of field.now) ≤ 1024 }
-    ensures { Puts (item_spelling slot_spelling (field_of field.now)) out.old.items out.new.items result }
+    ensures { Puts (field_spelling (field_of field.now)) out.old.items out.new.items result }
 {
     match field {
         Field::Actual(atom) => put_atom(atom, out),

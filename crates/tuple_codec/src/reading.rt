@@ -1,10 +1,9 @@
 //! Bytes, numbers, strings and flags at the front of bytes. Nothing here takes memory.
 
 ghost use Rattle.std.specs.Prelude.{◌≡◌, ◌+◌, ◌≤◌, length, take};
-ghost use Rattle.std.specs.Int.{w64, cast_signed};
 ghost use Rattle.tuple_tree.specs.Values.{number};
 ghost use Rattle.tuple_codec.specs.Gives.{Yields};
-ghost use Rattle.tuple_codec.specs.Reading.{read_as, byte_at, bytes_at, number_of, string_at, text_at, flag_at};
+ghost use Rattle.tuple_codec.specs.Reading.{byte_at, bytes_at, number_of, signed_at, string_at, text_at, flag_at};
 
 use byteorder::{BigEndian, ByteOrder};
 use std::str;
@@ -54,7 +53,7 @@ fn read_length(bytes: &[u8]) -> Option<(u16, &[u8])>
 /// A signed number of 64 bits.
 #[tactic(auto, unfolding(crate::specs::Reading::number_of))]
 pub fn read_number(bytes: &[u8]) -> Option<(i64, &[u8])>
-    ensures { Yields (λ x. (number x.0, x.1.now)) result (read_as (λ n. number (cast_signed w64 n)) (number_of 8) bytes.now) }
+    ensures { Yields (λ x. (number x.0, x.1.now)) result (signed_at bytes.now) }
 {
     if bytes.len() < 8 {
         return None;

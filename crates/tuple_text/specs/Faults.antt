@@ -87,9 +87,12 @@ pub record IsBadAt (bs : List ℕ) (n : ℕ) : Type 0 where
 
 abbrev pub Faults : LineFault → List ℕ → Type 0
 Faults (BadByte n) bs = IsBadAt bs n
-Faults TooDeep bs = (n : ℕ) × StopsAt bs n × Begins AnyOperation (take (n + 1) bs) × (Begins KeepsLevels (take (n + 1) bs) → ⊥)
-Faults TooManyFields bs = (n : ℕ) × StopsAt bs n × Begins KeepsLevels (take (n + 1) bs) × (Begins KeepsCounts (take (n + 1) bs) → ⊥)
-Faults TooLong bs = (n : ℕ) × StopsAt bs n × Begins KeepsBoth (take (n + 1) bs) × EndsTooLong (take (n + 1) bs)
+Faults TooDeep bs =
+    (n : ℕ) × StopsAt bs n × Begins AnyOperation (take (n + 1) bs) × (Begins KeepsLevels (take (n + 1) bs) → ⊥)
+Faults TooManyFields bs =
+    (n : ℕ) × StopsAt bs n × Begins KeepsLevels (take (n + 1) bs) × (Begins KeepsCounts (take (n + 1) bs) → ⊥)
+Faults TooLong bs =
+    (n : ℕ) × StopsAt bs n × Begins KeepsBoth (take (n + 1) bs) × EndsTooLong (take (n + 1) bs)
 Faults NoMemory bs = Unit {0}
 
 -- The line is not skipped, and is refused so.

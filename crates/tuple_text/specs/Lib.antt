@@ -1,7 +1,10 @@
 pub mod Texts
 pub mod Lines
 pub mod Faults
+pub mod Judged
 pub mod Read
 pub mod Reading
+pub mod Parts
 pub mod Literals
 pub mod Written
+pub mod Laws

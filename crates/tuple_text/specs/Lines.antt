@@ -49,7 +49,8 @@ ArgumentsText (argument ∷ more) bs =
     (gap front rest : List ℕ) × (bs ≡ gap ++ (front ++ rest)) × IsGap gap × argument front × ArgumentsText more rest
 
 abbrev pub LineText : Operation → List ℕ → Type 0
-LineText o bs = (lead rest : List ℕ) × (bs ≡ lead ++ (name o ++ rest)) × AreBlanks lead × ArgumentsText (arguments o) rest
+LineText o bs =
+    (lead rest : List ℕ) × (bs ≡ lead ++ (name o ++ rest)) × AreBlanks lead × ArgumentsText (arguments o) rest
 
 -- the line of an operation within all limits, at most 65,536 bytes
 pub record IsLine (o : Operation) (bs : List ℕ) : Type 0 where

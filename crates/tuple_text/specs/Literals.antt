@@ -1,5 +1,5 @@
 -- What a reader of the literals of texts and byte strings reads at the front of bytes.
-use Rattle.std.specs.Prelude.{ℕ, ◌+◌, ◌-◌, ◌*◌, ◌==◌, nat_le, nat_lt, Bool, ◌&&◌, ◌||◌, if◌then◌else◌, List, [], ◌∷◌, ◌++◌, Option, None, Some}
+use Rattle.std.specs.Prelude.{ℕ, ◌+◌, ◌-◌, ◌*◌, ◌==◌, nat_le, nat_lt, ◌≡◌, Bool, ◌&&◌, ◌||◌, if◌then◌else◌, List, [], ◌∷◌, ◌++◌, Option, None, Some, MatchOption}
 use Rattle.tuple_text.specs.Read.{got, stop, Reading}
 use Rattle.tuple_text.specs.declared.reader.Stop.TheVariants.{BadByte}
 use Rattle.tuple_text.specs.declared.literals.Expected.{Expected}
@@ -66,21 +66,31 @@ abbrev pub text_from : Expected → List ℕ → Reading (List ℕ)
 text_from e s [] = stop BadByte []
 text_from e s (b ∷ bs) = stepped (step e b) s (stop BadByte (b ∷ bs)) (got s bs) (λ f t. text_from f t bs)
 
+-- the rest of a text behind its first quote
+abbrev pub text_rest : Reading (List ℕ)
+text_rest bs = text_from Character [] bs
+
 unfoldable pub text_literal : Reading (List ℕ)
 text_literal [] = stop BadByte []
-text_literal (b ∷ bs) = if b == 34 then text_from Character [] bs else stop BadByte (b ∷ bs)
+text_literal (b ∷ bs) = if b == 34 then text_rest bs else stop BadByte (b ∷ bs)
 
 -- the digit at the front
 abbrev pub hex_front : List ℕ → Option (ℕ × List ℕ)
 hex_front [] = None
 hex_front (b ∷ bs) = if is_hex b then Some (hex_value b, bs) else None
 
+-- That digit is passed, and its value given; or there is none.
+abbrev pub PassesDigit : Option ℕ → List ℕ → List ℕ → Type 0
+PassesDigit given old new = MatchOption given (hex_front old ≡ None) (λ h. hex_front old ≡ Some (h, new))
+
 -- the rest of a byte string, with s read so far, and perhaps the first digit of a pair
 abbrev pub pairs : List ℕ → Option ℕ → Reading (List ℕ)
 pairs s None [] = got s []
 pairs s None (b ∷ bs) = if is_hex b then pairs s (Some (hex_value b)) bs else got s (b ∷ bs)
 pairs s (Some high) [] = stop BadByte []
-pairs s (Some high) (b ∷ bs) = if is_hex b then pairs (s ++ (high * 16 + hex_value b) ∷ []) None bs else stop BadByte (b ∷ bs)
+pairs s (Some high) (b ∷ bs) =
+    if is_hex b then pairs (s ++ (high * 16 + hex_value b) ∷ []) None bs
+    else stop BadByte (b ∷ bs)
 
 unfoldable pub bytes_literal : Reading (List ℕ)
 bytes_literal [] = stop BadByte []

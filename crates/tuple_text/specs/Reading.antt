@@ -87,19 +87,19 @@ truth_or_number = look 116 (named (codes "true") (truth true)) (look 102 (named 
 unfoldable pub datum : Reading Datum
 datum bs = look 34 quoted (look 120 byte_string truth_or_number) bs
 
--- the kinds that begin with b, and with t
-unfoldable pub kind_b : Reading Kind
-kind_b bs = word (codes "b") bs >>= λ _ rest. look 121 (named (codes "ytes") kinds.Bytes) (named (codes "ool") kinds.Truth) rest
-
-unfoldable pub kind_t : Reading Kind
-kind_t bs = word (codes "t") bs >>= λ _ rest. look 101 (named (codes "ext") kinds.Text) (named (codes "uple") kinds.Tuple) rest
-
--- the same behind that letter
+-- the rest of a kind that begins with b, and of one that begins with t
 abbrev pub behind_b : Reading Kind
 behind_b = look 121 (named (codes "ytes") kinds.Bytes) (named (codes "ool") kinds.Truth)
 
 abbrev pub behind_t : Reading Kind
 behind_t = look 101 (named (codes "ext") kinds.Text) (named (codes "uple") kinds.Tuple)
+
+-- these kinds with that letter
+unfoldable pub kind_b : Reading Kind
+kind_b bs = word (codes "b") bs >>= λ _ rest. behind_b rest
+
+unfoldable pub kind_t : Reading Kind
+kind_t bs = word (codes "t") bs >>= λ _ rest. behind_t rest
 
 unfoldable pub kind : Reading Kind
 kind bs = look 105 (named (codes "int") kinds.Number) (look 98 kind_b (look 116 kind_t nothing)) bs
@@ -132,7 +132,10 @@ full why (b ∷ bs) = stop (why b) (b ∷ bs)
 -- behind the blanks: whether an item follows, or the list is closed; the parenthesis is left
 unfoldable pub follows : Bool → Reading Bool
 follows free [] = stop BadByte []
-follows free (b ∷ bs) = if b == 41 then got false (b ∷ bs) else (if free then got true (b ∷ bs) else stop BadByte (b ∷ bs))
+follows free (b ∷ bs) =
+    if b == 41 then got false (b ∷ bs)
+    else if free then got true (b ∷ bs)
+    else stop BadByte (b ∷ bs)
 
 unfoldable pub turn : Bool → Reading Bool
 turn free bs = blanks free bs >>= follows
@@ -179,12 +182,15 @@ module _ {L : Type 0} (length_of : L → ℕ) where
     -- a list, by how its items are read and why there is no room
     abbrev pub list : (ℕ → Stop) → Reading (Option (Item L)) → Reading (Option (Items L))
     list why one bs =
-        word (codes "(") bs >>= λ _ rest. items why kept_with one 32 true (Some none) rest >>= λ t at. word (codes ")") at >>= λ _ after. got t after
+        word (codes "(") bs >>= λ _ rest. items why kept_with one 32 true (Some none) rest
+        >>= λ t at. word (codes ")") at >>= λ _ after. got t after
 
     -- an item with so many levels below it
     unfoldable pub item_at : ℕ → Reading (Option (Item L))
     item_at zero bs = look 40 (λ u. stop TooDeep u) leaf_item bs
-    item_at (suc levels) bs = look 40 (λ u. list (no_room begins levels) (item_at levels) u >>= λ t rest. got (option_map inner t) rest) leaf_item bs
+    item_at (suc levels) bs =
+        look 40 (λ u. list (no_room begins levels) (item_at levels) u >>= λ t rest. got (option_map inner t) rest)
+        leaf_item bs
 
     unfoldable pub items_at : ℕ → Reading (Option (Items L))
     items_at levels bs = items (no_room begins levels) kept_with (item_at levels) 32 true (Some none) bs
@@ -227,14 +233,18 @@ unfoldable pub inp_line : Reading Operation
 inp_line bs = word (codes "inp") bs >>= λ _ behind. argument template behind >>= λ p rest. ended (inp p) rest
 
 unfoldable pub cas_line : Reading Operation
-cas_line bs = word (codes "cas") bs >>= λ _ behind. argument template behind >>= λ p middle. argument tuple middle >>= λ t rest. ended (cas p t) rest
+cas_line bs =
+    word (codes "cas") bs >>= λ _ behind. argument template behind
+    >>= λ p middle. argument tuple middle >>= λ t rest. ended (cas p t) rest
 
 -- behind "rd"
 unfoldable pub rdp_line : Reading Operation
 rdp_line bs = word (codes "p") bs >>= λ _ behind. argument template behind >>= λ p rest. ended (rdp p) rest
 
 unfoldable pub all_line : Reading Operation
-all_line bs = word (codes "All") bs >>= λ _ behind. argument (positive 64) behind >>= λ n middle. argument template middle >>= λ p rest. ended (rd_all n p) rest
+all_line bs =
+    word (codes "All") bs >>= λ _ behind. argument (positive 64) behind
+    >>= λ n middle. argument template middle >>= λ p rest. ended (rd_all n p) rest
 
 unfoldable pub rd_line : Reading Operation
 rd_line bs = word (codes "rd") bs >>= λ _ rest. look 112 rdp_line all_line rest

@@ -31,13 +31,17 @@ escaped b =
     else (if b == 10 then 92 ∷ 110 ∷ []
     else (if nat_lt b 32 then 92 ∷ 120 ∷ hex_pair b else b ∷ [])))
 
+-- a text in quotes
+abbrev pub quoted_text : List ℕ → List ℕ
+quoted_text s = 34 ∷ flat_map escaped s ++ 34 ∷ []
+
 abbrev pub truth_text : Bool → List ℕ
 truth_text true = codes "true"
 truth_text false = codes "false"
 
 abbrev pub datum_text : Datum → List ℕ
 datum_text (number n) = signed_decimal n
-datum_text (text s) = 34 ∷ flat_map escaped s ++ 34 ∷ []
+datum_text (text s) = quoted_text s
 datum_text (bytes s) = 120 ∷ flat_map hex_pair s
 datum_text (truth b) = truth_text b
 
@@ -64,13 +68,15 @@ module _ {L : Type 0} (leaf_text : L → List ℕ) where
     pub ItemsText : Items L → List ℕ → Type 0
     ItemsText none bs = AreBlanks bs
     ItemsText (item x xs) bs =
-        (lead front rest : List ℕ) × (bs ≡ lead ++ (front ++ rest)) × AreBlanks lead × ItemText x front × MoreText xs rest
+        (lead front rest : List ℕ) × (bs ≡ lead ++ (front ++ rest)) × AreBlanks lead × ItemText x front
+        × MoreText xs rest
 
     -- what follows an item
     pub MoreText : Items L → List ℕ → Type 0
     MoreText none bs = AreBlanks bs
     MoreText (item x xs) bs =
-        (gap front rest : List ℕ) × (bs ≡ gap ++ (front ++ rest)) × IsGap gap × ItemText x front × MoreText xs rest
+        (gap front rest : List ℕ) × (bs ≡ gap ++ (front ++ rest)) × IsGap gap × ItemText x front
+        × MoreText xs rest
 
   abbrev pub WholeText : Items L → List ℕ → Type 0
   WholeText xs bs = ItemText (inner xs) bs

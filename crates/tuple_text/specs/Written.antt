@@ -2,8 +2,10 @@
 use Rattle.std.specs.Prelude.{◌≡◌, ℕ, List, [], ◌∷◌, ◌++◌, length, codes, Result, Ok, Err}
 use Rattle.std.specs.Fmt.{decimal}
 use Rattle.tuple_tree.specs.Items.{Item, leaf, inner, Items, none, item}
-use Rattle.tuple_tree.specs.Values.{TupleTree, TemplateTree}
+use Rattle.tuple_tree.specs.Values.{Datum, TupleTree, TemplateTree}
 use Rattle.tuple_codec.specs.Operations.{Outcome, done, found, absent, swapped, all, full, refused}
+use Rattle.tuple_codec.specs.OperationView.{outcome_of}
+use Rattle.tuple_codec.specs.declared.operations.Answer.{Answer}
 use Rattle.tuple_text.specs.Texts.{datum_text, slot_text, truth_text}
 
 module _ {L : Type 0} (leaf_text : L → List ℕ) where
@@ -25,6 +27,13 @@ module _ {L : Type 0} (leaf_text : L → List ℕ) where
   abbrev pub whole_written : Items L → List ℕ
   whole_written xs = item_written (inner xs)
 
+-- a value of a tuple, and its values without their parentheses
+abbrev pub value_written : Item Datum → List ℕ
+value_written v = item_written datum_text v
+
+abbrev pub values_written : TupleTree → List ℕ
+values_written t = items_written datum_text t
+
 abbrev pub tuple_written : TupleTree → List ℕ
 tuple_written t = whole_written datum_text t
 
@@ -36,6 +45,10 @@ abbrev pub tuples_written : List TupleTree → List ℕ
 tuples_written [] = []
 tuples_written (t ∷ ts) = 32 ∷ tuple_written t ++ tuples_written ts
 
+-- their count, and then they
+abbrev pub counted_written : List TupleTree → List ℕ
+counted_written ts = decimal (length ts) ++ tuples_written ts
+
 -- Of several tuples their count is written first.
 abbrev pub outcome_text : Outcome → List ℕ
 outcome_text done = codes "done"
@@ -45,6 +58,10 @@ outcome_text (swapped b) = codes "swapped " ++ truth_text b
 outcome_text (all ts) = codes "all " ++ decimal (length ts) ++ tuples_written ts
 outcome_text full = codes "full"
 outcome_text refused = codes "refused"
+
+-- of an answer of the program
+abbrev pub answer_text : {A : Type 0} → Answer A → List ℕ
+answer_text answer = outcome_text (outcome_of answer)
 
 -- Behind the old bytes stands the text, or what an error left of it.
 abbrev pub Appends : {V E : Type 0} → Result V E → List ℕ → List ℕ → List ℕ → Type 0

@@ -1,11 +1,8 @@
 //! Script lines.
 
-ghost use Rattle.std.specs.Prelude.{◌≡◌, ◌+◌, ◌++◌, ◌≤◌, ℕ, codes, length, IsTrue, ◌↔◌, MatchResult, MatchOption};
-ghost use Rattle.tuple_tree.specs.Values.{TemplateTree};
-ghost use Rattle.tuple_codec.specs.Operations.{Operation, rdp};
-ghost use Rattle.tuple_codec.specs.OperationView.{operation_of};
-ghost use Rattle.tuple_text.specs.Lines.{IsLine, IsSkipped};
-ghost use Rattle.tuple_text.specs.Faults.{Refuses, Faults, behind};
+ghost use Rattle.std.specs.Prelude.{◌≡◌, ◌+◌, ◌≤◌, length, IsTrue, ◌↔◌};
+ghost use Rattle.tuple_text.specs.Lines.{IsSkipped};
+ghost use Rattle.tuple_text.specs.Judged.{JudgesLine, ReadsEachLine, JudgesText, ReadsEachText};
 
 use crate::faults::{LineFault, MAX_LINE};
 use crate::reader::Reader;
@@ -34,10 +31,10 @@ fn is_skipped(line: &[u8]) -> bool
 /// and templates, decides. The byte 65,536 counts as one with which no line goes on.
 pub fn read_line(alloc: Global, line: &[u8]) -> Result<Option<Op<Global>>, LineFault>
     // What is read stands there, and the fault is the first one.
-    ensures answer { MatchResult result (λ read. MatchOption read (IsSkipped line.now) (λ op. IsLine (operation_of op) line.now)) (λ fault. Refuses fault line.now) }
+    ensures answer { JudgesLine line.now result }
 
     // The line of an operation is read so, unless memory runs out.
-    ensures only { (o : Operation) → IsLine o line.now → MatchResult result (λ read. MatchOption read ⊥ (λ op. operation_of op ≡ o)) (λ fault. fault ≡ LineFault.NoMemory) }
+    ensures only { ReadsEachLine line.now result }
     ensures skipped { IsSkipped line.now → result ≡ Ok None }
 {
     if is_skipped(line) {
@@ -63,10 +60,10 @@ pub fn read_line(alloc: Global, line: &[u8]) -> Result<Option<Op<Global>>, LineF
 /// As of the line `rdp TEXT`; offsets count from the text's first byte. The byte 65,532 counts as one with which no
 /// text goes on.
 pub fn read_template(alloc: Global, text: &[u8]) -> Result<Template<Global>, LineFault>
-    ensures answer { MatchResult result (λ p. IsLine (rdp p) (codes "rdp " ++ text.now)) (λ fault. Faults (behind 4 fault) (codes "rdp " ++ text.now)) }
+    ensures answer { JudgesText text.now result }
 
     // A template's text is read so, unless memory runs out.
-    ensures only { (p : TemplateTree) → IsLine (rdp p) (codes "rdp " ++ text.now) → MatchResult result (λ read. read ≡ p) (λ fault. fault ≡ LineFault.NoMemory) }
+    ensures only { ReadsEachText text.now result }
 {
     let taken = &text[..text.len().min(MAX_TEXT)];
     let mut reader = Reader::new(taken);

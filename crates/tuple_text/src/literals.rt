@@ -1,9 +1,9 @@
 //! The reader of text literals and byte string literals.
 
-ghost use Rattle.std.specs.Prelude.{◌≡◌, ◌+◌, ◌++◌, ◌∷◌, ◌<◌, [], None, Some, true, IfOk, IfErr, IfSome, IfNone, OnOk, MatchOption, string_bytes};
+ghost use Rattle.std.specs.Prelude.{◌≡◌, ◌+◌, ◌++◌, ◌∷◌, ◌<◌, [], None, Some, true, IfOk, IfErr, IfSome, IfNone, OnOk, string_bytes};
 ghost use Rattle.std.specs.Str.{IsUtf8};
-ghost use Rattle.tuple_text.specs.Reading.{Gives};
-ghost use Rattle.tuple_text.specs.Literals.{is_hex, hex_value, led, step, text_from, text_literal, hex_front, pairs, bytes_literal};
+ghost use Rattle.tuple_text.specs.Literals.{is_hex, hex_value, led, step, text_rest, text_literal, PassesDigit, pairs, bytes_literal};
+ghost use Rattle.tuple_text.specs.Parts.{Reads};
 
 use crate::reader::{Reader, Stop};
 use std::alloc::Global;
@@ -119,7 +119,7 @@ fn push_byte(bytes: &mut Vec<u8>, byte: u8) -> Result<(), Stop>
 impl<'a> Reader<'a> {
     // The rest of a text behind its first quote.
     fn text_bytes(&mut self, alloc: Global) -> Result<Vec<u8>, Stop>
-        ensures gives { Gives (λ v. v.items) result (text_from Expected.Character [] self.old.rest.now) self.new.rest.now }
+        ensures gives { Reads (λ v. v.items) result text_rest self.old self.new }
         ensures utf8 { IfOk result (λ v. IsUtf8 v.items) }
     {
         let mut bytes = Vec::new(alloc);
@@ -145,7 +145,7 @@ impl<'a> Reader<'a> {
     /// Reads a text literal.
     #[tactic(auto, unfolding(crate::specs::Literals::text_literal))]
     pub(crate) fn text_literal(&mut self, alloc: Global) -> Result<String<Global>, Stop>
-        ensures { Gives (λ s. string_bytes s) result (text_literal self.old.rest.now) self.new.rest.now }
+        ensures { Reads (λ s. string_bytes s) result text_literal self.old self.new }
     {
         match self.rest {
             [b'"', rest @ ..] => {
@@ -162,7 +162,7 @@ impl<'a> Reader<'a> {
 
     // Passes a hexadecimal digit, and gives its value.
     fn hex_digit(&mut self) -> Option<u8>
-        ensures value { MatchOption result (hex_front self.old.rest.now ≡ None) (λ h. hex_front self.old.rest.now ≡ Some (h, self.new.rest.now)) }
+        ensures value { PassesDigit result self.old.rest.now self.new.rest.now }
         ensures left { IfNone result (self.new.rest.now ≡ self.old.rest.now) }
         ensures bound { IfSome result (λ h. h < 16) }
     {
@@ -177,7 +177,7 @@ impl<'a> Reader<'a> {
 
     // The rest of a byte string behind its first letter.
     fn pairs(&mut self, alloc: Global) -> Result<Vec<u8>, Stop>
-        ensures { Gives (λ v. v.items) result (pairs [] None self.old.rest.now) self.new.rest.now }
+        ensures { Reads (λ v. v.items) result (pairs [] None) self.old self.new }
     {
         let mut bytes = Vec::new(alloc);
         while let Some(high) = self.hex_digit() {
@@ -192,7 +192,7 @@ impl<'a> Reader<'a> {
     /// Reads a byte string literal.
     #[tactic(auto, unfolding(crate::specs::Literals::bytes_literal))]
     pub(crate) fn bytes_literal(&mut self, alloc: Global) -> Result<Vec<u8>, Stop>
-        ensures { Gives (λ v. v.items) result (bytes_literal self.old.rest.now) self.new.rest.now }
+        ensures { Reads (λ v. v.items) result bytes_literal self.old self.new }
     {
         match self.rest {
             [b'x', rest @ ..] => {

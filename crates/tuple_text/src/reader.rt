@@ -1,16 +1,14 @@
 //! The reader of lines, a method for each part of the grammar.
 
 ghost use Rattle.std.specs.Prelude.{◌≡◌, ◌+◌, ◌-◌, ◌≤◌, ◌<◌, ◌^◌, codes, true, length, pos, IfOk, IfErr, OnOk, IsTrue, ◌↔◌, Option, option_map};
-ghost use Rattle.tuple_tree.specs.Values.{TupleTree, TemplateTree, datum_length, slot_length};
-ghost use Rattle.tuple_tree.specs.Values as values;
-ghost use Rattle.tuple_tree.specs.Items.{inner};
+ghost use Rattle.tuple_tree.specs.Values.{truth as truth_datum};
 ghost use Rattle.tuple_tree.specs.AtomView.{datum_of};
 ghost use Rattle.tuple_tree.specs.TupleView.{value_of};
 ghost use Rattle.tuple_tree.specs.TemplateView.{field_of};
 ghost use Rattle.tuple_codec.specs.OperationView.{operation_of};
 ghost use Rattle.tuple_text.specs.Texts.{AreBlanks};
-ghost use Rattle.tuple_text.specs.Reading.{fault_at, blanks, word, gap, finish, digits, positive, signed, numeral, datum, kind, named, behind_b, behind_t, slot, slot_item, turn, follows, full, no_room, got, stop, begins_datum, begins_slot, opens, kept_with, leaf_item, item_at, items_at, further, tuple, template, argument, ending, last, operation, line, out_line, inp_line, cas_line, rdp_line, all_line, rd_line, lone_template, Gives};
-ghost use Rattle.tuple_text.specs.Reading as Reading;
+ghost use Rattle.tuple_text.specs.Reading.{fault_at, blanks, word, gap, finish, digits, positive, signed, numeral, datum, kind, named, behind_b, behind_t, slot_item, turn, follows, got, opens, tuple, template, argument, ending, last, operation, line, out_line, inp_line, cas_line, rdp_line, all_line, rd_line, lone_template};
+ghost use Rattle.tuple_text.specs.Parts.{HasNoValueRoom, HasNoFieldRoom, plain_value, plain_slot, closed, value_at, field_at, value_follows, field_follows, values_at, fields_at, close_tuple, close_template, tuple_with, template_with, Reads};
 
 use crate::faults::LineFault;
 use std::alloc::Global;
@@ -89,7 +87,7 @@ impl<'a> Reader<'a> {
     }
 
     fn word(&mut self, letters: &[u8]) -> Result<(), Stop>
-        ensures { Gives (λ _. true) result (word letters.now self.old.rest.now) self.new.rest.now }
+        ensures { Reads (λ _. true) result (word letters.now) self.old self.new }
     {
         for letter in letters {
             match self.rest {
@@ -106,7 +104,7 @@ impl<'a> Reader<'a> {
     }
 
     fn gap(&mut self) -> Result<(), Stop>
-        ensures { Gives (λ _. true) result (gap self.old.rest.now) self.new.rest.now }
+        ensures { Reads (λ _. true) result gap self.old self.new }
     {
         if self.blanks(false) {
             Ok(())
@@ -116,7 +114,7 @@ impl<'a> Reader<'a> {
     }
 
     fn finish(&mut self) -> Result<(), Stop>
-        ensures { Gives (λ _. true) result (finish self.old.rest.now) self.new.rest.now }
+        ensures { Reads (λ _. true) result finish self.old self.new }
     {
         if self.rest.is_empty() {
             Ok(())
@@ -131,7 +129,7 @@ impl<'a> Reader<'a> {
         requires high { limit ≤ MOST + 1 }
         requires first { first ≤ limit }
         requires positive { 1 ≤ first }
-        ensures gives { Gives (λ n. n) result (digits limit first self.old.rest.now) self.new.rest.now }
+        ensures gives { Reads (λ n. n) result (digits limit first) self.old self.new }
         ensures low { IfOk result (λ n. 1 ≤ n) }
         ensures high { IfOk result (λ n. n ≤ limit) }
     {
@@ -151,7 +149,7 @@ impl<'a> Reader<'a> {
     fn positive(&mut self, limit: u64) -> Result<u64, Stop>
         requires low { 9 ≤ limit }
         requires high { limit ≤ MOST + 1 }
-        ensures gives { Gives (λ n. n) result (positive limit self.old.rest.now) self.new.rest.now }
+        ensures gives { Reads (λ n. n) result (positive limit) self.old self.new }
         ensures low { IfOk result (λ n. 1 ≤ n) }
         ensures high { IfOk result (λ n. n ≤ limit) }
     {
@@ -166,7 +164,7 @@ impl<'a> Reader<'a> {
 
     #[tactic(auto, unfolding(crate::specs::Reading::signed))]
     fn signed(&mut self) -> Result<i64, Stop>
-        ensures { Gives (λ n. n) result (signed self.old.rest.now) self.new.rest.now }
+        ensures { Reads (λ n. n) result signed self.old self.new }
     {
         match self.rest {
             [] => Err(Stop::BadByte),
@@ -188,7 +186,7 @@ impl<'a> Reader<'a> {
 
     #[tactic(auto, unfolding(crate::specs::Reading::numeral))]
     fn numeral(&mut self) -> Result<Atom<Global>, Stop>
-        ensures { Gives datum_of result (numeral self.old.rest.now) self.new.rest.now }
+        ensures { Reads datum_of result numeral self.old self.new }
     {
         let number = self.signed()?;
         Ok(Atom::Number(number))
@@ -196,7 +194,7 @@ impl<'a> Reader<'a> {
 
     // A word that stands for a truth value.
     fn truth(&mut self, letters: &[u8], truth: bool) -> Result<Atom<Global>, Stop>
-        ensures { Gives datum_of result (named letters.now (values.truth truth) self.old.rest.now) self.new.rest.now }
+        ensures { Reads datum_of result (named letters.now (truth_datum truth)) self.old self.new }
     {
         self.word(letters)?;
         Ok(Atom::Truth(truth))
@@ -205,7 +203,7 @@ impl<'a> Reader<'a> {
     // A value that is no tuple.
     #[tactic(auto, unfolding(crate::specs::Reading::datum, crate::specs::Reading::quoted, crate::specs::Reading::byte_string))]
     fn atom(&mut self, alloc: Global) -> Result<Atom<Global>, Stop>
-        ensures { Gives datum_of result (datum self.old.rest.now) self.new.rest.now }
+        ensures { Reads datum_of result datum self.old self.new }
     {
         match self.rest {
             [] => Err(Stop::BadByte),
@@ -225,7 +223,7 @@ impl<'a> Reader<'a> {
 
     // The rest of a kind's name.
     fn named(&mut self, letters: &[u8], kind: Kind) -> Result<Kind, Stop>
-        ensures { Gives (λ k. k) result (named letters.now kind self.old.rest.now) self.new.rest.now }
+        ensures { Reads (λ k. k) result (named letters.now kind) self.old self.new }
     {
         self.word(letters)?;
         Ok(kind)
@@ -233,7 +231,7 @@ impl<'a> Reader<'a> {
 
     // The rest of a kind's name behind its `b`.
     fn kind_b(&mut self) -> Result<Kind, Stop>
-        ensures { Gives (λ k. k) result (behind_b self.old.rest.now) self.new.rest.now }
+        ensures { Reads (λ k. k) result behind_b self.old self.new }
     {
         match self.rest {
             [] => Err(Stop::BadByte),
@@ -244,7 +242,7 @@ impl<'a> Reader<'a> {
 
     // The rest of a kind's name behind its `t`.
     fn kind_t(&mut self) -> Result<Kind, Stop>
-        ensures { Gives (λ k. k) result (behind_t self.old.rest.now) self.new.rest.now }
+        ensures { Reads (λ k. k) result behind_t self.old self.new }
     {
         match self.rest {
             [] => Err(Stop::BadByte),
@@ -256,7 +254,7 @@ impl<'a> Reader<'a> {
     // The name of a kind.
     #[tactic(auto, unfolding(crate::specs::Reading::kind, crate::specs::Reading::kind_b, crate::specs::Reading::kind_t))]
     fn kind(&mut self) -> Result<Kind, Stop>
-        ensures { Gives (λ k. k) result (kind self.old.rest.now) self.new.rest.now }
+        ensures { Reads (λ k. k) result kind self.old self.new }
     {
         match self.rest {
             [] => Err(Stop::BadByte),
@@ -276,7 +274,7 @@ impl<'a> Reader<'a> {
     // A field that is no template.
     #[tactic(auto, unfolding(crate::specs::Reading::slot, crate::specs::Reading::formal_slot, crate::specs::Reading::actual_slot))]
     fn plain_field(&mut self, alloc: Global) -> Result<Field<Global>, Stop>
-        ensures { Gives field_of result (slot_item self.old.rest.now) self.new.rest.now }
+        ensures { Reads field_of result slot_item self.old self.new }
     {
         match self.rest {
             [] => Err(Stop::BadByte),
@@ -298,7 +296,7 @@ impl<'a> Reader<'a> {
 
     #[tactic(auto, unfolding(crate::specs::Reading::follows))]
     fn follows(&mut self, free: bool) -> Result<bool, Stop>
-        ensures { Gives (λ on. on) result (follows free self.old.rest.now) self.new.rest.now }
+        ensures { Reads (λ on. on) result (follows free) self.old self.new }
     {
         match self.rest {
             [] => Err(Stop::BadByte),
@@ -311,7 +309,7 @@ impl<'a> Reader<'a> {
     // Whether an item follows behind blanks, or the list is closed; the parenthesis is left.
     #[tactic(auto, unfolding(crate::specs::Reading::turn))]
     fn turn(&mut self, free: bool) -> Result<bool, Stop>
-        ensures { Gives (λ on. on) result (turn free self.old.rest.now) self.new.rest.now }
+        ensures { Reads (λ on. on) result (turn free) self.old self.new }
     {
         let free = self.blanks(free);
         self.follows(free)
@@ -320,7 +318,7 @@ impl<'a> Reader<'a> {
     // Why no value has room here, with so many levels below.
     #[tactic(auto, unfolding(crate::specs::Reading::full))]
     fn full_tuple(&self, levels: usize) -> Stop
-        ensures { full {V = Option TupleTree} (no_room begins_datum levels) self.now.rest.now ≡ stop result self.now.rest.now }
+        ensures { HasNoValueRoom levels self.now result }
     {
         match self.rest {
             [b'(', ..] if levels == 0 => Stop::TooDeep,
@@ -331,7 +329,7 @@ impl<'a> Reader<'a> {
 
     #[tactic(auto, unfolding(crate::specs::Reading::full))]
     fn full_template(&self, levels: usize) -> Stop
-        ensures { full {V = Option TemplateTree} (no_room begins_slot levels) self.now.rest.now ≡ stop result self.now.rest.now }
+        ensures { HasNoFieldRoom levels self.now result }
     {
         match self.rest {
             [b'(', ..] if levels == 0 => Stop::TooDeep,
@@ -352,7 +350,7 @@ impl<'a> Reader<'a> {
 
     // A value that is no tuple, which is never too long.
     fn kept_atom(&mut self, alloc: Global) -> Result<Option<Value<Global>>, Stop>
-        ensures { Gives (option_map value_of) result (leaf_item datum_length begins_datum datum self.old.rest.now) self.new.rest.now }
+        ensures { Reads (option_map value_of) result plain_value self.old self.new }
     {
         let atom = self.atom(alloc)?;
         Ok(Some(Value::Atom(atom)))
@@ -360,7 +358,7 @@ impl<'a> Reader<'a> {
 
     // The tuple as a value, behind its closing parenthesis.
     fn closed_value(&mut self, tuple: Option<Tuple<Global>>) -> Result<Option<Value<Global>>, Stop>
-        ensures { Gives (option_map value_of) result (named (codes ")") (option_map inner tuple) self.old.rest.now) self.new.rest.now }
+        ensures { Reads (option_map value_of) result (closed tuple) self.old self.new }
     {
         self.word(b")")?;
         match tuple {
@@ -372,7 +370,7 @@ impl<'a> Reader<'a> {
     // A value with at most so many levels; `None` where its encoding is too long.
     #[cycle(value)]
     fn value(&mut self, alloc: Global, levels: usize) -> Result<Option<Value<Global>>, Stop>
-        ensures { Gives (option_map value_of) result (item_at datum_length begins_datum datum levels self.old.rest.now) self.new.rest.now }
+        ensures { Reads (option_map value_of) result (value_at levels) self.old self.new }
     {
         if !self.opens() {
             return self.kept_atom(alloc);
@@ -387,7 +385,7 @@ impl<'a> Reader<'a> {
 
     // Whether a further value follows so many others, for which there has to be room.
     fn value_follows(&mut self, levels: usize, count: usize, free: bool) -> Result<bool, Stop>
-        ensures { Gives (λ on. on) result (further (no_room begins_datum levels) count free self.old.rest.now) self.new.rest.now }
+        ensures { Reads (λ on. on) result (value_follows levels count free) self.old self.new }
     {
         let follows = self.turn(free)?;
         if follows && count == MAX_FIELDS {
@@ -399,7 +397,7 @@ impl<'a> Reader<'a> {
     // The values up to the closing parenthesis, which is left. Those of a tuple that is too long are judged on.
     #[cycle(value)]
     fn values(&mut self, alloc: Global, levels: usize) -> Result<Option<Tuple<Global>>, Stop>
-        ensures { Gives (λ t. t) result (items_at datum_length begins_datum datum levels self.old.rest.now) self.new.rest.now }
+        ensures { Reads (λ t. t) result (values_at levels) self.old self.new }
     {
         let mut tuple = Some(Tuple::new_in(alloc));
         let mut count = 0;
@@ -415,7 +413,7 @@ impl<'a> Reader<'a> {
 
     #[tactic(auto, unfolding(crate::specs::Reading::close))]
     fn close_tuple(&mut self, tuple: Option<Tuple<Global>>) -> Result<Tuple<Global>, Stop>
-        ensures { Gives (λ t. t) result (Reading.close datum_length begins_datum datum tuple self.old.rest.now) self.new.rest.now }
+        ensures { Reads (λ t. t) result (close_tuple tuple) self.old self.new }
     {
         match self.rest {
             [b')', rest @ ..] => match tuple {
@@ -431,7 +429,7 @@ impl<'a> Reader<'a> {
 
     #[tactic(auto, unfolding(crate::specs::Reading::whole))]
     fn tuple(&mut self, alloc: Global) -> Result<Tuple<Global>, Stop>
-        ensures { Gives (λ t. t) result (tuple self.old.rest.now) self.new.rest.now }
+        ensures { Reads (λ t. t) result tuple self.old self.new }
     {
         self.word(b"(")?;
         let tuple = self.values(alloc, BELOW)?;
@@ -440,7 +438,7 @@ impl<'a> Reader<'a> {
 
     // A field that is no template, which is never too long.
     fn kept_field(&mut self, alloc: Global) -> Result<Option<Field<Global>>, Stop>
-        ensures { Gives (option_map field_of) result (leaf_item slot_length begins_slot slot self.old.rest.now) self.new.rest.now }
+        ensures { Reads (option_map field_of) result plain_slot self.old self.new }
     {
         let field = self.plain_field(alloc)?;
         Ok(Some(field))
@@ -451,7 +449,7 @@ impl<'a> Reader<'a> {
         &mut self,
         template: Option<Template<Global>>,
     ) -> Result<Option<Field<Global>>, Stop>
-        ensures { Gives (option_map field_of) result (named (codes ")") (option_map inner template) self.old.rest.now) self.new.rest.now }
+        ensures { Reads (option_map field_of) result (closed template) self.old self.new }
     {
         self.word(b")")?;
         match template {
@@ -463,7 +461,7 @@ impl<'a> Reader<'a> {
     // A field with at most so many levels; `None` where its encoding is too long.
     #[cycle(field)]
     fn field(&mut self, alloc: Global, levels: usize) -> Result<Option<Field<Global>>, Stop>
-        ensures { Gives (option_map field_of) result (item_at slot_length begins_slot slot levels self.old.rest.now) self.new.rest.now }
+        ensures { Reads (option_map field_of) result (field_at levels) self.old self.new }
     {
         if !self.opens() {
             return self.kept_field(alloc);
@@ -478,7 +476,7 @@ impl<'a> Reader<'a> {
 
     // Whether a further field follows so many others, for which there has to be room.
     fn field_follows(&mut self, levels: usize, count: usize, free: bool) -> Result<bool, Stop>
-        ensures { Gives (λ on. on) result (further (no_room begins_slot levels) count free self.old.rest.now) self.new.rest.now }
+        ensures { Reads (λ on. on) result (field_follows levels count free) self.old self.new }
     {
         let follows = self.turn(free)?;
         if follows && count == MAX_FIELDS {
@@ -490,7 +488,7 @@ impl<'a> Reader<'a> {
     // The fields up to the closing parenthesis, which is left. Those of a template that is too long are judged on.
     #[cycle(field)]
     fn fields(&mut self, alloc: Global, levels: usize) -> Result<Option<Template<Global>>, Stop>
-        ensures { Gives (λ p. p) result (items_at slot_length begins_slot slot levels self.old.rest.now) self.new.rest.now }
+        ensures { Reads (λ p. p) result (fields_at levels) self.old self.new }
     {
         let mut template = Some(Template::new_in(alloc));
         let mut count = 0;
@@ -509,7 +507,7 @@ impl<'a> Reader<'a> {
         &mut self,
         template: Option<Template<Global>>,
     ) -> Result<Template<Global>, Stop>
-        ensures { Gives (λ p. p) result (Reading.close slot_length begins_slot slot template self.old.rest.now) self.new.rest.now }
+        ensures { Reads (λ p. p) result (close_template template) self.old self.new }
     {
         match self.rest {
             [b')', rest @ ..] => match template {
@@ -525,7 +523,7 @@ impl<'a> Reader<'a> {
 
     #[tactic(auto, unfolding(crate::specs::Reading::whole))]
     fn template(&mut self, alloc: Global) -> Result<Template<Global>, Stop>
-        ensures { Gives (λ p. p) result (template self.old.rest.now) self.new.rest.now }
+        ensures { Reads (λ p. p) result template self.old self.new }
     {
         self.word(b"(")?;
         let template = self.fields(alloc, BELOW)?;
@@ -534,7 +532,7 @@ impl<'a> Reader<'a> {
 
     #[tactic(auto, unfolding(crate::specs::Reading::argument))]
     fn tuple_argument(&mut self, alloc: Global) -> Result<Tuple<Global>, Stop>
-        ensures { Gives (λ t. t) result (argument tuple self.old.rest.now) self.new.rest.now }
+        ensures { Reads (λ t. t) result (argument tuple) self.old self.new }
     {
         self.gap()?;
         self.tuple(alloc)
@@ -542,7 +540,7 @@ impl<'a> Reader<'a> {
 
     #[tactic(auto, unfolding(crate::specs::Reading::argument))]
     fn template_argument(&mut self, alloc: Global) -> Result<Template<Global>, Stop>
-        ensures { Gives (λ p. p) result (argument template self.old.rest.now) self.new.rest.now }
+        ensures { Reads (λ p. p) result (argument template) self.old self.new }
     {
         self.gap()?;
         self.template(alloc)
@@ -550,7 +548,7 @@ impl<'a> Reader<'a> {
 
     // A tuple behind a gap, and blanks alone behind it.
     fn last_tuple(&mut self, alloc: Global) -> Result<Tuple<Global>, Stop>
-        ensures { Gives (λ t. t) result (last (argument tuple) self.old.rest.now) self.new.rest.now }
+        ensures { Reads (λ t. t) result (last (argument tuple)) self.old self.new }
     {
         let tuple = self.tuple_argument(alloc)?;
         self.ending()?;
@@ -559,7 +557,7 @@ impl<'a> Reader<'a> {
 
     // A template, and blanks alone behind it.
     fn closing_template(&mut self, alloc: Global) -> Result<Template<Global>, Stop>
-        ensures { Gives (λ p. p) result (last template self.old.rest.now) self.new.rest.now }
+        ensures { Reads (λ p. p) result (last template) self.old self.new }
     {
         let template = self.template(alloc)?;
         self.ending()?;
@@ -569,7 +567,7 @@ impl<'a> Reader<'a> {
     // The same behind a gap.
     #[tactic(auto, unfolding(crate::specs::Reading::argument))]
     fn last_template(&mut self, alloc: Global) -> Result<Template<Global>, Stop>
-        ensures { Gives (λ p. p) result (last (argument template) self.old.rest.now) self.new.rest.now }
+        ensures { Reads (λ p. p) result (last (argument template)) self.old self.new }
     {
         self.gap()?;
         self.closing_template(alloc)
@@ -578,7 +576,7 @@ impl<'a> Reader<'a> {
     // How many tuples an `rdAll` asks for.
     #[tactic(auto, unfolding(crate::specs::Reading::argument))]
     fn count_argument(&mut self) -> Result<Max, Stop>
-        ensures { Gives (λ max. max.count) result (argument (positive 64) self.old.rest.now) self.new.rest.now }
+        ensures { Reads (λ max. max.count) result (argument (positive 64)) self.old self.new }
     {
         self.gap()?;
         let count = self.positive(64)?;
@@ -590,7 +588,7 @@ impl<'a> Reader<'a> {
 
     #[tactic(auto, unfolding(crate::specs::Reading::ending, crate::specs::Reading::ended))]
     fn ending(&mut self) -> Result<(), Stop>
-        ensures { Gives (λ _. true) result (ending self.old.rest.now) self.new.rest.now }
+        ensures { Reads (λ _. true) result ending self.old self.new }
     {
         self.blanks(true);
         self.finish()
@@ -598,7 +596,7 @@ impl<'a> Reader<'a> {
 
     #[tactic(auto, unfolding(crate::specs::Reading::out_line, crate::specs::Reading::ended))]
     fn out_line(&mut self, alloc: Global) -> Result<Op<Global>, Stop>
-        ensures { Gives operation_of result (out_line self.old.rest.now) self.new.rest.now }
+        ensures { Reads operation_of result out_line self.old self.new }
     {
         self.word(b"out")?;
         let tuple = self.last_tuple(alloc)?;
@@ -607,7 +605,7 @@ impl<'a> Reader<'a> {
 
     #[tactic(auto, unfolding(crate::specs::Reading::inp_line, crate::specs::Reading::ended))]
     fn inp_line(&mut self, alloc: Global) -> Result<Op<Global>, Stop>
-        ensures { Gives operation_of result (inp_line self.old.rest.now) self.new.rest.now }
+        ensures { Reads operation_of result inp_line self.old self.new }
     {
         self.word(b"inp")?;
         let template = self.last_template(alloc)?;
@@ -616,7 +614,7 @@ impl<'a> Reader<'a> {
 
     #[tactic(auto, unfolding(crate::specs::Reading::cas_line, crate::specs::Reading::ended))]
     fn cas_line(&mut self, alloc: Global) -> Result<Op<Global>, Stop>
-        ensures { Gives operation_of result (cas_line self.old.rest.now) self.new.rest.now }
+        ensures { Reads operation_of result cas_line self.old self.new }
     {
         self.word(b"cas")?;
         let template = self.template_argument(alloc)?;
@@ -627,7 +625,7 @@ impl<'a> Reader<'a> {
     // The line of an `rdp` behind its first two letters.
     #[tactic(auto, unfolding(crate::specs::Reading::rdp_line, crate::specs::Reading::ended))]
     fn rdp_line(&mut self, alloc: Global) -> Result<Op<Global>, Stop>
-        ensures { Gives operation_of result (rdp_line self.old.rest.now) self.new.rest.now }
+        ensures { Reads operation_of result rdp_line self.old self.new }
     {
         self.word(b"p")?;
         let template = self.last_template(alloc)?;
@@ -637,7 +635,7 @@ impl<'a> Reader<'a> {
     // The line of an `rdAll` behind its first two letters.
     #[tactic(auto, unfolding(crate::specs::Reading::all_line, crate::specs::Reading::ended))]
     fn all_line(&mut self, alloc: Global) -> Result<Op<Global>, Stop>
-        ensures { Gives operation_of result (all_line self.old.rest.now) self.new.rest.now }
+        ensures { Reads operation_of result all_line self.old self.new }
     {
         self.word(b"All")?;
         let max = self.count_argument()?;
@@ -647,7 +645,7 @@ impl<'a> Reader<'a> {
 
     #[tactic(auto, unfolding(crate::specs::Reading::rd_line))]
     fn rd_line(&mut self, alloc: Global) -> Result<Op<Global>, Stop>
-        ensures { Gives operation_of result (rd_line self.old.rest.now) self.new.rest.now }
+        ensures { Reads operation_of result rd_line self.old self.new }
     {
         self.word(b"rd")?;
         match self.rest {
@@ -659,7 +657,7 @@ impl<'a> Reader<'a> {
 
     #[tactic(auto, unfolding(crate::specs::Reading::operation))]
     fn operation(&mut self, alloc: Global) -> Result<Op<Global>, Stop>
-        ensures { Gives operation_of result (operation self.old.rest.now) self.new.rest.now }
+        ensures { Reads operation_of result operation self.old self.new }
     {
         match self.rest {
             [b'o', ..] => self.out_line(alloc),
@@ -673,7 +671,7 @@ impl<'a> Reader<'a> {
     /// The template that stands alone, with blanks at both ends.
     #[tactic(auto, unfolding(crate::specs::Reading::lone_template))]
     pub(crate) fn lone_template(&mut self, alloc: Global) -> Result<Template<Global>, Stop>
-        ensures { Gives (λ p. p) result (lone_template self.old.rest.now) self.new.rest.now }
+        ensures { Reads (λ p. p) result lone_template self.old self.new }
     {
         self.blanks(true);
         self.closing_template(alloc)
@@ -682,7 +680,7 @@ impl<'a> Reader<'a> {
     /// The operation of the line.
     #[tactic(auto, unfolding(crate::specs::Reading::line))]
     pub(crate) fn line(&mut self, alloc: Global) -> Result<Op<Global>, Stop>
-        ensures { Gives operation_of result (line self.old.rest.now) self.new.rest.now }
+        ensures { Reads operation_of result line self.old self.new }
     {
         self.blanks(true);
         self.operation(alloc)
@@ -695,7 +693,7 @@ fn with_value(
     tuple: Option<Tuple<Global>>,
     value: Option<Value<Global>>,
 ) -> Result<Option<Tuple<Global>>, Stop>
-    ensures ok { IfOk result (λ t. t ≡ kept_with datum_length tuple (option_map value_of value)) }
+    ensures ok { IfOk result (λ t. t ≡ tuple_with tuple (option_map value_of value)) }
     ensures err { IfErr result (λ s. s ≡ Stop.NoMemory) }
 {
     let (Some(mut tuple), Some(value)) = (tuple, value) else {
@@ -715,7 +713,7 @@ fn with_field(
     template: Option<Template<Global>>,
     field: Option<Field<Global>>,
 ) -> Result<Option<Template<Global>>, Stop>
-    ensures ok { IfOk result (λ p. p ≡ kept_with slot_length template (option_map field_of field)) }
+    ensures ok { IfOk result (λ p. p ≡ template_with template (option_map field_of field)) }
     ensures err { IfErr result (λ s. s ≡ Stop.NoMemory) }
 {
     let (Some(mut template), Some(field)) = (template, field) else {

@@ -1,17 +1,17 @@
 //! From values to text.
 
-ghost use Rattle.std.specs.Prelude.{◌≡◌, ◌+◌, ◌<◌, ◌++◌, ◌∷◌, [], OnOk, OnErr, ℕ, List, codes, length};
+ghost use Rattle.std.specs.Prelude.{◌≡◌, ◌+◌, ◌<◌, ◌++◌, ◌∷◌, OnOk, OnErr, ℕ, List};
 ghost use Rattle.std.specs.List.{flat_map};
-ghost use Rattle.std.specs.Fmt.{decimal, signed_decimal};
-ghost use Rattle.tuple_tree.specs.Values.{TupleTree, TemplateTree, IsTuple, IsTemplate};
+ghost use Rattle.std.specs.Fmt.{signed_decimal};
+ghost use Rattle.tuple_tree.specs.Values.{TupleTree, TemplateTree};
 ghost use Rattle.tuple_tree.specs.AtomView.{datum_of};
 ghost use Rattle.tuple_tree.specs.TupleView.{value_of, tuple_of};
-ghost use Rattle.tuple_codec.specs.Operations.{Operation, out, rdp};
-ghost use Rattle.tuple_codec.specs.OperationView.{outcome_of};
+ghost use Rattle.tuple_codec.specs.Operations.{Operation};
+ghost use Rattle.tuple_text.specs.Laws.{TuplesAreLines, TemplatesAreLines};
 ghost use Rattle.tuple_text.specs.Lines.{IsLine};
-ghost use Rattle.tuple_text.specs.Texts.{TupleText, TemplateText, datum_text, truth_text, escaped, hex_pair};
+ghost use Rattle.tuple_text.specs.Texts.{TupleText, TemplateText, datum_text, quoted_text, truth_text, escaped, hex_pair};
 ghost use Rattle.tuple_text.specs.Texts as Texts;
-ghost use Rattle.tuple_text.specs.Written.{item_written, items_written, tuple_written, template_written, tuples_written, outcome_text, Appends};
+ghost use Rattle.tuple_text.specs.Written.{value_written, values_written, tuple_written, template_written, counted_written, answer_text, Appends};
 
 use itoa::Buffer;
 use std::alloc::Allocator;
@@ -44,7 +44,7 @@ pub fn write_answer<A: Allocator, B: Allocator>(
     answer: &Answer<A>,
     out: &mut Vec<u8, B>,
 ) -> Result<(), NoMemory>
-    ensures ok { OnOk result (out.new.items ≡ out.old.items ++ outcome_text (outcome_of answer.now)) }
+    ensures ok { OnOk result (out.new.items ≡ out.old.items ++ answer_text answer.now) }
     ensures err { OnErr result (out.new.items ≡ out.old.items) }
 {
     let old_len = out.len();
@@ -66,8 +66,8 @@ pub fn written_is_text()
 /// A law: what is written of a tuple within the limits is read again as that tuple by [`read_line`](crate::read_line),
 /// behind `out `, and what is written of a template as that template, behind `rdp `. No line is that of two operations.
 pub fn written_is_read()
-    ensures tuples { (t : TupleTree) → IsTuple t → IsLine (out t) (codes "out " ++ tuple_written t) }
-    ensures templates { (p : TemplateTree) → IsTemplate p → IsLine (rdp p) (codes "rdp " ++ template_written p) }
+    ensures tuples { TuplesAreLines }
+    ensures templates { TemplatesAreLines }
     ensures one { (o p : Operation) (line : List ℕ) → IsLine o line → IsLine p line → o ≡ p }
 {}
 
@@ -82,7 +82,7 @@ fn put_answer<A: Allocator, B: Allocator>(
     answer: &Answer<A>,
     out: &mut Vec<u8, B>,
 ) -> Result<(), NoMemory>
-    ensures { Appends result out.old.items (outcome_text (outcome_of answer.now)) out.new.items }
+    ensures { Appends result out.old.items (answer_text answer.now) out.new.items }
 {
     match answer {
         Answer::Done => append(b"done", out),
@@ -108,7 +108,7 @@ fn put_tuples<A: Allocator, B: Allocator>(
     tuples: &Tuples<A>,
     out: &mut Vec<u8, B>,
 ) -> Result<(), NoMemory>
-    ensures { Appends result out.old.items (decimal (length tuples.now) ++ tuples_written tuples.now) out.new.items }
+    ensures { Appends result out.old.items (counted_written tuples.now) out.new.items }
 {
     let mut buffer = Buffer::new();
     append(buffer.format(tuples.len()).as_bytes(), out)?;
@@ -136,7 +136,7 @@ fn put_values<A: Allocator, B: Allocator>(
     values: &[Value<A>],
     out: &mut Vec<u8, B>,
 ) -> Result<(), NoMemory>
-    ensures { Appends result out.old.items (items_written datum_text (tuple_of values.now)) out.new.items }
+    ensures { Appends result out.old.items (values_written (tuple_of values.now)) out.new.items }
 {
     let mut gap: &[u8] = b"";
     for value in values {
@@ -152,7 +152,7 @@ fn put_value<A: Allocator, B: Allocator>(
     value: &Value<A>,
     out: &mut Vec<u8, B>,
 ) -> Result<(), NoMemory>
-    ensures { Appends result out.old.items (item_written datum_text (value_of value.now)) out.new.items }
+    ensures { Appends result out.old.items (value_written (value_of value.now)) out.new.items }
 {
     match value {
         Value::Atom(atom) => put_atom(atom, out),
@@ -190,7 +190,7 @@ fn put_truth<B: Allocator>(truth: bool, out: &mut Vec<u8, B>) -> Result<(), NoMe
 
 // A text in quotes, with its escapes.
 fn put_text<B: Allocator>(text: &[u8], out: &mut Vec<u8, B>) -> Result<(), NoMemory>
-    ensures { Appends result out.old.items (34 ∷ flat_map escaped text.now ++ 34 ∷ []) out.new.items }
+    ensures { Appends result out.old.items (quoted_text text.now) out.new.items }
 {
     append(b"\"", out)?;
     for byte in text {

@@ -1,7 +1,9 @@
 pub mod Items
 pub mod ItemsCode
 pub mod Limits
+pub mod Extents
 pub mod Values
+pub mod Pushes
 pub mod ValuesCode
 pub mod AtomView
 pub mod TupleView

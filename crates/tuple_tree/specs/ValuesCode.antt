@@ -30,7 +30,8 @@ datum_from-parts (truth b) = refl
 
 abbrev pub datum_code : Coded Datum
 datum_code =
-    code_by DatumParts (coded⊎ coded_ℤ (coded⊎ (coded_list coded_ℕ) (coded⊎ (coded_list coded_ℕ) coded_bool))) datum_parts datum_from datum_from-parts
+    code_by DatumParts (coded⊎ coded_ℤ (coded⊎ (coded_list coded_ℕ) (coded⊎ (coded_list coded_ℕ) coded_bool)))
+    datum_parts datum_from datum_from-parts
 
 abbrev pub kind_number : Kind → ℕ
 kind_number kinds.Number = 0

@@ -1,7 +1,7 @@
 //! The limits of tuples and templates, and why an item is refused.
 
-ghost use Rattle.std.specs.Prelude.{◌≡◌, ◌≢◌, ◌+◌, ◌<◌, ◌≤◌, max, MatchResult};
-ghost use Rattle.tuple_tree.specs.Limits.{RefusesSize};
+ghost use Rattle.std.specs.Prelude.{◌≤◌};
+ghost use Rattle.tuple_tree.specs.Extents.{Extends};
 
 use thiserror::Error;
 
@@ -52,9 +52,7 @@ impl Extent {
     pub fn with_item(self, len: usize, item_depth: u8, item_len: usize) -> Result<Extent, Refusal>
         requires depth { item_depth ≤ 8 }
         requires bytes { self.encoded_len ≤ 1024 }
-        ensures within { MatchResult result
-            (λ e. (len < 32) × (e.depth ≤ 8) × (e.encoded_len ≤ 1024) × (e.depth ≡ max self.depth (1 + item_depth)) × (e.encoded_len ≡ self.encoded_len + item_len))
-            (λ refusal. (refusal ≢ Refusal.NoMemory) × RefusesSize refusal (len + 1) (max self.depth (1 + item_depth)) (self.encoded_len + item_len)) }
+        ensures within { Extends self len item_depth item_len result }
     {
         if len >= MAX_FIELDS {
             return Err(Refusal::TooManyFields);

@@ -1,8 +1,9 @@
 //! Templates: lists of fields.
 
-ghost use Rattle.std.specs.Prelude.{◌≡◌, ◌+◌, ◌≤◌, OnOk, OnErr, IfErr, IfOk, MatchResult, option_map, slice_get, IsTrue, ◌↔◌};
+ghost use Rattle.std.specs.Prelude.{◌≡◌, ◌+◌, ◌≤◌, OnOk, OnErr, IfErr, IfOk, option_map, slice_get, IsTrue, ◌↔◌};
 ghost use Rattle.tuple_tree.specs.Items.{none, inner, how_many, with_last, as_list, item_levels, levels_of, item_length, whole_length};
-ghost use Rattle.tuple_tree.specs.Limits.{IsItem, Refuses};
+ghost use Rattle.tuple_tree.specs.Limits.{IsItem};
+ghost use Rattle.tuple_tree.specs.Pushes.{JudgesTemplate};
 ghost use Rattle.tuple_tree.specs.Values.{slot_length, IsSlot, IsTemplate};
 ghost use Rattle.tuple_tree.specs.TemplateView.{field_of, template_of};
 
@@ -35,9 +36,9 @@ pub struct Template<A: Allocator> {
 }
 
 impl<A: Allocator> Model for Template<A> {
-    ghost use Rattle.std.specs.Prelude.{◌≡◌};
-    ghost use Rattle.tuple_tree.specs.Items.{levels_of, whole_length};
-    ghost use Rattle.tuple_tree.specs.Values.{TemplateTree, slot_length, IsTemplate};
+    ghost use Rattle.tuple_tree.specs.Items.{levels_of};
+    ghost use Rattle.tuple_tree.specs.Extents.{IsMeasured};
+    ghost use Rattle.tuple_tree.specs.Values.{TemplateTree, slot_length, IsSlot};
     ghost use Rattle.tuple_tree.specs.ValuesCode.{template_code};
 
     ghost Value = { TemplateTree };
@@ -48,7 +49,7 @@ impl<A: Allocator> Model for Template<A> {
 
     ghost view = { λ a. template_of a.fields.items };
 
-    ghost invariant = { λ a. IsTemplate (template_of a.fields.items) × (a.extent.depth ≡ levels_of (template_of a.fields.items)) × (a.extent.encoded_len ≡ whole_length slot_length (template_of a.fields.items)) };
+    ghost invariant = { λ a. IsMeasured IsSlot slot_length (template_of a.fields.items) a.extent };
 
     ghost size = { λ p. levels_of p };
 
@@ -238,7 +239,7 @@ impl<A: Allocator> Template<A> {
         ensures ok { OnOk result (self.new ≡ with_last self.old (field_of field)) }
         ensures err { OnErr result (self.new ≡ self.old) }
         ensures returned { IfErr result (λ e. e.value ≡ field) }
-        ensures refusal { MatchResult result (λ _. IsTemplate self.new) (λ e. Refuses slot_length e.refusal (with_last self.old (field_of field))) }
+        ensures refusal { JudgesTemplate result self.new (with_last self.old (field_of field)) }
     {
         let depth = field.depth();
         let len = self.fields.len();

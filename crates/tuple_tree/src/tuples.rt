@@ -1,8 +1,9 @@
 //! Tuples: lists of values.
 
-ghost use Rattle.std.specs.Prelude.{◌≡◌, ◌+◌, ◌≤◌, OnOk, OnErr, IfErr, IfOk, MatchResult, option_map, slice_get, IsTrue, ◌↔◌};
+ghost use Rattle.std.specs.Prelude.{◌≡◌, ◌+◌, ◌≤◌, OnOk, OnErr, IfErr, IfOk, option_map, slice_get, IsTrue, ◌↔◌};
 ghost use Rattle.tuple_tree.specs.Items.{none, inner, how_many, with_last, as_list, item_levels, levels_of, item_length, whole_length};
-ghost use Rattle.tuple_tree.specs.Limits.{IsItem, Refuses};
+ghost use Rattle.tuple_tree.specs.Limits.{IsItem};
+ghost use Rattle.tuple_tree.specs.Pushes.{JudgesTuple};
 ghost use Rattle.tuple_tree.specs.Values.{kind_of, datum_length, IsDatum, IsTuple};
 ghost use Rattle.tuple_tree.specs.TupleView.{value_of, tuple_of};
 
@@ -31,9 +32,9 @@ pub struct Tuple<A: Allocator> {
 }
 
 impl<A: Allocator> Model for Tuple<A> {
-    ghost use Rattle.std.specs.Prelude.{◌≡◌};
-    ghost use Rattle.tuple_tree.specs.Items.{levels_of, whole_length};
-    ghost use Rattle.tuple_tree.specs.Values.{TupleTree, datum_length, IsTuple};
+    ghost use Rattle.tuple_tree.specs.Items.{levels_of};
+    ghost use Rattle.tuple_tree.specs.Extents.{IsMeasured};
+    ghost use Rattle.tuple_tree.specs.Values.{TupleTree, datum_length, IsDatum};
     ghost use Rattle.tuple_tree.specs.ValuesCode.{tuple_code};
 
     ghost Value = { TupleTree };
@@ -44,7 +45,7 @@ impl<A: Allocator> Model for Tuple<A> {
 
     ghost view = { λ a. tuple_of a.values.items };
 
-    ghost invariant = { λ a. IsTuple (tuple_of a.values.items) × (a.extent.depth ≡ levels_of (tuple_of a.values.items)) × (a.extent.encoded_len ≡ whole_length datum_length (tuple_of a.values.items)) };
+    ghost invariant = { λ a. IsMeasured IsDatum datum_length (tuple_of a.values.items) a.extent };
 
     ghost size = { λ t. levels_of t };
 
@@ -238,7 +239,7 @@ impl<A: Allocator> Tuple<A> {
         ensures ok { OnOk result (self.new ≡ with_last self.old (value_of value)) }
         ensures err { OnErr result (self.new ≡ self.old) }
         ensures returned { IfErr result (λ e. e.value ≡ value) }
-        ensures refusal { MatchResult result (λ _. IsTuple self.new) (λ e. Refuses datum_length e.refusal (with_last self.old (value_of value))) }
+        ensures refusal { JudgesTuple result self.new (with_last self.old (value_of value)) }
     {
         let depth = value.depth();
         let len = self.values.len();

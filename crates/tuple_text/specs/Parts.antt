@@ -1,0 +1,66 @@
+-- What the private methods of the reader speak of: the parts of a tuple, and those of a template.
+use Rattle.std.specs.Prelude.{◌≡◌, ℕ, Bool, List, codes, Result, Option, option_map}
+use Rattle.tuple_tree.specs.Items.{Item, inner, Items}
+use Rattle.tuple_tree.specs.Values.{Datum, Slot, TupleTree, TemplateTree, datum_length, slot_length}
+use Rattle.tuple_text.specs.Reading.{Read, stop, Reading, named, datum, slot, begins_datum, begins_slot, full, further, no_room, kept_with, leaf_item, item_at, items_at, close, Gives}
+use Rattle.tuple_text.specs.declared.reader.Reader.{Reader}
+use Rattle.tuple_text.specs.declared.reader.Stop.{Stop}
+
+-- The method reads so, unless memory ran out; behind it the reader stands at the bytes that are left.
+abbrev pub Reads : {X V : Type 0} → (X → V) → Result X Stop → Reading V → Reader → Reader → Type 0
+Reads view result reading old new = Gives view result (reading old.rest.now) new.rest.now
+
+-- an item that is no list
+abbrev pub plain_value : Reading (Option (Item Datum))
+plain_value = leaf_item datum_length begins_datum datum
+
+abbrev pub plain_slot : Reading (Option (Item Slot))
+plain_slot = leaf_item slot_length begins_slot slot
+
+-- an item with so many levels below it
+abbrev pub value_at : ℕ → Reading (Option (Item Datum))
+value_at levels = item_at datum_length begins_datum datum levels
+
+abbrev pub field_at : ℕ → Reading (Option (Item Slot))
+field_at levels = item_at slot_length begins_slot slot levels
+
+-- the items up to the closing parenthesis
+abbrev pub values_at : ℕ → Reading (Option TupleTree)
+values_at levels = items_at datum_length begins_datum datum levels
+
+abbrev pub fields_at : ℕ → Reading (Option TemplateTree)
+fields_at levels = items_at slot_length begins_slot slot levels
+
+-- whether an item follows so many others
+abbrev pub value_follows : ℕ → ℕ → Bool → Reading Bool
+value_follows levels count free = further (no_room begins_datum levels) count free
+
+abbrev pub field_follows : ℕ → ℕ → Bool → Reading Bool
+field_follows levels count free = further (no_room begins_slot levels) count free
+
+-- a nested list as an item, behind its closing parenthesis
+abbrev pub closed : {L : Type 0} → Option (Items L) → Reading (Option (Item L))
+closed t = named (codes ")") (option_map inner t)
+
+-- the outermost list, behind its closing parenthesis
+abbrev pub close_tuple : Option TupleTree → Reading TupleTree
+close_tuple t = close datum_length begins_datum datum t
+
+abbrev pub close_template : Option TemplateTree → Reading TemplateTree
+close_template p = close slot_length begins_slot slot p
+
+-- a list that may be too long with an item that may be too long behind it
+abbrev pub tuple_with : Option TupleTree → Option (Item Datum) → Option TupleTree
+tuple_with t v = kept_with datum_length t v
+
+abbrev pub template_with : Option TemplateTree → Option (Item Slot) → Option TemplateTree
+template_with p f = kept_with slot_length p f
+
+-- No further item has room here for this reason.
+abbrev pub HasNoValueRoom : ℕ → Reader → Stop → Type 0
+HasNoValueRoom levels reader why =
+    full {V = Option TupleTree} (no_room begins_datum levels) reader.rest.now ≡ stop why reader.rest.now
+
+abbrev pub HasNoFieldRoom : ℕ → Reader → Stop → Type 0
+HasNoFieldRoom levels reader why =
+    full {V = Option TemplateTree} (no_room begins_slot levels) reader.rest.now ≡ stop why reader.rest.now
