@@ -34,7 +34,8 @@ const SEALED: &str = "b3fcc2a0b2ecee83d20e75fc4c640da5d1ce29112d0c620d4db87dcd9d
 
 // out (1), with timestamp 1
 fn request(alloc: Global, sender: Party) -> Result<Body, Bad>
-    ensures { IfOk result (λ b. IsBody (body_data b) × (is_signed (message_data b.message) ≡ false)) }
+    ensures said { IfOk result (λ b. IsBody (body_data b)) }
+    ensures unsigned { IfOk result (λ b. is_signed (message_data b.message) ≡ false) }
 {
     let (op, _) = decode_op(alloc, b"\x21\x01\x01\0\0\0\0\0\0\0\x01")?;
     let message = Message::Request(Request {
@@ -270,7 +271,8 @@ fn is_request(bytes: &[u8], frame: &Frame) -> bool {
 }
 
 fn body_of_client(alloc: Global) -> Result<Body, Bad>
-    ensures { IfOk result (λ b. IsBody (body_data b) × (is_signed (message_data b.message) ≡ false)) }
+    ensures said { IfOk result (λ b. IsBody (body_data b)) }
+    ensures unsigned { IfOk result (λ b. is_signed (message_data b.message) ≡ false) }
 {
     match request(alloc, CLIENT) {
         Ok(body) => Ok(body),
