@@ -4,12 +4,10 @@ use Rattle.std.proofs.lemmas.List.Elements.{All-nil, All-append}
 use Rattle.std.proofs.lemmas.List.{take_more, get_or-take, get_or_default}
 use Rattle.std.specs.Io.KnownBytes.{Consumes, Keeps, IsAtEnd}
 use Rattle.std.specs.Int.{from_bool}
+pub use Rattle.btspace.specs.Pieces.{NoLineFeed}
 use Rattle.btspace.specs.Pieces.{TakesPiece, EndsPiece, end_bytes, piece_end_of}
 use Rattle.btspace.specs.declared.pieces.PieceEnd.{PieceEnd}
 use Rattle.btspace.specs.declared.pieces.PieceEnd.TheVariants.{Full, LineFeed, InputEnd}
-
-abbrev pub NoLineFeed : List ℕ → Type 0
-NoLineFeed xs = All (λ b. (b == 10) ≡ false) xs
 
 -- nothing is taken
 pub takes_nothing : (limit : ℕ) (xs before : List ℕ) (left : Option (List ℕ)) → left ≡ Some xs → TakesPiece None limit xs left before before

@@ -20,7 +20,8 @@ place_text TooLong = codes ""
 place_text NoMemory = codes ""
 
 abbrev pub complaint_text : Complaint → List ℕ
-complaint_text (Line number fault) = codes "line " ++ decimal number ++ codes ": refused " ++ decimal (line_refusal fault) ++ place_text fault
+complaint_text (Line number fault) =
+    codes "line " ++ decimal number ++ codes ": refused " ++ decimal (line_refusal fault) ++ place_text fault
 complaint_text Malformed = codes "refused " ++ decimal malformed_refusal
 complaint_text (Unreadable path) = codes "cannot read " ++ path.now
 complaint_text Stopped = codes "stopped"

@@ -35,12 +35,15 @@ fault_at line (no.Read error) = Read error
 
 -- What was written and is pending, and any run over the lines that are left from number n on, make a run from the
 -- start.
-pub record Along (bytes : List ℕ) (known old new : Option (List ℕ)) (n : ℕ) (ts : List TupleTree) (pending : List ℕ) : Type 0 where
+pub record Along
+    (bytes : List ℕ) (known old new : Option (List ℕ)) (n : ℕ) (ts : List TupleTree) (pending : List ℕ)
+    : Type 0 where
   pub rest : List ℕ
   pub done : List ℕ
   pub known_is : known ≡ Some rest
   pub wrote : Appends old new done
-  pub leads : (more : List ℕ) (ending : Ending) → Runs n ts (lines rest) more ending → Runs 1 [] (lines bytes) ((done ++ pending) ++ more) ending
+  pub leads : (more : List ℕ) (ending : Ending) → Runs n ts (lines rest) more ending
+      → Runs 1 [] (lines bytes) ((done ++ pending) ++ more) ending
 
 -- A front of these bytes went to the writer, and the others are left.
 pub record MovesOn (old new : Option (List ℕ)) (bytes left : List ℕ) : Type 0 where

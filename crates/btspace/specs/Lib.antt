@@ -1,7 +1,9 @@
 pub mod Run
 pub mod Pieces
 pub mod NextLines
+pub mod LongLines
 pub mod Endings
+pub mod Moments
 pub mod Shown
 pub mod ShowFaults
 pub mod Refusals

@@ -1,5 +1,5 @@
 -- What reading a line tells of the bytes that were left.
-use Rattle.std.specs.Prelude.{◌≡◌, ◌≢◌, ℕ, List, [], ◌∷◌, Option, Some}
+use Rattle.std.specs.Prelude.{◌≡◌, ◌≢◌, ℕ, Bool, MatchBool, List, [], ◌∷◌, Option, Some, IfSome, Result, MatchResult}
 use Rattle.std.specs.Str.Lines.{lines}
 use Rattle.tuple_codec.specs.OperationView.{operation_of}
 use Rattle.tuple_text.specs.Lines.{IsLine, IsSkipped}
@@ -35,6 +35,18 @@ Fails (no.Refused fault) xs = (fault ≢ NoMemory) × BeginsWith (Refuses fault)
 Fails no.NoMemory xs = Unit {0}
 Fails (no.Read error) xs = Unit {0}
 
+-- The first line of the bytes xs is read, or why it is not is told.
+abbrev pub ReadsLine : Result NextLine NoLine → List ℕ → Option (List ℕ) → Type 0
+ReadsLine result xs left = MatchResult result (λ next. Gives next xs left) (λ no. Fails no xs)
+
+-- the same of the bytes that are left, where they are known
+abbrev pub ReadsNext : Result NextLine NoLine → Option (List ℕ) → Option (List ℕ) → Type 0
+ReadsNext result known left = IfSome known (λ xs. ReadsLine result xs left)
+
+-- whether the bytes xs have a line
+abbrev pub TellsLine : Bool → List ℕ → Type 0
+TellsLine more xs = MatchBool more (BeginsWith (λ _. Unit {0}) xs) (lines xs ≡ [])
+
 abbrev pub no_line_of : ReadFault → NoLine
 no_line_of read.NoMemory = no.NoMemory
 no_line_of (read.Read error) = no.Read error
@@ -49,3 +61,6 @@ abbrev pub IsRefused : NoLine → List ℕ → Type 0
 IsRefused (no.Refused fault) l = (fault ≢ NoMemory) × Refuses fault l
 IsRefused no.NoMemory l = Unit {0}
 IsRefused (no.Read error) l = ⊥
+
+abbrev pub Judges : Result NextLine NoLine → List ℕ → Type 0
+Judges result l = MatchResult result (λ next. IsJudged next l) (λ no. IsRefused no l)

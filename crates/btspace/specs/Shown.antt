@@ -1,5 +1,5 @@
 -- What showing a tuple writes.
-use Rattle.std.specs.Prelude.{◌≡◌, ℕ, List, [], ◌∷◌, ◌++◌, Option, Ok}
+use Rattle.std.specs.Prelude.{◌≡◌, ℕ, List, [], ◌∷◌, ◌++◌, Option, Result, Ok, MatchResult}
 use Rattle.std.specs.Io.KnownBytes.{Appends}
 use Rattle.hex.specs.Hex.{decode_of}
 use Rattle.tuple_tree.specs.Values.{TupleTree}
@@ -27,3 +27,13 @@ abbrev pub GivesNone : ShowFault → List ℕ → Type 0
 GivesNone Malformed digits = (t : TupleTree) → DigitsSpell digits t → ⊥
 GivesNone NoMemory digits = Unit {0}
 GivesNone (Write error) digits = ⊥
+
+-- The digits' tuple was shown, or why not is told.
+abbrev pub EndsShow : Result (Unit {0}) ShowFault → List ℕ → Option (List ℕ) → Option (List ℕ) → Type 0
+EndsShow result digits old new =
+    MatchResult result (λ _. Shows digits old new) (λ fault. ShowFails fault digits old new)
+
+-- The digits' tuple was read, or why not is told.
+abbrev pub ReadsDigits : Result TupleTree ShowFault → List ℕ → Type 0
+ReadsDigits result digits =
+    MatchResult result (λ tuple. DigitsSpell digits tuple) (λ fault. GivesNone fault digits)

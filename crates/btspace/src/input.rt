@@ -1,10 +1,9 @@
 //! Lines of a script, read with memory for one line.
 
-ghost use Rattle.std.specs.Prelude.{◌≡◌, ◌==◌, ◌-◌, ◌<◌, ◌≤◌, ◌++◌, ◌∷◌, [], List, ℕ, All, false, IfOk, IfSome, MatchBool, MatchResult, length, take, drop, vec_len};
-ghost use Rattle.std.specs.Str.Lines.{lines};
-ghost use Rattle.tuple_text.specs.Texts.{AreBlanks};
+ghost use Rattle.std.specs.Prelude.{◌≡◌, ◌<◌, ◌≤◌, IfOk, IfSome, vec_len};
 ghost use Rattle.tuple_text.specs.declared.faults.LineFault.TheVariants.{BadByte};
-ghost use Rattle.btspace.specs.NextLines.{Gives, Fails, IsJudged, IsRefused, BeginsWith};
+ghost use Rattle.btspace.specs.NextLines.{ReadsNext, TellsLine, Judges};
+ghost use Rattle.btspace.specs.LongLines.{ReadsOn, ReadsBlanks, JudgesBlanks, DropsBlanks};
 
 use crate::pieces::{PieceEnd, ReadFault, drop_return, is_blank, keep_last, read_piece};
 use std::alloc::Global;
@@ -54,7 +53,7 @@ pub fn next_line<B: BufRead>(
     reader: &mut B,
     line: &mut Vec<u8>,
 ) -> Result<NextLine, NoLine>
-    ensures { IfSome (B.remaining reader.old) (λ xs. MatchResult result (λ next. Gives next xs (B.remaining reader.new)) (λ no. Fails no xs)) }
+    ensures { ReadsNext result (B.remaining reader.old) (B.remaining reader.new) }
 {
     line.clear();
     match read_piece(reader, PIECE, line)? {
@@ -75,7 +74,7 @@ pub fn next_line<B: BufRead>(
 
 /// Whether a line is left. Takes its first byte.
 pub fn has_line<B: BufRead>(reader: &mut B, line: &mut Vec<u8>) -> Result<bool, ReadFault>
-    ensures { IfSome (B.remaining reader.old) (λ xs. IfOk result (λ more. MatchBool more (BeginsWith (λ _. Unit {0}) xs) (lines xs ≡ []))) }
+    ensures { IfSome (B.remaining reader.old) (λ xs. IfOk result (λ more. TellsLine more xs)) }
 {
     line.clear();
     match read_piece(reader, 1, line)? {
@@ -85,7 +84,7 @@ pub fn has_line<B: BufRead>(reader: &mut B, line: &mut Vec<u8>) -> Result<bool, 
 }
 
 fn judge(alloc: Global, line: &[u8]) -> Result<NextLine, NoLine>
-    ensures { MatchResult result (λ next. IsJudged next line.now) (λ no. IsRefused no line.now) }
+    ensures { Judges result line.now }
 {
     match read_line(alloc, line) {
         Ok(Some(op)) => Ok(NextLine::Operation(op)),
@@ -102,7 +101,7 @@ fn long_line<B: BufRead>(
     line: &mut Vec<u8>,
 ) -> Result<NextLine, NoLine>
     requires { 65538 ≤ vec_len line.old }
-    ensures { IfSome (B.remaining reader.old) (λ ys. All (λ b. (b == 10) ≡ false) line.old.items → MatchResult result (λ next. Gives next (line.old.items ++ ys) (B.remaining reader.new)) (λ no. Fails no (line.old.items ++ ys))) }
+    ensures { ReadsOn result line.old.items (B.remaining reader.old) (B.remaining reader.new) }
 {
     if line[0] == b'#' {
         return match reader.skip_until(b'\n') {
@@ -123,7 +122,7 @@ fn long_line<B: BufRead>(
 // The rest of a line that begins with more blanks than a line may have: it is skipped if no other byte follows.
 fn blanks_line<B: BufRead>(reader: &mut B, line: &mut Vec<u8>) -> Result<NextLine, NoLine>
     requires { 0 < vec_len line.old }
-    ensures { IfSome (B.remaining reader.old) (λ ys. (blanks : List ℕ) → AreBlanks blanks → 65537 ≤ length blanks → All (λ b. (b == 10) ≡ false) line.old.items → MatchResult result (λ next. Gives next (blanks ++ (line.old.items ++ ys)) (B.remaining reader.new)) (λ no. Fails no (blanks ++ (line.old.items ++ ys)))) }
+    ensures { ReadsBlanks result line.old.items (B.remaining reader.old) (B.remaining reader.new) }
 {
     for _ in 0..u64::MAX {
         match read_piece(reader, PIECE, line)? {
@@ -143,7 +142,7 @@ fn blanks_line<B: BufRead>(reader: &mut B, line: &mut Vec<u8>) -> Result<NextLin
 }
 
 fn blanks_end(line: &[u8]) -> Result<NextLine, NoLine>
-    ensures { (blanks : List ℕ) → AreBlanks blanks → 65537 ≤ length blanks → MatchResult result (λ next. IsJudged next (blanks ++ line.now)) (λ no. IsRefused no (blanks ++ line.now)) }
+    ensures { JudgesBlanks result line.now }
 {
     if is_blank(line) {
         Ok(NextLine::Skipped)
@@ -161,7 +160,7 @@ fn too_many_blanks() -> NoLine
 // Drops all bytes but the last, if they are blanks. The last may be a carriage return that belongs to the line's end.
 fn drop_blanks(line: &mut Vec<u8>) -> bool
     requires { 0 < vec_len line.old }
-    ensures { MatchBool result (AreBlanks (take (length line.old.items - 1) line.old.items) × (line.new.items ≡ drop (length line.old.items - 1) line.old.items)) (AreBlanks (take (length line.old.items - 1) line.old.items) → ⊥) }
+    ensures { DropsBlanks result line.old.items line.new.items }
 {
     let (front, _) = line.as_slice().split_at(line.len() - 1);
     if !is_blank(front) {

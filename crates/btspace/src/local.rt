@@ -1,15 +1,11 @@
 //! A script on a space of its own.
 
-ghost use Rattle.std.specs.Prelude.{◌≡◌, ◌^◌, ◌<◌, ◌≤◌, ◌+◌, ◌*◌, ℕ, List, [], ◌∷◌, ◌++◌};
-ghost use Rattle.std.specs.Prelude.{Option, OnOk, OnErr, IfErr, IfSome, MatchBool, MatchResult};
-ghost use Rattle.std.specs.Io.KnownBytes.{Appends};
+ghost use Rattle.std.specs.Prelude.{◌≡◌, ◌^◌, ◌<◌, ◌≤◌, ◌+◌, ◌*◌, ℕ, List, [], Option, OnOk, OnErr, IfErr};
 ghost use Rattle.std.specs.Io.Buffered.{reader_buffer, reader_remaining};
 ghost use Rattle.tuple_codec.specs.OperationView.{operation_of};
-ghost use Rattle.space.specs.Applying.{outcome, tuples_after};
-ghost use Rattle.space.specs.Births.{tuples_of, state_after, empty_state};
-ghost use Rattle.btspace.specs.Run.{complete, result_line};
-ghost use Rattle.btspace.specs.Endings.{Along, AddsResults, StopsBy, EndsRun, MovesOn, HeldForLine};
-ghost use Rattle.btspace.specs.Endings.{IsWriteFault, fault_at, read_fault_of};
+ghost use Rattle.space.specs.Births.{Follows, TuplesFollow, empty_state};
+ghost use Rattle.btspace.specs.Endings.{HeldForLine, IsWriteFault, fault_at, read_fault_of};
+ghost use Rattle.btspace.specs.Moments.{moment_of, RunsLine, EndsLines, EndsKnown, AddsResult, WritesDue, WritesAll};
 
 use crate::input::{NextLine, NoLine, has_line, next_line};
 use crate::pieces::ReadFault;
@@ -60,8 +56,7 @@ pub fn local<R: Read + Drop, W: Write>(
     reader: R,
     writer: &mut W,
 ) -> Result<(), LocalFault>
-    ensures { IfSome (R.remaining reader) (λ bytes.
-        EndsRun result bytes (W.contents writer.old) (W.contents writer.new) []) }
+    ensures { EndsKnown W.contents result (R.remaining reader) writer.old writer.new [] }
 {
     let mut input = match BufReader::new(alloc, reader) {
         Ok(input) => input,
@@ -99,8 +94,8 @@ impl Session {
     ) -> Result<(), LocalFault>
         requires new_space { self.old.space ≡ empty_state }
         requires no_results { self.old.results.items ≡ [] }
-        ensures { IfSome (reader_remaining R.remaining reader.old) (λ bytes.
-            EndsRun result bytes (W.contents writer.old) (W.contents writer.new) self.new.results.items) }
+        ensures { EndsKnown W.contents result (reader_remaining R.remaining reader.old)
+            writer.old writer.new self.new.results.items }
     {
         for number in 1..LINES_END {
             match self.run_line(alloc, number, reader, writer) {
@@ -123,15 +118,9 @@ impl Session {
         requires early { number < 2 ^ 48 }
         requires births { self.old.space.next < 2 ^ 62 }
         ensures births { OnOk result (self.new.space.next ≤ self.old.space.next + 257) }
-        ensures along { (bytes : List ℕ) (start : Option (List ℕ))
-            → Along bytes (reader_remaining R.remaining reader.old) start (W.contents writer.old) number
-            (tuples_of self.old.space) self.old.results.items
-            → MatchResult result
-            (λ more. MatchBool more
-            (Along bytes (reader_remaining R.remaining reader.new) start (W.contents writer.new) (number + 1)
-            (tuples_of self.new.space) self.new.results.items)
-            (AddsResults bytes complete start (W.contents writer.new) self.new.results.items))
-            (λ fault. StopsBy fault bytes start (W.contents writer.new) self.new.results.items) }
+        ensures along { RunsLine result number
+            (moment_of (reader_remaining R.remaining reader.old) (W.contents writer.old) self.old)
+            (moment_of (reader_remaining R.remaining reader.new) (W.contents writer.new) self.new) }
     {
         match write_due(&mut self.results, reader.buffer(), writer) {
             Ok(()) => self.answer_line(alloc, number, reader),
@@ -150,15 +139,9 @@ impl Session {
         requires births { self.old.space.next < 2 ^ 62 }
         requires none_waits { HeldForLine (reader_buffer reader.old) self.old.results.items }
         ensures births { OnOk result (self.new.space.next ≤ self.old.space.next + 257) }
-        ensures along { (bytes : List ℕ) (start written : Option (List ℕ))
-            → Along bytes (reader_remaining R.remaining reader.old) start written number
-            (tuples_of self.old.space) self.old.results.items
-            → MatchResult result
-            (λ more. MatchBool more
-            (Along bytes (reader_remaining R.remaining reader.new) start written (number + 1)
-            (tuples_of self.new.space) self.new.results.items)
-            (AddsResults bytes complete start written self.new.results.items))
-            (λ fault. StopsBy fault bytes start written self.new.results.items) }
+        ensures along { (written : Option (List ℕ)) → RunsLine result number
+            (moment_of (reader_remaining R.remaining reader.old) written self.old)
+            (moment_of (reader_remaining R.remaining reader.new) written self.new) }
     {
         match next_line(alloc, reader, &mut self.line) {
             Ok(NextLine::End) => Ok(false),
@@ -177,10 +160,9 @@ impl Session {
         reader: &mut BufReader<R>,
         writer: &mut W,
     ) -> Result<(), LocalFault>
-        ensures { (bytes : List ℕ) (start : Option (List ℕ))
-            → Along bytes (reader_remaining R.remaining reader.old) start (W.contents writer.old) (2 ^ 48)
-            (tuples_of self.old.space) self.old.results.items
-            → EndsRun result bytes start (W.contents writer.new) self.new.results.items }
+        ensures { EndsLines result
+            (moment_of (reader_remaining R.remaining reader.old) (W.contents writer.old) self.old)
+            (moment_of (reader_remaining R.remaining reader.new) (W.contents writer.new) self.new) }
     {
         if let Err(fault) = write_due(&mut self.results, reader.buffer(), writer) {
             return Err(fault);
@@ -218,10 +200,9 @@ fn read_fault(fault: ReadFault) -> LocalFault
 // Applies the operation and adds the result line. At an error the results are as before.
 fn answer(space: &mut Space, op: &Op<Global>, results: &mut Vec<u8>) -> Result<(), NoMemory>
     requires { space.old.next < 2 ^ 62 }
-    ensures state { OnOk result (space.new ≡ state_after space.old (operation_of op.now)) }
-    ensures tuples { OnOk result (tuples_of space.new ≡ tuples_after (tuples_of space.old) (operation_of op.now)) }
-    ensures ok { OnOk result (results.new.items
-        ≡ results.old.items ++ result_line (outcome (tuples_of space.old) (operation_of op.now))) }
+    ensures state { OnOk result (Follows space.old space.new (operation_of op.now)) }
+    ensures tuples { OnOk result (TuplesFollow space.old space.new (operation_of op.now)) }
+    ensures ok { OnOk result (AddsResult op.now space.old results.old results.new) }
     ensures err { OnErr result (results.new.items ≡ results.old.items) }
 {
     let old_len = results.len();
@@ -242,8 +223,7 @@ fn write_due<W: Write>(
     writer: &mut W,
 ) -> Result<(), LocalFault>
     ensures held { OnOk result (HeldForLine at_hand.now results.new.items) }
-    ensures results { OnOk result (MovesOn (W.contents writer.old) (W.contents writer.new)
-        results.old.items results.new.items) }
+    ensures results { WritesDue W.contents result writer.old writer.new results.old results.new }
     ensures err { IfErr result IsWriteFault }
 {
     if results.is_empty() {
@@ -257,7 +237,7 @@ fn write_due<W: Write>(
 
 // Writes the results and leaves none.
 fn write_out<W: Write>(results: &mut Vec<u8>, writer: &mut W) -> Result<(), LocalFault>
-    ensures written { OnOk result (Appends (W.contents writer.old) (W.contents writer.new) results.old.items) }
+    ensures written { WritesAll W.contents result writer.old writer.new results.old.items }
     ensures none { OnOk result (results.new.items ≡ []) }
     ensures err { IfErr result IsWriteFault }
 {

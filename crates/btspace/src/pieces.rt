@@ -1,9 +1,9 @@
 //! Pieces of lines.
 
-ghost use Rattle.std.specs.Prelude.{◌≡◌, ◌≢◌, Ok, ◌==◌, ◌≤◌, ℕ, slice_index, ◌+◌, ◌-◌, ◌<◌, ◌++◌, Some, IfOk, IfSome, drop, length, vec_len};
+ghost use Rattle.std.specs.Prelude.{◌≡◌, ◌≢◌, Ok, ◌==◌, ◌≤◌, ℕ, slice_index, ◌+◌, ◌-◌, ◌<◌, ◌++◌, Some, drop, length, vec_len};
 ghost use Rattle.std.specs.List.{list_all};
 ghost use Rattle.std.specs.Str.Lines.{strip_carriage_return};
-ghost use Rattle.btspace.specs.Pieces.{TakesPiece, piece_end_of};
+ghost use Rattle.btspace.specs.Pieces.{ReadsPiece, ReadsPart, piece_end_of};
 
 use std::alloc::AllocError;
 use std::io::{self, BufRead, ErrorKind};
@@ -37,7 +37,7 @@ pub fn read_piece<B: BufRead>(
     piece: &mut Vec<u8>,
 ) -> Result<PieceEnd, ReadFault>
     ensures full { result ≡ Ok PieceEnd.Full → limit ≤ vec_len piece.new }
-    ensures known { IfSome (B.remaining reader.old) (λ xs. IfOk result (λ end. TakesPiece (Some end) limit xs (B.remaining reader.new) piece.old.items piece.new.items)) }
+    ensures known { ReadsPiece B.remaining result limit reader.old reader.new piece.old piece.new }
 {
     for _ in 0..u64::MAX {
         if let Some(end) = read_some(reader, limit, piece)? {
@@ -54,7 +54,7 @@ fn read_some<B: BufRead>(
     piece: &mut Vec<u8>,
 ) -> Result<Option<PieceEnd>, ReadFault>
     ensures full { result ≡ Ok (Some PieceEnd.Full) → limit ≤ vec_len piece.new }
-    ensures known { IfSome (B.remaining reader.old) (λ xs. IfOk result (λ step. TakesPiece step limit xs (B.remaining reader.new) piece.old.items piece.new.items)) }
+    ensures known { ReadsPart B.remaining result limit reader.old reader.new piece.old piece.new }
 {
     let available = match reader.fill_buf() {
         Ok(available) => available,

@@ -1,7 +1,6 @@
 //! A tuple as text, from its bytes in digits.
 
-ghost use Rattle.std.specs.Prelude.{◌≡◌, MatchResult};
-ghost use Rattle.btspace.specs.Shown.{DigitsSpell, GivesNone, ShowFails, Shows};
+ghost use Rattle.btspace.specs.Shown.{EndsShow, ReadsDigits};
 
 use hex::FromHexError;
 use std::alloc::{AllocFailed, Global};
@@ -68,7 +67,7 @@ impl From<FromHexError> for ShowFault {
 /// Malformed where there is no such tuple, NoMemory where memory runs out, and then nothing is written. Write where
 /// the writer fails.
 pub fn show<W: Write>(alloc: Global, digits: &str, writer: &mut W) -> Result<(), ShowFault>
-    ensures { MatchResult result (λ _. Shows digits.now (W.contents writer.old) (W.contents writer.new)) (λ fault. ShowFails fault digits.now (W.contents writer.old) (W.contents writer.new)) }
+    ensures { EndsShow result digits.now (W.contents writer.old) (W.contents writer.new) }
 {
     let tuple = read_digits(alloc, digits)?;
     let mut text = Vec::new(alloc);
@@ -84,7 +83,7 @@ pub fn show<W: Write>(alloc: Global, digits: &str, writer: &mut W) -> Result<(),
 }
 
 fn read_digits(alloc: Global, digits: &str) -> Result<Tuple<Global>, ShowFault>
-    ensures { MatchResult result (λ tuple. DigitsSpell digits.now tuple) (λ fault. GivesNone fault digits.now) }
+    ensures { ReadsDigits result digits.now }
 {
     let bytes = hex::decode(alloc, digits)?;
     match decode_tuple(alloc, bytes.as_slice()) {

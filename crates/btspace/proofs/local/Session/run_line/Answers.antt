@@ -3,7 +3,7 @@ use Rattle.btspace.proofs.local.Session.run_line.Goals as goal
 
 pub returns-in-Ok-clause-along : goal.returns-in-Ok-clause-along
 returns-in-Ok-clause-along g c bytes start along =
-    c.answer_line.ensures.along bytes start _
+    c.answer_line.ensures.along _ bytes start
     (moved bytes _ start _ _ _ _ _ _ along (c.in-Ok.ensures {u = tt}).results)
 
 pub returns-in-Err-clause-along : goal.returns-in-Err-clause-along
