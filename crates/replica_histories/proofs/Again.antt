@@ -53,10 +53,10 @@ prepares_go_again c me s desk log due outputs i digest bytes there posted f =
     takes = takes_nothing c me _ log f.of_log.is_log (λ j k h. refl)
         (λ j x k h. none_there (logs.prepare_of log j x) (prepare_from c x log.view j (record { sender = me; message = Prepare log.view i digest })) ((me == x) && (log.view == log.view) && (i == j) && not (x == primary c log.view)) digest refl h
         (λ e none.
-            let a = and_parts ((me == x) && (log.view == log.view) && (i == j)) (not (x == primary c log.view)) e in
-            let b = and_parts ((me == x) && (log.view == log.view)) (i == j) a.0 in
-            let d = and_parts (me == x) (log.view == log.view) b.0 in
-            given_not (logs.prepare_of log i me) digest there (subst (λ (y : ℕ). logs.prepare_of log y me ≡ None) (sym (eqb-true i j b.1)) (subst (λ (y : ℕ). logs.prepare_of log j y ≡ None) (sym (eqb-true me x d.0)) none))))
+        let a = and_parts ((me == x) && (log.view == log.view) && (i == j)) (not (x == primary c log.view)) e in
+        let b = and_parts ((me == x) && (log.view == log.view)) (i == j) a.0 in
+        let d = and_parts (me == x) (log.view == log.view) b.0 in
+        given_not (logs.prepare_of log i me) digest there (subst (λ (y : ℕ). logs.prepare_of log y me ≡ None) (sym (eqb-true i j b.1)) (subst (λ (y : ℕ). logs.prepare_of log j y ≡ None) (sym (eqb-true me x d.0)) none))))
         (λ j x k h. refl)
 
     own : prepare_of c me past log.view i me ≡ Some digest
@@ -87,9 +87,9 @@ commits_go_again c me s desk log due outputs i digest bytes there posted f =
     takes = takes_nothing c me _ log f.of_log.is_log (λ j k h. refl) (λ j x k h. refl)
         (λ j x k h. none_there (logs.commit_of log j x) (commit_from x log.view j (record { sender = me; message = Commit log.view i digest })) ((me == x) && (log.view == log.view) && (i == j)) digest refl h
         (λ e none.
-            let b = and_parts ((me == x) && (log.view == log.view)) (i == j) e in
-            let d = and_parts (me == x) (log.view == log.view) b.0 in
-            given_not (logs.commit_of log i me) digest there (subst (λ (y : ℕ). logs.commit_of log y me ≡ None) (sym (eqb-true i j b.1)) (subst (λ (y : ℕ). logs.commit_of log j y ≡ None) (sym (eqb-true me x d.0)) none))))
+        let b = and_parts ((me == x) && (log.view == log.view)) (i == j) e in
+        let d = and_parts (me == x) (log.view == log.view) b.0 in
+        given_not (logs.commit_of log i me) digest there (subst (λ (y : ℕ). logs.commit_of log y me ≡ None) (sym (eqb-true i j b.1)) (subst (λ (y : ℕ). logs.commit_of log j y ≡ None) (sym (eqb-true me x d.0)) none))))
 
     own : commit_of c me past log.view i me ≡ Some digest
     own = f.of_log.commits i me within ∙ there
@@ -207,10 +207,10 @@ batches_go_again c me s desk log due outputs i batch bytes own there posted f =
         (λ j k h. none_there (logs.logged_batch log j) (batch_from c me log.view j (record { sender = me; message = PrePrepare log.view i batch }))
         ((log.view == log.view) && (i == j) && (me == primary c log.view) && are_genuine c me batch) batch refl h
         (λ e none.
-            let a = and_parts ((log.view == log.view) && (i == j) && (me == primary c log.view)) (are_genuine c me batch) e in
-            let b = and_parts ((log.view == log.view) && (i == j)) (me == primary c log.view) a.0 in
-            let d = and_parts (log.view == log.view) (i == j) b.0 in
-            given_not (logs.logged_batch log i) batch there (subst (λ (y : ℕ). logs.logged_batch log y ≡ None) (sym (eqb-true i j d.1)) none)))
+        let a = and_parts ((log.view == log.view) && (i == j) && (me == primary c log.view)) (are_genuine c me batch) e in
+        let b = and_parts ((log.view == log.view) && (i == j)) (me == primary c log.view) a.0 in
+        let d = and_parts (log.view == log.view) (i == j) b.0 in
+        given_not (logs.logged_batch log i) batch there (subst (λ (y : ℕ). logs.logged_batch log y ≡ None) (sym (eqb-true i j d.1)) none)))
         (λ j x k h. refl) (λ j x k h. refl)
 
     place : (v j : ℕ) (b : List ℕ) → batch_from c me v j (record { sender = me; message = PrePrepare log.view i batch }) ≡ Some b → (v ≡ log.view) × (logs.is_in_marks log j ≡ true)

@@ -82,12 +82,15 @@ prepared_here c me log past i batch f p = record {
 -- what is prepared in the history is so in the log, in its view
 pub prepared_there : (c : Configuration) (me : ℕ) (log : LogData) (past : List Entry) (v i : ℕ) (batch : List ℕ) → FitsLog c me log past → Prepared c me past v i batch
     → (v ≡ log.view) × PreparedIn log i batch
-prepared_there c me log past v i batch f p = (w.0, record {
-  within = w.1;
-  row = sym (f.batches i w.1 ∙ batch_read log i w.1) ∙ at.logged;
-  backups = counted c log (λ n. 2 * n) (sha256 batch) (logs.row_of log i).prepares (prepare_of c me past log.view i) f.faults (λ s. prepare_read c me log past i s f w.1)
-      ∙ le-leb (2 * c.faults) (count_below (λ s. has_digest (sha256 batch) (prepare_of c me past log.view i s)) (replicas c)) at.backups;
-})
+prepared_there c me log past v i batch f p = (
+  w.0,
+  record {
+    within = w.1;
+    row = sym (f.batches i w.1 ∙ batch_read log i w.1) ∙ at.logged;
+    backups = counted c log (λ n. 2 * n) (sha256 batch) (logs.row_of log i).prepares (prepare_of c me past log.view i) f.faults (λ s. prepare_read c me log past i s f w.1)
+        ∙ le-leb (2 * c.faults) (count_below (λ s. has_digest (sha256 batch) (prepare_of c me past log.view i s)) (replicas c)) at.backups;
+  },
+)
   where
     w : (v ≡ log.view) × (logs.is_in_marks log i ≡ true)
     w = f.within v i batch p.logged

@@ -87,23 +87,22 @@ reads_it c me log past bytes body i vote f h plain k = (reader c me log past byt
 -- ---- a batch
 
 pub batches_count : BatchesCount
-batches_count c me log past point s v i batch bytes f h none genuine = subst (λ (x : ℕ). Says x) (sym p.view) (λ hears. (
-  (
+batches_count c me log past point s v i batch bytes f h none genuine = (
+  subst (λ (x : ℕ). (entry_proposal c me past (Got me bytes) x i ≡ Some batch) × (logged c me past x i ≡ None)) (sym p.view) (
     reads_it c me log past bytes (record { sender = s; message = PrePrepare log.view i batch }) i (batch_from c me log.view i) f hears tt p.within ∙ given,
     f.batches i p.within ∙ free,
   ),
   subst (λ (o : Option Body). Takes c me o log (logs.with_batch log i batch)) (sym hears) (batch_taken c me s i batch log f.is_log p.within primary_is genuine free),
-)) h
+)
   where
-    Says : ℕ → Type 0
-    Says x = heard (members c) me bytes ≡ Some (record { sender = s; message = PrePrepare x i batch })
-        → ((entry_proposal c me past (Got me bytes) x i ≡ Some batch) × (logged c me past x i ≡ None)) × Takes c me (heard (members c) me bytes) log (logs.with_batch log i batch)
-
     faults : (ordering_fault log (s == logs.primary log v) v i ≡ None) × (fault_beside (logs.logged_digest log i) (sha256 batch) ≡ None)
     faults = or_none (ordering_fault log (s == logs.primary log v) v i) (fault_beside (logs.logged_digest log i) (sha256 batch)) none
 
     p : NoFault log (s == logs.primary log v) v i
     p = no_fault log (s == logs.primary log v) v i faults.0
+
+    hears : heard (members c) me bytes ≡ Some (record { sender = s; message = PrePrepare log.view i batch })
+    hears = subst (λ (x : ℕ). heard (members c) me bytes ≡ Some (record { sender = s; message = PrePrepare x i batch })) p.view h
 
     primary_is : (s == primary c log.view) ≡ true
     primary_is = ap (λ (x : ℕ). s == x) (sym (primary_same c log log.view f.faults)) ∙ ap (λ (x : ℕ). s == logs.primary log x) (sym p.view) ∙ p.sends
@@ -118,11 +117,11 @@ pub batches_drop : BatchesDrop
 batches_drop c me log past s v i batch bytes f h faulty = subst (λ (o : Option Body). Takes c me o log log) (sym h) (takes_nothing c me _ log f.is_log
     (λ j k none. none_there (logs.logged_batch log j) (batch_from c me log.view j (record { sender = s; message = PrePrepare v i batch })) ((v == log.view) && (i == j) && (s == primary c log.view) && are_genuine c me batch) batch refl none
     (λ e free.
-        let a = and_parts ((v == log.view) && (i == j) && (s == primary c log.view)) (are_genuine c me batch) e in
-        let b = and_parts ((v == log.view) && (i == j)) (s == primary c log.view) a.0 in
-        let d = and_parts (v == log.view) (i == j) b.0 in
-        let same : i ≡ j = eqb-true i j d.1 in
-        clash (eqb-true v log.view d.0) (subst (λ (x : ℕ). logs.is_in_marks log x ≡ true) (sym same) k) b.1 a.1 (subst (λ (x : ℕ). logs.logged_batch log x ≡ None) (sym same) free) faulty))
+    let a = and_parts ((v == log.view) && (i == j) && (s == primary c log.view)) (are_genuine c me batch) e in
+    let b = and_parts ((v == log.view) && (i == j)) (s == primary c log.view) a.0 in
+    let d = and_parts (v == log.view) (i == j) b.0 in
+    let same : i ≡ j = eqb-true i j d.1 in
+    clash (eqb-true v log.view d.0) (subst (λ (x : ℕ). logs.is_in_marks log x ≡ true) (sym same) k) b.1 a.1 (subst (λ (x : ℕ). logs.logged_batch log x ≡ None) (sym same) free) faulty))
     (λ j x k none. refl) (λ j x k none. refl))
   where
     clash : v ≡ log.view → logs.is_in_marks log i ≡ true → (s == primary c log.view) ≡ true → are_genuine c me batch ≡ true → logs.logged_batch log i ≡ None
@@ -145,23 +144,22 @@ known c me log past bytes body f h is =
     ap (λ (n : ℕ). nat_lt body.sender (3 * n + 1)) f.faults ∙ sym is ∙ subst (λ (b : Body). has_sender (members c) b ≡ true) o.body_is o.opens.sender
 
 pub prepares_count : PreparesCount
-prepares_count c me log past point s v i digest bytes vote f h none sender same = subst (λ (x : ℕ). Says x) (sym p.view) (λ hears. (
-  (
+prepares_count c me log past point s v i digest bytes vote f h none sender same = (
+  subst (λ (x : ℕ). (vote_in c me past (Got me bytes) (prepare_from c s x i) x i ≡ Some digest) × (prepare_of c me past x i s ≡ None)) (sym p.view) (
     reads_it c me log past bytes (record { sender = s; message = Prepare log.view i digest }) i (prepare_from c s log.view i) f hears tt p.within ∙ given,
     f.prepares i s p.within ∙ beside_none (logs.prepare_of log i s) digest faults.1,
   ),
   subst (λ (o : Option Body). Takes c me o log (logs.with_prepare log i vote)) (sym hears) (prepare_taken c me s i digest vote log f.is_log p.within (ltb-true s (logs.replicas log) sends.0) backup sender same),
-)) h
+)
   where
-    Says : ℕ → Type 0
-    Says x = heard (members c) me bytes ≡ Some (record { sender = s; message = Prepare x i digest })
-        → ((vote_in c me past (Got me bytes) (prepare_from c s x i) x i ≡ Some digest) × (prepare_of c me past x i s ≡ None)) × Takes c me (heard (members c) me bytes) log (logs.with_prepare log i vote)
-
     faults : (ordering_fault log (nat_lt s (logs.replicas log) && not (s == logs.primary log v)) v i ≡ None) × (fault_beside (logs.prepare_of log i s) digest ≡ None)
     faults = or_none (ordering_fault log (nat_lt s (logs.replicas log) && not (s == logs.primary log v)) v i) (fault_beside (logs.prepare_of log i s) digest) none
 
     p : NoFault log (nat_lt s (logs.replicas log) && not (s == logs.primary log v)) v i
     p = no_fault log (nat_lt s (logs.replicas log) && not (s == logs.primary log v)) v i faults.0
+
+    hears : heard (members c) me bytes ≡ Some (record { sender = s; message = Prepare log.view i digest })
+    hears = subst (λ (x : ℕ). heard (members c) me bytes ≡ Some (record { sender = s; message = Prepare x i digest })) p.view h
 
     sends : (nat_lt s (logs.replicas log) ≡ true) × (not (s == logs.primary log v) ≡ true)
     sends = and_parts (nat_lt s (logs.replicas log)) (not (s == logs.primary log v)) p.sends
@@ -177,13 +175,13 @@ prepares_drop c me log past s v i digest bytes fault f h faulty = subst (λ (o :
     (λ j k none. refl)
     (λ j x k none. none_there (logs.prepare_of log j x) (prepare_from c x log.view j (record { sender = s; message = Prepare v i digest })) ((s == x) && (v == log.view) && (i == j) && not (x == primary c log.view)) digest refl none
     (λ e free.
-        let a = and_parts ((s == x) && (v == log.view) && (i == j)) (not (x == primary c log.view)) e in
-        let b = and_parts ((s == x) && (v == log.view)) (i == j) a.0 in
-        let d = and_parts (s == x) (v == log.view) b.0 in
-        let same : i ≡ j = eqb-true i j b.1 in
-        let from : s ≡ x = eqb-true s x d.0 in
-        clash (eqb-true v log.view d.1) (subst (λ (y : ℕ). logs.is_in_marks log y ≡ true) (sym same) k) (subst (λ (y : ℕ). not (y == primary c log.view) ≡ true) (sym from) a.1)
-        (subst (λ (y : ℕ). logs.prepare_of log y s ≡ None) (sym same) (subst (λ (y : ℕ). logs.prepare_of log j y ≡ None) (sym from) free))))
+    let a = and_parts ((s == x) && (v == log.view) && (i == j)) (not (x == primary c log.view)) e in
+    let b = and_parts ((s == x) && (v == log.view)) (i == j) a.0 in
+    let d = and_parts (s == x) (v == log.view) b.0 in
+    let same : i ≡ j = eqb-true i j b.1 in
+    let from : s ≡ x = eqb-true s x d.0 in
+    clash (eqb-true v log.view d.1) (subst (λ (y : ℕ). logs.is_in_marks log y ≡ true) (sym same) k) (subst (λ (y : ℕ). not (y == primary c log.view) ≡ true) (sym from) a.1)
+    (subst (λ (y : ℕ). logs.prepare_of log y s ≡ None) (sym same) (subst (λ (y : ℕ). logs.prepare_of log j y ≡ None) (sym from) free))))
     (λ j x k none. refl))
   where
     clash : v ≡ log.view → logs.is_in_marks log i ≡ true → not (s == primary c log.view) ≡ true → logs.prepare_of log i s ≡ None → ⊥
@@ -195,23 +193,22 @@ prepares_drop c me log past s v i digest bytes fault f h faulty = subst (λ (o :
         given_not (prepare_fault log s v i digest) fault faulty (subst (λ (x : ℕ). prepare_fault log s x i digest ≡ None) (sym view) none)
 
 pub commits_count : CommitsCount
-commits_count c me log past point s v i digest bytes vote f h none sender same = subst (λ (x : ℕ). Says x) (sym p.view) (λ hears. (
-  (
+commits_count c me log past point s v i digest bytes vote f h none sender same = (
+  subst (λ (x : ℕ). (vote_in c me past (Got me bytes) (commit_from s x i) x i ≡ Some digest) × (commit_of c me past x i s ≡ None)) (sym p.view) (
     reads_it c me log past bytes (record { sender = s; message = Commit log.view i digest }) i (commit_from s log.view i) f hears tt p.within ∙ given,
     f.commits i s p.within ∙ beside_none (logs.commit_of log i s) digest faults.1,
   ),
   subst (λ (o : Option Body). Takes c me o log (logs.with_commit log i vote)) (sym hears) (commit_taken c me s i digest vote log f.is_log p.within (ltb-true s (logs.replicas log) p.sends) sender same),
-)) h
+)
   where
-    Says : ℕ → Type 0
-    Says x = heard (members c) me bytes ≡ Some (record { sender = s; message = Commit x i digest })
-        → ((vote_in c me past (Got me bytes) (commit_from s x i) x i ≡ Some digest) × (commit_of c me past x i s ≡ None)) × Takes c me (heard (members c) me bytes) log (logs.with_commit log i vote)
-
     faults : (ordering_fault log (nat_lt s (logs.replicas log)) v i ≡ None) × (fault_beside (logs.commit_of log i s) digest ≡ None)
     faults = or_none (ordering_fault log (nat_lt s (logs.replicas log)) v i) (fault_beside (logs.commit_of log i s) digest) none
 
     p : NoFault log (nat_lt s (logs.replicas log)) v i
     p = no_fault log (nat_lt s (logs.replicas log)) v i faults.0
+
+    hears : heard (members c) me bytes ≡ Some (record { sender = s; message = Commit log.view i digest })
+    hears = subst (λ (x : ℕ). heard (members c) me bytes ≡ Some (record { sender = s; message = Commit x i digest })) p.view h
 
     given : commit_from s log.view i (record { sender = s; message = Commit log.view i digest }) ≡ Some digest
     given = rw (eq-eqb s s refl, eq-eqb log.view log.view refl, eq-eqb i i refl) refl
@@ -221,12 +218,12 @@ commits_drop c me log past s v i digest bytes fault f h faulty = subst (λ (o : 
     (λ j k none. refl) (λ j x k none. refl)
     (λ j x k none. none_there (logs.commit_of log j x) (commit_from x log.view j (record { sender = s; message = Commit v i digest })) ((s == x) && (v == log.view) && (i == j)) digest refl none
     (λ e free.
-        let b = and_parts ((s == x) && (v == log.view)) (i == j) e in
-        let d = and_parts (s == x) (v == log.view) b.0 in
-        let same : i ≡ j = eqb-true i j b.1 in
-        let from : s ≡ x = eqb-true s x d.0 in
-        clash (eqb-true v log.view d.1) (subst (λ (y : ℕ). logs.is_in_marks log y ≡ true) (sym same) k)
-        (subst (λ (y : ℕ). logs.commit_of log y s ≡ None) (sym same) (subst (λ (y : ℕ). logs.commit_of log j y ≡ None) (sym from) free)))))
+    let b = and_parts ((s == x) && (v == log.view)) (i == j) e in
+    let d = and_parts (s == x) (v == log.view) b.0 in
+    let same : i ≡ j = eqb-true i j b.1 in
+    let from : s ≡ x = eqb-true s x d.0 in
+    clash (eqb-true v log.view d.1) (subst (λ (y : ℕ). logs.is_in_marks log y ≡ true) (sym same) k)
+    (subst (λ (y : ℕ). logs.commit_of log y s ≡ None) (sym same) (subst (λ (y : ℕ). logs.commit_of log j y ≡ None) (sym from) free)))))
   where
     clash : v ≡ log.view → logs.is_in_marks log i ≡ true → logs.commit_of log i s ≡ None → ⊥
     clash view within free =

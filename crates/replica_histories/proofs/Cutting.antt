@@ -1,8 +1,9 @@
 -- A checkpoint moves the low mark, and the log is cut at it.
-use Rattle.std.proofs.Common.{◌≡◌, ℕ, ◌+◌, ◌≤◌, ◌<◌, ◌⊎◌, inl, inr, Bool, true, false, cond, ◌&&◌, List, ◌∷◌, max, refl, sym, ap, ◌∙◌, subst, arith, Option, Some, None}
+use Rattle.std.proofs.Common.{◌≡◌, ℕ, ◌+◌, ◌-◌, ◌≤◌, ◌<◌, ◌⊎◌, inl, inr, Bool, true, false, cond, ◌&&◌, List, ◌∷◌, max, min, refl, sym, ap, ◌∙◌, subst, arith, Option, Some, None}
 use Rattle.std.specs.Prelude.{nat_le, nat_lt, option_and_then, ◌^◌}
 use Rattle.std.specs.Option.{option_map_or}
 use Rattle.std.proofs.lemmas.Bool.{and_parts, and_from, ltb-true, ltb-false, lt-ltb, leb-true, leb-false, le-leb}
+use Rattle.quorum.specs.Quorum.{count_below}
 use Rattle.quorum.proofs.Counting.{count_same}
 use Rattle.wire.specs.Messages.{BodyData as Body, NewViewData, CheckpointEntryData as CheckpointEntry, checkpoint as Checkpoint}
 use Rattle.ordering.specs.Log as logs
@@ -24,21 +25,21 @@ use Rattle.replica_histories.proofs.Words.{gated, given_not}
 cut_low : (log : LogData) (h : ℕ) → log.low ≤ h → (logs.cut_to log h).low ≡ h
 cut_low log h above = go (nat_le h log.low) refl
   where
-    go : (b : Bool) → nat_le h log.low ≡ b → (cond b log (record log { low = h; rows = logs.cut_rows _ log.rows })).low ≡ h
+    go : (b : Bool) → nat_le h log.low ≡ b → (cond b log (record log { low = h; rows = logs.cut_rows (min (h - log.low) log.span) log.rows })).low ≡ h
     go true e = let l = leb-true h log.low e in omega arith
     go false e = refl
 
 cut_view : (log : LogData) (h : ℕ) → (logs.cut_to log h).view ≡ log.view
 cut_view log h = go (nat_le h log.low)
   where
-    go : (b : Bool) → (cond b log (record log { low = h; rows = logs.cut_rows _ log.rows })).view ≡ log.view
+    go : (b : Bool) → (cond b log (record log { low = h; rows = logs.cut_rows (min (h - log.low) log.span) log.rows })).view ≡ log.view
     go true = refl
     go false = refl
 
 cut_span : (log : LogData) (h : ℕ) → (logs.cut_to log h).span ≡ log.span
 cut_span log h = go (nat_le h log.low)
   where
-    go : (b : Bool) → (cond b log (record log { low = h; rows = logs.cut_rows _ log.rows })).span ≡ log.span
+    go : (b : Bool) → (cond b log (record log { low = h; rows = logs.cut_rows (min (h - log.low) log.span) log.rows })).span ≡ log.span
     go true = refl
     go false = refl
 
@@ -82,7 +83,7 @@ module _ (c : Configuration) (me : ℕ) (log : LogData) (held next : ℕ → Lis
   stable_same =
       ap (λ (n : ℕ). is_quorum c n && says_checkpoint entry (checkpoints_of c (e ∷ past) me))
       (count_same (λ x. says_checkpoint entry (checkpoints_of c (e ∷ past) x)) (λ x. says_checkpoint entry (next x)) (λ x. ap (says_checkpoint entry) (held_next x)) (replicas c))
-      ∙ ap (λ (xs : List CheckpointEntry). is_quorum c _ && says_checkpoint entry xs) (held_next me)
+      ∙ ap (λ (xs : List CheckpointEntry). is_quorum c (count_below (λ x. says_checkpoint entry (next x)) (replicas c)) && says_checkpoint entry xs) (held_next me)
 
   low_is : low c me (e ∷ past) ≡ new.low
   unfolding low

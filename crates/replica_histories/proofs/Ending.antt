@@ -52,11 +52,11 @@ module _ (c : Configuration) (me : ℕ) (s : Start) (desk : Desk) (log : LogData
   abbrev now : List Entry
   now = behind s outputs
 
-  abbrev new : Point
-  new = point_of desk f.of_desk.states f.of_desk.ran
+  abbrev reached : Point
+  reached = point_of desk f.of_desk.states f.of_desk.ran
 
-  leaves_now : Leaves c me now new
-  leaves_now = steps_leave c me s outputs new f.of_desk.leaves f.of_desk.steps
+  leaves_now : Leaves c me now reached
+  leaves_now = steps_leave c me s outputs reached f.of_desk.leaves f.of_desk.steps
 
   given : (message : Message) → Gives me message outputs → Gives me message (reverse outputs)
   given message h = has_reversed (IsSaying me message) outputs h
@@ -95,11 +95,11 @@ module _ (c : Configuration) (me : ℕ) (s : Start) (desk : Desk) (log : LogData
           (o.0, subst (λ (x : ℕ). prepare_of c me now x i me ≡ Some o.0) (sym w.0) o.1)
 
       said : Once (Speaks (preparing me v i own.0)) now
-      said = prepare_spoken c me v i own.0 now new leaves_now own.1
+      said = prepare_spoken c me v i own.0 now reached leaves_now own.1
 
       digest : own.0 ≡ sha256 batch
       digest =
-          let l = spoken_logged c me v i own.0 now new leaves_now said in
+          let l = spoken_logged c me v i own.0 now reached leaves_now said in
           sym l.digest ∙ ap sha256 (some_injective l.batch batch (sym l.is_logged ∙ some))
 
       pick : Gives me (Prepare v i own.0) outputs ⊎ Once (Speaks (preparing me v i own.0)) s.before → Gives me (Prepare v i own.0) outputs
@@ -121,11 +121,11 @@ module _ (c : Configuration) (me : ℕ) (s : Start) (desk : Desk) (log : LogData
       own = let o = own_commit i batch p.1 in (o.0, subst (λ (x : ℕ). commit_of c me now x i me ≡ Some o.0) (sym p.0) o.1)
 
       said : Once (Speaks (committing me v i own.0)) now
-      said = commit_spoken c me v i own.0 now new leaves_now own.1
+      said = commit_spoken c me v i own.0 now reached leaves_now own.1
 
       digest : own.0 ≡ sha256 batch
       digest =
-          let l = spoken_certified c me v i own.0 now new leaves_now said in
+          let l = spoken_certified c me v i own.0 now reached leaves_now said in
           sym l.digest_is ∙ ap sha256 (some_injective l.batch batch (sym l.prepared.logged ∙ some.logged))
 
       pick : Gives me (Commit v i own.0) outputs ⊎ Once (Speaks (committing me v i own.0)) s.before → Gives me (Commit v i own.0) outputs
@@ -155,7 +155,7 @@ module _ (c : Configuration) (me : ℕ) (s : Start) (desk : Desk) (log : LogData
           go true e = sym (f.of_log.batches j e) ∙ subst (λ (x : ℕ). logged c me now x j ≡ None) at (free.2 j above)
           go false e = rw e refl
 
-  pub owes : (outputs ≡ []) ⊎ IsTaken c me s → OwesOrdering c me s.before s.input (reverse outputs) now s.old new
+  pub owes : (outputs ≡ []) ⊎ IsTaken c me s → OwesOrdering c me s.before s.input (reverse outputs) now s.old reached
   owes taken = record {
     numbers = numbers;
     numbers_once = at_outputs (NumbersOnce c me) s outputs [] f.once tt;

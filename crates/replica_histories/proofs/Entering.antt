@@ -28,10 +28,16 @@ module _ (c : Configuration) (me : ℕ) (past : List Entry) (bytes : List ℕ) (
   start = record { before = past; input = Got me bytes; old = old }
 
   asked_is_due : (k : ℕ) (kept : Kept) → IsAsked c me start k kept → Has (λ x. x ≡ reply_of k kept) (asked old.state (heard (members c) me bytes))
-  asked_is_due k kept a = rw (a.2) (at (256 + k - 256) (let n : 256 + k - 256 ≡ k = omega arith in n) (nat_le 256 (256 + k)) (le-leb 256 (256 + k) (omega arith)))
+  asked_is_due k kept a = rw hears (at (256 + k - 256) (let n : 256 + k - 256 ≡ k = omega arith in n) (nat_le 256 (256 + k)) (le-leb 256 (256 + k) (omega arith)))
     where
+      hears : heard (members c) me bytes ≡ Some (record { sender = 256 + k; message = Request a.0 modes.Ordered a.1 })
+      hears = a.2
+
+      kept_is : kept_of old.state k ≡ Some kept
+      kept_is = a.3
+
       at : (n : ℕ) → n ≡ k → (b : Bool) → b ≡ true → Has (λ x. x ≡ reply_of k kept) (cond b (again_for n a.0 (kept_of old.state n)) [])
-      at n e b tests = rw (tests, e, a.3, eq-eqb kept.timestamp a.0 a.4) (inl refl)
+      at n e b tests = rw (tests, e, kept_is, eq-eqb kept.timestamp a.0 a.4) (inl refl)
 
   due_is_right : (point : Point) → point.state ≡ old.state → (message : Message) → Has (λ x. x ≡ message) (asked old.state (heard (members c) me bytes)) → MaySayDue point message
   due_is_right point same message h = go (heard (members c) me bytes) h
@@ -56,6 +62,11 @@ module _ (c : Configuration) (me : ℕ) (past : List Entry) (bytes : List ℕ) (
       go (Some body) h = of body.sender body.message h
 
 -- ---- the event begins
+
+-- points of one state and the same waiting requests
+same_point : (snapshots : List State) (st other : State) (waiting calls : List Call) → st ≡ other → waiting ≡ calls
+    → ◌≡◌ {A = Point} (record { state = st; snapshots = snapshots; ran = []; waiting = waiting }) (record { state = other; snapshots = snapshots; ran = []; waiting = calls })
+same_point snapshots st other waiting calls e f = rw (e, f) refl
 
 pub inputs_fit : InputsFit
 inputs_fit c me desk new log after due past bytes held none e = record {
@@ -84,10 +95,12 @@ inputs_fit c me desk new log after due past bytes held none e = record {
     waiting_is = ap (λ (p : Point). p.waiting) held.of_desk.is
 
     waits : waiting_after c me old bytes ≡ waiting_after c me (point_of desk [] []) bytes
-    waits = rw (state_is, waiting_is) refl
+    waits =
+        ap (λ (st : State). waiting_after c me (record { state = st; snapshots = []; ran = []; waiting = old.waiting }) bytes) state_is
+        ∙ ap (λ (calls : List Call). waiting_after c me (record { state = desk.state; snapshots = []; ran = []; waiting = calls }) bytes) waiting_is
 
     moves : point_of new old.snapshots [] ≡ record old { ran = []; waiting = waiting_after c me old bytes }
-    moves = rw (e.state, e.waiting, state_is, waits) refl
+    moves = same_point old.snapshots new.state old.state new.waiting (waiting_after c me old bytes) (e.state ∙ sym state_is) (e.waiting ∙ sym waits)
 
     due_is : due ≡ asked old.state (heard (members c) me bytes)
     due_is = e.due_is ∙ ap (λ (st : State). asked st (heard (members c) me bytes)) (sym state_is)
@@ -122,4 +135,4 @@ ticks_fit c me desk log past held = record {
     plain = record { view = refl; change = refl; checkpoint = refl; installed = refl }
 
     moves : point_of desk old.snapshots [] ≡ record old { ran = [] }
-    moves = rw (ap (λ (p : Point). p.state) held.of_desk.is, ap (λ (p : Point). p.waiting) held.of_desk.is) refl
+    moves = same_point old.snapshots desk.state old.state desk.waiting old.waiting (sym (ap (λ (p : Point). p.state) held.of_desk.is)) (sym (ap (λ (p : Point). p.waiting) held.of_desk.is))

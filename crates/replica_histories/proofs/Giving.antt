@@ -20,7 +20,7 @@ use Rattle.protocol.specs.System.Trace.Entry.{Sent}
 use Rattle.protocol.specs.Replica.Certificates.{low, are_genuine, logged, batch_from}
 use Rattle.protocol.specs.Replica.State.{State}
 use Rattle.protocol.specs.Replica.RightReplica.{Point, kept_states, others, reply_of, IsFor, HasSeen, MaySay, MaySend}
-use Rattle.protocol.specs.Replica.Owed.{IsSaying, HasRequest, IsOfView, AreDifferent, NumbersOnce}
+use Rattle.protocol.specs.Replica.Owed.{IsSaying, HasRequest, IsOfView, IsNumbered, AreDifferent, NumbersOnce}
 use Rattle.protocol.proofs.Words.Options.{some_injective, then_some_gives, or_else_second}
 use Rattle.protocol.proofs.Words.Elements.{all_of_each, each_weaker}
 use Rattle.protocol.proofs.Words.Plain.{IsPlain, said_plain, plain_low}
@@ -29,7 +29,7 @@ use Rattle.replica_histories.specs.Desk.{Desk, snapshot_of, point_of}
 use Rattle.replica_histories.specs.Logs.{FitsLog, Takes}
 use Rattle.replica_histories.specs.Events.{Start, behind, IsOnItsWay, FitsFrames, Fits}
 use Rattle.replica_histories.specs.Outputs.{PreparesFit, CommitsFit, MayNumber, BatchesFit, RepliesFit}
-use Rattle.replica_histories.proofs.Words.{passed, HasBatch, has_batch, marks_are, primary_same}
+use Rattle.replica_histories.proofs.Words.{passed, HasBatch, has_batch, batch_read, marks_are, primary_same}
 use Rattle.replica_histories.proofs.Certified.{PreparedIn, active, is_prepared_in, prepared_here}
 use Rattle.replica_histories.proofs.Taking.{takes_nothing, prepare_taken, commit_taken, batch_taken}
 use Rattle.replica_histories.proofs.Logging.{log_goes, sent_read}
@@ -143,7 +143,7 @@ commits_fit c me s desk log due outputs i digest bytes vote asks sender same pos
 
     digest_is : sha256 p.0 ≡ digest
     digest_is =
-        let row : logs.logged_batch log i ≡ Some p.0 = rw (b.within) p.1.row in
+        let row : logs.logged_batch log i ≡ Some p.0 = batch_read log i b.within ∙ p.1.row in
         ap sha256 (some_injective p.0 b.batch (sym row ∙ b.logged)) ∙ b.digest_is
 
 -- ---- a batch of the primary's own
@@ -197,7 +197,7 @@ batches_fit c me s desk log due outputs i batch bytes p posted f =
     one = fits.batches i p.within ∙ takes.batch i p.within ∙ or_else_second (logs.logged_batch log i) _ p.free ∙ proposed
 
     once : NumbersOnce c me past (Sent me bytes)
-    once v j b says free = subst (λ (x : List ℕ). AllPairs (AreDifferent c) (requests_of x) × ((client t : ℕ) → HasRequest c client t x → (n : _) × IsOfView c me past v n × HasRequest c client t n → ⊥)) same
+    once v j b says free = subst (λ (x : List ℕ). AllPairs (AreDifferent c) (requests_of x) × ((client t : ℕ) → HasRequest c client t x → IsNumbered c me past v client t → ⊥)) same
         (p.differ, λ client t has numbered. of client t has numbered.0 numbered.2 numbered.1)
       where
         is : ◌≡◌ {A = Body} (record { sender = me; message = PrePrepare log.view i batch }) (record { sender = me; message = PrePrepare v j b })

@@ -113,7 +113,7 @@ log_goes c me log new past e f r t = record {
   span = t.stays.span ∙ f.span;
   active = t.stays.active ∙ f.active;
   view = view_quiet c me past e r.quiet ∙ f.view ∙ sym ev;
-  target = let a = f.target in let q = r.quiet.no_change in omega arith;
+  target = let a = f.target in let q = r.quiet.no_change in let v = ev in omega arith;
   low = low_quiet c me past e f.unchecked r.quiet ∙ f.low ∙ sym t.stays.low;
   batches = λ i k. subst (λ (v : ℕ). logged c me (e ∷ past) v i ≡ logs.logged_batch new i) (sym ev) (logs_at i (was i k));
   prepares = λ i s k. subst (λ (v : ℕ). prepare_of c me (e ∷ past) v i s ≡ logs.prepare_of new i s) (sym ev)

@@ -48,11 +48,11 @@ rests_behind c me o outputs (e ∷ past) new point h =
 rests_first : (c : Configuration) (me : ℕ) (point : Point) → point ≡ first_point → Rests c me [] point
 unfolding logged
 rests_first c me point is = record {
-  executes = λ v batch k. let l = k.prepared.logged in cc;
+  executes = λ v batch k. let l : None ≡ Some batch = k.prepared.logged in cc;
   numbers = λ v i call active own waits free. absurd (subst (λ (p : Point). Has (λ x. x ≡ call) p.waiting) is waits);
 }
 
-pub rests : (c : Configuration) (me : ℕ) (xs : List Entry) (point : Point) → ProceedsOrdering c me xs [] point point → Rests c me xs point
+rests : (c : Configuration) (me : ℕ) (xs : List Entry) (point : Point) → ProceedsOrdering c me xs [] point point → Rests c me xs point
 rests c me [] point h = rests_first c me point h.0
 rests c me (e ∷ past) point h =
     one_of (is_output e) (ProceedsOrdering c me past (e ∷ []) point h.0) (OwesOrdering c me past e [] (e ∷ past) h.0 point × ProceedsOrdering c me past [] h.0 h.0) (Rests c me (e ∷ past) point) h.2

@@ -21,10 +21,10 @@ empty (suc n) zero = refl
 empty (suc n) (suc i) = empty n i
 
 module _ (c : Configuration) (me : ℕ) (some : 1 ≤ c.faults) (few : c.faults ≤ 3) (mine : me < replicas c) (fits : span c ≤ 32) where
-  abbrev log : LogData
-  log = new_log me c.faults (span c)
+  abbrev started : LogData
+  started = new_log me c.faults (span c)
 
-  is_log : IsLog log
+  is_log : IsLog started
   is_log = record {
     some = some;
     few = few;
@@ -32,20 +32,20 @@ module _ (c : Configuration) (me : ℕ) (some : 1 ≤ c.faults) (few : c.faults 
     span = fits;
     low = omega arith;
     size = length-replicate (span c) no_row;
-    rows = All-replicate (IsRow (logs.replicas log)) (span c) no_row (record { prepares = tt; commits = tt });
+    rows = All-replicate (IsRow (logs.replicas started)) (span c) no_row (record { prepares = tt; commits = tt });
     checkpoints = length-replicate (3 * c.faults + 1) (none_checked);
   }
     where
       none_checked : List CheckpointEntry
       none_checked = []
 
-  no_reading : {A : Type 0} (of : Row → Option A) → of no_row ≡ None → (i : ℕ) → cond (logs.is_in_marks log i) (of (logs.row_of log i)) None ≡ None
-  no_reading of none i = gated (logs.is_in_marks log i) (of (logs.row_of log i)) (ap of (empty (span c) (logs.place log i)) ∙ none)
+  no_reading : {A : Type 0} (of : Row → Option A) → of no_row ≡ None → (i : ℕ) → cond (logs.is_in_marks started i) (of (logs.row_of started i)) None ≡ None
+  no_reading of none i = gated (logs.is_in_marks started i) (of (logs.row_of started i)) (ap of (empty (span c) (logs.place started i)) ∙ none)
 
-  no_digest : (i : ℕ) → logs.logged_digest log i ≡ None
+  no_digest : (i : ℕ) → logs.logged_digest started i ≡ None
   no_digest i = no_reading logs.digest_of refl i
 
-  first_fits : FitsLog c me log []
+  first_fits : FitsLog c me started []
   unfolding view low logged prepare_of commit_of checkpoints_of
   first_fits = record {
     is_log = is_log;

@@ -88,7 +88,12 @@ pub prepare_taken : (c : Configuration) (me s i : ℕ) (digest : List ℕ) (vote
 prepare_taken c me s i digest vote log is within known backup sender same = record {
   stays = record {
     is_log = prepare_kept log (logs.place log i) vote _ (in_span log i within) is (subst (λ (x : ℕ). x < logs.replicas log) (sym sender) known) refl;
-    me = refl; faults = refl; span = refl; view = refl; active = refl; low = refl;
+    me = refl;
+    faults = refl;
+    span = refl;
+    view = refl;
+    active = refl;
+    low = refl;
   };
   batch = λ j k. (prepares_count log j i s vote is within).0 ∙ sym (or_else_alone (logs.logged_batch log j) None refl);
   prepare = λ j x k. at_number i j (logs.prepare_of log j x) (logs.prepare_of (logs.with_prepare log i vote) j x) (then_some (vote.sender.0 == x) vote.digest)
@@ -109,7 +114,12 @@ pub commit_taken : (c : Configuration) (me s i : ℕ) (digest : List ℕ) (vote 
 commit_taken c me s i digest vote log is within known sender same = record {
   stays = record {
     is_log = commit_kept log (logs.place log i) vote _ (in_span log i within) is (subst (λ (x : ℕ). x < logs.replicas log) (sym sender) known) refl;
-    me = refl; faults = refl; span = refl; view = refl; active = refl; low = refl;
+    me = refl;
+    faults = refl;
+    span = refl;
+    view = refl;
+    active = refl;
+    low = refl;
   };
   batch = λ j k. (commits_count log j i s vote is within).0 ∙ sym (or_else_alone (logs.logged_batch log j) None refl);
   prepare = λ j x k. (commits_count log j i x vote is within).1 ∙ sym (or_else_alone (logs.prepare_of log j x) None refl);
@@ -129,7 +139,12 @@ pub batch_taken : (c : Configuration) (me s i : ℕ) (batch : List ℕ) (log : L
 batch_taken c me s i batch log is within primary_is genuine free = record {
   stays = record {
     is_log = batch_kept log (logs.place log i) batch _ (in_span log i within) is refl;
-    me = refl; faults = refl; span = refl; view = refl; active = refl; low = refl;
+    me = refl;
+    faults = refl;
+    span = refl;
+    view = refl;
+    active = refl;
+    low = refl;
   };
   batch = λ j k. read j (j == i) refl ((batches_are_logged log j i s batch is within).0);
   prepare = λ j x k. (batches_are_logged log j i x batch is within).1 ∙ sym (or_else_alone (logs.prepare_of log j x) None refl);

@@ -1,6 +1,6 @@
 -- What a replica owes as long as it knows one view: the part of what a correct replica owes that orders requests
 -- (Castro and Liskov, TOCS 2002, on normal-case operation). Checkpoints, reads and state transfer are the other part.
-use Rattle.std.specs.Prelude.{◌≡◌, ◌≢◌, ◌↔◌, ℕ, suc, ◌%◌, ◌<◌, ◌⊎◌, true, List, [], ◌∷◌, ◌++◌, reverse, Some, None, ⊤}
+use Rattle.std.specs.Prelude.{◌≡◌, ◌≢◌, ◌↔◌, ℕ, suc, ◌+◌, ◌%◌, ◌<◌, ◌⊎◌, true, List, [], ◌∷◌, ◌++◌, reverse, Some, None, ⊤}
 use Rattle.sha2.specs.Sha256.{sha256}
 use Rattle.tuple_codec.specs.Operations.{Operation}
 use Rattle.space.specs.Applying.{outcome, is_read_only}
