@@ -1,34 +1,31 @@
 -- What goes again: the own votes and batches that stand in the log.
-use Rattle.std.proofs.Common.{◌≡◌, ◌≢◌, ℕ, zero, suc, ◌-◌, ◌⊎◌, inl, inr, Bool, true, false, cond, ◌&&◌, not, List, [], ◌∷◌, ◌++◌, refl, sym, ap, ◌∙◌, subst, Option, Some, None, eqb-true, slice_get}
+use Rattle.std.proofs.Common.{◌≡◌, ◌≢◌, ℕ, zero, suc, ◌-◌, ◌⊎◌, inl, inr, true, ◌&&◌, not, List, [], ◌∷◌, refl, sym, ap, ◌∙◌, subst, Some, None, eqb-true, slice_get}
 use Rattle.std.specs.Prelude.{◌==◌, nat_lt, option_and_then}
-use Rattle.std.specs.Option.{option_map_or}
 use Rattle.std.proofs.lemmas.Bool.{and_parts, eqb-false, not-true}
-use Rattle.quorum.specs.Votes.{or_else}
 use Rattle.wire.specs.Messages.{BodyData as Body, MessageData as Message, NewViewData, pre_prepare as PrePrepare, prepare as Prepare, commit as Commit}
-use Rattle.wire.specs.Words.{carried, requests_of, said}
+use Rattle.wire.specs.Words.{carried, requests_of}
 use Rattle.wire.specs.Lists.{Each}
 use Rattle.ordering.specs.Log as logs
 use Rattle.ordering.specs.Log.{LogData}
 use Rattle.ordering.specs.Votes.{vote_of}
 use Rattle.protocol.specs.System.Configuration.{Configuration, primary}
-use Rattle.protocol.specs.System.Trace.{Entry, Once, Always, Has, is_output}
+use Rattle.protocol.specs.System.Trace.{Entry, Once, Always, Has}
 use Rattle.protocol.specs.System.Trace.Entry.{Invoke, Got, Tick, Executed, Installed, Sent, Accepted}
 use Rattle.protocol.specs.Replica.Certificates.{are_genuine, counts_at, taken, batch_from, prepare_from, commit_from, batch_begun, brought, low, is_in_marks, begun_proposal, entry_proposal, proposal, logged, prepare_of, commit_of}
 use Rattle.protocol.specs.Replica.RightReplica.{Point, Leaves, HasSeen, others}
-use Rattle.protocol.specs.Replica.Owed.{AreDifferent, HasRequest, IsNumbered, BeginsViewWith, NumbersOnce}
+use Rattle.protocol.specs.Replica.Owed.{BeginsViewWith, NumbersOnce}
 use Rattle.protocol.proofs.Words.Options.{some_injective, and_then_some, then_some_gives, given_once, or_else_cases}
 use Rattle.protocol.proofs.Words.Temporal.{once_weaker, once_stays}
 use Rattle.protocol.proofs.Words.Elements.{each_weaker}
-use Rattle.protocol.proofs.Agreement.Voting.{RightAt, once_right, preparing, Brings, Logs, logged_stays}
+use Rattle.protocol.proofs.Agreement.Voting.{RightAt, once_right, Logs, logged_stays}
 use Rattle.replica_histories.specs.Desk.{Desk, point_of}
-use Rattle.replica_histories.specs.Logs.{FitsLog, Takes}
+use Rattle.replica_histories.specs.Logs.{Takes}
 use Rattle.replica_histories.specs.Events.{Start, behind, Fits}
 use Rattle.replica_histories.specs.Outputs.{PreparesGoAgain, CommitsGoAgain, BatchesGoAgain}
 use Rattle.replica_histories.proofs.Words.{passed, given_not, marks_are, primary_same}
 use Rattle.replica_histories.proofs.Certified.{active}
 use Rattle.replica_histories.proofs.Speaking.{heard_other, prepare_spoken, spoken_logged, prepare_backup, Certified, commit_spoken, spoken_certified}
 use Rattle.replica_histories.proofs.Taking.{takes_nothing, none_there}
-use Rattle.replica_histories.proofs.Logging.{log_goes}
 use Rattle.replica_histories.proofs.Ending.{steps_leave}
 use Rattle.replica_histories.proofs.Giving.{sent_fits, log_sent, no_proposal, placed}
 

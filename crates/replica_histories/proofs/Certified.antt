@@ -1,5 +1,5 @@
 -- What is prepared and committed in a log is so in the history that it fits, and the other way round.
-use Rattle.std.proofs.Common.{◌≡◌, ℕ, ◌+◌, ◌*◌, ◌≤◌, Bool, true, false, cond, ◌&&◌, List, refl, sym, ap, ◌∙◌, subst, Option, Some, None, option_map}
+use Rattle.std.proofs.Common.{◌≡◌, ℕ, ◌+◌, ◌*◌, true, false, List, refl, sym, ap, ◌∙◌, subst, Option, Some, None, option_map}
 use Rattle.std.specs.Prelude.{nat_le, ◌==◌}
 use Rattle.std.specs.Option.{option_map_or}
 use Rattle.std.proofs.lemmas.Bool.{and_parts, and_from, leb-true, le-leb, eqb-true, eq-eqb}
@@ -13,9 +13,9 @@ use Rattle.ordering.specs.Log as logs
 use Rattle.ordering.specs.Log.{Row, LogData}
 use Rattle.protocol.specs.System.Configuration.{Configuration, replicas}
 use Rattle.protocol.specs.System.Trace.{Entry}
-use Rattle.protocol.specs.Replica.Certificates.{view, target, is_active_in, logged, prepare_of, commit_of, Prepared, Committed}
+use Rattle.protocol.specs.Replica.Certificates.{view, target, is_active_in, prepare_of, commit_of, Prepared, Committed}
 use Rattle.replica_histories.specs.Logs.{FitsLog}
-use Rattle.replica_histories.proofs.Words.{passed, batch_read, given_digest, digest_given, mapped}
+use Rattle.replica_histories.proofs.Words.{passed, batch_read, given_digest, digest_given}
 
 -- ---- the view
 

@@ -1,8 +1,8 @@
 -- A checkpoint moves the low mark, and the log is cut at it.
-use Rattle.std.proofs.Common.{◌≡◌, ℕ, ◌+◌, ◌-◌, ◌≤◌, ◌<◌, ◌⊎◌, inl, inr, Bool, true, false, cond, ◌&&◌, List, ◌∷◌, max, min, refl, sym, ap, ◌∙◌, subst, arith, Option, Some, None}
+use Rattle.std.proofs.Common.{◌≡◌, ℕ, ◌+◌, ◌-◌, ◌≤◌, ◌<◌, ◌⊎◌, inl, inr, Bool, true, false, cond, ◌&&◌, List, ◌∷◌, min, refl, sym, ap, ◌∙◌, subst, arith, Option, Some, None}
 use Rattle.std.specs.Prelude.{nat_le, nat_lt, option_and_then, ◌^◌}
 use Rattle.std.specs.Option.{option_map_or}
-use Rattle.std.proofs.lemmas.Bool.{and_parts, and_from, ltb-true, ltb-false, lt-ltb, leb-true, leb-false, le-leb}
+use Rattle.std.proofs.lemmas.Bool.{and_parts, and_from, ltb-false, leb-true, le-leb}
 use Rattle.quorum.specs.Quorum.{count_below}
 use Rattle.quorum.proofs.Counting.{count_same}
 use Rattle.wire.specs.Messages.{BodyData as Body, NewViewData, CheckpointEntryData as CheckpointEntry, checkpoint as Checkpoint}
@@ -14,11 +14,11 @@ use Rattle.ordering.proofs.Moving.{cuts_keep}
 use Rattle.protocol.specs.System.Configuration.{Configuration, replicas}
 use Rattle.protocol.specs.System.Trace.{Entry}
 use Rattle.protocol.specs.Replica.Selection.{is_quorum}
-use Rattle.protocol.specs.Replica.Certificates.{brought, view, view_after, target, taken, is_stable, stable_at, started_at, low, is_in_marks, is_later, counts_at, checkpoint_in, checkpoint_from, checkpoints_of, with_checkpoint, says_checkpoint, count_checkpoints, batch_begun, batch_from, begun_proposal, entry_proposal, proposal, logged, prepare_from, prepare_of, commit_from, commit_of, vote_in}
+use Rattle.protocol.specs.Replica.Certificates.{brought, view, view_after, target, taken, is_stable, stable_at, started_at, low, is_in_marks, is_later, counts_at, checkpoint_in, checkpoint_from, checkpoints_of, with_checkpoint, says_checkpoint, batch_begun, batch_from, begun_proposal, entry_proposal, proposal, logged, prepare_from, prepare_of, commit_from, commit_of, vote_in}
 use Rattle.std.specs.Bool.{then_some}
 use Rattle.protocol.proofs.Words.Options.{or_else_alone, or_else_second}
 use Rattle.replica_histories.specs.Marks.{is_stable_by, low_by, FitsMarks, BringsCheckpoint, MarksMove}
-use Rattle.replica_histories.proofs.Words.{gated, given_not}
+use Rattle.replica_histories.proofs.Words.{gated}
 
 -- ---- the log behind a cut
 

@@ -1,8 +1,8 @@
 -- An event ends: what it owes was given.
-use Rattle.std.proofs.Common.{◌≡◌, ◌≢◌, ℕ, suc, ◌+◌, ◌≤◌, ◌⊎◌, inl, inr, Bool, true, false, cond, ◌&&◌, not, List, [], ◌∷◌, ◌++◌, refl, sym, ap, ◌∙◌, subst, Option, Some, None, is_none, reverse}
+use Rattle.std.proofs.Common.{◌≡◌, ◌≢◌, ℕ, suc, ◌≤◌, ◌⊎◌, inl, inr, Bool, true, false, cond, ◌&&◌, not, List, [], ◌∷◌, ◌++◌, refl, sym, ap, ◌∙◌, subst, Option, Some, None, is_none, reverse}
 use Rattle.std.specs.Prelude.{◌==◌}
 use mathlib.Core.List.{reverse_aux}
-use Rattle.std.proofs.lemmas.Bool.{and_parts, ne_eqb, eq-eqb}
+use Rattle.std.proofs.lemmas.Bool.{ne_eqb}
 use Rattle.std.proofs.lemmas.List.{reverse-reverse}
 use Rattle.sha2.specs.Sha256.{sha256}
 use Rattle.wire.specs.Messages.{MessageData as Message, prepare as Prepare, commit as Commit}
@@ -11,7 +11,7 @@ use Rattle.ordering.specs.Log.{LogData}
 use Rattle.protocol.specs.System.Configuration.{Configuration, primary}
 use Rattle.protocol.specs.System.Trace.{Entry, is_output, Once, Has, either}
 use Rattle.protocol.specs.System.Trace.Entry.{Got}
-use Rattle.protocol.specs.Replica.Certificates.{is_active_in, is_in_marks, low, logged, prepare_of, commit_of, Prepared}
+use Rattle.protocol.specs.Replica.Certificates.{is_active_in, logged, prepare_of, commit_of, Prepared}
 use Rattle.protocol.specs.Replica.State.{Call}
 use Rattle.protocol.specs.Replica.RightReplica.{Point, Leaves, reply_of}
 use Rattle.protocol.specs.Replica.Owed.{IsSaying, Gives, AtOutputs, NumbersOnce, IsFree, IsNumbered, IsDropped}
@@ -21,7 +21,6 @@ use Rattle.protocol.proofs.Words.Linking.{Speaks}
 use Rattle.protocol.proofs.Agreement.Voting.{preparing}
 use Rattle.protocol.proofs.Agreement.Commits.{committing, prepared_stays, prepared_remains}
 use Rattle.replica_histories.specs.Desk.{Desk, point_of}
-use Rattle.replica_histories.specs.Logs.{FitsLog}
 use Rattle.replica_histories.specs.Owing.{OwesOrdering, ProceedsOrdering}
 use Rattle.replica_histories.specs.Events.{Start, behind, Steps, AtEach, IsOnItsWay, Fits, IsSettled, IsTaken, EventsEnd}
 use Rattle.replica_histories.proofs.Words.{passed, given_not, marks_are, primary_same, digest_read}

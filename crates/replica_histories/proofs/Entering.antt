@@ -1,8 +1,7 @@
 -- An event begins: what is held behind the input fits.
-use Rattle.std.proofs.Common.{◌≡◌, ℕ, ◌+◌, ◌-◌, ◌⊎◌, inl, inr, Bool, true, false, cond, List, [], ◌∷◌, map, refl, sym, ap, ◌∙◌, subst, arith, Option, Some, None, is_some, eqb-true, eq-eqb}
-use Rattle.std.specs.Prelude.{◌==◌, nat_le, option_and_then}
+use Rattle.std.proofs.Common.{◌≡◌, ℕ, ◌+◌, ◌-◌, ◌⊎◌, inl, inr, Bool, true, false, cond, List, [], ◌∷◌, map, refl, sym, ap, ◌∙◌, subst, arith, Option, Some, None, is_some, eq-eqb}
+use Rattle.std.specs.Prelude.{◌==◌, nat_le}
 use Rattle.std.proofs.lemmas.Bool.{le-leb}
-use Rattle.tuple_codec.specs.Operations.{Operation}
 use Rattle.terms.specs.declared.order.Mode.TheVariants as modes
 use Rattle.wire.specs.Messages.{BodyData as Body, MessageData as Message, request as Request}
 use Rattle.signing.specs.Heard.{heard}
@@ -10,9 +9,8 @@ use Rattle.reply_cache.specs.Replies.{Kept}
 use Rattle.protocol.specs.System.Configuration.{Configuration, members}
 use Rattle.protocol.specs.System.Trace.{Entry, Once, Has}
 use Rattle.protocol.specs.System.Trace.Entry.{Got, Tick}
-use Rattle.protocol.specs.Replica.Certificates.{low, taken}
 use Rattle.protocol.specs.Replica.State.{State, Call, kept_of}
-use Rattle.protocol.specs.Replica.RightReplica.{Point, Leaves, kept_states, HasSeen, reply_of, waiting_after}
+use Rattle.protocol.specs.Replica.RightReplica.{Point, kept_states, HasSeen, reply_of, waiting_after}
 use Rattle.protocol.proofs.Words.Plain.{Plain, plain_low}
 use Rattle.replica_histories.specs.Desk.{snapshot_of, point_of}
 use Rattle.replica_histories.specs.Events.{Start, IsAsked, MaySayDue}

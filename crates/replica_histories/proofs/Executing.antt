@@ -1,24 +1,22 @@
 -- An execution: what is held behind it fits, and its replies are due.
-use Rattle.std.proofs.Common.{◌≡◌, ℕ, suc, ◌+◌, ◌%◌, ◌≤◌, ◌⊎◌, inl, inr, Bool, true, false, cond, ◌&&◌, List, [], ◌∷◌, ◌++◌, map, refl, sym, ap, ◌∙◌, subst, arith, Option, Some, None}
-use Rattle.std.specs.Prelude.{◌==◌, nat_le, nat_lt}
+use Rattle.std.proofs.Common.{◌≡◌, ℕ, suc, ◌%◌, ◌⊎◌, inl, inr, Bool, true, false, cond, List, [], ◌∷◌, ◌++◌, map, refl, sym, ap, ◌∙◌, subst, arith, None}
+use Rattle.std.specs.Prelude.{◌==◌, nat_le}
 use Rattle.std.proofs.lemmas.Bool.{and_parts, le-leb}
 use Rattle.wire.specs.Messages.{MessageData as Message}
 use Rattle.wire.specs.Words.{requests_of}
-use Rattle.reply_cache.specs.Replies.{Kept}
 use Rattle.ordering.specs.Log as logs
 use Rattle.ordering.specs.Log.{LogData}
 use Rattle.ordering.proofs.Reading.{above_low}
-use Rattle.protocol.specs.System.Configuration.{Configuration}
 use Rattle.protocol.specs.System.Trace.{Entry, Has}
 use Rattle.protocol.specs.System.Trace.Entry.{Executed}
 use Rattle.protocol.specs.Replica.Certificates.{low}
 use Rattle.protocol.specs.Replica.State.{State, Ran, execute, ran_in}
 use Rattle.protocol.specs.Replica.RightReplica.{kept_states, reply_of, snapshots_after}
-use Rattle.protocol.proofs.Words.Elements.{has_either, has_left, has_right, has_map, has_mapped, has_weaker, has_some}
+use Rattle.protocol.proofs.Words.Elements.{has_either, has_right, has_map, has_mapped, has_weaker, has_some}
 use Rattle.protocol.proofs.Words.Leaving.{executed_number}
 use Rattle.protocol.proofs.Words.Plain.{Plain, plain_low}
 use Rattle.replica_histories.specs.Desk.{Desk, Snapshot, snapshot_of, point_of}
-use Rattle.replica_histories.specs.Events.{Start, behind, IsAsked, IsOnItsWay, MaySayDue, Fits}
+use Rattle.replica_histories.specs.Events.{behind, IsOnItsWay, MaySayDue}
 use Rattle.replica_histories.specs.Outputs.{replies_to, executed_desk, ExecutesFit}
 use Rattle.replica_histories.proofs.Words.{passed}
 use Rattle.replica_histories.proofs.Certified.{committed_here}

@@ -1,16 +1,12 @@
 -- One output more that is sent: what is held behind it fits.
-use Rattle.std.proofs.Common.{◌≡◌, ◌≢◌, ℕ, ◌+◌, ◌<◌, ◌⊎◌, inl, inr, Bool, true, false, cond, ◌&&◌, not, List, [], ◌∷◌, map, refl, sym, ap, ◌∙◌, subst, Option, Some, None, is_some, is_none, eqb-true, eq-eqb}
-use Rattle.std.specs.Prelude.{◌==◌, option_and_then, ⊤, AllPairs}
-use Rattle.std.specs.List.{list_all}
+use Rattle.std.proofs.Common.{◌≡◌, ◌≢◌, ℕ, ◌+◌, ◌<◌, ◌⊎◌, inl, inr, Bool, true, ◌&&◌, not, List, [], ◌∷◌, map, refl, sym, ap, ◌∙◌, subst, Option, Some, is_some, is_none, eqb-true, eq-eqb}
+use Rattle.std.specs.Prelude.{◌==◌, ⊤, AllPairs}
 use Rattle.std.proofs.lemmas.Bool.{and_parts, eqb-false, ne_eqb, not-true}
 use Rattle.sha2.specs.Sha256.{sha256}
-use Rattle.quorum.specs.Votes.{or_else}
-use Rattle.terms.specs.declared.order.Mode.TheVariants as modes
-use Rattle.wire.specs.Messages.{BodyData as Body, MessageData as Message, pre_prepare as PrePrepare, prepare as Prepare, commit as Commit, reply as Reply}
+use Rattle.wire.specs.Messages.{BodyData as Body, MessageData as Message, pre_prepare as PrePrepare, prepare as Prepare, commit as Commit}
 use Rattle.wire.specs.Words.{carried, requests_of, said}
 use Rattle.wire.specs.Lists.{Each}
 use Rattle.signing.specs.Heard.{heard}
-use Rattle.reply_cache.specs.Replies.{Kept}
 use Rattle.ordering.specs.Log as logs
 use Rattle.ordering.specs.Log.{LogData}
 use Rattle.protocol.specs.System.Configuration.{Configuration, primary, members}
@@ -18,8 +14,7 @@ use Rattle.protocol.specs.System.Frames.{IsPosted}
 use Rattle.protocol.specs.System.Trace.{Entry, Once, Has}
 use Rattle.protocol.specs.System.Trace.Entry.{Sent}
 use Rattle.protocol.specs.Replica.Certificates.{low, are_genuine, logged, batch_from}
-use Rattle.protocol.specs.Replica.State.{State}
-use Rattle.protocol.specs.Replica.RightReplica.{Point, kept_states, others, reply_of, IsFor, HasSeen, MaySay, MaySend}
+use Rattle.protocol.specs.Replica.RightReplica.{kept_states, others, reply_of, IsFor, HasSeen, MaySay, MaySend}
 use Rattle.protocol.specs.Replica.Owed.{IsSaying, HasRequest, IsOfView, IsNumbered, AreDifferent, NumbersOnce}
 use Rattle.protocol.proofs.Words.Options.{some_injective, then_some_gives, or_else_second}
 use Rattle.protocol.proofs.Words.Elements.{all_of_each, each_weaker}
@@ -28,7 +23,7 @@ use Rattle.protocol.proofs.Words.Posting.{may_send}
 use Rattle.replica_histories.specs.Desk.{Desk, snapshot_of, point_of}
 use Rattle.replica_histories.specs.Logs.{FitsLog, Takes}
 use Rattle.replica_histories.specs.Events.{Start, behind, IsOnItsWay, FitsFrames, Fits}
-use Rattle.replica_histories.specs.Outputs.{PreparesFit, CommitsFit, MayNumber, BatchesFit, RepliesFit}
+use Rattle.replica_histories.specs.Outputs.{PreparesFit, CommitsFit, BatchesFit, RepliesFit}
 use Rattle.replica_histories.proofs.Words.{passed, HasBatch, has_batch, batch_read, marks_are, primary_same}
 use Rattle.replica_histories.proofs.Certified.{PreparedIn, active, is_prepared_in, prepared_here}
 use Rattle.replica_histories.proofs.Taking.{takes_nothing, prepare_taken, commit_taken, batch_taken}

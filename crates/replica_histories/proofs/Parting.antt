@@ -1,12 +1,12 @@
 -- What a replica owes falls in two, and what orders requests is safe.
-use Rattle.std.proofs.Common.{◌≡◌, ℕ, ◌⊎◌, inl, inr, Bool, true, false, List, [], ◌∷◌, ◌++◌, refl, reverse}
+use Rattle.std.proofs.Common.{◌≡◌, ℕ, inl, inr, Bool, true, false, List, [], ◌∷◌, ◌++◌, refl, reverse}
 use Rattle.protocol.specs.System.Configuration.{Configuration}
 use Rattle.protocol.specs.System.Trace.{Entry, party_of, is_output, either}
 use Rattle.protocol.specs.System.Trace.Entry.{Invoke, Got, Tick, Executed, Installed, Sent, Accepted}
 use Rattle.protocol.specs.Replica.RightReplica.{first_point, Point, Leaves, SafeReplica, waiting_after}
-use Rattle.protocol.specs.Replica.Owed.{Owes, Proceeds, IsInput, IsReplica}
+use Rattle.protocol.specs.Replica.Owed.{Owes, Proceeds, IsInput}
 use Rattle.protocol.proofs.Words.Reacting.{one_of}
-use Rattle.replica_histories.specs.Owing.{OwesOrdering, OwesBeside, OwedInParts, ProceedsOrdering, IsOrderingReplica, ReplicasOrder, OrderingIsSafe}
+use Rattle.replica_histories.specs.Owing.{OwesOrdering, OwesBeside, OwedInParts, ProceedsOrdering, ReplicasOrder, OrderingIsSafe}
 
 owes_ordering : (c : Configuration) (me : ℕ) (before : List Entry) (input : Entry) (outputs now : List Entry) (old new : Point) → Owes c me before input outputs now old new → OwesOrdering c me before input outputs now old new
 owes_ordering c me before input outputs now old new o = record {

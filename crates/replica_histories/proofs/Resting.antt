@@ -1,5 +1,5 @@
 -- Between events nothing is left owed, and an input that changes nothing passes.
-use Rattle.std.proofs.Common.{◌≡◌, ◌≢◌, ℕ, suc, ◌+◌, ◌≤◌, ◌⊎◌, inl, inr, Bool, true, false, List, [], ◌∷◌, ◌++◌, refl, sym, ap, ◌∙◌, subst, Option, Some, None, reverse}
+use Rattle.std.proofs.Common.{◌≡◌, ℕ, suc, ◌+◌, ◌≤◌, inl, inr, true, List, [], ◌∷◌, ◌++◌, refl, sym, ap, ◌∙◌, subst, Option, Some, None, reverse}
 use mathlib.Core.List.{reverse-cons}
 use Rattle.std.proofs.lemmas.List.{append_assoc}
 use Rattle.ordering.specs.Log as logs
@@ -7,15 +7,14 @@ use Rattle.ordering.specs.Log.{LogData}
 use Rattle.protocol.specs.System.Configuration.{Configuration, primary}
 use Rattle.protocol.specs.System.Trace.{Entry, is_output, Has}
 use Rattle.protocol.specs.System.Trace.Entry.{Got, Tick}
-use Rattle.protocol.specs.Replica.Certificates.{view, is_active_in, logged, prepare_of, commit_of, low, Committed}
+use Rattle.protocol.specs.Replica.Certificates.{is_active_in, logged, Committed}
 use Rattle.protocol.specs.Replica.State.{State, Call}
 use Rattle.protocol.specs.Replica.RightReplica.{Point, first_point}
 use Rattle.protocol.specs.Replica.Owed.{IsFree, IsOfView, IsNumbered}
 use Rattle.protocol.proofs.Words.Reacting.{one_of}
-use Rattle.replica_histories.specs.Desk.{Desk}
 use Rattle.replica_histories.specs.Logs.{FitsLog}
 use Rattle.replica_histories.specs.Owing.{OwesOrdering, ProceedsOrdering}
-use Rattle.replica_histories.specs.Events.{Holds, IsSettled, IsFreeIn, IsNumberedIn, HeldAreSettled}
+use Rattle.replica_histories.specs.Events.{IsFreeIn, IsNumberedIn, HeldAreSettled}
 use Rattle.replica_histories.specs.Inputs.{InputsPass, TicksPass}
 use Rattle.replica_histories.proofs.Words.{given_not, marks_are, primary_same}
 use Rattle.replica_histories.proofs.Certified.{active, committed_here}

@@ -1,8 +1,7 @@
 -- Where a replica begins, and what holds in the end.
-use Rattle.std.proofs.Common.{◌≡◌, ℕ, zero, suc, ◌+◌, ◌*◌, ◌<◌, ◌≤◌, inl, Bool, true, false, cond, ◌&&◌, not, List, [], ◌∷◌, refl, sym, ap, ◌∙◌, arith, Option, Some, None, replicate, slice_index_or, option_map, is_none}
+use Rattle.std.proofs.Common.{◌≡◌, ℕ, zero, suc, ◌+◌, ◌*◌, ◌<◌, ◌≤◌, inl, cond, List, [], ◌∷◌, refl, sym, ap, ◌∙◌, arith, Option, None, replicate, slice_index_or}
 use Rattle.std.proofs.lemmas.List.{length-replicate}
 use Rattle.std.proofs.lemmas.List.Elements.{All-replicate}
-use Rattle.sha2.specs.Sha256.{sha256}
 use Rattle.wire.specs.Messages.{CheckpointEntryData as CheckpointEntry}
 use Rattle.ordering.specs.Votes.{vote_of}
 use Rattle.ordering.specs.Log as logs

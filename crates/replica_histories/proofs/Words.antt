@@ -1,5 +1,5 @@
 -- Laws of the words on a log: its marks, its primary, and what is read of it.
-use Rattle.std.proofs.Common.{◌≡◌, ℕ, ◌+◌, ◌*◌, ◌%◌, ◌^◌, Bool, true, false, cond, ◌&&◌, not, List, refl, sym, ap, ◌∙◌, Option, Some, None, option_map, nat_lt, nat_le, is_none}
+use Rattle.std.proofs.Common.{◌≡◌, ℕ, ◌+◌, ◌*◌, ◌%◌, ◌^◌, Bool, true, false, cond, ◌&&◌, List, refl, sym, ap, ◌∙◌, Option, Some, None, option_map, nat_lt, nat_le}
 use Rattle.std.proofs.lemmas.Slice.Eq.{bytes_eq-Decides}
 use Rattle.sha2.specs.Sha256.{sha256}
 use Rattle.quorum.specs.Votes.{has_digest}
@@ -24,10 +24,6 @@ gated false o h = refl
 pub mapped : {A B : Type 0} (f : A → B) (o : Option A) (y : B) → option_map f o ≡ Some y → (x : A) × (o ≡ Some x) × (f x ≡ y)
 mapped f None y h = absurd cc
 mapped f (Some x) y h = (x, refl, cc)
-
-pub of_none : {A : Type 0} (o : Option A) → is_none o ≡ true → o ≡ None
-of_none None h = refl
-of_none (Some x) h = absurd cc
 
 pub apart : (b : Bool) → b ≡ true → b ≡ false → ⊥
 apart b e f = let bad : true ≡ false = sym e ∙ f in cc

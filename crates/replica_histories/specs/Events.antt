@@ -1,5 +1,5 @@
 -- How what a replica holds meets its history: in the midst of an event, and between two.
-use Rattle.std.specs.Prelude.{◌≡◌, ℕ, suc, ◌+◌, ◌≤◌, ◌⊎◌, true, false, List, [], ◌∷◌, ◌++◌, Option, Some, None, is_some, ⊤, map}
+use Rattle.std.specs.Prelude.{◌≡◌, ℕ, suc, ◌+◌, ◌≤◌, ◌⊎◌, true, false, List, [], ◌∷◌, ◌++◌, Some, None, is_some, ⊤, map}
 use Rattle.tuple_codec.specs.Operations.{Operation}
 use Rattle.terms.specs.declared.order.Mode.TheVariants as modes
 use Rattle.wire.specs.Messages.{BodyData as Body, MessageData as Message, request as Request, reply as Reply}
@@ -54,7 +54,8 @@ IsAsked c me s k kept =
 
 -- what is due may be said: it is a reply to what ran in the event, or one that is kept
 abbrev pub MaySayDue : Point → Message → Type 0
-MaySayDue point (Reply client timestamp modes.Ordered number answer) = MayReplyOrdered point client timestamp number answer
+MaySayDue point (Reply client timestamp modes.Ordered number answer) =
+    MayReplyOrdered point client timestamp number answer
 MaySayDue point _ = ⊥
 
 -- each frame that is held was seen and is genuine

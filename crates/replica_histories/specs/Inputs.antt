@@ -1,6 +1,6 @@
 -- What an input does to what a replica holds, and which messages count (Castro and Liskov, TOCS 2002, on normal-case
 -- operation). Which ordering messages are taken the log says by its faults.
-use Rattle.std.specs.Prelude.{◌≡◌, ℕ, ◌+◌, ◌-◌, ◌<◌, ◌⊎◌, Bool, true, false, List, [], ◌∷◌, nat_le, ◌==◌, if◌then◌else◌, Option, Some, None, is_some, ⊤}
+use Rattle.std.specs.Prelude.{◌≡◌, ℕ, ◌+◌, ◌-◌, ◌<◌, ◌⊎◌, true, false, List, [], ◌∷◌, nat_le, ◌==◌, if◌then◌else◌, Option, Some, None, is_some, ⊤}
 use Rattle.std.specs.Option.{option_map_or}
 use Rattle.tuple_codec.specs.Operations.{Operation}
 use Rattle.terms.specs.declared.order.Mode.{Mode}
@@ -22,7 +22,7 @@ use Rattle.protocol.specs.Replica.RightReplica.{Point, reply_of, waiting_after}
 use Rattle.protocol.specs.Replica.Owed.{IsNoOlder, Counts}
 use Rattle.replica_histories.specs.Desk.{Desk, point_of}
 use Rattle.replica_histories.specs.Logs.{FitsLog, Takes}
-use Rattle.replica_histories.specs.Events.{Start, Fits, Holds, start_at}
+use Rattle.replica_histories.specs.Events.{Fits, Holds, start_at}
 
 -- ---- what a request asks for
 
@@ -138,7 +138,12 @@ CommitsDrop =
 -- what is heard, if anything, is no pre-prepare, prepare or commit
 abbrev pub IsBesideLog : Option Body → Type 0
 IsBesideLog None = ⊤
-IsBesideLog (Some body) = elim body.message [ PrePrepare v i batch ↦ ⊥ | Prepare v i digest ↦ ⊥ | Commit v i digest ↦ ⊥ | _ ↦ ⊤ ]
+IsBesideLog (Some body) = elim body.message [
+  | PrePrepare v i batch ↦ ⊥
+  | Prepare v i digest ↦ ⊥
+  | Commit v i digest ↦ ⊥
+  | _ ↦ ⊤
+]
 
 -- What orders nothing passes by the log.
 abbrev pub OthersDrop : Type 0

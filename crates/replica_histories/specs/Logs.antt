@@ -1,6 +1,6 @@
 -- What a log says of its replica's history, in one view: what is logged, and who voted for it (Castro and Liskov, TOCS
 -- 2002, on normal-case operation).
-use Rattle.std.specs.Prelude.{◌≡◌, ℕ, ◌≤◌, true, List, [], Option, Some, None, option_and_then}
+use Rattle.std.specs.Prelude.{◌≡◌, ℕ, ◌≤◌, true, List, [], Option, Some, option_and_then}
 use Rattle.quorum.specs.Votes.{or_else}
 use Rattle.wire.specs.Messages.{BodyData as Body}
 use Rattle.ordering.specs.Log as logs

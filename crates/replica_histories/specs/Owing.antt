@@ -91,7 +91,9 @@ IsOrderingReplica c me (e ∷ past) =
 
 -- A correct replica orders requests, and whoever orders them has a safe history.
 abbrev pub ReplicasOrder : Type 0
-ReplicasOrder = (c : Configuration) (me : ℕ) (history : List Entry) → IsReplica c me history → IsOrderingReplica c me history
+ReplicasOrder =
+    (c : Configuration) (me : ℕ) (history : List Entry) → IsReplica c me history → IsOrderingReplica c me history
 
 abbrev pub OrderingIsSafe : Type 0
-OrderingIsSafe = (c : Configuration) (me : ℕ) (history : List Entry) → IsOrderingReplica c me history → SafeReplica c me history
+OrderingIsSafe =
+    (c : Configuration) (me : ℕ) (history : List Entry) → IsOrderingReplica c me history → SafeReplica c me history
