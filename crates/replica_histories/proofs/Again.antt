@@ -1,0 +1,225 @@
+-- What goes again: the own votes and batches that stand in the log.
+use Rattle.std.proofs.Common.{◌≡◌, ◌≢◌, ℕ, zero, suc, ◌-◌, ◌⊎◌, inl, inr, true, ◌&&◌, not, List, [], ◌∷◌, refl, sym, ap, ◌∙◌, subst, Some, None, eqb-true, slice_get}
+use Rattle.std.specs.Prelude.{◌==◌, nat_lt, option_and_then}
+use Rattle.std.proofs.lemmas.Bool.{and_parts, eqb-false, not-true}
+use Rattle.wire.specs.Messages.{BodyData as Body, MessageData as Message, NewViewData, pre_prepare as PrePrepare, prepare as Prepare, commit as Commit}
+use Rattle.wire.specs.Words.{carried, requests_of}
+use Rattle.wire.specs.Lists.{Each}
+use Rattle.ordering.specs.Log as logs
+use Rattle.ordering.specs.Log.{LogData}
+use Rattle.ordering.specs.Votes.{vote_of}
+use Rattle.protocol.specs.System.Configuration.{Configuration, primary}
+use Rattle.protocol.specs.System.Trace.{Entry, Once, Always, Has}
+use Rattle.protocol.specs.System.Trace.Entry.{Invoke, Got, Tick, Executed, Installed, Sent, Accepted}
+use Rattle.protocol.specs.Replica.Certificates.{are_genuine, counts_at, taken, batch_from, prepare_from, commit_from, batch_begun, brought, low, is_in_marks, begun_proposal, entry_proposal, proposal, logged, prepare_of, commit_of}
+use Rattle.protocol.specs.Replica.RightReplica.{Point, Leaves, HasSeen, others}
+use Rattle.protocol.specs.Replica.Owed.{BeginsViewWith, NumbersOnce}
+use Rattle.protocol.proofs.Words.Options.{some_injective, and_then_some, then_some_gives, given_once, or_else_cases}
+use Rattle.protocol.proofs.Words.Temporal.{once_weaker, once_stays}
+use Rattle.protocol.proofs.Words.Elements.{each_weaker}
+use Rattle.protocol.proofs.Agreement.Voting.{RightAt, once_right, Logs, logged_stays}
+use Rattle.replica_histories.specs.Desk.{Desk, point_of}
+use Rattle.replica_histories.specs.Logs.{Takes}
+use Rattle.replica_histories.specs.Events.{Start, behind, Fits}
+use Rattle.replica_histories.specs.Outputs.{PreparesGoAgain, CommitsGoAgain, BatchesGoAgain}
+use Rattle.replica_histories.proofs.Words.{passed, given_not, marks_are, primary_same}
+use Rattle.replica_histories.proofs.Certified.{active}
+use Rattle.replica_histories.proofs.Speaking.{heard_other, prepare_spoken, spoken_logged, prepare_backup, Certified, commit_spoken, spoken_certified}
+use Rattle.replica_histories.proofs.Taking.{takes_nothing, none_there}
+use Rattle.replica_histories.proofs.Ending.{steps_leave}
+use Rattle.replica_histories.proofs.Giving.{sent_fits, log_sent, no_proposal, placed}
+
+leaves_now : (c : Configuration) (me : ℕ) (s : Start) (desk : Desk) (log : LogData) (due : List Message) (outputs : List Entry) (f : Fits c me s desk log due outputs)
+    → Leaves c me (behind s outputs) (point_of desk f.of_desk.states f.of_desk.ran)
+leaves_now c me s desk log due outputs f = steps_leave c me s outputs (point_of desk f.of_desk.states f.of_desk.ran) f.of_desk.leaves f.of_desk.steps
+
+pub prepares_go_again : PreparesGoAgain
+prepares_go_again c me s desk log due outputs i digest bytes there posted f =
+    sent_fits c me s desk log log due due outputs bytes (others c me) (Prepare log.view i digest) f posted tt refl tt
+    (record { is_backup = backup; active = active c me log past f.of_log; batch = l.batch; is_logged = l.is_logged; digest_is = l.digest })
+    (log_sent c me log log past bytes (others c me) (Prepare log.view i digest) f.of_log posted tt takes (λ v j x h. absurd cc))
+    (λ x h. inl h) (λ x h. h) (no_proposal c me past bytes (Prepare log.view i digest) posted.says tt)
+  where
+    past : List Entry
+    past = behind s outputs
+
+    within : logs.is_in_marks log i ≡ true
+    within = (passed (logs.is_in_marks log i) (vote_of (logs.row_of log i).prepares me) digest there).0
+
+    takes : Takes c me (Some (record { sender = me; message = Prepare log.view i digest })) log log
+    takes = takes_nothing c me _ log f.of_log.is_log (λ j k h. refl)
+        (λ j x k h. none_there (logs.prepare_of log j x) (prepare_from c x log.view j (record { sender = me; message = Prepare log.view i digest })) ((me == x) && (log.view == log.view) && (i == j) && not (x == primary c log.view)) digest refl h
+        (λ e none.
+        let a = and_parts ((me == x) && (log.view == log.view) && (i == j)) (not (x == primary c log.view)) e in
+        let b = and_parts ((me == x) && (log.view == log.view)) (i == j) a.0 in
+        let d = and_parts (me == x) (log.view == log.view) b.0 in
+        given_not (logs.prepare_of log i me) digest there (subst (λ (y : ℕ). logs.prepare_of log y me ≡ None) (sym (eqb-true i j b.1)) (subst (λ (y : ℕ). logs.prepare_of log j y ≡ None) (sym (eqb-true me x d.0)) none))))
+        (λ j x k h. refl)
+
+    own : prepare_of c me past log.view i me ≡ Some digest
+    own = f.of_log.prepares i me within ∙ there
+
+    backup : primary c log.view ≢ me
+    backup e = eqb-false me (primary c log.view) (not-true (me == primary c log.view) (prepare_backup c me log.view i digest past own)) (sym e)
+
+    l : Logs c me log.view i digest past
+    l =
+        let leaves = leaves_now c me s desk log due outputs f in
+        spoken_logged c me log.view i digest past (point_of desk f.of_desk.states f.of_desk.ran) leaves (prepare_spoken c me log.view i digest past (point_of desk f.of_desk.states f.of_desk.ran) leaves own)
+
+pub commits_go_again : CommitsGoAgain
+commits_go_again c me s desk log due outputs i digest bytes there posted f =
+    sent_fits c me s desk log log due due outputs bytes (others c me) (Commit log.view i digest) f posted tt refl tt
+    (record { active = active c me log past f.of_log; batch = l.batch; prepared = l.prepared; digest_is = l.digest_is })
+    (log_sent c me log log past bytes (others c me) (Commit log.view i digest) f.of_log posted tt takes (λ v j x h. absurd cc))
+    (λ x h. inl h) (λ x h. h) (no_proposal c me past bytes (Commit log.view i digest) posted.says tt)
+  where
+    past : List Entry
+    past = behind s outputs
+
+    within : logs.is_in_marks log i ≡ true
+    within = (passed (logs.is_in_marks log i) (vote_of (logs.row_of log i).commits me) digest there).0
+
+    takes : Takes c me (Some (record { sender = me; message = Commit log.view i digest })) log log
+    takes = takes_nothing c me _ log f.of_log.is_log (λ j k h. refl) (λ j x k h. refl)
+        (λ j x k h. none_there (logs.commit_of log j x) (commit_from x log.view j (record { sender = me; message = Commit log.view i digest })) ((me == x) && (log.view == log.view) && (i == j)) digest refl h
+        (λ e none.
+        let b = and_parts ((me == x) && (log.view == log.view)) (i == j) e in
+        let d = and_parts (me == x) (log.view == log.view) b.0 in
+        given_not (logs.commit_of log i me) digest there (subst (λ (y : ℕ). logs.commit_of log y me ≡ None) (sym (eqb-true i j b.1)) (subst (λ (y : ℕ). logs.commit_of log j y ≡ None) (sym (eqb-true me x d.0)) none))))
+
+    own : commit_of c me past log.view i me ≡ Some digest
+    own = f.of_log.commits i me within ∙ there
+
+    l : Certified c me log.view i digest past
+    l =
+        let leaves = leaves_now c me s desk log due outputs f in
+        spoken_certified c me log.view i digest past (point_of desk f.of_desk.states f.of_desk.ran) leaves (commit_spoken c me log.view i digest past (point_of desk f.of_desk.states f.of_desk.ran) leaves own)
+
+-- ---- the own batch
+
+-- a batch that was proposed is genuine, and its requests were seen
+abbrev Proposed : Configuration → ℕ → List ℕ → List Entry → Type 0
+Proposed c me batch past = (are_genuine c me batch ≡ true) × Each (λ frame. Once (HasSeen frame) past) (requests_of batch)
+
+proposed_stays : (c : Configuration) (me : ℕ) (batch : List ℕ) (e : Entry) (past : List Entry) → Proposed c me batch past → Proposed c me batch (e ∷ past)
+proposed_stays c me batch e past h = (h.0, each_weaker (λ frame. Once (HasSeen frame) past) (λ frame. Once (HasSeen frame) (e ∷ past)) (λ frame k. inr k) (requests_of batch) h.1)
+
+-- what proposes a batch is a pre-prepare by the primary
+batch_is : (c : Configuration) (me v i : ℕ) (batch : List ℕ) (sender : ℕ) (message : Message) → batch_from c me v i (record { sender = sender; message = message }) ≡ Some batch
+    → (message ≡ PrePrepare v i batch) × (sender ≡ primary c v) × (are_genuine c me batch ≡ true)
+batch_is c me v i batch sender (PrePrepare w k b) h =
+    let g = then_some_gives ((w == v) && (k == i) && (sender == primary c v) && are_genuine c me b) b batch h in
+    let p = and_parts ((w == v) && (k == i) && (sender == primary c v)) (are_genuine c me b) g.0 in
+    let q = and_parts ((w == v) && (k == i)) (sender == primary c v) p.0 in
+    let r = and_parts (w == v) (k == i) q.0 in
+    let ev : w ≡ v = eqb-true w v r.0 in
+    let ei : k ≡ i = eqb-true k i r.1 in
+    (rw (ev, ei, g.1) refl, eqb-true sender (primary c v) q.1, subst (λ (x : List ℕ). are_genuine c me x ≡ true) g.1 p.1)
+batch_is c me v i batch sender _ h = absurd cc
+
+proposes : (c : Configuration) (me v i : ℕ) (batch : List ℕ) → primary c v ≡ me → (past : List Entry) (e : Entry) → RightAt c me past e
+    → (body : Body) × (brought c e ≡ Some body) × (batch_from c me v i body ≡ Some batch) → Proposed c me batch past
+proposes c me v i batch own past (Got p bytes) r h =
+    let b = batch_is c me v i batch h.0.sender h.0.message h.2 in
+    absurd (heard_other c p bytes h.0 h.1 (b.1 ∙ own ∙ sym r.own))
+proposes c me v i batch own past (Sent p bytes) r h =
+    let b = batch_is c me v i batch h.0.sender h.0.message h.2 in
+    let message_is : r.may.body.message ≡ PrePrepare v i batch = ap (λ (x : Body). x.message) (some_injective r.may.body h.0 (sym r.may.says ∙ h.1)) ∙ b.0 in
+    (b.2, subst (λ (m : Message). Each (λ frame. Once (HasSeen frame) past) (carried m)) message_is r.may.seen)
+proposes c me v i batch own past (Invoke x y z) r h = absurd (let bad : None ≡ Some h.0 = h.1 in cc)
+proposes c me v i batch own past (Tick x) r h = absurd (let bad : None ≡ Some h.0 = h.1 in cc)
+proposes c me v i batch own past (Executed x y z) r h = absurd (let bad : None ≡ Some h.0 = h.1 in cc)
+proposes c me v i batch own past (Installed x y z) r h = absurd (let bad : None ≡ Some h.0 = h.1 in cc)
+proposes c me v i batch own past (Accepted x y z) r h = absurd (let bad : None ≡ Some h.0 = h.1 in cc)
+
+-- what a new view has for a number is one of its batches
+begun_has : (v i : ℕ) (new : NewViewData) (batch : List ℕ) → batch_begun v i new ≡ Some batch → (new.view ≡ v) × Has (λ x. x ≡ batch) new.batches
+begun_has v i new batch h =
+    let p = passed ((new.view == v) && nat_lt new.start i) (slice_get new.batches (i - new.start - 1)) batch h in
+    (eqb-true new.view v (and_parts (new.view == v) (nat_lt new.start i) p.0).0, get new.batches (i - new.start - 1) p.1)
+  where
+    get : (xs : List (List ℕ)) (k : ℕ) → slice_get xs k ≡ Some batch → Has (λ x. x ≡ batch) xs
+    get [] k h = absurd cc
+    get (x ∷ xs) zero h = inl cc
+    get (x ∷ xs) (suc k) h = inr (get xs k h)
+
+-- what an entry proposes, where no new view begins with it
+proposal_source : (c : Configuration) (me v i : ℕ) (batch : List ℕ) (past : List Entry) (e : Entry) → (BeginsViewWith c v batch past e → ⊥) → proposal c me past e v i ≡ Some batch
+    → (body : Body) × (brought c e ≡ Some body) × (batch_from c me v i body ≡ Some batch)
+proposal_source c me v i batch past e none h = go (or_else_cases (begun_proposal c me past e v i) (entry_proposal c me past e v i) batch h)
+  where
+    go : (begun_proposal c me past e v i ≡ Some batch) ⊎ (entry_proposal c me past e v i ≡ Some batch) → (body : Body) × (brought c e ≡ Some body) × (batch_from c me v i body ≡ Some batch)
+    go (inl k) =
+        let p = passed (is_in_marks c (low c me (e ∷ past)) i) (option_and_then (batch_begun v i) (taken c past e)) batch k in
+        let n = and_then_some (batch_begun v i) (taken c past e) batch p.1 in
+        let b = begun_has v i n.0 batch n.2 in
+        absurd (none (n.0, n.1, b.0, b.1))
+    go (inr k) =
+        let p = passed (counts_at c me past e v i) (option_and_then (batch_from c me v i) (brought c e)) batch k in
+        and_then_some (batch_from c me v i) (brought c e) batch p.1
+
+once_but : (P Q : List Entry → Entry → Type 0) (xs : List Entry) → Once P xs → (Once Q xs → ⊥) → Once (λ past e. P past e × (Q past e → ⊥)) xs
+once_but P Q [] h n = h
+once_but P Q (e ∷ past) (inl h) n = inl (h, λ q. n (inl q))
+once_but P Q (e ∷ past) (inr h) n = inr (once_but P Q past h (λ q. n (inr q)))
+
+-- the own batch of a log that fits was proposed
+batch_proposed : (c : Configuration) (me v i : ℕ) (batch : List ℕ) (past : List Entry) (point : Point) → Leaves c me past point → primary c v ≡ me → (Once (BeginsViewWith c v batch) past → ⊥) → logged c me past v i ≡ Some batch
+    → Proposed c me batch past
+unfolding logged
+batch_proposed c me v i batch past point leaves own none h =
+    let once = given_once (λ earlier e. proposal c me earlier e v i) batch past h in
+    let but = once_but (λ past e. proposal c me past e v i ≡ Some batch) (BeginsViewWith c v batch) past once none in
+    once_stays (Proposed c me batch) (proposed_stays c me batch) past
+    (once_weaker
+    (λ past e. RightAt c me past e × ((proposal c me past e v i ≡ Some batch) × (BeginsViewWith c v batch past e → ⊥)) × Always (RightAt c me) past)
+    (λ past e. Proposed c me batch past)
+    (λ past e t. proposes c me v i batch own past e t.0 (proposal_source c me v i batch past e t.1.1 t.1.0)) past
+    (once_right c me (λ past e. (proposal c me past e v i ≡ Some batch) × (BeginsViewWith c v batch past e → ⊥)) past (point, leaves) but))
+
+pub batches_go_again : BatchesGoAgain
+batches_go_again c me s desk log due outputs i batch bytes own there posted f =
+    sent_fits c me s desk log log due due outputs bytes (others c me) (PrePrepare log.view i batch) f posted tt refl proposed.1
+    (record { is_primary = primary_is; active = active c me log past f.of_log; in_marks = marks_are c me log past i f.of_log ∙ within; genuine = proposed.0; one = logged_stays c me log.view i batch (Sent me bytes) past logs_it })
+    (log_sent c me log log past bytes (others c me) (PrePrepare log.view i batch) f.of_log posted tt takes place) (λ x h. inl h) (λ x h. h) once
+  where
+    past : List Entry
+    past = behind s outputs
+
+    primary_is : primary c log.view ≡ me
+    primary_is = sym (primary_same c log log.view f.of_log.faults) ∙ own
+
+    within : logs.is_in_marks log i ≡ true
+    within = (passed (logs.is_in_marks log i) (logs.row_of log i).batch batch there).0
+
+    logs_it : logged c me past log.view i ≡ Some batch
+    logs_it = f.of_log.batches i within ∙ there
+
+    proposed : Proposed c me batch past
+    proposed = batch_proposed c me log.view i batch past (point_of desk f.of_desk.states f.of_desk.ran) (leaves_now c me s desk log due outputs f) primary_is (f.of_log.begun log.view batch) logs_it
+
+    takes : Takes c me (Some (record { sender = me; message = PrePrepare log.view i batch })) log log
+    takes = takes_nothing c me _ log f.of_log.is_log
+        (λ j k h. none_there (logs.logged_batch log j) (batch_from c me log.view j (record { sender = me; message = PrePrepare log.view i batch }))
+        ((log.view == log.view) && (i == j) && (me == primary c log.view) && are_genuine c me batch) batch refl h
+        (λ e none.
+        let a = and_parts ((log.view == log.view) && (i == j) && (me == primary c log.view)) (are_genuine c me batch) e in
+        let b = and_parts ((log.view == log.view) && (i == j)) (me == primary c log.view) a.0 in
+        let d = and_parts (log.view == log.view) (i == j) b.0 in
+        given_not (logs.logged_batch log i) batch there (subst (λ (y : ℕ). logs.logged_batch log y ≡ None) (sym (eqb-true i j d.1)) none)))
+        (λ j x k h. refl) (λ j x k h. refl)
+
+    place : (v j : ℕ) (b : List ℕ) → batch_from c me v j (record { sender = me; message = PrePrepare log.view i batch }) ≡ Some b → (v ≡ log.view) × (logs.is_in_marks log j ≡ true)
+    place v j b h = let w = placed c me log.view i v j me batch b h in (sym w.0, subst (λ (x : ℕ). logs.is_in_marks log x ≡ true) w.1 within)
+
+    -- its number is not free
+    once : NumbersOnce c me past (Sent me bytes)
+    once v j b says free =
+        let is : ◌≡◌ {A = Body} (record { sender = me; message = PrePrepare log.view i batch }) (record { sender = me; message = PrePrepare v j b }) = some_injective _ _ (sym posted.says ∙ says) in
+        let at : place_of (PrePrepare log.view i batch) ≡ place_of (PrePrepare v j b) = ap (λ (x : Body). place_of x.message) is in
+        let bad : logged c me past log.view i ≡ None = subst (λ (y : ℕ × ℕ). logged c me past y.0 y.1 ≡ None) (sym at) free in
+        absurd (given_not (logged c me past log.view i) batch logs_it bad)
+      where
+        place_of : Message → ℕ × ℕ
+        place_of message = elim message [ PrePrepare w k x ↦ (w, k) | _ ↦ (0, 0) ]

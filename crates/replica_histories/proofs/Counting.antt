@@ -1,0 +1,269 @@
+-- Which messages count, and what the others change: nothing.
+use Rattle.std.proofs.Common.{◌≡◌, ℕ, ◌+◌, ◌*◌, ◌<◌, ◌⊎◌, inl, inr, Bool, true, false, cond, ◌&&◌, not, List, refl, sym, ap, ◌∙◌, subst, Option, Some, None, option_map, eqb-true, eq-eqb}
+use Rattle.std.specs.Prelude.{◌==◌, nat_lt, option_and_then}
+use Rattle.std.proofs.lemmas.Bool.{and_parts, ltb-true}
+use Rattle.sha2.specs.Sha256.{sha256}
+use Rattle.quorum.specs.Votes.{or_else}
+use Rattle.wire.specs.Messages.{BodyData as Body, MessageData as Message, pre_prepare as PrePrepare, prepare as Prepare, commit as Commit}
+use Rattle.authenticator.specs.Membership.{has_sender}
+use Rattle.signing.specs.Heard.{heard}
+use Rattle.signing.proofs.Heard.{heard_was_opened}
+use Rattle.reply_cache.specs.Replies.{Kept}
+use Rattle.ordering.specs.declared.dropped.Dropped.{Dropped}
+use Rattle.ordering.specs.declared.dropped.Dropped.TheVariants.{WrongView, OutOfMarks, UnknownSender}
+use Rattle.ordering.specs.Log as logs
+use Rattle.ordering.specs.Log.{LogData}
+use Rattle.ordering.specs.Taking.{fault_beside, ordering_fault, preprepare_fault, prepare_fault, commit_fault}
+use Rattle.protocol.specs.System.Configuration.{Configuration, primary, members}
+use Rattle.protocol.specs.System.Trace.{Entry}
+use Rattle.protocol.specs.System.Trace.Entry.{Got}
+use Rattle.protocol.specs.Replica.Certificates.{are_genuine, batch_from, prepare_from, commit_from, entry_proposal, vote_in, logged, prepare_of, commit_of}
+use Rattle.protocol.specs.Replica.State.{State, Call, kept_of, last_time}
+use Rattle.protocol.specs.Replica.RightReplica.{Point}
+use Rattle.protocol.specs.Replica.Owed.{IsNoOlder}
+use Rattle.protocol.proofs.Words.Plain.{IsPlain, heard_plain, taken_none}
+use Rattle.replica_histories.specs.Logs.{FitsLog, Takes}
+use Rattle.replica_histories.specs.Inputs.{BatchesCount, PreparesCount, CommitsCount, RequestsCount, BatchesDrop, PreparesDrop, CommitsDrop, IsBesideLog, OthersDrop}
+use Rattle.replica_histories.proofs.Words.{apart, given_not, batch_read, primary_same}
+use Rattle.replica_histories.proofs.Taking.{takes_nothing, none_there, prepare_taken, commit_taken, batch_taken}
+use Rattle.replica_histories.proofs.Logging.{Read, got_read}
+
+-- ---- faults
+
+-- nothing speaks against the message
+record NoFault (log : LogData) (may_send : Bool) (v i : ℕ) : Type 0 where
+  pub sends : may_send ≡ true
+  pub view : v ≡ log.view
+  pub within : logs.is_in_marks log i ≡ true
+
+no_fault : (log : LogData) (may_send : Bool) (v i : ℕ) → ordering_fault log may_send v i ≡ None → NoFault log may_send v i
+no_fault log may_send v i h = go may_send (logs.is_active_in log v) (logs.is_in_marks log i) refl refl refl h
+  where
+    go : (sends active within : Bool) → may_send ≡ sends → logs.is_active_in log v ≡ active → logs.is_in_marks log i ≡ within
+        → cond (not sends) (Some UnknownSender) (cond (not active) (Some WrongView) (cond (not within) (Some OutOfMarks) None)) ≡ None → NoFault log may_send v i
+    go false active within a b d h = absurd cc
+    go true false within a b d h = absurd cc
+    go true true false a b d h = absurd cc
+    go true true true a b d h = record { sends = a; view = eqb-true v log.view (and_parts (v == log.view) log.active b).0; within = d }
+
+-- and so there is none
+none_speaks : (c : Configuration) (me : ℕ) (log : LogData) (past : List Entry) (may_send : Bool) (i : ℕ) → FitsLog c me log past → may_send ≡ true → logs.is_in_marks log i ≡ true → ordering_fault log may_send log.view i ≡ None
+none_speaks c me log past may_send i f sends within = rw (sends, eq-eqb log.view log.view refl, f.active, within) refl
+
+or_none : {A : Type 0} (first later : Option A) → or_else first later ≡ None → (first ≡ None) × (later ≡ None)
+or_none None later h = (refl, h)
+or_none (Some x) later h = absurd cc
+
+beside_none : (o : Option (List ℕ)) (digest : List ℕ) → fault_beside o digest ≡ None → o ≡ None
+beside_none None digest h = refl
+beside_none (Some x) digest h = absurd cc
+
+mapped_none : {A B : Type 0} (f : A → B) (o : Option A) → option_map f o ≡ None → o ≡ None
+mapped_none f None h = refl
+mapped_none f (Some x) h = absurd cc
+
+-- a number without a digest has no batch
+no_batch : (log : LogData) (i : ℕ) → logs.is_in_marks log i ≡ true → logs.logged_digest log i ≡ None → logs.logged_batch log i ≡ None
+no_batch log i k h = batch_read log i k ∙ mapped_none sha256 (logs.row_of log i).batch (of (logs.is_in_marks log i) k h)
+  where
+    of : (b : Bool) → b ≡ true → cond b (logs.digest_of (logs.row_of log i)) None ≡ None → logs.digest_of (logs.row_of log i) ≡ None
+    of true e h = h
+    of false e h = absurd cc
+
+no_digest : (log : LogData) (i : ℕ) → logs.is_in_marks log i ≡ true → logs.logged_batch log i ≡ None → logs.logged_digest log i ≡ None
+no_digest log i k h = let row : (logs.row_of log i).batch ≡ None = sym (batch_read log i k) ∙ h in rw (k, row) refl
+
+-- ---- what is read of a message that is heard
+
+reader : (c : Configuration) (me : ℕ) (log : LogData) (past : List Entry) (bytes : List ℕ) (body : Body) → FitsLog c me log past → heard (members c) me bytes ≡ Some body → IsPlain body.message → Read c me log past (Got me bytes)
+reader c me log past bytes body f h plain = got_read c me log past bytes f (taken_none c past (Got me bytes) (heard_plain c past me bytes body h plain))
+
+reads_it : (c : Configuration) (me : ℕ) (log : LogData) (past : List Entry) (bytes : List ℕ) (body : Body) (i : ℕ) (vote : Body → Option (List ℕ)) → FitsLog c me log past → heard (members c) me bytes ≡ Some body → IsPlain body.message
+    → logs.is_in_marks log i ≡ true → vote_in c me past (Got me bytes) vote log.view i ≡ vote body
+reads_it c me log past bytes body i vote f h plain k = (reader c me log past bytes body f h plain).reads i vote k ∙ ap (option_and_then vote) h
+
+-- ---- a batch
+
+pub batches_count : BatchesCount
+batches_count c me log past point s v i batch bytes f h none genuine = (
+  subst (λ (x : ℕ). (entry_proposal c me past (Got me bytes) x i ≡ Some batch) × (logged c me past x i ≡ None)) (sym p.view) (
+    reads_it c me log past bytes (record { sender = s; message = PrePrepare log.view i batch }) i (batch_from c me log.view i) f hears tt p.within ∙ given,
+    f.batches i p.within ∙ free,
+  ),
+  subst (λ (o : Option Body). Takes c me o log (logs.with_batch log i batch)) (sym hears) (batch_taken c me s i batch log f.is_log p.within primary_is genuine free),
+)
+  where
+    faults : (ordering_fault log (s == logs.primary log v) v i ≡ None) × (fault_beside (logs.logged_digest log i) (sha256 batch) ≡ None)
+    faults = or_none (ordering_fault log (s == logs.primary log v) v i) (fault_beside (logs.logged_digest log i) (sha256 batch)) none
+
+    p : NoFault log (s == logs.primary log v) v i
+    p = no_fault log (s == logs.primary log v) v i faults.0
+
+    hears : heard (members c) me bytes ≡ Some (record { sender = s; message = PrePrepare log.view i batch })
+    hears = subst (λ (x : ℕ). heard (members c) me bytes ≡ Some (record { sender = s; message = PrePrepare x i batch })) p.view h
+
+    primary_is : (s == primary c log.view) ≡ true
+    primary_is = ap (λ (x : ℕ). s == x) (sym (primary_same c log log.view f.faults)) ∙ ap (λ (x : ℕ). s == logs.primary log x) (sym p.view) ∙ p.sends
+
+    free : logs.logged_batch log i ≡ None
+    free = no_batch log i p.within (beside_none (logs.logged_digest log i) (sha256 batch) faults.1)
+
+    given : batch_from c me log.view i (record { sender = s; message = PrePrepare log.view i batch }) ≡ Some batch
+    given = rw (eq-eqb log.view log.view refl, eq-eqb i i refl, primary_is, genuine) refl
+
+pub batches_drop : BatchesDrop
+batches_drop c me log past s v i batch bytes f h faulty = subst (λ (o : Option Body). Takes c me o log log) (sym h) (takes_nothing c me _ log f.is_log
+    (λ j k none. none_there (logs.logged_batch log j) (batch_from c me log.view j (record { sender = s; message = PrePrepare v i batch })) ((v == log.view) && (i == j) && (s == primary c log.view) && are_genuine c me batch) batch refl none
+    (λ e free.
+    let a = and_parts ((v == log.view) && (i == j) && (s == primary c log.view)) (are_genuine c me batch) e in
+    let b = and_parts ((v == log.view) && (i == j)) (s == primary c log.view) a.0 in
+    let d = and_parts (v == log.view) (i == j) b.0 in
+    let same : i ≡ j = eqb-true i j d.1 in
+    clash (eqb-true v log.view d.0) (subst (λ (x : ℕ). logs.is_in_marks log x ≡ true) (sym same) k) b.1 a.1 (subst (λ (x : ℕ). logs.logged_batch log x ≡ None) (sym same) free) faulty))
+    (λ j x k none. refl) (λ j x k none. refl))
+  where
+    clash : v ≡ log.view → logs.is_in_marks log i ≡ true → (s == primary c log.view) ≡ true → are_genuine c me batch ≡ true → logs.logged_batch log i ≡ None
+        → ((fault : Dropped) × (preprepare_fault log s v i batch ≡ Some fault)) ⊎ (are_genuine c me batch ≡ false) → ⊥
+    clash view within primary_is genuine free (inr e) = apart (are_genuine c me batch) genuine e
+    clash view within primary_is genuine free (inl e) =
+        let sends : (s == logs.primary log log.view) ≡ true = ap (λ (x : ℕ). s == x) (primary_same c log log.view f.faults) ∙ primary_is in
+        let speaks = none_speaks c me log past (s == logs.primary log log.view) i f sends within in
+        let digest = no_digest log i within free in
+        let none : preprepare_fault log s log.view i batch ≡ None = rw (speaks, digest) refl in
+        given_not (preprepare_fault log s v i batch) e.0 e.1 (subst (λ (x : ℕ). preprepare_fault log s x i batch ≡ None) (sym view) none)
+
+-- ---- votes
+
+-- who is heard with a vote is a replica
+known : (c : Configuration) (me : ℕ) (log : LogData) (past : List Entry) (bytes : List ℕ) (body : Body) → FitsLog c me log past → heard (members c) me bytes ≡ Some body
+    → has_sender (members c) body ≡ nat_lt body.sender (3 * c.faults + 1) → nat_lt body.sender (logs.replicas log) ≡ true
+known c me log past bytes body f h is =
+    let o = heard_was_opened (members c) me bytes body h in
+    ap (λ (n : ℕ). nat_lt body.sender (3 * n + 1)) f.faults ∙ sym is ∙ subst (λ (b : Body). has_sender (members c) b ≡ true) o.body_is o.opens.sender
+
+pub prepares_count : PreparesCount
+prepares_count c me log past point s v i digest bytes vote f h none sender same = (
+  subst (λ (x : ℕ). (vote_in c me past (Got me bytes) (prepare_from c s x i) x i ≡ Some digest) × (prepare_of c me past x i s ≡ None)) (sym p.view) (
+    reads_it c me log past bytes (record { sender = s; message = Prepare log.view i digest }) i (prepare_from c s log.view i) f hears tt p.within ∙ given,
+    f.prepares i s p.within ∙ beside_none (logs.prepare_of log i s) digest faults.1,
+  ),
+  subst (λ (o : Option Body). Takes c me o log (logs.with_prepare log i vote)) (sym hears) (prepare_taken c me s i digest vote log f.is_log p.within (ltb-true s (logs.replicas log) sends.0) backup sender same),
+)
+  where
+    faults : (ordering_fault log (nat_lt s (logs.replicas log) && not (s == logs.primary log v)) v i ≡ None) × (fault_beside (logs.prepare_of log i s) digest ≡ None)
+    faults = or_none (ordering_fault log (nat_lt s (logs.replicas log) && not (s == logs.primary log v)) v i) (fault_beside (logs.prepare_of log i s) digest) none
+
+    p : NoFault log (nat_lt s (logs.replicas log) && not (s == logs.primary log v)) v i
+    p = no_fault log (nat_lt s (logs.replicas log) && not (s == logs.primary log v)) v i faults.0
+
+    hears : heard (members c) me bytes ≡ Some (record { sender = s; message = Prepare log.view i digest })
+    hears = subst (λ (x : ℕ). heard (members c) me bytes ≡ Some (record { sender = s; message = Prepare x i digest })) p.view h
+
+    sends : (nat_lt s (logs.replicas log) ≡ true) × (not (s == logs.primary log v) ≡ true)
+    sends = and_parts (nat_lt s (logs.replicas log)) (not (s == logs.primary log v)) p.sends
+
+    backup : not (s == primary c log.view) ≡ true
+    backup = ap (λ (x : ℕ). not (s == x)) (sym (primary_same c log log.view f.faults)) ∙ ap (λ (x : ℕ). not (s == logs.primary log x)) (sym p.view) ∙ sends.1
+
+    given : prepare_from c s log.view i (record { sender = s; message = Prepare log.view i digest }) ≡ Some digest
+    given = rw (eq-eqb s s refl, eq-eqb log.view log.view refl, eq-eqb i i refl, backup) refl
+
+pub prepares_drop : PreparesDrop
+prepares_drop c me log past s v i digest bytes fault f h faulty = subst (λ (o : Option Body). Takes c me o log log) (sym h) (takes_nothing c me _ log f.is_log
+    (λ j k none. refl)
+    (λ j x k none. none_there (logs.prepare_of log j x) (prepare_from c x log.view j (record { sender = s; message = Prepare v i digest })) ((s == x) && (v == log.view) && (i == j) && not (x == primary c log.view)) digest refl none
+    (λ e free.
+    let a = and_parts ((s == x) && (v == log.view) && (i == j)) (not (x == primary c log.view)) e in
+    let b = and_parts ((s == x) && (v == log.view)) (i == j) a.0 in
+    let d = and_parts (s == x) (v == log.view) b.0 in
+    let same : i ≡ j = eqb-true i j b.1 in
+    let from : s ≡ x = eqb-true s x d.0 in
+    clash (eqb-true v log.view d.1) (subst (λ (y : ℕ). logs.is_in_marks log y ≡ true) (sym same) k) (subst (λ (y : ℕ). not (y == primary c log.view) ≡ true) (sym from) a.1)
+    (subst (λ (y : ℕ). logs.prepare_of log y s ≡ None) (sym same) (subst (λ (y : ℕ). logs.prepare_of log j y ≡ None) (sym from) free))))
+    (λ j x k none. refl))
+  where
+    clash : v ≡ log.view → logs.is_in_marks log i ≡ true → not (s == primary c log.view) ≡ true → logs.prepare_of log i s ≡ None → ⊥
+    clash view within backup free =
+        let is_known = known c me log past bytes (record { sender = s; message = Prepare v i digest }) f h refl in
+        let other : not (s == logs.primary log log.view) ≡ true = ap (λ (x : ℕ). not (s == x)) (primary_same c log log.view f.faults) ∙ backup in
+        let speaks = none_speaks c me log past (nat_lt s (logs.replicas log) && not (s == logs.primary log log.view)) i f (rw (is_known) other) within in
+        let none : prepare_fault log s log.view i digest ≡ None = rw (speaks, free) refl in
+        given_not (prepare_fault log s v i digest) fault faulty (subst (λ (x : ℕ). prepare_fault log s x i digest ≡ None) (sym view) none)
+
+pub commits_count : CommitsCount
+commits_count c me log past point s v i digest bytes vote f h none sender same = (
+  subst (λ (x : ℕ). (vote_in c me past (Got me bytes) (commit_from s x i) x i ≡ Some digest) × (commit_of c me past x i s ≡ None)) (sym p.view) (
+    reads_it c me log past bytes (record { sender = s; message = Commit log.view i digest }) i (commit_from s log.view i) f hears tt p.within ∙ given,
+    f.commits i s p.within ∙ beside_none (logs.commit_of log i s) digest faults.1,
+  ),
+  subst (λ (o : Option Body). Takes c me o log (logs.with_commit log i vote)) (sym hears) (commit_taken c me s i digest vote log f.is_log p.within (ltb-true s (logs.replicas log) p.sends) sender same),
+)
+  where
+    faults : (ordering_fault log (nat_lt s (logs.replicas log)) v i ≡ None) × (fault_beside (logs.commit_of log i s) digest ≡ None)
+    faults = or_none (ordering_fault log (nat_lt s (logs.replicas log)) v i) (fault_beside (logs.commit_of log i s) digest) none
+
+    p : NoFault log (nat_lt s (logs.replicas log)) v i
+    p = no_fault log (nat_lt s (logs.replicas log)) v i faults.0
+
+    hears : heard (members c) me bytes ≡ Some (record { sender = s; message = Commit log.view i digest })
+    hears = subst (λ (x : ℕ). heard (members c) me bytes ≡ Some (record { sender = s; message = Commit x i digest })) p.view h
+
+    given : commit_from s log.view i (record { sender = s; message = Commit log.view i digest }) ≡ Some digest
+    given = rw (eq-eqb s s refl, eq-eqb log.view log.view refl, eq-eqb i i refl) refl
+
+pub commits_drop : CommitsDrop
+commits_drop c me log past s v i digest bytes fault f h faulty = subst (λ (o : Option Body). Takes c me o log log) (sym h) (takes_nothing c me _ log f.is_log
+    (λ j k none. refl) (λ j x k none. refl)
+    (λ j x k none. none_there (logs.commit_of log j x) (commit_from x log.view j (record { sender = s; message = Commit v i digest })) ((s == x) && (v == log.view) && (i == j)) digest refl none
+    (λ e free.
+    let b = and_parts ((s == x) && (v == log.view)) (i == j) e in
+    let d = and_parts (s == x) (v == log.view) b.0 in
+    let same : i ≡ j = eqb-true i j b.1 in
+    let from : s ≡ x = eqb-true s x d.0 in
+    clash (eqb-true v log.view d.1) (subst (λ (y : ℕ). logs.is_in_marks log y ≡ true) (sym same) k)
+    (subst (λ (y : ℕ). logs.commit_of log y s ≡ None) (sym same) (subst (λ (y : ℕ). logs.commit_of log j y ≡ None) (sym from) free)))))
+  where
+    clash : v ≡ log.view → logs.is_in_marks log i ≡ true → logs.commit_of log i s ≡ None → ⊥
+    clash view within free =
+        let is_known = known c me log past bytes (record { sender = s; message = Commit v i digest }) f h refl in
+        let speaks = none_speaks c me log past (nat_lt s (logs.replicas log)) i f is_known within in
+        let none : commit_fault log s log.view i digest ≡ None = rw (speaks, free) refl in
+        given_not (commit_fault log s v i digest) fault faulty (subst (λ (x : ℕ). commit_fault log s x i digest ≡ None) (sym view) none)
+
+-- ---- others
+
+pub others_drop : OthersDrop
+others_drop c me log past bytes f beside = go (heard (members c) me bytes) beside
+  where
+    no_proposal : (v j sender : ℕ) (message : Message) → IsBesideLog (Some (record { sender = sender; message = message })) → batch_from c me v j (record { sender = sender; message = message }) ≡ None
+    no_proposal v j sender (PrePrepare w k batch) b = absurd b
+    no_proposal v j sender _ b = refl
+
+    no_prepare : (v j x sender : ℕ) (message : Message) → IsBesideLog (Some (record { sender = sender; message = message })) → prepare_from c x v j (record { sender = sender; message = message }) ≡ None
+    no_prepare v j x sender (Prepare w k digest) b = absurd b
+    no_prepare v j x sender _ b = refl
+
+    no_commit : (v j x sender : ℕ) (message : Message) → IsBesideLog (Some (record { sender = sender; message = message })) → commit_from x v j (record { sender = sender; message = message }) ≡ None
+    no_commit v j x sender (Commit w k digest) b = absurd b
+    no_commit v j x sender _ b = refl
+
+    go : (o : Option Body) → IsBesideLog o → Takes c me o log log
+    go None b = takes_nothing c me None log f.is_log (λ j k none. refl) (λ j x k none. refl) (λ j x k none. refl)
+    go (Some body) b = takes_nothing c me (Some body) log f.is_log (λ j k none. no_proposal log.view j body.sender body.message b) (λ j x k none. no_prepare log.view j x body.sender body.message b)
+        (λ j x k none. no_commit log.view j x body.sender body.message b)
+
+-- ---- requests
+
+pub requests_count : RequestsCount
+requests_count c me desk log past bytes k t op held h = (k, refl, go h)
+  where
+    state_is : held.of_desk.point.state ≡ desk.state
+    state_is = ap (λ (p : Point). p.state) held.of_desk.is
+
+    waiting_is : held.of_desk.point.waiting ≡ desk.waiting
+    waiting_is = ap (λ (p : Point). p.waiting) held.of_desk.is
+
+    go : ((kept : Kept) × (kept_of desk.state k ≡ Some kept) × (kept.timestamp ≡ t)) ⊎ ((last_time desk.state k < t) × IsNoOlder desk.waiting k t op)
+        → ((kept : Kept) × (kept_of held.of_desk.point.state k ≡ Some kept) × (kept.timestamp ≡ t)) ⊎ ((last_time held.of_desk.point.state k < t) × IsNoOlder held.of_desk.point.waiting k t op)
+    go (inl a) = inl (a.0, subst (λ (st : State). kept_of st k ≡ Some a.0) (sym state_is) a.1, a.2)
+    go (inr a) = inr (subst (λ (st : State). last_time st k < t) (sym state_is) a.0, subst (λ (w : List Call). IsNoOlder w k t op) (sym waiting_is) a.1)

@@ -1,0 +1,98 @@
+-- An execution: what is held behind it fits, and its replies are due.
+use Rattle.std.proofs.Common.{◌≡◌, ℕ, suc, ◌%◌, ◌⊎◌, inl, inr, Bool, true, false, cond, List, [], ◌∷◌, ◌++◌, map, refl, sym, ap, ◌∙◌, subst, arith, None}
+use Rattle.std.specs.Prelude.{◌==◌, nat_le}
+use Rattle.std.proofs.lemmas.Bool.{and_parts, le-leb}
+use Rattle.wire.specs.Messages.{MessageData as Message}
+use Rattle.wire.specs.Words.{requests_of}
+use Rattle.ordering.specs.Log as logs
+use Rattle.ordering.specs.Log.{LogData}
+use Rattle.ordering.proofs.Reading.{above_low}
+use Rattle.protocol.specs.System.Trace.{Entry, Has}
+use Rattle.protocol.specs.System.Trace.Entry.{Executed}
+use Rattle.protocol.specs.Replica.Certificates.{low}
+use Rattle.protocol.specs.Replica.State.{State, Ran, execute, ran_in}
+use Rattle.protocol.specs.Replica.RightReplica.{kept_states, reply_of, snapshots_after}
+use Rattle.protocol.proofs.Words.Elements.{has_either, has_right, has_map, has_mapped, has_weaker, has_some}
+use Rattle.protocol.proofs.Words.Leaving.{executed_number}
+use Rattle.protocol.proofs.Words.Plain.{Plain, plain_low}
+use Rattle.replica_histories.specs.Desk.{Desk, Snapshot, snapshot_of, point_of}
+use Rattle.replica_histories.specs.Events.{behind, IsOnItsWay, MaySayDue}
+use Rattle.replica_histories.specs.Outputs.{replies_to, executed_desk, ExecutesFit}
+use Rattle.replica_histories.proofs.Words.{passed}
+use Rattle.replica_histories.proofs.Certified.{committed_here}
+use Rattle.replica_histories.proofs.Taking.{takes_nothing}
+use Rattle.replica_histories.proofs.Logging.{log_goes, silent_read}
+
+abbrev reply_to : Ran → Message
+reply_to r = reply_of r.call.client r.kept
+
+pub executes_fit : ExecutesFit
+executes_fit c me s desk log outputs batch frames commits fewer f = record {
+  of_desk = record {
+    states = snapshots_after c st f.of_desk.states;
+    ran = f.of_desk.ran ++ more;
+    leaves = f.of_desk.leaves;
+    steps = (point_of desk f.of_desk.states f.of_desk.ran, f.of_desk.steps, record { own = refl; may = record { next = refl; in_view = log.view; committed = committed_here c me log past k batch f.of_log commits }; moves = refl }, refl);
+    kept = ap (λ (h : ℕ). map snapshot_of (kept_states h (snapshots_after c st f.of_desk.states))) (low_same ∙ f.of_log.low) ∙ keeps (st.number % c.period == 0);
+    frames = λ frame h. let g = f.of_desk.frames frame (fewer frame h) in (inr g.0, g.1);
+    replies = λ r h. reply r (has_either (λ x. x ≡ r) f.of_desk.ran more h);
+    asked = λ k kept h. sent (reply_of k kept) (f.of_desk.asked k kept h);
+    rightly = λ message h. right message (has_some (λ r. reply_to r ≡ message) more (has_map (λ x. x ≡ message) reply_to more h));
+  };
+  of_log = log_goes c me log log past e f.of_log (silent_read c me log past e plain refl) (takes_nothing c me None log f.of_log.is_log (λ i w h. refl) (λ i x w h. refl) (λ i x w h. refl));
+  once = (tt, f.once);
+}
+  where
+    past : List Entry
+    past = behind s outputs
+
+    k : ℕ
+    k = suc desk.state.number
+
+    e : Entry
+    e = Executed me k batch
+
+    st : State
+    st = execute c desk.state batch
+
+    more : List Ran
+    more = ran_in c k desk.state (requests_of batch)
+
+    new : Desk
+    new = executed_desk c desk batch frames
+
+    plain : Plain c past e
+    plain = record { view = refl; change = refl; checkpoint = refl; installed = refl }
+
+    low_same : low c me (e ∷ past) ≡ low c me past
+    low_same = plain_low c me past e plain
+
+    sent : (x : Message) → IsOnItsWay me [] outputs x → IsOnItsWay me (replies_to more) (e ∷ outputs) x
+    sent x (inl h) = absurd h
+    sent x (inr h) = inr (inr h)
+
+    reply : (r : Ran) → Has (λ x. x ≡ r) f.of_desk.ran ⊎ Has (λ x. x ≡ r) more → IsOnItsWay me (replies_to more) (e ∷ outputs) (reply_to r)
+    reply r (inl h) = sent (reply_to r) (f.of_desk.replies r h)
+    reply r (inr h) = inl (has_mapped (λ x. x ≡ reply_to r) reply_to more (has_weaker (λ x. x ≡ r) (λ x. reply_to x ≡ reply_to r) (λ x is. ap reply_to is) more h))
+
+    -- what is kept above the low mark
+    within : logs.is_in_marks log k ≡ true
+    within = (and_parts (logs.is_in_marks log k) (logs.is_row_committed log.faults (logs.replicas log) log.me (logs.row_of log k)) (passed (logs.is_committed log k) (logs.row_of log k).batch batch commits).0).0
+
+    above : nat_le log.low st.number ≡ true
+    above =
+        let l = above_low log k within in
+        let n = executed_number c desk.state batch in
+        le-leb log.low st.number (omega arith)
+
+    was : map snapshot_of (kept_states log.low f.of_desk.states) ≡ desk.snapshots
+    was = ap (λ (h : ℕ). map snapshot_of (kept_states h f.of_desk.states)) (sym f.of_log.low) ∙ f.of_desk.kept
+
+    keeps : (b : Bool) → map snapshot_of (kept_states log.low (cond b (st ∷ f.of_desk.states) f.of_desk.states)) ≡ cond b (snapshot_of st ∷ desk.snapshots) desk.snapshots
+    keeps false = was
+    keeps true = rw above (ap (λ (xs : List Snapshot). snapshot_of st ∷ xs) was)
+
+    right : (message : Message) → (r : Ran) × Has (λ x. x ≡ r) more × (reply_to r ≡ message) → MaySayDue (point_of new (snapshots_after c st f.of_desk.states) (f.of_desk.ran ++ more)) message
+    right message r =
+        subst (λ (x : Message). MaySayDue (point_of new (snapshots_after c st f.of_desk.states) (f.of_desk.ran ++ more)) x) r.2
+        (inl (has_right (λ x. reply_to x ≡ reply_to r.0) f.of_desk.ran more (has_weaker (λ x. x ≡ r.0) (λ x. reply_to x ≡ reply_to r.0) (λ x is. ap reply_to is) more r.1)))

@@ -1,0 +1,15 @@
+pub mod Words
+pub mod Certified
+pub mod Speaking
+pub mod Taking
+pub mod Logging
+pub mod Parting
+pub mod Ending
+pub mod Giving
+pub mod Executing
+pub mod Again
+pub mod Entering
+pub mod Counting
+pub mod Resting
+pub mod Starting
+pub mod Cutting

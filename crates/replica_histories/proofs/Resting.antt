@@ -1,0 +1,112 @@
+-- Between events nothing is left owed, and an input that changes nothing passes.
+use Rattle.std.proofs.Common.{◌≡◌, ℕ, suc, ◌+◌, ◌≤◌, inl, inr, true, List, [], ◌∷◌, ◌++◌, refl, sym, ap, ◌∙◌, subst, Option, Some, None, reverse}
+use mathlib.Core.List.{reverse-cons}
+use Rattle.std.proofs.lemmas.List.{append_assoc}
+use Rattle.ordering.specs.Log as logs
+use Rattle.ordering.specs.Log.{LogData}
+use Rattle.protocol.specs.System.Configuration.{Configuration, primary}
+use Rattle.protocol.specs.System.Trace.{Entry, is_output, Has}
+use Rattle.protocol.specs.System.Trace.Entry.{Got, Tick}
+use Rattle.protocol.specs.Replica.Certificates.{is_active_in, logged, Committed}
+use Rattle.protocol.specs.Replica.State.{State, Call}
+use Rattle.protocol.specs.Replica.RightReplica.{Point, first_point}
+use Rattle.protocol.specs.Replica.Owed.{IsFree, IsOfView, IsNumbered}
+use Rattle.protocol.proofs.Words.Reacting.{one_of}
+use Rattle.replica_histories.specs.Logs.{FitsLog}
+use Rattle.replica_histories.specs.Owing.{OwesOrdering, ProceedsOrdering}
+use Rattle.replica_histories.specs.Events.{IsFreeIn, IsNumberedIn, HeldAreSettled}
+use Rattle.replica_histories.specs.Inputs.{InputsPass, TicksPass}
+use Rattle.replica_histories.proofs.Words.{given_not, marks_are, primary_same}
+use Rattle.replica_histories.proofs.Certified.{active, committed_here}
+use Rattle.replica_histories.proofs.Ending.{events_end}
+use Rattle.replica_histories.proofs.Entering.{inputs_fit, ticks_fit}
+
+-- ---- what an event leaves
+
+-- nothing is next, and no waiting request is without a number
+record Rests (c : Configuration) (me : ℕ) (now : List Entry) (new : Point) : Type 0 where
+  pub executes : (v : ℕ) (batch : List ℕ) → Committed c me now v (suc new.state.number) batch → ⊥
+  pub numbers : (v i : ℕ) (call : Call) → is_active_in c now v ≡ true → primary c v ≡ me → Has (λ x. x ≡ call) new.waiting
+      → IsFree c me now new.state.number v i → IsNumbered c me now v call.client call.timestamp
+
+rests_owed : (c : Configuration) (me : ℕ) (before : List Entry) (input : Entry) (outputs now : List Entry) (old new : Point) → OwesOrdering c me before input outputs now old new → Rests c me now new
+rests_owed c me before input outputs now old new o = record { executes = o.executes; numbers = o.numbers }
+
+turned : (e : Entry) (outputs past : List Entry) → reverse (e ∷ outputs) ++ past ≡ reverse outputs ++ e ∷ past
+turned e outputs past = ap (λ (xs : List Entry). xs ++ past) (reverse-cons e outputs) ∙ append_assoc (reverse outputs) (e ∷ []) past
+
+-- behind some output
+rests_behind : (c : Configuration) (me : ℕ) (o : Entry) (outputs xs : List Entry) (new point : Point) → ProceedsOrdering c me xs (o ∷ outputs) new point → Rests c me (reverse (o ∷ outputs) ++ xs) new
+rests_behind c me o outputs [] new point h = absurd (let bad : o ∷ outputs ≡ [] = h.1 in cc)
+rests_behind c me o outputs (e ∷ past) new point h =
+    one_of (is_output e) (ProceedsOrdering c me past (e ∷ o ∷ outputs) new h.0) (OwesOrdering c me past e (o ∷ outputs) (reverse (o ∷ outputs) ++ e ∷ past) h.0 new × ProceedsOrdering c me past [] h.0 h.0)
+    (Rests c me (reverse (o ∷ outputs) ++ e ∷ past) new) h.2
+    (λ k. subst (λ (now : List Entry). Rests c me now new) (turned e (o ∷ outputs) past) (rests_behind c me e (o ∷ outputs) past new h.0 k))
+    (λ k. rests_owed c me past e (o ∷ outputs) (reverse (o ∷ outputs) ++ e ∷ past) h.0 new k.0)
+
+rests_first : (c : Configuration) (me : ℕ) (point : Point) → point ≡ first_point → Rests c me [] point
+unfolding logged
+rests_first c me point is = record {
+  executes = λ v batch k. let l : None ≡ Some batch = k.prepared.logged in cc;
+  numbers = λ v i call active own waits free. absurd (subst (λ (p : Point). Has (λ x. x ≡ call) p.waiting) is waits);
+}
+
+rests : (c : Configuration) (me : ℕ) (xs : List Entry) (point : Point) → ProceedsOrdering c me xs [] point point → Rests c me xs point
+rests c me [] point h = rests_first c me point h.0
+rests c me (e ∷ past) point h =
+    one_of (is_output e) (ProceedsOrdering c me past (e ∷ []) point h.0) (OwesOrdering c me past e [] (e ∷ past) h.0 point × ProceedsOrdering c me past [] h.0 h.0) (Rests c me (e ∷ past) point) h.2
+    (λ k. rests_behind c me e [] past point h.0 k)
+    (λ k. rests_owed c me past e [] (e ∷ past) h.0 point k.0)
+
+pub held_are_settled : HeldAreSettled
+held_are_settled c me desk log history held = record {
+  prepares = held.of_log.prepares;
+  commits = held.of_log.commits;
+  executes = executes (logs.committed_batch log (suc desk.state.number)) refl;
+  numbers = numbers;
+}
+  where
+    f : FitsLog c me log history
+    f = held.of_log.fits
+
+    r : Rests c me history held.of_desk.point
+    r = rests c me history held.of_desk.point held.of_desk.proceeds
+
+    state_is : held.of_desk.point.state ≡ desk.state
+    state_is = ap (λ (p : Point). p.state) held.of_desk.is
+
+    waiting_is : held.of_desk.point.waiting ≡ desk.waiting
+    waiting_is = ap (λ (p : Point). p.waiting) held.of_desk.is
+
+    executes : (o : Option (List ℕ)) → logs.committed_batch log (suc desk.state.number) ≡ o → o ≡ None
+    executes None e = refl
+    executes (Some batch) e =
+        absurd (r.executes log.view batch (subst (λ (st : State). Committed c me history log.view (suc st.number) batch) (sym state_is) (committed_here c me log history (suc desk.state.number) batch f e)))
+
+    numbers : (i : ℕ) (call : Call) → logs.primary log log.view ≡ log.me → Has (λ x. x ≡ call) desk.waiting → IsFreeIn desk log i → IsNumberedIn c log call.client call.timestamp
+    numbers i call own waits free = of (r.numbers log.view i call (active c me log history f) (sym (primary_same c log log.view f.faults) ∙ own ∙ f.own)
+        (subst (λ (w : List Call). Has (λ x. x ≡ call) w) (sym waiting_is) waits)
+        (marks_are c me log history i f ∙ free.0, subst (λ (st : State). i ≤ st.number + 2) (sym state_is) free.1, λ j above. none j above (logged c me history log.view j) refl))
+      where
+        none : (j : ℕ) → i ≤ j → (o : Option (List ℕ)) → logged c me history log.view j ≡ o → o ≡ None
+        none j above None e = refl
+        none j above (Some batch) e =
+            let w = f.within log.view j batch e in
+            absurd (given_not (logs.logged_batch log j) batch (sym (f.batches j w.1) ∙ e) (free.2 j above))
+
+        of : IsNumbered c me history log.view call.client call.timestamp → IsNumberedIn c log call.client call.timestamp
+        of n = go n.1
+          where
+            go : IsOfView c me history log.view n.0 → IsNumberedIn c log call.client call.timestamp
+            go (inl l) = let w = f.within log.view l.0 n.0 l.1 in (l.0, n.0, sym (f.batches l.0 w.1) ∙ l.1, n.2)
+            go (inr l) = absurd (f.begun log.view n.0 l)
+
+-- ---- inputs that pass
+
+pub inputs_pass : InputsPass
+inputs_pass c me desk log past bytes held none e =
+    events_end c me desk desk log log past [] (Got me bytes) held (inputs_fit c me desk desk log log [] past bytes held none e) (held_are_settled c me desk log past held) refl (inl refl)
+
+pub ticks_pass : TicksPass
+ticks_pass c me desk log past held =
+    events_end c me desk desk log log past [] (Tick me) held (ticks_fit c me desk log past held) (held_are_settled c me desk log past held) refl (inl refl)

@@ -1,0 +1,85 @@
+-- Where a replica begins, and what holds in the end.
+use Rattle.std.proofs.Common.{◌≡◌, ℕ, zero, suc, ◌+◌, ◌*◌, ◌<◌, ◌≤◌, inl, cond, List, [], ◌∷◌, refl, sym, ap, ◌∙◌, arith, Option, None, replicate, slice_index_or}
+use Rattle.std.proofs.lemmas.List.{length-replicate}
+use Rattle.std.proofs.lemmas.List.Elements.{All-replicate}
+use Rattle.wire.specs.Messages.{CheckpointEntryData as CheckpointEntry}
+use Rattle.ordering.specs.Votes.{vote_of}
+use Rattle.ordering.specs.Log as logs
+use Rattle.ordering.specs.Log.{Row, no_row, LogData, new_log}
+use Rattle.ordering.specs.Keeping.{IsRow, IsLog}
+use Rattle.protocol.specs.System.Configuration.{Configuration, replicas, span}
+use Rattle.protocol.specs.Replica.Certificates.{view, low, logged, prepare_of, commit_of, checkpoints_of}
+use Rattle.protocol.specs.Replica.RightReplica.{first_point}
+use Rattle.replica_histories.specs.Logs.{FitsLog}
+use Rattle.replica_histories.specs.Histories.{FirstHold, HeldOrder}
+use Rattle.replica_histories.proofs.Words.{gated}
+
+empty : (n i : ℕ) → slice_index_or (replicate n no_row) i no_row ≡ no_row
+empty zero i = refl
+empty (suc n) zero = refl
+empty (suc n) (suc i) = empty n i
+
+module _ (c : Configuration) (me : ℕ) (some : 1 ≤ c.faults) (few : c.faults ≤ 3) (mine : me < replicas c) (fits : span c ≤ 32) where
+  abbrev started : LogData
+  started = new_log me c.faults (span c)
+
+  is_log : IsLog started
+  is_log = record {
+    some = some;
+    few = few;
+    me = mine;
+    span = fits;
+    low = omega arith;
+    size = length-replicate (span c) no_row;
+    rows = All-replicate (IsRow (logs.replicas started)) (span c) no_row (record { prepares = tt; commits = tt });
+    checkpoints = length-replicate (3 * c.faults + 1) (none_checked);
+  }
+    where
+      none_checked : List CheckpointEntry
+      none_checked = []
+
+  no_reading : {A : Type 0} (of : Row → Option A) → of no_row ≡ None → (i : ℕ) → cond (logs.is_in_marks started i) (of (logs.row_of started i)) None ≡ None
+  no_reading of none i = gated (logs.is_in_marks started i) (of (logs.row_of started i)) (ap of (empty (span c) (logs.place started i)) ∙ none)
+
+  no_digest : (i : ℕ) → logs.logged_digest started i ≡ None
+  no_digest i = no_reading logs.digest_of refl i
+
+  first_fits : FitsLog c me started []
+  unfolding view low logged prepare_of commit_of checkpoints_of
+  first_fits = record {
+    is_log = is_log;
+    own = refl;
+    faults = refl;
+    span = refl;
+    active = refl;
+    view = refl;
+    target = omega arith;
+    low = refl;
+    batches = λ i k. sym (no_reading (λ r. r.batch) refl i);
+    prepares = λ i s k. sym (no_reading (λ r. vote_of r.prepares s) refl i);
+    commits = λ i s k. sym (no_reading (λ r. vote_of r.commits s) refl i);
+    within = λ v i batch h. absurd cc;
+    begun = λ v batch h. h;
+    unchecked = refl;
+  }
+
+pub first_hold : FirstHold
+unfolding low
+first_hold c me some few mine fits = record {
+  of_desk = record {
+    point = first_point;
+    proceeds = (refl, refl);
+    is = refl;
+    kept = refl;
+    frames = λ frame h. absurd h;
+  };
+  of_log = record {
+    fits = first_fits c me some few mine fits;
+    prepares = λ i. gated _ _ (no_digest c me some few mine fits i);
+    commits = λ i. gated _ _ (no_digest c me some few mine fits i);
+  };
+}
+
+pub held_order : HeldOrder
+held_order c me desk log [] h = tt
+held_order c me desk log (e ∷ past) h = inl (h.of_desk.point, h.of_desk.proceeds)

@@ -1,0 +1,25 @@
+-- Where a replica begins, and what its history is in the end.
+use Rattle.std.specs.Prelude.{ℕ, ◌<◌, ◌≤◌, List, [], ◌∷◌}
+use Rattle.ordering.specs.Log.{LogData, new_log}
+use Rattle.protocol.specs.System.Configuration.{Configuration, replicas, span}
+use Rattle.protocol.specs.System.Trace.{Entry}
+use Rattle.protocol.specs.Replica.State.{opening}
+use Rattle.replica_histories.specs.Desk.{Desk, snapshot_of}
+use Rattle.replica_histories.specs.Events.{Holds}
+use Rattle.replica_histories.specs.Owing.{IsOrderingReplica}
+
+-- nothing is held but the opening state
+abbrev pub first_desk : Desk
+first_desk = record { state = opening; snapshots = snapshot_of opening ∷ []; waiting = []; frames = [] }
+
+-- A replica begins with the opening state and a new log.
+abbrev pub FirstHold : Type 0
+FirstHold =
+    (c : Configuration) (me : ℕ) → 1 ≤ c.faults → c.faults ≤ 3 → me < replicas c → span c ≤ 32
+    → Holds c me first_desk (new_log me c.faults (span c)) []
+
+-- What holds of a history makes it that of an ordering replica.
+abbrev pub HeldOrder : Type 0
+HeldOrder =
+    (c : Configuration) (me : ℕ) (desk : Desk) (log : LogData) (history : List Entry) → Holds c me desk log history
+    → IsOrderingReplica c me history

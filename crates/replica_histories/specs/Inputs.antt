@@ -1,0 +1,166 @@
+-- What an input does to what a replica holds, and which messages count (Castro and Liskov, TOCS 2002, on normal-case
+-- operation). Which ordering messages are taken the log says by its faults.
+use Rattle.std.specs.Prelude.{◌≡◌, ℕ, ◌+◌, ◌-◌, ◌<◌, ◌⊎◌, true, false, List, [], ◌∷◌, nat_le, ◌==◌, if◌then◌else◌, Option, Some, None, is_some, ⊤}
+use Rattle.std.specs.Option.{option_map_or}
+use Rattle.tuple_codec.specs.Operations.{Operation}
+use Rattle.terms.specs.declared.order.Mode.{Mode}
+use Rattle.terms.specs.declared.order.Mode.TheVariants as modes
+use Rattle.wire.specs.Messages.{BodyData as Body, MessageData as Message, request as Request, pre_prepare as PrePrepare, prepare as Prepare, commit as Commit}
+use Rattle.signing.specs.Heard.{heard}
+use Rattle.reply_cache.specs.Replies.{Kept}
+use Rattle.ordering.specs.declared.votes.Vote.{Vote}
+use Rattle.ordering.specs.declared.dropped.Dropped.{Dropped}
+use Rattle.ordering.specs.Log as logs
+use Rattle.ordering.specs.Log.{LogData}
+use Rattle.ordering.specs.Taking.{preprepare_fault, prepare_fault, commit_fault}
+use Rattle.protocol.specs.System.Configuration.{Configuration, members}
+use Rattle.protocol.specs.System.Trace.{Entry, Has}
+use Rattle.protocol.specs.System.Trace.Entry.{Got, Tick}
+use Rattle.protocol.specs.Replica.Certificates.{taken, are_genuine}
+use Rattle.protocol.specs.Replica.State.{State, kept_of, last_time}
+use Rattle.protocol.specs.Replica.RightReplica.{Point, reply_of, waiting_after}
+use Rattle.protocol.specs.Replica.Owed.{IsNoOlder, Counts}
+use Rattle.replica_histories.specs.Desk.{Desk, point_of}
+use Rattle.replica_histories.specs.Logs.{FitsLog, Takes}
+use Rattle.replica_histories.specs.Events.{Fits, Holds, start_at}
+
+-- ---- what a request asks for
+
+-- the kept reply, where it is to this timestamp
+abbrev pub again_for : ℕ → ℕ → Option Kept → List Message
+again_for k timestamp kept = option_map_or (λ x. if x.timestamp == timestamp then reply_of k x ∷ [] else []) kept []
+
+abbrev pub asked_in : State → ℕ → ℕ → Mode → List Message
+asked_in st sender timestamp modes.Ordered =
+    if nat_le 256 sender then again_for (sender - 256) timestamp (kept_of st (sender - 256)) else []
+asked_in st sender timestamp modes.ReadOnly = []
+
+-- what is due at once for what is heard: an ordered request of its client's last timestamp gets the kept reply again
+abbrev pub asked_by : State → Body → List Message
+asked_by st body = elim body.message [ Request timestamp mode op ↦ asked_in st body.sender timestamp mode | _ ↦ [] ]
+
+abbrev pub asked : State → Option Body → List Message
+asked st said = option_map_or (asked_by st) said []
+
+-- ---- an event begins
+
+-- What bytes that are got do to desk and log, and what is due at once.
+pub record Enters (c : Configuration) (me : ℕ) (bytes : List ℕ) (desk new : Desk) (log after : LogData)
+    (due : List Message) : Type 0 where
+  pub takes : Takes c me (heard (members c) me bytes) log after
+  pub state : new.state ≡ desk.state
+  pub snapshots : new.snapshots ≡ desk.snapshots
+  pub waiting : new.waiting ≡ waiting_after c me (point_of desk [] []) bytes
+  pub frames : (frame : List ℕ) → Has (λ x. x ≡ frame) new.frames
+      → Has (λ x. x ≡ frame) desk.frames ⊎ ((frame ≡ bytes) × (is_some (heard (members c) me bytes) ≡ true))
+  pub due_is : due ≡ asked desk.state (heard (members c) me bytes)
+
+-- Bytes that are got begin an event, where they bring no new view.
+abbrev pub InputsFit : Type 0
+InputsFit =
+    (c : Configuration) (me : ℕ) (desk new : Desk) (log after : LogData) (due : List Message) (past : List Entry)
+    (bytes : List ℕ) (held : Holds c me desk log past)
+    → taken c past (Got me bytes) ≡ None → Enters c me bytes desk new log after due
+    → Fits c me (start_at c me desk log past held (Got me bytes)) new after due []
+
+-- A tick begins an event, and changes nothing of itself.
+abbrev pub TicksFit : Type 0
+TicksFit =
+    (c : Configuration) (me : ℕ) (desk : Desk) (log : LogData) (past : List Entry) (held : Holds c me desk log past)
+    → Fits c me (start_at c me desk log past held (Tick me)) desk log [] []
+
+-- ---- which messages count
+
+-- An ordering message that the log has no fault for counts, and the log takes it.
+abbrev pub BatchesCount : Type 0
+BatchesCount =
+    (c : Configuration) (me : ℕ) (log : LogData) (past : List Entry) (point : Point) (s v i : ℕ) (batch bytes : List ℕ)
+    → FitsLog c me log past
+    → heard (members c) me bytes ≡ Some (record { sender = s; message = PrePrepare v i batch })
+    → preprepare_fault log s v i batch ≡ None → are_genuine c me batch ≡ true
+    → Counts c me past point bytes s (PrePrepare v i batch)
+    × Takes c me (heard (members c) me bytes) log (logs.with_batch log i batch)
+
+abbrev pub PreparesCount : Type 0
+PreparesCount =
+    (c : Configuration) (me : ℕ) (log : LogData) (past : List Entry) (point : Point) (s v i : ℕ)
+    (digest bytes : List ℕ) (vote : Vote)
+    → FitsLog c me log past
+    → heard (members c) me bytes ≡ Some (record { sender = s; message = Prepare v i digest })
+    → prepare_fault log s v i digest ≡ None → vote.sender.0 ≡ s → vote.digest ≡ digest
+    → Counts c me past point bytes s (Prepare v i digest)
+    × Takes c me (heard (members c) me bytes) log (logs.with_prepare log i vote)
+
+abbrev pub CommitsCount : Type 0
+CommitsCount =
+    (c : Configuration) (me : ℕ) (log : LogData) (past : List Entry) (point : Point) (s v i : ℕ)
+    (digest bytes : List ℕ) (vote : Vote)
+    → FitsLog c me log past
+    → heard (members c) me bytes ≡ Some (record { sender = s; message = Commit v i digest })
+    → commit_fault log s v i digest ≡ None → vote.sender.0 ≡ s → vote.digest ≡ digest
+    → Counts c me past point bytes s (Commit v i digest)
+    × Takes c me (heard (members c) me bytes) log (logs.with_commit log i vote)
+
+-- A client's request counts where its reply is kept, or where it is newer than what ran and not older than what waits.
+abbrev pub RequestsCount : Type 0
+RequestsCount =
+    (c : Configuration) (me : ℕ) (desk : Desk) (log : LogData) (past : List Entry) (bytes : List ℕ) (k timestamp : ℕ)
+    (op : Operation) (held : Holds c me desk log past)
+    → ((kept : Kept) × (kept_of desk.state k ≡ Some kept) × (kept.timestamp ≡ timestamp))
+    ⊎ ((last_time desk.state k < timestamp) × IsNoOlder desk.waiting k timestamp op)
+    → Counts c me past held.of_desk.point bytes (256 + k) (Request timestamp modes.Ordered op)
+
+-- ---- which are dropped
+
+-- One that it has a fault for changes nothing, nor does a batch with a request that isn't genuine.
+abbrev pub BatchesDrop : Type 0
+BatchesDrop =
+    (c : Configuration) (me : ℕ) (log : LogData) (past : List Entry) (s v i : ℕ) (batch bytes : List ℕ)
+    → FitsLog c me log past
+    → heard (members c) me bytes ≡ Some (record { sender = s; message = PrePrepare v i batch })
+    → ((fault : Dropped) × (preprepare_fault log s v i batch ≡ Some fault)) ⊎ (are_genuine c me batch ≡ false)
+    → Takes c me (heard (members c) me bytes) log log
+
+abbrev pub PreparesDrop : Type 0
+PreparesDrop =
+    (c : Configuration) (me : ℕ) (log : LogData) (past : List Entry) (s v i : ℕ) (digest bytes : List ℕ)
+    (fault : Dropped) → FitsLog c me log past
+    → heard (members c) me bytes ≡ Some (record { sender = s; message = Prepare v i digest })
+    → prepare_fault log s v i digest ≡ Some fault → Takes c me (heard (members c) me bytes) log log
+
+abbrev pub CommitsDrop : Type 0
+CommitsDrop =
+    (c : Configuration) (me : ℕ) (log : LogData) (past : List Entry) (s v i : ℕ) (digest bytes : List ℕ)
+    (fault : Dropped) → FitsLog c me log past
+    → heard (members c) me bytes ≡ Some (record { sender = s; message = Commit v i digest })
+    → commit_fault log s v i digest ≡ Some fault → Takes c me (heard (members c) me bytes) log log
+
+-- what is heard, if anything, is no pre-prepare, prepare or commit
+abbrev pub IsBesideLog : Option Body → Type 0
+IsBesideLog None = ⊤
+IsBesideLog (Some body) = elim body.message [
+  | PrePrepare v i batch ↦ ⊥
+  | Prepare v i digest ↦ ⊥
+  | Commit v i digest ↦ ⊥
+  | _ ↦ ⊤
+]
+
+-- What orders nothing passes by the log.
+abbrev pub OthersDrop : Type 0
+OthersDrop =
+    (c : Configuration) (me : ℕ) (log : LogData) (past : List Entry) (bytes : List ℕ) → FitsLog c me log past
+    → IsBesideLog (heard (members c) me bytes) → Takes c me (heard (members c) me bytes) log log
+
+-- ---- inputs that pass
+
+-- Bytes that change neither desk nor log and make nothing due leave both as they hold, with no output; so does a tick.
+abbrev pub InputsPass : Type 0
+InputsPass =
+    (c : Configuration) (me : ℕ) (desk : Desk) (log : LogData) (past : List Entry) (bytes : List ℕ)
+    → Holds c me desk log past → taken c past (Got me bytes) ≡ None → Enters c me bytes desk desk log log []
+    → Holds c me desk log (Got me bytes ∷ past)
+
+abbrev pub TicksPass : Type 0
+TicksPass =
+    (c : Configuration) (me : ℕ) (desk : Desk) (log : LogData) (past : List Entry)
+    → Holds c me desk log past → Holds c me desk log (Tick me ∷ past)
