@@ -1,0 +1,4 @@
+pub mod Codes
+pub mod ConfigView
+pub mod EntryView
+pub mod Outputs
