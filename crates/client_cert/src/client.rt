@@ -224,7 +224,10 @@ impl Client {
                     }
                     Ok(Turned::Accept(answer)) => {
                         let mut outputs = Vec::new(alloc);
-                        match give(&mut outputs, Output::Accepted(Timestamp(self.calls), answer)) {
+                        match give(
+                            &mut outputs,
+                            Output::Accepted(Timestamp(self.calls), answer),
+                        ) {
                             Ok(()) => Ok(outputs),
                             Err(stop) => {
                                 self.call = Some(call);

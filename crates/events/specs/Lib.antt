@@ -1,3 +1,4 @@
+pub mod Checking
 pub mod Codes
 pub mod ConfigView
 pub mod EntryView

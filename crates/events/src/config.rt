@@ -1,12 +1,20 @@
 //! The configuration.
 
-ghost use Rattle.std.specs.Prelude.{◌≡◌, ◌==◌};
+ghost use Rattle.std.specs.Prelude.{◌≡◌, ◌==◌, ◌&&◌, ◌≤◌, nat_le, [], IfOk, IsOk};
 ghost use Rattle.std.specs.List.{list_any};
+ghost use Rattle.events.specs.Checking.{each_once, is_configuration};
+ghost use Rattle.events.specs.ConfigView.{configuration_of};
 ghost use Rattle.protocol.specs.System.Configuration.{IsConfiguration, is_correct_client, is_correct_replica, members, replicas};
 ghost use Rattle.quorum.specs.Quorum.{member};
 
 use std::marker::Model;
 use terms::FIRST_CLIENT;
+use thiserror::Error;
+
+/// Numbers that make no configuration.
+#[derive(Clone, Copy, Debug, PartialEq, Eq, Error)]
+#[error("the configuration is out of range")]
+pub struct BadConfig;
 
 /// How many replicas may be faulty, which parties are, and what all are given (Castro and Liskov, TOCS 2002, on the
 /// system model). It is valid: 1 to 3 faults, 1 to 256 clients, a checkpoint each 1 to 16 batches, at most so many
@@ -33,6 +41,41 @@ impl Model for Config {
 }
 
 impl Config {
+    /// The configuration of these.
+    ///
+    /// # Errors
+    ///
+    /// [`BadConfig`] exactly where it would not be valid.
+    pub fn new(
+        faults: u8,
+        clients: u16,
+        seed: [u8; 32],
+        period: u8,
+        faulty_replicas: Vec<u16>,
+        faulty_clients: Vec<u16>,
+    ) -> Result<Config, BadConfig>
+        ensures made { IfOk result (λ c. c ≡ configuration_of faults clients seed period faulty_replicas.items faulty_clients.items) }
+        ensures only { IsConfiguration (configuration_of faults clients seed period faulty_replicas.items faulty_clients.items) → IsOk result }
+    {
+        if !is_valid(
+            faults,
+            clients,
+            period,
+            faulty_replicas.as_slice(),
+            faulty_clients.as_slice(),
+        ) {
+            return Err(BadConfig);
+        }
+        Ok(Config {
+            faults,
+            clients,
+            seed,
+            period,
+            faulty_replicas,
+            faulty_clients,
+        })
+    }
+
     /// How many replicas may be faulty, 1 to 3.
     pub fn faults(&self) -> u8
         ensures value { result ≡ self.now.faults }
@@ -86,6 +129,40 @@ impl Config {
             && party < FIRST_CLIENT + self.clients
             && !has(self.faulty_clients.as_slice(), party - FIRST_CLIENT)
     }
+}
+
+// Whether these, with any seed, make a configuration.
+fn is_valid(
+    faults: u8,
+    clients: u16,
+    period: u8,
+    faulty_replicas: &[u16],
+    faulty_clients: &[u16],
+) -> bool
+    ensures { result ≡ is_configuration (configuration_of faults clients [] period faulty_replicas.now faulty_clients.now) }
+{
+    is_within(u16::from(faults), 3)
+        && is_within(clients, 256)
+        && is_within(u16::from(period), 16)
+        && faulty_replicas.len() <= usize::from(faults)
+        && names_each_once(faulty_replicas, 3 * u16::from(faults) + 1)
+        && names_each_once(faulty_clients, clients)
+}
+
+fn is_within(number: u16, most: u16) -> bool
+    ensures { result ≡ (nat_le 1 number && nat_le number most) }
+{
+    number >= 1 && number <= most
+}
+
+// Whether the numbers are below the bound and differ. It looks no deeper into the list than that many numbers.
+fn names_each_once(list: &[u16], bound: u16) -> bool
+    ensures { result ≡ each_once bound list.now }
+{
+    let [first, rest @ ..] = list else {
+        return true;
+    };
+    *first < bound && !has(rest, *first) && names_each_once(rest, bound)
 }
 
 fn has(list: &[u16], number: u16) -> bool

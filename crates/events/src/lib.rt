@@ -2,7 +2,7 @@
 //!
 //! # What is proved
 //!
-//! A [`Config`] is valid by its type, and its readers answer what the definitions ask of a configuration. An [`Entry`]
+//! [`Config::new`] makes exactly the valid configurations, and its readers answer what the definitions ask of a configuration. An [`Entry`]
 //! is the protocol's entry, and an [`Output`] of a party is the entry that it puts into the party's history.
 #![tactic(auto)]
 
@@ -10,6 +10,6 @@ mod config;
 mod entry;
 mod output;
 
-pub use config::Config;
+pub use config::{BadConfig, Config};
 pub use entry::{Entry, EntryKind};
 pub use output::{Output, Outputs, Stop, give};
