@@ -15,20 +15,20 @@ either_false true b e = absurd cc
 -- ---- lists
 
 below : (bound : ℕ) (xs : List ℕ) → each_once bound xs ≡ true → All (λ x. x < bound) xs
-below bound [] e k d l = absurd (omega arith)
+below bound [] e = λ k d l. absurd (omega arith)
 below bound (x ∷ xs) e =
     let both = and_parts (nat_lt x bound && not (member xs x)) (each_once bound xs) e in
     let first = and_parts (nat_lt x bound) (not (member xs x)) both.0 in
     All-cons (λ y. y < bound) x xs (ltb-true x bound first.0) (below bound xs both.1)
 
 not_there : (xs : List ℕ) (x : ℕ) → member xs x ≡ false → All (λ y. x ≢ y) xs
-not_there [] x e k d l = absurd (omega arith)
+not_there [] x e = λ k d l. absurd (omega arith)
 not_there (y ∷ ys) x e =
     let both = either_false (y == x) (member ys x) e in
     All-cons (λ z. x ≢ z) y ys (λ same. eqb-false y x both.0 (sym same)) (not_there ys x both.1)
 
 differ : (bound : ℕ) (xs : List ℕ) → each_once bound xs ≡ true → AllPairs (λ x y. x ≢ y) xs
-differ bound [] e i j d lt within = absurd (omega arith)
+differ bound [] e = λ i j d lt within. absurd (omega arith)
 differ bound (x ∷ xs) e =
     let both = and_parts (nat_lt x bound && not (member xs x)) (each_once bound xs) e in
     let first = and_parts (nat_lt x bound) (not (member xs x)) both.0 in

@@ -1,6 +1,6 @@
 //! The configuration.
 
-ghost use Rattle.std.specs.Prelude.{◌≡◌, ◌==◌, ◌&&◌, ◌≤◌, nat_le, [], IfOk, IsOk};
+ghost use Rattle.std.specs.Prelude.{◌≡◌, ◌==◌, ◌&&◌, ◌≤◌, nat_le, length, [], IfOk, IsOk};
 ghost use Rattle.std.specs.List.{list_any};
 ghost use Rattle.events.specs.Checking.{each_once, is_configuration};
 ghost use Rattle.events.specs.ConfigView.{configuration_of};
@@ -66,6 +66,7 @@ impl Config {
         ) {
             return Err(BadConfig);
         }
+        note_seed(&seed);
         Ok(Config {
             faults,
             clients,
@@ -129,6 +130,13 @@ impl Config {
             && party < FIRST_CLIENT + self.clients
             && !has(self.faulty_clients.as_slice(), party - FIRST_CLIENT)
     }
+}
+
+// A seed has 32 bytes.
+fn note_seed(seed: &[u8; 32])
+    ensures { length seed.now ≡ 32 }
+{
+    let _len = seed.len();
 }
 
 // Whether these, with any seed, make a configuration.
