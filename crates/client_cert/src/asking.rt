@@ -37,6 +37,7 @@ pub(crate) fn seal_request(
     ensures same { ring.new ≡ ring.old }
 {
     note_op(&op);
+    let _number = note_timestamp(timestamp);
     let message = Message::Request(Request {
         timestamp,
         mode,
@@ -102,6 +103,13 @@ pub(crate) fn note_op(op: &Op<Global>)
         }
         Op::RdAll(_max, template) => note_template(template),
     }
+}
+
+// A timestamp fits its bytes.
+fn note_timestamp(timestamp: Timestamp) -> u64
+    ensures { result ≡ timestamp.0 }
+{
+    timestamp.0
 }
 
 fn note_tuple(tuple: &Tuple<Global>)
