@@ -1,0 +1,96 @@
+-- What a reply leads to is what the definition says. This is what the strong client has in another form.
+use Rattle.std.proofs.Common.{◌≡◌, ℕ, zero, suc, ◌+◌, ◌*◌, Bool, true, false, cond, ◌&&◌, List, ◌∷◌, Option, Some, None, refl, sym, ap, ◌∙◌}
+use Rattle.std.specs.Prelude.{nat_le, ◌==◌, option_map, option_and_then}
+use Rattle.std.specs.Bool.{then_some}
+use Rattle.std.specs.Option.{option_map_or}
+use Rattle.std.proofs.lemmas.Bool.{eq-eqb}
+use Rattle.tuple_codec.specs.Operations.{Operation, Outcome}
+use Rattle.terms.specs.declared.order.Mode.{Mode}
+use Rattle.terms.specs.declared.order.Mode.TheVariants as modes
+use Rattle.wire.specs.Messages.{BodyData as Body, reply as Reply}
+use Rattle.quorum.specs.Quorum.{count_below}
+use Rattle.signing.specs.Heard.{heard}
+use Rattle.protocol.specs.System.Configuration.{Configuration, members, replicas}
+use Rattle.protocol.specs.System.Frames.{same_mode}
+use Rattle.protocol.specs.System.Trace.{Entry}
+use Rattle.protocol.specs.System.Trace.Entry.{Got, Tick}
+use Rattle.protocol.specs.Client.RightClient.{Vote, OpenCall, vote_of, latest, newest_vote, is_same_answer, is_weakly_complete, Reaction, weakly_on_got}
+use Rattle.protocol.specs.Client.RightClient.Reaction.{nothing, asks, accepts}
+use Rattle.client_cert.specs.State.{CallState, ballot_of, held, is_like, count_like, Turn, turn_of}
+use Rattle.client_cert.specs.State.Turn.{waits, asks_ordered, accepts_it}
+use Rattle.client_cert.specs.Fits.{FitsCall, Holds, reacts}
+use Rattle.client_cert.proofs.Holding.{vote_heard}
+
+-- the reaction that a turn is
+abbrev pub turns : Turn → ℕ → Operation → Outcome → Reaction
+turns waits t op answer = nothing
+turns asks_ordered t op answer = asks modes.Ordered (record { timestamp = t; op = op })
+turns accepts_it t op answer = accepts t answer
+
+same_count : (f g : ℕ → Bool) (n : ℕ) → ((s : ℕ) → f s ≡ g s) → count_below f n ≡ count_below g n
+same_count f g zero e = refl
+same_count f g (suc n) e = ap (λ b. cond b (suc (count_below f n)) (count_below f n)) (e n) ∙ ap (λ k. cond (g n) (suc k) k) (same_count f g n e)
+
+like_alike : (vote : Vote) (other : Option Vote) → is_like (ballot_of vote) (option_map ballot_of other) ≡ is_same_answer vote other
+like_alike vote None = refl
+like_alike vote (Some o) = refl
+
+branches : (complete : Bool) (t : ℕ) (op : Operation) (answer : Outcome) → cond complete (accepts t answer) nothing ≡ turns (cond complete accepts_it waits) t op answer
+branches true t op answer = refl
+branches false t op answer = refl
+
+-- a reply is accepted where it completes the call
+abbrev weakly_on_reply : Configuration → ℕ → List Entry → OpenCall → Vote → Reaction
+weakly_on_reply c me now call vote = cond (is_weakly_complete c me now call.timestamp vote) (accepts call.timestamp vote.answer) nothing
+
+module _ (c : Configuration) (me t : ℕ) (now : List Entry) (call : CallState) (h : FitsCall c me now t call) where
+  counts : (vote : Vote) → count_like call.ordered_ballots (replicas c) (ballot_of vote) ≡ count_below (λ s. is_same_answer vote (latest c me now t modes.Ordered s)) (replicas c)
+  counts vote =
+      same_count (λ s. is_like (ballot_of vote) (held call.ordered_ballots s)) (λ s. is_same_answer vote (latest c me now t modes.Ordered s)) (replicas c)
+      (λ s. ap (is_like (ballot_of vote)) (h.ballots_are modes.Ordered s) ∙ like_alike vote (latest c me now t modes.Ordered s))
+
+  replied : (vote : Vote) → weakly_on_reply c me now (record { timestamp = t; op = call.op }) vote ≡ turns (turn_of c.faults call vote.mode (ballot_of vote)) t call.op vote.answer
+  replied vote =
+      branches (is_weakly_complete c me now t vote) t call.op vote.answer
+      ∙ ap (λ k. turns (cond (same_mode vote.mode modes.Ordered && nat_le (c.faults + 1) k) accepts_it waits) t call.op vote.answer) (sym (counts vote))
+
+newest_is : (c : Configuration) (me p t : ℕ) (bytes : List ℕ) (history : List Entry) (sender : ℕ) (mode : Mode) (number : ℕ) (answer : Outcome)
+    → heard (members c) me bytes ≡ Some (record { sender = sender; message = Reply me t mode number answer })
+    → newest_vote c me (Got p bytes ∷ history) t ≡ Some (record { mode = mode; number = number; answer = answer })
+newest_is c me p t bytes history sender mode number answer is =
+    ap (option_and_then (λ body. vote_of me t body.sender body)) is ∙ vote_heard me t sender sender mode number answer
+    ∙ ap (λ b. then_some b (let v : Vote = record { mode = mode; number = number; answer = answer } in v)) (eq-eqb sender sender refl)
+
+-- a reply to the call
+pub reaction_is : (c : Configuration) (me p t : ℕ) (bytes : List ℕ) (history : List Entry) (call : CallState) (sender : ℕ) (mode : Mode) (number : ℕ) (answer : Outcome)
+    → heard (members c) me bytes ≡ Some (record { sender = sender; message = Reply me t mode number answer })
+    → Holds c me (Got p bytes ∷ history) t (Some call)
+    → reacts c me (Got p bytes ∷ history)
+    ≡ turns (turn_of c.faults call mode (ballot_of (record { mode = mode; number = number; answer = answer }))) t call.op answer
+reaction_is c me p t bytes history call sender mode number answer is h =
+    ap (λ o. option_map_or (weakly_on_got c me (Got p bytes ∷ history)) o nothing) h.call_is.open_is
+    ∙ ap (λ v. option_map_or (weakly_on_reply c me (Got p bytes ∷ history) (record { timestamp = t; op = call.op })) v nothing) (newest_is c me p t bytes history sender mode number answer is)
+    ∙ replied c me t (Got p bytes ∷ history) call h.call_is (record { mode = mode; number = number; answer = answer })
+
+-- anything else
+pub no_reaction : (c : Configuration) (me p t : ℕ) (bytes : List ℕ) (history : List Entry) (call : CallState)
+    → ((s : ℕ) → option_and_then (vote_of me t s) (heard (members c) me bytes) ≡ None) → Holds c me history t (Some call) → reacts c me (Got p bytes ∷ history) ≡ nothing
+no_reaction c me p t bytes history call unheard h =
+    ap (λ o. option_map_or (weakly_on_got c me (Got p bytes ∷ history)) o nothing) h.call_is.open_is
+    ∙ ap (λ v. option_map_or (weakly_on_reply c me (Got p bytes ∷ history) (record { timestamp = t; op = call.op })) v nothing) (none (heard (members c) me bytes) unheard)
+  where
+    none : (o : Option Body) → ((s : ℕ) → option_and_then (vote_of me t s) o ≡ None) → option_and_then (λ body. vote_of me t body.sender body) o ≡ None
+    none None unheard = refl
+    none (Some body) unheard = unheard body.sender
+
+-- without a call
+pub no_call_reaction : (c : Configuration) (me p t : ℕ) (bytes : List ℕ) (history : List Entry) → Holds c me history t None → reacts c me (Got p bytes ∷ history) ≡ nothing
+no_call_reaction c me p t bytes history h = ap (λ o. option_map_or (weakly_on_got c me (Got p bytes ∷ history)) o nothing) h.call_is
+
+-- ticks
+pub tick_reaction : (c : Configuration) (me p t : ℕ) (history : List Entry) (call : CallState) → Holds c me history t (Some call)
+    → reacts c me (Tick p ∷ history) ≡ asks modes.Ordered (record { timestamp = t; op = call.op })
+tick_reaction c me p t history call h = ap (λ o. option_map_or (asks modes.Ordered) o nothing) h.call_is.open_is
+
+pub no_tick_reaction : (c : Configuration) (me p t : ℕ) (history : List Entry) → Holds c me history t None → reacts c me (Tick p ∷ history) ≡ nothing
+no_tick_reaction c me p t history h = ap (λ o. option_map_or (asks modes.Ordered) o nothing) h.call_is

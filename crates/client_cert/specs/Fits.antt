@@ -1,0 +1,40 @@
+-- How what a client holds meets its history.
+use Rattle.std.specs.Prelude.{◌≡◌, ℕ, false, List, [], Option, Some, None, is_some, option_map}
+use Rattle.terms.specs.declared.order.Mode.{Mode}
+use Rattle.protocol.specs.System.Configuration.{Configuration, members}
+use Rattle.protocol.specs.System.Trace.{Entry}
+use Rattle.protocol.specs.Client.RightClient.{last_call, open_call, went_ordered, latest, Reaction, weak_reaction, Reacts, IsClientBy}
+use Rattle.client_cert.specs.State.{CallState, ClientState, me_of, held, ballots_of, ballot_of}
+
+-- what this client is to give: the one word here that tells the weak client from the strong one
+abbrev pub reacts : Configuration → ℕ → List Entry → Reaction
+reacts c me = weak_reaction c me
+
+-- the open call of this timestamp
+pub record FitsCall (c : Configuration) (me : ℕ) (history : List Entry) (timestamp : ℕ) (call : CallState) : Type 0 where
+  pub open_is : open_call history ≡ Some (record { timestamp = timestamp; op = call.op })
+  pub ordered_is : went_ordered history timestamp ≡ call.ordered
+  pub ballots_are : (mode : Mode) (s : ℕ)
+      → held (ballots_of mode call) s ≡ option_map ballot_of (latest c me history timestamp mode s)
+
+abbrev pub FitsOpen : Configuration → ℕ → List Entry → ℕ → Option CallState → Type 0
+FitsOpen c me history timestamp None = open_call history ≡ None
+FitsOpen c me history timestamp (Some call) = FitsCall c me history timestamp call
+
+-- at any entry, also within an event
+pub record Holds (c : Configuration) (me : ℕ) (history : List Entry) (timestamp : ℕ) (call : Option CallState) : Type 0 where
+  pub last_is : last_call history ≡ timestamp
+  pub call_is : FitsOpen c me history timestamp call
+
+-- of a client that goes on, between events
+pub record Runs (c : Configuration) (me : ℕ) (client : ClientState) (history : List Entry) : Type 0 where
+  pub holds : Holds c me history client.calls client.call
+  pub gave : Reacts c me (reacts c me) [] history
+
+-- Between events. A client that stopped still knows its last call, and whether it is open.
+pub record Fits (c : Configuration) (client : ClientState) (history : List Entry) : Type 0 where
+  pub members_are : members c ≡ client.membership
+  pub last_is : last_call history ≡ client.calls
+  pub open_is : is_some (open_call history) ≡ is_some client.call
+  pub right : IsClientBy c (me_of client) (reacts c (me_of client)) history
+  pub running : client.stopped ≡ false → Runs c (me_of client) client history

@@ -1,0 +1,35 @@
+-- What a client hears in a frame. The contracts of private functions speak of these.
+use Rattle.std.specs.Prelude.{◌≡◌, ℕ, ◌+◌, ◌==◌, ◌&&◌, false, Option, Some, None, option_and_then}
+use Rattle.tuple_codec.specs.OperationView.{outcome_of}
+use Rattle.wire.specs.declared.frames.Frame.{Frame}
+use Rattle.wire.specs.declared.messages.Reply.{Reply}
+use Rattle.wire.specs.Messages.{BodyData as Body, reply as says}
+use Rattle.wire.specs.Views.{body_data}
+use Rattle.protocol.specs.Client.RightClient.{vote_of}
+use Rattle.client_cert.specs.declared.hearing.Heard.{Heard}
+
+abbrev pub frame_body : Frame → Body
+frame_body f = body_data f.body
+
+-- the body of a reply to the client's call of this timestamp
+abbrev pub body_of : ℕ → ℕ → Heard → Body
+body_of me timestamp h =
+    record { sender = h.sender; message = says me timestamp h.mode h.number.0 (outcome_of h.answer) }
+
+-- what was heard: a reply to the call, or nothing that is a vote on it
+abbrev pub Hears : ℕ → ℕ → Option Body → Option Heard → Type 0
+Hears me timestamp body None = (s : ℕ) → option_and_then (vote_of me timestamp s) body ≡ None
+Hears me timestamp body (Some h) = body ≡ Some (body_of me timestamp h)
+
+-- what a reply in a frame says
+abbrev pub reply_body : ℕ → Reply → Body
+reply_body sender r =
+    record {
+      sender = sender;
+      message = says (256 + r.client.number) r.timestamp.0 r.kind r.number.0 (outcome_of r.answer);
+    }
+
+-- what it is to the call
+abbrev pub Answers : ℕ → ℕ → ℕ → Reply → Option Heard → Type 0
+Answers me timestamp sender r None = ((256 + r.client.number == me) && (r.timestamp.0 == timestamp)) ≡ false
+Answers me timestamp sender r (Some h) = body_of me timestamp h ≡ reply_body sender r

@@ -1,0 +1,133 @@
+-- What a client holds, as plain data, and the changes that its entries make.
+use Rattle.std.specs.Prelude.{◌≡◌, ℕ, ◌+◌, ◌*◌, Bool, false, ◌&&◌, ◌||◌, List, [], Option, Some, None, nat_le, ◌==◌, bytes_eq, cond, if◌then◌else◌, refl}
+use Rattle.std.specs.Option.{option_map_or}
+use Rattle.std.specs.Map.{lookup}
+use Rattle.std.specs.Coded.{Coded, code_by, coded×, coded_list, coded_option, coded_ℕ, coded_bool}
+use Rattle.terms.specs.declared.order.Mode.{Mode}
+use Rattle.terms.specs.declared.order.Mode.TheVariants as modes
+use Rattle.tuple_codec.specs.Operations.{Operation}
+use Rattle.tuple_codec.specs.Spelling.{outcome_spelling}
+use Rattle.authenticator.specs.Membership.{Membership}
+use Rattle.quorum.specs.Quorum.{count_below}
+use Rattle.protocol.specs.System.Frames.{same_mode}
+use Rattle.protocol.specs.Client.RightClient.{Vote}
+use Rattle.events.specs.Codes.{operation_code}
+
+-- a replica's reply: the number of its state, and the bytes that spell its answer
+pub record Ballot : Type 0 where
+  pub number : ℕ
+  pub text : List ℕ
+
+-- the latest replies of one mode by the replicas' numbers, in order of arrival
+abbrev pub Ballots : Type 0
+Ballots = List (ℕ × Ballot)
+
+-- a call that is not answered yet: its operation, whether its request went ordered, and the replies of either mode
+pub record CallState : Type 0 where
+  pub op : Operation
+  pub ordered : Bool
+  pub ordered_ballots : Ballots
+  pub read_ballots : Ballots
+
+-- a client: its number, whom it knows, its last timestamp, its open call, and whether it stopped
+pub record ClientState : Type 0 where
+  pub number : ℕ
+  pub membership : Membership
+  pub calls : ℕ
+  pub call : Option CallState
+  pub stopped : Bool
+
+-- ---- codes
+
+abbrev pub ballot_code : Coded Ballot
+ballot_code =
+    code_by (ℕ × List ℕ) (coded× coded_ℕ (coded_list coded_ℕ)) (λ b. (b.number, b.text))
+    (λ p. record { number = p.0; text = p.1 }) (λ _. refl)
+
+abbrev pub ballots_code : Coded Ballots
+ballots_code = coded_list (coded× coded_ℕ ballot_code)
+
+abbrev pub call_code : Coded CallState
+call_code =
+    code_by (Operation × (Bool × (Ballots × Ballots)))
+    (coded× operation_code (coded× coded_bool (coded× ballots_code ballots_code)))
+    (λ x. (x.op, (x.ordered, (x.ordered_ballots, x.read_ballots))))
+    (λ p. record { op = p.0; ordered = p.1.0; ordered_ballots = p.1.1.0; read_ballots = p.1.1.1 }) (λ _. refl)
+
+abbrev pub membership_code : Coded Membership
+membership_code =
+    code_by (List ℕ × (ℕ × ℕ)) (coded× (coded_list coded_ℕ) (coded× coded_ℕ coded_ℕ))
+    (λ m. (m.seed, (m.faults, m.clients)))
+    (λ p. record { seed = p.0; faults = p.1.0; clients = p.1.1 }) (λ _. refl)
+
+abbrev pub client_code : Coded ClientState
+client_code =
+    code_by (ℕ × (Membership × (ℕ × (Option CallState × Bool))))
+    (coded× coded_ℕ (coded× membership_code (coded× coded_ℕ (coded× (coded_option call_code) coded_bool))))
+    (λ s. (s.number, (s.membership, (s.calls, (s.call, s.stopped)))))
+    (λ p. record { number = p.0; membership = p.1.0; calls = p.1.1.0; call = p.1.1.1.0; stopped = p.1.1.1.1 })
+    (λ _. refl)
+
+-- ---- replies
+
+-- the party of the client
+abbrev pub me_of : ClientState → ℕ
+me_of s = 256 + s.number
+
+-- the reply of the replica s
+abbrev pub held : Ballots → ℕ → Option Ballot
+held ballots s = lookup (λ k. s == k) ballots
+
+abbrev pub ballots_of : Mode → CallState → Ballots
+ballots_of modes.Ordered call = call.ordered_ballots
+ballots_of modes.ReadOnly call = call.read_ballots
+
+-- what is kept of a vote
+abbrev pub ballot_of : Vote → Ballot
+ballot_of vote = record { number = vote.number; text = outcome_spelling vote.answer }
+
+-- the replies behind one more, which takes the place of its sender's earlier one
+pub record Adds (old : Ballots) (sender : ℕ) (ballot : Ballot) (new : Ballots) : Type 0 where
+  pub at : (s : ℕ) → held new s ≡ cond (sender == s) (Some ballot) (held old s)
+
+-- the call behind one more reply of the mode
+pub record Takes (old : CallState) (mode : Mode) (sender : ℕ) (ballot : Ballot) (new : CallState) : Type 0 where
+  pub op : new.op ≡ old.op
+  pub ordered : new.ordered ≡ old.ordered
+  pub at : (m : Mode) (s : ℕ)
+      → held (ballots_of m new) s ≡ cond (same_mode mode m && (sender == s)) (Some ballot) (held (ballots_of m old) s)
+
+-- alike in the answer
+abbrev pub is_like : Ballot → Option Ballot → Bool
+is_like ballot other = option_map_or (λ o. bytes_eq o.text ballot.text) other false
+
+-- how many of n replicas gave the like
+abbrev pub count_like : Ballots → ℕ → Ballot → ℕ
+count_like ballots n ballot = count_below (λ s. is_like ballot (held ballots s)) n
+
+-- ---- what a reply leads to: nothing, an ordered request, or an acceptance
+
+pub data Turn : Type 0 where
+  waits : Turn
+  asks_ordered : Turn
+  accepts_it : Turn
+
+-- f + 1 ordered replies of one answer end a call
+abbrev pub turn_of : ℕ → CallState → Mode → Ballot → Turn
+turn_of faults call mode ballot =
+    if same_mode mode modes.Ordered && nat_le (faults + 1) (count_like call.ordered_ballots (3 * faults + 1) ballot)
+    then accepts_it else waits
+
+-- ---- what entries change
+
+-- a call begins
+abbrev pub called : ℕ → Operation → ClientState → ClientState
+called timestamp op s =
+    record s {
+      calls = timestamp;
+      call = Some (record { op = op; ordered = false; ordered_ballots = []; read_ballots = [] });
+    }
+
+-- its request is sent in the mode
+abbrev pub went : Mode → CallState → CallState
+went mode call = record call { ordered = same_mode mode modes.Ordered || call.ordered }

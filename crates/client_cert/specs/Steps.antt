@@ -1,0 +1,68 @@
+-- What an event does to what fits.
+use Rattle.std.specs.Prelude.{◌≡◌, ℕ, List, [], ◌∷◌, map, Option, Some, is_some}
+use Rattle.terms.specs.declared.order.Mode.{Mode}
+use Rattle.terms.specs.declared.order.Mode.TheVariants as modes
+use Rattle.tuple_codec.specs.OperationView.{outcome_of}
+use Rattle.authenticator.specs.Membership.{Membership}
+use Rattle.protocol.specs.System.Configuration.{Configuration, members}
+use Rattle.protocol.specs.System.Trace.{Entry}
+use Rattle.protocol.specs.System.Trace.Entry.{Got, Tick, Sent}
+use Rattle.protocol.specs.Client.RightClient.{Reaction}
+use Rattle.protocol.specs.Client.RightClient.Reaction.{nothing, asks, accepts}
+use Rattle.events.specs.declared.output.Output.{Output}
+use Rattle.events.specs.Outputs.{entry_of, after_event}
+use Rattle.client_cert.specs.declared.client.Event.{Event}
+use Rattle.client_cert.specs.declared.client.Event.TheVariants as events
+use Rattle.client_cert.specs.declared.hearing.Turned.{Turned}
+use Rattle.client_cert.specs.declared.hearing.Turned.TheVariants as turned
+use Rattle.client_cert.specs.State.{CallState, ClientState, me_of, went}
+use Rattle.client_cert.specs.Asking.{AsksWith}
+use Rattle.client_cert.specs.Fits.{Holds, Fits, reacts}
+
+-- the input entry of an event
+abbrev pub input_of : ℕ → Event → Entry
+input_of me (events.Got bytes) = Got me bytes.now
+input_of me events.Retry = Tick me
+
+-- whatever history fits, behind the event the longer one does
+abbrev pub Leads : ClientState → Entry → List Output → ClientState → Type 0
+Leads old input outs new =
+    (c : Configuration) (history : List Entry) → Fits c old history
+    → Fits c new (after_event (me_of old) input outs history)
+
+-- ---- of private functions
+
+-- what a reply leads to, as the definition has it
+abbrev pub reaction_of : ℕ → CallState → Turned → Reaction
+reaction_of timestamp call turned.Nothing = nothing
+reaction_of timestamp call turned.Ask = asks modes.Ordered (record { timestamp = timestamp; op = call.op })
+reaction_of timestamp call (turned.Accept answer) = accepts timestamp (outcome_of answer)
+
+-- what bytes do to the open call, and what they are to be answered with
+abbrev pub Weighs : Membership → ℕ → ℕ → CallState → List ℕ → CallState → Reaction → Type 0
+Weighs m me timestamp old bytes new reaction =
+    (c : Configuration) (history : List Entry) → members c ≡ m → Holds c me history timestamp (Some old)
+    → Holds c me (Got me bytes ∷ history) timestamp (Some new) × (reacts c me (Got me bytes ∷ history) ≡ reaction)
+
+-- the client changes no more than its call
+pub record Becomes (old new : ClientState) (call : Option CallState) : Type 0 where
+  pub number : new.number ≡ old.number
+  pub membership : new.membership ≡ old.membership
+  pub calls : new.calls ≡ old.calls
+  pub call_is : new.call ≡ call
+
+-- the same, whatever the call, but whether it is open
+pub record Keeps (old new : ClientState) : Type 0 where
+  pub number : new.number ≡ old.number
+  pub membership : new.membership ≡ old.membership
+  pub calls : new.calls ≡ old.calls
+  pub is_open : is_some new.call ≡ is_some old.call
+
+-- the client gives a request of its open call, and changes no more than that it went
+pub record Asks (old : ClientState) (mode : Mode) (outs : List Output) (new : ClientState) : Type 0 where
+  pub text : List ℕ
+  pub call : CallState
+  pub given : map (entry_of (me_of old)) outs ≡ Sent (me_of old) text ∷ []
+  pub was : old.call ≡ Some call
+  pub asks : AsksWith old.membership (me_of old) mode old.calls call.op text
+  pub becomes : Becomes old new (Some (went mode call))

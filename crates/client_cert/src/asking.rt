@@ -1,0 +1,132 @@
+//! What a client asks with.
+
+ghost use Rattle.std.specs.Prelude.{◌≡◌, ◌+◌, ◌*◌, ◌≤◌, IfOk, map, ℕ, List};
+ghost use Rattle.std.specs.List.{range_with_len};
+ghost use Rattle.terms.specs.Parties.{party_number};
+ghost use Rattle.terms.specs.declared.order.Mode.TheVariants as modes;
+ghost use Rattle.tuple_codec.specs.OperationView.{operation_of};
+ghost use Rattle.tuple_codec.specs.Operations.{IsOperation};
+ghost use Rattle.tuple_tree.specs.Values.{IsTuple, IsTemplate};
+ghost use Rattle.wire.specs.Views.{body_data};
+ghost use Rattle.wire.specs.Spelling.{SpellsFrame};
+ghost use Rattle.authenticator.specs.Sealing.{IsSealable, sealed_for};
+ghost use Rattle.client_cert.specs.Asking.{AsksWith};
+
+use authenticator::Ring;
+use events::Stop;
+use std::alloc::{AllocError, Global};
+use terms::{ClientId, Mode, Party, ReplicaId, Timestamp};
+use tuple_codec::Op;
+use tuple_tree::{Template, Tuple};
+use wire::{Body, Message, Request};
+
+/// The operation, which comes back, and the bytes of its request, sealed for all replicas.
+pub(crate) fn seal_request(
+    ring: &mut Ring,
+    alloc: Global,
+    client: ClientId,
+    faults: u8,
+    timestamp: Timestamp,
+    mode: Mode,
+    op: Op<Global>,
+) -> (Op<Global>, Result<Vec<u8>, Stop>)
+    requires faults { faults ≡ ring.old.faults }
+    requires few { faults ≤ 3 }
+    ensures op { operation_of result.0 ≡ operation_of op }
+    ensures sealed { IfOk result.1 (λ bytes. AsksWith ring.old (256 + client.number) mode timestamp.0 (operation_of op) bytes.items) }
+    ensures same { ring.new ≡ ring.old }
+{
+    note_op(&op);
+    let _number = note_timestamp(timestamp);
+    let message = Message::Request(Request {
+        timestamp,
+        mode,
+        op,
+    });
+    let body = Body {
+        sender: Party::Client(client),
+        message,
+    };
+    let sealed = seal_for_all(ring, alloc, faults, &body);
+    let Body { sender: _, message } = body;
+    match message {
+        Message::Request(request) => {
+            let Request {
+                timestamp: _,
+                mode: _,
+                op,
+            } = request;
+            (op, sealed)
+        }
+        _ => unreachable!(),
+    }
+}
+
+// The frame of a body, sealed for all replicas.
+fn seal_for_all(ring: &mut Ring, alloc: Global, faults: u8, body: &Body) -> Result<Vec<u8>, Stop>
+    requires few { faults ≤ 3 }
+    requires may { (receivers : List ℕ) → receivers ≡ range_with_len 0 (3 * faults + 1) → IsSealable (body_data body.now) receivers }
+    ensures sealed { IfOk result (λ frame. SpellsFrame frame.items (sealed_for ring.old.seed (body_data body.now) (range_with_len 0 (3 * faults + 1)))) }
+    ensures same { ring.new ≡ ring.old }
+{
+    let replicas = all_replicas(alloc, 3 * faults + 1)?;
+    // A request is never too long.
+    match ring.seal(alloc, body, replicas.as_slice()) {
+        Ok(frame) => Ok(frame),
+        Err(_) => Err(Stop::NoMemory),
+    }
+}
+
+/// The parties of the replicas, in order.
+#[tactic(auto, using(crate::proofs::Sealed::replicas_more))]
+pub(crate) fn all_replicas(alloc: Global, count: u8) -> Result<Vec<Party>, AllocError>
+    ensures { IfOk result (λ parties. map party_number parties.items ≡ range_with_len 0 count) }
+{
+    let mut parties = Vec::new(alloc);
+    for replica in 0..count {
+        parties.push(Party::Replica(ReplicaId(replica)))?;
+    }
+    Ok(parties)
+}
+
+/// Each operation that the program holds is within the limits.
+pub(crate) fn note_op(op: &Op<Global>)
+    ensures { IsOperation (operation_of op.now) }
+{
+    match op {
+        Op::Out(tuple) => note_tuple(tuple),
+        Op::Rdp(template) => note_template(template),
+        Op::Inp(template) => note_template(template),
+        Op::Cas(template, tuple) => {
+            note_template(template);
+            note_tuple(tuple);
+        }
+        Op::RdAll(_max, template) => note_template(template),
+    }
+}
+
+// A timestamp fits its bytes.
+fn note_timestamp(timestamp: Timestamp) -> u64
+    ensures { result ≡ timestamp.0 }
+{
+    timestamp.0
+}
+
+fn note_tuple(tuple: &Tuple<Global>)
+    ensures { IsTuple tuple.now }
+{
+    let _depth = tuple.depth();
+}
+
+fn note_template(template: &Template<Global>)
+    ensures { IsTemplate template.now }
+{
+    let _depth = template.depth();
+}
+
+/// The mode in which an operation is asked for first: each in its place in the order.
+pub(crate) fn first_mode() -> Mode
+    ensures { result ≡ modes.Ordered }
+{
+    Mode::Ordered
+}

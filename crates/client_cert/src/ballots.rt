@@ -1,0 +1,110 @@
+//! The replies to a call, of one mode.
+
+ghost use Rattle.std.specs.Prelude.{◌≡◌, ◌≤◌, [], IfOk, OnOk, Some};
+ghost use Rattle.client_cert.specs.State.{Adds, count_like, held, is_like};
+
+use events::Stop;
+use indexmap::IndexMap;
+use std::alloc::Global;
+use std::marker::Model;
+use terms::Number;
+
+/// A replica's reply, as it is compared with others: the number of its state, and the bytes of its answer.
+#[derive(Drop)]
+pub(crate) struct Ballot {
+    number: Number,
+    text: Vec<u8>,
+}
+
+impl Model for Ballot {
+    ghost use Rattle.client_cert.specs.State as state;
+
+    ghost Value = { state.Ballot };
+
+    ghost coded = { state.ballot_code };
+
+    ghost view = { λ b. record { number = b.number.0; text = b.text.items } };
+}
+
+impl Ballot {
+    pub(crate) fn new(number: Number, text: Vec<u8>) -> Ballot
+        ensures { result ≡ record { number = number.0; text = text.items } }
+    {
+        Ballot { number, text }
+    }
+
+    pub(crate) fn copy(&self, alloc: Global) -> Result<Ballot, Stop>
+        ensures { IfOk result (λ b. b ≡ self.now) }
+    {
+        let text = Vec::from_slice(alloc, self.text.as_slice())?;
+        Ok(Ballot {
+            number: self.number,
+            text,
+        })
+    }
+
+    // Whether the other is alike in its answer.
+    fn is_like(&self, other: &Ballot) -> bool
+        ensures { result ≡ is_like self.now (Some other.now) }
+    {
+        other.text.as_slice() == self.text.as_slice()
+    }
+}
+
+/// The latest reply of each replica, in order of arrival.
+#[derive(Drop)]
+pub(crate) struct Ballots {
+    cast: IndexMap<u16, Ballot>,
+}
+
+impl Model for Ballots {
+    ghost use Rattle.client_cert.specs.State as state;
+
+    ghost Value = { state.Ballots };
+
+    ghost coded = { state.ballots_code };
+
+    ghost view = { λ b. b.cast.entries };
+}
+
+impl Ballots {
+    pub(crate) fn new(alloc: Global) -> Ballots
+        ensures { result ≡ [] }
+    {
+        Ballots {
+            cast: IndexMap::new(alloc),
+        }
+    }
+
+    /// Keeps a reply in place of that replica's earlier one.
+    pub(crate) fn note(&mut self, sender: u16, ballot: Ballot) -> Result<(), Stop>
+        ensures added { OnOk result (Adds self.old sender ballot self.new) }
+    {
+        match self.cast.insert(sender, ballot) {
+            Ok(_) => Ok(()),
+            Err(_) => Err(Stop::NoMemory),
+        }
+    }
+
+    /// How many of so many replicas gave the like of this reply.
+    pub(crate) fn count_like(&self, replicas: u16, ballot: &Ballot) -> u16
+        ensures { result ≡ count_like self.now replicas ballot.now }
+    {
+        let mut count = 0;
+        for replica in 0..replicas {
+            if self.has_like(replica, ballot) {
+                count += 1;
+            }
+        }
+        count
+    }
+
+    fn has_like(&self, replica: u16, ballot: &Ballot) -> bool
+        ensures { result ≡ is_like ballot.now (held self.now replica) }
+    {
+        match self.cast.get(&replica) {
+            Some(other) => ballot.is_like(other),
+            None => false,
+        }
+    }
+}

@@ -1,0 +1,128 @@
+//! An open call and the replies to it.
+
+ghost use Rattle.std.specs.Prelude.{◌≡◌, ◌+◌, ◌≤◌, false, [], IfOk, OnOk};
+ghost use Rattle.terms.specs.declared.order.Mode.TheVariants as modes;
+ghost use Rattle.tuple_codec.specs.OperationView.{operation_of};
+ghost use Rattle.protocol.specs.System.Frames.{same_mode};
+ghost use Rattle.client_cert.specs.Asking.{AsksWith};
+ghost use Rattle.client_cert.specs.State.{Takes, turn_of, went};
+ghost use Rattle.client_cert.specs.TurnView.{turn_is};
+
+use crate::asking::seal_request;
+use crate::ballots::{Ballot, Ballots};
+use authenticator::Ring;
+use events::Stop;
+use std::alloc::Global;
+use std::marker::Model;
+use terms::{ClientId, Mode, Timestamp};
+use tuple_codec::Op;
+
+/// What a reply leads to.
+#[derive(Clone, Copy, Drop)]
+pub(crate) enum Next {
+    Wait,
+    AskOrdered,
+    Accept,
+}
+
+/// A call that is not answered yet.
+#[derive(Drop)]
+pub(crate) struct Call {
+    op: Op<Global>,
+    /// Whether its request was sent ordered.
+    ordered: bool,
+    ordered_ballots: Ballots,
+    read_ballots: Ballots,
+}
+
+impl Model for Call {
+    ghost use Rattle.client_cert.specs.State.{CallState, call_code};
+
+    ghost Value = { CallState };
+
+    ghost coded = { call_code };
+
+    ghost use Rattle.tuple_codec.specs.OperationView.{operation_of};
+
+    ghost view = { λ c. record { op = operation_of c.op; ordered = c.ordered; ordered_ballots = c.ordered_ballots; read_ballots = c.read_ballots } };
+}
+
+impl Call {
+    pub(crate) fn new(alloc: Global, op: Op<Global>) -> Call
+        ensures { result ≡ record { op = operation_of op; ordered = false; ordered_ballots = []; read_ballots = [] } }
+    {
+        Call {
+            op,
+            ordered: false,
+            ordered_ballots: Ballots::new(alloc),
+            read_ballots: Ballots::new(alloc),
+        }
+    }
+
+    /// Keeps a reply in place of that replica's earlier one of the mode.
+    pub(crate) fn note(&mut self, sender: u16, mode: Mode, ballot: Ballot) -> Result<(), Stop>
+        ensures taken { OnOk result (Takes self.old mode sender ballot self.new) }
+    {
+        match mode {
+            Mode::Ordered => self.ordered_ballots.note(sender, ballot),
+            Mode::ReadOnly => self.read_ballots.note(sender, ballot),
+        }
+    }
+
+    /// What the newest reply leads to.
+    pub(crate) fn next(&self, faults: u8, mode: Mode, ballot: &Ballot) -> Next
+        requires few { faults ≤ 3 }
+        ensures turn { turn_is result (turn_of faults self.now mode ballot.now) }
+    {
+        let replicas = 3 * u16::from(faults) + 1;
+        if is_ordered(mode)
+            && self.ordered_ballots.count_like(replicas, ballot) >= u16::from(faults) + 1
+        {
+            Next::Accept
+        } else {
+            Next::Wait
+        }
+    }
+}
+
+pub(crate) fn is_ordered(mode: Mode) -> bool
+    ensures { result ≡ same_mode mode modes.Ordered }
+{
+    match mode {
+        Mode::Ordered => true,
+        Mode::ReadOnly => false,
+    }
+}
+
+/// The call, which comes back, and its request, sealed for all replicas. At an error the call is as it was, but that it
+/// counts as sent.
+pub(crate) fn request(
+    ring: &mut Ring,
+    alloc: Global,
+    client: ClientId,
+    faults: u8,
+    timestamp: Timestamp,
+    mode: Mode,
+    call: Call,
+) -> (Call, Result<Vec<u8>, Stop>)
+    requires faults { faults ≡ ring.old.faults }
+    requires few { faults ≤ 3 }
+    ensures sealed { IfOk result.1 (λ text. AsksWith ring.old (256 + client.number) mode timestamp.0 call.op text.items) }
+    ensures went { result.0 ≡ went mode call }
+    ensures same { ring.new ≡ ring.old }
+{
+    let Call {
+        op,
+        ordered,
+        ordered_ballots,
+        read_ballots,
+    } = call;
+    let (op, sealed) = seal_request(ring, alloc, client, faults, timestamp, mode, op);
+    let call = Call {
+        op,
+        ordered: is_ordered(mode) || ordered,
+        ordered_ballots,
+        read_ballots,
+    };
+    (call, sealed)
+}

@@ -1,0 +1,284 @@
+//! A client over frames.
+
+ghost use Rattle.std.specs.Prelude.{◌≡◌, ◌↔◌, ◌≤◌, ◌<◌, ◌^◌, ◌⊎◌, suc, true, false, [], IfOk, OnErr, is_some};
+ghost use Rattle.tuple_codec.specs.OperationView.{operation_of};
+ghost use Rattle.protocol.specs.System.Configuration.{Configuration, members};
+ghost use Rattle.protocol.specs.System.Trace.Entry.{Invoke, Got, Tick};
+ghost use Rattle.client_cert.specs.State.{me_of, called};
+ghost use Rattle.client_cert.specs.Fits.{Fits};
+ghost use Rattle.client_cert.specs.Steps.{Leads, input_of, Keeps, Asks};
+
+use crate::asking::{all_replicas, first_mode, note_op};
+use crate::call::{Call, request};
+use crate::hearing::{Turned, weigh};
+use authenticator::Ring;
+use events::{Output, Outputs, Stop, give};
+use signing::PublicKeys;
+use std::alloc::Global;
+use std::marker::Model;
+use terms::{ClientId, Mode, Timestamp};
+use thiserror::Error;
+use tuple_codec::Op;
+
+/// How many calls a client makes at the most.
+const MAX_CALLS: u64 = 1 << 62;
+
+/// What a client takes.
+#[derive(Drop)]
+pub enum Event<'a> {
+    /// These bytes came.
+    Got(&'a [u8]),
+    /// The open call's request is to go again.
+    Retry,
+}
+
+/// Why a call was not made, or nothing was sent for it.
+#[derive(Clone, Copy, Debug, PartialEq, Eq, Error)]
+pub enum InvokeFault {
+    /// A call is open.
+    #[error("a call is open")]
+    Busy,
+    /// The client had stopped, or has no timestamp left.
+    #[error("stopped")]
+    Stopped,
+    /// There was no room for the request, and the client stopped.
+    #[error("out of memory")]
+    NoMemory,
+}
+
+/// A client, which has one call at a time.
+#[derive(Drop)]
+pub struct Client {
+    id: ClientId,
+    faults: u8,
+    ring: Ring,
+    publics: PublicKeys,
+    calls: u64,
+    call: Option<Call>,
+    stopped: bool,
+}
+
+impl Model for Client {
+    ghost use Rattle.std.specs.Prelude.{◌≡◌, ◌≤◌, ◌+◌, ◌^◌, false, is_some};
+    ghost use Rattle.client_cert.specs.State.{ClientState, client_code};
+
+    ghost Value = { ClientState };
+
+    ghost coded = { client_code };
+
+    ghost view = { λ a. record { number = a.id.number; membership = a.ring; calls = a.calls; call = a.call; stopped = a.stopped } };
+
+    ghost invariant = { λ a. (a.faults ≡ a.ring.faults) × (a.faults ≤ 3) × (a.publics ≡ a.ring.seed) × (a.calls ≤ 2 ^ 62 + 1) × (a.stopped ≡ false → a.calls ≤ 2 ^ 62) × (is_some a.call ≡ false → a.calls ≤ 2 ^ 62) };
+}
+
+impl Client {
+    /// A client that made no call. Up to `faults` replicas, 1 to 3, may be faulty; the ring and the public keys are of
+    /// one seed.
+    #[tactic(auto, using(crate::proofs::Fitting::fits_new))]
+    pub fn new(client: ClientId, faults: u8, ring: Ring, publics: PublicKeys) -> Client
+        requires faults { faults ≡ ring.faults }
+        requires few { faults ≤ 3 }
+        requires keys { publics ≡ ring.seed }
+        ensures fits { (c : Configuration) → members c ≡ ring → Fits c result [] }
+        ensures number { result.number ≡ client.number }
+        ensures runs { result.stopped ≡ false }
+    {
+        Client {
+            id: client,
+            faults,
+            ring,
+            publics,
+            calls: 0,
+            call: None,
+            stopped: false,
+        }
+    }
+
+    /// Whether a call is open.
+    pub fn is_open(&self) -> bool
+        ensures value { result ≡ is_some self.now.call }
+    {
+        self.call.is_some()
+    }
+
+    /// Whether the client has stopped.
+    pub fn is_stopped(&self) -> bool
+        ensures value { result ≡ self.now.stopped }
+    {
+        self.stopped
+    }
+
+    /// Calls an operation, with the next timestamp, and asks all replicas for it.
+    ///
+    /// # Errors
+    ///
+    /// The first that applies. Busy comes exactly where a call is open, and changes nothing. Stopped comes where the
+    /// client had stopped, or made 2^62 calls, and NoMemory where there is no room for the request. At both the call
+    /// counts as made: it is open, and the client has stopped.
+    #[tactic(auto, using(crate::proofs::Calling::call_leads, crate::proofs::Calling::call_ends, crate::proofs::Calling::call_fails))]
+    pub fn invoke(&mut self, alloc: Global, op: Op<Global>) -> Result<Outputs, InvokeFault>
+        ensures leads { IfOk result (λ outs. Leads self.old (Invoke self.old.number (suc self.old.calls) (operation_of op)) outs.items self.new) }
+        ensures busy { (result ≡ Err InvokeFault.Busy) ↔ (is_some self.old.call ≡ true) }
+        ensures same { result ≡ Err InvokeFault.Busy → self.new ≡ self.old }
+        ensures stops { OnErr result (is_some self.old.call ≡ false → Leads self.old (Invoke self.old.number (suc self.old.calls) (operation_of op)) [] self.new) }
+        ensures number { self.new.number ≡ self.old.number }
+    {
+        if self.call.is_some() {
+            return Err(InvokeFault::Busy);
+        }
+        note_op(&op);
+        let mode = first_mode();
+        if self.stopped || self.calls >= MAX_CALLS {
+            self.stopped = true;
+            self.begin(alloc, op);
+            return Err(InvokeFault::Stopped);
+        }
+        self.begin(alloc, op);
+        match self.ask(alloc, mode) {
+            Ok(outputs) => Ok(outputs),
+            Err(_) => {
+                self.stopped = true;
+                Err(InvokeFault::NoMemory)
+            }
+        }
+    }
+
+    // A call begins.
+    fn begin(&mut self, alloc: Global, op: Op<Global>)
+        requires none { is_some self.old.call ≡ false }
+        requires room { self.old.stopped ≡ false → self.old.calls < 2 ^ 62 }
+        ensures { self.new ≡ called (suc self.old.calls) (operation_of op) self.old }
+    {
+        self.calls += 1;
+        self.call = Some(Call::new(alloc, op));
+    }
+
+    /// What the client gives for its next input.
+    ///
+    /// # Errors
+    ///
+    /// NoMemory where memory runs out, with which the client stops, and Stopped where it had stopped before.
+    #[tactic(auto, using(crate::proofs::Stepping::stops_got, crate::proofs::Stepping::stops_tick))]
+    pub fn step(&mut self, alloc: Global, event: Event<'_>) -> Result<Outputs, Stop>
+        ensures leads { IfOk result (λ outs. Leads self.old (input_of (me_of self.old) event.entry) outs.items self.new) }
+        ensures stops { OnErr result (Leads self.old (input_of (me_of self.old) event.entry) [] self.new) }
+        ensures stopped { OnErr result (self.new.stopped ≡ true) }
+        ensures number { self.new.number ≡ self.old.number }
+    {
+        if self.stopped {
+            return Err(Stop::Stopped);
+        }
+        match event {
+            Event::Got(bytes) => match self.got(alloc, bytes) {
+                Ok(outputs) => Ok(outputs),
+                Err(stop) => {
+                    self.stopped = true;
+                    Err(stop)
+                }
+            },
+            Event::Retry => match self.retry(alloc) {
+                Ok(outputs) => Ok(outputs),
+                Err(stop) => {
+                    self.stopped = true;
+                    Err(stop)
+                }
+            },
+        }
+    }
+
+    // Bytes that come to a client that goes on.
+    #[tactic(auto, using(crate::proofs::Calling::got_none_leads, crate::proofs::Calling::got_nothing_leads, crate::proofs::Calling::got_answer_leads, crate::proofs::Calling::got_asks_leads))]
+    fn got(&mut self, alloc: Global, bytes: &[u8]) -> Result<Outputs, Stop>
+        requires { self.old.stopped ≡ false }
+        ensures leads { IfOk result (λ outs. Leads self.old (Got (me_of self.old) bytes.now) outs.items self.new) }
+        ensures keeps { OnErr result (Keeps self.old self.new) }
+        ensures number { self.new.number ≡ self.old.number }
+    {
+        match self.call.take() {
+            None => Ok(Vec::new(alloc)),
+            Some(taken) => {
+                let mut call = taken;
+                let turned = weigh(
+                    &mut self.ring,
+                    &self.publics,
+                    alloc,
+                    self.id,
+                    self.faults,
+                    Timestamp(self.calls),
+                    &mut call,
+                    bytes,
+                );
+                match turned {
+                    Err(stop) => {
+                        self.call = Some(call);
+                        Err(stop)
+                    }
+                    Ok(Turned::Nothing) => {
+                        self.call = Some(call);
+                        Ok(Vec::new(alloc))
+                    }
+                    Ok(Turned::Ask) => {
+                        self.call = Some(call);
+                        let outputs = self.ask(alloc, Mode::Ordered)?;
+                        Ok(outputs)
+                    }
+                    Ok(Turned::Accept(answer)) => {
+                        let mut outputs = Vec::new(alloc);
+                        match give(
+                            &mut outputs,
+                            Output::Accepted(Timestamp(self.calls), answer),
+                        ) {
+                            Ok(()) => Ok(outputs),
+                            Err(stop) => {
+                                self.call = Some(call);
+                                Err(stop)
+                            }
+                        }
+                    }
+                }
+            }
+        }
+    }
+
+    // The open call's request, if there is one, of a client that goes on.
+    #[tactic(auto, using(crate::proofs::Calling::retry_none_leads, crate::proofs::Calling::retry_leads))]
+    fn retry(&mut self, alloc: Global) -> Result<Outputs, Stop>
+        requires { self.old.stopped ≡ false }
+        ensures leads { IfOk result (λ outs. Leads self.old (Tick (me_of self.old)) outs.items self.new) }
+        ensures keeps { OnErr result (Keeps self.old self.new) }
+        ensures number { self.new.number ≡ self.old.number }
+    {
+        if self.call.is_none() {
+            return Ok(Vec::new(alloc));
+        }
+        let outputs = self.ask(alloc, Mode::Ordered)?;
+        Ok(outputs)
+    }
+
+    // The open call's request.
+    fn ask(&mut self, alloc: Global, mode: Mode) -> Result<Outputs, Stop>
+        requires { is_some self.old.call ≡ true }
+        ensures asked { IfOk result (λ outs. Asks self.old mode outs.items self.new) }
+        ensures keeps { OnErr result (Keeps self.old self.new) }
+        ensures same { (self.new.number ≡ self.old.number) × (self.new.stopped ≡ self.old.stopped) }
+    {
+        let Some(call) = self.call.take() else {
+            unreachable!();
+        };
+        let (call, sealed) = request(
+            &mut self.ring,
+            alloc,
+            self.id,
+            self.faults,
+            Timestamp(self.calls),
+            mode,
+            call,
+        );
+        self.call = Some(call);
+        let text = sealed?;
+        let receivers = all_replicas(alloc, 3 * self.faults + 1)?;
+        let mut outputs = Vec::new(alloc);
+        give(&mut outputs, Output::Send(receivers, text))?;
+        Ok(outputs)
+    }
+}

@@ -1,0 +1,165 @@
+//! What a client hears.
+
+ghost use Rattle.std.specs.Prelude.{◌≡◌, ◌+◌, ◌==◌, ◌≤◌, IfOk, option_map, slice_index};
+ghost use Rattle.tuple_codec.specs.Spelling.{outcome_spelling};
+ghost use Rattle.tuple_codec.specs.OperationView.{outcome_of};
+ghost use Rattle.signing.specs.Heard.{heard};
+ghost use Rattle.client_cert.specs.Steps.{Weighs, reaction_of};
+ghost use Rattle.client_cert.specs.Hearing.{Answers, Hears, frame_body};
+
+use crate::ballots::Ballot;
+use crate::call::{Call, Next};
+use authenticator::Ring;
+use events::Stop;
+use signing::{HearFault, HeardFrame, PublicKeys, hear};
+use std::alloc::Global;
+use terms::{ClientId, Mode, Number, Party, Timestamp};
+use tuple_codec::{Answer, encode_result};
+use wire::{Body, Frame, Message, Reply};
+
+/// A reply to the open call.
+#[derive(Drop)]
+pub(crate) struct Heard {
+    pub(crate) sender: u16,
+    pub(crate) mode: Mode,
+    pub(crate) number: Number,
+    pub(crate) answer: Answer<Global>,
+}
+
+/// What bytes lead to.
+#[derive(Drop)]
+pub(crate) enum Turned {
+    Nothing,
+    Ask,
+    Accept(Answer<Global>),
+}
+
+/// Weighs bytes that came against the open call.
+pub(crate) fn weigh(
+    ring: &mut Ring,
+    publics: &PublicKeys,
+    alloc: Global,
+    client: ClientId,
+    faults: u8,
+    timestamp: Timestamp,
+    call: &mut Call,
+    bytes: &[u8],
+) -> Result<Turned, Stop>
+    requires keys { publics.now ≡ ring.old.seed }
+    requires faults { faults ≡ ring.old.faults }
+    requires few { faults ≤ 3 }
+    ensures weighs { IfOk result (λ t. Weighs ring.old (256 + client.number) timestamp.0 call.old bytes.now call.new (reaction_of timestamp.0 call.new t)) }
+    ensures same { ring.new ≡ ring.old }
+{
+    match hear_reply(ring, publics, alloc, client, timestamp, bytes)? {
+        None => Ok(Turned::Nothing),
+        Some(heard) => {
+            let Heard {
+                sender,
+                mode,
+                number,
+                answer,
+            } = heard;
+            let ballot = ballot_of(alloc, number, &answer)?;
+            let kept = ballot.copy(alloc)?;
+            call.note(sender, mode, kept)?;
+            match call.next(faults, mode, &ballot) {
+                Next::Accept => Ok(Turned::Accept(answer)),
+                Next::AskOrdered => Ok(Turned::Ask),
+                Next::Wait => Ok(Turned::Nothing),
+            }
+        }
+    }
+}
+
+// The reply to the client's call of this timestamp that the bytes are, if they are one. The type is tested first: what
+// is no reply is not looked at.
+fn hear_reply(
+    ring: &mut Ring,
+    publics: &PublicKeys,
+    alloc: Global,
+    client: ClientId,
+    timestamp: Timestamp,
+    bytes: &[u8],
+) -> Result<Option<Heard>, Stop>
+    requires keys { publics.now ≡ ring.old.seed }
+    ensures hears { IfOk result (Hears (256 + client.number) timestamp.0 (heard ring.old (256 + client.number) bytes.now)) }
+    ensures same { ring.new ≡ ring.old }
+{
+    if !has_reply_type(bytes) {
+        return Ok(None);
+    }
+    match hear_frame(ring, publics, alloc, client, bytes)? {
+        None => Ok(None),
+        Some(frame) => {
+            let Frame {
+                body,
+                authenticator: _,
+            } = frame;
+            let Body { sender, message } = body;
+            match message {
+                Message::Reply(reply) => Ok(reply_to(client, timestamp, sender.number(), reply)),
+                _ => Ok(None),
+            }
+        }
+    }
+}
+
+// Whether the type at byte 4 is that of replies.
+fn has_reply_type(bytes: &[u8]) -> bool
+    ensures { result ≡ slice_index bytes.now 4 == 0x48 }
+{
+    match bytes {
+        [_, _, _, _, 0x48, ..] => true,
+        _ => false,
+    }
+}
+
+// The frame that the client hears from the bytes, if it hears one.
+fn hear_frame(
+    ring: &mut Ring,
+    publics: &PublicKeys,
+    alloc: Global,
+    client: ClientId,
+    bytes: &[u8],
+) -> Result<Option<Frame>, Stop>
+    requires keys { publics.now ≡ ring.old.seed }
+    ensures heard { IfOk result (λ f. heard ring.old (256 + client.number) bytes.now ≡ option_map frame_body f) }
+    ensures same { ring.new ≡ ring.old }
+{
+    match hear(alloc, ring, publics, bytes, Party::Client(client)) {
+        Ok(heard) => {
+            let HeardFrame { bytes: _, frame } = heard;
+            Ok(Some(frame))
+        }
+        Err(fault) => match fault {
+            HearFault::NoMemory => Err(Stop::NoMemory),
+            _ => Ok(None),
+        },
+    }
+}
+
+// The reply, if it is to the client's call of this timestamp.
+fn reply_to(client: ClientId, timestamp: Timestamp, sender: u16, reply: Reply) -> Option<Heard>
+    ensures { Answers (256 + client.number) timestamp.0 sender reply result }
+{
+    if reply.client.number != client.number || reply.timestamp.0 != timestamp.0 {
+        return None;
+    }
+    Some(Heard {
+        sender,
+        mode: reply.kind,
+        number: reply.number,
+        answer: reply.answer,
+    })
+}
+
+fn ballot_of(alloc: Global, number: Number, answer: &Answer<Global>) -> Result<Ballot, Stop>
+    ensures { IfOk result (λ b. b ≡ record { number = number.0; text = outcome_spelling (outcome_of answer.now) }) }
+{
+    let mut text = Vec::new(alloc);
+    match encode_result(answer, &mut text) {
+        Ok(()) => Ok(Ballot::new(number, text)),
+        Err(_) => Err(Stop::NoMemory),
+    }
+}

@@ -1,0 +1,8 @@
+//! Tests of a client over frames (`client_cert`) and of what the parties share (`events`): a call from its request to
+//! its answer, replies that don't count, a call that is refused, memory refused, and which configurations there are.
+#![tactic(auto)]
+
+#[cfg(test)]
+mod calls;
+#[cfg(test)]
+mod configurations;

@@ -1,0 +1,20 @@
+-- The test of a configuration. The contracts of private functions speak of it.
+use Rattle.std.specs.Prelude.{ℕ, Bool, true, ◌&&◌, not, List, [], ◌∷◌, length, nat_le, nat_lt}
+use Rattle.quorum.specs.Quorum.{member}
+use Rattle.protocol.specs.System.Configuration.{Configuration, replicas}
+
+-- the numbers are below the bound, and none stands twice
+abbrev pub each_once : ℕ → List ℕ → Bool
+each_once bound [] = true
+each_once bound (x ∷ xs) = (nat_lt x bound && not (member xs x)) && each_once bound xs
+
+abbrev pub is_within : ℕ → ℕ → Bool
+is_within most n = nat_le 1 n && nat_le n most
+
+-- the configuration is valid, its seed apart
+abbrev pub is_configuration : Configuration → Bool
+is_configuration c =
+    ((((is_within 3 c.faults && is_within 256 c.clients) && is_within 16 c.period)
+    && nat_le (length c.faulty_replicas) c.faults)
+    && each_once (replicas c) c.faulty_replicas)
+    && each_once c.clients c.faulty_clients

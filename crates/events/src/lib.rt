@@ -1,0 +1,15 @@
+//! What the parties of the replicated space share: the configuration, the entries of traces, and what a step gives.
+//!
+//! # What is proved
+//!
+//! [`Config::new`] makes exactly the valid configurations, and its readers answer what the definitions ask of a configuration. An [`Entry`]
+//! is the protocol's entry, and an [`Output`] of a party is the entry that it puts into the party's history.
+#![tactic(auto)]
+
+mod config;
+mod entry;
+mod output;
+
+pub use config::{BadConfig, Config};
+pub use entry::{Entry, EntryKind};
+pub use output::{Output, Outputs, Stop, give};
