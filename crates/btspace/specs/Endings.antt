@@ -1,5 +1,5 @@
 -- What a run over a reader's bytes leaves with its writer.
-use Rattle.std.specs.Prelude.{◌≡◌, ℕ, List, [], ◌++◌, Option, Some, Result, MatchResult, Contains}
+use Rattle.std.specs.Prelude.{◌≡◌, ℕ, List, [], ◌++◌, Option, Some, IfSome, Result, MatchResult, Contains}
 use Rattle.tuple_tree.specs.Values.{TupleTree}
 use Rattle.std.specs.Str.Lines.{lines}
 use Rattle.std.specs.Io.KnownBytes.{Appends}
@@ -26,6 +26,12 @@ StopsBy (Write error) bytes old new pending = Unit {0}
 abbrev pub EndsRun : Result (Unit {0}) LocalFault → List ℕ → Option (List ℕ) → Option (List ℕ) → List ℕ → Type 0
 EndsRun result bytes old new pending =
     MatchResult result (λ _. AddsResults bytes complete old new pending) (λ fault. StopsBy fault bytes old new pending)
+
+-- A run over the reader's bytes ends, where they are known.
+abbrev pub EndsKnown : {W : Type 0} → (W → Option (List ℕ)) → Result (Unit {0}) LocalFault
+    → Option (List ℕ) → W → W → List ℕ → Type 0
+EndsKnown contents result known old new pending =
+    IfSome known (λ bytes. EndsRun result bytes (contents old) (contents new) pending)
 
 -- the fault of a line of this number
 abbrev pub fault_at : ℕ → NoLine → LocalFault

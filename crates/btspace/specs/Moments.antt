@@ -1,5 +1,5 @@
 -- What the private functions of a run speak of: the run between two of its lines.
-use Rattle.std.specs.Prelude.{◌≡◌, ℕ, ◌+◌, ◌^◌, Bool, MatchBool, List, ◌++◌, Option, IfSome, Result, OnOk, MatchResult, Vec}
+use Rattle.std.specs.Prelude.{◌≡◌, ℕ, ◌+◌, ◌^◌, Bool, MatchBool, List, ◌++◌, Option, Result, OnOk, MatchResult, Vec}
 use Rattle.std.specs.Io.KnownBytes.{Appends}
 use Rattle.std.specs.declared.alloc.Global.{Global}
 use Rattle.tuple_tree.specs.Values.{TupleTree}
@@ -41,12 +41,6 @@ abbrev pub EndsLines : Result (Unit {0}) LocalFault → Moment → Moment → Ty
 EndsLines result old new =
     (bytes : List ℕ) (start : Option (List ℕ)) → IsAt bytes start (2 ^ 48) old
     → EndsRun result bytes start new.written new.pending
-
--- A run over the reader's bytes ends, where they are known.
-abbrev pub EndsKnown : {W : Type 0} → (W → Option (List ℕ)) → Result (Unit {0}) LocalFault
-    → Option (List ℕ) → W → W → List ℕ → Type 0
-EndsKnown contents result known old new pending =
-    IfSome known (λ bytes. EndsRun result bytes (contents old) (contents new) pending)
 
 -- The result line of the operation is put behind the others.
 abbrev pub AddsResult : {A : Type 0} → Op A → SpaceState → Vec ℕ Global → Vec ℕ Global → Type 0

@@ -4,8 +4,8 @@ ghost use Rattle.std.specs.Prelude.{◌≡◌, ◌^◌, ◌<◌, ◌≤◌, ◌+
 ghost use Rattle.std.specs.Io.Buffered.{reader_buffer, reader_remaining};
 ghost use Rattle.tuple_codec.specs.OperationView.{operation_of};
 ghost use Rattle.space.specs.Births.{Follows, TuplesFollow, empty_state};
-ghost use Rattle.btspace.specs.Endings.{HeldForLine, IsWriteFault, fault_at, read_fault_of};
-ghost use Rattle.btspace.specs.Moments.{moment_of, RunsLine, EndsLines, EndsKnown, AddsResult, WritesDue, WritesAll};
+ghost use Rattle.btspace.specs.Endings.{EndsKnown, HeldForLine, IsWriteFault, fault_at, read_fault_of};
+ghost use Rattle.btspace.specs.Moments.{moment_of, RunsLine, EndsLines, AddsResult, WritesDue, WritesAll};
 
 use crate::input::{NextLine, NoLine, has_line, next_line};
 use crate::pieces::ReadFault;

@@ -56,14 +56,6 @@ pub record IsPageRead (page next : ℕ) (text : List ℕ) (old new : List Entry)
   pub spelled : text ≡ entries_text (on_page page new)
   pub others : (p : ℕ) → p ≢ page → on_page p new ≡ on_page p old
 
-abbrev pub ReadsPage : {V : Type 0} → ℕ → ℕ → List ℕ → Result V Bad → List Entry → List Entry → Type 0
-ReadsPage page next text result old new = OnOk result (IsPageRead page next text old new)
-
--- The text of a page is refused for want of memory alone.
-abbrev pub ReadsEachPage : {V : Type 0} → ℕ → ℕ → List ℕ → Result V Bad → Type 0
-ReadsEachPage page next text result =
-    (es : List Entry) → IsPage page next es → text ≡ entries_text es → IfErr result (λ fault. fault ≡ NoMemory)
-
 -- the same of the front of the text: least is the least birth that may follow
 pub record IsFrontRead
     (page next : ℕ) (text : List ℕ) (old new : List Entry) (rest : List ℕ) (count least : ℕ)
@@ -75,6 +67,15 @@ pub record IsFrontRead
   pub counted : count ≡ length (on_page page new)
   pub above : All (λ e. e.0 < least) (on_page page new)
   pub tight : (n : ℕ) → All (λ e. e.0 < n) (on_page page new) → least ≤ n
+
+-- The tuples of the page were added, where it was read.
+abbrev pub ReadsPage : {V : Type 0} → ℕ → ℕ → List ℕ → Result V Bad → List Entry → List Entry → Type 0
+ReadsPage page next text result old new = OnOk result (IsPageRead page next text old new)
+
+-- The text of a page is refused for want of memory alone.
+abbrev pub ReadsEachPage : {V : Type 0} → ℕ → ℕ → List ℕ → Result V Bad → Type 0
+ReadsEachPage page next text result =
+    (es : List Entry) → IsPage page next es → text ≡ entries_text es → IfErr result (λ fault. fault ≡ NoMemory)
 
 -- a header of these numbers
 pub record IsHeader (header : List ℕ) (number next : ℕ) : Type 0 where
