@@ -1,5 +1,5 @@
 -- The calls of frames.
-use Rattle.std.proofs.Common.{◌≡◌, ℕ, zero, suc, ◌^◌, ◌<◌, ◌≤◌, List, [], ◌∷◌, length, map, get_or, Bor, Option, refl, sym, ap, ◌∙◌, subst, arith}
+use Rattle.std.proofs.Common.{◌≡◌, ℕ, ◌^◌, ◌<◌, ◌≤◌, List, [], ◌∷◌, length, Option, refl, sym, ap, ◌∙◌, subst, arith}
 use Rattle.std.specs.Prelude.{option_and_then}
 use Rattle.tuple_tree.specs.Values.{AreBytes}
 use Rattle.wire.specs.Headers.{IsFrame}
@@ -9,7 +9,7 @@ use Rattle.wire.specs.Spelling.{SpellsFrame}
 use Rattle.wire.specs.Words.{requests_of}
 use Rattle.wire.proofs.Saying.{reads_said}
 use Rattle.wire.proofs.Telling.{carries_frames, reads_batches}
-use Rattle.protocol.specs.Replica.State.{Call, call_in, call_of}
+use Rattle.protocol.specs.Replica.State.{Call, call_in}
 use Rattle.execution.specs.Calls.{IsCallIn, IsCallOf}
 
 -- the call of a frame is that of its body
@@ -27,4 +27,3 @@ requests_are_frames text bytes = go (requests_of text) refl
         let some : 1 ≤ length (requests_of text) = omega (arith, ap length e) in
         let small : 0 < 2 ^ 64 = omega arith in
         carries_frames (pre_prepare 0 0 text) (small, small, reads_batches text bytes some)
-

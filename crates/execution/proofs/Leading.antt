@@ -1,45 +1,19 @@
 -- What frames run.
-use Rattle.std.proofs.Common.{◌≡◌, ℕ, suc, ◌+◌, ◌≤◌, ◌<◌, true, false, List, [], ◌∷◌, ◌++◌, map, drop, get_or, length, Bor, Option, Some, None, refl, sym, ap, ◌∙◌, subst, append-nil, append_assoc, drop-cons, add-one}
-use Rattle.std.specs.Prelude.{fold, nat_lt}
-use Rattle.std.proofs.lemmas.Bool.{lt-ltb, le-ltb}
+use Rattle.std.proofs.Common.{◌≡◌, ℕ, suc, ◌+◌, ◌≤◌, ◌<◌, List, [], ◌++◌, map, drop, get_or, length, Bor, sym, ap, ◌∙◌, subst, append-nil, append_assoc, drop-cons, add-one}
+use Rattle.std.specs.Prelude.{fold}
 use Rattle.std.proofs.lemmas.List.{map-append}
 use Rattle.tuple_codec.specs.Operations.{Operation}
-use Rattle.space.specs.Applying.{outcome}
-use Rattle.space.specs.Births.{IsState as IsSpace, SpaceState, state_after, tuples_of}
-use Rattle.space.specs.Watching.{WatchedState, TouchesChanges}
+use Rattle.space.specs.Births.{SpaceState, state_after}
+use Rattle.space.specs.Watching.{WatchedState}
 use Rattle.space.proofs.Batches.{next_after}
-use Rattle.reply_cache.specs.Replies.{Kept, Replies, seen_of, with_reply, AreReplies}
 use Rattle.wire.specs.Words.{requests_of}
 use Rattle.protocol.specs.System.Configuration.{Configuration}
-use Rattle.protocol.specs.Replica.State.{State, Call, run_frame, ran_in, execute}
-use Rattle.execution.specs.Calls.{IsCallOf}
+use Rattle.protocol.specs.Replica.State.{State, run_frame, ran_in, execute}
 use Rattle.execution.specs.Executed.{ExecutedData, Executes, told_of}
 use Rattle.execution.specs.Running.{SoFar, state_with, state_of, frame_ran, Runs, RunsAll}
-use Rattle.execution.specs.Touching.{RepliesState, TouchesReplies, Changes}
+use Rattle.execution.specs.Touching.{RepliesState, Changes}
 
 -- ---- one frame
-
-pub runs_nothing : (clients number : ℕ) (frame : List ℕ) (x : SoFar) → IsCallOf clients frame None → Runs clients number frame x x
-runs_nothing clients number frame x h =
-    λ c n e. record { state = rw (h c e) refl; told = rw (h c e) (sym (append-nil x.told)) }
-
-pub skips : (clients number : ℕ) (frame : List ℕ) (call : Call) (x : SoFar) → IsCallOf clients frame (Some call)
-    → call.timestamp ≤ seen_of x.replies call.client → Runs clients number frame x x
-skips clients number frame call x h l =
-    let k : nat_lt (seen_of x.replies call.client) call.timestamp ≡ false = le-ltb (seen_of x.replies call.client) call.timestamp l in
-    λ c n e. record { state = rw (h c e, k) refl; told = rw (h c e, k) (sym (append-nil x.told)) }
-
-pub runs : (clients number : ℕ) (frame : List ℕ) (call : Call) (x y : SoFar) → IsCallOf clients frame (Some call)
-    → seen_of x.replies call.client < call.timestamp → y.space ≡ state_after x.space call.op
-    → y.replies ≡ with_reply x.replies call.client (record { timestamp = call.timestamp; number = number; outcome = outcome (tuples_of x.space) call.op })
-    → y.told ≡ x.told ++ (call.client, record { timestamp = call.timestamp; number = number; outcome = outcome (tuples_of x.space) call.op }) ∷ []
-    → Runs clients number frame x y
-runs clients number frame call x y h l space replies told =
-    let w : nat_lt (seen_of x.replies call.client) call.timestamp ≡ true = lt-ltb (seen_of x.replies call.client) call.timestamp l in
-    λ c n e. record {
-      state = rw (h c e, w) (ap (λ (s : SpaceState). state_with n s y.replies) space ∙ ap (state_with n (state_after x.space call.op)) replies);
-      told = rw (h c e, w) told;
-    }
 
 -- ---- frames one after another
 
@@ -52,9 +26,6 @@ pub record Left (clients number : ℕ) (xs : List (Bor (List ℕ))) (x y : SoFar
       → fold (run_frame c number) (state_of n x) (texts xs) ≡ fold (run_frame c number) (state_of n y) (texts (drop i xs))
   pub tells : (c : Configuration) (n : ℕ) → c.clients ≡ clients
       → x.told ++ map told_of (ran_in c number (state_of n x) (texts xs)) ≡ y.told ++ map told_of (ran_in c number (state_of n y) (texts (drop i xs)))
-
-pub starts : (clients number : ℕ) (xs : List (Bor (List ℕ))) (x : SoFar) → Left clients number xs x x 0
-starts clients number xs x = record { states = λ c n e. refl; tells = λ c n e. refl }
 
 pub goes_on : (clients number : ℕ) (xs : List (Bor (List ℕ))) (x y z : SoFar) (i : ℕ) (d : Bor (List ℕ)) → i < length xs
     → Left clients number xs x y i → Runs clients number (get_or xs i d).now y z → Left clients number xs x z (i + 1)
@@ -89,9 +60,9 @@ unfolding execute
 executes old new number batch frames x y was none same next is run = λ c e.
     let k = run c old.state.number e in
     let a : state_of old.state.number y ≡ fold (run_frame c (suc old.state.number)) old.state (requests_of batch) =
-        k.state ∙ ap (λ (m : ℕ). fold (run_frame c m) (state_of old.state.number x) frames) next
-        ∙ ap (λ fs. fold (run_frame c (suc old.state.number)) (state_of old.state.number x) fs) same
-        ∙ ap (λ (s : State). fold (run_frame c (suc old.state.number)) s (requests_of batch)) was in
+    k.state ∙ ap (λ (m : ℕ). fold (run_frame c m) (state_of old.state.number x) frames) next
+    ∙ ap (λ fs. fold (run_frame c (suc old.state.number)) (state_of old.state.number x) fs) same
+    ∙ ap (λ (s : State). fold (run_frame c (suc old.state.number)) s (requests_of batch)) was in
     record {
       state = is ∙ ap (λ (m : ℕ). state_with m y.space y.replies) next ∙ ap (λ (s : State). let t : State = record s { number = suc old.state.number } in t) a;
       ran = k.told ∙ ap (λ ts. ts ++ map told_of (ran_in c number (state_of old.state.number x) frames)) none
@@ -101,16 +72,6 @@ executes old new number batch frames x y was none same next is run = λ c e.
     }
 
 -- ---- what changes
-
-pub changes_none : (w : WatchedState) (r : RepliesState) → Changes w r w r
-changes_none w r = record { space = λ page l h. (h, refl); replies = λ client l h. (h, refl); is_space = λ h. h; are_replies = λ h. h }
-
-pub changes_space : (w w' : WatchedState) (r : RepliesState) → TouchesChanges w w' → IsSpace w'.state → Changes w r w' r
-changes_space w w' r touches is = record { space = touches; replies = λ client l h. (h, refl); is_space = λ h. is; are_replies = λ h. h }
-
-pub changes_both : (w w' : WatchedState) (r r' : RepliesState) → TouchesChanges w w' → IsSpace w'.state
-    → TouchesReplies r r' → AreReplies r'.replies → Changes w r w' r'
-changes_both w w' r r' touches is replies are = record { space = touches; replies = replies; is_space = λ h. is; are_replies = λ h. are }
 
 pub changes_on : (w w' w'' : WatchedState) (r r' r'' : RepliesState) → Changes w r w' r' → Changes w' r' w'' r'' → Changes w r w'' r''
 changes_on w w' w'' r r' r'' one two = record {

@@ -1,14 +1,12 @@
 -- Pages that are renewed.
-use Rattle.std.proofs.Common.{◌≡◌, ◌≢◌, ℕ, zero, suc, ◌+◌, ◌-◌, ◌≤◌, ◌<◌, ◌⊎◌, inl, inr, Bool, true, false, cond, List, [], ◌∷◌, ◌++◌, length, map, get_or, refl, sym, ap, ◌∙◌, subst, arith, ◌==◌, eqb-true}
+use Rattle.std.proofs.Common.{◌≡◌, ◌≢◌, ℕ, zero, suc, ◌+◌, ◌-◌, ◌≤◌, ◌<◌, ◌⊎◌, inl, inr, Bool, true, false, List, [], ◌∷◌, ◌++◌, length, map, get_or, refl, sym, ap, ◌∙◌, subst, arith, ◌==◌, eqb-true}
 use Rattle.std.specs.Prelude.{nat_lt}
 use Rattle.std.specs.List.{All, range_with_len}
 use Rattle.std.proofs.lemmas.Bool.{cases_eq, lt-ltb, le-ltb, ltb-true, ltb-false}
 use Rattle.std.proofs.lemmas.List.{get_or-replicate, get_or_past, length-replicate}
-use Rattle.std.proofs.lemmas.List.Elements.{All-head, All-tail, All-nil, All-push}
-use Rattle.space.specs.Births.{SpaceState}
+use Rattle.std.proofs.lemmas.List.Elements.{All-head, All-tail, All-push}
 use Rattle.space.specs.Pages.{page_text as tuple_page}
 use Rattle.space.specs.Watching.{WatchedState, is_touched as is_space_touched}
-use Rattle.reply_cache.specs.Replies.{Replies}
 use Rattle.reply_cache.specs.Pages.{page_text as reply_page, reply_text}
 use Rattle.partition_tree.specs.Changes.{pages_with}
 use Rattle.partition_tree.specs.Digests.{empty_pages}
@@ -46,10 +44,6 @@ below_or_at (suc j) (suc i) k = up (below_or_at j i (omega arith))
     up (inl l) = inl (omega arith)
     up (inr e) = inr (ap suc e)
 
-pub renewed_none : (st : State) (touched : ℕ → Bool) (ps : List Page) → ps ≡ [] → AreRenewed st touched ps 0
-renewed_none st touched [] e = record { texts = All-nil (λ (p : Page). p.text.items ≡ page_text st p.index); among = λ i l t. absurd (omega arith) }
-renewed_none st touched (p ∷ ps) e = absurd cc
-
 pub renewed_page : (st : State) (touched : ℕ → Bool) (ps : List Page) (p : Page) → p.text.items ≡ page_text st p.index
     → AreRenewed st touched ps p.index → AreRenewed st touched (ps ++ p ∷ []) (p.index + 1)
 renewed_page st touched ps p e h = record {
@@ -60,14 +54,6 @@ renewed_page st touched ps p e h = record {
     go : (i : ℕ) → touched i ≡ true → (i < p.index) ⊎ (p.index ≡ i) → IsAmong i (ps ++ p ∷ [])
     go i t (inl m) = among_left i ps p (h.among i m t)
     go i t (inr m) = among_last i ps p m
-
-pub renewed_skip : (st : State) (touched : ℕ → Bool) (ps : List Page) (i : ℕ) → touched i ≡ false
-    → AreRenewed st touched ps i → AreRenewed st touched ps (i + 1)
-renewed_skip st touched ps i e h = record { texts = h.texts; among = λ j l t. go j t (below_or_at j i l) }
-  where
-    go : (j : ℕ) → touched j ≡ true → (j < i) ⊎ (i ≡ j) → IsAmong j ps
-    go j t (inl m) = h.among j m t
-    go j t (inr m) = absurd (let bad : true ≡ false = sym t ∙ ap touched (sym m) ∙ e in cc)
 
 -- ---- the pages of a state
 

@@ -63,3 +63,7 @@ IsAmong index (page ∷ pages) = (page.index ≡ index) ⊎ IsAmong index pages
 pub record AreRenewed (st : State) (touched : ℕ → Bool) (pages : List Page) (end : ℕ) : Type 0 where
   pub texts : All (λ page. page.text.items ≡ page_text st page.index) pages
   pub among : (index : ℕ) → index < end → touched index ≡ true → IsAmong index pages
+
+-- Where the pages before have those below an index, those afterwards have that of the index too.
+abbrev pub Renews : State → (ℕ → Bool) → ℕ → List Page → List Page → Type 0
+Renews st touched index old new = AreRenewed st touched old index → AreRenewed st touched new (index + 1)

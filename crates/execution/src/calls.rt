@@ -1,6 +1,6 @@
 //! The calls that request frames spell.
 
-ghost use Rattle.std.specs.Prelude.{◌≡◌, ◌<◌, IfOk, IfSome, option_map};
+ghost use Rattle.std.specs.Prelude.{◌<◌, IfOk, IfSome, option_map};
 ghost use Rattle.wire.specs.Headers.{IsFrame};
 ghost use Rattle.wire.specs.Views.{body_data};
 ghost use Rattle.execution.specs.Calls.{call_data, IsCallIn, IsCallOf};

@@ -16,7 +16,7 @@ use reply_cache::Reply;
 use space::{PeekFault, Space, Watched};
 use std::alloc::{Allocator, Global};
 use std::marker::Model;
-use terms::{ClientId, Digest, NoMemory, Number};
+use terms::{ClientId, Digest, NoMemory, Number, Timestamp};
 use tuple_codec::{Answer, Op};
 use wire::requests;
 
@@ -28,7 +28,7 @@ pub struct Executed {
     replies: WatchedReplies,
     number: Number,
     clients: u16,
-    // The pages at the last checkpoint. It has the text of each page that isn't touched.
+    // The pages at the last checkpoint, so that it has the text of each page that isn't touched since.
     tree: Tree,
 }
 
@@ -41,8 +41,9 @@ impl Model for Executed {
     ghost coded = { executed_code };
 
     ghost view = { λ e. record {
-        state = record { space = e.space.state; number = e.number.0; replies = e.replies.replies };
-        clients = e.clients } };
+      state = record { space = e.space.state; number = e.number.0; replies = e.replies.replies };
+      clients = e.clients;
+    } };
 
     ghost invariant = { λ e. IsExecuted e.number.0 e.clients e.tree e.space e.replies };
 }
@@ -96,10 +97,10 @@ impl Executed {
     }
 
     /// The timestamp of the client's last request that ran, 0 where there is none. Takes no memory.
-    pub fn seen(&self, client: ClientId) -> u64
-        ensures { result ≡ last_time self.now.state client.number }
+    pub fn seen(&self, client: ClientId) -> Timestamp
+        ensures { result.0 ≡ last_time self.now.state client.number }
     {
-        self.replies.replies().seen(client)
+        Timestamp(self.replies.replies().seen(client))
     }
 
     /// Answers a read from the executed state; any other operation is refused before memory is looked at. NoMemory
@@ -120,8 +121,8 @@ impl Executed {
     ///
     /// # Errors
     ///
-    /// NoMemory where memory runs out. Some of the requests may have run then, so what is left is no batch's state: it
-    /// is to be dropped, and the replica stops.
+    /// NoMemory where memory runs out. What is left then has the batch's number and what some of its requests left, so
+    /// it is no batch's state: its holder stops for good.
     pub fn execute(&mut self, batch: &[u8]) -> Result<Vec<Ran>, NoMemory>
         requires { self.old.state.number + 1 < 2 ^ 48 }
         ensures executed { IfOk result
@@ -144,8 +145,8 @@ impl Executed {
         Ok(ran)
     }
 
-    /// The pages of the state, which later batches leave as they are. Writes and hashes those that may have changed
-    /// since the last checkpoint or root. NoMemory where memory runs out.
+    /// The pages of the state, which later batches leave as they are. Those alone are written and hashed that requests
+    /// may have changed since the last checkpoint. NoMemory where memory runs out.
     pub fn checkpoint(&mut self) -> Result<Snapshot, NoMemory>
         ensures pages { IfOk result (λ pages. pages ≡ pages_of self.old.state) }
         ensures same { self.new ≡ self.old }
@@ -160,19 +161,11 @@ impl Executed {
         self.tree.snapshot()
     }
 
-    /// The root of the tree over the pages of the state. Writes and hashes those that may have changed since the last
-    /// checkpoint or root. NoMemory where memory runs out.
+    /// The root of the tree over the pages of the state, by a checkpoint that isn't kept. NoMemory where memory runs out.
     pub fn root(&mut self) -> Result<Digest, NoMemory>
         ensures root { IfOk result (λ root. root ≡ root_of self.old.state) }
         ensures same { self.new ≡ self.old }
     {
-        renew(
-            self.alloc,
-            &mut self.tree,
-            &mut self.space,
-            &mut self.replies,
-            self.number,
-        )?;
-        Ok(self.tree.root())
+        Ok(self.checkpoint()?.root())
     }
 }

@@ -1,9 +1,9 @@
 //! The pages of the executed state, renewed in a tree where they may have changed.
 
-ghost use Rattle.std.specs.Prelude.{◌≡◌, ◌+◌, ◌<◌, IfOk, OnOk};
+ghost use Rattle.std.specs.Prelude.{◌≡◌, ◌<◌, IfOk, OnOk};
 ghost use Rattle.protocol.specs.Replica.State.{page_text, pages_of};
 ghost use Rattle.execution.specs.Running.{state_with};
-ghost use Rattle.execution.specs.Touching.{is_page_touched, AreRenewed, HasPages};
+ghost use Rattle.execution.specs.Touching.{is_page_touched, AreRenewed, Renews, HasPages};
 
 use crate::replies::WatchedReplies;
 use partition_tree::{Page, Tree};
@@ -64,11 +64,8 @@ fn add_page(
     pages: &mut Vec<Page>,
 ) -> Result<(), NoMemory>
     requires { index < 513 }
-    ensures { OnOk result (
-        AreRenewed (state_with number.0 space.now.state replies.now.replies)
-            (is_page_touched space.now replies.now) pages.old.items index
-        → AreRenewed (state_with number.0 space.now.state replies.now.replies)
-            (is_page_touched space.now replies.now) pages.new.items (index + 1)) }
+    ensures { OnOk result (Renews (state_with number.0 space.now.state replies.now.replies)
+        (is_page_touched space.now replies.now) index pages.old.items pages.new.items) }
 {
     if !is_touched(space, replies, index) {
         return Ok(());
@@ -101,7 +98,8 @@ fn text_of(
     index: usize,
 ) -> Result<Vec<u8>, NoMemory>
     requires { index < 513 }
-    ensures { IfOk result (λ text. text.items ≡ page_text (state_with number.0 space.now replies.now) index) }
+    ensures { IfOk result (λ text.
+        text.items ≡ page_text (state_with number.0 space.now replies.now) index) }
 {
     if index < 256 {
         return space.page_text(index);

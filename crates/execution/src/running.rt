@@ -1,6 +1,6 @@
 //! Running the requests of a batch.
 
-ghost use Rattle.std.specs.Prelude.{◌≡◌, ◌+◌, ◌*◌, ◌^◌, ◌<◌, ◌≤◌, map, length, OnOk};
+ghost use Rattle.std.specs.Prelude.{◌+◌, ◌*◌, ◌^◌, ◌<◌, ◌≤◌, map, length, OnOk};
 ghost use Rattle.wire.specs.Headers.{IsFrame};
 ghost use Rattle.wire.specs.Lists.{Each};
 ghost use Rattle.execution.specs.Running.{so_far, Runs, RunsAll};

@@ -16,9 +16,9 @@ returns c = λ h.
     let space = c.args.space.now.state in
     let replies = c.args.replies.now.replies in
     let text =
-        c.in_ok-text.ensures
-        ∙ ap (λ (s : SpaceState). page_text (state_with n s c.replies.result.now) c.args.index) c.space.ensures
-        ∙ ap (λ (r : Replies). page_text (state_with n space r) c.args.index) c.replies.ensures in
+    c.in_ok-text.ensures
+    ∙ ap (λ (s : SpaceState). page_text (state_with n s c.replies.result.now) c.args.index) c.space.ensures
+    ∙ ap (λ (r : Replies). page_text (state_with n space r) c.args.index) c.replies.ensures in
     let touched = is_page_touched c.args.space.now c.args.replies.now in
     subst (λ (pages : List Page). AreRenewed (state_with n space replies) touched pages (c.args.index + 1)) (sym pushed)
     (renewed_page (state_with n space replies) touched c.args.pages.now.items page text h)

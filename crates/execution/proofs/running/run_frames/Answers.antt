@@ -1,4 +1,4 @@
-use Rattle.std.proofs.Common.{ℕ, List, Bor, drop, arith}
+use Rattle.std.proofs.Common.{ℕ, List, Bor, arith}
 use Rattle.std.proofs.lemmas.List.{drop_all}
 use Rattle.wire.specs.Headers.{IsFrame}
 use Rattle.wire.proofs.Appending.{each_at}
