@@ -1,0 +1,24 @@
+use Rattle.std.proofs.Common.{◌≡◌, ◌+◌, List, [], ◌∷◌, ◌++◌, sym, ap, ◌∙◌, subst}
+use Rattle.space.specs.Births.{SpaceState}
+use Rattle.reply_cache.specs.Replies.{Replies}
+use Rattle.partition_tree.specs.declared.page.Page.{Page}
+use Rattle.protocol.specs.Replica.State.{page_text}
+use Rattle.execution.specs.Running.{state_with}
+use Rattle.execution.specs.Touching.{is_page_touched, AreRenewed}
+use Rattle.execution.proofs.Renewing.{renewed_page}
+use Rattle.execution.proofs.pages.add_page.Goals as goal
+
+pub returns : goal.returns
+returns c = λ h.
+    let page : Page = record { index = c.args.index; text = c.in_ok-text.text; in_range = c.push-arg-2-1.given.0 } in
+    let pushed : c.push.new.self.items ≡ c.args.pages.now.items ++ page ∷ [] = (c.in_ok-push.ensures {u = tt}).items in
+    let n = c.args.number.0 in
+    let space = c.args.space.now.state in
+    let replies = c.args.replies.now.replies in
+    let text =
+    c.in_ok-text.ensures
+    ∙ ap (λ (s : SpaceState). page_text (state_with n s c.replies.result.now) c.args.index) c.space.ensures
+    ∙ ap (λ (r : Replies). page_text (state_with n space r) c.args.index) c.replies.ensures in
+    let touched = is_page_touched c.args.space.now c.args.replies.now in
+    subst (λ (pages : List Page). AreRenewed (state_with n space replies) touched pages (c.args.index + 1)) (sym pushed)
+    (renewed_page (state_with n space replies) touched c.args.pages.now.items page text h)

@@ -1,0 +1,5 @@
+pub mod Calls
+pub mod Running
+pub mod Executed
+pub mod Touching
+pub mod Keeping

@@ -1,0 +1,69 @@
+-- What the private functions that note and renew pages speak of: which pages may have changed.
+use Rattle.std.specs.Prelude.{◌≡◌, ℕ, ◌+◌, ◌-◌, ◌<◌, ◌⊎◌, Bool, true, false, List, [], ◌∷◌, length, slice_index_or, nat_lt, if◌then◌else◌, All, refl}
+use Rattle.std.specs.Coded.{Coded, code_by, coded×, coded_list, coded_bool}
+use Rattle.space.specs.Births.{IsState as IsSpace}
+use Rattle.space.specs.Pages.{page_text as tuple_page}
+use Rattle.space.specs.Watching.{WatchedState, TouchesChanges, is_touched as is_space_touched}
+use Rattle.reply_cache.specs.Replies.{Replies, AreReplies}
+use Rattle.reply_cache.specs.RepliesCode.{replies_code}
+use Rattle.reply_cache.specs.Pages.{page_text as reply_page}
+use Rattle.partition_tree.specs.declared.page.Page.{Page}
+use Rattle.protocol.specs.Replica.State.{State, page_text}
+
+-- replies, and which of them may have changed
+pub record RepliesState : Type 0 where
+  pub replies : Replies
+  pub touched : List Bool
+
+abbrev pub replies_state_code : Coded RepliesState
+replies_state_code =
+    code_by (Replies × List Bool) (coded× replies_code (coded_list coded_bool)) (λ r. (r.replies, r.touched))
+    (λ p. record { replies = p.0; touched = p.1 }) (λ _. refl)
+
+abbrev pub is_touched : RepliesState → ℕ → Bool
+is_touched r client = slice_index_or r.touched client false
+
+-- A page that isn't touched afterwards wasn't before, and has the same text.
+abbrev pub TouchesReplies : RepliesState → RepliesState → Type 0
+TouchesReplies old new =
+    (client : ℕ) → client < 256 → is_touched new client ≡ false
+    → (is_touched old client ≡ false) × (reply_page new.replies client ≡ reply_page old.replies client)
+
+-- What requests do to both: they touch what they change, and leave a space and replies.
+pub record Changes (w : WatchedState) (r : RepliesState) (w' : WatchedState) (r' : RepliesState) : Type 0 where
+  pub space : TouchesChanges w w'
+  pub replies : TouchesReplies r r'
+  pub is_space : IsSpace w.state → IsSpace w'.state
+  pub are_replies : AreReplies r.replies → AreReplies r'.replies
+
+-- ---- the tree
+
+-- It has the text of each page that isn't touched, but for the header.
+pub record HasPages (tree : List (List ℕ)) (w : WatchedState) (r : RepliesState) : Type 0 where
+  pub long : length tree ≡ 1024
+  pub tuples : (page : ℕ) → page < 256 → is_space_touched w page ≡ false
+      → slice_index_or tree page [] ≡ tuple_page w.state page
+  pub replies : (client : ℕ) → client < 256 → is_touched r client ≡ false
+      → slice_index_or tree (256 + client) [] ≡ reply_page r.replies client
+  pub rest : (page : ℕ) → 512 < page → slice_index_or tree page [] ≡ []
+
+-- whether a page, 0 to 512, may have changed
+abbrev pub is_page_touched : WatchedState → RepliesState → ℕ → Bool
+is_page_touched w r page =
+    if nat_lt page 256 then is_space_touched w page else
+    if nat_lt page 512 then is_touched r (page - 256) else
+    true
+
+-- one of these has the index
+abbrev pub IsAmong : ℕ → List Page → Type 0
+IsAmong index [] = ⊥
+IsAmong index (page ∷ pages) = (page.index ≡ index) ⊎ IsAmong index pages
+
+-- The pages have the state's texts, and those below the end that are touched are among them.
+pub record AreRenewed (st : State) (touched : ℕ → Bool) (pages : List Page) (end : ℕ) : Type 0 where
+  pub texts : All (λ page. page.text.items ≡ page_text st page.index) pages
+  pub among : (index : ℕ) → index < end → touched index ≡ true → IsAmong index pages
+
+-- Where the pages before have those below an index, those afterwards have that of the index too.
+abbrev pub Renews : State → (ℕ → Bool) → ℕ → List Page → List Page → Type 0
+Renews st touched index old new = AreRenewed st touched old index → AreRenewed st touched new (index + 1)

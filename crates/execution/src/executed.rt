@@ -1,0 +1,171 @@
+//! The executed state.
+
+ghost use Rattle.std.specs.Prelude.{◌≡◌, ◌↔◌, ◌+◌, ◌^◌, ◌<◌, ◌≤◌, false, map, option_map, IfOk};
+ghost use Rattle.tuple_codec.specs.OperationView.{operation_of, outcome_of};
+ghost use Rattle.space.specs.Applying.{outcome, is_read_only};
+ghost use Rattle.space.specs.Births.{WantsMemory};
+ghost use Rattle.reply_cache.specs.ReplyView as reply_view;
+ghost use Rattle.protocol.specs.Replica.State.{IsState, opening, tuples, kept_of, last_time, pages_of, root_of};
+ghost use Rattle.execution.specs.Executed.{Executes, told};
+
+use crate::pages::renew;
+use crate::replies::WatchedReplies;
+use crate::running::{Ran, run_frames};
+use partition_tree::{Snapshot, Tree};
+use reply_cache::Reply;
+use space::{PeekFault, Space, Watched};
+use std::alloc::{Allocator, Global};
+use std::marker::Model;
+use terms::{ClientId, Digest, NoMemory, Number, Timestamp};
+use tuple_codec::{Answer, Op};
+use wire::requests;
+
+/// The executed state of a replica, in a configuration of up to 256 clients.
+#[derive(Drop)]
+pub struct Executed {
+    alloc: Global,
+    space: Watched,
+    replies: WatchedReplies,
+    number: Number,
+    clients: u16,
+    // The pages at the last checkpoint, so that it has the text of each page that isn't touched since.
+    tree: Tree,
+}
+
+impl Model for Executed {
+    ghost use Rattle.execution.specs.Executed.{ExecutedData, executed_code};
+    ghost use Rattle.execution.specs.Keeping.{IsExecuted};
+
+    ghost Value = { ExecutedData };
+
+    ghost coded = { executed_code };
+
+    ghost view = { λ e. record {
+      state = record { space = e.space.state; number = e.number.0; replies = e.replies.replies };
+      clients = e.clients;
+    } };
+
+    ghost invariant = { λ e. IsExecuted e.number.0 e.clients e.tree e.space e.replies };
+}
+
+impl Executed {
+    /// The state before the first batch, of so many clients. NoMemory where memory runs out.
+    pub fn new(alloc: Global, clients: u16) -> Result<Executed, NoMemory>
+        requires { clients ≤ 256 }
+        ensures { IfOk result (λ e. e ≡ record { state = opening; clients = clients }) }
+    {
+        let tree = Tree::new(alloc)?;
+        Ok(Executed {
+            alloc,
+            space: Watched::of(Space::new(alloc)),
+            replies: WatchedReplies::new(alloc),
+            number: Number(0),
+            clients,
+            tree,
+        })
+    }
+
+    /// The number of the last executed batch, 0 before the first.
+    pub fn number(&self) -> Number
+        ensures value { result.0 ≡ self.now.state.number }
+        ensures fits { result.0 < 2 ^ 48 }
+    {
+        self.number
+    }
+
+    /// How many clients there are.
+    pub fn clients(&self) -> u16
+        ensures value { result ≡ self.now.clients }
+        ensures most { result ≤ 256 }
+    {
+        self.clients
+    }
+
+    /// Tells a proof that this is a state. It does nothing.
+    pub fn is_state(&self)
+        ensures { IsState self.now.state }
+    {
+        let _number = &self.number;
+    }
+
+    /// The reply to the client's last request that ran. Takes no memory.
+    pub fn last(&self, client: ClientId) -> Option<&Reply>
+        ensures { option_map (λ reply. reply_view.kept_of reply.now) result
+            ≡ kept_of self.now.state client.number }
+    {
+        self.replies.replies().last(client)
+    }
+
+    /// The timestamp of the client's last request that ran, 0 where there is none. Takes no memory.
+    pub fn seen(&self, client: ClientId) -> Timestamp
+        ensures { result.0 ≡ last_time self.now.state client.number }
+    {
+        Timestamp(self.replies.replies().seen(client))
+    }
+
+    /// Answers a read from the executed state; any other operation is refused before memory is looked at. NoMemory
+    /// comes only where a match is to be copied.
+    pub fn answer<A: Allocator>(&self, op: &Op<A>) -> Result<Answer<Global>, PeekFault>
+        ensures answer { IfOk result
+            (λ a. outcome_of a ≡ outcome (tuples self.now.state) (operation_of op.now)) }
+        ensures not_read_only { (result ≡ Err PeekFault.NotReadOnly)
+            ↔ (is_read_only (operation_of op.now) ≡ false) }
+        ensures memory { (result ≡ Err PeekFault.NoMemory)
+            → WantsMemory self.now.state.space (operation_of op.now) }
+    {
+        self.space.space().peek(op)
+    }
+
+    /// Executes the next batch, by its text: each of its requests in order whose timestamp is above its client's last,
+    /// which it tells. A text that is no batch has no requests.
+    ///
+    /// # Errors
+    ///
+    /// NoMemory where memory runs out. What is left then has the batch's number and what some of its requests left, so
+    /// it is no batch's state: its holder stops for good.
+    pub fn execute(&mut self, batch: &[u8]) -> Result<Vec<Ran>, NoMemory>
+        requires { self.old.state.number + 1 < 2 ^ 48 }
+        ensures executed { IfOk result
+            (λ ran. Executes self.old batch.now (map told ran.items) self.new) }
+        ensures number { self.new.state.number ≡ self.old.state.number + 1 }
+        ensures clients { self.new.clients ≡ self.old.clients }
+    {
+        let frames = requests(batch);
+        let mut ran = Vec::new(self.alloc);
+        self.number = Number(self.number.0 + 1);
+        run_frames(
+            self.alloc,
+            &mut self.space,
+            &mut self.replies,
+            &mut ran,
+            self.number,
+            self.clients,
+            frames.as_slice(),
+        )?;
+        Ok(ran)
+    }
+
+    /// The pages of the state, which later batches leave as they are. Those alone are written and hashed that requests
+    /// may have changed since the last checkpoint. NoMemory where memory runs out.
+    pub fn checkpoint(&mut self) -> Result<Snapshot, NoMemory>
+        ensures pages { IfOk result (λ pages. pages ≡ pages_of self.old.state) }
+        ensures same { self.new ≡ self.old }
+    {
+        renew(
+            self.alloc,
+            &mut self.tree,
+            &mut self.space,
+            &mut self.replies,
+            self.number,
+        )?;
+        self.tree.snapshot()
+    }
+
+    /// The root of the tree over the pages of the state, by a checkpoint that isn't kept. NoMemory where memory runs out.
+    pub fn root(&mut self) -> Result<Digest, NoMemory>
+        ensures root { IfOk result (λ root. root ≡ root_of self.old.state) }
+        ensures same { self.new ≡ self.old }
+    {
+        Ok(self.checkpoint()?.root())
+    }
+}

@@ -1,0 +1,113 @@
+//! The pages of the executed state, renewed in a tree where they may have changed.
+
+ghost use Rattle.std.specs.Prelude.{◌≡◌, ◌<◌, IfOk, OnOk};
+ghost use Rattle.protocol.specs.Replica.State.{page_text, pages_of};
+ghost use Rattle.execution.specs.Running.{state_with};
+ghost use Rattle.execution.specs.Touching.{is_page_touched, AreRenewed, Renews, HasPages};
+
+use crate::replies::WatchedReplies;
+use partition_tree::{Page, Tree};
+use reply_cache::ReplyCache;
+use space::{Space, Watched};
+use std::alloc::Global;
+use terms::{ClientId, NoMemory, Number};
+
+/// How many pages may have a text: 256 of tuples, 256 of replies, and the header.
+const TEXTS: usize = 513;
+
+/// Gives a tree the pages of the state, where it may have others. An `Err` changes nothing.
+pub fn renew(
+    alloc: Global,
+    tree: &mut Tree,
+    space: &mut Watched,
+    replies: &mut WatchedReplies,
+    number: Number,
+) -> Result<(), NoMemory>
+    requires { HasPages tree.old space.old replies.old }
+    ensures ok { OnOk result
+        (tree.new ≡ pages_of (state_with number.0 space.old.state replies.old.replies)) }
+    ensures space { space.new.state ≡ space.old.state }
+    ensures replies { replies.new.replies ≡ replies.old.replies }
+    ensures has { HasPages tree.new space.new replies.new }
+{
+    let pages = touched_pages(alloc, space, replies, number)?;
+    tree.set_pages(pages)?;
+    space.untouch();
+    replies.untouch();
+    Ok(())
+}
+
+// The pages that may have changed, with their texts.
+fn touched_pages(
+    alloc: Global,
+    space: &Watched,
+    replies: &WatchedReplies,
+    number: Number,
+) -> Result<Vec<Page>, NoMemory>
+    ensures { IfOk result (λ pages. AreRenewed
+        (state_with number.0 space.now.state replies.now.replies)
+        (is_page_touched space.now replies.now) pages.items 513) }
+{
+    let mut pages = Vec::new(alloc);
+    for index in 0..TEXTS {
+        add_page(space, replies, number, index, &mut pages)?;
+    }
+    Ok(pages)
+}
+
+// Adds a page with its text, where it may have changed.
+fn add_page(
+    space: &Watched,
+    replies: &WatchedReplies,
+    number: Number,
+    index: usize,
+    pages: &mut Vec<Page>,
+) -> Result<(), NoMemory>
+    requires { index < 513 }
+    ensures { OnOk result (Renews (state_with number.0 space.now.state replies.now.replies)
+        (is_page_touched space.now replies.now) index pages.old.items pages.new.items) }
+{
+    if !is_touched(space, replies, index) {
+        return Ok(());
+    }
+    let alloc = *pages.allocator();
+    let text = text_of(alloc, space.space(), replies.replies(), number, index)?;
+    pages.push(Page { index, text })?;
+    Ok(())
+}
+
+// Whether a page may have changed. The header always may.
+fn is_touched(space: &Watched, replies: &WatchedReplies, index: usize) -> bool
+    ensures { result ≡ is_page_touched space.now replies.now index }
+{
+    if index < 256 {
+        return space.touched(index);
+    }
+    if index < 512 {
+        return replies.touched(index - 256);
+    }
+    true
+}
+
+#[tactic(auto, unfolding(protocol::specs::Replica::State::page_text))]
+fn text_of(
+    alloc: Global,
+    space: &Space,
+    replies: &ReplyCache,
+    number: Number,
+    index: usize,
+) -> Result<Vec<u8>, NoMemory>
+    requires { index < 513 }
+    ensures { IfOk result (λ text.
+        text.items ≡ page_text (state_with number.0 space.now replies.now) index) }
+{
+    if index < 256 {
+        return space.page_text(index);
+    }
+    if index < 512 {
+        let number = (index - 256) as u16;
+        return replies.page_text(ClientId { number });
+    }
+    let text = Vec::from_slice(alloc, &space.header_text(number.0))?;
+    Ok(text)
+}

@@ -1,0 +1,84 @@
+//! Running the requests of a batch.
+
+ghost use Rattle.std.specs.Prelude.{◌+◌, ◌*◌, ◌^◌, ◌<◌, ◌≤◌, map, length, OnOk};
+ghost use Rattle.wire.specs.Headers.{IsFrame};
+ghost use Rattle.wire.specs.Lists.{Each};
+ghost use Rattle.execution.specs.Running.{so_far, Runs, RunsAll};
+ghost use Rattle.execution.specs.Touching.{Changes};
+
+use crate::calls::read_call;
+use crate::replies::WatchedReplies;
+use space::Watched;
+use std::alloc::Global;
+use terms::{ClientId, NoMemory, Number, Timestamp};
+use tuple_codec::Answer;
+
+/// A request that ran: its client and timestamp, the number of its batch, and what was answered. A reply to it says
+/// this.
+#[derive(Drop)]
+pub struct Ran {
+    pub client: ClientId,
+    pub timestamp: Timestamp,
+    pub number: Number,
+    pub answer: Answer<Global>,
+}
+
+/// Runs the request that a frame spells, if it is an ordered one of one of the clients, above its client's last.
+fn run_frame(
+    alloc: Global,
+    space: &mut Watched,
+    replies: &mut WatchedReplies,
+    ran: &mut Vec<Ran>,
+    number: Number,
+    clients: u16,
+    frame: &[u8],
+) -> Result<(), NoMemory>
+    requires frame { IsFrame frame.now }
+    requires births { space.old.state.next < 2 ^ 62 }
+    requires clients { clients ≤ 256 }
+    ensures runs { OnOk result (Runs clients number.0 frame.now
+        (so_far space.old replies.old ran.old.items) (so_far space.new replies.new ran.new.items)) }
+    ensures births { space.new.state.next ≤ space.old.state.next + 256 }
+    ensures changes { Changes space.old replies.old space.new replies.new }
+{
+    let Some(call) = read_call(alloc, frame, clients)? else {
+        return Ok(());
+    };
+    if call.timestamp.0 <= replies.replies().seen(call.client) {
+        return Ok(());
+    }
+    let answer = space.apply(&call.op)?;
+    let kept = answer.copy_in(alloc)?;
+    replies.put(call.client, call.timestamp, number, kept)?;
+    ran.push(Ran {
+        client: call.client,
+        timestamp: call.timestamp,
+        number,
+        answer,
+    })?;
+    Ok(())
+}
+
+/// Runs the requests of frames one after another. An `Err` may leave what some of them leave.
+pub fn run_frames(
+    alloc: Global,
+    space: &mut Watched,
+    replies: &mut WatchedReplies,
+    ran: &mut Vec<Ran>,
+    number: Number,
+    clients: u16,
+    frames: &[&[u8]],
+) -> Result<(), NoMemory>
+    requires frames { Each IsFrame (map (λ frame. frame.now) frames.now) }
+    requires births { space.old.state.next + 256 * length frames.now < 2 ^ 62 }
+    requires clients { clients ≤ 256 }
+    ensures runs { OnOk result (RunsAll clients number.0 (map (λ frame. frame.now) frames.now)
+        (so_far space.old replies.old ran.old.items) (so_far space.new replies.new ran.new.items)) }
+    ensures births { space.new.state.next ≤ space.old.state.next + 256 * length frames.now }
+    ensures changes { Changes space.old replies.old space.new replies.new }
+{
+    for frame in frames {
+        run_frame(alloc, space, replies, ran, number, clients, frame)?;
+    }
+    Ok(())
+}
