@@ -1,5 +1,5 @@
 -- What a client holds, as plain data, and the changes that its entries make.
-use Rattle.std.specs.Prelude.{◌≡◌, ℕ, ◌+◌, ◌*◌, Bool, false, ◌&&◌, ◌||◌, List, [], Option, Some, None, nat_le, ◌==◌, bytes_eq, cond, if◌then◌else◌, refl}
+use Rattle.std.specs.Prelude.{◌≡◌, ℕ, ◌+◌, ◌*◌, ◌^◌, Bool, true, false, ◌&&◌, ◌||◌, List, [], Option, Some, None, is_some, nat_le, ◌==◌, bytes_eq, cond, if◌then◌else◌, refl}
 use Rattle.std.specs.Option.{option_map_or}
 use Rattle.std.specs.Map.{lookup}
 use Rattle.std.specs.Coded.{Coded, code_by, coded×, coded_list, coded_option, coded_ℕ, coded_bool}
@@ -67,6 +67,10 @@ client_code =
     (λ s. (s.number, (s.membership, (s.calls, (s.call, s.stopped)))))
     (λ p. record { number = p.0; membership = p.1.0; calls = p.1.1.0; call = p.1.1.1.0; stopped = p.1.1.1.1 })
     (λ _. refl)
+
+-- no call is open, and none can be made: the client had stopped, or made 2^62 calls
+abbrev pub IsSpent : ClientState → Type 0
+IsSpent s = (is_some s.call ≡ false) × ((s.stopped || nat_le (2 ^ 62) s.calls) ≡ true)
 
 -- ---- replies
 

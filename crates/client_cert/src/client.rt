@@ -4,7 +4,7 @@ ghost use Rattle.std.specs.Prelude.{◌≡◌, ◌↔◌, ◌≤◌, ◌<◌, �
 ghost use Rattle.tuple_codec.specs.OperationView.{operation_of};
 ghost use Rattle.protocol.specs.System.Configuration.{Configuration, members};
 ghost use Rattle.protocol.specs.System.Trace.Entry.{Invoke, Got, Tick};
-ghost use Rattle.client_cert.specs.State.{me_of, called};
+ghost use Rattle.client_cert.specs.State.{IsSpent, me_of, called};
 ghost use Rattle.client_cert.specs.Fits.{Fits};
 ghost use Rattle.client_cert.specs.Steps.{Leads, input_of, Keeps, Asks};
 
@@ -120,6 +120,8 @@ impl Client {
         ensures leads { IfOk result (λ outs. Leads self.old (Invoke self.old.number (suc self.old.calls) (operation_of op)) outs.items self.new) }
         ensures busy { (result ≡ Err InvokeFault.Busy) ↔ (is_some self.old.call ≡ true) }
         ensures same { result ≡ Err InvokeFault.Busy → self.new ≡ self.old }
+        ensures stopped { (result ≡ Err InvokeFault.Stopped) ↔ IsSpent self.old }
+        ensures ends { OnErr result ((is_some self.old.call ≡ true) ⊎ (self.new.stopped ≡ true)) }
         ensures stops { OnErr result (is_some self.old.call ≡ false → Leads self.old (Invoke self.old.number (suc self.old.calls) (operation_of op)) [] self.new) }
         ensures number { self.new.number ≡ self.old.number }
     {
