@@ -141,10 +141,12 @@ fn takes_all(client: &mut Client, alloc: Global) -> Result<bool, Fail> {
 }
 
 fn is_answered(client: &mut Client, alloc: Global) -> Result<bool, Fail> {
-    Ok(asks(client, alloc)?
-        && is_busy(client, alloc)?
-        && asks_again(client, alloc)?
-        && takes_all(client, alloc)?)
+    Ok(
+        asks(client, alloc)?
+            && is_busy(client, alloc)?
+            && asks_again(client, alloc)?
+            && takes_all(client, alloc)?,
+    )
 }
 
 #[test]
