@@ -10,6 +10,7 @@
 //! say which, and that it may be said.
 #![tactic(auto)]
 
+mod bytes;
 mod endpoint;
 mod hearing;
 mod messages;
@@ -20,6 +21,7 @@ mod signing_frames;
 
 pub use endpoint::Endpoint;
 pub use messages::{
-    checkpoint_message, commit_message, pre_prepare_message, prepare_message, reply_message,
+    checkpoint_message, commit_message, fetch_message, page_message, pre_prepare_message,
+    prepare_message, reply_message,
 };
 pub use post_fault::PostFault;

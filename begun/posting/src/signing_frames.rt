@@ -1,11 +1,11 @@
 //! Frames with a signature.
 
 ghost use Rattle.std.specs.Prelude.{◌≡◌, ◌≢◌, ◌+◌, ◌*◌, ◌<◌, ◌≤◌, true, IfOk, OnOk};
-ghost use Rattle.tuple_tree.specs.Values.{AreBytes};
 ghost use Rattle.wire.specs.Spelling.{IsBody, IsMessage, body_spelling, is_signed, piece};
 ghost use Rattle.wire.specs.Views.{body_data, message_data};
 ghost use Rattle.posting.specs.Frames.{SignedExceeds, SignedFits, SignsPost, SpellsSigned, says};
 
+use crate::bytes::note_bytes;
 use crate::post_fault::PostFault;
 use crate::receivers::other_replicas;
 use events::Output;
@@ -93,11 +93,4 @@ fn begin_signed(alloc: Global, body: &Body) -> Result<Vec<u8>, PostFault>
         Err(WireFault::NoMemory) => Err(PostFault::NoMemory),
         Err(WireFault::Malformed) => unreachable!(),
     }
-}
-
-// Each of the bytes that the program holds is one.
-fn note_bytes(bytes: &[u8])
-    ensures { AreBytes bytes.now }
-{
-    let _len = bytes.len();
 }
