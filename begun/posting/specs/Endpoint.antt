@@ -1,9 +1,13 @@
 -- What an endpoint is, what it hears, and what it posts (Castro and Liskov, Practical Byzantine fault tolerance and
 -- proactive recovery, TOCS 2002, on the authentication of messages).
-use Rattle.std.specs.Prelude.{◌≡◌, ℕ, ◌==◌, Bool, not, List, [], ◌∷◌, map, filter, is_some}
+use Rattle.std.specs.Prelude.{◌≡◌, ℕ, ◌==◌, Bool, not, List, [], ◌∷◌, map, filter, Option, is_some, option_map}
 use Rattle.std.specs.List.{list_all, range_with_len}
 use Rattle.terms.specs.Parties.{party_number}
+use Rattle.wire.specs.declared.messages.Batch.{Batch}
+use Rattle.wire.specs.declared.messages.Body.{Body}
 use Rattle.wire.specs.Messages.{MessageData as Message}
+use Rattle.wire.specs.Views.{body_data}
+use Rattle.wire.specs.Words.{requests_of}
 use Rattle.authenticator.specs.Membership.{Membership, replicas}
 use Rattle.signing.specs.Heard.{heard}
 use Rattle.protocol.specs.System.Configuration.{Configuration, members}
@@ -32,6 +36,14 @@ other_replicas m me = others_below (replicas m) me
 -- whether the replica hears something from each of the frames
 abbrev pub are_heard : Membership → ℕ → List (List ℕ) → Bool
 are_heard m me frames = list_all (λ frame. is_some (heard m me frame)) frames
+
+-- the body is what the endpoint hears from the bytes, if it hears one
+abbrev pub Hears : EndpointState → List ℕ → Option Body → Type 0
+Hears e bytes body = heard e.membership e.me bytes ≡ option_map body_data body
+
+-- the test says whether each request of the batch is genuine to it
+abbrev pub TellsGenuine : EndpointState → Batch → Bool → Type 0
+TellsGenuine e batch test = test ≡ are_heard e.membership e.me (requests_of batch.text.items)
 
 -- ---- what is posted
 

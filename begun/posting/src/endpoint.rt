@@ -1,13 +1,11 @@
 //! The endpoint of a replica.
 
-ghost use Rattle.std.specs.Prelude.{◌≡◌, ◌+◌, ◌*◌, ◌<◌, ◌≤◌, true, false, IfOk, OnOk, option_map};
+ghost use Rattle.std.specs.Prelude.{◌≡◌, ◌+◌, ◌*◌, ◌<◌, ◌≤◌, true, false, IfOk, OnOk};
 ghost use Rattle.terms.specs.Parties.{party_number};
 ghost use Rattle.wire.specs.Spelling.{IsMessage, is_signed};
-ghost use Rattle.wire.specs.Views.{body_data, message_data};
-ghost use Rattle.wire.specs.Words.{requests_of};
+ghost use Rattle.wire.specs.Views.{message_data};
 ghost use Rattle.authenticator.specs.Keys.{signing_seed};
-ghost use Rattle.signing.specs.Heard.{heard};
-ghost use Rattle.posting.specs.Endpoint.{PostsSigned, PostsTo, PostsToOthers, are_heard};
+ghost use Rattle.posting.specs.Endpoint.{Hears, PostsSigned, PostsTo, PostsToOthers, TellsGenuine};
 
 use crate::hearing::{hear_all, hear_body};
 use crate::post_fault::PostFault;
@@ -81,7 +79,7 @@ impl Endpoint {
     /// a message, with the right MAC for this replica, or signed by its sender where it is to be signed. The error is
     /// want of memory.
     pub fn hear(&mut self, alloc: Global, bytes: &[u8]) -> Result<Option<Body>, NoMemory>
-        ensures heard { IfOk result (λ b. heard self.old.membership self.old.me bytes.now ≡ option_map body_data b) }
+        ensures heard { IfOk result (Hears self.old bytes.now) }
         ensures same { self.new ≡ self.old }
     {
         hear_body(&mut self.ring, &self.publics, alloc, self.me, bytes)
@@ -89,7 +87,7 @@ impl Endpoint {
 
     /// Whether each request of the batch is genuine: the replica hears it. The error is want of memory.
     pub fn are_genuine(&mut self, alloc: Global, batch: &Batch) -> Result<bool, NoMemory>
-        ensures genuine { IfOk result (λ b. b ≡ are_heard self.old.membership self.old.me (requests_of batch.now.text.items)) }
+        ensures genuine { IfOk result (TellsGenuine self.old batch.now) }
         ensures same { self.new ≡ self.old }
     {
         let frames = requests(&batch.text);

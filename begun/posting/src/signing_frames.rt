@@ -48,7 +48,7 @@ fn sign_message(
 ) -> Result<Vec<u8>, PostFault>
     requires said { IsBody (says me.0 (message_data message)) }
     requires signed { is_signed (message_data message) ≡ true }
-    ensures signed { IfOk result (λ frame. SpellsSigned signer.old.seed (says me.0 (message_data message)) frame.items) }
+    ensures spells { IfOk result (λ frame. SpellsSigned signer.old.seed (says me.0 (message_data message)) frame.items) }
     ensures used { OnOk result (signer.new ≡ record signer.old { used = signer.old.used + 1 }) }
     ensures seed { signer.new.seed ≡ signer.old.seed }
     ensures spent { result ≡ Err PostFault.KeysSpent → signer.old.used ≡ 64 }
@@ -64,7 +64,7 @@ fn sign_message(
 fn sign_body(signer: &mut Signer, alloc: Global, body: &Body) -> Result<Vec<u8>, PostFault>
     requires said { IsBody (body_data body.now) }
     requires signed { is_signed (message_data body.now.message) ≡ true }
-    ensures signed { IfOk result (λ frame. SpellsSigned signer.old.seed (body_data body.now) frame.items) }
+    ensures spells { IfOk result (λ frame. SpellsSigned signer.old.seed (body_data body.now) frame.items) }
     ensures used { OnOk result (signer.new ≡ record signer.old { used = signer.old.used + 1 }) }
     ensures seed { signer.new.seed ≡ signer.old.seed }
     ensures spent { result ≡ Err PostFault.KeysSpent → signer.old.used ≡ 64 }

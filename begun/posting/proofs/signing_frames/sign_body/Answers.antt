@@ -9,8 +9,8 @@ use Rattle.authenticator.proofs.Frames.{piece-short}
 use Rattle.posting.proofs.Posting.{spells_signed}
 use Rattle.posting.proofs.signing_frames.sign_body.Goals as goal
 
-pub returns-clause-signed : goal.returns-clause-signed
-returns-clause-signed c =
+pub returns-clause-spells : goal.returns-clause-spells
+returns-clause-spells c =
     let text : List ℕ = body_spelling (body_data c.args.body.now) in
     let fits : length text < 2 ^ 32 = piece-short (message_data c.args.body.now.message) text 16578 c.in_ok-frame.ensures.short in
     let is : c.in_ok-frame.frame.items ≡ piece text ++ [] = c.in_ok-frame.ensures.ok ∙ sym (append-nil (piece text)) in

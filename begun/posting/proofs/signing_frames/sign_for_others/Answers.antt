@@ -13,5 +13,5 @@ returns-clause-posted c m own faults = record {
   bytes = c.in_ok-frame.frame.items;
   sends = refl;
   goes = c.in_ok-receivers.ensures ∙ ap (λ (f : ℕ). others_below (3 * f + 1) c.args.me.0) faults;
-  posted = signed_posts m c.args.me.0 (message_data c.args.message) c.args.signer.now.seed c.in_ok-frame.frame.items own c.in_ok-frame.ensures.signed;
+  posted = signed_posts m c.args.me.0 (message_data c.args.message) c.args.signer.now.seed c.in_ok-frame.frame.items own c.in_ok-frame.ensures.spells;
 }
