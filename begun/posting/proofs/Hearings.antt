@@ -28,17 +28,20 @@ step : (m : Membership) (me : ℕ) (xs : List (Bor (List ℕ))) (i : ℕ) (z : B
     → are_heard m me (texts (drop i xs)) ≡ (is_some (heard m me (get_or xs i z).now) && are_heard m me (texts (drop (suc i) xs)))
 step m me xs i z l = rw (drop-cons xs i z l) refl
 
-pub fails : (m : Membership) (me : ℕ) (xs : List (Bor (List ℕ))) (i : ℕ) (z : Bor (List ℕ)) (b : Bool) → i < length xs → b ≡ is_some (heard m me (get_or xs i z).now) → b ≡ false
-    → Left m me xs i → false ≡ are_heard m me (texts xs)
-fails m me xs i z b l is no left =
-    let gone : is_some (heard m me (get_or xs i z).now) ≡ false = sym is ∙ no in
+-- the program's test of the next, by members that stay
+pub fails : (m n : Membership) → n ≡ m → (me : ℕ) (xs : List (Bor (List ℕ))) (i : ℕ) (z : Bor (List ℕ)) (b : Bool) → i < length xs → b ≡ is_some (heard n me (get_or xs i z).now)
+    → b ≡ false → Left m me xs i → false ≡ are_heard m me (texts xs)
+fails m n same me xs i z b l is no left =
+    let here : b ≡ is_some (heard m me (get_or xs i z).now) = is ∙ ap (λ (x : Membership). is_some (heard x me (get_or xs i z).now)) same in
+    let gone : is_some (heard m me (get_or xs i z).now) ≡ false = sym here ∙ no in
     let rest : Bool = are_heard m me (texts (drop (suc i) xs)) in
     sym (left ∙ step m me xs i z l ∙ ap (λ (x : Bool). x && rest) gone)
 
-pub goes_on : (m : Membership) (me : ℕ) (xs : List (Bor (List ℕ))) (i : ℕ) (z : Bor (List ℕ)) (b : Bool) → i < length xs → b ≡ is_some (heard m me (get_or xs i z).now) → b ≡ true
-    → Left m me xs i → Left m me xs (i + 1)
-goes_on m me xs i z b l is yes left =
-    let there : is_some (heard m me (get_or xs i z).now) ≡ true = sym is ∙ yes in
+pub goes_on : (m n : Membership) → n ≡ m → (me : ℕ) (xs : List (Bor (List ℕ))) (i : ℕ) (z : Bor (List ℕ)) (b : Bool) → i < length xs → b ≡ is_some (heard n me (get_or xs i z).now)
+    → b ≡ true → Left m me xs i → Left m me xs (i + 1)
+goes_on m n same me xs i z b l is yes left =
+    let here : b ≡ is_some (heard m me (get_or xs i z).now) = is ∙ ap (λ (x : Membership). is_some (heard x me (get_or xs i z).now)) same in
+    let there : is_some (heard m me (get_or xs i z).now) ≡ true = sym here ∙ yes in
     let rest : Bool = are_heard m me (texts (drop (suc i) xs)) in
     left ∙ step m me xs i z l ∙ ap (λ (x : Bool). x && rest) there ∙ ap (λ (k : ℕ). are_heard m me (texts (drop k xs))) (sym (add-one i))
 

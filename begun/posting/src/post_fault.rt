@@ -2,7 +2,7 @@
 
 use authenticator::SealFault;
 use signing::SignFault;
-use std::alloc::{AllocError, AllocFailed};
+use std::alloc::AllocError;
 use terms::NoMemory;
 use thiserror::Error;
 
@@ -27,17 +27,6 @@ impl From<AllocError> for PostFault {
     ghost from_gives = { λ _ e. e ≡ no_memory };
 
     fn from(_failed: AllocError) -> PostFault {
-        PostFault::NoMemory
-    }
-}
-
-impl<T: Drop> From<AllocFailed<T>> for PostFault {
-    ghost use Rattle.std.specs.Prelude.{◌≡◌};
-    ghost use Rattle.posting.specs.declared.post_fault.PostFault.TheVariants.{NoMemory as no_memory};
-
-    ghost from_gives = { λ _ e. e ≡ no_memory };
-
-    fn from(_failed: AllocFailed<T>) -> PostFault {
         PostFault::NoMemory
     }
 }
