@@ -1,8 +1,7 @@
 -- Whether something is heard.
-use Rattle.std.proofs.Common.{◌≡◌, ℕ, suc, ◌+◌, ◌<◌, Bool, true, false, List, [], ◌∷◌, length, map, drop, get_or, Option, Some, None, refl, sym, ap, ◌∙◌, Bor, drop-cons, add-one, ◌&&◌}
+use Rattle.std.proofs.Common.{◌≡◌, ℕ, suc, ◌+◌, ◌<◌, Bool, true, false, List, [], length, map, drop, get_or, Option, Some, None, refl, sym, ap, ◌∙◌, Bor, drop-cons, add-one, ◌&&◌}
 use Rattle.std.specs.Prelude.{option_map, is_some}
 use Rattle.wire.specs.declared.frames.Frame.{Frame}
-use Rattle.wire.specs.Messages.{BodyData}
 use Rattle.authenticator.specs.Membership.{Membership}
 use Rattle.signing.specs.Heard.{heard}
 use Rattle.posting.specs.Endpoint.{are_heard}

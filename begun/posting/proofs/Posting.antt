@@ -3,10 +3,10 @@ use Rattle.std.proofs.Common.{◌≡◌, ℕ, zero, suc, ◌+◌, ◌*◌, ◌<�
 use Rattle.std.specs.Prelude.{IfOk}
 use Rattle.tuple_tree.specs.Values.{AreBytes}
 use Rattle.wire.specs.Messages.{BodyData, MessageData as Message, signature}
-use Rattle.wire.specs.Spelling.{IsBody, IsMessage, SpellsFrame, authenticator_spelling, body_spelling, frame_limit, frame_spelling, is_signed, piece}
+use Rattle.wire.specs.Spelling.{IsBody, IsMessage, authenticator_spelling, body_spelling, frame_limit, frame_spelling, is_signed, piece}
 use Rattle.authenticator.specs.Keys.{signing_seed}
 use Rattle.authenticator.specs.Membership.{Membership}
-use Rattle.authenticator.specs.Sealing.{IsSealable, sealed_for}
+use Rattle.authenticator.specs.Sealing.{IsSealable}
 use Rattle.signing.specs.Signatures.{Verifies, public_key}
 use Rattle.signing.proofs.Heard.{verifies-Decides}
 use Rattle.protocol.specs.System.Configuration.{Configuration, members}

@@ -1,6 +1,6 @@
 //! Frames with MACs.
 
-ghost use Rattle.std.specs.Prelude.{◌≡◌, ◌+◌, ◌*◌, ◌<◌, ◌≤◌, ◌∷◌, [], false, IfOk, map, ℕ, List};
+ghost use Rattle.std.specs.Prelude.{◌≡◌, ◌+◌, ◌*◌, ◌<◌, ◌≤◌, ◌∷◌, [], false, IfOk, map};
 ghost use Rattle.terms.specs.Parties.{party_number};
 ghost use Rattle.wire.specs.Spelling.{IsMessage, is_signed};
 ghost use Rattle.wire.specs.Views.{body_data, message_data};

@@ -1,10 +1,8 @@
-use Rattle.std.proofs.Common.{◌≡◌, [], ◌++◌, ◌<◌, ◌≤◌, ◌^◌, List, ℕ, length, length-append, arith, subst, sym, ◌∙◌, ap, append-nil}
-use Rattle.std.specs.Int.{w32, to_be_bytes}
+use Rattle.std.proofs.Common.{◌≡◌, [], ◌++◌, ◌<◌, ◌^◌, List, ℕ, length, subst, sym, ◌∙◌, ap, append-nil}
 use Rattle.tuple_tree.specs.Values.{AreBytes}
 use Rattle.wire.specs.Messages.{signature}
-use Rattle.wire.specs.Spelling.{authenticator_spelling, body_spelling, frame_limit, piece}
+use Rattle.wire.specs.Spelling.{authenticator_spelling, body_spelling, piece}
 use Rattle.wire.specs.Views.{body_data, message_data}
-use Rattle.wire.proofs.Framing.{limit_bound}
 use Rattle.authenticator.proofs.Frames.{piece-short}
 use Rattle.posting.proofs.Posting.{spells_signed}
 use Rattle.posting.proofs.signing_frames.sign_body.Goals as goal

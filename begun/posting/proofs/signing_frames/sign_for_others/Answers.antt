@@ -1,5 +1,4 @@
-use Rattle.std.proofs.Common.{◌+◌, ◌*◌, ℕ, ◌≡◌, ◌∙◌, ap, refl, map}
-use Rattle.terms.specs.Parties.{party_number}
+use Rattle.std.proofs.Common.{◌+◌, ◌*◌, ℕ, ◌∙◌, ap, refl}
 use Rattle.wire.specs.Views.{message_data}
 use Rattle.posting.specs.Endpoint.{others_below}
 use Rattle.posting.proofs.Posting.{may_say, signed_posts}

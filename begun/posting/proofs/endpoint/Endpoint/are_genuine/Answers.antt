@@ -1,4 +1,4 @@
-use Rattle.std.proofs.Common.{◌≡◌, ◌∙◌, ap, subst, ℕ, List, Bor}
+use Rattle.std.proofs.Common.{◌≡◌, ◌∙◌, ap, subst, ℕ, List}
 use Rattle.std.specs.Prelude.{IfOk}
 use Rattle.wire.specs.Words.{requests_of}
 use Rattle.posting.specs.Endpoint.{are_heard}
