@@ -1,0 +1,103 @@
+-- What is sealed or signed is posted.
+use Rattle.std.proofs.Common.{◌≡◌, ℕ, zero, suc, ◌+◌, ◌*◌, ◌<◌, ◌≤◌, ◌^◌, true, false, List, [], ◌∷◌, ◌++◌, length, length-append, arith, Result, Ok, Err, refl, sym, ap, ◌∙◌, subst}
+use Rattle.std.specs.Prelude.{IfOk}
+use Rattle.tuple_tree.specs.Values.{AreBytes}
+use Rattle.wire.specs.Messages.{BodyData, MessageData as Message, signature}
+use Rattle.wire.specs.Spelling.{IsBody, IsMessage, authenticator_spelling, body_spelling, frame_limit, frame_spelling, is_signed, piece}
+use Rattle.authenticator.specs.Keys.{signing_seed}
+use Rattle.authenticator.specs.Membership.{Membership}
+use Rattle.authenticator.specs.Sealing.{IsSealable}
+use Rattle.signing.specs.Signatures.{Verifies, public_key}
+use Rattle.signing.proofs.Heard.{verifies-Decides}
+use Rattle.protocol.specs.System.Configuration.{Configuration, members}
+use Rattle.protocol.specs.System.Frames.{IsPosted}
+use Rattle.protocol.specs.Replica.RightReplica.{others}
+use Rattle.protocol.proofs.Words.Posting.{sealed_is_posted, signed_is_posted}
+use Rattle.events.specs.declared.output.Output.{Output}
+use Rattle.posting.specs.Endpoint.{IsSignedPost, Posts, other_replicas, others_below}
+use Rattle.posting.specs.Frames.{SignedFits, SignsPost, SpellsSealed, SpellsSigned, says, signed_frame}
+use Rattle.posting.proofs.Others.{others_ascend, others_few, others_some}
+
+-- ---- what may be sealed
+
+pub one_sealable : (me party : ℕ) (message : Message) (parties : List ℕ) → me < 10 → IsMessage message → is_signed message ≡ false → parties ≡ party ∷ [] → IsSealable (says me message) parties
+one_sealable me party message parties known said unsigned one =
+    let low : me < 2 ^ 16 = omega arith in
+    let n : length (party ∷ []) ≡ 1 = refl in
+    subst (IsSealable (says me message)) (sym one) (record {
+      said = record { sender = low; message = said };
+      unsigned = unsigned;
+      some = omega (arith, n);
+      few = omega (arith, n);
+      ascend = refl;
+    })
+
+more_than_one : (n me : ℕ) → 2 ≤ n → 1 ≤ length (others_below n me)
+more_than_one zero me l = absurd (omega arith)
+more_than_one (suc zero) me l = absurd (omega arith)
+more_than_one (suc (suc k)) me l = others_some k me
+
+pub others_sealable : (me faults : ℕ) (message : Message) (parties : List ℕ) → 1 ≤ faults → faults ≤ 3 → me < 3 * faults + 1 → IsMessage message → is_signed message ≡ false
+    → parties ≡ others_below (3 * faults + 1) me → IsSealable (says me message) parties
+others_sealable me faults message parties some few known said unsigned same =
+    let low : me < 2 ^ 16 = omega arith in
+    let most : length (others_below (3 * faults + 1) me) ≤ 3 * faults + 1 = others_few (3 * faults + 1) me in
+    let least : 1 ≤ length (others_below (3 * faults + 1) me) = more_than_one (3 * faults + 1) me (omega arith) in
+    subst (IsSealable (says me message)) (sym same) (record {
+      said = record { sender = low; message = said };
+      unsigned = unsigned;
+      some = least;
+      few = omega (arith, most, few);
+      ascend = others_ascend (3 * faults + 1) me;
+    })
+
+pub may_say : (me faults : ℕ) (message : Message) → me < 3 * faults + 1 → faults ≤ 3 → IsMessage message → IsBody (says me message)
+may_say me faults message known few said = let low : me < 2 ^ 16 = omega arith in record { sender = low; message = said }
+
+-- ---- what is sealed
+
+pub sealed_posts : (m : Membership) (me : ℕ) (message : Message) (parties bytes : List ℕ) → SpellsSealed m.seed (says me message) parties bytes → Posts m me message parties bytes
+sealed_posts m me message parties bytes spells c known =
+    sealed_is_posted c (says me message) parties bytes (subst (λ (x : Membership). SpellsSealed x.seed (says me message) parties bytes) (sym known) spells)
+
+-- as the laws over histories ask for it
+pub posted_for_others : (m : Membership) (me : ℕ) (message : Message) (bytes : List ℕ) → Posts m me message (other_replicas m me) bytes → (c : Configuration) → members c ≡ m
+    → IsPosted c me message (others c me) bytes
+posted_for_others m me message bytes posts c known =
+    subst (λ (x : Membership). IsPosted c me message (other_replicas x me) bytes) (sym known) (posts c known)
+
+-- ---- what is signed
+
+rest_bytes : (a s : List ℕ) (x : ℕ) → AreBytes (a ++ x ∷ s) → AreBytes s
+rest_bytes [] s x h = λ i. h (suc i)
+rest_bytes (y ∷ a) s x h = rest_bytes a s x (λ i. h (suc i))
+
+-- what a body's bytes and a signature make
+pub spells_signed : (seed : List ℕ) (body : BodyData) (text s whole : List ℕ) → IsBody body → is_signed body.message ≡ true → SignedFits body → text ≡ body_spelling body
+    → Verifies (public_key seed) text s → whole ≡ piece (body_spelling body) ++ authenticator_spelling (signature s) → AreBytes whole → SpellsSigned seed body whole
+spells_signed seed body text s whole is kind short same verified spelled are =
+    let long : length s ≡ 16577 = verified.formed.whole in
+    let bytes : AreBytes s = rest_bytes (piece (body_spelling body)) s 1 (subst AreBytes spelled are) in
+    let size = length-append (piece (body_spelling body)) (authenticator_spelling (signature s)) in
+    let fits : length (frame_spelling (signed_frame body s)) ≤ frame_limit body.message = omega (arith, size) in
+    record {
+      signed = s;
+      spells = record {
+        valid = record { sender = is.sender; message = is.message; authenticator = (long, bytes); proved = sym kind; short = fits };
+        spelled = spelled;
+      };
+      verifies = subst (λ (x : List ℕ). Verifies (public_key seed) x s) same verified;
+    }
+
+pub signed_posts : (m : Membership) (me : ℕ) (message : Message) (seed bytes : List ℕ) → seed ≡ signing_seed m.seed me → SpellsSigned seed (says me message) bytes → Posts m me message [] bytes
+signed_posts m me message seed bytes own k c known =
+    let key : seed ≡ signing_seed c.seed me = own ∙ ap (λ (x : Membership). signing_seed x.seed me) (sym known) in
+    let v : Verifies (public_key (signing_seed c.seed me)) (body_spelling (says me message)) k.signed =
+    subst (λ (x : List ℕ). Verifies (public_key x) (body_spelling (says me message)) k.signed) key k.verifies in
+    signed_is_posted c (says me message) k.signed bytes k.spells ((verifies-Decides (public_key (signing_seed c.seed me)) (body_spelling (says me message)) k.signed).1 v)
+
+-- of the endpoint's own seed
+pub signs_for : {E : Type 0} (r : Result Output E) (m : Membership) (seed : List ℕ) (faults me : ℕ) (message : Message) → IfOk r (SignsPost seed faults me message) → seed ≡ signing_seed m.seed me
+    → faults ≡ m.faults → IfOk r (IsSignedPost m me message (other_replicas m me))
+signs_for (Ok output) m seed faults me message h own e = h m own e
+signs_for (Err fault) m seed faults me message h own e = h

@@ -1,0 +1,21 @@
+use Rattle.std.proofs.Common.{◌≡◌, [], ◌++◌, ◌<◌, ◌^◌, List, ℕ, length, subst, sym, ◌∙◌, ap, append-nil}
+use Rattle.tuple_tree.specs.Values.{AreBytes}
+use Rattle.wire.specs.Messages.{signature}
+use Rattle.wire.specs.Spelling.{authenticator_spelling, body_spelling, piece}
+use Rattle.wire.specs.Views.{body_data, message_data}
+use Rattle.authenticator.proofs.Frames.{piece-short}
+use Rattle.posting.proofs.Posting.{spells_signed}
+use Rattle.posting.proofs.signing_frames.sign_body.Goals as goal
+
+pub returns-clause-spells : goal.returns-clause-spells
+returns-clause-spells c =
+    let text : List ℕ = body_spelling (body_data c.args.body.now) in
+    let fits : length text < 2 ^ 32 = piece-short (message_data c.args.body.now.message) text 16578 c.in_ok-frame.ensures.short in
+    let is : c.in_ok-frame.frame.items ≡ piece text ++ [] = c.in_ok-frame.ensures.ok ∙ sym (append-nil (piece text)) in
+    let shown : c.body_bytes.result.now ≡ text = c.body_bytes.ensures.text text [] fits (c.deref.ensures.value ∙ is) in
+    let signed : c.into_bytes.result.items ≡ c.in_ok-signature.signature = c.into_bytes.ensures.value in
+    let whole : c.put_authenticator.new.frame.items ≡ piece text ++ authenticator_spelling (signature c.in_ok-signature.signature) =
+    c.in_ok-put_authenticator.ensures.ok ∙ ap (λ (x : List ℕ). x ++ authenticator_spelling (signature c.into_bytes.result.items)) c.in_ok-frame.ensures.ok
+    ∙ ap (λ (x : List ℕ). piece text ++ authenticator_spelling (signature x)) signed in
+    spells_signed c.args.signer.now.seed (body_data c.args.body.now) c.body_bytes.result.now c.in_ok-signature.signature c.put_authenticator.new.frame.items
+    c.requires.said c.requires.signed c.in_ok-frame.ensures.short shown c.in_ok-signature.ensures.verifies whole (subst AreBytes c.deref-2.ensures.value c.note_bytes.ensures)

@@ -1,0 +1,3 @@
+pub mod Endpoint
+pub mod Faults
+pub mod Frames

@@ -1,0 +1,71 @@
+//! Why nothing is posted.
+
+use authenticator::SealFault;
+use signing::SignFault;
+use std::alloc::AllocError;
+use terms::NoMemory;
+use thiserror::Error;
+
+/// Why nothing is posted.
+#[derive(Clone, Copy, Debug, PartialEq, Eq, Error)]
+pub enum PostFault {
+    /// The frame would be longer than it may be.
+    #[error("the frame is too long")]
+    TooLarge,
+    /// Each of the 64 keys has signed once.
+    #[error("all 64 keys are spent")]
+    KeysSpent,
+    /// There was no room for the frame.
+    #[error("out of memory")]
+    NoMemory,
+}
+
+impl From<AllocError> for PostFault {
+    ghost use Rattle.std.specs.Prelude.{◌≡◌};
+    ghost use Rattle.posting.specs.declared.post_fault.PostFault.TheVariants.{NoMemory as no_memory};
+
+    ghost from_gives = { λ _ e. e ≡ no_memory };
+
+    fn from(_failed: AllocError) -> PostFault {
+        PostFault::NoMemory
+    }
+}
+
+impl From<NoMemory> for PostFault {
+    ghost use Rattle.std.specs.Prelude.{◌≡◌};
+    ghost use Rattle.posting.specs.declared.post_fault.PostFault.TheVariants.{NoMemory as no_memory};
+
+    ghost from_gives = { λ _ e. e ≡ no_memory };
+
+    fn from(_failed: NoMemory) -> PostFault {
+        PostFault::NoMemory
+    }
+}
+
+impl From<SealFault> for PostFault {
+    ghost use Rattle.std.specs.Prelude.{◌≡◌};
+    ghost use Rattle.posting.specs.Faults.{fault_of_sealing};
+
+    ghost from_gives = { λ fault e. e ≡ fault_of_sealing fault };
+
+    fn from(fault: SealFault) -> PostFault {
+        match fault {
+            SealFault::TooLarge => PostFault::TooLarge,
+            SealFault::NoMemory => PostFault::NoMemory,
+        }
+    }
+}
+
+impl From<SignFault> for PostFault {
+    ghost use Rattle.std.specs.Prelude.{◌≡◌};
+    ghost use Rattle.posting.specs.Faults.{fault_of_signing};
+
+    ghost from_gives = { λ fault e. e ≡ fault_of_signing fault };
+
+    fn from(fault: SignFault) -> PostFault {
+        match fault {
+            SignFault::KeysSpent => PostFault::KeysSpent,
+            SignFault::NoMemory => PostFault::NoMemory,
+        }
+    }
+}
