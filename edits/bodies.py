@@ -12,7 +12,7 @@ INHERENT = re.compile(r"impl(?:<.*?>)? (\w+)(?:<.*>)? \{$")
 # A line that names what the edit took away says little of the contract.
 NAMES = re.compile(r"has no field|is not in scope|has no `|was not admitted")
 SAID = re.compile(r"fn (\S+): (.*)")
-NOTE = re.compile(r"(?:note: )?(?:\./)?((?:src|proofs)/\S+?):(\d+):\d+: .*")
+NOTE = re.compile(r"(?:note: )?(?:\./)?((?:src|proofs)/\S+?):(\d+):\d+: (?!note: ).*")
 
 
 class Place(NamedTuple):
@@ -112,11 +112,8 @@ class Batch:
         self.edits[edit] = place
         return True
 
-    def functions(self):
-        return [it.function for it in self.edits.values()]
-
     def refused(self, crate, said):
-        """Returns a line on each edit whose function has no proof by what a check of these functions said."""
+        """Returns, of each edit whose function has no proof by what a check with all of them said, a line that says so."""
         functions = {it[1]: it[2] for it in map(SAID.fullmatch, said.splitlines()) if it}
         notes = [it for it in map(NOTE.match, said.splitlines()) if it and not NAMES.search(it[0])]
         found = {}
@@ -124,7 +121,7 @@ class Batch:
             verdict = functions.get(f"{crate}::{place.function}", "")
             note = next((it for it in notes if is_about(it, place)), None)
             if verdict.startswith(("no proof", "not proved")) and note:
-                found[edit] = f"edits/run: must-fail {crate}/{edit.name}: refused, as it must be: {note[0][:160]}"
+                found[edit] = note[0][:160]
         return found
 
 
