@@ -1,0 +1,45 @@
+-- Whether something is heard.
+use Rattle.std.proofs.Common.{◌≡◌, ℕ, suc, ◌+◌, ◌<◌, Bool, true, false, List, [], length, drop, get_or, Option, Some, None, refl, sym, ap, ◌∙◌, Bor, drop-cons, add-one, ◌&&◌}
+use Rattle.std.specs.Prelude.{option_map, is_some}
+use Rattle.wire.specs.declared.frames.Frame.{Frame}
+use Rattle.authenticator.specs.Membership.{Membership}
+use Rattle.signing.specs.Heard.{heard}
+use Rattle.posting.specs.Endpoint.{are_heard}
+use Rattle.posting.specs.Frames.{frame_body, texts}
+
+some_of : (o : Option Frame) → is_some (option_map frame_body o) ≡ is_some o
+some_of None = refl
+some_of (Some frame) = refl
+
+pub tells_whether : (m : Membership) (me : ℕ) (bytes : List ℕ) (o : Option Frame) → heard m me bytes ≡ option_map frame_body o → is_some o ≡ is_some (heard m me bytes)
+tells_whether m me bytes o e = sym (ap is_some e ∙ some_of o)
+
+-- ---- each of some bytes
+
+-- what is left to test decides
+abbrev pub Left : Membership → ℕ → List (Bor (List ℕ)) → ℕ → Type 0
+Left m me xs i = are_heard m me (texts xs) ≡ are_heard m me (texts (drop i xs))
+
+step : (m : Membership) (me : ℕ) (xs : List (Bor (List ℕ))) (i : ℕ) (z : Bor (List ℕ)) → i < length xs
+    → are_heard m me (texts (drop i xs)) ≡ (is_some (heard m me (get_or xs i z).now) && are_heard m me (texts (drop (suc i) xs)))
+step m me xs i z l = rw (drop-cons xs i z l) refl
+
+-- the program's test of the next, by members that stay
+pub fails : (m n : Membership) → n ≡ m → (me : ℕ) (xs : List (Bor (List ℕ))) (i : ℕ) (z : Bor (List ℕ)) (b : Bool) → i < length xs → b ≡ is_some (heard n me (get_or xs i z).now)
+    → b ≡ false → Left m me xs i → false ≡ are_heard m me (texts xs)
+fails m n same me xs i z b l is fails_here left =
+    let here : b ≡ is_some (heard m me (get_or xs i z).now) = is ∙ ap (λ (x : Membership). is_some (heard x me (get_or xs i z).now)) same in
+    let gone : is_some (heard m me (get_or xs i z).now) ≡ false = sym here ∙ fails_here in
+    let rest : Bool = are_heard m me (texts (drop (suc i) xs)) in
+    sym (left ∙ step m me xs i z l ∙ ap (λ (x : Bool). x && rest) gone)
+
+pub goes_on : (m n : Membership) → n ≡ m → (me : ℕ) (xs : List (Bor (List ℕ))) (i : ℕ) (z : Bor (List ℕ)) (b : Bool) → i < length xs → b ≡ is_some (heard n me (get_or xs i z).now)
+    → b ≡ true → Left m me xs i → Left m me xs (i + 1)
+goes_on m n same me xs i z b l is holds_here left =
+    let here : b ≡ is_some (heard m me (get_or xs i z).now) = is ∙ ap (λ (x : Membership). is_some (heard x me (get_or xs i z).now)) same in
+    let there : is_some (heard m me (get_or xs i z).now) ≡ true = sym here ∙ holds_here in
+    let rest : Bool = are_heard m me (texts (drop (suc i) xs)) in
+    left ∙ step m me xs i z l ∙ ap (λ (x : Bool). x && rest) there ∙ ap (λ (k : ℕ). are_heard m me (texts (drop k xs))) (sym (add-one i))
+
+pub ends : (m : Membership) (me : ℕ) (xs : List (Bor (List ℕ))) (i : ℕ) → drop i xs ≡ [] → Left m me xs i → true ≡ are_heard m me (texts xs)
+ends m me xs i e left = sym (left ∙ ap (λ (ys : List (Bor (List ℕ))). are_heard m me (texts ys)) e)

@@ -1,0 +1,116 @@
+-- What an endpoint is, what it hears, and what it posts (Castro and Liskov, Practical Byzantine fault tolerance and
+-- proactive recovery, TOCS 2002, on the authentication of messages).
+use Rattle.std.specs.Prelude.{◌≡◌, ℕ, ◌+◌, ◌*◌, ◌<◌, ◌≤◌, ◌==◌, Bool, not, List, [], ◌∷◌, map, filter, Option, is_some, option_map}
+use Rattle.std.specs.List.{list_all, range_with_len}
+use Rattle.terms.specs.Parties.{party_number}
+use Rattle.terms.specs.declared.parties.Party.{Party}
+use Rattle.wire.specs.declared.messages.Batch.{Batch}
+use Rattle.wire.specs.declared.messages.Body.{Body}
+use Rattle.wire.specs.Messages.{MessageData as Message}
+use Rattle.wire.specs.Views.{body_data}
+use Rattle.wire.specs.Words.{requests_of}
+use Rattle.authenticator.specs.Keys.{signing_seed}
+use Rattle.authenticator.specs.Membership.{Membership, replicas}
+use Rattle.signing.specs.Heard.{heard}
+use Rattle.protocol.specs.System.Configuration.{Configuration, members}
+use Rattle.protocol.specs.System.Frames.{IsPosted}
+use Rattle.protocol.specs.System.Trace.Entry.{Sent}
+use Rattle.events.specs.declared.output.Output.{Output}
+use Rattle.events.specs.declared.output.Output.TheVariants as outputs
+use Rattle.events.specs.Outputs.{entry_of}
+
+-- who takes part, which replica this is, and how many of its 64 keys have signed
+pub record EndpointState : Type 0 where
+  pub membership : Membership
+  pub me : ℕ
+  pub used : ℕ
+
+-- A replica of these members may be one of 4, 7 or 10, and its keys are of their seed.
+abbrev pub IsOfMembers : Membership → ℕ → ℕ → List ℕ → List ℕ → Type 0
+IsOfMembers m faults me publics seed =
+    (faults ≡ m.faults) × (1 ≤ faults) × (faults ≤ 3) × (me < 3 * faults + 1) × (publics ≡ m.seed)
+    × (seed ≡ signing_seed m.seed me)
+
+-- the parties' numbers
+abbrev pub numbers : List Party → List ℕ
+numbers parties = map party_number parties
+
+-- the numbers below n but this one, ascending
+abbrev pub others_below : ℕ → ℕ → List ℕ
+others_below n me = filter (λ r. not (r == me)) (range_with_len 0 n)
+
+-- the other replicas
+abbrev pub other_replicas : Membership → ℕ → List ℕ
+other_replicas m me = others_below (replicas m) me
+
+-- ---- what is heard
+
+-- whether the replica hears something from each of the frames
+abbrev pub are_heard : Membership → ℕ → List (List ℕ) → Bool
+are_heard m me frames = list_all (λ frame. is_some (heard m me frame)) frames
+
+-- the body is what the endpoint hears from the bytes, if it hears one
+abbrev pub Hears : EndpointState → List ℕ → Option Body → Type 0
+Hears e bytes body = heard e.membership e.me bytes ≡ option_map body_data body
+
+-- the test says whether each request of the batch is genuine to it
+abbrev pub TellsGenuine : EndpointState → Batch → Bool → Type 0
+TellsGenuine e batch test = test ≡ are_heard e.membership e.me (requests_of batch.text.items)
+
+-- ---- what is posted
+
+-- In each configuration of these members the bytes are the replica's frame that says this, sealed for these parties; a
+-- signed one names none.
+abbrev pub Posts : Membership → ℕ → Message → List ℕ → List ℕ → Type 0
+Posts m me message sealed bytes =
+    (c : Configuration) → members c ≡ m → IsPosted c me message sealed bytes
+
+-- whom an output goes to
+abbrev pub receivers : Output → List ℕ
+receivers (outputs.Executed number batch) = []
+receivers (outputs.Installed number root) = []
+receivers (outputs.Send parties frame) = numbers parties.items
+receivers (outputs.Accepted timestamp answer) = []
+
+-- The output is such a frame, and goes to these parties.
+pub record IsPost (m : Membership) (me : ℕ) (message : Message) (sealed parties : List ℕ)
+    (output : Output) : Type 0 where
+  pub bytes : List ℕ
+  pub sends : entry_of me output ≡ Sent me bytes
+  pub goes : receivers output ≡ parties
+  pub posted : Posts m me message sealed bytes
+
+-- it has a MAC for each party that it goes to
+abbrev pub IsSealedPost : Membership → ℕ → Message → List ℕ → Output → Type 0
+IsSealedPost m me message parties output = IsPost m me message parties parties output
+
+-- it is signed
+abbrev pub IsSignedPost : Membership → ℕ → Message → List ℕ → Output → Type 0
+IsSignedPost m me message parties output = IsPost m me message [] parties output
+
+-- it goes to these parties
+abbrev pub SealsFor : Membership → ℕ → Message → List Party → Output → Type 0
+SealsFor m me message parties output = IsSealedPost m me message (numbers parties) output
+
+-- it goes to this party alone
+abbrev pub SealsForOne : Membership → ℕ → Message → Party → Output → Type 0
+SealsForOne m me message party output = IsSealedPost m me message (party_number party ∷ []) output
+
+-- it goes to all other replicas
+abbrev pub SealsForOthers : Membership → ℕ → Message → Output → Type 0
+SealsForOthers m me message output = IsSealedPost m me message (other_replicas m me) output
+
+-- it is signed, and goes to all other replicas
+abbrev pub SignsForOthers : Membership → ℕ → Message → Output → Type 0
+SignsForOthers m me message output = IsSignedPost m me message (other_replicas m me) output
+
+-- ---- the same of an endpoint
+
+abbrev pub PostsTo : EndpointState → Message → Party → Output → Type 0
+PostsTo e message party output = SealsForOne e.membership e.me message party output
+
+abbrev pub PostsToOthers : EndpointState → Message → Output → Type 0
+PostsToOthers e message output = SealsForOthers e.membership e.me message output
+
+abbrev pub PostsSigned : EndpointState → Message → Output → Type 0
+PostsSigned e message output = SignsForOthers e.membership e.me message output

@@ -1,0 +1,78 @@
+-- What the private functions speak of that make frames.
+use Rattle.std.specs.Prelude.{◌≡◌, ℕ, ◌+◌, ◌<◌, ◌≤◌, List, length, map, Vec}
+use Rattle.std.specs.Borrow.{Bor}
+use Rattle.std.specs.declared.alloc.Global.{Global}
+use Rattle.terms.specs.declared.parties.Party.{Party}
+use Rattle.terms.specs.declared.parties.ReplicaId.{ReplicaId}
+use Rattle.wire.specs.declared.frames.Frame.{Frame}
+use Rattle.wire.specs.declared.messages.Body.{Body}
+use Rattle.wire.specs.Messages.{BodyData, FrameData, MessageData as Message, signature}
+use Rattle.wire.specs.Spelling.{SpellsFrame, body_spelling, frame_limit, piece}
+use Rattle.wire.specs.Views.{body_data}
+use Rattle.authenticator.specs.Giving.{sealed_frame}
+use Rattle.authenticator.specs.Keys.{signing_seed}
+use Rattle.authenticator.specs.Membership.{Membership}
+use Rattle.authenticator.specs.Sealing.{IsTooLong, sealed_for}
+use Rattle.signing.specs.Signatures.{Verifies, public_key}
+use Rattle.events.specs.declared.output.Output.{Output}
+use Rattle.posting.specs.Endpoint.{SignsForOthers, numbers}
+
+abbrev pub frame_body : Frame → BodyData
+frame_body frame = body_data frame.body
+
+-- the bytes of slices
+abbrev pub texts : List (Bor (List ℕ)) → List (List ℕ)
+texts frames = map (λ frame. frame.now) frames
+
+-- the party says this
+abbrev pub says : ℕ → Message → BodyData
+says me message = record { sender = me; message = message }
+
+-- ---- with MACs
+
+-- the bytes are the body with its MACs for these parties
+abbrev pub SpellsSealed : List ℕ → BodyData → List ℕ → List ℕ → Type 0
+SpellsSealed seed body parties bytes = SpellsFrame bytes (sealed_for seed body parties)
+
+-- the bytes are the party's message with its MACs for these parties
+abbrev pub SealsMessage : Membership → ReplicaId → Message → List Party → Vec ℕ Global → Type 0
+SealsMessage m me message parties bytes =
+    SpellsSealed m.seed (says me.0 message) (numbers parties) bytes.items
+
+-- the body with its MACs for these parties would be longer than a frame may be
+abbrev pub IsTooLarge : Membership → Body → List Party → Type 0
+IsTooLarge m body parties = IsTooLong (sealed_frame m.seed body parties)
+
+-- ---- with a signature
+
+-- a body with a signature
+abbrev pub signed_frame : BodyData → List ℕ → FrameData
+signed_frame body signed = record { body = body; authenticator = signature signed }
+
+-- the bytes are the body with a signature of it by this seed
+pub record SpellsSigned (seed : List ℕ) (body : BodyData) (bytes : List ℕ) : Type 0 where
+  pub signed : List ℕ
+  pub spells : SpellsFrame bytes (signed_frame body signed)
+  pub verifies : Verifies (public_key seed) (body_spelling body) signed
+
+-- the bytes are the body with a signature of it
+abbrev pub SignsBody : List ℕ → Body → Vec ℕ Global → Type 0
+SignsBody seed body bytes = SpellsSigned seed (body_data body) bytes.items
+
+-- the bytes are the party's message with a signature of it
+abbrev pub SignsMessage : List ℕ → ReplicaId → Message → Vec ℕ Global → Type 0
+SignsMessage seed me message bytes = SpellsSigned seed (says me.0 message) bytes.items
+
+-- with a signature the body has at most as many bytes as a frame of it may have
+abbrev pub SignedFits : BodyData → Type 0
+SignedFits body = length (piece (body_spelling body)) + 16578 ≤ frame_limit body.message
+
+-- it has more
+abbrev pub SignedExceeds : BodyData → Type 0
+SignedExceeds body = frame_limit body.message < length (piece (body_spelling body)) + 16578
+
+-- It is such an output of any members of whom so many may be faulty and whose seed it signs by.
+abbrev pub SignsPost : List ℕ → ℕ → ℕ → Message → Output → Type 0
+SignsPost seed faults me message output =
+    (m : Membership) → seed ≡ signing_seed m.seed me → faults ≡ m.faults
+    → SignsForOthers m me message output

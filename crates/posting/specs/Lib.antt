@@ -1,0 +1,4 @@
+pub mod Endpoint
+pub mod Faults
+pub mod Frames
+pub mod Replies

@@ -1,0 +1,13 @@
+-- What a reply says.
+use Rattle.std.specs.Prelude.{◌≡◌, ◌+◌}
+use Rattle.terms.specs.declared.order.Mode.{Mode}
+use Rattle.terms.specs.declared.order.Number.{Number}
+use Rattle.terms.specs.declared.order.Timestamp.{Timestamp}
+use Rattle.terms.specs.declared.parties.ClientId.{ClientId}
+use Rattle.tuple_codec.specs.Operations.{Outcome}
+use Rattle.wire.specs.Messages.{MessageData as Message, reply}
+
+-- the message is the reply to this client's request
+abbrev pub IsReply : ClientId → Timestamp → Mode → Number → Outcome → Message → Type 0
+IsReply client timestamp mode number outcome message =
+    message ≡ reply (256 + client.number) timestamp.0 mode number.0 outcome

@@ -1,0 +1,151 @@
+//! The endpoint of a replica.
+
+ghost use Rattle.std.specs.Prelude.{◌≡◌, ◌+◌, ◌*◌, ◌<◌, ◌≤◌, true, false, IfOk, OnOk};
+ghost use Rattle.wire.specs.Spelling.{IsMessage, is_signed};
+ghost use Rattle.wire.specs.Views.{message_data};
+ghost use Rattle.authenticator.specs.Keys.{signing_seed};
+ghost use Rattle.posting.specs.Endpoint.{Hears, PostsSigned, PostsTo, PostsToOthers, TellsGenuine};
+
+use crate::hearing::{hear_all, hear_body};
+use crate::post_fault::PostFault;
+use crate::sealing::{seal_for_one, seal_for_others};
+use crate::signing_frames::sign_for_others;
+use authenticator::Ring;
+use events::Output;
+use signing::{PublicKeys, Signer};
+use std::alloc::Global;
+use std::marker::Model;
+use terms::{NoMemory, Party, ReplicaId};
+use wire::{Batch, Body, Message, requests};
+
+/// What a replica hears frames with, and posts them with.
+#[derive(Drop)]
+pub struct Endpoint {
+    me: ReplicaId,
+    faults: u8,
+    ring: Ring,
+    publics: PublicKeys,
+    signer: Signer,
+}
+
+impl Model for Endpoint {
+    ghost use Rattle.posting.specs.Endpoint.{EndpointState, IsOfMembers};
+
+    ghost Value = { EndpointState };
+
+    ghost view = { λ e. record { membership = e.ring; me = e.me.0; used = e.signer.used } };
+
+    ghost invariant = { λ e. IsOfMembers e.ring e.faults e.me.0 e.publics e.signer.seed };
+}
+
+impl Endpoint {
+    /// The endpoint of the replica `me`. Up to `faults` replicas, 1 to 3, may be faulty; the ring, the public keys and
+    /// the signer are of one seed.
+    pub fn new(
+        me: ReplicaId,
+        faults: u8,
+        ring: Ring,
+        publics: PublicKeys,
+        signer: Signer,
+    ) -> Endpoint
+        requires faults { faults ≡ ring.faults }
+        requires some { 1 ≤ faults }
+        requires few { faults ≤ 3 }
+        requires known { me.0 < 3 * faults + 1 }
+        requires keys { publics ≡ ring.seed }
+        requires signer { signer.seed ≡ signing_seed ring.seed me.0 }
+        ensures { result ≡ record { membership = ring; me = me.0; used = signer.used } }
+    {
+        Endpoint {
+            me,
+            faults,
+            ring,
+            publics,
+            signer,
+        }
+    }
+
+    /// Which replica this is.
+    pub fn me(&self) -> ReplicaId
+        ensures value { result.0 ≡ self.now.me }
+    {
+        self.me
+    }
+
+    /// What the replica hears from the bytes: the body of a frame of another party, which takes part and may send such
+    /// a message, with the right MAC for this replica, or signed by its sender where it is to be signed. The error is
+    /// want of memory.
+    pub fn hear(&mut self, alloc: Global, bytes: &[u8]) -> Result<Option<Body>, NoMemory>
+        ensures heard { IfOk result (Hears self.old bytes.now) }
+        ensures same { self.new ≡ self.old }
+    {
+        hear_body(&mut self.ring, &self.publics, alloc, self.me, bytes)
+    }
+
+    /// Whether each request of the batch is genuine: the replica hears it. The error is want of memory.
+    pub fn are_genuine(&mut self, alloc: Global, batch: &Batch) -> Result<bool, NoMemory>
+        ensures genuine { IfOk result (TellsGenuine self.old batch.now) }
+        ensures same { self.new ≡ self.old }
+    {
+        let frames = requests(&batch.text);
+        hear_all(
+            &mut self.ring,
+            &self.publics,
+            alloc,
+            self.me,
+            frames.as_slice(),
+        )
+    }
+
+    /// The output of a message for one party, as a reply for its client.
+    ///
+    /// # Errors
+    ///
+    /// TooLarge where the frame would be longer than it may be, and else NoMemory where memory runs out.
+    pub fn post_to(
+        &mut self,
+        alloc: Global,
+        message: Message,
+        receiver: Party,
+    ) -> Result<Output, PostFault>
+        requires said { IsMessage (message_data message) }
+        requires unsigned { is_signed (message_data message) ≡ false }
+        ensures posted { IfOk result (PostsTo self.old (message_data message) receiver) }
+        ensures same { self.new ≡ self.old }
+    {
+        seal_for_one(&mut self.ring, alloc, self.me, message, receiver)
+    }
+
+    /// The output of a message for all other replicas, in one frame.
+    ///
+    /// # Errors
+    ///
+    /// TooLarge where the frame would be longer than it may be, and else NoMemory where memory runs out.
+    pub fn post_to_others(&mut self, alloc: Global, message: Message) -> Result<Output, PostFault>
+        requires said { IsMessage (message_data message) }
+        requires unsigned { is_signed (message_data message) ≡ false }
+        ensures posted { IfOk result (PostsToOthers self.old (message_data message)) }
+        ensures same { self.new ≡ self.old }
+    {
+        seal_for_others(&mut self.ring, alloc, self.faults, self.me, message)
+    }
+
+    /// The output of a message that is signed, by the next of 64 keys, for all other replicas. An error spends at most
+    /// one key.
+    ///
+    /// # Errors
+    ///
+    /// TooLarge where the frame would be longer than it may be, and KeysSpent where all keys are spent: neither spends
+    /// one. NoMemory where memory runs out.
+    pub fn post_signed(&mut self, alloc: Global, message: Message) -> Result<Output, PostFault>
+        requires said { IsMessage (message_data message) }
+        requires signed { is_signed (message_data message) ≡ true }
+        ensures posted { IfOk result (PostsSigned self.old (message_data message)) }
+        ensures used { OnOk result (self.new ≡ record self.old { used = self.old.used + 1 }) }
+        ensures membership { self.new.membership ≡ self.old.membership }
+        ensures me { self.new.me ≡ self.old.me }
+        ensures spent { result ≡ Err PostFault.KeysSpent → self.old.used ≡ 64 }
+    {
+        sign_for_others(&mut self.signer, alloc, self.faults, self.me, message)
+    }
+}

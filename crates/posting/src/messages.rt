@@ -1,0 +1,115 @@
+//! Messages that a replica says, each with what makes it one that may be said.
+
+ghost use Rattle.std.specs.Prelude.{◌≡◌, ◌≤◌, false};
+ghost use Rattle.tuple_codec.specs.OperationView.{outcome_of};
+ghost use Rattle.wire.specs.Messages.{checkpoint, commit, fetch, page, pre_prepare, prepare};
+ghost use Rattle.wire.specs.Spelling.{IsBatch, IsMessage, is_signed, last_index};
+ghost use Rattle.wire.specs.Views.{message_data};
+ghost use Rattle.posting.specs.Replies.{IsReply};
+
+use crate::bytes::note_bytes;
+use std::alloc::Global;
+use terms::{ClientId, Digest, Level, Mode, Number, Timestamp, View};
+use tuple_codec::Answer;
+use wire::{Batch, Checkpoint, Commit, Fetch, Message, Page, PrePrepare, Prepare, Reply};
+
+/// The pre-prepare of a batch of 1 to 16 requests.
+pub fn pre_prepare_message(view: View, number: Number, batch: Batch) -> Message
+    requires { IsBatch 1 batch.text.items }
+    ensures says { message_data result ≡ pre_prepare view.0 number.0 batch.text.items }
+    ensures may { IsMessage (message_data result) }
+    ensures unsigned { is_signed (message_data result) ≡ false }
+{
+    Message::PrePrepare(PrePrepare {
+        view,
+        number,
+        batch,
+    })
+}
+
+/// The prepare of a batch's digest.
+pub fn prepare_message(view: View, number: Number, digest: Digest) -> Message
+    ensures says { message_data result ≡ prepare view.0 number.0 digest }
+    ensures may { IsMessage (message_data result) }
+    ensures unsigned { is_signed (message_data result) ≡ false }
+{
+    Message::Prepare(Prepare {
+        view,
+        number,
+        digest,
+    })
+}
+
+/// The commit of a batch's digest.
+pub fn commit_message(view: View, number: Number, digest: Digest) -> Message
+    ensures says { message_data result ≡ commit view.0 number.0 digest }
+    ensures may { IsMessage (message_data result) }
+    ensures unsigned { is_signed (message_data result) ≡ false }
+{
+    Message::Commit(Commit {
+        view,
+        number,
+        digest,
+    })
+}
+
+/// The checkpoint of a state, by its root.
+pub fn checkpoint_message(number: Number, root: Digest) -> Message
+    ensures says { message_data result ≡ checkpoint number.0 root }
+    ensures may { IsMessage (message_data result) }
+    ensures unsigned { is_signed (message_data result) ≡ false }
+{
+    Message::Checkpoint(Checkpoint { number, root })
+}
+
+/// The reply to a client's request of this timestamp, answered in this mode from the state of this number.
+pub fn reply_message(
+    client: ClientId,
+    timestamp: Timestamp,
+    kind: Mode,
+    number: Number,
+    answer: Answer<Global>,
+) -> Message
+    ensures says { IsReply client timestamp kind number (outcome_of answer) (message_data result) }
+    ensures may { IsMessage (message_data result) }
+    ensures unsigned { is_signed (message_data result) ≡ false }
+{
+    answer.note_valid();
+    Message::Reply(Reply {
+        client,
+        timestamp,
+        kind,
+        number,
+        answer,
+    })
+}
+
+/// The question for a part of the state of this number: 0 at the root, up to 31 at an inner part and up to 1,023 at a
+/// page.
+pub fn fetch_message(number: Number, level: Level, index: u16) -> Message
+    requires { index ≤ last_index level }
+    ensures says { message_data result ≡ fetch number.0 level index }
+    ensures may { IsMessage (message_data result) }
+    ensures unsigned { is_signed (message_data result) ≡ false }
+{
+    Message::Fetch(Fetch {
+        number,
+        level,
+        index,
+    })
+}
+
+/// The text of a page, 0 to 1,023, of the state of this number.
+pub fn page_message(number: Number, index: u16, text: Vec<u8>) -> Message
+    requires { index ≤ 1023 }
+    ensures says { message_data result ≡ page number.0 index text.items }
+    ensures may { IsMessage (message_data result) }
+    ensures unsigned { is_signed (message_data result) ≡ false }
+{
+    note_bytes(&text);
+    Message::Page(Page {
+        number,
+        index,
+        text,
+    })
+}

@@ -1,0 +1,107 @@
+//! Frames with MACs.
+
+ghost use Rattle.std.specs.Prelude.{◌≡◌, ◌+◌, ◌*◌, ◌<◌, ◌≤◌, false, IfOk};
+ghost use Rattle.wire.specs.Spelling.{IsMessage, is_signed};
+ghost use Rattle.wire.specs.Views.{body_data, message_data};
+ghost use Rattle.authenticator.specs.Giving.{Seals};
+ghost use Rattle.authenticator.specs.Sealing.{IsSealable};
+ghost use Rattle.posting.specs.Endpoint.{SealsFor, SealsForOne, SealsForOthers, numbers};
+ghost use Rattle.posting.specs.Frames.{IsTooLarge, SealsMessage, says};
+
+use crate::post_fault::PostFault;
+use crate::receivers::{only, other_replicas};
+use authenticator::Ring;
+use events::Output;
+use std::alloc::Global;
+use terms::{Party, ReplicaId};
+use wire::{Body, Message};
+
+/// The output of a message for all other replicas, in one frame. Up to `faults` replicas may be faulty.
+pub(crate) fn seal_for_others(
+    ring: &mut Ring,
+    alloc: Global,
+    faults: u8,
+    me: ReplicaId,
+    message: Message,
+) -> Result<Output, PostFault>
+    requires faults { faults ≡ ring.old.faults }
+    requires some { 1 ≤ faults }
+    requires few { faults ≤ 3 }
+    requires known { me.0 < 3 * faults + 1 }
+    requires said { IsMessage (message_data message) }
+    requires unsigned { is_signed (message_data message) ≡ false }
+    ensures posted { IfOk result (SealsForOthers ring.old me.0 (message_data message)) }
+    ensures same { ring.new ≡ ring.old }
+{
+    let receivers = other_replicas(alloc, 3 * faults + 1, me)?;
+    seal_for(ring, alloc, me, message, receivers)
+}
+
+/// The output of a message for one party.
+pub(crate) fn seal_for_one(
+    ring: &mut Ring,
+    alloc: Global,
+    me: ReplicaId,
+    message: Message,
+    receiver: Party,
+) -> Result<Output, PostFault>
+    requires said { IsMessage (message_data message) }
+    requires unsigned { is_signed (message_data message) ≡ false }
+    requires known { me.0 < 10 }
+    ensures posted { IfOk result (SealsForOne ring.old me.0 (message_data message) receiver) }
+    ensures same { ring.new ≡ ring.old }
+{
+    let receivers = only(alloc, receiver)?;
+    seal_for(ring, alloc, me, message, receivers)
+}
+
+// The output of a message for these parties.
+fn seal_for(
+    ring: &mut Ring,
+    alloc: Global,
+    me: ReplicaId,
+    message: Message,
+    receivers: Vec<Party>,
+) -> Result<Output, PostFault>
+    requires { IsSealable (says me.0 (message_data message)) (numbers receivers.items) }
+    ensures posted { IfOk result (SealsFor ring.old me.0 (message_data message) receivers.items) }
+    ensures same { ring.new ≡ ring.old }
+{
+    let frame = seal_message(ring, alloc, me, message, receivers.as_slice())?;
+    Ok(Output::Send(receivers, frame))
+}
+
+// The frame of a message. The body is dropped here, where there is one way out.
+fn seal_message(
+    ring: &mut Ring,
+    alloc: Global,
+    me: ReplicaId,
+    message: Message,
+    receivers: &[Party],
+) -> Result<Vec<u8>, PostFault>
+    requires { IsSealable (says me.0 (message_data message)) (numbers receivers.now) }
+    ensures sealed { IfOk result (SealsMessage ring.old me (message_data message) receivers.now) }
+    ensures same { ring.new ≡ ring.old }
+{
+    let body = Body {
+        sender: Party::Replica(me),
+        message,
+    };
+    seal_body(ring, alloc, &body, receivers)
+}
+
+// The frame of a body.
+fn seal_body(
+    ring: &mut Ring,
+    alloc: Global,
+    body: &Body,
+    receivers: &[Party],
+) -> Result<Vec<u8>, PostFault>
+    requires { IsSealable (body_data body.now) (numbers receivers.now) }
+    ensures sealed { IfOk result (Seals ring.old.seed body.now receivers.now) }
+    ensures large { result ≡ Err PostFault.TooLarge → IsTooLarge ring.old body.now receivers.now }
+    ensures same { ring.new ≡ ring.old }
+{
+    let frame = ring.seal(alloc, body, receivers)?;
+    Ok(frame)
+}
