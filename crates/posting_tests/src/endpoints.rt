@@ -1,0 +1,75 @@
+//! Endpoints of four replicas, of which one may be faulty, and what they post.
+
+ghost use Rattle.std.specs.Prelude.{◌≡◌, ◌≤◌, true, false};
+ghost use Rattle.wire.specs.Spelling.{IsMessage, is_signed};
+ghost use Rattle.wire.specs.Views.{message_data};
+
+use authenticator::{Ring, signing_seed};
+use events::Output;
+use posting::Endpoint;
+use signing::{PublicKeys, Signer};
+use std::alloc::Global;
+use std::test::Fail;
+use terms::{Digest, NoMemory, Number, Party, ReplicaId, View};
+use wire::{Message, ViewChange};
+
+pub const DIGEST: Digest = [7; 32];
+
+// The seed 00 01 .. 1f.
+fn seed() -> [u8; 32] {
+    let mut seed = [0; 32];
+    for i in 0..32 {
+        seed[i] = i as u8;
+    }
+    seed
+}
+
+// The keys of all MACs. There are two clients.
+pub fn new_ring(alloc: Global) -> Ring {
+    Ring::new(alloc, &seed(), 1, 2)
+}
+
+pub fn new_endpoint(alloc: Global, me: u8) -> Result<Endpoint, NoMemory>
+    requires { me ≤ 3 }
+{
+    let seed = seed();
+    let me = ReplicaId(me);
+    let publics = PublicKeys::new(alloc, &seed)?;
+    let ring = Ring::new(alloc, &seed, 1, 2);
+    let signer = Signer::from_seed(&signing_seed(&seed, Party::Replica(me)));
+    Ok(Endpoint::new(me, 1, ring, publics, signer))
+}
+
+// The bytes that an output sends.
+pub fn sent(output: Output) -> Option<Vec<u8>> {
+    match output {
+        Output::Send(_, frame) => Some(frame),
+        _ => None,
+    }
+}
+
+// The frame of a message for all other replicas.
+pub fn frame_for_others(
+    endpoint: &mut Endpoint,
+    alloc: Global,
+    message: Message,
+) -> Result<Option<Vec<u8>>, Fail>
+    requires said { IsMessage (message_data message) }
+    requires unsigned { is_signed (message_data message) ≡ false }
+{
+    Ok(sent(endpoint.post_to_others(alloc, message)?))
+}
+
+// To view 1, with nothing to tell.
+pub fn view_change(alloc: Global) -> Message
+    ensures said { IsMessage (message_data result) }
+    ensures signed { is_signed (message_data result) ≡ true }
+{
+    Message::ViewChange(ViewChange {
+        view: View(1),
+        low: Number(0),
+        checkpoints: Vec::new(alloc),
+        prepared: Vec::new(alloc),
+        pre_prepared: Vec::new(alloc),
+    })
+}

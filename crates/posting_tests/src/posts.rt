@@ -1,0 +1,168 @@
+//! What replica 0 posts. The SHA-256 of each frame comes from Python's hashlib and hmac, by docs/formats.md, under the
+//! seed 00 01 .. 1f.
+
+ghost use Rattle.std.specs.Prelude.{◌≡◌, true, false};
+ghost use Rattle.wire.specs.Spelling.{IsMessage, is_signed};
+ghost use Rattle.wire.specs.Views.{message_data};
+
+use crate::endpoints::{DIGEST, new_endpoint, view_change};
+use events::Output;
+use hex::FromHex;
+use posting::{
+    Endpoint, PostFault, checkpoint_message, commit_message, fetch_message, page_message,
+    prepare_message, reply_message,
+};
+use sha2::{Digest, Sha256};
+use std::alloc::Global;
+use std::test::Fail;
+use terms::{ClientId, Level, Mode, Number, Party, Timestamp, View};
+use tuple_codec::Answer;
+use wire::Message;
+
+const OTHERS: [u16; 3] = [1, 2, 3];
+
+const PREPARE: &str = "ed346d5b1189fd13cbde06177aed964aed59b7b253762074ede2c0c59bca5b85";
+
+const COMMIT: &str = "52676b9c7df285ce26a6bb864c5d6a74861a0a11c3145336a678c1fdad9fb7b5";
+
+const CHECKPOINT: &str = "8d18b29508b9114afb39e40782bec47cb55397c729245059bd0e825cbffd3167";
+
+const FETCH: &str = "16718046eec6a3daa0963d7c3f7a77ae0bb88f330e809dfdd7c8ad5bf6a5ad5f";
+
+const PAGE: &str = "476653c54668fbec82905bb4350c30b1679816518889e0612aac3f465cd35715";
+
+const REPLY: &str = "fb4e59e23b66e71f72cef9216a188587d3568eb1cfa91857817f3326c144ddc5";
+
+const VIEW_CHANGE: &str = "7b8979d408cce1f333c43b2f1d6b54e6181135cf389923a25d3955d0047b12a4";
+
+fn are_numbers(parties: &[Party], numbers: &[u16]) -> bool {
+    for (i, party) in parties.iter().enumerate() {
+        if numbers.get(i) != Some(&party.number()) {
+            return false;
+        }
+    }
+    parties.len() == numbers.len()
+}
+
+// Whether it goes to these parties, and its bytes have this digest.
+pub fn is_sent(output: &Output, receivers: &[u16], digits: &str) -> bool {
+    match output {
+        Output::Send(parties, frame) => {
+            let code = Sha256::digest(frame.as_slice());
+            are_numbers(parties, receivers) && <[u8; 32]>::from_hex(digits).ok() == Some(code)
+        }
+        _ => false,
+    }
+}
+
+// Whether the message goes to all others by these bytes.
+pub fn goes_out(
+    endpoint: &mut Endpoint,
+    alloc: Global,
+    message: Message,
+    digits: &str,
+) -> Result<bool, Fail>
+    requires said { IsMessage (message_data message) }
+    requires unsigned { is_signed (message_data message) ≡ false }
+{
+    let output = endpoint.post_to_others(alloc, message)?;
+    Ok(is_sent(&output, &OTHERS, digits))
+}
+
+fn votes_go_out(endpoint: &mut Endpoint, alloc: Global) -> Result<bool, Fail> {
+    let prepare = prepare_message(View(0), Number(1), DIGEST);
+    let commit = commit_message(View(0), Number(1), DIGEST);
+    let checkpoint = checkpoint_message(Number(16), DIGEST);
+    Ok(
+        goes_out(endpoint, alloc, prepare, PREPARE)?
+            && goes_out(endpoint, alloc, commit, COMMIT)?
+            && goes_out(endpoint, alloc, checkpoint, CHECKPOINT)?,
+    )
+}
+
+fn fetch_goes_out(endpoint: &mut Endpoint, alloc: Global) -> Result<bool, Fail> {
+    let fetch = fetch_message(Number(16), Level::Inner, 31);
+    goes_out(endpoint, alloc, fetch, FETCH)
+}
+
+fn page_goes_out(endpoint: &mut Endpoint, alloc: Global) -> Result<bool, Fail> {
+    let page = page_message(Number(16), 1023, b"text".to_vec(alloc)?);
+    goes_out(endpoint, alloc, page, PAGE)
+}
+
+#[test]
+fn messages_for_all_others(rt: HostRuntime) -> Result<(), Fail> {
+    let mut endpoint = new_endpoint(rt.alloc(), 0)?;
+    assert!(rt; endpoint.me().0 == 0);
+    assert!(rt; votes_go_out(&mut endpoint, rt.alloc())?);
+    assert!(rt; fetch_goes_out(&mut endpoint, rt.alloc())?);
+    assert!(rt; page_goes_out(&mut endpoint, rt.alloc())?);
+    Ok(())
+}
+
+// Whether the reply to the first request of client 0 goes to it alone.
+fn reply_goes_out(endpoint: &mut Endpoint, alloc: Global) -> Result<bool, Fail> {
+    let client = ClientId { number: 0 };
+    let reply = reply_message(client, Timestamp(1), Mode::Ordered, Number(1), Answer::Done);
+    let output = endpoint.post_to(alloc, reply, Party::Client(client))?;
+    Ok(is_sent(&output, &[256], REPLY))
+}
+
+#[test]
+fn a_reply(rt: HostRuntime) -> Result<(), Fail> {
+    let mut endpoint = new_endpoint(rt.alloc(), 0)?;
+    assert!(rt; reply_goes_out(&mut endpoint, rt.alloc())?);
+    Ok(())
+}
+
+// A frame has at most 4,194,304 bytes: here those of the text, 17 before it and 104 behind it.
+fn is_too_long(endpoint: &mut Endpoint, alloc: Global) -> Result<bool, Fail> {
+    let page = page_message(Number(16), 0, vec![in alloc; 0; 4_194_184]?);
+    Ok(endpoint.post_to_others(alloc, page).err() == Some(PostFault::TooLarge))
+}
+
+#[test]
+fn a_page_too_long(rt: HostRuntime) -> Result<(), Fail> {
+    let mut endpoint = new_endpoint(rt.alloc(), 0)?;
+    assert!(rt; is_too_long(&mut endpoint, rt.alloc())?);
+    Ok(())
+}
+
+fn signed(endpoint: &mut Endpoint, alloc: Global) -> Result<Output, PostFault> {
+    endpoint.post_signed(alloc, view_change(alloc))
+}
+
+// By the first key, and then by the others until all 64 are spent.
+#[test]
+fn each_signed_message_spends_a_key(rt: HostRuntime) -> Result<(), Fail> {
+    let mut endpoint = new_endpoint(rt.alloc(), 0)?;
+    let first = signed(&mut endpoint, rt.alloc())?;
+    assert!(rt; is_sent(&first, &OTHERS, VIEW_CHANGE));
+    for _ in 1..64 {
+        let _next = signed(&mut endpoint, rt.alloc())?;
+    }
+    assert!(rt; signed(&mut endpoint, rt.alloc()).err() == Some(PostFault::KeysSpent));
+    Ok(())
+}
+
+// The first commit of replica 0, at the second try where memory ran out at the first one.
+fn commit_goes_out(endpoint: &mut Endpoint, alloc: Global) -> Result<bool, Fail> {
+    let commit = commit_message(View(0), Number(1), DIGEST);
+    let again = commit_message(View(0), Number(1), DIGEST);
+    let output = match endpoint.post_to_others(alloc, commit) {
+        Err(PostFault::NoMemory) => endpoint.post_to_others(alloc, again)?,
+        first => first?,
+    };
+    Ok(is_sent(&output, &OTHERS, COMMIT))
+}
+
+// Passes whichever allocation is refused, as by `rt try --test --fail-alloc N`: the endpoint is as before.
+#[test]
+fn refused_memory(rt: HostRuntime) -> Result<(), Fail> {
+    let mut endpoint = match new_endpoint(rt.alloc(), 0) {
+        Ok(endpoint) => endpoint,
+        Err(_) => new_endpoint(rt.alloc(), 0)?,
+    };
+    assert!(rt; commit_goes_out(&mut endpoint, rt.alloc())?);
+    Ok(())
+}
