@@ -1,6 +1,6 @@
 -- What is heard, as a reply to the call.
 use Rattle.std.proofs.Common.{◌≡◌, ℕ, ◌+◌, ◌==◌, ◌&&◌, Bool, true, false, List, Option, Some, None, refl, sym, ap, ◌∙◌}
-use Rattle.std.specs.Prelude.{option_and_then, option_map, slice_index}
+use Rattle.std.specs.Prelude.{option_and_then, slice_index}
 use Rattle.std.specs.Bool.{then_some}
 use Rattle.tuple_codec.specs.OperationView.{outcome_of}
 use Rattle.wire.specs.declared.messages.Message.{Message}

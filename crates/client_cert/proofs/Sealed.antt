@@ -14,7 +14,7 @@ use Rattle.wire.specs.Messages.{BodyData as Body, request as Request}
 use Rattle.wire.specs.Spelling.{SpellsFrame}
 use Rattle.authenticator.specs.Membership.{Membership}
 use Rattle.authenticator.specs.Sealing.{sealed_for, IsSealable}
-use Rattle.protocol.specs.System.Configuration.{Configuration, members}
+use Rattle.protocol.specs.System.Configuration.{members}
 use Rattle.protocol.proofs.Words.Posting.{sealed_is_posted}
 use Rattle.client_cert.specs.Asking.{AsksWith}
 

@@ -1,10 +1,8 @@
 -- What a whole event does to what fits.
-use Rattle.std.proofs.Common.{◌≡◌, ℕ, ◌+◌, ◌-◌, Bool, true, false, List, [], ◌∷◌, Option, Some, None, refl, sym, ap, ◌∙◌, subst, arith}
-use Rattle.terms.specs.declared.order.Mode.{Mode}
+use Rattle.std.proofs.Common.{◌≡◌, ℕ, ◌+◌, ◌-◌, true, false, List, [], ◌∷◌, Option, Some, None, refl, sym, ap, ◌∙◌, subst, arith}
 use Rattle.terms.specs.declared.order.Mode.TheVariants as modes
 use Rattle.tuple_codec.specs.Operations.{Outcome}
 use Rattle.tuple_codec.specs.OperationView.{outcome_of}
-use Rattle.wire.specs.Messages.{BodyData as Body}
 use Rattle.authenticator.specs.Membership.{Membership}
 use Rattle.signing.specs.Heard.{heard}
 use Rattle.protocol.specs.System.Configuration.{Configuration, members}

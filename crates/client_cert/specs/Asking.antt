@@ -1,8 +1,15 @@
 -- What a client asks with.
-use Rattle.std.specs.Prelude.{◌≡◌, ℕ, List}
+use Rattle.std.specs.Prelude.{◌≡◌, ◌+◌, ◌*◌, ℕ, List, Vec}
+use Rattle.std.specs.List.{range_with_len}
+use Rattle.std.specs.declared.alloc.Global.{Global}
 use Rattle.terms.specs.declared.order.Mode.{Mode}
+use Rattle.terms.specs.declared.order.Timestamp.{Timestamp}
+use Rattle.terms.specs.declared.parties.ClientId.{ClientId}
 use Rattle.tuple_codec.specs.Operations.{Operation}
+use Rattle.wire.specs.Messages.{BodyData as Body}
+use Rattle.wire.specs.Spelling.{SpellsFrame}
 use Rattle.authenticator.specs.Membership.{Membership}
+use Rattle.authenticator.specs.Sealing.{IsSealable, sealed_for}
 use Rattle.protocol.specs.System.Configuration.{Configuration, members}
 use Rattle.protocol.specs.Client.RightClient.{IsRequest}
 
@@ -10,3 +17,22 @@ use Rattle.protocol.specs.Client.RightClient.{IsRequest}
 abbrev pub AsksWith : Membership → ℕ → Mode → ℕ → Operation → List ℕ → Type 0
 AsksWith m me mode timestamp op bytes =
     (c : Configuration) → members c ≡ m → IsRequest c me mode (record { timestamp = timestamp; op = op }) bytes
+
+-- ---- of private functions
+
+-- the client of this number asks so
+abbrev pub AsksAs :
+    Membership → ClientId → Mode → Timestamp → Operation → Vec ℕ Global → Type 0
+AsksAs m client mode timestamp op frame =
+    AsksWith m (256 + client.number) mode timestamp.0 op frame.items
+
+-- the body can be sealed for all replicas
+abbrev pub IsSealableForAll : ℕ → Body → Type 0
+IsSealableForAll faults body =
+    (receivers : List ℕ) → receivers ≡ range_with_len 0 (3 * faults + 1)
+    → IsSealable body receivers
+
+-- a frame with the body, sealed for all replicas
+abbrev pub SealsForAll : List ℕ → ℕ → Body → Vec ℕ Global → Type 0
+SealsForAll seed faults body frame =
+    SpellsFrame frame.items (sealed_for seed body (range_with_len 0 (3 * faults + 1)))

@@ -1,11 +1,20 @@
 -- What a client hears in a frame. The contracts of private functions speak of these.
-use Rattle.std.specs.Prelude.{◌≡◌, ℕ, ◌+◌, ◌==◌, ◌&&◌, false, Option, Some, None, option_and_then}
+use Rattle.std.specs.Prelude.{◌≡◌, ℕ, ◌+◌, ◌==◌, ◌&&◌, false, List, Option, Some, None, option_and_then, option_map}
+use Rattle.std.specs.declared.alloc.Global.{Global}
+use Rattle.terms.specs.declared.order.Number.{Number}
+use Rattle.terms.specs.declared.order.Timestamp.{Timestamp}
+use Rattle.terms.specs.declared.parties.ClientId.{ClientId}
+use Rattle.tuple_codec.specs.declared.operations.Answer.{Answer}
 use Rattle.tuple_codec.specs.OperationView.{outcome_of}
+use Rattle.tuple_codec.specs.Spelling.{outcome_spelling}
 use Rattle.wire.specs.declared.frames.Frame.{Frame}
 use Rattle.wire.specs.declared.messages.Reply.{Reply}
 use Rattle.wire.specs.Messages.{BodyData as Body, reply as says}
 use Rattle.wire.specs.Views.{body_data}
+use Rattle.authenticator.specs.Membership.{Membership}
+use Rattle.signing.specs.Heard.{heard}
 use Rattle.protocol.specs.Client.RightClient.{vote_of}
+use Rattle.client_cert.specs.State.{Ballot}
 use Rattle.client_cert.specs.declared.hearing.Heard.{Heard}
 
 abbrev pub frame_body : Frame → Body
@@ -33,3 +42,20 @@ reply_body sender r =
 abbrev pub Answers : ℕ → ℕ → ℕ → Reply → Option Heard → Type 0
 Answers me timestamp sender r None = ((256 + r.client.number == me) && (r.timestamp.0 == timestamp)) ≡ false
 Answers me timestamp sender r (Some h) = body_of me timestamp h ≡ reply_body sender r
+
+-- ---- of the client of this number, as the program has it
+
+-- the frame that is heard from the bytes
+abbrev pub HearsFrame : Membership → ClientId → List ℕ → Option Frame → Type 0
+HearsFrame m client bytes frame =
+    heard m (256 + client.number) bytes ≡ option_map frame_body frame
+
+-- the reply to its call that is heard from the bytes
+abbrev pub HearsReply : Membership → ClientId → Timestamp → List ℕ → Option Heard → Type 0
+HearsReply m client timestamp bytes h =
+    Hears (256 + client.number) timestamp.0 (heard m (256 + client.number) bytes) h
+
+-- what is kept of a reply
+abbrev pub IsBallotOf : Number → Answer Global → Ballot → Type 0
+IsBallotOf number answer b =
+    b ≡ record { number = number.0; text = outcome_spelling (outcome_of answer) }

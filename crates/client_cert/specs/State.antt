@@ -1,5 +1,5 @@
 -- What a client holds, as plain data, and the changes that its entries make.
-use Rattle.std.specs.Prelude.{◌≡◌, ℕ, ◌+◌, ◌*◌, ◌^◌, Bool, true, false, ◌&&◌, ◌||◌, List, [], Option, Some, None, is_some, nat_le, ◌==◌, bytes_eq, cond, if◌then◌else◌, refl}
+use Rattle.std.specs.Prelude.{◌≡◌, ℕ, ◌+◌, ◌*◌, ◌^◌, ◌≤◌, Bool, true, false, ◌&&◌, ◌||◌, List, [], Option, Some, is_some, nat_le, ◌==◌, bytes_eq, cond, if◌then◌else◌, refl}
 use Rattle.std.specs.Option.{option_map_or}
 use Rattle.std.specs.Map.{lookup}
 use Rattle.std.specs.Coded.{Coded, code_by, coded×, coded_list, coded_option, coded_ℕ, coded_bool}
@@ -36,6 +36,12 @@ pub record ClientState : Type 0 where
   pub calls : ℕ
   pub call : Option CallState
   pub stopped : Bool
+
+-- The faults and the keys are the members', and while the client goes on, or no call is open, a timestamp is left.
+abbrev pub IsOfMembers : ℕ → List ℕ → Membership → ℕ → Option CallState → Bool → Type 0
+IsOfMembers faults seed m calls call stopped =
+    (faults ≡ m.faults) × (faults ≤ 3) × (seed ≡ m.seed) × (calls ≤ 2 ^ 62 + 1)
+    × (stopped ≡ false → calls ≤ 2 ^ 62) × (is_some call ≡ false → calls ≤ 2 ^ 62)
 
 -- ---- codes
 
@@ -124,13 +130,13 @@ turn_of faults call mode ballot =
 
 -- ---- what entries change
 
+-- a call that no reply came to, and whose request was not sent
+abbrev pub new_call : Operation → CallState
+new_call op = record { op = op; ordered = false; ordered_ballots = []; read_ballots = [] }
+
 -- a call begins
 abbrev pub called : ℕ → Operation → ClientState → ClientState
-called timestamp op s =
-    record s {
-      calls = timestamp;
-      call = Some (record { op = op; ordered = false; ordered_ballots = []; read_ballots = [] });
-    }
+called timestamp op s = record s { calls = timestamp; call = Some (new_call op) }
 
 -- its request is sent in the mode
 abbrev pub went : Mode → CallState → CallState

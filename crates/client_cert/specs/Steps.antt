@@ -1,12 +1,15 @@
 -- What an event does to what fits.
-use Rattle.std.specs.Prelude.{◌≡◌, ℕ, List, [], ◌∷◌, map, Option, Some, is_some}
+use Rattle.std.specs.Prelude.{◌≡◌, ℕ, suc, ◌+◌, false, List, [], ◌∷◌, map, Option, Some, is_some}
 use Rattle.terms.specs.declared.order.Mode.{Mode}
 use Rattle.terms.specs.declared.order.Mode.TheVariants as modes
-use Rattle.tuple_codec.specs.OperationView.{outcome_of}
+use Rattle.terms.specs.declared.order.Timestamp.{Timestamp}
+use Rattle.terms.specs.declared.parties.ClientId.{ClientId}
+use Rattle.tuple_codec.specs.declared.operations.Op.{Op}
+use Rattle.tuple_codec.specs.OperationView.{operation_of, outcome_of}
 use Rattle.authenticator.specs.Membership.{Membership}
 use Rattle.protocol.specs.System.Configuration.{Configuration, members}
 use Rattle.protocol.specs.System.Trace.{Entry}
-use Rattle.protocol.specs.System.Trace.Entry.{Got, Tick, Sent}
+use Rattle.protocol.specs.System.Trace.Entry.{Invoke, Got, Tick, Sent}
 use Rattle.protocol.specs.Client.RightClient.{Reaction}
 use Rattle.protocol.specs.Client.RightClient.Reaction.{nothing, asks, accepts}
 use Rattle.events.specs.declared.output.Output.{Output}
@@ -30,7 +33,28 @@ Leads old input outs new =
     (c : Configuration) (history : List Entry) → Fits c old history
     → Fits c new (after_event (me_of old) input outs history)
 
+-- a call leads to what it gives
+abbrev pub CallLeads : {A : Type 0} → ClientState → Op A → List Output → ClientState → Type 0
+CallLeads old op outs new =
+    Leads old (Invoke old.number (suc old.calls) (operation_of op)) outs new
+
+-- a call for which nothing is given counts as made, where none was open
+abbrev pub CallStops : {A : Type 0} → ClientState → Op A → ClientState → Type 0
+CallStops old op new = is_some old.call ≡ false → CallLeads old op [] new
+
+-- an event leads to what the step gives
+abbrev pub EventLeads : ClientState → Event → List Output → ClientState → Type 0
+EventLeads old event outs new = Leads old (input_of (me_of old) event) outs new
+
 -- ---- of private functions
+
+-- bytes that come lead to what is given
+abbrev pub BytesLead : ClientState → List ℕ → List Output → ClientState → Type 0
+BytesLead old bytes outs new = Leads old (Got (me_of old) bytes) outs new
+
+-- and so does the time to send again
+abbrev pub RetryLeads : ClientState → List Output → ClientState → Type 0
+RetryLeads old outs new = Leads old (Tick (me_of old)) outs new
 
 -- what a reply leads to, as the definition has it
 abbrev pub reaction_of : ℕ → CallState → Turned → Reaction
@@ -43,6 +67,13 @@ abbrev pub Weighs : Membership → ℕ → ℕ → CallState → List ℕ → Ca
 Weighs m me timestamp old bytes new reaction =
     (c : Configuration) (history : List Entry) → members c ≡ m → Holds c me history timestamp (Some old)
     → Holds c me (Got me bytes ∷ history) timestamp (Some new) × (reacts c me (Got me bytes ∷ history) ≡ reaction)
+
+-- the same of the client of this number, as the program has it
+abbrev pub TurnsTo :
+    Membership → ClientId → Timestamp → CallState → List ℕ → CallState → Turned → Type 0
+TurnsTo m client timestamp old bytes new turned =
+    Weighs m (256 + client.number) timestamp.0 old bytes new
+    (reaction_of timestamp.0 new turned)
 
 -- the client changes no more than its call
 pub record Becomes (old new : ClientState) (call : Option CallState) : Type 0 where

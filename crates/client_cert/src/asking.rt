@@ -1,6 +1,6 @@
 //! What a client asks with.
 
-ghost use Rattle.std.specs.Prelude.{◌≡◌, ◌+◌, ◌*◌, ◌≤◌, IfOk, map, ℕ, List};
+ghost use Rattle.std.specs.Prelude.{◌≡◌, ◌≤◌, IfOk, map};
 ghost use Rattle.std.specs.List.{range_with_len};
 ghost use Rattle.terms.specs.Parties.{party_number};
 ghost use Rattle.terms.specs.declared.order.Mode.TheVariants as modes;
@@ -8,9 +8,7 @@ ghost use Rattle.tuple_codec.specs.OperationView.{operation_of};
 ghost use Rattle.tuple_codec.specs.Operations.{IsOperation};
 ghost use Rattle.tuple_tree.specs.Values.{IsTuple, IsTemplate};
 ghost use Rattle.wire.specs.Views.{body_data};
-ghost use Rattle.wire.specs.Spelling.{SpellsFrame};
-ghost use Rattle.authenticator.specs.Sealing.{IsSealable, sealed_for};
-ghost use Rattle.client_cert.specs.Asking.{AsksWith};
+ghost use Rattle.client_cert.specs.Asking.{AsksAs, IsSealableForAll, SealsForAll};
 
 use authenticator::Ring;
 use events::Stop;
@@ -33,7 +31,7 @@ pub(crate) fn seal_request(
     requires faults { faults ≡ ring.old.faults }
     requires few { faults ≤ 3 }
     ensures op { operation_of result.0 ≡ operation_of op }
-    ensures sealed { IfOk result.1 (λ bytes. AsksWith ring.old (256 + client.number) mode timestamp.0 (operation_of op) bytes.items) }
+    ensures sealed { IfOk result.1 (AsksAs ring.old client mode timestamp (operation_of op)) }
     ensures same { ring.new ≡ ring.old }
 {
     note_op(&op);
@@ -65,8 +63,8 @@ pub(crate) fn seal_request(
 // The frame of a body, sealed for all replicas.
 fn seal_for_all(ring: &mut Ring, alloc: Global, faults: u8, body: &Body) -> Result<Vec<u8>, Stop>
     requires few { faults ≤ 3 }
-    requires may { (receivers : List ℕ) → receivers ≡ range_with_len 0 (3 * faults + 1) → IsSealable (body_data body.now) receivers }
-    ensures sealed { IfOk result (λ frame. SpellsFrame frame.items (sealed_for ring.old.seed (body_data body.now) (range_with_len 0 (3 * faults + 1)))) }
+    requires may { IsSealableForAll faults (body_data body.now) }
+    ensures sealed { IfOk result (SealsForAll ring.old.seed faults (body_data body.now)) }
     ensures same { ring.new ≡ ring.old }
 {
     let replicas = all_replicas(alloc, 3 * faults + 1)?;

@@ -1,11 +1,11 @@
 //! An open call and the replies to it.
 
-ghost use Rattle.std.specs.Prelude.{◌≡◌, ◌+◌, ◌≤◌, false, [], IfOk, OnOk};
+ghost use Rattle.std.specs.Prelude.{◌≡◌, ◌≤◌, IfOk, OnOk};
 ghost use Rattle.terms.specs.declared.order.Mode.TheVariants as modes;
 ghost use Rattle.tuple_codec.specs.OperationView.{operation_of};
 ghost use Rattle.protocol.specs.System.Frames.{same_mode};
-ghost use Rattle.client_cert.specs.Asking.{AsksWith};
-ghost use Rattle.client_cert.specs.State.{Takes, turn_of, went};
+ghost use Rattle.client_cert.specs.Asking.{AsksAs};
+ghost use Rattle.client_cert.specs.State.{Takes, new_call, turn_of, went};
 ghost use Rattle.client_cert.specs.TurnView.{turn_is};
 
 use crate::asking::seal_request;
@@ -44,12 +44,17 @@ impl Model for Call {
 
     ghost use Rattle.tuple_codec.specs.OperationView.{operation_of};
 
-    ghost view = { λ c. record { op = operation_of c.op; ordered = c.ordered; ordered_ballots = c.ordered_ballots; read_ballots = c.read_ballots } };
+    ghost view = { λ c. record {
+      op = operation_of c.op;
+      ordered = c.ordered;
+      ordered_ballots = c.ordered_ballots;
+      read_ballots = c.read_ballots;
+    } };
 }
 
 impl Call {
     pub(crate) fn new(alloc: Global, op: Op<Global>) -> Call
-        ensures { result ≡ record { op = operation_of op; ordered = false; ordered_ballots = []; read_ballots = [] } }
+        ensures { result ≡ new_call (operation_of op) }
     {
         Call {
             op,
@@ -107,7 +112,7 @@ pub(crate) fn request(
 ) -> (Call, Result<Vec<u8>, Stop>)
     requires faults { faults ≡ ring.old.faults }
     requires few { faults ≤ 3 }
-    ensures sealed { IfOk result.1 (λ text. AsksWith ring.old (256 + client.number) mode timestamp.0 call.op text.items) }
+    ensures sealed { IfOk result.1 (AsksAs ring.old client mode timestamp call.op) }
     ensures went { result.0 ≡ went mode call }
     ensures same { ring.new ≡ ring.old }
 {

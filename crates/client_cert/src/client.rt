@@ -1,12 +1,13 @@
 //! A client over frames.
 
-ghost use Rattle.std.specs.Prelude.{◌≡◌, ◌↔◌, ◌≤◌, ◌<◌, ◌^◌, ◌⊎◌, suc, true, false, [], IfOk, OnErr, is_some};
+ghost use Rattle.std.specs.Prelude.{◌≡◌, ◌↔◌, ◌≤◌, ◌<◌, ◌^◌, ◌⊎◌, suc, true, false, []};
+ghost use Rattle.std.specs.Prelude.{IfOk, OnErr, is_some};
 ghost use Rattle.tuple_codec.specs.OperationView.{operation_of};
 ghost use Rattle.protocol.specs.System.Configuration.{Configuration, members};
-ghost use Rattle.protocol.specs.System.Trace.Entry.{Invoke, Got, Tick};
-ghost use Rattle.client_cert.specs.State.{IsSpent, me_of, called};
+ghost use Rattle.client_cert.specs.State.{IsSpent, called};
 ghost use Rattle.client_cert.specs.Fits.{Fits};
-ghost use Rattle.client_cert.specs.Steps.{Leads, input_of, Keeps, Asks};
+ghost use Rattle.client_cert.specs.Steps.{CallLeads, CallStops, EventLeads};
+ghost use Rattle.client_cert.specs.Steps.{Asks, BytesLead, Keeps, RetryLeads};
 
 use crate::asking::{all_replicas, first_mode, note_op};
 use crate::call::{Call, request};
@@ -59,16 +60,21 @@ pub struct Client {
 }
 
 impl Model for Client {
-    ghost use Rattle.std.specs.Prelude.{◌≡◌, ◌≤◌, ◌+◌, ◌^◌, false, is_some};
-    ghost use Rattle.client_cert.specs.State.{ClientState, client_code};
+    ghost use Rattle.client_cert.specs.State.{ClientState, IsOfMembers, client_code};
 
     ghost Value = { ClientState };
 
     ghost coded = { client_code };
 
-    ghost view = { λ a. record { number = a.id.number; membership = a.ring; calls = a.calls; call = a.call; stopped = a.stopped } };
+    ghost view = { λ a. record {
+      number = a.id.number;
+      membership = a.ring;
+      calls = a.calls;
+      call = a.call;
+      stopped = a.stopped;
+    } };
 
-    ghost invariant = { λ a. (a.faults ≡ a.ring.faults) × (a.faults ≤ 3) × (a.publics ≡ a.ring.seed) × (a.calls ≤ 2 ^ 62 + 1) × (a.stopped ≡ false → a.calls ≤ 2 ^ 62) × (is_some a.call ≡ false → a.calls ≤ 2 ^ 62) };
+    ghost invariant = { λ a. IsOfMembers a.faults a.publics a.ring a.calls a.call a.stopped };
 }
 
 impl Client {
@@ -117,12 +123,12 @@ impl Client {
     /// counts as made: it is open, and the client has stopped.
     #[tactic(auto, using(crate::proofs::Calling::call_leads, crate::proofs::Calling::call_ends, crate::proofs::Calling::call_fails))]
     pub fn invoke(&mut self, alloc: Global, op: Op<Global>) -> Result<Outputs, InvokeFault>
-        ensures leads { IfOk result (λ outs. Leads self.old (Invoke self.old.number (suc self.old.calls) (operation_of op)) outs.items self.new) }
+        ensures leads { IfOk result (λ outs. CallLeads self.old op outs.items self.new) }
         ensures busy { (result ≡ Err InvokeFault.Busy) ↔ (is_some self.old.call ≡ true) }
         ensures same { result ≡ Err InvokeFault.Busy → self.new ≡ self.old }
         ensures stopped { (result ≡ Err InvokeFault.Stopped) ↔ IsSpent self.old }
         ensures ends { OnErr result ((is_some self.old.call ≡ true) ⊎ (self.new.stopped ≡ true)) }
-        ensures stops { OnErr result (is_some self.old.call ≡ false → Leads self.old (Invoke self.old.number (suc self.old.calls) (operation_of op)) [] self.new) }
+        ensures stops { OnErr result (CallStops self.old op self.new) }
         ensures number { self.new.number ≡ self.old.number }
     {
         if self.call.is_some() {
@@ -162,8 +168,8 @@ impl Client {
     /// NoMemory where memory runs out, with which the client stops, and Stopped where it had stopped before.
     #[tactic(auto, using(crate::proofs::Stepping::stops_got, crate::proofs::Stepping::stops_tick))]
     pub fn step(&mut self, alloc: Global, event: Event<'_>) -> Result<Outputs, Stop>
-        ensures leads { IfOk result (λ outs. Leads self.old (input_of (me_of self.old) event.entry) outs.items self.new) }
-        ensures stops { OnErr result (Leads self.old (input_of (me_of self.old) event.entry) [] self.new) }
+        ensures leads { IfOk result (λ outs. EventLeads self.old event.entry outs.items self.new) }
+        ensures stops { OnErr result (EventLeads self.old event.entry [] self.new) }
         ensures stopped { OnErr result (self.new.stopped ≡ true) }
         ensures number { self.new.number ≡ self.old.number }
     {
@@ -192,7 +198,7 @@ impl Client {
     #[tactic(auto, using(crate::proofs::Calling::got_none_leads, crate::proofs::Calling::got_nothing_leads, crate::proofs::Calling::got_answer_leads, crate::proofs::Calling::got_asks_leads))]
     fn got(&mut self, alloc: Global, bytes: &[u8]) -> Result<Outputs, Stop>
         requires { self.old.stopped ≡ false }
-        ensures leads { IfOk result (λ outs. Leads self.old (Got (me_of self.old) bytes.now) outs.items self.new) }
+        ensures leads { IfOk result (λ outs. BytesLead self.old bytes.now outs.items self.new) }
         ensures keeps { OnErr result (Keeps self.old self.new) }
         ensures number { self.new.number ≡ self.old.number }
     {
@@ -246,7 +252,7 @@ impl Client {
     #[tactic(auto, using(crate::proofs::Calling::retry_none_leads, crate::proofs::Calling::retry_leads))]
     fn retry(&mut self, alloc: Global) -> Result<Outputs, Stop>
         requires { self.old.stopped ≡ false }
-        ensures leads { IfOk result (λ outs. Leads self.old (Tick (me_of self.old)) outs.items self.new) }
+        ensures leads { IfOk result (λ outs. RetryLeads self.old outs.items self.new) }
         ensures keeps { OnErr result (Keeps self.old self.new) }
         ensures number { self.new.number ≡ self.old.number }
     {

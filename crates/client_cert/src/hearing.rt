@@ -1,11 +1,8 @@
 //! What a client hears.
 
-ghost use Rattle.std.specs.Prelude.{◌≡◌, ◌+◌, ◌==◌, ◌≤◌, IfOk, option_map, slice_index};
-ghost use Rattle.tuple_codec.specs.Spelling.{outcome_spelling};
-ghost use Rattle.tuple_codec.specs.OperationView.{outcome_of};
-ghost use Rattle.signing.specs.Heard.{heard};
-ghost use Rattle.client_cert.specs.Steps.{Weighs, reaction_of};
-ghost use Rattle.client_cert.specs.Hearing.{Answers, Hears, frame_body};
+ghost use Rattle.std.specs.Prelude.{◌≡◌, ◌+◌, ◌==◌, ◌≤◌, IfOk, slice_index};
+ghost use Rattle.client_cert.specs.Steps.{TurnsTo};
+ghost use Rattle.client_cert.specs.Hearing.{Answers, HearsFrame, HearsReply, IsBallotOf};
 
 use crate::ballots::Ballot;
 use crate::call::{Call, Next};
@@ -48,7 +45,7 @@ pub(crate) fn weigh(
     requires keys { publics.now ≡ ring.old.seed }
     requires faults { faults ≡ ring.old.faults }
     requires few { faults ≤ 3 }
-    ensures weighs { IfOk result (λ t. Weighs ring.old (256 + client.number) timestamp.0 call.old bytes.now call.new (reaction_of timestamp.0 call.new t)) }
+    ensures weighs { IfOk result (TurnsTo ring.old client timestamp call.old bytes.now call.new) }
     ensures same { ring.new ≡ ring.old }
 {
     match hear_reply(ring, publics, alloc, client, timestamp, bytes)? {
@@ -83,7 +80,7 @@ fn hear_reply(
     bytes: &[u8],
 ) -> Result<Option<Heard>, Stop>
     requires keys { publics.now ≡ ring.old.seed }
-    ensures hears { IfOk result (Hears (256 + client.number) timestamp.0 (heard ring.old (256 + client.number) bytes.now)) }
+    ensures hears { IfOk result (HearsReply ring.old client timestamp bytes.now) }
     ensures same { ring.new ≡ ring.old }
 {
     if !has_reply_type(bytes) {
@@ -124,7 +121,7 @@ fn hear_frame(
     bytes: &[u8],
 ) -> Result<Option<Frame>, Stop>
     requires keys { publics.now ≡ ring.old.seed }
-    ensures heard { IfOk result (λ f. heard ring.old (256 + client.number) bytes.now ≡ option_map frame_body f) }
+    ensures heard { IfOk result (HearsFrame ring.old client bytes.now) }
     ensures same { ring.new ≡ ring.old }
 {
     match hear(alloc, ring, publics, bytes, Party::Client(client)) {
@@ -155,7 +152,7 @@ fn reply_to(client: ClientId, timestamp: Timestamp, sender: u16, reply: Reply) -
 }
 
 fn ballot_of(alloc: Global, number: Number, answer: &Answer<Global>) -> Result<Ballot, Stop>
-    ensures { IfOk result (λ b. b ≡ record { number = number.0; text = outcome_spelling (outcome_of answer.now) }) }
+    ensures { IfOk result (IsBallotOf number answer.now) }
 {
     let mut text = Vec::new(alloc);
     match encode_result(answer, &mut text) {

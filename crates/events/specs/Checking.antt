@@ -2,6 +2,7 @@
 use Rattle.std.specs.Prelude.{ℕ, Bool, true, ◌&&◌, not, List, [], ◌∷◌, length, nat_le, nat_lt}
 use Rattle.quorum.specs.Quorum.{member}
 use Rattle.protocol.specs.System.Configuration.{Configuration, replicas}
+use Rattle.events.specs.ConfigView.{configuration_of}
 
 -- the numbers are below the bound, and none stands twice
 abbrev pub each_once : ℕ → List ℕ → Bool
@@ -18,3 +19,8 @@ is_configuration c =
     && nat_le (length c.faulty_replicas) c.faults)
     && each_once (replicas c) c.faulty_replicas)
     && each_once c.clients c.faulty_clients
+
+-- whether these, with any seed, make a configuration
+abbrev pub are_valid : ℕ → ℕ → ℕ → List ℕ → List ℕ → Bool
+are_valid faults clients period replicas named =
+    is_configuration (configuration_of faults clients [] period replicas named)

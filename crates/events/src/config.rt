@@ -2,9 +2,10 @@
 
 ghost use Rattle.std.specs.Prelude.{◌≡◌, ◌==◌, ◌&&◌, ◌≤◌, nat_le, length, [], IfOk, IsOk};
 ghost use Rattle.std.specs.List.{list_any};
-ghost use Rattle.events.specs.Checking.{each_once, is_configuration};
-ghost use Rattle.events.specs.ConfigView.{configuration_of};
-ghost use Rattle.protocol.specs.System.Configuration.{IsConfiguration, is_correct_client, is_correct_replica, members, replicas};
+ghost use Rattle.events.specs.Checking.{are_valid, each_once};
+ghost use Rattle.events.specs.ConfigView.{MakesConfig, MakesValid};
+ghost use Rattle.protocol.specs.System.Configuration.{IsConfiguration, members, replicas};
+ghost use Rattle.protocol.specs.System.Configuration.{is_correct_client, is_correct_replica};
 ghost use Rattle.quorum.specs.Quorum.{member};
 
 use std::marker::Model;
@@ -31,13 +32,13 @@ pub struct Config {
 
 impl Model for Config {
     ghost use Rattle.protocol.specs.System.Configuration.{Configuration, IsConfiguration};
-    ghost use Rattle.events.specs.ConfigView.{configuration_of};
+    ghost use Rattle.events.specs.ConfigView.{config_data};
 
     ghost Value = { Configuration };
 
-    ghost view = { λ c. configuration_of c.faults c.clients c.seed c.period c.faulty_replicas.items c.faulty_clients.items };
+    ghost view = { config_data };
 
-    ghost invariant = { λ c. IsConfiguration (configuration_of c.faults c.clients c.seed c.period c.faulty_replicas.items c.faulty_clients.items) };
+    ghost invariant = { λ c. IsConfiguration (config_data c) };
 }
 
 impl Config {
@@ -54,8 +55,8 @@ impl Config {
         faulty_replicas: Vec<u16>,
         faulty_clients: Vec<u16>,
     ) -> Result<Config, BadConfig>
-        ensures made { IfOk result (λ c. c ≡ configuration_of faults clients seed period faulty_replicas.items faulty_clients.items) }
-        ensures only { IsConfiguration (configuration_of faults clients seed period faulty_replicas.items faulty_clients.items) → IsOk result }
+        ensures made { MakesConfig faults clients seed period faulty_replicas faulty_clients result }
+        ensures only { MakesValid faults clients seed period faulty_replicas faulty_clients result }
     {
         if !is_valid(
             faults,
@@ -147,7 +148,7 @@ fn is_valid(
     faulty_replicas: &[u16],
     faulty_clients: &[u16],
 ) -> bool
-    ensures { result ≡ is_configuration (configuration_of faults clients [] period faulty_replicas.now faulty_clients.now) }
+    ensures { result ≡ are_valid faults clients period faulty_replicas.now faulty_clients.now }
 {
     is_within(u16::from(faults), 3)
         && is_within(clients, 256)

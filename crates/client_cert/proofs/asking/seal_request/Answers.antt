@@ -1,4 +1,4 @@
-use Rattle.std.proofs.Common.{ℕ, ◌+◌, arith}
+use Rattle.std.proofs.Common.{◌+◌, arith}
 use Rattle.tuple_codec.specs.OperationView.{operation_of}
 use Rattle.client_cert.proofs.Sealed.{may_seal, sealed_asks}
 use Rattle.client_cert.proofs.asking.seal_request.Goals as goal

@@ -1,5 +1,4 @@
-use Rattle.std.proofs.Common.{◌≡◌, ℕ, [], length, refl, sym, ap, ◌∙◌, arith, true}
-use Rattle.events.specs.Checking.{is_configuration}
+use Rattle.std.proofs.Common.{sym, ◌∙◌}
 use Rattle.events.specs.ConfigView.{configuration_of}
 use Rattle.events.proofs.Checked.{is_valid, passes}
 use Rattle.events.proofs.config.Config.new.Goals as goal
