@@ -1,7 +1,7 @@
 //! What replica 0 posts. The SHA-256 of each frame comes from Python's hashlib and hmac, by docs/formats.md, under the
 //! seed 00 01 .. 1f.
 
-ghost use Rattle.std.specs.Prelude.{◌≡◌, true, false};
+ghost use Rattle.std.specs.Prelude.{◌≡◌, false};
 ghost use Rattle.wire.specs.Spelling.{IsMessage, is_signed};
 ghost use Rattle.wire.specs.Views.{message_data};
 
