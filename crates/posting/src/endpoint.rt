@@ -1,6 +1,6 @@
 //! The endpoint of a replica.
 
-ghost use Rattle.std.specs.Prelude.{◌≡◌, ◌+◌, ◌*◌, ◌<◌, ◌≤◌, true, false, IfOk, OnOk};
+ghost use Rattle.std.specs.Prelude.{◌≡◌, ◌≢◌, ◌+◌, ◌*◌, ◌<◌, ◌≤◌, true, false, IfOk, IfErr, OnOk};
 ghost use Rattle.wire.specs.Spelling.{IsMessage, is_signed};
 ghost use Rattle.wire.specs.Views.{message_data};
 ghost use Rattle.authenticator.specs.Keys.{signing_seed};
@@ -144,6 +144,8 @@ impl Endpoint {
         ensures used { OnOk result (self.new ≡ record self.old { used = self.old.used + 1 }) }
         ensures membership { self.new.membership ≡ self.old.membership }
         ensures me { self.new.me ≡ self.old.me }
+        ensures kept { IfErr result (λ fault. fault ≢ PostFault.NoMemory → self.new ≡ self.old) }
+        ensures one { self.new.used ≤ self.old.used + 1 }
         ensures spent { result ≡ Err PostFault.KeysSpent → self.old.used ≡ 64 }
     {
         sign_for_others(&mut self.signer, alloc, self.faults, self.me, message)

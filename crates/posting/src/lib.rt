@@ -25,3 +25,4 @@ pub use messages::{
     prepare_message, reply_message,
 };
 pub use post_fault::PostFault;
+pub use sealing::seal_for_one;

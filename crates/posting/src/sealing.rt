@@ -37,8 +37,13 @@ pub(crate) fn seal_for_others(
     seal_for(ring, alloc, me, message, receivers)
 }
 
-/// The output of a message for one party.
-pub(crate) fn seal_for_one(
+/// The output of a message of the replica `me`, below 10, for one party, with the keys of a ring alone. So a replica
+/// answers clients while its endpoint is at work elsewhere.
+///
+/// # Errors
+///
+/// TooLarge where the frame would be longer than it may be, and else NoMemory where memory runs out.
+pub fn seal_for_one(
     ring: &mut Ring,
     alloc: Global,
     me: ReplicaId,

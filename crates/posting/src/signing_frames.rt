@@ -1,6 +1,6 @@
 //! Frames with a signature.
 
-ghost use Rattle.std.specs.Prelude.{◌≡◌, ◌≢◌, ◌+◌, ◌*◌, ◌<◌, ◌≤◌, true, IfOk, OnOk};
+ghost use Rattle.std.specs.Prelude.{◌≡◌, ◌≢◌, ◌+◌, ◌*◌, ◌<◌, ◌≤◌, true, IfOk, IfErr, OnOk};
 ghost use Rattle.wire.specs.Spelling.{IsBody, IsMessage, body_spelling, is_signed, piece};
 ghost use Rattle.wire.specs.Views.{body_data, message_data};
 ghost use Rattle.posting.specs.Frames.{SignedExceeds, SignedFits, SignsBody, SignsMessage, SignsPost, says};
@@ -32,6 +32,8 @@ pub(crate) fn sign_for_others(
     ensures posted { IfOk result (SignsPost signer.old.seed faults me.0 (message_data message)) }
     ensures used { OnOk result (signer.new ≡ record signer.old { used = signer.old.used + 1 }) }
     ensures seed { signer.new.seed ≡ signer.old.seed }
+    ensures kept { IfErr result (λ fault. fault ≢ PostFault.NoMemory → signer.new ≡ signer.old) }
+    ensures one { signer.new.used ≤ signer.old.used + 1 }
     ensures spent { result ≡ Err PostFault.KeysSpent → signer.old.used ≡ 64 }
 {
     let receivers = other_replicas(alloc, 3 * faults + 1, me)?;
@@ -51,6 +53,8 @@ fn sign_message(
     ensures spells { IfOk result (SignsMessage signer.old.seed me (message_data message)) }
     ensures used { OnOk result (signer.new ≡ record signer.old { used = signer.old.used + 1 }) }
     ensures seed { signer.new.seed ≡ signer.old.seed }
+    ensures kept { IfErr result (λ fault. fault ≢ PostFault.NoMemory → signer.new ≡ signer.old) }
+    ensures one { signer.new.used ≤ signer.old.used + 1 }
     ensures spent { result ≡ Err PostFault.KeysSpent → signer.old.used ≡ 64 }
 {
     let body = Body {
@@ -67,6 +71,8 @@ fn sign_body(signer: &mut Signer, alloc: Global, body: &Body) -> Result<Vec<u8>,
     ensures spells { IfOk result (SignsBody signer.old.seed body.now) }
     ensures used { OnOk result (signer.new ≡ record signer.old { used = signer.old.used + 1 }) }
     ensures seed { signer.new.seed ≡ signer.old.seed }
+    ensures kept { IfErr result (λ fault. fault ≢ PostFault.NoMemory → signer.new ≡ signer.old) }
+    ensures one { signer.new.used ≤ signer.old.used + 1 }
     ensures spent { result ≡ Err PostFault.KeysSpent → signer.old.used ≡ 64 }
 {
     let mut frame = begin_signed(alloc, body)?;

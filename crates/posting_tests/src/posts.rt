@@ -1,21 +1,21 @@
 //! What replica 0 posts. The SHA-256 of each frame comes from Python's hashlib and hmac, by docs/formats.md, under the
 //! seed 00 01 .. 1f.
 
-ghost use Rattle.std.specs.Prelude.{◌≡◌, true, false};
+ghost use Rattle.std.specs.Prelude.{◌≡◌, false};
 ghost use Rattle.wire.specs.Spelling.{IsMessage, is_signed};
 ghost use Rattle.wire.specs.Views.{message_data};
 
-use crate::endpoints::{DIGEST, new_endpoint, view_change};
+use crate::endpoints::{DIGEST, new_endpoint, new_ring, view_change};
 use events::Output;
 use hex::FromHex;
 use posting::{
     Endpoint, PostFault, checkpoint_message, commit_message, fetch_message, page_message,
-    prepare_message, reply_message,
+    prepare_message, reply_message, seal_for_one,
 };
 use sha2::{Digest, Sha256};
 use std::alloc::Global;
 use std::test::Fail;
-use terms::{ClientId, Level, Mode, Number, Party, Timestamp, View};
+use terms::{ClientId, Level, Mode, Number, Party, ReplicaId, Timestamp, View};
 use tuple_codec::Answer;
 use wire::Message;
 
@@ -100,12 +100,22 @@ fn messages_for_all_others(rt: HostRuntime) -> Result<(), Fail> {
     Ok(())
 }
 
-// Whether the reply to the first request of client 0 goes to it alone.
+const CLIENT: ClientId = ClientId { number: 0 };
+
+// To the first request of the client.
+fn reply() -> Message
+    ensures said { IsMessage (message_data result) }
+    ensures unsigned { is_signed (message_data result) ≡ false }
+{
+    reply_message(CLIENT, Timestamp(1), Mode::Ordered, Number(1), Answer::Done)
+}
+
+// Whether the reply goes to the client alone, by an endpoint, and by a ring.
 fn reply_goes_out(endpoint: &mut Endpoint, alloc: Global) -> Result<bool, Fail> {
-    let client = ClientId { number: 0 };
-    let reply = reply_message(client, Timestamp(1), Mode::Ordered, Number(1), Answer::Done);
-    let output = endpoint.post_to(alloc, reply, Party::Client(client))?;
-    Ok(is_sent(&output, &[256], REPLY))
+    let party = Party::Client(CLIENT);
+    let output = endpoint.post_to(alloc, reply(), party)?;
+    let other = seal_for_one(&mut new_ring(alloc), alloc, ReplicaId(0), reply(), party)?;
+    Ok(is_sent(&output, &[256], REPLY) && is_sent(&other, &[256], REPLY))
 }
 
 #[test]

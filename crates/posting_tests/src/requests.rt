@@ -6,7 +6,7 @@ ghost use Rattle.wire.specs.Views.{body_data, message_data};
 
 use crate::endpoints::{new_endpoint, new_ring};
 use crate::posts::goes_out;
-use posting::{Endpoint, pre_prepare_message};
+use posting::pre_prepare_message;
 use std::alloc::Global;
 use std::test::Fail;
 use terms::{ClientId, Mode, NoMemory, Number, Party, ReplicaId, Timestamp, View};
