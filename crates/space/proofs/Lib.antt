@@ -19,3 +19,4 @@ pub mod Storing
 pub mod Among
 pub mod Changing
 pub mod Answering
+pub mod InOrder

@@ -15,12 +15,12 @@ use Rattle.space.proofs.Filing.{at_same, at_other}
 use Rattle.space.proofs.Listing.{found_at, found_none, removed_at, position-first}
 use Rattle.space.proofs.Placing.{IsAdded-insert}
 
-greater : (a b : ℕ) → b < a → nat_cmp a b ≡ Greater
+pub greater : (a b : ℕ) → b < a → nat_cmp a b ≡ Greater
 greater a b l =
     ap (λ t. cond t Less (cond (a == b) Equal Greater)) (le-ltb a b (omega arith))
     ∙ ap (λ t. cond t Equal Greater) (ne_eqb a b (λ e. omega arith))
 
-less : (a b : ℕ) → a < b → nat_cmp a b ≡ Less
+pub less : (a b : ℕ) → a < b → nat_cmp a b ≡ Less
 less a b l = ap (λ t. cond t Less (cond (a == b) Equal Greater)) (lt-ltb a b l)
 
 -- the newest birth goes to the end

@@ -11,4 +11,5 @@ pub mod Keys
 pub mod Laws
 pub mod Pages
 pub mod Reading
+pub mod Stored
 pub mod Watching

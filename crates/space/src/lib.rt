@@ -29,6 +29,7 @@ mod lists;
 mod matching;
 mod pages;
 mod reading;
+mod stored;
 mod tuples;
 mod watched;
 

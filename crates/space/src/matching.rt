@@ -1,10 +1,10 @@
 //! Matches among stored tuples.
 
 ghost use Rattle.std.specs.Prelude.{◌≢◌, [], OnErr};
-ghost use Rattle.space.specs.Found.{IsMatchAt, IsOldest, IsOldestAt, AreOldest, AreOldestAt, matches_in, matches_at};
+ghost use Rattle.space.specs.Found.{IsMatchAt, IsOldestAt, AreOldestAt, matches_at};
 
+use crate::stored::Stored;
 use std::alloc::{Allocator, Global};
-use std::collections::BTreeMap;
 use template_match::matches;
 use terms::NoMemory;
 use tuple_codec::{Max, Tuples};
@@ -12,13 +12,13 @@ use tuple_tree::{Template, Tuple};
 
 // The tuple of this birth, where it matches.
 fn match_at<'a, A: Allocator>(
-    tuples: &'a BTreeMap<u64, Tuple<Global>>,
+    tuples: &'a Stored,
     birth: u64,
     template: &Template<A>,
 ) -> Option<&'a Tuple<Global>>
     ensures { IsMatchAt template.now tuples.now.entries birth result }
 {
-    match tuples.get(&birth) {
+    match tuples.get(birth) {
         Some(tuple) => {
             if matches(template, tuple) {
                 Some(tuple)
@@ -32,7 +32,7 @@ fn match_at<'a, A: Allocator>(
 
 /// The oldest match among the tuples of these births.
 pub fn oldest_match<'a, A: Allocator>(
-    tuples: &'a BTreeMap<u64, Tuple<Global>>,
+    tuples: &'a Stored,
     births: &[u64],
     template: &Template<A>,
 ) -> Option<(u64, &'a Tuple<Global>)>
@@ -49,7 +49,7 @@ pub fn oldest_match<'a, A: Allocator>(
 /// Copies of the oldest matches among the tuples of these births, so many at the most.
 pub fn copies_of_matches<A: Allocator>(
     alloc: Global,
-    tuples: &BTreeMap<u64, Tuple<Global>>,
+    tuples: &Stored,
     births: &[u64],
     template: &Template<A>,
     max: Max,
@@ -63,44 +63,6 @@ pub fn copies_of_matches<A: Allocator>(
             return Ok(copies);
         }
         if let Some(tuple) = match_at(tuples, *birth, template) {
-            let copy = tuple.copy_in(alloc)?;
-            copies.push(copy)?;
-        }
-    }
-    Ok(copies)
-}
-
-/// The oldest match among all tuples.
-pub fn oldest_of_all<'a, A: Allocator>(
-    tuples: &'a BTreeMap<u64, Tuple<Global>>,
-    template: &Template<A>,
-) -> Option<(u64, &'a Tuple<Global>)>
-    ensures { IsOldest template.now tuples.now.entries result }
-{
-    for (birth, tuple) in tuples {
-        if matches(template, tuple) {
-            return Some((*birth, tuple));
-        }
-    }
-    None
-}
-
-/// Copies of the oldest matches among all tuples, so many at the most.
-pub fn copies_of_all<A: Allocator>(
-    alloc: Global,
-    tuples: &BTreeMap<u64, Tuple<Global>>,
-    template: &Template<A>,
-    max: Max,
-) -> Result<Tuples<Global>, NoMemory>
-    ensures value { AreOldest max.count template.now tuples.now.entries result }
-    ensures memory { OnErr result (matches_in template.now tuples.now.entries ≢ []) }
-{
-    let mut copies = Tuples::new_in(alloc);
-    for tuple in tuples.values() {
-        if copies.len() >= max.count as usize {
-            return Ok(copies);
-        }
-        if matches(template, tuple) {
             let copy = tuple.copy_in(alloc)?;
             copies.push(copy)?;
         }

@@ -5,9 +5,9 @@ ghost use Rattle.std.specs.Int.{w64, to_be_bytes};
 ghost use Rattle.space.specs.Found.{births_text};
 ghost use Rattle.space.specs.Pages.{entry_text};
 
+use crate::stored::Stored;
 use byteorder::{BigEndian, ByteOrder};
 use std::alloc::Global;
-use std::collections::BTreeMap;
 use terms::NoMemory;
 use tuple_codec::encode_tuple;
 use tuple_tree::Tuple;
@@ -19,16 +19,12 @@ pub const HEADER_LEN: usize = 17;
 pub const VERSION: u8 = 1;
 
 /// The text of the tuples of these births.
-pub fn text_of(
-    alloc: Global,
-    tuples: &BTreeMap<u64, Tuple<Global>>,
-    births: &[u64],
-) -> Result<Vec<u8>, NoMemory>
+pub fn text_of(alloc: Global, tuples: &Stored, births: &[u64]) -> Result<Vec<u8>, NoMemory>
     ensures { IfOk result (λ text. text.items ≡ births_text tuples.now.entries births.now) }
 {
     let mut text = Vec::new(alloc);
     for birth in births {
-        if let Some(tuple) = tuples.get(birth) {
+        if let Some(tuple) = tuples.get(*birth) {
             put_entry(*birth, tuple, &mut text)?;
         }
     }

@@ -18,9 +18,10 @@ ghost use Rattle.space.specs.Births.{IsState, Follows, TuplesFollow, WantsMemory
 
 use crate::births::{PAGES, empty_pages, next_birth};
 use crate::index::Index;
-use crate::matching::{copies_of_all, copies_of_matches, oldest_match, oldest_of_all};
+use crate::matching::{copies_of_matches, oldest_match};
 use crate::pages::{HEADER_LEN, header_of, text_of};
 use crate::reading::{read_header, read_page};
+use crate::stored::Stored;
 use std::alloc::{Allocator, Global};
 use std::collections::BTreeMap;
 use std::marker::Model;
@@ -58,7 +59,7 @@ impl From<NoMemory> for PeekFault {
 #[derive(Drop)]
 pub struct Space {
     alloc: Global,
-    tuples: BTreeMap<u64, Tuple<Global>>,
+    tuples: Stored,
     next: u64,
     // How many tuples lie on each page, so that a birth number is found without a look at the tuples.
     page_counts: [u8; PAGES],
@@ -87,7 +88,7 @@ impl Space {
     {
         Space {
             alloc,
-            tuples: BTreeMap::new(alloc),
+            tuples: Stored::new(alloc),
             next: 0,
             page_counts: empty_pages(),
             index: Index::new(alloc),
@@ -140,6 +141,7 @@ impl Space {
             return Err(Bad::Malformed);
         }
         let index = Index::of(alloc, &tuples)?;
+        let tuples = Stored::of(alloc, tuples)?;
         Ok(Space {
             alloc,
             tuples,
@@ -232,20 +234,11 @@ impl Space {
         self.index.candidates(template)
     }
 
-    // Whether so many candidates are better looked for by a walk over all tuples than one by one.
-    fn are_many(&self, candidates: usize) -> bool {
-        candidates > self.count() / 8
-    }
-
     fn oldest_match<A: Allocator>(&self, template: &Template<A>) -> Option<(u64, &Tuple<Global>)>
         ensures value { IsOldest template.now self.now.entries result }
         ensures valid { IsState self.now }
     {
-        let births = self.candidates(template);
-        if self.are_many(births.len()) {
-            return oldest_of_all(&self.tuples, template);
-        }
-        oldest_match(&self.tuples, births, template)
+        oldest_match(&self.tuples, self.candidates(template), template)
     }
 
     // Takes the tuple of this birth.
@@ -253,7 +246,7 @@ impl Space {
         ensures value { result ≡ lookup (is_at (nat_cmp birth)) self.old.entries }
         ensures state { self.new ≡ without_birth self.old birth }
     {
-        match self.tuples.remove(&birth) {
+        match self.tuples.remove(birth) {
             Some(tuple) => {
                 self.index.remove(birth, &tuple);
                 self.page_counts[(birth % PAGES as u64) as usize] -= 1;
@@ -284,10 +277,6 @@ impl Space {
         ensures memory { OnErr result (WantsMemory self.now (rd_all max.count template.now)) }
     {
         let births = self.candidates(template);
-        if self.are_many(births.len()) {
-            let copies = copies_of_all(self.alloc, &self.tuples, template, max)?;
-            return Ok(Answer::All(copies));
-        }
         let copies = copies_of_matches(self.alloc, &self.tuples, births, template, max)?;
         Ok(Answer::All(copies))
     }

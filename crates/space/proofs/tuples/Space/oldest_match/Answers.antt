@@ -18,9 +18,3 @@ returns-clause-value g c =
 
 pub returns-clause-valid : goal.returns-clause-valid
 returns-clause-valid g c = subst IsState c.self.view_is c.self.invariant.counts.state
-
-pub returns-then-are_many-clause-value : goal.returns-then-are_many-clause-value
-returns-then-are_many-clause-value g c = c.oldest_of_all.ensures ∙ ap (λ (x : SpaceState). find (λ (e : Entry). is_match c.args.template.now e.1) x.entries) c.self.view_is
-
-pub returns-then-are_many-clause-valid : goal.returns-then-are_many-clause-valid
-returns-then-are_many-clause-valid g c = subst IsState c.self.view_is c.self.invariant.counts.state

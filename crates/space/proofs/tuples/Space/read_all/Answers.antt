@@ -15,27 +15,16 @@ returns-clause-value g c =
     let h = c.self.invariant.counts.state in
     let p = c.args.template.now in
     let n = c.args.max.count in
-    ap all (c.in_ok-copies-2.ensures {u = tt}).value
+    ap all (c.in_ok-copies.ensures {u = tt}).value
     ∙ ap (λ ts. all (take n ts))
     (ap (λ bs. filter (is_match p) (map (λ (e : Entry). e.1) (entries_at s.entries bs))) (c.candidates-births.ensures ∙ sym (ap (candidates_of p) c.self.view_is))
     ∙ matches_among s h p ∙ ap (λ (x : SpaceState). filter (is_match p) (tuples_of x)) c.self.view_is)
 
-pub returns-then-are_many-clause-value : goal.returns-then-are_many-clause-value
-returns-then-are_many-clause-value g c =
-    ap all (c.in_ok-copies.ensures {u = tt}).value
-    ∙ ap (λ ts. all (take c.args.max.count ts)) (ap (λ (x : SpaceState). filter (is_match c.args.template.now) (tuples_of x)) c.self.view_is)
-
 pub returns-in_err-copies-clause-memory : goal.returns-in_err-copies-clause-memory
 returns-in_err-copies-clause-memory g c =
-    on_err c.from_residual.result
-    (some_matched c.args.template.now (tuples_of c.args.self.now)
-    (subst (λ (x : SpaceState). filter (is_match c.args.template.now) (tuples_of x) ≢ []) c.self.view_is (c.in_err-copies.ensures {u = tt}).memory))
-
-pub returns-in_err-copies-2-clause-memory : goal.returns-in_err-copies-2-clause-memory
-returns-in_err-copies-2-clause-memory g c =
     let s : SpaceState = record { entries = c.self.inside.tuples.entries; next = c.self.inside.next } in
     let p = c.args.template.now in
     let same : filter (is_match p) (map (λ (e : Entry). e.1) (entries_at s.entries c.candidates-births.result.now)) ≡ filter (is_match p) (tuples_of c.args.self.now) =
     ap (λ bs. filter (is_match p) (map (λ (e : Entry). e.1) (entries_at s.entries bs))) (c.candidates-births.ensures ∙ sym (ap (candidates_of p) c.self.view_is))
     ∙ matches_among s c.self.invariant.counts.state p ∙ ap (λ (x : SpaceState). filter (is_match p) (tuples_of x)) c.self.view_is in
-    on_err c.from_residual-in_err-copies-2.result (some_matched p (tuples_of c.args.self.now) (subst (λ ts. ts ≢ []) same (c.in_err-copies-2.ensures {u = tt}).memory))
+    on_err c.from_residual-in_err-copies.result (some_matched p (tuples_of c.args.self.now) (subst (λ ts. ts ≢ []) same (c.in_err-copies.ensures {u = tt}).memory))
