@@ -1,6 +1,6 @@
 //! The stored tuples.
 
-ghost use Rattle.std.specs.Prelude.{◌≡◌, ◌<◌, [], length, AllPairs, OnOk, OnErr, IfOk};
+ghost use Rattle.std.specs.Prelude.{◌≡◌, ◌<◌, [], length, AllPairs, OnOk, OnErr, IfOk, IfNone};
 ghost use Rattle.std.specs.Option.{option_copied};
 ghost use Rattle.std.specs.Ordering.{nat_cmp};
 ghost use Rattle.std.specs.Map.{lookup, remove_entry};
@@ -80,6 +80,7 @@ impl Stored {
     pub fn remove(&mut self, birth: u64) -> Option<Tuple<Global>>
         ensures value { result ≡ lookup (is_at (nat_cmp birth)) self.old.entries }
         ensures entries { self.new.entries ≡ remove_entry (is_at (nat_cmp birth)) self.old.entries }
+        ensures absent { IfNone result (self.new ≡ self.old) }
     {
         self.tuples.remove(&birth)
     }

@@ -48,7 +48,7 @@ pub invariant_of-self-in-Err : goal.invariant_of-self-in-Err
 invariant_of-self-in-Err g c =
     let es = c.self.inside.tuples.entries in
     let h = c.self.invariant in
-    subst (λ xs. IsIndexed xs c.self.inside.next c.self.inside.page_counts c.prune.new.self) (sym (c.in-Err.ensures {u = tt}).err)
+    subst (λ xs. IsIndexed xs c.self.inside.next c.self.inside.page_counts c.prune.new.self) (ap (λ s. s.entries) (sym (c.in-Err.ensures {u = tt}).err))
     (record { counts = h.counts; indexed = c.prune.ensures.kept es (c.reserve.ensures.kept es h.indexed) })
 
 pub add-requires : goal.add-requires

@@ -27,4 +27,4 @@ returns-in_err-copies-clause-memory g c =
     let same : filter (is_match p) (map (λ (e : Entry). e.1) (entries_at s.entries c.candidates-births.result.now)) ≡ filter (is_match p) (tuples_of c.args.self.now) =
     ap (λ bs. filter (is_match p) (map (λ (e : Entry). e.1) (entries_at s.entries bs))) (c.candidates-births.ensures ∙ sym (ap (candidates_of p) c.self.view_is))
     ∙ matches_among s c.self.invariant.counts.state p ∙ ap (λ (x : SpaceState). filter (is_match p) (tuples_of x)) c.self.view_is in
-    on_err c.from_residual-in_err-copies.result (some_matched p (tuples_of c.args.self.now) (subst (λ ts. ts ≢ []) same (c.in_err-copies.ensures {u = tt}).memory))
+    on_err c.from_residual.result (some_matched p (tuples_of c.args.self.now) (subst (λ ts. ts ≢ []) same (c.in_err-copies.ensures {u = tt}).memory))

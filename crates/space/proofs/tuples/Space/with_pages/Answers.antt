@@ -34,8 +34,8 @@ returns-then-len-gt-MAX_TUPLES-clause-only c s of =
     let few = of.state.count in
     absurd (omega (arith, ap length same))
 
-pub of-tuples-requires : goal.of-tuples-requires
-of-tuples-requires c = c.loop-page.invariant.rising
+pub of-requires-2 : goal.of-requires-2
+of-requires-2 c = c.loop-page.invariant.rising
 
 pub invariant_of-result : goal.invariant_of-result
 invariant_of-result c =
