@@ -238,7 +238,8 @@ impl Space {
         ensures value { IsOldest template.now self.now.entries result }
         ensures valid { IsState self.now }
     {
-        oldest_match(&self.tuples, self.candidates(template), template)
+        let births = self.candidates(template);
+        oldest_match(&self.tuples, births, template)
     }
 
     // Takes the tuple of this birth.

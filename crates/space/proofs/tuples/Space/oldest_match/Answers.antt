@@ -13,7 +13,7 @@ returns-clause-value g c =
     let h = c.self.invariant.counts.state in
     let p = c.args.template.now in
     c.oldest_match.ensures
-    ∙ ap (λ bs. find (λ (e : Entry). is_match p e.1) (entries_at s.entries bs)) (c.candidates.ensures ∙ sym (ap (candidates_of p) c.self.view_is))
+    ∙ ap (λ bs. find (λ (e : Entry). is_match p e.1) (entries_at s.entries bs)) (c.candidates-births.ensures ∙ sym (ap (candidates_of p) c.self.view_is))
     ∙ found_among s h p ∙ ap (λ (x : SpaceState). find (λ (e : Entry). is_match p e.1) x.entries) c.self.view_is
 
 pub returns-clause-valid : goal.returns-clause-valid
