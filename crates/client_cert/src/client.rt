@@ -5,6 +5,7 @@ ghost use Rattle.std.specs.Prelude.{IfOk, OnErr, is_some};
 ghost use Rattle.tuple_codec.specs.OperationView.{operation_of};
 ghost use Rattle.protocol.specs.System.Configuration.{Configuration, members};
 ghost use Rattle.client_cert.specs.State.{IsSpent, called};
+ghost use Rattle.events.specs.declared.output.Stop.TheVariants as Stop;
 ghost use Rattle.client_cert.specs.Fits.{Fits};
 ghost use Rattle.client_cert.specs.Steps.{CallLeads, CallStops, EventLeads};
 ghost use Rattle.client_cert.specs.Steps.{Asks, BytesLead, Keeps, RetryLeads};
@@ -165,12 +166,14 @@ impl Client {
     ///
     /// # Errors
     ///
-    /// NoMemory where memory runs out, with which the client stops, and Stopped where it had stopped before.
+    /// NoMemory where memory runs out, with which the client stops, and Stopped exactly where it had stopped before.
     #[tactic(auto, using(crate::proofs::Stepping::stops_got, crate::proofs::Stepping::stops_tick))]
     pub fn step(&mut self, alloc: Global, event: Event<'_>) -> Result<Outputs, Stop>
         ensures leads { IfOk result (λ outs. EventLeads self.old event.entry outs.items self.new) }
         ensures stops { OnErr result (EventLeads self.old event.entry [] self.new) }
+        ensures runs { IfOk result (λ _. self.new.stopped ≡ false) }
         ensures stopped { OnErr result (self.new.stopped ≡ true) }
+        ensures before { (result ≡ Err Stop.Stopped) ↔ (self.old.stopped ≡ true) }
         ensures number { self.new.number ≡ self.old.number }
     {
         if self.stopped {
@@ -179,16 +182,16 @@ impl Client {
         match event {
             Event::Got(bytes) => match self.got(alloc, bytes) {
                 Ok(outputs) => Ok(outputs),
-                Err(stop) => {
+                Err(_) => {
                     self.stopped = true;
-                    Err(stop)
+                    Err(Stop::NoMemory)
                 }
             },
             Event::Retry => match self.retry(alloc) {
                 Ok(outputs) => Ok(outputs),
-                Err(stop) => {
+                Err(_) => {
                     self.stopped = true;
-                    Err(stop)
+                    Err(Stop::NoMemory)
                 }
             },
         }
@@ -199,6 +202,7 @@ impl Client {
     fn got(&mut self, alloc: Global, bytes: &[u8]) -> Result<Outputs, Stop>
         requires { self.old.stopped ≡ false }
         ensures leads { IfOk result (λ outs. BytesLead self.old bytes.now outs.items self.new) }
+        ensures runs { IfOk result (λ _. self.new.stopped ≡ false) }
         ensures keeps { OnErr result (Keeps self.old self.new) }
         ensures number { self.new.number ≡ self.old.number }
     {
@@ -253,6 +257,7 @@ impl Client {
     fn retry(&mut self, alloc: Global) -> Result<Outputs, Stop>
         requires { self.old.stopped ≡ false }
         ensures leads { IfOk result (λ outs. RetryLeads self.old outs.items self.new) }
+        ensures runs { IfOk result (λ _. self.new.stopped ≡ false) }
         ensures keeps { OnErr result (Keeps self.old self.new) }
         ensures number { self.new.number ≡ self.old.number }
     {

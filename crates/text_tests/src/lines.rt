@@ -3,7 +3,7 @@
 use std::alloc::{AllocError, Global};
 use std::test::Fail;
 use tuple_codec::{Op, encode_op};
-use tuple_text::{LineFault, read_line, read_template, write_tuple};
+use tuple_text::{LineFault, read_line, read_template, write_op, write_tuple};
 
 // Lines and the bytes of their operations.
 const LINES: [(&[u8], &[u8]); 17] = [
@@ -272,6 +272,44 @@ fn reads_what_is_written(rt: HostRuntime) -> Result<(), Fail> {
     let text = b"(-1 \"\xc3\xa9\\x00\" (x0a ()) false)".as_slice();
     assert!(rt; is_written_again(rt.alloc(), line, text)?);
     Ok(())
+}
+
+// Lines as they are written.
+const WRITTEN: [&[u8]; 6] = [
+    b"out (-1 \"\xc3\xa9\\x00\" (x0a ()) false)",
+    b"rdp (* ?int (?text ?bytes) ?bool ?tuple 2)",
+    b"inp ()",
+    b"cas (\"k\" *) (\"k\" -1)",
+    b"rdAll 64 (* ())",
+    b"rdAll 1 ((((((((?tuple))))))))",
+];
+
+// Whether the operation's line is written, at the second try where memory runs out at the first.
+fn has_line(alloc: Global, op: &Op<Global>, line: &[u8]) -> bool {
+    let mut out = Vec::new(alloc);
+    let is_done = write_op(op, &mut out).is_ok()
+        || out.is_empty() && write_op(op, &mut out).is_ok();
+    is_done && out.as_slice() == line
+}
+
+fn line_again(alloc: Global, line: &[u8]) -> bool {
+    let op = match read_line(alloc, line) {
+        Err(LineFault::NoMemory) => read_line(alloc, line),
+        first => first,
+    };
+    match op {
+        Ok(Some(op)) => has_line(alloc, &op, line),
+        _ => false,
+    }
+}
+
+// Passes whichever allocation is refused, as by `rt try --test --fail-alloc N`: the bytes are as before, and a second
+// try gives the line.
+#[test]
+fn writes_lines(rt: HostRuntime) {
+    for line in WRITTEN {
+        assert!(rt; line_again(rt.alloc(), line), "{line:?}");
+    }
 }
 
 // To be run with each allocation refused in turn: the line is read, or memory runs out.

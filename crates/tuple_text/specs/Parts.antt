@@ -1,8 +1,8 @@
 -- What the private methods of the reader speak of: the parts of a tuple, and those of a template.
-use Rattle.std.specs.Prelude.{◌≡◌, ℕ, Bool, List, codes, Result, Option, option_map}
+use Rattle.std.specs.Prelude.{◌≡◌, ℕ, Bool, codes, Result, Option, option_map}
 use Rattle.tuple_tree.specs.Items.{Item, inner, Items}
 use Rattle.tuple_tree.specs.Values.{Datum, Slot, TupleTree, TemplateTree, datum_length, slot_length}
-use Rattle.tuple_text.specs.Reading.{Read, stop, Reading, named, datum, slot, begins_datum, begins_slot, full, further, no_room, kept_with, leaf_item, item_at, items_at, close, Gives}
+use Rattle.tuple_text.specs.Reading.{stop, Reading, named, datum, slot, begins_datum, begins_slot, full, further, no_room, kept_with, leaf_item, item_at, items_at, close, Gives}
 use Rattle.tuple_text.specs.declared.reader.Reader.{Reader}
 use Rattle.tuple_text.specs.declared.reader.Stop.{Stop}
 

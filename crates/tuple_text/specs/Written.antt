@@ -2,8 +2,8 @@
 use Rattle.std.specs.Prelude.{◌≡◌, ℕ, List, [], ◌∷◌, ◌++◌, length, codes, Result, Ok, Err}
 use Rattle.std.specs.Fmt.{decimal}
 use Rattle.tuple_tree.specs.Items.{Item, leaf, inner, Items, none, item}
-use Rattle.tuple_tree.specs.Values.{Datum, TupleTree, TemplateTree}
-use Rattle.tuple_codec.specs.Operations.{Outcome, done, found, absent, swapped, all, full, refused}
+use Rattle.tuple_tree.specs.Values.{Datum, Slot, TupleTree, TemplateTree}
+use Rattle.tuple_codec.specs.Operations.{Operation, out, rdp, inp, cas, rd_all, Outcome, done, found, absent, swapped, all, full, refused}
 use Rattle.tuple_codec.specs.OperationView.{outcome_of}
 use Rattle.tuple_codec.specs.declared.operations.Answer.{Answer}
 use Rattle.tuple_text.specs.Texts.{datum_text, slot_text, truth_text}
@@ -40,6 +40,13 @@ tuple_written t = whole_written datum_text t
 abbrev pub template_written : TemplateTree → List ℕ
 template_written p = whole_written slot_text p
 
+-- a field of a template, and its fields without their parentheses
+abbrev pub field_written : Item Slot → List ℕ
+field_written x = item_written slot_text x
+
+abbrev pub fields_written : TemplateTree → List ℕ
+fields_written p = items_written slot_text p
+
 -- each tuple behind a blank
 abbrev pub tuples_written : List TupleTree → List ℕ
 tuples_written [] = []
@@ -58,6 +65,14 @@ outcome_text (swapped b) = codes "swapped " ++ truth_text b
 outcome_text (all ts) = codes "all " ++ decimal (length ts) ++ tuples_written ts
 outcome_text full = codes "full"
 outcome_text refused = codes "refused"
+
+-- An operation's name, and its arguments, each behind a blank.
+abbrev pub operation_written : Operation → List ℕ
+operation_written (out t) = codes "out " ++ tuple_written t
+operation_written (rdp p) = codes "rdp " ++ template_written p
+operation_written (inp p) = codes "inp " ++ template_written p
+operation_written (cas p t) = codes "cas " ++ template_written p ++ 32 ∷ tuple_written t
+operation_written (rd_all n p) = codes "rdAll " ++ decimal n ++ 32 ∷ template_written p
 
 -- of an answer of the program
 abbrev pub answer_text : {A : Type 0} → Answer A → List ℕ

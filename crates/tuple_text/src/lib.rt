@@ -4,17 +4,19 @@
 //!
 //! `read_line` gives the operation exactly where the line is one (`IsLine`), nothing exactly where it is skipped, and
 //! else a refusal that holds (`Refuses`): the offset is the length of the longest beginning of the line that begins
-//! some line. `read_template` does the same for a template that stands alone. `write_tuple` and `write_answer` append
-//! their text for all values; `written_is_text` says that it is a text of the tuple, `written_is_read` that it is read
+//! some line. `read_template` does the same for a template that stands alone. `write_tuple`, `write_answer` and `write_op`
+//! append their text for all values; `written_is_text` says that it is a text of the tuple, `written_is_read` that it is read
 //! again as that tuple.
 #![tactic(auto)]
 
 mod faults;
 mod lines;
 mod literals;
+mod operations;
 mod reader;
 mod write;
 
 pub use faults::{LineFault, MAX_LINE};
 pub use lines::{read_line, read_template};
+pub use operations::write_op;
 pub use write::{write_answer, write_tuple, written_is_read, written_is_text};

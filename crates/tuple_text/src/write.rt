@@ -72,7 +72,7 @@ pub fn written_is_read()
 {}
 
 // Appends these bytes.
-fn append<B: Allocator>(text: &[u8], out: &mut Vec<u8, B>) -> Result<(), NoMemory>
+pub(crate) fn append<B: Allocator>(text: &[u8], out: &mut Vec<u8, B>) -> Result<(), NoMemory>
     ensures { Appends result out.old.items text.now out.new.items }
 {
     Ok(out.extend_from_slice(text)?)
@@ -120,7 +120,7 @@ fn put_tuples<A: Allocator, B: Allocator>(
 }
 
 #[cycle(put_tuple)]
-fn put_tuple<A: Allocator, B: Allocator>(
+pub(crate) fn put_tuple<A: Allocator, B: Allocator>(
     tuple: &Tuple<A>,
     out: &mut Vec<u8, B>,
 ) -> Result<(), NoMemory>
@@ -160,7 +160,7 @@ fn put_value<A: Allocator, B: Allocator>(
     }
 }
 
-fn put_atom<A: Allocator, B: Allocator>(
+pub(crate) fn put_atom<A: Allocator, B: Allocator>(
     atom: &Atom<A>,
     out: &mut Vec<u8, B>,
 ) -> Result<(), NoMemory>

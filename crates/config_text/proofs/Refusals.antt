@@ -1,0 +1,14 @@
+-- What refuses one thing refuses another, where the second would be the first.
+use Rattle.config_text.specs.declared.fault.ConfigFault.{ConfigFault}
+use Rattle.config_text.specs.declared.fault.ConfigFault.TheVariants.{Refused, NoMemory}
+use Rattle.std.specs.Prelude.{Result, Ok, Err, MatchResult}
+use Rattle.config_text.specs.Judging.{Because}
+
+pub because : (fault : ConfigFault) {P Q : Type 0} → (P → Q) → Because fault P → Because fault Q
+because Refused f h = f h
+because NoMemory f h = tt
+
+-- the same of a call whose result is handed on
+pub judged : {V : Type 0} {Is Was : V → Type 0} {P Q : Type 0} (r : Result V ConfigFault) → ((v : V) → Was v → Is v) → (P → Q) → MatchResult r Was (λ fault. Because fault P) → MatchResult r Is (λ fault. Because fault Q)
+judged (Ok v) f g h = f v h
+judged (Err fault) f g h = because fault g h

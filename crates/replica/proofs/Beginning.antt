@@ -1,0 +1,407 @@
+-- An event that begins with bytes: what is dropped, and what the log takes.
+use Rattle.std.proofs.Common.{◌≡◌, ◌≢◌, ℕ, suc, ◌+◌, ◌*◌, ◌<◌, inl, inr, Bool, true, false, not, cond, ◌&&◌, ◌==◌, List, [], Option, Some, None, refl, sym, ap, ◌∙◌, subst, nat_lt, nat_le, ◌-◌, arith, eqb-true, ◌⊎◌}
+use Rattle.std.specs.Prelude.{is_none}
+use Rattle.std.specs.Option.{option_and_then}
+use Rattle.std.proofs.lemmas.Bool.{and_parts, leb-true, ltb-true}
+use Rattle.quorum.specs.Votes.{or_else}
+use Rattle.terms.specs.declared.order.Number.{Number}
+use Rattle.terms.specs.declared.parties.ReplicaId.{ReplicaId}
+use Rattle.wire.specs.declared.messages.PrePrepare.{PrePrepare as WirePrePrepare}
+use Rattle.wire.specs.declared.messages.Prepare.{Prepare as WirePrepare}
+use Rattle.wire.specs.declared.messages.Commit.{Commit as WireCommit}
+use Rattle.wire.specs.Words.{requests_of}
+use Rattle.wire.specs.declared.messages.Request.{Request as WireRequest}
+use Rattle.wire.specs.declared.messages.Message.{Message as WireMessage}
+use Rattle.wire.specs.declared.messages.Message.TheVariants as messages
+use Rattle.wire.specs.Views.{message_data}
+use Rattle.terms.specs.declared.order.Mode.{Mode}
+use Rattle.terms.specs.declared.order.Mode.TheVariants as modes
+use Rattle.tuple_codec.specs.Operations.{Operation}
+use Rattle.tuple_codec.specs.OperationView.{operation_of}
+use Rattle.wire.specs.Messages.{BodyData as Body, request as Request, pre_prepare as PrePrepare, prepare as Prepare, commit as Commit}
+use Rattle.signing.specs.Heard.{heard}
+use Rattle.signing.proofs.Heard.{heard_was_opened}
+use Rattle.ordering.specs.Log as logs
+use Rattle.ordering.specs.Log.{LogData, is_in_marks, logged_batch, with_batch, with_prepare, with_commit, due_prepare, due_commit}
+use Rattle.ordering.specs.Taking.{ordering_fault, fault_beside}
+use Rattle.ordering.specs.declared.dropped.Dropped.{Dropped}
+use Rattle.ordering.specs.declared.dropped.Dropped.TheVariants.{WrongView, OutOfMarks, UnknownSender}
+use Rattle.ordering.specs.declared.votes.Vote.{Vote}
+use Rattle.ordering.proofs.Reading.{prepares_count as log_prepares_count, commits_count as log_commits_count}
+use Rattle.ordering.specs.Messages.{preprepare_fault_of}
+use Rattle.sha2.specs.Sha256.{sha256}
+use Rattle.authenticator.specs.Membership.{Membership, has_sender, is_client, is_replica}
+use Rattle.posting.specs.Endpoint.{are_heard}
+use Rattle.protocol.specs.System.Configuration.{Configuration, members}
+use Rattle.protocol.specs.System.Trace.{Entry}
+use Rattle.protocol.specs.System.Trace.Entry.{Got}
+use Rattle.protocol.specs.Replica.Certificates.{taken, are_genuine}
+use Rattle.protocol.specs.Replica.State.{State, Call, call_in, kept_of}
+use Rattle.protocol.specs.System.Frames.{same_mode}
+use Rattle.replica_histories.specs.Events as histories
+use Rattle.replica_histories.specs.Events.{IsTaken, IsNumberedIn}
+use Rattle.replica_histories.specs.Inputs.{asked, asked_in, again_for, IsBesideLog}
+use Rattle.replica_histories.specs.Logs.{FitsLog, Takes}
+use Rattle.replica_histories.proofs.Entering.{inputs_fit}
+use Rattle.replica_histories.proofs.Resting.{held_are_settled}
+use Rattle.replica_histories.proofs.Counting.{batches_count, batches_drop, prepares_count, prepares_drop, commits_count, commits_drop, others_drop}
+use Rattle.replica.specs.declared.taking.Touched.TheVariants as touched
+use Rattle.replica.specs.State.{OrdererData, ReplicaData, AreOne}
+use Rattle.replica.specs.Desks.{Stands}
+use Rattle.replica.specs.Going.{IsSameLog, IsSameParty, IsVotedBut, Rests}
+use Rattle.replica.specs.Numbering.{NumbersRight}
+use Rattle.replica.specs.Taking.{TakesBatch, TakesPrepare, TakesCommit}
+use Rattle.replica.specs.Fits.{Runs, me_of}
+use Rattle.replica.specs.Entering.{event_of, TakesBytes, TakesMessage}
+use Rattle.replica.proofs.NumbersKept.{votes_right}
+use Rattle.replica.proofs.Rows.{due_prepare_elsewhere, due_commit_elsewhere}
+
+-- ---- between events
+
+-- nothing is left to say or to execute
+pub rests : (c : Configuration) (r : ReplicaData) (past : List Entry) → Runs c r past → Rests r
+rests c r past runs =
+    let settled = held_are_settled c (me_of r) runs.desk r.orderer.log past runs.holds in (
+      (λ i. (runs.holds.of_log.prepares i, runs.holds.of_log.commits i)),
+      subst (λ (st : State). logs.committed_batch r.orderer.log (suc st.number) ≡ None) runs.is_desk.state settled.executes,
+    )
+
+-- ---- what is heard
+
+-- it is no ordered request
+pub record IsNoCall (c : Configuration) (said : Option Body) : Type 0 where
+  pub call : option_and_then (call_in c) said ≡ None
+  pub asks : (st : State) → asked st said ≡ []
+
+module _ (r : ReplicaData) (one : AreOne r.orderer r.desk) where
+  -- the desk hears what the orderer does
+  pub heard_by : (c : Configuration) (bytes : List ℕ) (body : Body) → members c ≡ r.desk.membership → heard r.desk.membership r.desk.me bytes ≡ Some body
+      → heard (members c) (me_of r) bytes ≡ Some body
+  heard_by c bytes body known h = ap (λ m. heard m (me_of r) bytes) known ∙ ap (λ (x : ℕ). heard r.desk.membership x bytes) (sym one.0) ∙ h
+
+  -- bytes that are no ordered request, of which the log may take something
+  pub begins_with : (c : Configuration) (past : List Entry) (runs : Runs c r past) (bytes : List ℕ) (after : LogData) → taken c past (Got (me_of r) bytes) ≡ None
+      → Takes c (me_of r) (heard (members c) (me_of r) bytes) r.orderer.log after → IsNoCall c (heard (members c) (me_of r) bytes)
+      → Stands c (event_of c r past runs bytes) after r.desk [] []
+  begins_with c past runs bytes after free takes none = record {
+    desk = runs.desk;
+    is = runs.is_desk;
+    fits = subst (λ (m : ℕ). histories.Fits c m (event_of c r past runs bytes) runs.desk after [] []) (sym one.0)
+        (inputs_fit c (me_of r) runs.desk runs.desk r.orderer.log after [] past bytes runs.holds free (record {
+          takes = takes;
+          state = refl;
+          snapshots = refl;
+          waiting = rw none.call refl;
+          frames = λ frame h. inl h;
+          due_is = sym (none.asks runs.desk.state);
+        }));
+  }
+
+  same_party : IsSameParty r r
+  same_party = record {
+    orderer = record { endpoint = refl; log = record { me = refl; faults = refl; span = refl; view = refl; active = refl; low = refl } };
+    me = refl;
+    membership = refl;
+    stopped = refl;
+  }
+
+  -- What is dropped changes nothing.
+  pub drops : (bytes : List ℕ)
+      → ((c : Configuration) (past : List Entry) → Runs c r past → members c ≡ r.desk.membership
+      → Takes c (me_of r) (heard (members c) (me_of r) bytes) r.orderer.log r.orderer.log × IsNoCall c (heard (members c) (me_of r) bytes))
+      → TakesBytes bytes r touched.Nothing r []
+  drops bytes none = record {
+    party = same_party;
+    begins = λ c past runs known free. let n = none c past runs known in
+        (begins_with c past runs bytes r.orderer.log free n.0 n.1, runs.numbers, (rests c r past runs, runs.all, inl refl));
+  }
+
+  -- What the log takes touches one number.
+  pub takes_row : (bytes : List ℕ) (number : Number) (after : LogData)
+      → IsSameLog r.orderer.log after → ((i : ℕ) → i ≢ number.0 → (due_prepare after i ≡ due_prepare r.orderer.log i) × (due_commit after i ≡ due_commit r.orderer.log i))
+      → ((c : Configuration) (past : List Entry) (runs : Runs c r past) → members c ≡ r.desk.membership
+      → Takes c (me_of r) (heard (members c) (me_of r) bytes) r.orderer.log after × IsNoCall c (heard (members c) (me_of r) bytes)
+      × IsTaken c (me_of r) (event_of c r past runs bytes) × NumbersRight c (record r { orderer = record r.orderer { log = after } }))
+      → TakesBytes bytes r (touched.Row number) (record r { orderer = record r.orderer { log = after } }) []
+  takes_row bytes number after same others takes = record {
+    party = record { orderer = record { endpoint = refl; log = same }; me = refl; membership = refl; stopped = refl };
+    begins = λ c past runs known free. let t = takes c past runs known in
+        (begins_with c past runs bytes after free t.0 t.1, t.3, (voted c past runs, t.2));
+  }
+    where
+      voted : (c : Configuration) (past : List Entry) → Runs c r past → IsVotedBut number.0 after
+      voted c past runs i ne = ((others i ne).0 ∙ (runs.holds.of_log.prepares i), (others i ne).1 ∙ (runs.holds.of_log.commits i))
+
+-- ---- what the log has no fault for
+
+no_fault : {A : Type 0} (first later : Option A) → or_else first later ≡ None → first ≡ None
+no_fault None later h = refl
+no_fault (Some x) later h = absurd cc
+
+-- a message for the log's view, of a number within the marks
+record Fitting (log : LogData) (may_send : Bool) (v i : ℕ) : Type 0 where
+  pub sends : may_send ≡ true
+  pub view : v ≡ log.view
+  pub within : is_in_marks log i ≡ true
+
+fitting : (log : LogData) (may_send : Bool) (v i : ℕ) → ordering_fault log may_send v i ≡ None → Fitting log may_send v i
+fitting log may_send v i h = go may_send (logs.is_active_in log v) (is_in_marks log i) refl refl refl h
+  where
+    go : (sends active within : Bool) → may_send ≡ sends → logs.is_active_in log v ≡ active → is_in_marks log i ≡ within
+        → cond (not sends) (Some UnknownSender) (cond (not active) (Some WrongView) (cond (not within) (Some OutOfMarks) None)) ≡ None → Fitting log may_send v i
+    go false active within a b d h = absurd cc
+    go true false within a b d h = absurd cc
+    go true true false a b d h = absurd cc
+    go true true true a b d h = record { sends = a; view = eqb-true v log.view (and_parts (v == log.view) log.active b).0; within = d }
+
+-- a vote of the sender
+abbrev vote_by : ReplicaId → List ℕ → Vote
+vote_by sender digest = record { sender = sender; digest = digest }
+
+pub prepare_taken : (r : ReplicaData) (sender : ReplicaId) (p : WirePrepare) (new : OrdererData) → AreOne r.orderer r.desk → TakesPrepare r.orderer sender p new true
+    → TakesMessage sender (Prepare p.view.0 p.number.0 p.digest) r (touched.Row p.number) (record r { orderer = new }) []
+prepare_taken r sender p new one t bytes h =
+    subst (λ (o : OrdererData). TakesBytes bytes r (touched.Row p.number) (record r { orderer = o }) []) (sym t.1)
+    (takes_row r one bytes p.number (with_prepare r.orderer.log p.number.0 vote) (record { me = refl; faults = refl; span = refl; view = refl; active = refl; low = refl })
+    (λ i ne. (due_prepare_elsewhere r.orderer.log i p.number.0 _ inside ne, due_commit_elsewhere r.orderer.log i p.number.0 _ inside ne)) takes)
+  where
+    vote : Vote
+    vote = vote_by sender p.digest
+
+    inside : is_in_marks r.orderer.log p.number.0 ≡ true
+    inside = (fitting r.orderer.log _ p.view.0 p.number.0 (no_fault _ (fault_beside (logs.prepare_of r.orderer.log p.number.0 sender.0) p.digest) t.0)).within
+
+    takes : (c : Configuration) (past : List Entry) (runs : Runs c r past) → members c ≡ r.desk.membership
+        → Takes c (me_of r) (heard (members c) (me_of r) bytes) r.orderer.log (with_prepare r.orderer.log p.number.0 vote) × IsNoCall c (heard (members c) (me_of r) bytes)
+        × IsTaken c (me_of r) (event_of c r past runs bytes) × NumbersRight c (record r { orderer = record r.orderer { log = with_prepare r.orderer.log p.number.0 vote } })
+    takes c past runs known =
+        let hears = heard_by r one c bytes _ known h in
+        let counts = prepares_count c (me_of r) r.orderer.log past runs.holds.of_desk.point sender.0 p.view.0 p.number.0 p.digest bytes vote runs.holds.of_log.fits hears t.0 refl refl in (
+          counts.1,
+          record { call = rw hears refl; asks = λ st. rw hears refl },
+          (record { sender = sender.0; message = Prepare p.view.0 p.number.0 p.digest }, hears, counts.0),
+          votes_right c r.desk.executed.state r.orderer.log (with_prepare r.orderer.log p.number.0 vote) r.orderer.used r.desk.waiting
+              (record { me = refl; faults = refl; span = refl; view = refl; active = refl; low = refl })
+              (λ i. (log_prepares_count r.orderer.log i p.number.0 0 vote runs.holds.of_log.fits.is_log inside).0) runs.numbers,
+        )
+
+pub commit_taken : (r : ReplicaData) (sender : ReplicaId) (p : WireCommit) (new : OrdererData) → AreOne r.orderer r.desk → TakesCommit r.orderer sender p new true
+    → TakesMessage sender (Commit p.view.0 p.number.0 p.digest) r (touched.Row p.number) (record r { orderer = new }) []
+commit_taken r sender p new one t bytes h =
+    subst (λ (o : OrdererData). TakesBytes bytes r (touched.Row p.number) (record r { orderer = o }) []) (sym t.1)
+    (takes_row r one bytes p.number (with_commit r.orderer.log p.number.0 vote) (record { me = refl; faults = refl; span = refl; view = refl; active = refl; low = refl })
+    (λ i ne. (due_prepare_elsewhere r.orderer.log i p.number.0 _ inside ne, due_commit_elsewhere r.orderer.log i p.number.0 _ inside ne)) takes)
+  where
+    vote : Vote
+    vote = vote_by sender p.digest
+
+    inside : is_in_marks r.orderer.log p.number.0 ≡ true
+    inside = (fitting r.orderer.log _ p.view.0 p.number.0 (no_fault _ (fault_beside (logs.commit_of r.orderer.log p.number.0 sender.0) p.digest) t.0)).within
+
+    takes : (c : Configuration) (past : List Entry) (runs : Runs c r past) → members c ≡ r.desk.membership
+        → Takes c (me_of r) (heard (members c) (me_of r) bytes) r.orderer.log (with_commit r.orderer.log p.number.0 vote) × IsNoCall c (heard (members c) (me_of r) bytes)
+        × IsTaken c (me_of r) (event_of c r past runs bytes) × NumbersRight c (record r { orderer = record r.orderer { log = with_commit r.orderer.log p.number.0 vote } })
+    takes c past runs known =
+        let hears = heard_by r one c bytes _ known h in
+        let counts = commits_count c (me_of r) r.orderer.log past runs.holds.of_desk.point sender.0 p.view.0 p.number.0 p.digest bytes vote runs.holds.of_log.fits hears t.0 refl refl in (
+          counts.1,
+          record { call = rw hears refl; asks = λ st. rw hears refl },
+          (record { sender = sender.0; message = Commit p.view.0 p.number.0 p.digest }, hears, counts.0),
+          votes_right c r.desk.executed.state r.orderer.log (with_commit r.orderer.log p.number.0 vote) r.orderer.used r.desk.waiting
+              (record { me = refl; faults = refl; span = refl; view = refl; active = refl; low = refl })
+              (λ i. (log_commits_count r.orderer.log i p.number.0 0 vote runs.holds.of_log.fits.is_log inside).0) runs.numbers,
+        )
+
+-- ---- what it has a fault for
+
+some_fault : (o : Option Dropped) → is_none o ≡ false → (fault : Dropped) × (o ≡ Some fault)
+some_fault None h = absurd cc
+some_fault (Some x) h = (x, refl)
+
+pub prepare_dropped : (r : ReplicaData) (sender : ReplicaId) (p : WirePrepare) (new : OrdererData) → AreOne r.orderer r.desk → TakesPrepare r.orderer sender p new false
+    → TakesMessage sender (Prepare p.view.0 p.number.0 p.digest) r touched.Nothing (record r { orderer = new }) []
+prepare_dropped r sender p new one t bytes h =
+    subst (λ (o : OrdererData). TakesBytes bytes r touched.Nothing (record r { orderer = o }) []) (sym t.1) (drops r one bytes none)
+  where
+    none : (c : Configuration) (past : List Entry) → Runs c r past → members c ≡ r.desk.membership
+        → Takes c (me_of r) (heard (members c) (me_of r) bytes) r.orderer.log r.orderer.log × IsNoCall c (heard (members c) (me_of r) bytes)
+    none c past runs known =
+        let hears = heard_by r one c bytes _ known h in
+        let fault = some_fault _ t.0 in (
+          prepares_drop c (me_of r) r.orderer.log past sender.0 p.view.0 p.number.0 p.digest bytes fault.0 runs.holds.of_log.fits hears fault.1,
+          record { call = rw hears refl; asks = λ st. rw hears refl },
+        )
+
+pub commit_dropped : (r : ReplicaData) (sender : ReplicaId) (p : WireCommit) (new : OrdererData) → AreOne r.orderer r.desk → TakesCommit r.orderer sender p new false
+    → TakesMessage sender (Commit p.view.0 p.number.0 p.digest) r touched.Nothing (record r { orderer = new }) []
+commit_dropped r sender p new one t bytes h =
+    subst (λ (o : OrdererData). TakesBytes bytes r touched.Nothing (record r { orderer = o }) []) (sym t.1) (drops r one bytes none)
+  where
+    none : (c : Configuration) (past : List Entry) → Runs c r past → members c ≡ r.desk.membership
+        → Takes c (me_of r) (heard (members c) (me_of r) bytes) r.orderer.log r.orderer.log × IsNoCall c (heard (members c) (me_of r) bytes)
+    none c past runs known =
+        let hears = heard_by r one c bytes _ known h in
+        let fault = some_fault _ t.0 in (
+          commits_drop c (me_of r) r.orderer.log past sender.0 p.view.0 p.number.0 p.digest bytes fault.0 runs.holds.of_log.fits hears fault.1,
+          record { call = rw hears refl; asks = λ st. rw hears refl },
+        )
+
+pub batch_dropped : (r : ReplicaData) (sender : ReplicaId) (p : WirePrePrepare) (new : OrdererData) → AreOne r.orderer r.desk → TakesBatch r.orderer sender p new false
+    → TakesMessage sender (PrePrepare p.view.0 p.number.0 p.batch.text.items) r touched.Nothing (record r { orderer = new }) []
+batch_dropped r sender p new one t bytes h =
+    subst (λ (o : OrdererData). TakesBytes bytes r touched.Nothing (record r { orderer = o }) []) (sym t.1) (drops r one bytes none)
+  where
+    why : (c : Configuration) → members c ≡ r.desk.membership
+        → (is_none (preprepare_fault_of r.orderer.log sender p) ≡ false) ⊎ (are_heard r.orderer.endpoint.membership r.orderer.endpoint.me (requests_of p.batch.text.items) ≡ false)
+        → ((fault : Dropped) × (preprepare_fault_of r.orderer.log sender p ≡ Some fault)) ⊎ (are_genuine c (me_of r) p.batch.text.items ≡ false)
+    why c known (inl e) = inl (some_fault _ e)
+    why c known (inr e) = inr (ap (λ (m : Membership). are_heard m (me_of r) (requests_of p.batch.text.items)) (known ∙ one.1) ∙ e)
+
+    none : (c : Configuration) (past : List Entry) → Runs c r past → members c ≡ r.desk.membership
+        → Takes c (me_of r) (heard (members c) (me_of r) bytes) r.orderer.log r.orderer.log × IsNoCall c (heard (members c) (me_of r) bytes)
+    none c past runs known =
+        let hears = heard_by r one c bytes _ known h in (
+          batches_drop c (me_of r) r.orderer.log past sender.0 p.view.0 p.number.0 p.batch.text.items bytes runs.holds.of_log.fits hears (why c known t.0),
+          record { call = rw hears refl; asks = λ st. rw hears refl },
+        )
+
+-- ---- a batch
+
+-- the replica that sends a batch of the log's view is its primary, so it is another one
+not_own : (log : LogData) (me s v : ℕ) → log.me ≡ me → v ≡ log.view → (s == logs.primary log v) ≡ true → s ≢ me → (logs.primary log log.view ≡ log.me) → ⊥
+not_own log me s v mine view sends other own = other (eqb-true s (logs.primary log v) sends ∙ ap (logs.primary log) view ∙ own ∙ mine)
+
+pub batch_taken : (r : ReplicaData) (sender : ReplicaId) (p : WirePrePrepare) (new : OrdererData) → AreOne r.orderer r.desk → TakesBatch r.orderer sender p new true
+    → TakesMessage sender (PrePrepare p.view.0 p.number.0 p.batch.text.items) r (touched.Row p.number) (record r { orderer = new }) []
+batch_taken r sender p new one t bytes h =
+    subst (λ (o : OrdererData). TakesBytes bytes r (touched.Row p.number) (record r { orderer = o }) []) (sym t.2)
+    (takes_row r one bytes p.number (with_batch r.orderer.log p.number.0 p.batch.text.items) (record { me = refl; faults = refl; span = refl; view = refl; active = refl; low = refl })
+    (λ i ne. (due_prepare_elsewhere r.orderer.log i p.number.0 _ fits.within ne, due_commit_elsewhere r.orderer.log i p.number.0 _ fits.within ne)) takes)
+  where
+    fits : Fitting r.orderer.log (sender.0 == logs.primary r.orderer.log p.view.0) p.view.0 p.number.0
+    fits = fitting r.orderer.log _ p.view.0 p.number.0 (no_fault _ (fault_beside (logs.logged_digest r.orderer.log p.number.0) (sha256 p.batch.text.items)) t.0)
+
+    takes : (c : Configuration) (past : List Entry) (runs : Runs c r past) → members c ≡ r.desk.membership
+        → Takes c (me_of r) (heard (members c) (me_of r) bytes) r.orderer.log (with_batch r.orderer.log p.number.0 p.batch.text.items) × IsNoCall c (heard (members c) (me_of r) bytes)
+        × IsTaken c (me_of r) (event_of c r past runs bytes) × NumbersRight c (record r { orderer = record r.orderer { log = with_batch r.orderer.log p.number.0 p.batch.text.items } })
+    takes c past runs known =
+        let hears = heard_by r one c bytes _ known h in
+        let genuine = ap (λ (m : Membership). are_heard m (me_of r) (requests_of p.batch.text.items)) (known ∙ one.1) ∙ t.1 in
+        let counts = batches_count c (me_of r) r.orderer.log past runs.holds.of_desk.point sender.0 p.view.0 p.number.0 p.batch.text.items bytes runs.holds.of_log.fits hears t.0 genuine in (
+          counts.1,
+          record { call = rw hears refl; asks = λ st. rw hears refl },
+          (record { sender = sender.0; message = PrePrepare p.view.0 p.number.0 p.batch.text.items }, hears, counts.0),
+          λ own. absurd (not_own r.orderer.log (me_of r) sender.0 p.view.0 runs.holds.of_log.fits.own fits.view fits.sends (heard_was_opened (members c) (me_of r) bytes _ hears).other own),
+        )
+
+-- ---- what no rule takes here
+
+-- no message of the three phases
+abbrev pub IsOther : WireMessage → Type 0
+IsOther m = ((x : WirePrePrepare) → m ≡ messages.PrePrepare x → ⊥) × ((x : WirePrepare) → m ≡ messages.Prepare x → ⊥) × ((x : WireCommit) → m ≡ messages.Commit x → ⊥)
+
+other_beside : (s : ℕ) (m : WireMessage) → IsOther m → IsBesideLog (Some (record { sender = s; message = message_data m }))
+other_beside s (messages.Request x) h = tt
+other_beside s (messages.PrePrepare x) h = h.0 x refl
+other_beside s (messages.Prepare x) h = h.1 x refl
+other_beside s (messages.Commit x) h = h.2 x refl
+other_beside s (messages.Checkpoint x) h = tt
+other_beside s (messages.ViewChange x) h = tt
+other_beside s (messages.NewView x) h = tt
+other_beside s (messages.Reply x) h = tt
+other_beside s (messages.Fetch x) h = tt
+other_beside s (messages.Meta x) h = tt
+other_beside s (messages.Page x) h = tt
+
+-- Nor is it a client's, where a replica sent it.
+no_client : (m : Membership) (s : ℕ) → s < 256 → is_client m s ≡ false
+no_client m s below = go (nat_le 256 s) refl
+  where
+    go : (b : Bool) → nat_le 256 s ≡ b → (b && nat_lt s (256 + m.clients)) ≡ false
+    go false e = refl
+    go true e = let l = leb-true 256 s e in absurd (omega (arith, l, below))
+
+no_call : (c : Configuration) (s : ℕ) (mode : Mode) (t : ℕ) (op : Operation) → s < 256 → call_in c (record { sender = s; message = Request t mode op }) ≡ None
+no_call c s mode t op below = rw (no_client (members c) s below) (go (same_mode mode modes.Ordered))
+  where
+    go : (b : Bool) → cond {A = Option Call} (b && false) (Some (record { client = s - 256; timestamp = t; op = op })) None ≡ None
+    go true = refl
+    go false = refl
+
+none_asked : (st : State) (s t : ℕ) (mode : Mode) → s < 256 → asked_in st s t mode ≡ []
+none_asked st s t modes.ReadOnly below = refl
+none_asked st s t modes.Ordered below = go (nat_le 256 s) refl
+  where
+    go : (b : Bool) → nat_le 256 s ≡ b → cond b (again_for (s - 256) t (kept_of st (s - 256))) [] ≡ []
+    go false e = refl
+    go true e = let l = leb-true 256 s e in absurd (omega (arith, l, below))
+
+other_no_call : (c : Configuration) (s : ℕ) (m : WireMessage) → s < 256 → IsNoCall c (Some (record { sender = s; message = message_data m }))
+other_no_call c s (messages.Request x) below = record {
+  call = no_call c s x.mode x.timestamp.0 (operation_of x.op) below;
+  asks = λ st. none_asked st s x.timestamp.0 x.mode below;
+}
+other_no_call c s (messages.PrePrepare x) below = record { call = refl; asks = λ st. refl }
+other_no_call c s (messages.Prepare x) below = record { call = refl; asks = λ st. refl }
+other_no_call c s (messages.Commit x) below = record { call = refl; asks = λ st. refl }
+other_no_call c s (messages.Checkpoint x) below = record { call = refl; asks = λ st. refl }
+other_no_call c s (messages.ViewChange x) below = record { call = refl; asks = λ st. refl }
+other_no_call c s (messages.NewView x) below = record { call = refl; asks = λ st. refl }
+other_no_call c s (messages.Reply x) below = record { call = refl; asks = λ st. refl }
+other_no_call c s (messages.Fetch x) below = record { call = refl; asks = λ st. refl }
+other_no_call c s (messages.Meta x) below = record { call = refl; asks = λ st. refl }
+other_no_call c s (messages.Page x) below = record { call = refl; asks = λ st. refl }
+
+-- What is heard and has no part in the three phases is dropped.
+drops_heard : (r : ReplicaData) (bytes : List ℕ) (body : Body) → AreOne r.orderer r.desk → IsBesideLog (Some body) → ((c : Configuration) → IsNoCall c (Some body))
+    → heard r.desk.membership r.desk.me bytes ≡ Some body → TakesBytes bytes r touched.Nothing r []
+drops_heard r bytes body one beside none h = drops r one bytes (λ c past runs known. let hears = heard_by r one c bytes body known h in
+    (others_drop c (me_of r) r.orderer.log past bytes runs.holds.of_log.fits (rw hears beside), rw hears (none c)))
+
+pub other_dropped : (r : ReplicaData) (sender : ReplicaId) (m : WireMessage) → AreOne r.orderer r.desk → sender.0 < 256 → IsOther m → TakesMessage sender (message_data m) r touched.Nothing r []
+other_dropped r sender m one below other bytes h = drops_heard r bytes _ one (other_beside sender.0 m other) (λ c. other_no_call c sender.0 m below) h
+
+-- ---- nothing, and what clients send beside ordered requests
+
+pub silence_dropped : (r : ReplicaData) (bytes : List ℕ) → AreOne r.orderer r.desk → heard r.desk.membership r.desk.me bytes ≡ None → TakesBytes bytes r touched.Nothing r []
+silence_dropped r bytes one h = drops r one bytes (λ c past runs known. let silent = heard_by_none c known in
+    (others_drop c (me_of r) r.orderer.log past bytes runs.holds.of_log.fits (rw silent tt), record { call = rw silent refl; asks = λ st. rw silent refl }))
+  where
+    heard_by_none : (c : Configuration) → members c ≡ r.desk.membership → heard (members c) (me_of r) bytes ≡ None
+    heard_by_none c known = ap (λ m. heard m (me_of r) bytes) known ∙ ap (λ (x : ℕ). heard r.desk.membership x bytes) (sym one.0) ∙ h
+
+pub read_dropped : (r : ReplicaData) (s t : ℕ) (op : Operation) (bytes : List ℕ) → AreOne r.orderer r.desk
+    → heard r.desk.membership r.desk.me bytes ≡ Some (record { sender = s; message = Request t modes.ReadOnly op }) → TakesBytes bytes r touched.Nothing r []
+read_dropped r s t op bytes one h = drops_heard r bytes _ one tt (λ c. record { call = refl; asks = λ st. refl }) h
+
+-- clients send nothing but requests
+pub client_dropped : (r : ReplicaData) (k : ℕ) (m : WireMessage) (bytes : List ℕ) → AreOne r.orderer r.desk → ((x : WireRequest) → m ≡ messages.Request x → ⊥)
+    → heard r.desk.membership r.desk.me bytes ≡ Some (record { sender = 256 + k; message = message_data m }) → TakesBytes bytes r touched.Nothing r []
+client_dropped r k m bytes one other h = drops r one bytes (λ c past runs known.
+    let hears = heard_by r one c bytes _ known h in
+    let sender = (heard_was_opened (members c) (me_of r) bytes _ hears) in
+    absurd (no_sender c past m other runs.holds.of_log.fits (subst (λ (b : Body). has_sender (members c) b ≡ true) sender.body_is sender.opens.sender)))
+  where
+    no_replica : (c : Configuration) (past : List Entry) → FitsLog c (me_of r) r.orderer.log past → is_replica (members c) (256 + k) ≡ true → ⊥
+    no_replica c past f h = let l = ltb-true (256 + k) (3 * c.faults + 1) h in let few = f.is_log.few in let same = f.faults in absurd (omega (arith, l, few, same))
+
+    no_sender : (c : Configuration) (past : List Entry) (x : WireMessage) → ((y : WireRequest) → x ≡ messages.Request y → ⊥) → FitsLog c (me_of r) r.orderer.log past
+        → has_sender (members c) (record { sender = 256 + k; message = message_data x }) ≡ true → ⊥
+    no_sender c past (messages.Request x) other f h = other x refl
+    no_sender c past (messages.PrePrepare x) other f h = no_replica c past f h
+    no_sender c past (messages.Prepare x) other f h = no_replica c past f h
+    no_sender c past (messages.Commit x) other f h = no_replica c past f h
+    no_sender c past (messages.Checkpoint x) other f h = no_replica c past f h
+    no_sender c past (messages.ViewChange x) other f h = no_replica c past f h
+    no_sender c past (messages.NewView x) other f h = no_replica c past f h
+    no_sender c past (messages.Reply x) other f h = no_replica c past f h
+    no_sender c past (messages.Fetch x) other f h = no_replica c past f h
+    no_sender c past (messages.Meta x) other f h = no_replica c past f h
+    no_sender c past (messages.Page x) other f h = no_replica c past f h
+
+-- the request that a message of the program is
+pub heard_request : (m : Membership) (me s : ℕ) (bytes : List ℕ) (message : WireMessage) (x : WireRequest) (mode : Mode) → heard m me bytes ≡ Some (record { sender = s; message = message_data message })
+    → message ≡ messages.Request x → x.mode ≡ mode → heard m me bytes ≡ Some (record { sender = s; message = Request x.timestamp.0 mode (operation_of x.op) })
+heard_request m me s bytes message x mode h is same =
+    h ∙ ap (λ (y : WireMessage). Some (record { sender = s; message = message_data y })) is
+    ∙ ap (λ (k : Mode). Some (record { sender = s; message = Request x.timestamp.0 k (operation_of x.op) })) same

@@ -1,0 +1,344 @@
+-- What a client's ordered request does to what a replica holds.
+use Rattle.std.proofs.Common.{◌≡◌, ℕ, suc, ◌+◌, ◌-◌, ◌<◌, ◌≤◌, ◌⊎◌, inl, inr, Bool, true, false, cond, not, ◌==◌, List, [], ◌∷◌, ◌++◌, filter, Option, Some, None, is_some, refl, sym, ap, ◌∙◌, subst, arith}
+use Rattle.std.specs.Prelude.{nat_le, option_and_then}
+use Rattle.std.specs.Option.{option_map_or}
+use Rattle.std.proofs.lemmas.Bool.{le-leb}
+use Rattle.tuple_codec.specs.Operations.{Operation}
+use Rattle.terms.specs.declared.parties.ClientId.{ClientId}
+use Rattle.terms.specs.declared.order.Mode.TheVariants as modes
+use Rattle.terms.specs.declared.order.Timestamp.{Timestamp}
+use Rattle.wire.specs.Messages.{BodyData as Body, MessageData as Message, request as Request}
+use Rattle.wire.proofs.Saying.{reads_said}
+use Rattle.authenticator.specs.Membership.{has_sender}
+use Rattle.signing.specs.Heard.{heard}
+use Rattle.signing.proofs.Heard.{heard_was_opened}
+use Rattle.events.specs.declared.output.Output.{Output}
+use Rattle.reply_cache.specs.Replies.{Kept}
+use Rattle.ordering.specs.Log as logs
+use Rattle.ordering.specs.Log.{LogData}
+use Rattle.protocol.specs.System.Configuration.{Configuration, is_client, members}
+use Rattle.protocol.specs.System.Trace.{Entry, Has}
+use Rattle.protocol.specs.System.Trace.Entry.{Got}
+use Rattle.protocol.specs.Replica.Certificates.{taken}
+use Rattle.protocol.specs.Replica.State.{State, Call, call_in, call_of, kept_of, last_time}
+use Rattle.protocol.specs.Replica.RightReplica.{with_waiting}
+use Rattle.protocol.specs.Replica.Owed.{IsNoOlder}
+use Rattle.replica_histories.specs.Desk.{Desk}
+use Rattle.replica_histories.specs.Logs.{FitsLog}
+use Rattle.replica_histories.specs.Events as histories
+use Rattle.replica_histories.specs.Events.{Start, IsTaken}
+use Rattle.replica_histories.specs.Inputs.{Enters, IsBesideLog, again_for, asked}
+use Rattle.replica_histories.proofs.Counting.{requests_count, others_drop}
+use Rattle.replica_histories.proofs.Entering.{inputs_fit}
+use Rattle.replica_histories.proofs.Resting.{held_are_settled}
+use Rattle.replica.specs.declared.waiting.WaitingRequest.{WaitingRequest}
+use Rattle.replica.specs.declared.taking.Touched.TheVariants as touched
+use Rattle.replica.specs.State.{OrdererData, DeskData, ReplicaData, AreOne}
+use Rattle.replica.specs.Waiting.{frames_of, is_of, request_of, with_request, without}
+use Rattle.replica.specs.Desks.{IsDeskOf, Stands}
+use Rattle.replica.specs.Desking.{HasReply, PaysAgain, Waits}
+use Rattle.replica.specs.Arriving.{IsBehind, IsPast, IsWaitingAlready, IsNewer}
+use Rattle.replica.specs.Saying.{SaysAgain}
+use Rattle.replica.specs.Going.{IsSameParty, Rests}
+use Rattle.replica.specs.Numbering.{NumbersRight}
+use Rattle.replica.specs.Fits.{Runs, me_of}
+use Rattle.replica.specs.Entering.{event_of, TakesBytes, TakesRequest}
+use Rattle.replica.proofs.GoingOn.{said_stands}
+use Rattle.replica.proofs.WaitingOn.{AreOlder, older, no_older, no_older_same, stays_seen, stays_waiting, replaces, calls_replaced, differ_replaced, frames_replaced}
+use Rattle.replica.proofs.NumbersOn.{numbers_on}
+
+-- ---- what is heard
+
+abbrev body_of : ℕ → ℕ → Operation → Body
+body_of k t op = record { sender = 256 + k; message = Request t modes.Ordered op }
+
+abbrev call_for : ℕ → ℕ → Operation → Call
+call_for k t op = record { client = k; timestamp = t; op = op }
+
+back : (k : ℕ) → 256 + k - 256 ≡ k
+back k = omega arith
+
+module _ (c : Configuration) (me : ℕ) (bytes : List ℕ) (k t : ℕ) (op : Operation) (h : heard (members c) me bytes ≡ Some (body_of k t op)) where
+  -- the call of the request
+  call_is : call_in c (body_of k t op) ≡ Some (call_for k t op)
+  call_is = go (is_client c (256 + k)) known
+    where
+      known : is_client c (256 + k) ≡ true
+      known = let o = heard_was_opened (members c) me bytes (body_of k t op) h in
+          ap (has_sender (members c)) (sym o.body_is) ∙ o.opens.sender
+
+      go : (b : Bool) → b ≡ true → cond b (Some (call_for (256 + k - 256) t op)) None ≡ Some (call_for k t op)
+      go true e = ap (λ (n : ℕ). Some (call_for n t op)) (back k)
+      go false e = absurd cc
+
+  call_heard : option_and_then (call_in c) (heard (members c) me bytes) ≡ Some (call_for k t op)
+  call_heard = ap (option_and_then (call_in c)) h ∙ call_is
+
+  call_of_bytes : call_of c bytes ≡ Some (call_for k t op)
+  call_of_bytes =
+      let o = heard_was_opened (members c) me bytes (body_of k t op) h in
+      ap (option_and_then (call_in c)) (reads_said bytes o.frame o.opens.spelled ∙ ap Some o.body_is) ∙ call_is
+
+  asked_is : (st : State) → asked st (heard (members c) me bytes) ≡ again_for k t (kept_of st k)
+  asked_is st = ap (asked st) h ∙ go (nat_le 256 (256 + k)) (le-leb 256 (256 + k) (omega arith))
+    where
+      go : (b : Bool) → b ≡ true → cond b (again_for (256 + k - 256) t (kept_of st (256 + k - 256))) [] ≡ again_for k t (kept_of st k)
+      go true e = ap (λ (n : ℕ). again_for n t (kept_of st n)) (back k)
+      go false e = absurd cc
+
+  -- the log takes nothing of it
+  enters : (log : LogData) (past : List Entry) (desk new : Desk) → FitsLog c me log past → new.state ≡ desk.state → new.snapshots ≡ desk.snapshots
+      → new.waiting ≡ with_waiting desk.state desk.waiting (call_for k t op)
+      → ((frame : List ℕ) → Has (λ x. x ≡ frame) new.frames → Has (λ x. x ≡ frame) desk.frames ⊎ (frame ≡ bytes))
+      → Enters c me bytes desk new log log (again_for k t (kept_of desk.state k))
+  enters log past desk new fits state snapshots waiting frames = record {
+    takes = others_drop c me log past bytes fits (subst IsBesideLog (sym h) tt);
+    state = state;
+    snapshots = snapshots;
+    waiting = waiting ∙ sym (ap (λ (o : Option Call). option_map_or (with_waiting desk.state desk.waiting) o desk.waiting) call_heard);
+    frames = λ frame has. here frame (frames frame has);
+    due_is = sym (asked_is desk.state);
+  }
+    where
+      here : (frame : List ℕ) → Has (λ x. x ≡ frame) desk.frames ⊎ (frame ≡ bytes) → Has (λ x. x ≡ frame) desk.frames ⊎ ((frame ≡ bytes) × (is_some (heard (members c) me bytes) ≡ true))
+      here frame (inl x) = inl x
+      here frame (inr x) = inr (x, ap is_some h)
+
+-- ---- a replica gets it
+
+seen_of_kept : (st : State) (k t : ℕ) (kept : Kept) → kept_of st k ≡ Some kept → kept.timestamp ≡ t → t ≤ last_time st k
+seen_of_kept st k t kept has same = go (kept_of st k) has
+  where
+    go : (o : Option Kept) → o ≡ Some kept → t ≤ option_map_or (λ x. x.timestamp) o 0
+    go None e = absurd cc
+    go (Some x) e = let one : x.timestamp ≡ kept.timestamp = cc in omega (arith, one, same)
+
+same_party : (r : ReplicaData) (desk : DeskData) → desk.me ≡ r.desk.me → desk.membership ≡ r.desk.membership → IsSameParty r (record r { desk = desk })
+same_party r desk me membership = record {
+  orderer = record { endpoint = refl; log = record { me = refl; faults = refl; span = refl; view = refl; active = refl; low = refl } };
+  me = me;
+  membership = membership;
+  stopped = refl;
+}
+
+module _ (old : ReplicaData) (client : ClientId) (timestamp : Timestamp) (bytes : List ℕ) (one : AreOne old.orderer old.desk) (op : Operation)
+    (hears : heard old.desk.membership old.desk.me bytes ≡ Some (body_of client.number timestamp.0 op)) where
+  abbrev k : ℕ
+  k = client.number
+
+  abbrev t : ℕ
+  t = timestamp.0
+
+  module _ (c : Configuration) (past : List Entry) (runs : Runs c old past) (known : members c ≡ old.desk.membership) (free : taken c past (Got (me_of old) bytes) ≡ None) where
+    abbrev start : Start
+    start = event_of c old past runs bytes
+
+    h : heard (members c) (me_of old) bytes ≡ Some (body_of k t op)
+    h = ap (λ m. heard m (me_of old) bytes) known ∙ ap (λ (n : ℕ). heard old.desk.membership n bytes) (sym one.0) ∙ hears
+
+    state_is : runs.desk.state ≡ old.desk.executed.state
+    state_is = runs.is_desk.state
+
+    -- what is due is the reply that is kept
+    stands : (desk : Desk) (d : DeskData) → d.me ≡ old.desk.me → IsDeskOf c d desk
+        → Enters c (me_of old) bytes runs.desk desk old.orderer.log old.orderer.log (again_for k t (kept_of runs.desk.state k))
+        → Stands c start old.orderer.log d (again_for k t (kept_of old.desk.executed.state k)) []
+    stands desk d me is e = record {
+      desk = desk;
+      is = is;
+      fits = subst (λ (n : ℕ). histories.Fits c n start desk old.orderer.log (again_for k t (kept_of old.desk.executed.state k)) []) (sym (me ∙ one.0))
+          (subst (λ (st : State). histories.Fits c (me_of old) start desk old.orderer.log (again_for k t (kept_of st k)) []) state_is
+          (inputs_fit c (me_of old) runs.desk desk old.orderer.log old.orderer.log (again_for k t (kept_of runs.desk.state k)) past bytes runs.holds free e));
+    }
+
+    -- nothing else changes, where it doesn't wait
+    stands_same : with_waiting runs.desk.state runs.desk.waiting (call_for k t op) ≡ runs.desk.waiting
+        → Stands c start old.orderer.log old.desk (again_for k t (kept_of old.desk.executed.state k)) []
+    stands_same same =
+        stands runs.desk old.desk refl runs.is_desk
+        (enters c (me_of old) bytes k t op h old.orderer.log past runs.desk runs.desk runs.holds.of_log.fits refl refl (sym same) (λ frame x. inl x))
+
+    stands_seen : t ≤ last_time old.desk.executed.state k → Stands c start old.orderer.log old.desk (again_for k t (kept_of old.desk.executed.state k)) []
+    stands_seen le = stands_same (stays_seen runs.desk.state runs.desk.waiting k t op (subst (λ (st : State). t ≤ last_time st k) (sym state_is) le))
+
+    stands_waiting : (r : WaitingRequest) → request_of k old.desk.waiting ≡ Some r → t ≤ r.timestamp.0 → Stands c start old.orderer.log old.desk (again_for k t (kept_of old.desk.executed.state k)) []
+    stands_waiting r found le = stands_same (stays_waiting c runs.desk.state k t op old.desk.waiting.requests runs.desk.waiting r runs.is_desk.waiting found le)
+
+    stands_past : IsPast old.desk k t bytes → Stands c start old.orderer.log old.desk (again_for k t (kept_of old.desk.executed.state k)) []
+    stands_past (inl le) = stands_seen le
+    stands_past (inr (r, found, behind)) = stands_waiting r found (at_most r behind)
+      where
+        at_most : (r : WaitingRequest) → IsBehind r t bytes → t ≤ r.timestamp.0
+        at_most r (inl below) = omega (arith, below)
+        at_most r (inr other) = let same = other.0 in omega (arith, same)
+
+    rests : Rests old
+    rests = (
+      λ i. (runs.holds.of_log.prepares i, runs.holds.of_log.commits i),
+      subst (λ (st : State). logs.committed_batch old.orderer.log (suc st.number) ≡ None) state_is (held_are_settled c (me_of old) runs.desk old.orderer.log past runs.holds).executes,
+    )
+
+    -- it counts
+    counts : ((kept : Kept) × (kept_of runs.desk.state k ≡ Some kept) × (kept.timestamp ≡ t)) ⊎ ((last_time runs.desk.state k < t) × IsNoOlder runs.desk.waiting k t op)
+        → IsTaken c (me_of old) start
+    counts x = (body_of k t op, h, requests_count c (me_of old) runs.desk old.orderer.log past bytes k t op runs.holds x)
+
+    unseen : last_time old.desk.executed.state k < t → last_time runs.desk.state k < t
+    unseen lt = subst (λ (st : State). last_time st k < t) (sym state_is) lt
+
+  -- ---- what is given for it
+
+  due_none : (d : DeskData) (c : Configuration) (s : Start) (log : LogData) (outs : List Output) → again_for k t (kept_of old.desk.executed.state k) ≡ []
+      → Stands c s log d (again_for k t (kept_of old.desk.executed.state k)) outs → Stands c s log d [] outs
+  due_none d c s log outs none st = subst (λ (ms : List Message). Stands c s log d ms outs) none st
+
+  -- the kept reply goes again
+  takes_kept : (outs : List Output) → PaysAgain old.desk client timestamp [] outs → HasReply old.desk client timestamp true → TakesBytes bytes old touched.Nothing old outs
+  takes_kept outs pays (kept, has, same) = record {
+    party = same_party old old.desk refl refl;
+    begins = λ c past runs known free. (
+      pays c (start c past runs known free) old.orderer.log known (stands_seen c past runs known free (seen_of_kept old.desk.executed.state k t kept has same)),
+      runs.numbers,
+      (rests c past runs known free, runs.all, inr (counts c past runs known free (inl (kept, ap (λ (st : State). kept_of st k) (state_is c past runs known free) ∙ has, same)))),
+    );
+  }
+
+  -- what is past is dropped
+  takes_past : (outs : List Output) → again_for k t (kept_of old.desk.executed.state k) ≡ [] → outs ≡ [] → IsPast old.desk k t bytes → TakesBytes bytes old touched.Nothing old outs
+  takes_past outs none silent is = record {
+    party = same_party old old.desk refl refl;
+    begins = λ c past runs known free. (
+      subst (λ (xs : List Output). Stands c (start c past runs known free) old.orderer.log old.desk [] xs) (sym silent)
+          (due_none old.desk c (start c past runs known free) old.orderer.log [] none (stands_past c past runs known free is)),
+      runs.numbers,
+      (rests c past runs known free, runs.all, inl silent),
+    );
+  }
+
+  -- what waits already makes the replica say again what it said
+  takes_again : (outs : List Output) → again_for k t (kept_of old.desk.executed.state k) ≡ [] → IsWaitingAlready old.desk k t bytes → SaysAgain old.orderer [] old.orderer outs
+      → TakesBytes bytes old touched.Nothing old outs
+  takes_again outs none (lt, r, found, same, says) again = record {
+    party = same_party old old.desk refl refl;
+    begins = λ c past runs known free. (
+      said_stands old old.orderer [] outs one again.goes c (start c past runs known free) known
+          (due_none old.desk c (start c past runs known free) old.orderer.log [] none (stands_waiting c past runs known free r found (omega (arith, same)))),
+      runs.numbers,
+      (
+        rests c past runs known free,
+        runs.all,
+        inr (counts c past runs known free (inr (
+          unseen c past runs known free lt,
+          no_older_same c k t op old.desk.waiting.requests runs.desk.waiting r runs.is_desk.waiting runs.is_desk.differ found
+              (ap (option_and_then (call_in c)) says ∙ call_of_bytes c (me_of old) bytes k t op (h c past runs known free)),
+        ))),
+      ),
+    );
+  }
+
+  -- what is newer waits
+  module _ (outs : List Output) (desk : DeskData) (none : again_for k t (kept_of old.desk.executed.state k) ≡ []) (silent : outs ≡ []) (newer : IsNewer old.desk k t) (waits : Waits client timestamp bytes old.desk desk) where
+    abbrev r : WaitingRequest
+    r = waits.0
+
+    abbrev waiting_desk : DeskData
+    waiting_desk = record old.desk { waiting = with_request r (without k old.desk.waiting) }
+
+    of_client : r.client.number ≡ k
+    of_client = ap (λ (x : ClientId). x.number) waits.1
+
+    of_time : r.timestamp.0 ≡ t
+    of_time = ap (λ (x : Timestamp). x.0) waits.2
+
+    module _ (c : Configuration) (past : List Entry) (runs : Runs c old past) (known : members c ≡ old.desk.membership) (free : taken c past (Got (me_of old) bytes) ≡ None) where
+      are_older : AreOlder k t old.desk.waiting.requests
+      are_older = older k t old.desk.waiting.requests runs.is_desk.differ newer.1
+
+      abbrev new_desk : Desk
+      new_desk = record {
+        state = runs.desk.state;
+        snapshots = runs.desk.snapshots;
+        waiting = filter (λ x. not (x.client == k)) runs.desk.waiting ++ call_for k t op ∷ [];
+        frames = frames_of (with_request r (without k old.desk.waiting));
+      }
+
+      is_new : IsDeskOf c waiting_desk new_desk
+      is_new = record {
+        members_are = known;
+        state = state_is c past runs known free;
+        frames = refl;
+        waiting = calls_replaced c k old.desk.waiting.requests runs.desk.waiting r (call_for k t op) runs.is_desk.waiting
+            (ap (call_of c) waits.3 ∙ call_of_bytes c (me_of old) bytes k t op (h c past runs known free), sym of_client, sym of_time);
+        differ = differ_replaced k old.desk.waiting.requests r of_client runs.is_desk.differ;
+      }
+
+      frames_are : (frame : List ℕ) → Has (λ x. x ≡ frame) new_desk.frames → Has (λ x. x ≡ frame) runs.desk.frames ⊎ (frame ≡ bytes)
+      frames_are frame x = go (frames_replaced (λ x. not (is_of k x)) old.desk.waiting.requests r frame x)
+        where
+          go : Has (λ x. x ≡ frame) (frames_of old.desk.waiting) ⊎ (frame ≡ r.frame.items) → Has (λ x. x ≡ frame) runs.desk.frames ⊎ (frame ≡ bytes)
+          go (inl y) = inl (subst (λ (fs : List (List ℕ)). Has (λ x. x ≡ frame) fs) (sym runs.is_desk.frames) y)
+          go (inr y) = inr (y ∙ waits.3)
+
+      stands_new : Stands c (start c past runs known free) old.orderer.log waiting_desk (again_for k t (kept_of old.desk.executed.state k)) []
+      stands_new = stands c past runs known free new_desk waiting_desk refl is_new
+          (enters c (me_of old) bytes k t op (h c past runs known free) old.orderer.log past runs.desk new_desk runs.holds.of_log.fits refl refl
+          (sym (replaces c runs.desk.state k t op old.desk.waiting.requests runs.desk.waiting runs.is_desk.waiting (unseen c past runs known free newer.0) are_older)) frames_are)
+
+      numbers : NumbersRight c (record old { desk = waiting_desk })
+      numbers own = numbers_on old.desk.executed.state old.desk.waiting k t r of_client of_time newer.0 are_older c old.orderer.log old.orderer.used (runs.numbers own)
+
+    takes_new_so : TakesBytes bytes old touched.Waiting (record old { desk = waiting_desk }) outs
+    takes_new_so = record {
+      party = same_party old waiting_desk refl refl;
+      begins = λ c past runs known free. (
+        subst (λ (xs : List Output). Stands c (start c past runs known free) old.orderer.log waiting_desk [] xs) (sym silent)
+            (due_none waiting_desk c (start c past runs known free) old.orderer.log [] none (stands_new c past runs known free)),
+        numbers c past runs known free,
+        (
+          rests c past runs known free,
+          counts c past runs known free (inr (
+            unseen c past runs known free newer.0,
+            no_older c k t op old.desk.waiting.requests runs.desk.waiting runs.is_desk.waiting (are_older c past runs known free),
+          )),
+        ),
+      );
+    }
+
+    takes_new : TakesBytes bytes old touched.Waiting (record old { desk = desk }) outs
+    takes_new = subst (λ (d : DeskData). TakesBytes bytes old touched.Waiting (record old { desk = d }) outs) (sym waits.4) takes_new_so
+
+-- ---- what a request does
+
+-- replicas of the same parts
+pub same_parts : (a b : ReplicaData) → a.orderer ≡ b.orderer → a.desk ≡ b.desk → a.stopped ≡ b.stopped → a ≡ b
+same_parts a b orderer desk stopped =
+    ap (λ (o : OrdererData). record a { orderer = o }) orderer ∙ ap (λ (d : DeskData). record b { desk = d; stopped = a.stopped }) desk ∙ ap (λ (x : Bool). record b { stopped = x }) stopped
+
+-- what was said again by the same orderer
+pub said_again : (before new o : OrdererData) (x y z : List Output) → SaysAgain before x new y → before ≡ o → x ≡ [] → z ≡ y → SaysAgain o [] o z
+said_again before new o x y z says same first last =
+    subst (λ (zs : List Output). SaysAgain o [] o zs) (sym last) (subst (λ (xs : List Output). SaysAgain o xs o y) first
+    (subst (λ (p : OrdererData). SaysAgain p x p y) same (subst (λ (p : OrdererData). SaysAgain before x p y) says.same says)))
+
+abbrev Silent : ReplicaData → ClientId → Timestamp → Type 0
+Silent old client timestamp = again_for client.number timestamp.0 (kept_of old.desk.executed.state client.number) ≡ []
+
+pub request_kept : (old : ReplicaData) (client : ClientId) (timestamp : Timestamp) (bytes : List ℕ) (new : ReplicaData) (outs : List Output) → AreOne old.orderer old.desk → new ≡ old
+    → PaysAgain old.desk client timestamp [] outs → HasReply old.desk client timestamp true → TakesRequest client timestamp bytes old touched.Nothing new outs
+request_kept old client timestamp bytes new outs one same pays has op hears =
+    subst (λ (r : ReplicaData). TakesBytes bytes old touched.Nothing r outs) (sym same) (takes_kept old client timestamp bytes one op hears outs pays has)
+
+pub request_past : (old : ReplicaData) (client : ClientId) (timestamp : Timestamp) (bytes : List ℕ) (new : ReplicaData) (outs : List Output) → AreOne old.orderer old.desk → new ≡ old
+    → Silent old client timestamp → outs ≡ [] → IsPast old.desk client.number timestamp.0 bytes → TakesRequest client timestamp bytes old touched.Nothing new outs
+request_past old client timestamp bytes new outs one same none silent is op hears =
+    subst (λ (r : ReplicaData). TakesBytes bytes old touched.Nothing r outs) (sym same) (takes_past old client timestamp bytes one op hears outs none silent is)
+
+pub request_again : (old : ReplicaData) (client : ClientId) (timestamp : Timestamp) (bytes : List ℕ) (new : ReplicaData) (outs : List Output) → AreOne old.orderer old.desk → new ≡ old
+    → Silent old client timestamp → IsWaitingAlready old.desk client.number timestamp.0 bytes → SaysAgain old.orderer [] old.orderer outs → TakesRequest client timestamp bytes old touched.Nothing new outs
+request_again old client timestamp bytes new outs one same none is says op hears =
+    subst (λ (r : ReplicaData). TakesBytes bytes old touched.Nothing r outs) (sym same) (takes_again old client timestamp bytes one op hears outs none is says)
+
+pub request_new : (old : ReplicaData) (client : ClientId) (timestamp : Timestamp) (bytes : List ℕ) (desk : DeskData) (outs : List Output) → AreOne old.orderer old.desk
+    → Silent old client timestamp → outs ≡ [] → IsNewer old.desk client.number timestamp.0 → Waits client timestamp bytes old.desk desk
+    → TakesRequest client timestamp bytes old touched.Waiting (record old { desk = desk }) outs
+request_new old client timestamp bytes desk outs one none silent newer waits op hears = takes_new old client timestamp bytes one op hears outs desk none silent newer waits

@@ -1,0 +1,233 @@
+-- What waits, once a client's request replaces its older one.
+use Rattle.std.proofs.Common.{◌≡◌, ◌≢◌, ℕ, zero, suc, ◌<◌, ◌≤◌, ◌⊎◌, inl, inr, Bool, true, false, cond, not, ◌&&◌, ◌||◌, ◌==◌, nat_lt, List, [], ◌∷◌, ◌++◌, filter, find, Some, refl, sym, ap, ◌∙◌, subst, arith, eq-eqb, eqb-true}
+use Rattle.std.specs.Prelude.{AllPairs, All}
+use Rattle.std.specs.List.{list_all}
+use Rattle.std.proofs.lemmas.Bool.{eqb-false, lt-ltb, le-ltb, and_left, and_right}
+use Rattle.std.proofs.lemmas.List.Kept.{AllPairs-cons, AllPairs-filter}
+use Rattle.tuple_codec.specs.Operations.{Operation}
+use Rattle.wire.specs.Lists.{Each}
+use Rattle.protocol.specs.System.Configuration.{Configuration}
+use Rattle.protocol.specs.System.Trace.{Has}
+use Rattle.protocol.specs.Replica.State.{State, Call, call_of, last_time}
+use Rattle.protocol.specs.Replica.RightReplica.{is_newer, with_waiting}
+use Rattle.protocol.specs.Replica.Owed.{IsNoOlder}
+use Rattle.protocol.proofs.Words.Elements.{has_either, has_filter, has_map, has_mapped, each_weaker, each_with, all_of_each}
+use Rattle.replica.specs.declared.waiting.WaitingRequest.{WaitingRequest}
+use Rattle.replica.specs.Waiting.{is_of, texts}
+use Rattle.replica.specs.Desks.{IsCallOf, AreCallsOf, AreOfDifferentClients}
+
+-- ---- lists
+
+all_of : {A : Type 0} (P : A → Type 0) (xs : List A) → Each P xs → All P xs
+all_of P [] h k d within = absurd (omega arith)
+all_of P (x ∷ xs) h zero d within = h.0
+all_of P (x ∷ xs) h (suc k) d within = all_of P xs h.1 k d (omega arith)
+
+each_of : {A : Type 0} (P : A → Type 0) (xs : List A) → All P xs → Each P xs
+each_of P [] h = tt
+each_of P (x ∷ xs) h = (h zero x (omega arith), each_of P xs (λ k d within. h (suc k) d (omega arith)))
+
+first_differs : {A : Type 0} (R : A → A → Type 0) (x : A) (xs : List A) → AllPairs R (x ∷ xs) → Each (R x) xs
+first_differs R x xs h = each_of (R x) xs (λ k d within. h zero (suc k) d (omega arith) (omega arith))
+
+rest_differs : {A : Type 0} (R : A → A → Type 0) (x : A) (xs : List A) → AllPairs R (x ∷ xs) → AllPairs R xs
+rest_differs R x xs h i j d below within = h (suc i) (suc j) d (omega arith) (omega arith)
+
+pairs_with : {A : Type 0} (R : A → A → Type 0) (xs : List A) (y : A) → AllPairs R xs → Each (λ x. R x y) xs → AllPairs R (xs ++ y ∷ [])
+pairs_with R [] y h e = λ i j d below within. absurd (omega (arith, below, within))
+pairs_with R (x ∷ xs) y h e =
+    AllPairs-cons R x (xs ++ y ∷ []) (all_of (R x) (xs ++ y ∷ []) (each_with (R x) xs y (first_differs R x xs h) e.0)) (pairs_with R xs y (rest_differs R x xs h) e.1)
+
+same_of : {A : Type 0} (x y : A) → Some x ≡ Some y → x ≡ y
+same_of x y e = cc
+
+-- what is found is one of them
+pub found_is : {A : Type 0} (P : A → Type 0) (test : A → Bool) (xs : List A) (x : A) → find test xs ≡ Some x → Each P xs → P x
+found_is P test [] x f e = absurd cc
+found_is P test (y ∷ ys) x f e = go (test y) f (λ g. found_is P test ys x g e.1)
+  where
+    go : (b : Bool) → cond b (Some y) (find test ys) ≡ Some x → (find test ys ≡ Some x → P x) → P x
+    go true g below = subst P (same_of y x g) e.0
+    go false g below = below g
+
+-- ---- requests of one client
+
+abbrev Differ : WaitingRequest → WaitingRequest → Type 0
+Differ r t = r.client.number ≢ t.client.number
+
+-- the client's requests, if any, are older
+abbrev pub AreOlder : ℕ → ℕ → List WaitingRequest → Type 0
+AreOlder k t rs = Each (λ r. (r.client.number ≡ k) → r.timestamp.0 < t) rs
+
+-- none is the client's
+abbrev AreOfOthers : ℕ → List WaitingRequest → Type 0
+AreOfOthers k rs = Each (λ r. r.client.number ≢ k) rs
+
+others : (k : ℕ) (r : WaitingRequest) (rs : List WaitingRequest) → r.client.number ≡ k → Each (Differ r) rs → AreOfOthers k rs
+others k r rs is h = each_weaker (Differ r) (λ x. x.client.number ≢ k) (λ x ne same. ne (is ∙ sym same)) rs h
+
+pub older : (k t : ℕ) (rs : List WaitingRequest) → AreOfDifferentClients rs → ((r : WaitingRequest) → find (is_of k) rs ≡ Some r → r.timestamp.0 < t) → AreOlder k t rs
+older k t [] d f = tt
+older k t (x ∷ xs) d f = go (x.client.number == k) refl f (older k t xs (rest_differs Differ x xs d))
+  where
+    go : (b : Bool) → (x.client.number == k) ≡ b → ((r : WaitingRequest) → cond b (Some x) (find (is_of k) xs) ≡ Some r → r.timestamp.0 < t)
+        → (((r : WaitingRequest) → find (is_of k) xs ≡ Some r → r.timestamp.0 < t) → AreOlder k t xs) → AreOlder k t (x ∷ xs)
+    go true e g below = (
+      λ same. g x refl,
+      each_weaker (λ (r : WaitingRequest). r.client.number ≢ k) (λ r. (r.client.number ≡ k) → r.timestamp.0 < t) (λ r ne same. absurd (ne same)) xs
+          (others k x xs (eqb-true x.client.number k e) (first_differs Differ x xs d)),
+    )
+    go false e g below = (λ same. absurd (eqb-false x.client.number k e same), below g)
+
+-- ---- their calls
+
+calls_of_others : (c : Configuration) (k : ℕ) (rs : List WaitingRequest) (calls : List Call) → AreCallsOf c rs calls → AreOfOthers k rs → Each (λ x. x.client ≢ k) calls
+calls_of_others c k [] [] h o = tt
+calls_of_others c k [] (x ∷ calls) h o = absurd h
+calls_of_others c k (r ∷ rs) [] h o = absurd h
+calls_of_others c k (r ∷ rs) (x ∷ calls) h o = (λ same. o.0 (sym h.0.1 ∙ same), calls_of_others c k rs calls h.1 o.1)
+
+calls_older : (c : Configuration) (k t : ℕ) (rs : List WaitingRequest) (calls : List Call) → AreCallsOf c rs calls → AreOlder k t rs → Each (λ x. (x.client ≡ k) → x.timestamp < t) calls
+calls_older c k t [] [] h o = tt
+calls_older c k t [] (x ∷ calls) h o = absurd h
+calls_older c k t (r ∷ rs) [] h o = absurd h
+calls_older c k t (r ∷ rs) (x ∷ calls) h o = (λ same. subst (λ (n : ℕ). n < t) (sym h.0.2) (o.0 (sym h.0.1 ∙ same)), calls_older c k t rs calls h.1 o.1)
+
+-- the call is another client's, or older, or this one
+abbrev MayWait : ℕ → ℕ → Operation → Call → Type 0
+MayWait k t op x = (x.client ≡ k) → (x.timestamp < t) ⊎ ((x.timestamp ≡ t) × (x.op ≡ op))
+
+-- a request that is newer than what waits is no older
+pub no_older : (c : Configuration) (k t : ℕ) (op : Operation) (rs : List WaitingRequest) (calls : List Call) → AreCallsOf c rs calls → AreOlder k t rs → IsNoOlder calls k t op
+no_older c k t op rs calls h o =
+    each_weaker (λ (x : Call). (x.client ≡ k) → x.timestamp < t) (MayWait k t op) (λ x f same. inl (f same)) calls (calls_older c k t rs calls h o)
+
+-- and so is the one that waits
+pub no_older_same : (c : Configuration) (k t : ℕ) (op : Operation) (rs : List WaitingRequest) (calls : List Call) (r : WaitingRequest) → AreCallsOf c rs calls → AreOfDifferentClients rs
+    → find (is_of k) rs ≡ Some r → call_of c r.frame.items ≡ Some (record { client = k; timestamp = t; op = op }) → IsNoOlder calls k t op
+no_older_same c k t op [] [] r h d f is = tt
+no_older_same c k t op [] (x ∷ calls) r h d f is = absurd h
+no_older_same c k t op (y ∷ ys) [] r h d f is = absurd h
+no_older_same c k t op (y ∷ ys) (x ∷ calls) r h d f is = go (y.client.number == k) refl f (λ g. no_older_same c k t op ys calls r h.1 (rest_differs Differ y ys d) g is)
+  where
+    go : (b : Bool) → (y.client.number == k) ≡ b → cond b (Some y) (find (is_of k) ys) ≡ Some r → (find (is_of k) ys ≡ Some r → Each (MayWait k t op) calls) → MayWait k t op x × Each (MayWait k t op) calls
+    go false e g below = (λ same. absurd (eqb-false y.client.number k e (sym h.0.1 ∙ same)), below g)
+    go true e g below =
+        let one : x ≡ record { client = k; timestamp = t; op = op } = same_of x _ (sym h.0.0 ∙ ap (λ (z : WaitingRequest). call_of c z.frame.items) (same_of y r g) ∙ is) in (
+          λ same. inr (ap (λ (z : Call). z.timestamp) one, ap (λ (z : Call). z.op) one),
+          each_weaker (λ (z : Call). z.client ≢ k) (MayWait k t op) (λ z ne same. absurd (ne same)) calls
+              (calls_of_others c k ys calls h.1 (others k y ys (eqb-true y.client.number k e) (first_differs Differ y ys d))),
+        )
+
+-- ---- what waits then
+
+-- the request is newer than the other
+abbrev beats : ℕ → ℕ → Operation → Call → Bool
+beats k t op other = is_newer (record { client = k; timestamp = t; op = op }) other
+
+-- a request waits that isn't older
+not_newer : (c : Configuration) (k t : ℕ) (op : Operation) (rs : List WaitingRequest) (calls : List Call) (r : WaitingRequest) → AreCallsOf c rs calls → find (is_of k) rs ≡ Some r → t ≤ r.timestamp.0
+    → list_all (is_newer (record { client = k; timestamp = t; op = op })) calls ≡ false
+not_newer c k t op [] [] r h f le = absurd cc
+not_newer c k t op [] (x ∷ calls) r h f le = absurd h
+not_newer c k t op (y ∷ ys) [] r h f le = absurd h
+not_newer c k t op (y ∷ ys) (x ∷ calls) r h f le = go (y.client.number == k) refl f (λ g. not_newer c k t op ys calls r h.1 g le)
+  where
+    older_than : y ≡ r → nat_lt x.timestamp t ≡ false
+    older_than same = le-ltb x.timestamp t (subst (λ (n : ℕ). t ≤ n) (sym (h.0.2 ∙ ap (λ (z : WaitingRequest). z.timestamp.0) same)) le)
+
+    go : (b : Bool) → (y.client.number == k) ≡ b → cond b (Some y) (find (is_of k) ys) ≡ Some r → (find (is_of k) ys ≡ Some r → list_all (beats k t op) calls ≡ false) → (beats k t op x && list_all (beats k t op) calls) ≡ false
+    go false e g below = and_right (beats k t op x) (list_all (beats k t op) calls) (below g)
+    go true e g below = and_left (beats k t op x) (list_all (beats k t op) calls)
+        (ap (λ (b : Bool). not b || nat_lt x.timestamp t) (eq-eqb x.client k (h.0.1 ∙ eqb-true y.client.number k e)) ∙ older_than (same_of y r g))
+
+-- it is newer than all that waits
+all_newer : (k t : ℕ) (op : Operation) (calls : List Call) → Each (λ x. (x.client ≡ k) → x.timestamp < t) calls → list_all (is_newer (record { client = k; timestamp = t; op = op })) calls ≡ true
+all_newer k t op calls h = all_of_each (λ (x : Call). (x.client ≡ k) → x.timestamp < t) (is_newer (record { client = k; timestamp = t; op = op })) (λ x f. one x f (x.client == k) refl) calls h
+  where
+    one : (x : Call) → (x.client ≡ k → x.timestamp < t) → (b : Bool) → (x.client == k) ≡ b → (not (x.client == k) || nat_lt x.timestamp t) ≡ true
+    one x f true e = ap (λ (b : Bool). not b || nat_lt x.timestamp t) e ∙ lt-ltb x.timestamp t (f (eqb-true x.client k e))
+    one x f false e = ap (λ (b : Bool). not b || nat_lt x.timestamp t) e
+
+-- what ran, or isn't newer than what waits, changes nothing
+pub stays_seen : (st : State) (calls : List Call) (k t : ℕ) (op : Operation) → t ≤ last_time st k → with_waiting st calls (record { client = k; timestamp = t; op = op }) ≡ calls
+stays_seen st calls k t op le = go (nat_lt (last_time st k) t) (le-ltb (last_time st k) t le)
+  where
+    call : Call
+    call = record { client = k; timestamp = t; op = op }
+
+    go : (b : Bool) → b ≡ false → cond (b && list_all (is_newer call) calls) (filter (λ other. not (other.client == k)) calls ++ call ∷ []) calls ≡ calls
+    go true e = absurd cc
+    go false e = refl
+
+pub stays_waiting : (c : Configuration) (st : State) (k t : ℕ) (op : Operation) (rs : List WaitingRequest) (calls : List Call) (r : WaitingRequest) → AreCallsOf c rs calls → find (is_of k) rs ≡ Some r
+    → t ≤ r.timestamp.0 → with_waiting st calls (record { client = k; timestamp = t; op = op }) ≡ calls
+stays_waiting c st k t op rs calls r h f le = go (nat_lt (last_time st k) t) (list_all (is_newer call) calls) (not_newer c k t op rs calls r h f le)
+  where
+    call : Call
+    call = record { client = k; timestamp = t; op = op }
+
+    go : (a b : Bool) → b ≡ false → cond (a && b) (filter (λ other. not (other.client == k)) calls ++ call ∷ []) calls ≡ calls
+    go a true e = absurd cc
+    go true false e = refl
+    go false false e = refl
+
+-- what is newer replaces the client's
+pub replaces : (c : Configuration) (st : State) (k t : ℕ) (op : Operation) (rs : List WaitingRequest) (calls : List Call) → AreCallsOf c rs calls → last_time st k < t → AreOlder k t rs
+    → with_waiting st calls (record { client = k; timestamp = t; op = op }) ≡ filter (λ other. not (other.client == k)) calls ++ record { client = k; timestamp = t; op = op } ∷ []
+replaces c st k t op rs calls h lt o = go (nat_lt (last_time st k) t) (list_all (is_newer call) calls) (lt-ltb (last_time st k) t lt) (all_newer k t op calls (calls_older c k t rs calls h o))
+  where
+    call : Call
+    call = record { client = k; timestamp = t; op = op }
+
+    go : (a b : Bool) → a ≡ true → b ≡ true → cond (a && b) (filter (λ other. not (other.client == k)) calls ++ call ∷ []) calls ≡ filter (λ other. not (other.client == k)) calls ++ call ∷ []
+    go true true e f = refl
+    go true false e f = absurd cc
+    go false b e f = absurd cc
+
+-- ---- the requests then
+
+calls_without : (c : Configuration) (k : ℕ) (rs : List WaitingRequest) (calls : List Call) → AreCallsOf c rs calls → AreCallsOf c (filter (λ r. not (is_of k r)) rs) (filter (λ x. not (x.client == k)) calls)
+calls_without c k [] [] h = h
+calls_without c k [] (x ∷ calls) h = absurd h
+calls_without c k (r ∷ rs) [] h = absurd h
+calls_without c k (r ∷ rs) (x ∷ calls) h = go (not (r.client.number == k)) (not (x.client == k)) (ap (λ n. not (n == k)) (sym h.0.1)) (calls_without c k rs calls h.1)
+  where
+    go : (a b : Bool) → a ≡ b → AreCallsOf c (filter (λ r. not (is_of k r)) rs) (filter (λ x. not (x.client == k)) calls)
+        → AreCallsOf c (cond a (r ∷ filter (λ r. not (is_of k r)) rs) (filter (λ r. not (is_of k r)) rs)) (cond b (x ∷ filter (λ x. not (x.client == k)) calls) (filter (λ x. not (x.client == k)) calls))
+    go true true e rest = (h.0, rest)
+    go false false e rest = rest
+    go true false e rest = absurd cc
+    go false true e rest = absurd cc
+
+calls_with : (c : Configuration) (rs : List WaitingRequest) (calls : List Call) (r : WaitingRequest) (x : Call) → AreCallsOf c rs calls → IsCallOf c r x → AreCallsOf c (rs ++ r ∷ []) (calls ++ x ∷ [])
+calls_with c [] [] r x h is = (is, tt)
+calls_with c [] (y ∷ calls) r x h is = absurd h
+calls_with c (t ∷ rs) [] r x h is = absurd h
+calls_with c (t ∷ rs) (y ∷ calls) r x h is = (h.0, calls_with c rs calls r x h.1 is)
+
+pub calls_replaced : (c : Configuration) (k : ℕ) (rs : List WaitingRequest) (calls : List Call) (r : WaitingRequest) (x : Call) → AreCallsOf c rs calls → IsCallOf c r x
+    → AreCallsOf c (filter (λ r. not (is_of k r)) rs ++ r ∷ []) (filter (λ x. not (x.client == k)) calls ++ x ∷ [])
+calls_replaced c k rs calls r x h is = calls_with c (filter (λ r. not (is_of k r)) rs) (filter (λ x. not (x.client == k)) calls) r x (calls_without c k rs calls h) is
+
+pub differ_replaced : (k : ℕ) (rs : List WaitingRequest) (r : WaitingRequest) → r.client.number ≡ k → AreOfDifferentClients rs → AreOfDifferentClients (filter (λ x. not (is_of k x)) rs ++ r ∷ [])
+differ_replaced k rs r is d =
+    pairs_with Differ (filter (λ x. not (is_of k x)) rs) r (AllPairs-filter Differ (λ x. not (is_of k x)) rs d) (apart rs)
+  where
+    apart : (xs : List WaitingRequest) → Each (λ x. x.client.number ≢ r.client.number) (filter (λ x. not (is_of k x)) xs)
+    apart [] = tt
+    apart (x ∷ xs) = go (x.client.number == k) refl (apart xs)
+      where
+        go : (b : Bool) → (x.client.number == k) ≡ b → Each (λ y. y.client.number ≢ r.client.number) (filter (λ y. not (is_of k y)) xs)
+            → Each (λ y. y.client.number ≢ r.client.number) (cond (not b) (x ∷ filter (λ y. not (is_of k y)) xs) (filter (λ y. not (is_of k y)) xs))
+        go true e below = below
+        go false e below = (λ same. eqb-false x.client.number k e (same ∙ is), below)
+
+pub frames_replaced : (test : WaitingRequest → Bool) (rs : List WaitingRequest) (r : WaitingRequest) (frame : List ℕ) → Has (λ x. x ≡ frame) (texts (filter test rs ++ r ∷ []))
+    → Has (λ x. x ≡ frame) (texts rs) ⊎ (frame ≡ r.frame.items)
+frames_replaced test rs r frame h = go (has_either (λ (x : WaitingRequest). x.frame.items ≡ frame) (filter test rs) (r ∷ []) (has_map (λ x. x ≡ frame) (λ (x : WaitingRequest). x.frame.items) (filter test rs ++ r ∷ []) h))
+  where
+    go : Has (λ (x : WaitingRequest). x.frame.items ≡ frame) (filter test rs) ⊎ Has (λ (x : WaitingRequest). x.frame.items ≡ frame) (r ∷ []) → Has (λ x. x ≡ frame) (texts rs) ⊎ (frame ≡ r.frame.items)
+    go (inl k) = inl (has_mapped (λ x. x ≡ frame) (λ (x : WaitingRequest). x.frame.items) rs (has_filter (λ (x : WaitingRequest). x.frame.items ≡ frame) test rs k))
+    go (inr (inl k)) = inr (sym k)
+    go (inr (inr k)) = absurd k

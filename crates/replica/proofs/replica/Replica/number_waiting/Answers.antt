@@ -1,0 +1,32 @@
+use Rattle.std.proofs.Common.{rules, ◌≡◌, Bool, ap, subst, arith}
+use Rattle.replica.specs.State.{ReplicaData}
+use Rattle.replica.specs.NumbersNext.{NumbersTurn}
+use Rattle.replica.proofs.NumbersGiven.{none_given, one_given, numbers_stop, numbers_end}
+use Rattle.replica.proofs.replica.Replica.number_waiting.Goals as goal
+
+pub loop-init : goal.loop-init
+loop-init c = none_given c.args.self.now c.args.outputs.now.items
+
+pub returns-then-not-branch : goal.returns-then-not-branch
+returns-then-not-branch c = record {
+  ok = numbers_stop c.loop.counter c.args.self.now c.loop.self c.number_turn.new.self c.args.outputs.now.items c.loop.outputs.items c.number_turn.new.outputs.items c.loop.invariant
+      (subst (λ (b : Bool). NumbersTurn c.loop.self c.loop.outputs.items c.number_turn.new.self c.number_turn.new.outputs.items b) c.if-not-branch.true c.in_ok-number_turn.ensures.ok);
+  endpoint = search rules;
+}
+
+pub loop-preserved : goal.loop-preserved
+loop-preserved c =
+    one_given c.loop.counter c.args.self.now c.loop.self c.number_turn.new.self c.args.outputs.now.items c.loop.outputs.items c.number_turn.new.outputs.items c.loop.invariant
+    (subst (λ (b : Bool). NumbersTurn c.loop.self c.loop.outputs.items c.number_turn.new.self c.number_turn.new.outputs.items b) c.if-not-branch.false c.in_ok-number_turn.ensures.ok)
+
+pub returns : goal.returns
+returns c =
+    let span : c.span-end.result ≡ c.self.inside.orderer.log.span = search rules in
+    let same = ap (λ (r : ReplicaData). r.orderer.log.span) c.self.view_is in
+    let few = c.loop.auto.counter-end in
+    let all = c.loop-test.false in
+    let whole : c.loop.counter ≡ c.args.self.now.orderer.log.span = omega (arith, span, same, few, all) in
+    record {
+      ok = numbers_end c.loop.counter c.args.self.now c.loop.self c.args.outputs.now.items c.loop.outputs.items whole c.loop.invariant;
+      endpoint = c.loop.invariant.party.orderer.endpoint;
+    }

@@ -1,0 +1,23 @@
+use Rattle.std.proofs.Common.{subst}
+use Rattle.replica.specs.declared.taking.Touched.{Touched}
+use Rattle.replica.specs.Entering.{TakesBytes}
+use Rattle.replica.proofs.Reacting.{leads_nothing, leads_waiting, leads_row, leads_tick}
+use Rattle.replica.proofs.replica.Replica.react.Goals.{in-Timeout, in-Got+in_ok-take-in-Got+in-Nothing, in-Got+in_ok-take-in-Got+in-Waiting+in_ok-number_waiting-in-Waiting, in-Got+in_ok-take-in-Got+in-Row+in_ok-go_on-in-Row+in_ok-number_waiting-in-Row}
+use Rattle.replica.proofs.replica.Replica.react.Goals as goal
+
+pub returns-clause-leads : goal.returns-clause-leads
+returns-clause-leads c = elim c.match-event.branch [
+  | in-Timeout w ↦ rw (w.in-Timeout.is, w.self-is, w.outputs-is, c.new-outputs.ensures.items) (leads_tick c.args.self.now c.are_one.ensures c.requires)
+  | in-Got+in_ok-take-in-Got+in-Nothing w ↦ rw (w.in-Got.is, w.self-is, w.outputs-is)
+      (leads_nothing c.args.self.now w.in-Got.bytes.now c.are_one.ensures c.requires w.take.new.self w.take.new.outputs.items
+      (subst (λ (t : Touched). TakesBytes w.in-Got.bytes.now c.args.self.now t w.take.new.self w.take.new.outputs.items) w.in-Nothing.is w.in_ok-take-in-Got.ensures.ok))
+  | in-Got+in_ok-take-in-Got+in-Waiting+in_ok-number_waiting-in-Waiting w ↦ rw (w.in-Got.is, w.self-is, w.outputs-is)
+      (leads_waiting c.args.self.now w.in-Got.bytes.now c.are_one.ensures c.requires w.take.new.self w.number_waiting.new.self w.take.new.outputs.items w.number_waiting.new.outputs.items
+      (subst (λ (t : Touched). TakesBytes w.in-Got.bytes.now c.args.self.now t w.take.new.self w.take.new.outputs.items) w.in-Waiting.is w.in_ok-take-in-Got.ensures.ok)
+      w.in_ok-number_waiting-in-Waiting.ensures.ok)
+  | in-Got+in_ok-take-in-Got+in-Row+in_ok-go_on-in-Row+in_ok-number_waiting-in-Row w ↦ rw (w.in-Got.is, w.self-is, w.outputs-is)
+      (leads_row c.args.self.now w.in-Got.bytes.now c.are_one.ensures c.requires w.in-Row.number w.take.new.self w.go_on.new.self w.number_waiting-in-Row.new.self
+      w.take.new.outputs.items w.go_on.new.outputs.items w.number_waiting-in-Row.new.outputs.items
+      (subst (λ (t : Touched). TakesBytes w.in-Got.bytes.now c.args.self.now t w.take.new.self w.take.new.outputs.items) w.in-Row.is w.in_ok-take-in-Got.ensures.ok)
+      w.in_ok-go_on-in-Row.ensures.ok w.in_ok-number_waiting-in-Row.ensures.ok)
+]

@@ -1,0 +1,16 @@
+use Rattle.std.proofs.Common.{rules, ℕ, ap, ◌∙◌, option_map}
+use Rattle.wire.specs.Views.{body_data}
+use Rattle.signing.specs.Heard.{heard}
+use Rattle.replica.specs.ReplicaView.{replica_data}
+use Rattle.replica.proofs.Beginning.{silence_dropped}
+use Rattle.replica.proofs.replica.Replica.take.Goals as goal
+
+pub returns-in_default : goal.returns-in_default
+returns-in_default c = record {
+  ok = rw (c.requires.first, c.in_ok-sender.ensures.same, ← c.self.view_is)
+      (silence_dropped (replica_data c.self.inside) c.args.bytes.now c.self.invariant
+      (ap (λ m. heard m c.self.inside.desk.me c.args.bytes.now) c.self.invariant.1
+      ∙ ap (λ (x : ℕ). heard c.self.inside.orderer.endpoint.membership x c.args.bytes.now) c.self.invariant.0
+      ∙ c.in_ok-sender.ensures.heard ∙ ap (option_map body_data) c.in_default.is));
+  endpoint = search rules;
+}

@@ -1,0 +1,60 @@
+-- What bytes that come do, before anything is said of them.
+use Rattle.std.specs.Prelude.{◌≡◌, ◌+◌, ◌⊎◌, ℕ, List, [], None, Some}
+use Rattle.tuple_codec.specs.Operations.{Operation}
+use Rattle.terms.specs.declared.parties.ClientId.{ClientId}
+use Rattle.terms.specs.declared.parties.ReplicaId.{ReplicaId}
+use Rattle.terms.specs.declared.order.Mode.TheVariants as modes
+use Rattle.terms.specs.declared.order.Timestamp.{Timestamp}
+use Rattle.wire.specs.Messages.{MessageData as Message, request as Request}
+use Rattle.signing.specs.Heard.{heard}
+use Rattle.events.specs.declared.output.Output.{Output}
+use Rattle.protocol.specs.System.Configuration.{Configuration, members}
+use Rattle.protocol.specs.System.Trace.{Entry}
+use Rattle.protocol.specs.System.Trace.Entry.{Got}
+use Rattle.protocol.specs.Replica.Certificates.{taken}
+use Rattle.replica_histories.specs.Events as histories
+use Rattle.replica_histories.specs.Events.{Start, IsTaken}
+use Rattle.replica.specs.declared.taking.Touched.{Touched}
+use Rattle.replica.specs.declared.taking.Touched.TheVariants as touched
+use Rattle.replica.specs.State.{ReplicaData}
+use Rattle.replica.specs.Desks.{Stands}
+use Rattle.replica.specs.Going.{IsVotedBut, IsSameParty, Rests}
+use Rattle.replica.specs.Numbering.{NumbersRight, IsAllNumbered}
+use Rattle.replica.specs.Fits.{Runs, me_of}
+
+-- the event in which a replica that runs gets the bytes
+abbrev pub event_of : (c : Configuration) (r : ReplicaData) (past : List Entry) → Runs c r past → List ℕ → Start
+event_of c r past runs bytes =
+    histories.start_at c (me_of r) runs.desk r.orderer.log past runs.holds (Got (me_of r) bytes)
+
+-- What is left to do, by what was touched: nothing; numbers for what waits; votes for one number, and what follows.
+-- What touches anything, or gives an output, is taken.
+abbrev pub Leaves : Configuration → Start → Touched → ReplicaData → List Output → Type 0
+Leaves c s touched.Nothing r outs = Rests r × IsAllNumbered r × ((outs ≡ []) ⊎ IsTaken c (me_of r) s)
+Leaves c s touched.Waiting r outs = Rests r × IsTaken c (me_of r) s
+Leaves c s (touched.Row number) r outs = IsVotedBut number.0 r.orderer.log × IsTaken c (me_of r) s
+
+-- In an event that begins with these bytes, what holds of the past fits the event, with these outputs.
+pub record TakesBytes (bytes : List ℕ) (old : ReplicaData) (touched : Touched) (new : ReplicaData)
+    (outs : List Output) : Type 0 where
+  pub party : IsSameParty old new
+  pub begins : (c : Configuration) (past : List Entry) (runs : Runs c old past) → members c ≡ old.desk.membership
+      → taken c past (Got (me_of old) bytes) ≡ None
+      → Stands c (event_of c old past runs bytes) new.orderer.log new.desk [] outs
+      × NumbersRight c new × Leaves c (event_of c old past runs bytes) touched new outs
+
+-- So it is where the bytes are the client's ordered request.
+abbrev pub TakesRequest :
+    ClientId → Timestamp → List ℕ → ReplicaData → Touched → ReplicaData → List Output → Type 0
+TakesRequest client timestamp bytes old touched new outs =
+    (op : Operation)
+    → heard old.desk.membership old.desk.me bytes
+    ≡ Some (record { sender = 256 + client.number; message = Request timestamp.0 modes.Ordered op })
+    → TakesBytes bytes old touched new outs
+
+-- And where they are this message of the replica's.
+abbrev pub TakesMessage : ReplicaId → Message → ReplicaData → Touched → ReplicaData → List Output → Type 0
+TakesMessage sender message old touched new outs =
+    (bytes : List ℕ)
+    → heard old.desk.membership old.desk.me bytes ≡ Some (record { sender = sender.0; message = message })
+    → TakesBytes bytes old touched new outs

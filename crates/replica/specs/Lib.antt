@@ -1,0 +1,15 @@
+pub mod Waiting
+pub mod State
+pub mod OrdererView
+pub mod DeskView
+pub mod Taking
+pub mod Desks
+pub mod Going
+pub mod Saying
+pub mod Desking
+pub mod Numbering
+pub mod Fits
+pub mod ReplicaView
+pub mod NumbersNext
+pub mod Entering
+pub mod Arriving

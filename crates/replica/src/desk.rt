@@ -1,0 +1,212 @@
+//! The desk: the executed state, the requests that wait, and the keys for replies.
+
+ghost use Rattle.std.specs.Prelude.{◌≡◌, ◌+◌, ◌*◌, ◌^◌, ◌<◌, ◌≤◌, false, length, IfOk, IsFalse, IsTrue, OnOk};
+ghost use Rattle.tuple_codec.specs.OperationView.{outcome_of};
+ghost use Rattle.protocol.specs.System.Configuration.{IsConfiguration};
+ghost use Rattle.wire.specs.Lists.{Each};
+ghost use Rattle.wire.specs.Spelling.{IsCarried, is_ordered_request};
+ghost use Rattle.wire.specs.Views.{texts_of};
+ghost use Rattle.replica.specs.Waiting.{texts, unnumbered, with_numbered};
+ghost use Rattle.replica.specs.Desking.{IsNewDesk, HasReply, PaysAgain, PaysAll, RunsBatch, RunsWhole, SaysReply, Waits, replies_for};
+
+use crate::waiting::{Waiting, WaitingRequest};
+use authenticator::Ring;
+use events::{Config, Output, Outputs, Stop, give};
+use execution::{Executed, Ran};
+use posting::{reply_message, seal_for_one};
+use std::alloc::Global;
+use std::marker::Model;
+use terms::{ClientId, Mode, NoMemory, Number, Party, ReplicaId, Timestamp};
+use tuple_codec::Answer;
+
+/// What is executed, and what waits for it.
+#[derive(Drop)]
+pub(crate) struct Desk {
+    me: ReplicaId,
+    ring: Ring,
+    pub(crate) executed: Executed,
+    pub(crate) waiting: Waiting,
+}
+
+impl Model for Desk {
+    ghost use Rattle.replica.specs.State.{DeskData, IsDesk};
+    ghost use Rattle.replica.specs.DeskView.{desk_data};
+
+    ghost Value = { DeskData };
+
+    ghost use Rattle.std.specs.Coded.{codes};
+    ghost use Rattle.execution.specs.Executed.{executed_code};
+
+    ghost coded = { Prim.hlevel (codes, executed_code) };
+
+    ghost view = { desk_data };
+
+    ghost invariant = { λ d. IsDesk (desk_data d) };
+}
+
+impl Desk {
+    pub(crate) fn new(alloc: Global, config: &Config, me: ReplicaId) -> Result<Desk, NoMemory>
+        requires known { me.0 < 3 * config.now.faults + 1 }
+        ensures made { IfOk result (IsNewDesk config.now me.0) }
+        ensures valid { IsConfiguration config.now }
+    {
+        let ring = Ring::new(alloc, config.seed(), config.faults(), config.clients());
+        let executed = Executed::new(alloc, config.clients())?;
+        Ok(Desk {
+            me,
+            ring,
+            executed,
+            waiting: Waiting::new(alloc),
+        })
+    }
+
+    /// Executes the batch of this text, which is the next one, and answers each of its requests that ran.
+    pub(crate) fn execute(
+        &mut self,
+        alloc: Global,
+        text: &[u8],
+        outputs: &mut Outputs,
+    ) -> Result<(), Stop>
+        requires { self.old.executed.state.number + 1 < 2 ^ 48 }
+        ensures ok { OnOk result (RunsWhole self.old text.now outputs.old.items self.new outputs.new.items) }
+        ensures me { self.new.me ≡ self.old.me }
+        ensures membership { self.new.membership ≡ self.old.membership }
+    {
+        let ran = self.run(alloc, text, outputs)?;
+        self.reply_to_all(alloc, ran, outputs)
+    }
+
+    // Executes the batch, and forgets the requests that ran.
+    fn run(&mut self, alloc: Global, text: &[u8], outputs: &mut Outputs) -> Result<Vec<Ran>, Stop>
+        requires { self.old.executed.state.number + 1 < 2 ^ 48 }
+        ensures ok { IfOk result (λ ran. RunsBatch self.old text.now outputs.old.items
+            self.new (replies_for ran.items) outputs.new.items) }
+        ensures me { self.new.me ≡ self.old.me }
+        ensures membership { self.new.membership ≡ self.old.membership }
+    {
+        let ran = self.executed.execute(text)?;
+        let copy = Vec::from_slice(alloc, text)?;
+        give(outputs, Output::Executed(self.executed.number(), copy))?;
+        self.waiting.forget(&self.executed);
+        Ok(ran)
+    }
+
+    // Answers requests that ran.
+    #[tactic(auto, using(crate::proofs::Desking::pays_start, crate::proofs::Desking::pays_end))]
+    fn reply_to_all(
+        &mut self,
+        alloc: Global,
+        ran: Vec<Ran>,
+        outputs: &mut Outputs,
+    ) -> Result<(), Stop>
+        ensures pays { OnOk result (PaysAll self.old (replies_for ran.items) outputs.old.items outputs.new.items) }
+        ensures same { self.new ≡ self.old }
+    {
+        for it in ran {
+            let Ran {
+                client,
+                timestamp,
+                number,
+                answer,
+            } = it;
+            self.reply(alloc, client, timestamp, number, answer, outputs)?;
+        }
+        Ok(())
+    }
+
+    /// Makes a newer request of the client wait in this frame, in place of the one that waits.
+    pub(crate) fn wait(
+        &mut self,
+        alloc: Global,
+        client: ClientId,
+        timestamp: Timestamp,
+        frame: &[u8],
+    ) -> Result<(), Stop>
+        requires { IsCarried is_ordered_request frame.now }
+        ensures ok { OnOk result (Waits client timestamp frame.now self.old self.new) }
+        ensures me { self.new.me ≡ self.old.me }
+        ensures membership { self.new.membership ≡ self.old.membership }
+    {
+        let frame = Vec::from_slice(alloc, frame)?;
+        self.waiting.remove(client);
+        self.waiting.push(WaitingRequest {
+            client,
+            timestamp,
+            frame,
+        })?;
+        Ok(())
+    }
+
+    /// Whether a request that waits has no number yet.
+    pub(crate) fn has_unnumbered(&self) -> bool
+        ensures some { IsTrue result → 1 ≤ length (unnumbered self.now.waiting) }
+        ensures none { IsFalse result
+            → length self.now.waiting.requests ≤ self.now.waiting.numbered }
+    {
+        self.waiting.has_unnumbered()
+    }
+
+    /// Copies of the frames of up to 16 requests that have no number yet, the oldest first.
+    pub(crate) fn unnumbered_frames(&self, alloc: Global) -> Result<Vec<Vec<u8>>, Stop>
+        ensures value { IfOk result (λ frames. texts_of frames.items ≡ texts (unnumbered self.now.waiting)) }
+        ensures each { Each (IsCarried is_ordered_request) (texts (unnumbered self.now.waiting)) }
+        ensures most { length (unnumbered self.now.waiting) ≤ 16 }
+        ensures rest { self.now.waiting.numbered + length (unnumbered self.now.waiting)
+            ≤ length self.now.waiting.requests }
+    {
+        self.waiting.unnumbered_frames(alloc)
+    }
+
+    /// So many more requests have a number.
+    pub(crate) fn note_numbered(&mut self, count: usize)
+        requires { self.old.waiting.numbered + count ≤ length self.old.waiting.requests }
+        ensures { self.new ≡ record self.old { waiting = with_numbered count self.old.waiting } }
+    {
+        self.waiting.note_numbered(count);
+    }
+
+    /// Answers a request that ran as the client's last once more, if it has this timestamp. Returns whether.
+    pub(crate) fn reply_again(
+        &mut self,
+        alloc: Global,
+        client: ClientId,
+        timestamp: Timestamp,
+        outputs: &mut Outputs,
+    ) -> Result<bool, Stop>
+        ensures pays { OnOk result (PaysAgain self.old client timestamp outputs.old.items outputs.new.items) }
+        ensures has { IfOk result (HasReply self.old client timestamp) }
+        ensures silent { IfOk result (λ has. (has ≡ false) → outputs.new ≡ outputs.old) }
+        ensures same { self.new ≡ self.old }
+    {
+        let (number, answer) = match self.executed.last(client) {
+            Some(kept) if kept.timestamp == timestamp.0 => {
+                (Number(kept.number), kept.answer.copy_in(alloc)?)
+            }
+            _ => return Ok(false),
+        };
+        self.reply(alloc, client, timestamp, number, answer, outputs)?;
+        Ok(true)
+    }
+
+    fn reply(
+        &mut self,
+        alloc: Global,
+        client: ClientId,
+        timestamp: Timestamp,
+        number: Number,
+        answer: Answer<Global>,
+        outputs: &mut Outputs,
+    ) -> Result<(), Stop>
+        ensures said { OnOk result (SaysReply self.old client
+            (record { timestamp = timestamp.0; number = number.0; outcome = outcome_of answer })
+            outputs.old.items outputs.new.items) }
+        ensures same { self.new ≡ self.old }
+    {
+        let message = reply_message(client, timestamp, Mode::Ordered, number, answer);
+        let party = Party::Client(client);
+        match seal_for_one(&mut self.ring, alloc, self.me, message, party) {
+            Ok(output) => give(outputs, output),
+            Err(_) => Err(Stop::NoMemory),
+        }
+    }
+}

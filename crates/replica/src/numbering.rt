@@ -1,0 +1,161 @@
+//! Requests that come, and the numbers that a primary gives them.
+
+ghost use Rattle.std.specs.Prelude.{◌≡◌, ◌≤◌, suc, true, [], length, IfNone, IfOk, IfSome, OnOk};
+ghost use Rattle.wire.specs.Spelling.{IsCarried, is_ordered_request};
+ghost use Rattle.ordering.specs.Log.{is_in_marks};
+ghost use Rattle.replica.specs.Waiting.{unnumbered};
+ghost use Rattle.replica.specs.Entering.{TakesRequest};
+ghost use Rattle.replica.specs.Going.{ExecutesAll, GoesOnWith};
+ghost use Rattle.replica.specs.Numbering.{IsNextFree};
+ghost use Rattle.replica.specs.NumbersNext.{NumbersNext, NumbersTurn, NumbersWaiting};
+
+use crate::arriving::Arrival;
+use crate::replica::Replica;
+use crate::taking::Touched;
+use events::{Outputs, Stop};
+use std::alloc::Global;
+use std::sync::Arc;
+use terms::{ClientId, Number, Timestamp};
+
+/// So many numbers above the executed one a primary gives at the most.
+const AHEAD: u64 = 2;
+
+impl Replica {
+    /// Takes a client's ordered request: the last one that ran is answered again, a newer one waits, and one that waits
+    /// already makes the replica say again what it said of numbers that aren't executed.
+    pub(crate) fn on_request(
+        &mut self,
+        alloc: Global,
+        client: ClientId,
+        timestamp: Timestamp,
+        frame: &[u8],
+        outputs: &mut Outputs,
+    ) -> Result<Touched, Stop>
+        requires carried { IsCarried is_ordered_request frame.now }
+        requires first { outputs.old.items ≡ [] }
+        ensures ok { IfOk result (λ touched. TakesRequest client timestamp frame.now self.old
+            touched self.new outputs.new.items) }
+        ensures endpoint { self.new.orderer.endpoint ≡ self.old.orderer.endpoint }
+    {
+        if self.desk.reply_again(alloc, client, timestamp, outputs)? {
+            return Ok(Touched::Nothing);
+        }
+        match self.desk.arrival_of(client, timestamp, frame) {
+            Arrival::Past => Ok(Touched::Nothing),
+            Arrival::Waiting => {
+                let executed = self.desk.executed.number();
+                self.orderer.say_again(alloc, executed, outputs)?;
+                Ok(Touched::Nothing)
+            }
+            Arrival::New => {
+                self.desk.wait(alloc, client, timestamp, frame)?;
+                Ok(Touched::Waiting)
+            }
+        }
+    }
+
+    /// Says what the log asks for of a number, and executes all that is committed then.
+    pub(crate) fn go_on(
+        &mut self,
+        alloc: Global,
+        number: Number,
+        outputs: &mut Outputs,
+    ) -> Result<(), Stop>
+        ensures ok { OnOk result
+            (GoesOnWith number.0 self.old outputs.old.items self.new outputs.new.items) }
+        ensures endpoint { self.new.orderer.endpoint ≡ self.old.orderer.endpoint }
+    {
+        self.orderer.say_votes(alloc, number, outputs)?;
+        self.execute_committed(alloc, outputs)
+    }
+
+    // Executes batches as long as the next one is committed.
+    fn execute_committed(&mut self, alloc: Global, outputs: &mut Outputs) -> Result<(), Stop>
+        ensures ok { OnOk result
+            (ExecutesAll self.old outputs.old.items self.new outputs.new.items) }
+        ensures endpoint { self.new.orderer.endpoint ≡ self.old.orderer.endpoint }
+    {
+        for _ in 0..self.orderer.log.span() {
+            let next = Number(self.desk.executed.number().0 + 1);
+            let Some(batch) = self.orderer.log.next_batch(next) else {
+                return Ok(());
+            };
+            let batch = Arc::try_clone(batch)?;
+            self.desk.execute(alloc, batch.text(), outputs)?;
+        }
+        Ok(())
+    }
+
+    /// Gives the free numbers to requests that wait, if the replica is the primary.
+    pub(crate) fn number_waiting(
+        &mut self,
+        alloc: Global,
+        outputs: &mut Outputs,
+    ) -> Result<(), Stop>
+        ensures ok { OnOk result
+            (NumbersWaiting self.old outputs.old.items self.new outputs.new.items) }
+        ensures endpoint { self.new.orderer.endpoint ≡ self.old.orderer.endpoint }
+    {
+        for _ in 0..self.orderer.log.span() {
+            if !self.number_turn(alloc, outputs)? {
+                return Ok(());
+            }
+        }
+        Ok(())
+    }
+
+    // Gives the next number to requests that wait, and does what it asks for then. Returns whether there were both.
+    fn number_turn(&mut self, alloc: Global, outputs: &mut Outputs) -> Result<bool, Stop>
+        ensures ok { IfOk result
+            (NumbersTurn self.old outputs.old.items self.new outputs.new.items) }
+        ensures endpoint { self.new.orderer.endpoint ≡ self.old.orderer.endpoint }
+    {
+        let Some(number) = self.free_number() else {
+            return Ok(false);
+        };
+        if !self.desk.has_unnumbered() {
+            return Ok(false);
+        }
+        self.number_next(alloc, number, outputs)?;
+        self.go_on(alloc, number, outputs)?;
+        Ok(true)
+    }
+
+    // Gives the number to the oldest requests that have none.
+    fn number_next(
+        &mut self,
+        alloc: Global,
+        number: Number,
+        outputs: &mut Outputs,
+    ) -> Result<(), Stop>
+        requires within { is_in_marks self.old.orderer.log number.0 ≡ true }
+        requires some { 1 ≤ length (unnumbered self.old.desk.waiting) }
+        ensures ok { OnOk result
+            (NumbersNext number.0 self.old outputs.old.items self.new outputs.new.items) }
+        ensures endpoint { self.new.orderer.endpoint ≡ self.old.orderer.endpoint }
+    {
+        let frames = self.desk.unnumbered_frames(alloc)?;
+        self.orderer.say_batch(alloc, number, &frames, outputs)?;
+        self.desk.note_numbered(frames.len());
+        Ok(())
+    }
+
+    // The number behind the last one that was used, if the replica, as the primary, may give it to a batch.
+    fn free_number(&self) -> Option<Number>
+        ensures within { IfSome result (λ number. is_in_marks self.now.orderer.log number.0 ≡ true) }
+        ensures next { IfSome result (λ number. number.0 ≡ suc self.now.orderer.used) }
+        ensures free { IfSome result (λ _. IsNextFree self.now) }
+        ensures none { IfNone result (IsNextFree self.now → ⊥) }
+    {
+        let log = &self.orderer.log;
+        let number = Number(self.orderer.used.0.checked_add(1)?);
+        if log.me().0 == log.primary(log.view()).0
+            && log.is_in_marks(number)
+            && number.0 <= self.desk.executed.number().0 + AHEAD
+        {
+            Some(number)
+        } else {
+            None
+        }
+    }
+}

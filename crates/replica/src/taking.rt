@@ -1,0 +1,149 @@
+//! What a message that comes does.
+
+ghost use Rattle.std.specs.Prelude.{◌≡◌, ◌+◌, ◌<◌, [], Some, IfOk};
+ghost use Rattle.wire.specs.Messages.{pre_prepare, prepare, commit};
+ghost use Rattle.wire.specs.Views.{message_data};
+ghost use Rattle.signing.specs.Heard.{heard};
+ghost use Rattle.replica.specs.Entering.{TakesBytes, TakesMessage};
+
+use crate::replica::Replica;
+use events::{Outputs, Stop};
+use std::alloc::Global;
+use terms::{ClientId, Mode, Number, Party, ReplicaId};
+use wire::{Body, Commit, Message, PrePrepare, Prepare, Request};
+
+/// What a message touched, and so what may be asked for next.
+#[derive(Clone, Copy, Drop)]
+pub(crate) enum Touched {
+    /// Nothing is asked for: the message was dropped, or answered.
+    Nothing,
+    /// The requests that wait.
+    Waiting,
+    /// The log's row of this number.
+    Row(Number),
+}
+
+impl Replica {
+    /// Takes the message that the replica hears from the bytes, if it hears one and has no fault to find.
+    pub(crate) fn take(
+        &mut self,
+        alloc: Global,
+        bytes: &[u8],
+        outputs: &mut Outputs,
+    ) -> Result<Touched, Stop>
+        requires first { outputs.old.items ≡ [] }
+        ensures ok { IfOk result (λ touched. TakesBytes bytes.now self.old
+            touched self.new outputs.new.items) }
+        ensures endpoint { self.new.orderer.endpoint ≡ self.old.orderer.endpoint }
+    {
+        self.are_one();
+        let Some(Body { sender, message }) = self.orderer.hear(alloc, bytes)? else {
+            return Ok(Touched::Nothing);
+        };
+        match sender {
+            Party::Client(client) => self.on_client(alloc, client, message, bytes, outputs),
+            Party::Replica(sender) => self.on_ordering(alloc, sender, message),
+        }
+    }
+
+    // A client's message, which came in this frame. Reads are not answered yet.
+    fn on_client(
+        &mut self,
+        alloc: Global,
+        client: ClientId,
+        message: Message,
+        frame: &[u8],
+        outputs: &mut Outputs,
+    ) -> Result<Touched, Stop>
+        requires first { outputs.old.items ≡ [] }
+        requires heard { heard self.old.desk.membership self.old.desk.me frame.now
+            ≡ Some (record { sender = 256 + client.number; message = message_data message }) }
+        ensures ok { IfOk result (λ touched. TakesBytes frame.now self.old
+            touched self.new outputs.new.items) }
+        ensures endpoint { self.new.orderer.endpoint ≡ self.old.orderer.endpoint }
+    {
+        self.are_one();
+        let Message::Request(request) = message else {
+            return Ok(Touched::Nothing);
+        };
+        let Request {
+            timestamp,
+            mode,
+            ..
+        } = request;
+        match mode {
+            Mode::Ordered => self.on_request(alloc, client, timestamp, frame, outputs),
+            Mode::ReadOnly => Ok(Touched::Nothing),
+        }
+    }
+
+    // The messages of the three phases.
+    fn on_ordering(
+        &mut self,
+        alloc: Global,
+        sender: ReplicaId,
+        message: Message,
+    ) -> Result<Touched, Stop>
+        ensures ok { IfOk result (λ touched. TakesMessage sender (message_data message)
+            self.old touched self.new []) }
+        ensures endpoint { self.new.orderer.endpoint ≡ self.old.orderer.endpoint }
+    {
+        self.are_one();
+        match message {
+            Message::PrePrepare(message) => self.on_pre_prepare(alloc, sender, message),
+            Message::Prepare(message) => Ok(self.on_prepare(sender, &message)),
+            Message::Commit(message) => Ok(self.on_commit(sender, &message)),
+            _ => {
+                note_replica(sender);
+                Ok(Touched::Nothing)
+            }
+        }
+    }
+
+    fn on_pre_prepare(
+        &mut self,
+        alloc: Global,
+        sender: ReplicaId,
+        message: PrePrepare,
+    ) -> Result<Touched, Stop>
+        ensures ok { IfOk result (λ touched. TakesMessage sender
+            (pre_prepare message.view.0 message.number.0 message.batch.text.items)
+            self.old touched self.new []) }
+        ensures endpoint { self.new.orderer.endpoint ≡ self.old.orderer.endpoint }
+    {
+        let number = message.number;
+        if !self.orderer.take_batch(alloc, sender, message)? {
+            return Ok(Touched::Nothing);
+        }
+        Ok(Touched::Row(number))
+    }
+
+    fn on_prepare(&mut self, sender: ReplicaId, message: &Prepare) -> Touched
+        ensures ok { TakesMessage sender (prepare message.now.view.0 message.now.number.0 message.now.digest)
+            self.old result self.new [] }
+        ensures endpoint { self.new.orderer.endpoint ≡ self.old.orderer.endpoint }
+    {
+        if !self.orderer.take_prepare(sender, message) {
+            return Touched::Nothing;
+        }
+        Touched::Row(message.number)
+    }
+
+    fn on_commit(&mut self, sender: ReplicaId, message: &Commit) -> Touched
+        ensures ok { TakesMessage sender (commit message.now.view.0 message.now.number.0 message.now.digest)
+            self.old result self.new [] }
+        ensures endpoint { self.new.orderer.endpoint ≡ self.old.orderer.endpoint }
+    {
+        if !self.orderer.take_commit(sender, message) {
+            return Touched::Nothing;
+        }
+        Touched::Row(message.number)
+    }
+}
+
+// A replica's number is below those of clients.
+fn note_replica(replica: ReplicaId)
+    ensures { replica.0 < 256 }
+{
+    let _number = replica.0;
+}

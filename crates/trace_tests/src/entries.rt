@@ -1,0 +1,69 @@
+//! Entries and their texts.
+
+use events::{Entry, EntryKind};
+use std::alloc::Global;
+use terms::{ClientId, Number, Party, ReplicaId, Timestamp};
+use trace_text::write_entry;
+use tuple_codec::{Answer, Op};
+use tuple_text::read_line;
+
+fn is_shown(alloc: Global, kind: EntryKind, text: &[u8]) -> bool {
+    let mut out = Vec::new(alloc);
+    match write_entry(alloc, &Entry::new(kind), &mut out) {
+        Ok(()) => out.as_slice() == text,
+        Err(_) => false,
+    }
+}
+
+fn op(alloc: Global, line: &[u8]) -> Option<Op<Global>> {
+    match read_line(alloc, line) {
+        Ok(op) => op,
+        Err(_) => None,
+    }
+}
+
+const LINES: [&[u8]; 5] = [
+    b"out (1 \"a\" (x00ff true))",
+    b"rdp (* ?int (?text ?bytes) ?bool ?tuple 2)",
+    b"inp ()",
+    b"cas (\"k\" *) (\"k\" -1)",
+    b"rdAll 64 (*)",
+];
+
+// An operation stands as its line.
+fn shows_call(alloc: Global, line: &[u8]) -> bool {
+    let Some(op) = op(alloc, line) else {
+        return false;
+    };
+    let mut text = Vec::new(alloc);
+    if text.extend_from_slice(b"invoke c0 time 1 ").is_err()
+        || text.extend_from_slice(line).is_err()
+    {
+        return false;
+    }
+    let kind = EntryKind::Invoke(ClientId { number: 0 }, Timestamp(1), op);
+    is_shown(alloc, kind, text.as_slice())
+}
+
+#[test]
+fn shows_calls(rt: HostRuntime) {
+    for line in LINES {
+        assert!(rt; shows_call(rt.alloc(), line), "{line:?}");
+    }
+}
+
+#[test]
+fn shows_what_happens(rt: HostRuntime) {
+    let alloc = rt.alloc();
+    let client = ClientId { number: 7 };
+    let tick = EntryKind::Tick(Party::Client(client));
+    assert!(rt; is_shown(alloc, tick, b"tick c7"));
+    let got = EntryKind::Got(Party::Replica(ReplicaId(3)), Vec::new(alloc));
+    assert!(rt; is_shown(alloc, got, b"got r3 0 bytes that are no frame"));
+    let executed = EntryKind::Executed(ReplicaId(0), Number(1), Vec::new(alloc));
+    assert!(rt; is_shown(alloc, executed, b"executed r0 number 1 null"));
+    let installed = EntryKind::Installed(ReplicaId(1), Number(32), [0xab; 32]);
+    assert!(rt; is_shown(alloc, installed, b"installed r1 number 32 root abababab"));
+    let accepted = EntryKind::Accepted(client, Timestamp(2), Answer::Swapped(true));
+    assert!(rt; is_shown(alloc, accepted, b"accepted c7 time 2 swapped true"));
+}

@@ -1,0 +1,445 @@
+//! Frames of each message, whose texts come from an implementation of these lines in Python.
+
+use events::{Entry, EntryKind};
+use std::alloc::{AllocError, Global};
+use std::test::Fail;
+use terms::{NoMemory, Number, Party, ReplicaId};
+use trace_text::write_entry;
+
+const DIGEST: &str = "a1b2c3d400000000000000000000000000000000000000000000000000000000";
+
+const ZEROS: &str = "0000000000000000000000000000000000000000000000000000000000000000";
+
+// Two requests as batches carry them, behind their lengths, each with a MAC.
+const FIRST: &str = "0000003f00000017410100000000000000000100210101000000000000000100010000";
+
+const SECOND: &str = "000000370000000f4101ff00010000000000000023011000010003";
+
+// A body of these parts and so many zeros, and its text.
+struct Row {
+    parts: &'static [&'static str],
+    zeros: usize,
+    text: &'static str,
+}
+
+// Those that go out with MACs.
+const SEALED: [Row; 18] = [
+    Row {
+        parts: &["41010000000000000000010024020200016b10020200016b010000000000000001"],
+        zeros: 0,
+        text: "request c0 time 1 ordered cas (\"k\" *) (\"k\" 1)",
+    },
+    Row {
+        parts: &["41012cffffffffffffffff0125020111"],
+        zeros: 0,
+        text: "request c44 time 18446744073709551615 read-only rdAll 2 (?int)",
+    },
+    Row {
+        parts: &[
+            "420000",
+            "0000000000000000",
+            "0000000000000001",
+            "01",
+            FIRST,
+            ZEROS,
+        ],
+        zeros: 0,
+        text: "pre-prepare r0 view 0 number 1 c0:1",
+    },
+    Row {
+        parts: &[
+            "420002",
+            "0000000000000006",
+            "000000000000001f",
+            "02",
+            FIRST,
+            ZEROS,
+            SECOND,
+            ZEROS,
+        ],
+        zeros: 0,
+        text: "pre-prepare r2 view 6 number 31 c0:1 c255:281474976710656",
+    },
+    Row {
+        parts: &["43000100000000000000000000000000000001", DIGEST],
+        zeros: 0,
+        text: "prepare r1 view 0 number 1 digest a1b2c3d4",
+    },
+    Row {
+        parts: &["44000900000000000000070000000000000002", DIGEST],
+        zeros: 0,
+        text: "commit r9 view 7 number 2 digest a1b2c3d4",
+    },
+    Row {
+        parts: &["4500030000000000000010", DIGEST],
+        zeros: 0,
+        text: "checkpoint r3 number 16 root a1b2c3d4",
+    },
+    Row {
+        parts: &["4800020100000000000000000500000000000000000331"],
+        zeros: 0,
+        text: "reply r2 client c0 time 5 ordered number 3 done",
+    },
+    Row {
+        parts: &["48000001ff0000000000000006010000000000000000320201000000000000000102000161"],
+        zeros: 0,
+        text: "reply r0 client c255 time 6 read-only number 0 found (1 \"a\")",
+    },
+    Row {
+        parts: &[
+            "48000101010000000000000007000001000000000000",
+            "35020101000000000000000101010000000000000002",
+        ],
+        zeros: 0,
+        text: "reply r1 client c1 time 7 ordered number 281474976710656 all 2 (1) (2)",
+    },
+    Row {
+        parts: &["4900030000000000000010000000"],
+        zeros: 0,
+        text: "fetch r3 number 16 root",
+    },
+    Row {
+        parts: &["490003000000000000001001001f"],
+        zeros: 0,
+        text: "fetch r3 number 16 inner 31",
+    },
+    Row {
+        parts: &["49000300000000000000100203ff"],
+        zeros: 0,
+        text: "fetch r3 number 16 page 1023",
+    },
+    Row {
+        parts: &["4a00010000000000000010000000"],
+        zeros: 1024,
+        text: "meta r1 number 16 root",
+    },
+    Row {
+        parts: &["4a00010000000000000020010007"],
+        zeros: 1024,
+        text: "meta r1 number 32 inner 7",
+    },
+    Row {
+        parts: &["4b000000000000000000100200"],
+        zeros: 17,
+        text: "page r0 number 16 page 512 bytes 17",
+    },
+    Row {
+        parts: &["4b000000000000000000100000"],
+        zeros: 0,
+        text: "page r0 number 16 page 0 bytes 0",
+    },
+    // The null batch stands in a new view only.
+    Row {
+        parts: &["410100", "0000000000000002", "00", "2200"],
+        zeros: 0,
+        text: "request c0 time 2 ordered rdp ()",
+    },
+];
+
+// Those that go out signed.
+const SIGNED: [Row; 2] = [
+    Row {
+        parts: &[
+            "460001",
+            "0000000000000001",
+            "0000000000000000",
+            "010000000000000000",
+            DIGEST,
+            "0000",
+            "0000",
+        ],
+        zeros: 0,
+        text: "view-change r1 view 1 low 0 checkpoints 0:a1b2c3d4 prepared - pre-prepared -",
+    },
+    Row {
+        parts: &[
+            "460003",
+            "0000000000000009",
+            "0000000000000010",
+            "020000000000000010",
+            DIGEST,
+            "0000000000000020",
+            DIGEST,
+            "00010000000000000011",
+            DIGEST,
+            "0000000000000008",
+            "00020000000000000011",
+            DIGEST,
+            "0000000000000008",
+            "0000000000000012",
+            DIGEST,
+            "0000000000000007",
+        ],
+        zeros: 0,
+        text: "view-change r3 view 9 low 16 checkpoints 16:a1b2c3d4,32:a1b2c3d4 prepared 17:a1b2c3d4:8 \
+               pre-prepared 17:a1b2c3d4:8,18:a1b2c3d4:7",
+    },
+];
+
+// View changes for view 1, without anything prepared.
+const CHANGES: [Row; 3] = [
+    Row {
+        parts: &[
+            "460000",
+            "0000000000000001",
+            "0000000000000000",
+            "00",
+            "0000",
+            "0000",
+        ],
+        zeros: 0,
+        text: "view-change r0 view 1 low 0 checkpoints - prepared - pre-prepared -",
+    },
+    Row {
+        parts: &[
+            "460002",
+            "0000000000000001",
+            "0000000000000000",
+            "00",
+            "0000",
+            "0000",
+        ],
+        zeros: 0,
+        text: "view-change r2 view 1 low 0 checkpoints - prepared - pre-prepared -",
+    },
+    Row {
+        parts: &[
+            "460003",
+            "0000000000000001",
+            "0000000000000000",
+            "00",
+            "0000",
+            "0000",
+        ],
+        zeros: 0,
+        text: "view-change r3 view 1 low 0 checkpoints - prepared - pre-prepared -",
+    },
+];
+
+// What stands behind these in new views.
+const STARTS: [Row; 2] = [
+    Row {
+        parts: &["0000000000000000", DIGEST, "00"],
+        zeros: 0,
+        text: "new-view r1 view 1 changes r0,r2,r3 start 0 root a1b2c3d4 batches -",
+    },
+    Row {
+        parts: &[
+            "0000000000000010",
+            DIGEST,
+            "03",
+            "01",
+            FIRST,
+            ZEROS,
+            "00",
+            "02",
+            FIRST,
+            ZEROS,
+            SECOND,
+            ZEROS,
+        ],
+        zeros: 0,
+        text: "new-view r1 view 1 changes r0,r2,r3 start 16 root a1b2c3d4 batches [c0:1] [null] \
+               [c0:1 c255:281474976710656]",
+    },
+];
+
+fn push_part(alloc: Global, digits: &str, out: &mut Vec<u8>) -> Result<(), AllocError> {
+    let Ok(bytes) = hex::decode(alloc, digits) else {
+        return Err(AllocError);
+    };
+    Ok(out.extend_from_slice(bytes.as_slice())?)
+}
+
+fn push_row(alloc: Global, row: &Row, out: &mut Vec<u8>) -> Result<(), AllocError> {
+    for part in row.parts {
+        push_part(alloc, part, out)?;
+    }
+    push_zeros(row.zeros, out)
+}
+
+fn push_zeros(count: usize, out: &mut Vec<u8>) -> Result<(), AllocError> {
+    for _ in 0..count {
+        out.push(0)?;
+    }
+    Ok(())
+}
+
+fn push_piece(bytes: &[u8], out: &mut Vec<u8>) -> Result<(), AllocError> {
+    let Ok(len) = u32::try_from(bytes.len()) else {
+        return Ok(());
+    };
+    out.extend_from_slice(&len.to_be_bytes())?;
+    Ok(out.extend_from_slice(bytes)?)
+}
+
+// With MACs for replica 0 and client 1, which nobody looks at.
+fn sealed(alloc: Global, row: &Row) -> Result<Vec<u8>, AllocError> {
+    let mut body = Vec::new(alloc);
+    push_row(alloc, row, &mut body)?;
+    let mut frame = Vec::new(alloc);
+    push_piece(body.as_slice(), &mut frame)?;
+    push_part(alloc, "00020000", &mut frame)?;
+    push_part(alloc, ZEROS, &mut frame)?;
+    push_part(alloc, "0101", &mut frame)?;
+    push_part(alloc, ZEROS, &mut frame)?;
+    Ok(frame)
+}
+
+// With a signature at which nobody looks.
+fn signed(alloc: Global, body: &[u8]) -> Result<Vec<u8>, AllocError> {
+    let mut frame = Vec::new(alloc);
+    push_piece(body, &mut frame)?;
+    frame.push(1)?;
+    push_zeros(16_577, &mut frame)?;
+    Ok(frame)
+}
+
+fn signed_row(alloc: Global, row: &Row) -> Result<Vec<u8>, AllocError> {
+    let mut body = Vec::new(alloc);
+    push_row(alloc, row, &mut body)?;
+    signed(alloc, body.as_slice())
+}
+
+fn new_view(alloc: Global, start: &Row) -> Result<Vec<u8>, AllocError> {
+    let mut body = Vec::new(alloc);
+    push_part(alloc, "470001000000000000000103", &mut body)?;
+    for change in &CHANGES {
+        let change = signed_row(alloc, change)?;
+        push_piece(change.as_slice(), &mut body)?;
+    }
+    push_row(alloc, start, &mut body)?;
+    signed(alloc, body.as_slice())
+}
+
+fn has_line(alloc: Global, kind: EntryKind, line: &str) -> bool {
+    let mut out = Vec::new(alloc);
+    match write_entry(alloc, &Entry::new(kind), &mut out) {
+        Ok(()) => out.as_slice() == line.as_bytes(),
+        Err(_) => false,
+    }
+}
+
+// The lines of the frame where it is got, and where it is sent.
+fn is_shown(
+    alloc: Global,
+    frame: Vec<u8>,
+    text: &str,
+    receivers: &str,
+) -> Result<bool, AllocError> {
+    let party = Party::Replica(ReplicaId(1));
+    let mut again = Vec::new(alloc);
+    again.extend_from_slice(frame.as_slice())?;
+    let got = format!(in alloc; "got r1 {text}")?;
+    let sent = format!(in alloc; "sent r1 {text} to {receivers}")?;
+    Ok(
+        has_line(alloc, EntryKind::Got(party, frame), got.as_str())
+            && has_line(alloc, EntryKind::Sent(party, again), sent.as_str()),
+    )
+}
+
+#[test]
+fn shows_frames_with_macs(rt: HostRuntime) -> Result<(), Fail> {
+    for row in &SEALED {
+        let frame = sealed(rt.alloc(), row)?;
+        assert!(rt;
+            is_shown(rt.alloc(), frame, row.text, "r0,c1")?,
+            "{}",
+            row.text
+        );
+    }
+    Ok(())
+}
+
+#[test]
+fn shows_signed_frames(rt: HostRuntime) -> Result<(), Fail> {
+    for row in &SIGNED {
+        let frame = signed_row(rt.alloc(), row)?;
+        assert!(rt;
+            is_shown(rt.alloc(), frame, row.text, "all")?,
+            "{}",
+            row.text
+        );
+    }
+    for row in &CHANGES {
+        let frame = signed_row(rt.alloc(), row)?;
+        assert!(rt;
+            is_shown(rt.alloc(), frame, row.text, "all")?,
+            "{}",
+            row.text
+        );
+    }
+    for row in &STARTS {
+        let frame = new_view(rt.alloc(), row)?;
+        assert!(rt;
+            is_shown(rt.alloc(), frame, row.text, "all")?,
+            "{}",
+            row.text
+        );
+    }
+    Ok(())
+}
+
+#[test]
+fn shows_batches(rt: HostRuntime) -> Result<(), Fail> {
+    let alloc = rt.alloc();
+    let mut batch = Vec::new(alloc);
+    for part in ["02", FIRST, ZEROS, SECOND, ZEROS] {
+        push_part(alloc, part, &mut batch)?;
+    }
+    let executed = EntryKind::Executed(ReplicaId(2), Number(7), batch);
+    assert!(rt;
+        has_line(
+            alloc,
+            executed,
+            "executed r2 number 7 c0:1 c255:281474976710656"
+        )
+    );
+    let mut none = Vec::new(alloc);
+    none.push(0)?;
+    let executed = EntryKind::Executed(ReplicaId(9), Number(281_474_976_710_656), none);
+    assert!(rt; has_line(alloc, executed, "executed r9 number 281474976710656 null"));
+    Ok(())
+}
+
+fn sent_batch(alloc: Global) -> Result<Entry, AllocError> {
+    let frame = sealed(alloc, &SEALED[3])?;
+    Ok(Entry::new(EntryKind::Sent(Party::Replica(ReplicaId(2)), frame)))
+}
+
+const BATCH_LINE: &[u8] =
+    b"sent r2 pre-prepare r2 view 6 number 31 c0:1 c255:281474976710656 to r0,c1";
+
+// The line, behind a byte that a refusal leaves alone.
+fn is_written(alloc: Global, entry: &Entry, out: &mut Vec<u8>) -> Result<bool, NoMemory> {
+    if write_entry(alloc, entry, out).is_err() {
+        if out.as_slice() != b"\n".as_slice() {
+            return Ok(false);
+        }
+        write_entry(alloc, entry, out)?;
+    }
+    Ok(out.len() == BATCH_LINE.len() + 1 && out.as_slice().ends_with(BATCH_LINE))
+}
+
+fn with_line_feed(alloc: Global) -> Result<Vec<u8>, AllocError> {
+    let mut out = Vec::new(alloc);
+    out.push(b'\n')?;
+    Ok(out)
+}
+
+// Passes whichever allocation is refused, as by `rt try --test --fail-alloc N`: the bytes are as before, and a second
+// try gives the line.
+#[test]
+fn refused_memory(rt: HostRuntime) -> Result<(), Fail> {
+    let alloc = rt.alloc();
+    let entry = match sent_batch(alloc) {
+        Ok(entry) => entry,
+        Err(_) => sent_batch(alloc)?,
+    };
+    let mut out = match with_line_feed(alloc) {
+        Ok(out) => out,
+        Err(_) => with_line_feed(alloc)?,
+    };
+    assert!(rt; is_written(alloc, &entry, &mut out)?);
+    Ok(())
+}

@@ -1,0 +1,4 @@
+pub mod Appended
+pub mod Chained
+pub mod Joined
+pub mod Said

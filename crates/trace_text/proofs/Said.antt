@@ -1,0 +1,57 @@
+-- What is read of a frame's bytes is what its line shows.
+use Rattle.std.proofs.Common.{◌≡◌, ℕ, List, ◌++◌, length, map, Option, Some, None, refl, sym, ap, ◌∙◌}
+use Rattle.std.specs.Prelude.{codes}
+use Rattle.std.specs.Fmt.{decimal}
+use Rattle.terms.specs.Parties.{party_number}
+use Rattle.wire.specs.Messages.{FrameData, signature}
+use Rattle.wire.specs.Spelling.{SpellsFrame}
+use Rattle.wire.specs.Views.{mac_data, macs_of}
+use Rattle.wire.specs.Words.{frame_of, receivers_of}
+use Rattle.wire.specs.declared.frames.ReceiverMac.{ReceiverMac}
+use Rattle.wire.proofs.Saying.{reads_frames}
+use Rattle.trace_text.specs.Lists.{listed}
+use Rattle.trace_text.specs.Frames.{party_text, call_by, call_in, call_text, sender_in, sender_text, body_text, frame_in, frame_text, receivers_in, receivers_text}
+use Rattle.trace_text.proofs.Joined.{listed_view}
+
+frame_is : (bytes : List ℕ) (f : FrameData) → SpellsFrame bytes f → frame_of bytes ≡ Some f
+frame_is bytes f h = (reads_frames bytes f).1 h
+
+-- the bytes spell no frame
+abbrev SpellsNone : List ℕ → Type 0
+SpellsNone bytes = (f : FrameData) → SpellsFrame bytes f → ⊥
+
+no_frame : (bytes : List ℕ) → SpellsNone bytes → frame_of bytes ≡ None
+no_frame bytes none = by (frame_of bytes) refl
+  where
+    by : (o : Option FrameData) → frame_of bytes ≡ o → o ≡ None
+    by None e = refl
+    by (Some f) e = absurd (none f ((reads_frames bytes f).0 e))
+
+pub call_said : (bytes : List ℕ) (f : FrameData) → SpellsFrame bytes f → call_by f.body.sender f.body.message ≡ call_text bytes
+call_said bytes f h = sym (ap call_in (frame_is bytes f h))
+
+pub sender_said : (bytes : List ℕ) (f : FrameData) (sender : ℕ) → SpellsFrame bytes f → sender ≡ f.body.sender → party_text sender ≡ sender_text bytes
+sender_said bytes f sender h e = ap party_text e ∙ sym (ap sender_in (frame_is bytes f h))
+
+pub none_said : (bytes : List ℕ) → SpellsNone bytes → sender_text bytes ≡ sender_in None
+none_said bytes none = ap sender_in (no_frame bytes none)
+
+pub frame_said : (bytes : List ℕ) (f : FrameData) → SpellsFrame bytes f → body_text f.body ≡ frame_text bytes
+frame_said bytes f h = sym (ap (frame_in (length bytes)) (frame_is bytes f h))
+
+pub len_said : (bytes : List ℕ) → SpellsNone bytes → decimal (length bytes) ++ codes " bytes that are no frame" ≡ frame_text bytes
+len_said bytes none = sym (ap (frame_in (length bytes)) (no_frame bytes none))
+
+pub receivers_said : (bytes : List ℕ) (f : FrameData) (entries : List ReceiverMac) → SpellsFrame bytes f → macs_of entries ≡ f.authenticator → listed (codes ",") (codes "all") (λ mac. party_text (party_number mac.receiver)) entries ≡ receivers_text bytes
+receivers_said bytes f entries h e =
+    sym (listed_view (codes ",") (λ mac. party_text mac.receiver) (codes "all") mac_data entries)
+    ∙ sym (listed_view (codes ",") party_text (codes "all") (λ mac. mac.receiver) (map mac_data entries))
+    ∙ ap (λ a. listed (codes ",") (codes "all") party_text (receivers_of a)) e
+    ∙ sym (ap receivers_in (frame_is bytes f h))
+
+pub all_said : (bytes : List ℕ) (f : FrameData) (s : List ℕ) → SpellsFrame bytes f → signature s ≡ f.authenticator → codes "all" ≡ receivers_text bytes
+all_said bytes f s h e =
+    ap (λ a. listed (codes ",") (codes "all") party_text (receivers_of a)) e ∙ sym (ap receivers_in (frame_is bytes f h))
+
+pub nobody_said : (bytes : List ℕ) → SpellsNone bytes → codes "all" ≡ receivers_text bytes
+nobody_said bytes none = sym (ap receivers_in (no_frame bytes none))

@@ -1,0 +1,24 @@
+use Rattle.std.proofs.Common.{sym, ap, ◌∙◌, ◌++◌}
+use Rattle.std.specs.Prelude.{codes}
+use Rattle.trace_text.specs.Frames.{sender_text}
+use Rattle.std.proofs.lemmas.Bool.{eqb-false}
+use Rattle.std.proofs.lemmas.Result.{err_from_is_err_and}
+use Rattle.trace_text.proofs.Joined.{none_yet, one_more, stopped, all_listed}
+use Rattle.trace_text.proofs.lists.put_senders.Goals as goal
+
+pub loop-item-init : goal.loop-item-init
+loop-item-init c = none_yet (codes ",") (λ frame. sender_text frame.items) c.args.out.now.items
+
+pub returns-in_err-put_sender : goal.returns-in_err-put_sender
+returns-in_err-put_sender c =
+    let p = err_from_is_err_and c.from_residual.result c.from_residual.ensures.1 in
+    rw (p.1) (stopped (codes ",") (λ frame. sender_text frame.items) c.args.out.now.items c.loop-item.out.items _ _ _ c.loop-item.invariant c.in_err-put_sender.ensures)
+
+pub loop-item-preserved : goal.loop-item-preserved
+loop-item-preserved c =
+    one_more (codes ",") (λ frame. sender_text frame.items) c.args.out.now.items c.loop-item.out.items _ c.put_sender.new.out.items c.args.items.now c.loop-item.item-index c.item-item.result
+    c.loop-item-test.true c.item-item.is c.loop-item.invariant (c.in_ok-put_sender.ensures ∙ ap (λ t. c.loop-item.out.items ++ (c.loop-item.gap.now ++ sender_text t)) c.as_slice.ensures.value)
+
+pub returns : goal.returns
+returns c =
+    all_listed (codes ",") (λ frame. sender_text frame.items) (codes "-") c.args.out.now.items c.loop-item.out.items _ c.args.items.now c.loop-item.item-index c.loop-item-test.false (eqb-false _ 0 (sym (c.if-is_empty.ensures {u = tt}))) c.loop-item.invariant

@@ -1,0 +1,4 @@
+pub mod Frames
+pub mod Lines
+pub mod Lists
+pub mod Shown

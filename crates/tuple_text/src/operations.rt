@@ -1,0 +1,126 @@
+//! From operations to their lines.
+
+ghost use Rattle.std.specs.Prelude.{◌≡◌, ◌++◌, OnOk, OnErr, decimal};
+ghost use Rattle.tuple_tree.specs.TemplateView.{field_of, template_of};
+ghost use Rattle.tuple_codec.specs.OperationView.{operation_of};
+ghost use Rattle.tuple_text.specs.Texts.{formal_text};
+ghost use Rattle.tuple_text.specs.Written.{field_written, fields_written, template_written, operation_written, Appends};
+
+use crate::write::{append, put_atom, put_tuple};
+use itoa::Buffer;
+use std::alloc::Allocator;
+use terms::NoMemory;
+use tuple_codec::{Max, Op};
+use tuple_tree::{Field, Kind, Template};
+
+/// Appends the line of the operation: its name and its arguments, each behind a blank. An `Err` leaves the bytes as
+/// they were.
+pub fn write_op<A: Allocator, B: Allocator>(
+    op: &Op<A>,
+    out: &mut Vec<u8, B>,
+) -> Result<(), NoMemory>
+    ensures ok { OnOk result (out.new.items ≡ out.old.items ++ operation_written (operation_of op.now)) }
+    ensures err { OnErr result (out.new.items ≡ out.old.items) }
+{
+    let old_len = out.len();
+    match put_op(op, out) {
+        Ok(()) => Ok(()),
+        Err(error) => {
+            out.truncate(old_len);
+            Err(error)
+        }
+    }
+}
+
+fn put_op<A: Allocator, B: Allocator>(op: &Op<A>, out: &mut Vec<u8, B>) -> Result<(), NoMemory>
+    ensures { Appends result out.old.items (operation_written (operation_of op.now)) out.new.items }
+{
+    match op {
+        Op::Out(tuple) => {
+            append(b"out ", out)?;
+            put_tuple(tuple, out)
+        }
+        Op::Rdp(template) => {
+            append(b"rdp ", out)?;
+            put_template(template, out)
+        }
+        Op::Inp(template) => {
+            append(b"inp ", out)?;
+            put_template(template, out)
+        }
+        Op::Cas(template, tuple) => {
+            append(b"cas ", out)?;
+            put_template(template, out)?;
+            append(b" ", out)?;
+            put_tuple(tuple, out)
+        }
+        Op::RdAll(max, template) => {
+            append(b"rdAll ", out)?;
+            put_count(*max, out)?;
+            append(b" ", out)?;
+            put_template(template, out)
+        }
+    }
+}
+
+fn put_count<B: Allocator>(max: Max, out: &mut Vec<u8, B>) -> Result<(), NoMemory>
+    ensures { Appends result out.old.items (decimal max.count) out.new.items }
+{
+    let mut buffer = Buffer::new();
+    append(buffer.format(max.count).as_bytes(), out)
+}
+
+#[cycle(put_template)]
+fn put_template<A: Allocator, B: Allocator>(
+    template: &Template<A>,
+    out: &mut Vec<u8, B>,
+) -> Result<(), NoMemory>
+    ensures { Appends result out.old.items (template_written template.now) out.new.items }
+{
+    append(b"(", out)?;
+    put_fields(template.fields(), out)?;
+    append(b")", out)
+}
+
+#[cycle(put_template)]
+fn put_fields<A: Allocator, B: Allocator>(
+    fields: &[Field<A>],
+    out: &mut Vec<u8, B>,
+) -> Result<(), NoMemory>
+    ensures { Appends result out.old.items (fields_written (template_of fields.now)) out.new.items }
+{
+    let mut gap: &[u8] = b"";
+    for field in fields {
+        append(gap, out)?;
+        put_field(field, out)?;
+        gap = b" ";
+    }
+    Ok(())
+}
+
+#[cycle(put_template)]
+fn put_field<A: Allocator, B: Allocator>(
+    field: &Field<A>,
+    out: &mut Vec<u8, B>,
+) -> Result<(), NoMemory>
+    ensures { Appends result out.old.items (field_written (field_of field.now)) out.new.items }
+{
+    match field {
+        Field::Actual(atom) => put_atom(atom, out),
+        Field::Any => append(b"*", out),
+        Field::Formal(kind) => append(formal(*kind), out),
+        Field::Nested(template) => put_template(template, out),
+    }
+}
+
+fn formal(kind: Kind) -> &'static [u8]
+    ensures { result.now ≡ formal_text kind }
+{
+    match kind {
+        Kind::Number => b"?int",
+        Kind::Text => b"?text",
+        Kind::Bytes => b"?bytes",
+        Kind::Truth => b"?bool",
+        Kind::Tuple => b"?tuple",
+    }
+}
