@@ -3,13 +3,13 @@ use Rattle.std.specs.Prelude.{◌≡◌, ℕ, List, ◌++◌, codes}
 use Rattle.std.specs.Fmt.{decimal}
 use Rattle.tuple_text.specs.declared.faults.LineFault.{LineFault}
 use Rattle.tuple_text.specs.declared.faults.LineFault.TheVariants.{BadByte, TooDeep, TooManyFields, TooLong, NoMemory}
-use Rattle.btspace.specs.Refusals.{line_refusal, malformed_refusal}
+use Rattle.btspace.specs.Refusals.{line_refusal, malformed_refusal, step_refusal, configuration_refusal}
 use Rattle.btspace.specs.declared.local.LocalFault.{LocalFault}
 use Rattle.btspace.specs.declared.local.LocalFault.TheVariants as local
 use Rattle.btspace.specs.declared.show.ShowFault.{ShowFault}
 use Rattle.btspace.specs.declared.show.ShowFault.TheVariants as show
 use Rattle.btspace.specs.declared.complaints.Complaint.{Complaint}
-use Rattle.btspace.specs.declared.complaints.Complaint.TheVariants.{Line, Malformed, Unreadable, Stopped}
+use Rattle.btspace.specs.declared.complaints.Complaint.TheVariants.{Line, Malformed, Step, Configuration, Unreadable, Stopped}
 
 -- Only a byte at which no line goes on is named by its place.
 abbrev pub place_text : LineFault → List ℕ
@@ -23,6 +23,8 @@ abbrev pub complaint_text : Complaint → List ℕ
 complaint_text (Line number fault) =
     codes "line " ++ decimal number ++ codes ": refused " ++ decimal (line_refusal fault) ++ place_text fault
 complaint_text Malformed = codes "refused " ++ decimal malformed_refusal
+complaint_text (Step line) = codes "line " ++ decimal line ++ codes ": refused " ++ decimal step_refusal
+complaint_text Configuration = codes "refused " ++ decimal configuration_refusal
 complaint_text (Unreadable path) = codes "cannot read " ++ path.now
 complaint_text Stopped = codes "stopped"
 
@@ -30,6 +32,8 @@ complaint_text Stopped = codes "stopped"
 abbrev pub status_of : Complaint → ℕ
 status_of (Line number fault) = 1
 status_of Malformed = 1
+status_of (Step line) = 1
+status_of Configuration = 1
 status_of (Unreadable path) = 1
 status_of Stopped = 3
 

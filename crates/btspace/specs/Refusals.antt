@@ -13,3 +13,11 @@ line_refusal (BadByte offset) = 6
 -- of digits that are not those of a tuple
 abbrev pub malformed_refusal : ℕ
 malformed_refusal = 5
+
+-- of a step of a schedule that may not come
+abbrev pub step_refusal : ℕ
+step_refusal = 23
+
+-- of a text that is no configuration
+abbrev pub configuration_refusal : ℕ
+configuration_refusal = 25

@@ -5,12 +5,18 @@ ghost use Rattle.btspace.specs.Refusals.{line_refusal};
 ghost use Rattle.btspace.specs.Complaints.{status_of, OfLocal, OfShow};
 
 use crate::local::LocalFault;
+use crate::schedule::ScheduleFault;
 use crate::show::ShowFault;
 use std::fmt;
+use std::io;
 use tuple_text::LineFault;
 
 // The number of the refusal of bytes that are not those of a tuple.
 const MALFORMED: u8 = 5;
+
+// That of a step that may not come where it stands, and that of a configuration.
+const BAD_STEP: u8 = 23;
+const BAD_CONFIGURATION: u8 = 25;
 
 /// The number, from 1, of the refusal of a line.
 pub fn line_refusal(fault: LineFault) -> u8
@@ -32,6 +38,10 @@ pub enum Complaint<'a> {
     Line { number: u64, fault: LineFault },
     /// The digits are not those of a tuple.
     Malformed,
+    /// The step of this line, from 1, may not come.
+    Step { line: u64 },
+    /// The file is no configuration.
+    Configuration,
     /// The file can't be opened, or not be read to its end.
     Unreadable { path: &'a str },
     /// Memory ran out, or what was to be written can't be written.
@@ -61,12 +71,34 @@ impl<'a> Complaint<'a> {
         }
     }
 
+    pub fn of_schedule(fault: &ScheduleFault, path: &'a str) -> Complaint<'a> {
+        match fault {
+            ScheduleFault::Configuration => Complaint::Configuration,
+            ScheduleFault::Step { line } => Complaint::Step { line: *line },
+            ScheduleFault::Read(_) => Complaint::Unreadable { path },
+            ScheduleFault::NoMemory | ScheduleFault::Write(_) => Complaint::Stopped,
+        }
+    }
+
+    /// Of a file that can't be opened.
+    pub fn of_open(error: &io::Error, path: &'a str) -> Complaint<'a> {
+        if error.kind() == io::ErrorKind::OutOfMemory {
+            Complaint::Stopped
+        } else {
+            Complaint::Unreadable { path }
+        }
+    }
+
     /// The status that the program ends with: 1 for refused or unreadable input, 3 where it was stopped.
     pub fn status(&self) -> u8
         ensures { result ≡ status_of self.now }
     {
         match self {
-            Complaint::Line { .. } | Complaint::Malformed | Complaint::Unreadable { .. } => 1,
+            Complaint::Line { .. }
+            | Complaint::Malformed
+            | Complaint::Step { .. }
+            | Complaint::Configuration
+            | Complaint::Unreadable { .. } => 1,
             Complaint::Stopped => 3,
         }
     }
@@ -91,6 +123,14 @@ impl fmt::Display for Complaint<'_> {
             }
             Complaint::Malformed => {
                 let refusal = MALFORMED;
+                write!(f, "refused {refusal}")
+            }
+            Complaint::Step { line } => {
+                let refusal = BAD_STEP;
+                write!(f, "line {line}: refused {refusal}")
+            }
+            Complaint::Configuration => {
+                let refusal = BAD_CONFIGURATION;
                 write!(f, "refused {refusal}")
             }
             Complaint::Unreadable { path } => write!(f, "cannot read {path}"),

@@ -17,11 +17,14 @@ mod complaints;
 mod input;
 mod local;
 mod pieces;
+mod schedule;
 mod show;
 
 use command_line::{NoRequest, Request, read_words};
 use complaints::Complaint;
+use events::Config;
 use local::local;
+use schedule::{read_configuration, schedule};
 use show::show;
 use std::io::Read;
 use std::process::ExitCode;
@@ -49,6 +52,14 @@ fn act_on_words<R: Files + Env + Input + Print + Eprint + AllocGlobal>(rt: &R) -
     match read_words(rt, words.as_slice()) {
         Ok(Request::Local { script }) => run_script(rt, script),
         Ok(Request::Show { digits }) => print_tuple(rt, digits),
+        Ok(Request::Schedule {
+            config,
+            file,
+            is_traced,
+        }) => match configuration_at(rt, config) {
+            Ok(config) => run_schedule(rt, &config, file, is_traced),
+            Err(complaint) => complain(rt, complaint),
+        },
         Err(why) => end_words(rt, why),
     }
 }
@@ -57,23 +68,62 @@ fn run_script<R: Files + Input + Print + Eprint + AllocGlobal>(rt: &R, path: &st
     if path == STANDARD_INPUT {
         return run_lines(rt, rt.reader(), path);
     }
-    let file = match fs::open(rt, path) {
-        Ok(file) => file,
-        Err(error) => {
-            return if error.kind() == io::ErrorKind::OutOfMemory {
-                complain(rt, Complaint::Stopped)
-            } else {
-                complain(rt, Complaint::Unreadable { path })
-            };
-        }
-    };
-    run_lines(rt, file, path)
+    match fs::open(rt, path) {
+        Ok(file) => run_lines(rt, file, path),
+        Err(error) => complain(rt, Complaint::of_open(&error, path)),
+    }
 }
 
 fn run_lines<R: Print + Eprint + AllocGlobal, I: Read + Drop>(rt: &R, input: I, path: &str) -> u8 {
     match local(rt.alloc(), input, &mut io::writer(rt)) {
         Ok(()) => 0,
         Err(fault) => complain(rt, Complaint::of_local(&fault, path)),
+    }
+}
+
+fn configuration_at<'a, R: Files + Input + AllocGlobal>(
+    rt: &R,
+    path: &'a str,
+) -> Result<Config, Complaint<'a>> {
+    let config = if path == STANDARD_INPUT {
+        read_configuration(rt.alloc(), rt.reader())
+    } else {
+        match fs::open(rt, path) {
+            Ok(file) => read_configuration(rt.alloc(), file),
+            Err(error) => return Err(Complaint::of_open(&error, path)),
+        }
+    };
+    match config {
+        Ok(config) => Ok(config),
+        Err(fault) => Err(Complaint::of_schedule(&fault, path)),
+    }
+}
+
+fn run_schedule<R: Files + Input + Print + Eprint + AllocGlobal>(
+    rt: &R,
+    config: &Config,
+    path: &str,
+    is_traced: bool,
+) -> u8 {
+    if path == STANDARD_INPUT {
+        return run_steps(rt, config, rt.reader(), path, is_traced);
+    }
+    match fs::open(rt, path) {
+        Ok(file) => run_steps(rt, config, file, path, is_traced),
+        Err(error) => complain(rt, Complaint::of_open(&error, path)),
+    }
+}
+
+fn run_steps<R: Print + Eprint + AllocGlobal, I: Read + Drop>(
+    rt: &R,
+    config: &Config,
+    input: I,
+    path: &str,
+    is_traced: bool,
+) -> u8 {
+    match schedule(rt.alloc(), config, input, is_traced, &mut io::writer(rt)) {
+        Ok(()) => 0,
+        Err(fault) => complain(rt, Complaint::of_schedule(&fault, path)),
     }
 }
 

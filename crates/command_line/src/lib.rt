@@ -13,7 +13,7 @@ ghost use Rattle.std.specs.Prelude.{◌≡◌, ◌≢◌, ◌⊎◌};
 ghost use Rattle.clap.specs.Values.{kind_of};
 
 use clap::error::ErrorKind;
-use clap::{Arg, Command, Error};
+use clap::{Arg, ArgAction, ArgMatches, Command, Error};
 use std::alloc::{AllocError, Global};
 use std::convert::AsStr;
 
@@ -24,6 +24,13 @@ pub enum Request<'a> {
     Local { script: &'a str },
     /// The tuple of these digits is to be shown.
     Show { digits: &'a str },
+    /// The schedule at the second path is to be run in the configuration at the first, with each entry of its trace
+    /// printed, or without.
+    Schedule {
+        config: &'a str,
+        file: &'a str,
+        is_traced: bool,
+    },
 }
 
 /// Why there is no request.
@@ -54,37 +61,77 @@ fn request_of<'a, S: AsStr>(alloc: Global, words: &'a [S]) -> Result<Request<'a>
     let mut program = program(alloc)?;
     let matches = program.try_get_matches_from_mut(words)?;
     if let Some((name, given)) = matches.subcommand() {
-        if name == "local" {
-            if let Some(script) = given.get_str("SCRIPT") {
-                return Ok(Request::Local { script });
-            }
-        } else if let Some(digits) = given.get_str("HEX") {
-            return Ok(Request::Show { digits });
+        if let Some(request) = request_in(name, given) {
+            return Ok(request);
         }
     }
     Err(program.error(ErrorKind::MissingSubcommand, "a subcommand is missing")?)
 }
 
+// The request of a subcommand, whose arguments are required.
+fn request_in<'a>(name: &str, given: &ArgMatches<'a>) -> Option<Request<'a>> {
+    if name == "local" {
+        Some(Request::Local {
+            script: given.get_str("SCRIPT")?,
+        })
+    } else if name == "show" {
+        Some(Request::Show {
+            digits: given.get_str("HEX")?,
+        })
+    } else {
+        Some(Request::Schedule {
+            config: given.get_str("CONFIG")?,
+            file: given.get_str("FILE")?,
+            is_traced: given.get_flag("trace"),
+        })
+    }
+}
+
 fn program<'a>(alloc: Global) -> Result<Command<'a>, AllocError> {
-    let script = Arg::new(alloc, "SCRIPT")
-        .required(true)
-        .help("The file of the script, a line for each operation");
-    let local = Command::new(alloc, "local")
-        .about("Runs a script on a space of its own and prints a result line for each operation")
-        .arg(script)?;
-    let digits = Arg::new(alloc, "HEX")
-        .required(true)
-        .help("The bytes of a tuple, two hexadecimal digits a byte");
-    let show = Command::new(alloc, "show")
-        .about("Prints the tuple that is encoded by these bytes")
-        .arg(digits)?;
     Command::new(alloc, "btspace")
         .version("0.1.0")
         .about("A tuple space")
         .subcommand_required(true)
         .disable_help_subcommand(true)
-        .subcommand(local)?
-        .subcommand(show)
+        .subcommand(local(alloc)?)?
+        .subcommand(schedule(alloc)?)?
+        .subcommand(show(alloc)?)
+}
+
+fn local<'a>(alloc: Global) -> Result<Command<'a>, AllocError> {
+    let script = Arg::new(alloc, "SCRIPT")
+        .required(true)
+        .help("The file of the script, a line for each operation");
+    Command::new(alloc, "local")
+        .about("Runs a script on a space of its own and prints a result line for each operation")
+        .arg(script)
+}
+
+fn schedule<'a>(alloc: Global) -> Result<Command<'a>, AllocError> {
+    let config = Arg::new(alloc, "CONFIG")
+        .required(true)
+        .help("The file of the configuration, in TOML");
+    let file = Arg::new(alloc, "FILE")
+        .required(true)
+        .help("The file of the schedule, a line for each step");
+    let trace = Arg::new(alloc, "trace")
+        .long("trace")
+        .action(ArgAction::SetTrue)
+        .help("Print the entries of the trace before the report, a line each");
+    Command::new(alloc, "schedule")
+        .about("Runs a schedule in a world of replicas and clients and prints what was accepted")
+        .arg(trace)?
+        .arg(config)?
+        .arg(file)
+}
+
+fn show<'a>(alloc: Global) -> Result<Command<'a>, AllocError> {
+    let digits = Arg::new(alloc, "HEX")
+        .required(true)
+        .help("The bytes of a tuple, two hexadecimal digits a byte");
+    Command::new(alloc, "show")
+        .about("Prints the tuple that is encoded by these bytes")
+        .arg(digits)
 }
 
 // Help and the version go to standard output, and what is wrong to standard error.
