@@ -7,8 +7,7 @@ ghost use Rattle.btspace.specs.Complaints.{status_of, OfLocal, OfShow};
 use crate::local::LocalFault;
 use crate::schedule::ScheduleFault;
 use crate::show::ShowFault;
-use std::fmt;
-use std::io;
+use std::{fmt, io};
 use tuple_text::LineFault;
 
 // The number of the refusal of bytes that are not those of a tuple.
@@ -16,6 +15,7 @@ const MALFORMED: u8 = 5;
 
 // That of a step that may not come where it stands, and that of a configuration.
 const BAD_STEP: u8 = 23;
+
 const BAD_CONFIGURATION: u8 = 25;
 
 /// The number, from 1, of the refusal of a line.

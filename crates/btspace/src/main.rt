@@ -50,17 +50,20 @@ fn act_on_words<R: Files + Env + Input + Print + Eprint + AllocGlobal>(rt: &R) -
         Err(_) => return complain(rt, Complaint::Stopped),
     };
     match read_words(rt, words.as_slice()) {
-        Ok(Request::Local { script }) => run_script(rt, script),
-        Ok(Request::Show { digits }) => print_tuple(rt, digits),
-        Ok(Request::Schedule {
+        Ok(request) => act_on(rt, request),
+        Err(why) => end_words(rt, why),
+    }
+}
+
+fn act_on<R: Files + Input + Print + Eprint + AllocGlobal>(rt: &R, request: Request<'_>) -> u8 {
+    match request {
+        Request::Local { script } => run_script(rt, script),
+        Request::Show { digits } => print_tuple(rt, digits),
+        Request::Schedule {
             config,
             file,
             is_traced,
-        }) => match configuration_at(rt, config) {
-            Ok(config) => run_schedule(rt, &config, file, is_traced),
-            Err(complaint) => complain(rt, complaint),
-        },
-        Err(why) => end_words(rt, why),
+        } => run_configured(rt, config, file, is_traced),
     }
 }
 
@@ -78,6 +81,19 @@ fn run_lines<R: Print + Eprint + AllocGlobal, I: Read + Drop>(rt: &R, input: I, 
     match local(rt.alloc(), input, &mut io::writer(rt)) {
         Ok(()) => 0,
         Err(fault) => complain(rt, Complaint::of_local(&fault, path)),
+    }
+}
+
+// The configuration is read and judged before the schedule is looked at.
+fn run_configured<R: Files + Input + Print + Eprint + AllocGlobal>(
+    rt: &R,
+    config: &str,
+    file: &str,
+    is_traced: bool,
+) -> u8 {
+    match configuration_at(rt, config) {
+        Ok(config) => run_schedule(rt, &config, file, is_traced),
+        Err(complaint) => complain(rt, complaint),
     }
 }
 

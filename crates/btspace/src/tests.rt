@@ -1,6 +1,7 @@
 //! Worked scripts and digits.
 
 mod rows;
+mod schedules;
 mod turns;
 mod words;
 

@@ -96,16 +96,24 @@ fn answers(rt: HostRuntime) {
 // The type bytes of a request, a pre-prepare, a prepare, a commit and a reply.
 const KINDS: [u8; 5] = [0x41, 0x42, 0x43, 0x44, REPLY];
 
-// The numbers of the frames of this kind and who sent them, the last one first.
-fn frames_of(alloc: Global, report: &Report, kind: u8) -> Result<Vec<(u64, Party)>, NoMemory> {
+// Who sent each frame, and its type byte.
+fn sent_kinds(alloc: Global, report: &Report) -> Result<Vec<(Party, Option<u8>)>, NoMemory> {
     let mut found = Vec::new(alloc);
-    let mut number = 0;
     for entry in report.trace.as_slice() {
         if let Some((party, frame)) = sent(entry) {
-            if kind_of(frame) == Some(kind) {
-                found.push((number, party))?;
-            }
-            number += 1;
+            found.push((party, kind_of(frame)))?;
+        }
+    }
+    Ok(found)
+}
+
+// The numbers of the frames of this kind and who sent them, the last one first.
+fn frames_of(alloc: Global, report: &Report, kind: u8) -> Result<Vec<(u64, Party)>, NoMemory> {
+    let all = sent_kinds(alloc, report)?;
+    let mut found = Vec::new(alloc);
+    for (number, (party, sent)) in all.iter().enumerate() {
+        if *sent == Some(kind) {
+            found.push((number as u64, *party))?;
         }
     }
     found.reverse();

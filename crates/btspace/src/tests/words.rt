@@ -80,7 +80,7 @@ struct Row {
     errors: &'static str,
 }
 
-const ROWS: [Row; 6] = [
+const ROWS: [Row; 7] = [
     Row {
         words: &["btspace", "--help"],
         why: NoRequest::Shown,
@@ -89,8 +89,9 @@ const ROWS: [Row; 6] = [
 Usage: btspace <COMMAND>
 
 Commands:
-  local  Runs a script on a space of its own and prints a result line for each operation
-  show   Prints the tuple that is encoded by these bytes
+  local     Runs a script on a space of its own and prints a result line for each operation
+  schedule  Runs a schedule in a world of replicas and clients and prints what was accepted
+  show      Prints the tuple that is encoded by these bytes
 
 Options:
   -h, --help     Print help
@@ -124,7 +125,7 @@ Options:
         why: NoRequest::Wrong,
         output: "",
         errors: "error: 'btspace' requires a subcommand but one was not provided
-  [subcommands: local, show]
+  [subcommands: local, schedule, show]
 
 Usage: btspace <COMMAND>
 
@@ -139,6 +140,18 @@ For more information, try '--help'.
   <HEX>
 
 Usage: btspace show <HEX>
+
+For more information, try '--help'.
+",
+    },
+    Row {
+        words: &["btspace", "schedule", "a.toml"],
+        why: NoRequest::Wrong,
+        output: "",
+        errors: "error: the following required arguments were not provided:
+  <FILE>
+
+Usage: btspace schedule <CONFIG> <FILE>
 
 For more information, try '--help'.
 ",
@@ -185,4 +198,18 @@ fn reads_words(rt: HostRuntime) {
     assert!(rt; asks_for(rt.alloc(), &["btspace", "local", "a.bts"], local));
     let show = Request::Show { digits: "00" };
     assert!(rt; asks_for(rt.alloc(), &["btspace", "show", "00"], show));
+    let schedule = Request::Schedule {
+        config: "a.toml",
+        file: "b",
+        is_traced: false,
+    };
+    let words = ["btspace", "schedule", "a.toml", "b"];
+    assert!(rt; asks_for(rt.alloc(), &words, schedule));
+    let traced = Request::Schedule {
+        config: "a.toml",
+        file: "b",
+        is_traced: true,
+    };
+    let words = ["btspace", "schedule", "a.toml", "b", "--trace"];
+    assert!(rt; asks_for(rt.alloc(), &words, traced));
 }
