@@ -21,9 +21,13 @@ use std::convert::AsStr;
 #[derive(Clone, Copy, Debug, PartialEq, Eq)]
 pub enum Request<'a> {
     /// The script at this path is to be run.
-    Local { script: &'a str },
+    Local {
+        script: &'a str,
+    },
     /// The tuple of these digits is to be shown.
-    Show { digits: &'a str },
+    Show {
+        digits: &'a str,
+    },
     /// The schedule at the second path is to be run in the configuration at the first, with each entry of its trace
     /// printed, or without.
     Schedule {

@@ -7,7 +7,7 @@ mod dropped;
 #[cfg(test)]
 mod frames;
 #[cfg(test)]
-mod ordering;
+mod phases;
 #[cfg(test)]
 mod refused;
 #[cfg(test)]

@@ -2,7 +2,7 @@
 //! then the replica stops in that event, or gives what it gives.
 
 use crate::frames::frame_of;
-use crate::ordering::{AGAIN_AT_BACKUP, AGAIN_AT_PRIMARY, AT_BACKUP, AT_PRIMARY, Row};
+use crate::phases::{AGAIN_AT_BACKUP, AGAIN_AT_PRIMARY, AT_BACKUP, AT_PRIMARY, Row};
 use crate::replicas::{are_given, config, new_replica};
 use events::{Config, Outputs, Stop};
 use replica::{Event, Replica};
