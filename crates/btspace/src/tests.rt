@@ -1,5 +1,6 @@
 //! Worked scripts and digits.
 
+mod checkpoints;
 mod rows;
 mod schedules;
 mod turns;

@@ -1,3 +1,5 @@
 pub mod Calling
 pub mod Leading
 pub mod Renewing
+pub mod Restoring
+pub mod Measuring

@@ -57,7 +57,7 @@ renewed_page st touched ps p e h = record {
 
 -- ---- the pages of a state
 
-all_of : (f : ℕ → List ℕ) (n k : ℕ) (xs : List (List ℕ)) → length xs ≡ n → ((i : ℕ) → i < n → get_or xs i [] ≡ f (k + i)) → xs ≡ map f (range_with_len k n)
+pub all_of : (f : ℕ → List ℕ) (n k : ℕ) (xs : List (List ℕ)) → length xs ≡ n → ((i : ℕ) → i < n → get_or xs i [] ≡ f (k + i)) → xs ≡ map f (range_with_len k n)
 all_of f zero k [] l h = refl
 all_of f zero k (x ∷ xs) l h = absurd (omega arith)
 all_of f (suc n) k [] l h = absurd (omega arith)
@@ -75,19 +75,19 @@ long_of : (f : ℕ → List ℕ) (n k : ℕ) → length (map f (range_with_len k
 long_of f zero k = refl
 long_of f (suc n) k = ap suc (long_of f n (k + 1))
 
-page_there : (st : State) (i : ℕ) → i < 1024 → get_or (pages_of st) i [] ≡ page_text st i
+pub page_there : (st : State) (i : ℕ) → i < 1024 → get_or (pages_of st) i [] ≡ page_text st i
 unfolding all_pages
 page_there st i l = each_of (page_text st) 1024 0 i l ∙ ap (page_text st) (let e : 0 + i ≡ i = omega arith in e)
 
-pages_long : (st : State) → length (pages_of st) ≡ 1024
+pub pages_long : (st : State) → length (pages_of st) ≡ 1024
 unfolding all_pages
 pages_long st = long_of (page_text st) 1024 0
 
-tuples_at : (st : State) (i : ℕ) → i < 256 → page_text st i ≡ tuple_page st.space i
+pub tuples_at : (st : State) (i : ℕ) → i < 256 → page_text st i ≡ tuple_page st.space i
 unfolding page_text
 tuples_at st i l = rw (lt-ltb i 256 l) refl
 
-replies_at : (st : State) (i : ℕ) → i < 256 → page_text st (256 + i) ≡ reply_page st.replies i
+pub replies_at : (st : State) (i : ℕ) → i < 256 → page_text st (256 + i) ≡ reply_page st.replies i
 unfolding page_text
 replies_at st i l =
     let a : nat_lt (256 + i) 256 ≡ false = le-ltb (256 + i) 256 (omega arith) in
@@ -95,7 +95,7 @@ replies_at st i l =
     let e : 256 + i - 256 ≡ i = omega arith in
     rw (a, b) (ap (λ (j : ℕ). reply_text (kept_of st j)) e)
 
-rest_at : (st : State) (i : ℕ) → 512 < i → page_text st i ≡ []
+pub rest_at : (st : State) (i : ℕ) → 512 < i → page_text st i ≡ []
 unfolding page_text
 rest_at st i l =
     let a : nat_lt i 256 ≡ false = le-ltb i 256 (omega arith) in

@@ -1,23 +1,28 @@
 //! The executed state.
 
-ghost use Rattle.std.specs.Prelude.{◌≡◌, ◌↔◌, ◌+◌, ◌^◌, ◌<◌, ◌≤◌, false, map, option_map, IfOk};
+ghost use Rattle.std.specs.Prelude.{◌≡◌, ◌↔◌, ◌+◌, ◌^◌, ◌<◌, ◌≤◌, true, false, map, option_map, IfOk};
 ghost use Rattle.tuple_codec.specs.OperationView.{operation_of, outcome_of};
 ghost use Rattle.space.specs.Applying.{outcome, is_read_only};
 ghost use Rattle.space.specs.Births.{WantsMemory};
 ghost use Rattle.reply_cache.specs.ReplyView as reply_view;
 ghost use Rattle.protocol.specs.Replica.State.{IsState, opening, tuples, kept_of, last_time, pages_of, root_of};
 ghost use Rattle.execution.specs.Executed.{Executes, told};
+ghost use Rattle.execution.specs.Installing.{HasPagesAt, NoneFalls, NoneReplaces};
+ghost use Rattle.execution.specs.contracts.executed.Executed.{the_row};
+ghost use Rattle.std.specs.Borrow.{sem};
+ghost use Rattle.std.specs.Io.BufRead.{Rests};
 
+use crate::installing::{none_falls, read_pages};
 use crate::pages::renew;
 use crate::replies::WatchedReplies;
 use crate::running::{Ran, run_frames};
 use partition_tree::{Snapshot, Tree};
-use reply_cache::Reply;
+use reply_cache::{Reply, ReplyCache};
 use space::{PeekFault, Space, Watched};
 use std::alloc::{Allocator, Global};
 use std::marker::Model;
 use terms::{ClientId, Digest, NoMemory, Number, Timestamp};
-use tuple_codec::{Answer, Op};
+use tuple_codec::{Answer, Bad, Op};
 use wire::requests;
 
 /// The executed state of a replica, in a configuration of up to 256 clients.
@@ -58,7 +63,7 @@ impl Executed {
         Ok(Executed {
             alloc,
             space: Watched::of(Space::new(alloc)),
-            replies: WatchedReplies::new(alloc),
+            replies: WatchedReplies::of(ReplyCache::new(alloc)),
             number: Number(0),
             clients,
             tree,
@@ -145,11 +150,39 @@ impl Executed {
         Ok(ran)
     }
 
-    /// The pages of the state, which later batches leave as they are. Those alone are written and hashed that requests
-    /// may have changed since the last checkpoint. NoMemory where memory runs out.
-    pub fn checkpoint(&mut self) -> Result<Snapshot, NoMemory>
-        ensures pages { IfOk result (λ pages. pages ≡ pages_of self.old.state) }
-        ensures same { self.new ≡ self.old }
+    /// Puts the state of this number that has these pages in the place of the one that is there, and says whether it
+    /// did: there is such a state, and no client's last timestamp falls, so that no request that ran is new again. The
+    /// tree is kept, so that the next checkpoint writes those pages alone that later requests touch. Where it says false
+    /// nothing changes, nor where memory runs out (NoMemory).
+    pub fn install(&mut self, number: Number, pages: Tree) -> Result<bool, NoMemory>
+        ensures installed { (result ≡ Ok true) → HasPagesAt number.0 pages self.new.state }
+        ensures rises { (result ≡ Ok true) → NoneFalls self.old.state self.new.state }
+        ensures none { (result ≡ Ok false) → NoneReplaces self.old.state number.0 pages }
+        ensures same { ¬ (result ≡ Ok true) → self.new ≡ self.old }
+        ensures clients { self.new.clients ≡ self.old.clients }
+    {
+        let (space, replies) = match read_pages(self.alloc, number, &pages) {
+            Ok(state) => state,
+            Err(Bad::Malformed) => return Ok(false),
+            Err(Bad::NoMemory) => return Err(NoMemory),
+        };
+        if !none_falls(self.replies.replies(), &replies) {
+            return Ok(false);
+        }
+        self.space = Watched::of(space);
+        self.space.untouch();
+        self.replies = WatchedReplies::of(replies);
+        self.replies.untouch();
+        self.number = number;
+        self.tree = pages;
+        Ok(true)
+    }
+
+    /// The tree over the pages of the state. Those pages alone are written and hashed that requests may have changed
+    /// since the last call. NoMemory where memory runs out.
+    pub fn pages(&mut self) -> Result<&Tree, NoMemory>
+        ensures pages { IfOk result (λ pages. pages.now ≡ pages_of self.old.state) }
+        ensures* same { sem 𝓛 (Rests the_row self.entry (λ new. new ≡ self.old)) }
     {
         renew(
             self.alloc,
@@ -158,14 +191,23 @@ impl Executed {
             &mut self.replies,
             self.number,
         )?;
-        self.tree.snapshot()
+        Ok(&self.tree)
     }
 
-    /// The root of the tree over the pages of the state, by a checkpoint that isn't kept. NoMemory where memory runs out.
+    /// The pages of the state, as by [`Executed::pages`], which later batches leave as they are. NoMemory where memory
+    /// runs out.
+    pub fn checkpoint(&mut self) -> Result<Snapshot, NoMemory>
+        ensures pages { IfOk result (λ pages. pages ≡ pages_of self.old.state) }
+        ensures same { self.new ≡ self.old }
+    {
+        self.pages()?.snapshot()
+    }
+
+    /// The root of the tree over the pages of the state. NoMemory where memory runs out.
     pub fn root(&mut self) -> Result<Digest, NoMemory>
         ensures root { IfOk result (λ root. root ≡ root_of self.old.state) }
         ensures same { self.new ≡ self.old }
     {
-        Ok(self.checkpoint()?.root())
+        Ok(self.pages()?.root())
     }
 }

@@ -2,7 +2,7 @@
 
 ghost use Rattle.std.specs.Prelude.{◌≡◌, ℕ, ◌<◌, ◌≤◌, true, false, OnOk, OnErr};
 ghost use Rattle.tuple_codec.specs.OperationView.{outcome_of};
-ghost use Rattle.reply_cache.specs.Replies.{no_replies, with_reply, AreReplies};
+ghost use Rattle.reply_cache.specs.Replies.{with_reply, AreReplies};
 ghost use Rattle.execution.specs.Touching.{is_touched, TouchesReplies};
 
 use reply_cache::{CLIENTS, ReplyCache};
@@ -29,14 +29,13 @@ impl Model for WatchedReplies {
 }
 
 impl WatchedReplies {
-    /// No replies, all of them touched. Takes no memory.
-    pub fn new(alloc: Global) -> WatchedReplies
-        ensures replies { result.replies ≡ no_replies }
-        ensures valid { AreReplies result.replies }
+    /// Replies, all of them touched. Takes no memory.
+    pub fn of(replies: ReplyCache) -> WatchedReplies
+        ensures replies { result.replies ≡ replies }
         ensures all { (client : ℕ) → client < 256 → is_touched result client ≡ true }
     {
         WatchedReplies {
-            replies: ReplyCache::new(alloc),
+            replies,
             touched: [true; CLIENTS],
         }
     }

@@ -1,8 +1,10 @@
-//! Tests of a replica's executed state (`execution`): a batch that comes twice, requests of no client, and the root of
-//! the state, worked out outside.
+//! Tests of a replica's executed state (`execution`): a batch that comes twice, requests of no client, the root of the
+//! state, worked out outside, and states that are installed from their pages.
 #![tactic(auto)]
 
 #[cfg(test)]
 mod batches;
 #[cfg(test)]
 mod frames;
+#[cfg(test)]
+mod states;

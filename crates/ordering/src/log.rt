@@ -303,7 +303,8 @@ impl Log {
         self.checkpoints[sender.0 as usize].root_at(number)
     }
 
-    fn has_checkpoint(&self, sender: ReplicaId, entry: &CheckpointEntry) -> bool
+    /// Whether a replica's checkpoints have one of this number and root.
+    pub fn has_checkpoint(&self, sender: ReplicaId, entry: &CheckpointEntry) -> bool
         requires { sender.0 < spec.replicas self.now }
         ensures { result ≡ has_checkpoint self.now sender entry.now }
     {

@@ -1,3 +1,4 @@
 pub mod Others
 pub mod Hearings
 pub mod Posting
+pub mod Digesting

@@ -1,10 +1,29 @@
 //! What is known of bytes.
 
 ghost use Rattle.tuple_tree.specs.Values.{AreBytes};
+ghost use Rattle.wire.specs.Lists.{Each};
+ghost use Rattle.wire.specs.Spelling.{IsDigest};
+
+use terms::Digest;
 
 /// Each of the bytes that the program holds is one.
 pub(crate) fn note_bytes(bytes: &[u8])
     ensures { AreBytes bytes.now }
 {
     let _len = bytes.len();
+}
+
+/// Each of the digests that the program holds is one.
+pub(crate) fn note_digests(digests: &[Digest])
+    ensures { Each IsDigest digests.now }
+{
+    for digest in digests {
+        note_digest(digest);
+    }
+}
+
+fn note_digest(digest: &Digest)
+    ensures { IsDigest digest.now }
+{
+    let _first = digest[0];
 }

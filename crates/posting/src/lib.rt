@@ -21,8 +21,8 @@ mod signing_frames;
 
 pub use endpoint::Endpoint;
 pub use messages::{
-    checkpoint_message, commit_message, fetch_message, page_message, pre_prepare_message,
-    prepare_message, reply_message,
+    checkpoint_message, commit_message, fetch_message, meta_message, page_message,
+    pre_prepare_message, prepare_message, reply_message,
 };
 pub use post_fault::PostFault;
 pub use sealing::seal_for_one;

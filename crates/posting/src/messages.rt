@@ -1,17 +1,17 @@
 //! Messages that a replica says, each with what makes it one that may be said.
 
-ghost use Rattle.std.specs.Prelude.{◌≡◌, ◌≤◌, false};
+ghost use Rattle.std.specs.Prelude.{◌≡◌, ◌≤◌, false, IfOk, IsTrue};
 ghost use Rattle.tuple_codec.specs.OperationView.{outcome_of};
-ghost use Rattle.wire.specs.Messages.{checkpoint, commit, fetch, page, pre_prepare, prepare};
-ghost use Rattle.wire.specs.Spelling.{IsBatch, IsMessage, is_signed, last_index};
+ghost use Rattle.wire.specs.Messages.{checkpoint, commit, fetch, meta, page, pre_prepare, prepare};
+ghost use Rattle.wire.specs.Spelling.{IsBatch, IsMessage, has_children, is_signed, last_index};
 ghost use Rattle.wire.specs.Views.{message_data};
 ghost use Rattle.posting.specs.Replies.{IsReply};
 
-use crate::bytes::note_bytes;
+use crate::bytes::{note_bytes, note_digests};
 use std::alloc::Global;
-use terms::{ClientId, Digest, Level, Mode, Number, Timestamp, View};
+use terms::{ClientId, Digest, Level, Mode, NoMemory, Number, Timestamp, View};
 use tuple_codec::Answer;
-use wire::{Batch, Checkpoint, Commit, Fetch, Message, Page, PrePrepare, Prepare, Reply};
+use wire::{Batch, Checkpoint, Commit, Fetch, Message, Meta, Page, PrePrepare, Prepare, Reply};
 
 /// The pre-prepare of a batch of 1 to 16 requests.
 pub fn pre_prepare_message(view: View, number: Number, batch: Batch) -> Message
@@ -97,6 +97,31 @@ pub fn fetch_message(number: Number, level: Level, index: u16) -> Message
         level,
         index,
     })
+}
+
+/// The digests of the 32 children of a part of the state of this number: at the root 0 is the index, and at an inner
+/// part up to 31. NoMemory where memory runs out.
+pub fn meta_message(
+    alloc: Global,
+    number: Number,
+    level: Level,
+    index: u16,
+    digests: &[Digest; 32],
+) -> Result<Message, NoMemory>
+    requires part { IsTrue (has_children level) }
+    requires index { index ≤ last_index level }
+    ensures says { IfOk result (λ m. message_data m ≡ meta number.0 level index digests.now) }
+    ensures may { IfOk result (λ m. IsMessage (message_data m)) }
+    ensures unsigned { IfOk result (λ m. is_signed (message_data m) ≡ false) }
+{
+    note_digests(digests);
+    let digests = Vec::from_slice(alloc, digests)?;
+    Ok(Message::Meta(Meta {
+        number,
+        level,
+        index,
+        digests,
+    }))
 }
 
 /// The text of a page, 0 to 1,023, of the state of this number.

@@ -9,8 +9,8 @@ use crate::endpoints::{DIGEST, new_endpoint, new_ring, view_change};
 use events::Output;
 use hex::FromHex;
 use posting::{
-    Endpoint, PostFault, checkpoint_message, commit_message, fetch_message, page_message,
-    prepare_message, reply_message, seal_for_one,
+    Endpoint, PostFault, checkpoint_message, commit_message, fetch_message, meta_message,
+    page_message, prepare_message, reply_message, seal_for_one,
 };
 use sha2::{Digest, Sha256};
 use std::alloc::Global;
@@ -28,6 +28,10 @@ const COMMIT: &str = "52676b9c7df285ce26a6bb864c5d6a74861a0a11c3145336a678c1fdad
 const CHECKPOINT: &str = "8d18b29508b9114afb39e40782bec47cb55397c729245059bd0e825cbffd3167";
 
 const FETCH: &str = "16718046eec6a3daa0963d7c3f7a77ae0bb88f330e809dfdd7c8ad5bf6a5ad5f";
+
+const META_OF_ROOT: &str = "ac1c6f1726a0a2a9fba12f9f49b14a0f88e350ea248feeb71df85660af4469e3";
+
+const META_OF_PART: &str = "05daa8fb9927f083660dae6e2df19cb056a60d64917b7b0e886d267337664bb9";
 
 const PAGE: &str = "476653c54668fbec82905bb4350c30b1679816518889e0612aac3f465cd35715";
 
@@ -85,6 +89,25 @@ fn fetch_goes_out(endpoint: &mut Endpoint, alloc: Global) -> Result<bool, Fail> 
     goes_out(endpoint, alloc, fetch, FETCH)
 }
 
+// The digest i has the byte i 32 times.
+fn digests() -> [[u8; 32]; 32] {
+    let mut digests = [DIGEST; 32];
+    for i in 0..32 {
+        digests[i] = [i as u8; 32];
+    }
+    digests
+}
+
+// At the root, and at the last inner part.
+fn metas_go_out(endpoint: &mut Endpoint, alloc: Global) -> Result<bool, Fail> {
+    let root = meta_message(alloc, Number(16), Level::Root, 0, &digests())?;
+    let part = meta_message(alloc, Number(16), Level::Inner, 31, &digests())?;
+    Ok(
+        goes_out(endpoint, alloc, root, META_OF_ROOT)?
+            && goes_out(endpoint, alloc, part, META_OF_PART)?,
+    )
+}
+
 fn page_goes_out(endpoint: &mut Endpoint, alloc: Global) -> Result<bool, Fail> {
     let page = page_message(Number(16), 1023, b"text".to_vec(alloc)?);
     goes_out(endpoint, alloc, page, PAGE)
@@ -96,6 +119,7 @@ fn messages_for_all_others(rt: HostRuntime) -> Result<(), Fail> {
     assert!(rt; endpoint.me().0 == 0);
     assert!(rt; votes_go_out(&mut endpoint, rt.alloc())?);
     assert!(rt; fetch_goes_out(&mut endpoint, rt.alloc())?);
+    assert!(rt; metas_go_out(&mut endpoint, rt.alloc())?);
     assert!(rt; page_goes_out(&mut endpoint, rt.alloc())?);
     Ok(())
 }

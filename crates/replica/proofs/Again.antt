@@ -1,57 +1,99 @@
 -- What is said again fits, and so does the primary's own batch.
-use Rattle.std.proofs.Common.{◌≡◌, ℕ, ◌≤◌, Bool, true, false, not, ◌==◌, List, [], ◌∷◌, length, map, Bor, Some, refl, sym, ap, ◌∙◌, subst, arith}
+use Rattle.std.proofs.Common.{◌≡◌, ℕ, ◌+◌, ◌≤◌, Bool, true, false, not, ◌==◌, List, [], ◌∷◌, length, map, take, drop, Bor, Some, refl, sym, ap, ◌∙◌, subst, arith}
+use Rattle.std.specs.Prelude.{is_some}
 use Rattle.tuple_tree.specs.Values.{AreBytes}
 use Rattle.wire.specs.Lists.{Each}
-use Rattle.wire.specs.Messages.{pre_prepare as PrePrepare, prepare as Prepare, commit as Commit}
+use Rattle.wire.specs.Messages.{MessageData as Message, CheckpointEntryData as CheckpointEntry, pre_prepare as PrePrepare, prepare as Prepare, commit as Commit, checkpoint as Checkpoint}
 use Rattle.wire.specs.Spelling.{IsBatch, IsCarried, is_ordered_request, pieces_spelling}
 use Rattle.wire.specs.Words.{requests_of}
 use Rattle.wire.proofs.Telling.{reads_batches}
+use Rattle.signing.specs.Heard.{heard}
 use Rattle.ordering.specs.Log as logs
-use Rattle.ordering.specs.Log.{with_batch}
-use Rattle.ordering.specs.Keeping.{IsLog}
-use Rattle.ordering.proofs.Reading.{batches_are_logged}
+use Rattle.ordering.specs.Log.{LogData, with_batch}
 use Rattle.events.specs.declared.output.Output.{Output}
+use Rattle.protocol.specs.System.Configuration.{Configuration, members}
+use Rattle.protocol.specs.System.Trace.{Entry, Has}
+use Rattle.protocol.specs.System.Trace.Entry.{Sent}
+use Rattle.protocol.specs.Replica.Certificates.{are_genuine, logged}
+use Rattle.protocol.specs.Replica.RightReplica.{others}
+use Rattle.protocol.proofs.Words.Elements.{all_of_each}
+use Rattle.replica_histories.specs.Desk.{Desk}
 use Rattle.replica_histories.specs.Events as events
+use Rattle.replica_histories.specs.Events.{Start, behind}
+use Rattle.replica_histories.specs.Logs.{FitsLog}
+use Rattle.replica_histories.specs.Outputs.{MayNumber}
+use Rattle.replica_histories.proofs.Words.{passed, primary_same}
 use Rattle.replica_histories.proofs.Giving.{batches_fit}
-use Rattle.replica_histories.proofs.Again.{prepares_go_again, commits_go_again, batches_go_again}
+use Rattle.replica_histories.proofs.Again.{prepares_go_again, commits_go_again, batches_go_again, checkpoints_go_again}
+use Rattle.replica_histories.proofs.NumbersKept.{numbers_stay, batches_keep_numbers}
+use Rattle.replica_histories.proofs.NumbersGiven.{numbers_fit}
 use Rattle.replica.specs.State.{OrdererData, IsOrderer}
 use Rattle.replica.specs.Desks.{given}
 use Rattle.replica.specs.Going.{GoesOn}
 use Rattle.replica.specs.Saying.{Says, SaysAgain, SaysBatch}
+use Rattle.replica.proofs.Parties.{same_log}
+use Rattle.replica.proofs.Staying.{sent_beside, fits_on, fits_behind}
 use Rattle.replica.proofs.Voting.{said_in, goes_twice}
 
 pub nothing_again : (o : OrdererData) (outs : List Output) → SaysAgain o outs o outs
-nothing_again o outs = record { goes = λ c s desk due known f. f; same = refl }
+nothing_again o outs = record { goes = λ c s desk count due known f. f; same = refl }
 
 pub prepare_again : (number : ℕ) (digest : List ℕ) (o new : OrdererData) (before after : List Output) → IsOrderer o → logs.prepare_of o.log number o.log.me ≡ Some digest
     → Says o (Prepare o.log.view number digest) before after → new ≡ o → SaysAgain o before new after
 prepare_again number digest o new before after own has says is = subst (λ (x : OrdererData). SaysAgain o before x after) (sym is) (record {
-  goes = λ c s desk due known f.
+  goes = λ c s desk count due known f.
       let k = said_in c o (Prepare o.log.view number digest) before after known says in
       let h = subst (λ m. logs.prepare_of o.log number m ≡ Some digest) own.0 has in
-      subst (λ es. events.Fits c o.endpoint.me s desk o.log due es) (sym k.is)
-      (prepares_go_again c o.endpoint.me s desk o.log due (given o.endpoint.me before) number digest k.bytes h k.posted f);
+      fits_on c o.endpoint.me s o o desk count due due before after (Sent o.endpoint.me k.bytes) k.is
+      (sent_beside c o.endpoint.me (Prepare o.log.view number digest) (others c o.endpoint.me) k.bytes (behind s (given o.endpoint.me before)) tt k.posted)
+      (same_log o.log) refl refl f
+      (prepares_go_again c o.endpoint.me s desk o.log due (given o.endpoint.me before) number digest k.bytes h k.posted f.fits);
   same = refl;
 })
 
 pub commit_again : (number : ℕ) (digest : List ℕ) (o new : OrdererData) (before after : List Output) → IsOrderer o → logs.commit_of o.log number o.log.me ≡ Some digest
     → Says o (Commit o.log.view number digest) before after → new ≡ o → SaysAgain o before new after
 commit_again number digest o new before after own has says is = subst (λ (x : OrdererData). SaysAgain o before x after) (sym is) (record {
-  goes = λ c s desk due known f.
+  goes = λ c s desk count due known f.
       let k = said_in c o (Commit o.log.view number digest) before after known says in
       let h = subst (λ m. logs.commit_of o.log number m ≡ Some digest) own.0 has in
-      subst (λ es. events.Fits c o.endpoint.me s desk o.log due es) (sym k.is)
-      (commits_go_again c o.endpoint.me s desk o.log due (given o.endpoint.me before) number digest k.bytes h k.posted f);
+      fits_on c o.endpoint.me s o o desk count due due before after (Sent o.endpoint.me k.bytes) k.is
+      (sent_beside c o.endpoint.me (Commit o.log.view number digest) (others c o.endpoint.me) k.bytes (behind s (given o.endpoint.me before)) tt k.posted)
+      (same_log o.log) refl refl f
+      (commits_go_again c o.endpoint.me s desk o.log due (given o.endpoint.me before) number digest k.bytes h k.posted f.fits);
   same = refl;
 })
+
+-- what stands in the log, the history has
+logged_here : (c : Configuration) (me : ℕ) (log : LogData) (history : List Entry) (number : ℕ) (text : List ℕ) → FitsLog c me log history → logs.logged_batch log number ≡ Some text
+    → logged c me history log.view number ≡ Some text
+logged_here c me log history number text f has = f.batches number (passed (logs.is_in_marks log number) (logs.row_of log number).batch text has).0 ∙ has
 
 pub batch_again : (number : ℕ) (text : List ℕ) (o new : OrdererData) (before after : List Output) → IsOrderer o → o.log.me ≡ logs.primary o.log o.log.view
     → logs.logged_batch o.log number ≡ Some text → Says o (PrePrepare o.log.view number text) before after → new ≡ o → SaysAgain o before new after
 batch_again number text o new before after own primary has says is = subst (λ (x : OrdererData). SaysAgain o before x after) (sym is) (record {
-  goes = λ c s desk due known f.
+  goes = λ c s desk count due known f.
       let k = said_in c o (PrePrepare o.log.view number text) before after known says in
-      subst (λ es. events.Fits c o.endpoint.me s desk o.log due es) (sym k.is)
-      (batches_go_again c o.endpoint.me s desk o.log due (given o.endpoint.me before) number text k.bytes (sym primary ∙ own.0) has k.posted f);
+      fits_behind c o.endpoint.me s o o desk desk count count due due before after (Sent o.endpoint.me k.bytes) k.is refl f
+      (batches_go_again c o.endpoint.me s desk o.log due (given o.endpoint.me before) number text k.bytes (sym primary ∙ own.0) has k.posted f.fits)
+      (λ first. numbers_stay c o.endpoint.me o.log.view o.used count desk.state desk.waiting (behind s (given o.endpoint.me before)) (Sent o.endpoint.me k.bytes)
+      (batches_keep_numbers c o.endpoint.me o.log.view number text k.bytes (behind s (given o.endpoint.me before)) k.posted.says (logged_here c o.endpoint.me o.log (behind s (given o.endpoint.me before)) number text f.fits.of_log has)).1
+      (f.numbers first));
+  same = refl;
+})
+
+-- the last checkpoint
+pub checkpoint_again : (entry : CheckpointEntry) (o new : OrdererData) (before after : List Output) → o.last_checkpoint ≡ Some entry
+    → Says o (Checkpoint entry.number entry.digest) before after → new ≡ o → SaysAgain o before new after
+checkpoint_again entry o new before after last says is = subst (λ (x : OrdererData). SaysAgain o before x after) (sym is) (record {
+  goes = λ c s desk count due known f.
+      let k = said_in c o (Checkpoint entry.number entry.digest) before after known says in
+      let past = behind s (given o.endpoint.me before) in
+      fits_on c o.endpoint.me s o o desk count due due before after (Sent o.endpoint.me k.bytes) k.is
+      (sent_beside c o.endpoint.me (Checkpoint entry.number entry.digest) (others c o.endpoint.me) k.bytes past tt k.posted)
+      (same_log o.log) refl refl f
+      (checkpoints_go_again c o.endpoint.me s desk o.log due (given o.endpoint.me before) entry.number entry.digest k.bytes
+      (f.said entry last) k.posted f.fits);
   same = refl;
 })
 
@@ -66,15 +108,25 @@ again_twice a b d x y z p q = record {
 pub requests_make_a_batch : (frames : List (List ℕ)) → 1 ≤ length frames → length frames ≤ 16 → Each (IsCarried is_ordered_request) frames → IsBatch 1 (pieces_spelling frames)
 requests_make_a_batch frames some few each = record { requests = frames; whole = refl; enough = some; few = few; each = each }
 
-pub says_batch : (number : ℕ) (text : List ℕ) (o new : OrdererData) (before after : List Output) → IsOrderer o → IsLog o.log → logs.is_in_marks o.log number ≡ true
+-- what is held is genuine
+held_are_genuine : (c : Configuration) (me : ℕ) (s : Start) (desk : Desk) (log : LogData) (due : List Message) (outputs : List Entry) (number : ℕ) (text : List ℕ) → events.Fits c me s desk log due outputs
+    → MayNumber c me desk log (behind s outputs) number text → are_genuine c me text ≡ true
+held_are_genuine c me s desk log due outputs number text f may =
+    all_of_each (λ frame. Has (λ x. x ≡ frame) desk.frames) (λ request. is_some (heard (members c) me request)) (λ frame k. (f.of_desk.frames frame k).1) (requests_of text) may.held
+
+pub says_batch : (number : ℕ) (text : List ℕ) (o new : OrdererData) (before after : List Output) → IsOrderer o
     → Says o (PrePrepare o.log.view number text) before after → new ≡ record o { log = with_batch o.log number text; used = number } → SaysBatch number text o before new after
-says_batch number text o new before after own log inside says is = subst (λ (x : OrdererData). SaysBatch number text o before x after) (sym is) (record {
+says_batch number text o new before after own says is = subst (λ (x : OrdererData). SaysBatch number text o before x after) (sym is) (record {
   new_is = refl;
-  logged = λ i. (batches_are_logged o.log i number 0 text log inside).0;
-  goes = λ c s desk due known may f.
+  goes = λ c s desk count most due known above may calls f.
       let k = said_in c o (PrePrepare o.log.view number text) before after known says in
-      subst (λ es. events.Fits c o.endpoint.me s desk (with_batch o.log number text) due es) (sym k.is)
-      (batches_fit c o.endpoint.me s desk o.log due (given o.endpoint.me before) number text k.bytes may k.posted f);
+      let past = given o.endpoint.me before in
+      let faults = f.fits.of_log.faults in
+      fits_behind c o.endpoint.me s o (record o { log = with_batch o.log number text; used = number }) desk desk count (count + length (take most (drop count desk.waiting))) due due before after
+      (Sent o.endpoint.me k.bytes) k.is refl f
+      (batches_fit c o.endpoint.me s desk o.log due past number text k.bytes may k.posted f.fits)
+      (λ first. (numbers_fit c o.endpoint.me o.log.view o.used count number most desk.state desk.waiting text k.bytes (behind s past)
+      (sym (primary_same c o.log o.log.view faults) ∙ may.own ∙ own.0) above (held_are_genuine c o.endpoint.me s desk o.log due past number text f.fits may) calls k.posted.says (f.numbers first)).1);
 })
 
 -- a text that has requests is a batch

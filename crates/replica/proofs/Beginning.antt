@@ -1,5 +1,5 @@
 -- An event that begins with bytes: what is dropped, and what the log takes.
-use Rattle.std.proofs.Common.{◌≡◌, ◌≢◌, ℕ, suc, ◌+◌, ◌*◌, ◌<◌, inl, inr, Bool, true, false, not, cond, ◌&&◌, ◌==◌, List, [], Option, Some, None, refl, sym, ap, ◌∙◌, subst, nat_lt, nat_le, ◌-◌, arith, eqb-true, ◌⊎◌}
+use Rattle.std.proofs.Common.{◌≡◌, ◌≢◌, ℕ, suc, ◌+◌, ◌*◌, ◌<◌, inl, inr, Bool, true, false, not, cond, ◌&&◌, ◌==◌, List, [], ◌∷◌, Option, Some, None, refl, sym, ap, ◌∙◌, subst, nat_lt, nat_le, ◌-◌, arith, eqb-true, ◌⊎◌}
 use Rattle.std.specs.Prelude.{is_none}
 use Rattle.std.specs.Option.{option_and_then}
 use Rattle.std.proofs.lemmas.Bool.{and_parts, leb-true, ltb-true}
@@ -9,6 +9,8 @@ use Rattle.terms.specs.declared.parties.ReplicaId.{ReplicaId}
 use Rattle.wire.specs.declared.messages.PrePrepare.{PrePrepare as WirePrePrepare}
 use Rattle.wire.specs.declared.messages.Prepare.{Prepare as WirePrepare}
 use Rattle.wire.specs.declared.messages.Commit.{Commit as WireCommit}
+use Rattle.wire.specs.declared.messages.Checkpoint.{Checkpoint as WireCheckpoint}
+use Rattle.wire.specs.declared.messages.Fetch.{Fetch as WireFetch}
 use Rattle.wire.specs.Words.{requests_of}
 use Rattle.wire.specs.declared.messages.Request.{Request as WireRequest}
 use Rattle.wire.specs.declared.messages.Message.{Message as WireMessage}
@@ -27,7 +29,6 @@ use Rattle.ordering.specs.Taking.{ordering_fault, fault_beside}
 use Rattle.ordering.specs.declared.dropped.Dropped.{Dropped}
 use Rattle.ordering.specs.declared.dropped.Dropped.TheVariants.{WrongView, OutOfMarks, UnknownSender}
 use Rattle.ordering.specs.declared.votes.Vote.{Vote}
-use Rattle.ordering.proofs.Reading.{prepares_count as log_prepares_count, commits_count as log_commits_count}
 use Rattle.ordering.specs.Messages.{preprepare_fault_of}
 use Rattle.sha2.specs.Sha256.{sha256}
 use Rattle.authenticator.specs.Membership.{Membership, has_sender, is_client, is_replica}
@@ -38,8 +39,9 @@ use Rattle.protocol.specs.System.Trace.Entry.{Got}
 use Rattle.protocol.specs.Replica.Certificates.{taken, are_genuine}
 use Rattle.protocol.specs.Replica.State.{State, Call, call_in, kept_of}
 use Rattle.protocol.specs.System.Frames.{same_mode}
-use Rattle.replica_histories.specs.Events as histories
-use Rattle.replica_histories.specs.Events.{IsTaken, IsNumberedIn}
+use Rattle.replica_histories.specs.Events.{IsTaken}
+use Rattle.protocol.specs.Replica.Owed.{place_from}
+use Rattle.replica_histories.proofs.TransfersAnswering.{others_owe_none}
 use Rattle.replica_histories.specs.Inputs.{asked, asked_in, again_for, IsBesideLog}
 use Rattle.replica_histories.specs.Logs.{FitsLog, Takes}
 use Rattle.replica_histories.proofs.Entering.{inputs_fit}
@@ -47,13 +49,13 @@ use Rattle.replica_histories.proofs.Resting.{held_are_settled}
 use Rattle.replica_histories.proofs.Counting.{batches_count, batches_drop, prepares_count, prepares_drop, commits_count, commits_drop, others_drop}
 use Rattle.replica.specs.declared.taking.Touched.TheVariants as touched
 use Rattle.replica.specs.State.{OrdererData, ReplicaData, AreOne}
-use Rattle.replica.specs.Desks.{Stands}
-use Rattle.replica.specs.Going.{IsSameLog, IsSameParty, IsVotedBut, Rests}
-use Rattle.replica.specs.Numbering.{NumbersRight}
+use Rattle.replica.specs.Desks.{Stands, FitsEvent}
+use Rattle.replica.specs.Going.{IsSameLog, IsVotedBut, Rests}
 use Rattle.replica.specs.Taking.{TakesBatch, TakesPrepare, TakesCommit}
 use Rattle.replica.specs.Fits.{Runs, me_of}
 use Rattle.replica.specs.Entering.{event_of, TakesBytes, TakesMessage}
-use Rattle.replica.proofs.NumbersKept.{votes_right}
+use Rattle.replica.proofs.Parties.{same_log, same_party}
+use Rattle.replica.proofs.Staying.{numbers_alike, numbers_beside, said_on, same_rows}
 use Rattle.replica.proofs.Rows.{due_prepare_elsewhere, due_commit_elsewhere}
 
 -- ---- between events
@@ -68,10 +70,11 @@ rests c r past runs =
 
 -- ---- what is heard
 
--- it is no ordered request
+-- it is no ordered request, and asks for no part of a state
 pub record IsNoCall (c : Configuration) (said : Option Body) : Type 0 where
   pub call : option_and_then (call_in c) said ≡ None
   pub asks : (st : State) → asked st said ≡ []
+  pub parts : option_and_then place_from said ≡ None
 
 module _ (r : ReplicaData) (one : AreOne r.orderer r.desk) where
   -- the desk hears what the orderer does
@@ -81,29 +84,30 @@ module _ (r : ReplicaData) (one : AreOne r.orderer r.desk) where
 
   -- bytes that are no ordered request, of which the log may take something
   pub begins_with : (c : Configuration) (past : List Entry) (runs : Runs c r past) (bytes : List ℕ) (after : LogData) → taken c past (Got (me_of r) bytes) ≡ None
-      → Takes c (me_of r) (heard (members c) (me_of r) bytes) r.orderer.log after → IsNoCall c (heard (members c) (me_of r) bytes)
-      → Stands c (event_of c r past runs bytes) after r.desk [] []
-  begins_with c past runs bytes after free takes none = record {
+      → IsSameLog r.orderer.log after → Takes c (me_of r) (heard (members c) (me_of r) bytes) r.orderer.log after → IsNoCall c (heard (members c) (me_of r) bytes)
+      → Stands c (event_of c r past runs bytes) (record r.orderer { log = after }) r.desk [] []
+  begins_with c past runs bytes after free same takes none = record {
     desk = runs.desk;
     is = runs.is_desk;
-    fits = subst (λ (m : ℕ). histories.Fits c m (event_of c r past runs bytes) runs.desk after [] []) (sym one.0)
-        (inputs_fit c (me_of r) runs.desk runs.desk r.orderer.log after [] past bytes runs.holds free (record {
+    fits = subst (λ (m : ℕ). FitsEvent c m (event_of c r past runs bytes) (record r.orderer { log = after }) runs.desk r.desk.waiting.numbered [] []) (sym one.0) event;
+  }
+    where
+      event : FitsEvent c (me_of r) (event_of c r past runs bytes) (record r.orderer { log = after }) runs.desk r.desk.waiting.numbered [] []
+      event = record {
+        fits = inputs_fit c (me_of r) runs.desk runs.desk r.orderer.log after [] past bytes runs.holds free (record {
           takes = takes;
           state = refl;
           snapshots = refl;
           waiting = rw none.call refl;
+          transfer = refl;
           frames = λ frame h. inl h;
           due_is = sym (none.asks runs.desk.state);
-        }));
-  }
-
-  same_party : IsSameParty r r
-  same_party = record {
-    orderer = record { endpoint = refl; log = record { me = refl; faults = refl; span = refl; view = refl; active = refl; low = refl } };
-    me = refl;
-    membership = refl;
-    stopped = refl;
-  }
+        });
+        numbers = numbers_alike c (me_of r) r.desk.waiting.numbered r.orderer (record r.orderer { log = after }) runs.desk (Got (me_of r) bytes ∷ past) same refl
+            (numbers_beside c (me_of r) r.desk.waiting.numbered r.orderer runs.desk past (Got (me_of r) bytes) runs.holds.of_log.fits.faults runs.holds.of_log.fits.own
+            (record { here = refl; none = free; sends = refl }) runs.numbers);
+        said = said_on (me_of r) r.orderer.last_checkpoint past (Got (me_of r) bytes) runs.said;
+      }
 
   -- What is dropped changes nothing.
   pub drops : (bytes : List ℕ)
@@ -111,9 +115,16 @@ module _ (r : ReplicaData) (one : AreOne r.orderer r.desk) where
       → Takes c (me_of r) (heard (members c) (me_of r) bytes) r.orderer.log r.orderer.log × IsNoCall c (heard (members c) (me_of r) bytes))
       → TakesBytes bytes r touched.Nothing r []
   drops bytes none = record {
-    party = same_party;
-    begins = λ c past runs known free. let n = none c past runs known in
-        (begins_with c past runs bytes r.orderer.log free n.0 n.1, runs.numbers, (rests c r past runs, runs.all, inl refl));
+    party = same_party r;
+    begins = λ c past runs known free. let n = none c past runs known in (
+      begins_with c past runs bytes r.orderer.log free (same_log r.orderer.log) n.0 n.1,
+      (
+        rests c r past runs,
+        runs.all,
+        others_owe_none c (me_of r) past (Got (me_of r) bytes) [] runs.holds.of_desk.point n.1.parts,
+        inl refl,
+      ),
+    );
   }
 
   -- What the log takes touches one number.
@@ -121,12 +132,12 @@ module _ (r : ReplicaData) (one : AreOne r.orderer r.desk) where
       → IsSameLog r.orderer.log after → ((i : ℕ) → i ≢ number.0 → (due_prepare after i ≡ due_prepare r.orderer.log i) × (due_commit after i ≡ due_commit r.orderer.log i))
       → ((c : Configuration) (past : List Entry) (runs : Runs c r past) → members c ≡ r.desk.membership
       → Takes c (me_of r) (heard (members c) (me_of r) bytes) r.orderer.log after × IsNoCall c (heard (members c) (me_of r) bytes)
-      × IsTaken c (me_of r) (event_of c r past runs bytes) × NumbersRight c (record r { orderer = record r.orderer { log = after } }))
+      × IsTaken c (me_of r) (event_of c r past runs bytes))
       → TakesBytes bytes r (touched.Row number) (record r { orderer = record r.orderer { log = after } }) []
   takes_row bytes number after same others takes = record {
     party = record { orderer = record { endpoint = refl; log = same }; me = refl; membership = refl; stopped = refl };
     begins = λ c past runs known free. let t = takes c past runs known in
-        (begins_with c past runs bytes after free t.0 t.1, t.3, (voted c past runs, t.2));
+        (begins_with c past runs bytes after free same t.0 t.1, (voted c past runs, (t.2, t.1.parts)));
   }
     where
       voted : (c : Configuration) (past : List Entry) → Runs c r past → IsVotedBut number.0 after
@@ -162,7 +173,7 @@ pub prepare_taken : (r : ReplicaData) (sender : ReplicaId) (p : WirePrepare) (ne
     → TakesMessage sender (Prepare p.view.0 p.number.0 p.digest) r (touched.Row p.number) (record r { orderer = new }) []
 prepare_taken r sender p new one t bytes h =
     subst (λ (o : OrdererData). TakesBytes bytes r (touched.Row p.number) (record r { orderer = o }) []) (sym t.1)
-    (takes_row r one bytes p.number (with_prepare r.orderer.log p.number.0 vote) (record { me = refl; faults = refl; span = refl; view = refl; active = refl; low = refl })
+    (takes_row r one bytes p.number (with_prepare r.orderer.log p.number.0 vote) (same_rows r.orderer.log (with_prepare r.orderer.log p.number.0 vote).rows)
     (λ i ne. (due_prepare_elsewhere r.orderer.log i p.number.0 _ inside ne, due_commit_elsewhere r.orderer.log i p.number.0 _ inside ne)) takes)
   where
     vote : Vote
@@ -173,23 +184,20 @@ prepare_taken r sender p new one t bytes h =
 
     takes : (c : Configuration) (past : List Entry) (runs : Runs c r past) → members c ≡ r.desk.membership
         → Takes c (me_of r) (heard (members c) (me_of r) bytes) r.orderer.log (with_prepare r.orderer.log p.number.0 vote) × IsNoCall c (heard (members c) (me_of r) bytes)
-        × IsTaken c (me_of r) (event_of c r past runs bytes) × NumbersRight c (record r { orderer = record r.orderer { log = with_prepare r.orderer.log p.number.0 vote } })
+        × IsTaken c (me_of r) (event_of c r past runs bytes)
     takes c past runs known =
         let hears = heard_by r one c bytes _ known h in
         let counts = prepares_count c (me_of r) r.orderer.log past runs.holds.of_desk.point sender.0 p.view.0 p.number.0 p.digest bytes vote runs.holds.of_log.fits hears t.0 refl refl in (
           counts.1,
-          record { call = rw hears refl; asks = λ st. rw hears refl },
+          record { call = rw hears refl; asks = λ st. rw hears refl; parts = rw hears refl },
           (record { sender = sender.0; message = Prepare p.view.0 p.number.0 p.digest }, hears, counts.0),
-          votes_right c r.desk.executed.state r.orderer.log (with_prepare r.orderer.log p.number.0 vote) r.orderer.used r.desk.waiting
-              (record { me = refl; faults = refl; span = refl; view = refl; active = refl; low = refl })
-              (λ i. (log_prepares_count r.orderer.log i p.number.0 0 vote runs.holds.of_log.fits.is_log inside).0) runs.numbers,
         )
 
 pub commit_taken : (r : ReplicaData) (sender : ReplicaId) (p : WireCommit) (new : OrdererData) → AreOne r.orderer r.desk → TakesCommit r.orderer sender p new true
     → TakesMessage sender (Commit p.view.0 p.number.0 p.digest) r (touched.Row p.number) (record r { orderer = new }) []
 commit_taken r sender p new one t bytes h =
     subst (λ (o : OrdererData). TakesBytes bytes r (touched.Row p.number) (record r { orderer = o }) []) (sym t.1)
-    (takes_row r one bytes p.number (with_commit r.orderer.log p.number.0 vote) (record { me = refl; faults = refl; span = refl; view = refl; active = refl; low = refl })
+    (takes_row r one bytes p.number (with_commit r.orderer.log p.number.0 vote) (same_rows r.orderer.log (with_commit r.orderer.log p.number.0 vote).rows)
     (λ i ne. (due_prepare_elsewhere r.orderer.log i p.number.0 _ inside ne, due_commit_elsewhere r.orderer.log i p.number.0 _ inside ne)) takes)
   where
     vote : Vote
@@ -200,16 +208,13 @@ commit_taken r sender p new one t bytes h =
 
     takes : (c : Configuration) (past : List Entry) (runs : Runs c r past) → members c ≡ r.desk.membership
         → Takes c (me_of r) (heard (members c) (me_of r) bytes) r.orderer.log (with_commit r.orderer.log p.number.0 vote) × IsNoCall c (heard (members c) (me_of r) bytes)
-        × IsTaken c (me_of r) (event_of c r past runs bytes) × NumbersRight c (record r { orderer = record r.orderer { log = with_commit r.orderer.log p.number.0 vote } })
+        × IsTaken c (me_of r) (event_of c r past runs bytes)
     takes c past runs known =
         let hears = heard_by r one c bytes _ known h in
         let counts = commits_count c (me_of r) r.orderer.log past runs.holds.of_desk.point sender.0 p.view.0 p.number.0 p.digest bytes vote runs.holds.of_log.fits hears t.0 refl refl in (
           counts.1,
-          record { call = rw hears refl; asks = λ st. rw hears refl },
+          record { call = rw hears refl; asks = λ st. rw hears refl; parts = rw hears refl },
           (record { sender = sender.0; message = Commit p.view.0 p.number.0 p.digest }, hears, counts.0),
-          votes_right c r.desk.executed.state r.orderer.log (with_commit r.orderer.log p.number.0 vote) r.orderer.used r.desk.waiting
-              (record { me = refl; faults = refl; span = refl; view = refl; active = refl; low = refl })
-              (λ i. (log_commits_count r.orderer.log i p.number.0 0 vote runs.holds.of_log.fits.is_log inside).0) runs.numbers,
         )
 
 -- ---- what it has a fault for
@@ -229,7 +234,7 @@ prepare_dropped r sender p new one t bytes h =
         let hears = heard_by r one c bytes _ known h in
         let fault = some_fault _ t.0 in (
           prepares_drop c (me_of r) r.orderer.log past sender.0 p.view.0 p.number.0 p.digest bytes fault.0 runs.holds.of_log.fits hears fault.1,
-          record { call = rw hears refl; asks = λ st. rw hears refl },
+          record { call = rw hears refl; asks = λ st. rw hears refl; parts = rw hears refl },
         )
 
 pub commit_dropped : (r : ReplicaData) (sender : ReplicaId) (p : WireCommit) (new : OrdererData) → AreOne r.orderer r.desk → TakesCommit r.orderer sender p new false
@@ -243,7 +248,7 @@ commit_dropped r sender p new one t bytes h =
         let hears = heard_by r one c bytes _ known h in
         let fault = some_fault _ t.0 in (
           commits_drop c (me_of r) r.orderer.log past sender.0 p.view.0 p.number.0 p.digest bytes fault.0 runs.holds.of_log.fits hears fault.1,
-          record { call = rw hears refl; asks = λ st. rw hears refl },
+          record { call = rw hears refl; asks = λ st. rw hears refl; parts = rw hears refl },
         )
 
 pub batch_dropped : (r : ReplicaData) (sender : ReplicaId) (p : WirePrePrepare) (new : OrdererData) → AreOne r.orderer r.desk → TakesBatch r.orderer sender p new false
@@ -262,20 +267,16 @@ batch_dropped r sender p new one t bytes h =
     none c past runs known =
         let hears = heard_by r one c bytes _ known h in (
           batches_drop c (me_of r) r.orderer.log past sender.0 p.view.0 p.number.0 p.batch.text.items bytes runs.holds.of_log.fits hears (why c known t.0),
-          record { call = rw hears refl; asks = λ st. rw hears refl },
+          record { call = rw hears refl; asks = λ st. rw hears refl; parts = rw hears refl },
         )
 
 -- ---- a batch
-
--- the replica that sends a batch of the log's view is its primary, so it is another one
-not_own : (log : LogData) (me s v : ℕ) → log.me ≡ me → v ≡ log.view → (s == logs.primary log v) ≡ true → s ≢ me → (logs.primary log log.view ≡ log.me) → ⊥
-not_own log me s v mine view sends other own = other (eqb-true s (logs.primary log v) sends ∙ ap (logs.primary log) view ∙ own ∙ mine)
 
 pub batch_taken : (r : ReplicaData) (sender : ReplicaId) (p : WirePrePrepare) (new : OrdererData) → AreOne r.orderer r.desk → TakesBatch r.orderer sender p new true
     → TakesMessage sender (PrePrepare p.view.0 p.number.0 p.batch.text.items) r (touched.Row p.number) (record r { orderer = new }) []
 batch_taken r sender p new one t bytes h =
     subst (λ (o : OrdererData). TakesBytes bytes r (touched.Row p.number) (record r { orderer = o }) []) (sym t.2)
-    (takes_row r one bytes p.number (with_batch r.orderer.log p.number.0 p.batch.text.items) (record { me = refl; faults = refl; span = refl; view = refl; active = refl; low = refl })
+    (takes_row r one bytes p.number (with_batch r.orderer.log p.number.0 p.batch.text.items) (same_rows r.orderer.log (with_batch r.orderer.log p.number.0 p.batch.text.items).rows)
     (λ i ne. (due_prepare_elsewhere r.orderer.log i p.number.0 _ fits.within ne, due_commit_elsewhere r.orderer.log i p.number.0 _ fits.within ne)) takes)
   where
     fits : Fitting r.orderer.log (sender.0 == logs.primary r.orderer.log p.view.0) p.view.0 p.number.0
@@ -283,29 +284,29 @@ batch_taken r sender p new one t bytes h =
 
     takes : (c : Configuration) (past : List Entry) (runs : Runs c r past) → members c ≡ r.desk.membership
         → Takes c (me_of r) (heard (members c) (me_of r) bytes) r.orderer.log (with_batch r.orderer.log p.number.0 p.batch.text.items) × IsNoCall c (heard (members c) (me_of r) bytes)
-        × IsTaken c (me_of r) (event_of c r past runs bytes) × NumbersRight c (record r { orderer = record r.orderer { log = with_batch r.orderer.log p.number.0 p.batch.text.items } })
+        × IsTaken c (me_of r) (event_of c r past runs bytes)
     takes c past runs known =
         let hears = heard_by r one c bytes _ known h in
         let genuine = ap (λ (m : Membership). are_heard m (me_of r) (requests_of p.batch.text.items)) (known ∙ one.1) ∙ t.1 in
         let counts = batches_count c (me_of r) r.orderer.log past runs.holds.of_desk.point sender.0 p.view.0 p.number.0 p.batch.text.items bytes runs.holds.of_log.fits hears t.0 genuine in (
           counts.1,
-          record { call = rw hears refl; asks = λ st. rw hears refl },
+          record { call = rw hears refl; asks = λ st. rw hears refl; parts = rw hears refl },
           (record { sender = sender.0; message = PrePrepare p.view.0 p.number.0 p.batch.text.items }, hears, counts.0),
-          λ own. absurd (not_own r.orderer.log (me_of r) sender.0 p.view.0 runs.holds.of_log.fits.own fits.view fits.sends (heard_was_opened (members c) (me_of r) bytes _ hears).other own),
         )
 
 -- ---- what no rule takes here
 
--- no message of the three phases
+-- no message of the three phases, no checkpoint, and no fetch
 abbrev pub IsOther : WireMessage → Type 0
 IsOther m = ((x : WirePrePrepare) → m ≡ messages.PrePrepare x → ⊥) × ((x : WirePrepare) → m ≡ messages.Prepare x → ⊥) × ((x : WireCommit) → m ≡ messages.Commit x → ⊥)
+    × ((x : WireCheckpoint) → m ≡ messages.Checkpoint x → ⊥) × ((x : WireFetch) → m ≡ messages.Fetch x → ⊥)
 
 other_beside : (s : ℕ) (m : WireMessage) → IsOther m → IsBesideLog (Some (record { sender = s; message = message_data m }))
 other_beside s (messages.Request x) h = tt
 other_beside s (messages.PrePrepare x) h = h.0 x refl
 other_beside s (messages.Prepare x) h = h.1 x refl
 other_beside s (messages.Commit x) h = h.2 x refl
-other_beside s (messages.Checkpoint x) h = tt
+other_beside s (messages.Checkpoint x) h = h.3 x refl
 other_beside s (messages.ViewChange x) h = tt
 other_beside s (messages.NewView x) h = tt
 other_beside s (messages.Reply x) h = tt
@@ -336,21 +337,22 @@ none_asked st s t modes.Ordered below = go (nat_le 256 s) refl
     go false e = refl
     go true e = let l = leb-true 256 s e in absurd (omega (arith, l, below))
 
-other_no_call : (c : Configuration) (s : ℕ) (m : WireMessage) → s < 256 → IsNoCall c (Some (record { sender = s; message = message_data m }))
-other_no_call c s (messages.Request x) below = record {
+other_no_call : (c : Configuration) (s : ℕ) (m : WireMessage) → s < 256 → ((x : WireFetch) → m ≡ messages.Fetch x → ⊥) → IsNoCall c (Some (record { sender = s; message = message_data m }))
+other_no_call c s (messages.Request x) below other = record {
   call = no_call c s x.mode x.timestamp.0 (operation_of x.op) below;
   asks = λ st. none_asked st s x.timestamp.0 x.mode below;
+  parts = refl;
 }
-other_no_call c s (messages.PrePrepare x) below = record { call = refl; asks = λ st. refl }
-other_no_call c s (messages.Prepare x) below = record { call = refl; asks = λ st. refl }
-other_no_call c s (messages.Commit x) below = record { call = refl; asks = λ st. refl }
-other_no_call c s (messages.Checkpoint x) below = record { call = refl; asks = λ st. refl }
-other_no_call c s (messages.ViewChange x) below = record { call = refl; asks = λ st. refl }
-other_no_call c s (messages.NewView x) below = record { call = refl; asks = λ st. refl }
-other_no_call c s (messages.Reply x) below = record { call = refl; asks = λ st. refl }
-other_no_call c s (messages.Fetch x) below = record { call = refl; asks = λ st. refl }
-other_no_call c s (messages.Meta x) below = record { call = refl; asks = λ st. refl }
-other_no_call c s (messages.Page x) below = record { call = refl; asks = λ st. refl }
+other_no_call c s (messages.PrePrepare x) below other = record { call = refl; asks = λ st. refl; parts = refl }
+other_no_call c s (messages.Prepare x) below other = record { call = refl; asks = λ st. refl; parts = refl }
+other_no_call c s (messages.Commit x) below other = record { call = refl; asks = λ st. refl; parts = refl }
+other_no_call c s (messages.Checkpoint x) below other = record { call = refl; asks = λ st. refl; parts = refl }
+other_no_call c s (messages.ViewChange x) below other = record { call = refl; asks = λ st. refl; parts = refl }
+other_no_call c s (messages.NewView x) below other = record { call = refl; asks = λ st. refl; parts = refl }
+other_no_call c s (messages.Reply x) below other = record { call = refl; asks = λ st. refl; parts = refl }
+other_no_call c s (messages.Fetch x) below other = absurd (other x refl)
+other_no_call c s (messages.Meta x) below other = record { call = refl; asks = λ st. refl; parts = refl }
+other_no_call c s (messages.Page x) below other = record { call = refl; asks = λ st. refl; parts = refl }
 
 -- What is heard and has no part in the three phases is dropped.
 drops_heard : (r : ReplicaData) (bytes : List ℕ) (body : Body) → AreOne r.orderer r.desk → IsBesideLog (Some body) → ((c : Configuration) → IsNoCall c (Some body))
@@ -359,20 +361,20 @@ drops_heard r bytes body one beside none h = drops r one bytes (λ c past runs k
     (others_drop c (me_of r) r.orderer.log past bytes runs.holds.of_log.fits (rw hears beside), rw hears (none c)))
 
 pub other_dropped : (r : ReplicaData) (sender : ReplicaId) (m : WireMessage) → AreOne r.orderer r.desk → sender.0 < 256 → IsOther m → TakesMessage sender (message_data m) r touched.Nothing r []
-other_dropped r sender m one below other bytes h = drops_heard r bytes _ one (other_beside sender.0 m other) (λ c. other_no_call c sender.0 m below) h
+other_dropped r sender m one below other bytes h = drops_heard r bytes _ one (other_beside sender.0 m other) (λ c. other_no_call c sender.0 m below other.4) h
 
 -- ---- nothing, and what clients send beside ordered requests
 
 pub silence_dropped : (r : ReplicaData) (bytes : List ℕ) → AreOne r.orderer r.desk → heard r.desk.membership r.desk.me bytes ≡ None → TakesBytes bytes r touched.Nothing r []
 silence_dropped r bytes one h = drops r one bytes (λ c past runs known. let silent = heard_by_none c known in
-    (others_drop c (me_of r) r.orderer.log past bytes runs.holds.of_log.fits (rw silent tt), record { call = rw silent refl; asks = λ st. rw silent refl }))
+    (others_drop c (me_of r) r.orderer.log past bytes runs.holds.of_log.fits (rw silent tt), record { call = rw silent refl; asks = λ st. rw silent refl; parts = rw silent refl }))
   where
     heard_by_none : (c : Configuration) → members c ≡ r.desk.membership → heard (members c) (me_of r) bytes ≡ None
     heard_by_none c known = ap (λ m. heard m (me_of r) bytes) known ∙ ap (λ (x : ℕ). heard r.desk.membership x bytes) (sym one.0) ∙ h
 
 pub read_dropped : (r : ReplicaData) (s t : ℕ) (op : Operation) (bytes : List ℕ) → AreOne r.orderer r.desk
     → heard r.desk.membership r.desk.me bytes ≡ Some (record { sender = s; message = Request t modes.ReadOnly op }) → TakesBytes bytes r touched.Nothing r []
-read_dropped r s t op bytes one h = drops_heard r bytes _ one tt (λ c. record { call = refl; asks = λ st. refl }) h
+read_dropped r s t op bytes one h = drops_heard r bytes _ one tt (λ c. record { call = refl; asks = λ st. refl; parts = refl }) h
 
 -- clients send nothing but requests
 pub client_dropped : (r : ReplicaData) (k : ℕ) (m : WireMessage) (bytes : List ℕ) → AreOne r.orderer r.desk → ((x : WireRequest) → m ≡ messages.Request x → ⊥)

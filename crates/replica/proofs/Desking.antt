@@ -1,6 +1,7 @@
 -- What a desk gives fits.
-use Rattle.std.proofs.Common.{◌≡◌, ◌≢◌, ℕ, suc, ◌+◌, Bool, true, false, cond, List, [], ◌∷◌, ◌++◌, map, filter, Some, refl, sym, ap, ◌∙◌, subst, nat_lt, eq-eqb, arith}
+use Rattle.std.proofs.Common.{◌≡◌, ◌≢◌, ℕ, zero, suc, ◌+◌, Bool, true, false, cond, List, [], ◌∷◌, ◌++◌, length, map, filter, count_by, take, Some, refl, sym, ap, ◌∙◌, subst, nat_lt, eq-eqb, arith}
 use Rattle.std.proofs.lemmas.List.Kept.{AllPairs-filter}
+use Rattle.std.proofs.lemmas.List.Sums.{length-filter}
 use Rattle.terms.specs.declared.parties.ClientId.{ClientId}
 use Rattle.wire.specs.Messages.{MessageData as Message}
 use Rattle.wire.specs.Words.{requests_of}
@@ -8,65 +9,75 @@ use Rattle.reply_cache.specs.Replies.{Kept}
 use Rattle.events.specs.declared.output.Output.{Output}
 use Rattle.events.specs.Outputs.{entry_of}
 use Rattle.execution.specs.declared.running.Ran.{Ran}
-use Rattle.execution.specs.Executed.{Executes, IsAfter, told, told_of}
+use Rattle.execution.specs.Executed.{ExecutedData, Executes, IsAfter, told, told_of}
 use Rattle.ordering.specs.Log as logs
-use Rattle.ordering.specs.Log.{LogData}
 use Rattle.protocol.specs.System.Configuration.{Configuration, members}
 use Rattle.protocol.specs.System.Trace.{Entry, Has}
-use Rattle.protocol.specs.System.Trace.Entry.{Executed}
+use Rattle.protocol.specs.System.Trace.Entry.{Executed, Sent}
 use Rattle.protocol.specs.Replica.State.{State, Call, Ran as RanData, execute, kept_of, last_time, ran_in}
 use Rattle.protocol.specs.Replica.RightReplica.{reply_of, still_waiting}
 use Rattle.protocol.proofs.Words.Elements.{has_filter, has_map, has_mapped}
-use Rattle.replica_histories.specs.Desk.{Desk}
+use Rattle.replica_histories.specs.Desk.{Desk, snapshot_of}
 use Rattle.replica_histories.specs.Events as events
-use Rattle.replica_histories.specs.Events.{Start}
+use Rattle.replica_histories.specs.Events.{Start, behind}
 use Rattle.replica_histories.specs.Inputs.{again_for}
-use Rattle.replica_histories.specs.Outputs.{executed_desk, replies_to}
+use Rattle.replica_histories.specs.Numbers.{FitsNumbers}
+use Rattle.replica_histories.specs.Outputs.{checkpoint_due, executed_desk, replies_to, snapshots_behind}
+use Rattle.replica_histories.specs.Transfers.{still_open}
 use Rattle.replica_histories.proofs.Giving.{replies_fit}
 use Rattle.replica_histories.proofs.Executing.{executes_fit}
+use Rattle.replica_histories.proofs.NumbersWaiting.{executions_raise, states_fit}
 use Rattle.replica.specs.declared.waiting.WaitingRequest.{WaitingRequest}
-use Rattle.replica.specs.State.{DeskData, IsDesk}
+use Rattle.replica.specs.State.{OrdererData, DeskData, IsDesk}
 use Rattle.replica.specs.Waiting.{WaitingData, frames_of, is_new, forgotten}
-use Rattle.replica.specs.Desks.{AreCallsOf, AreOfDifferentClients, given, Stands}
-use Rattle.replica.specs.Desking.{Pays, RunsBatch, SaysReply, reply_for, replies_for}
+use Rattle.replica.specs.Desks.{AreCallsOf, FitsCount, FitsEvent, IsDeskOf, given, Stands}
+use Rattle.replica.specs.Desking.{Pays, RunsBatch, SaysReply, above_number, is_due, keeping_due, keeping_state, replies_for, reply_for, snapshots_with}
+use Rattle.replica.specs.Fetching.{closing_reached}
 use Rattle.replica.proofs.Given.{given_one}
+use Rattle.replica.proofs.Parties.{same_log}
+use Rattle.replica.proofs.Staying.{executed_beside, fits_behind, fits_on, numbers_beside, sent_beside}
+use Rattle.replica.proofs.Closing.{above_same, rests_above}
 
 -- ---- replies
 
 pub pays_one : (d : DeskData) (client : ClientId) (kept : Kept) (before after : List Output) → SaysReply d client kept before after → (rest : List Message)
     → Pays d (reply_of client.number kept ∷ rest) before rest after
-pays_one d client kept before after r rest c s log known st = record {
+pays_one d client kept before after r rest c s o known st = record {
   desk = st.desk;
   is = st.is;
-  fits = subst (λ (es : List Entry). events.Fits c d.me s st.desk log rest es) (sym (given_one d.me before after r.output r.given_is ∙ ap (λ e. e ∷ given d.me before) r.posts.sends))
-      (replies_fit c d.me s st.desk log rest (given d.me before) client.number kept r.posts.bytes (r.posts.posted c known) st.fits);
+  fits = fits_on c d.me s o o st.desk d.waiting.numbered (reply ∷ rest) rest before after (Sent d.me r.posts.bytes)
+      (given_one d.me before after r.output r.given_is ∙ ap (λ e. e ∷ given d.me before) r.posts.sends)
+      (sent_beside c d.me reply ((256 + client.number) ∷ []) r.posts.bytes (behind s (given d.me before)) tt (r.posts.posted c known))
+      (same_log o.log) refl refl st.fits
+      (replies_fit c d.me s st.desk o.log rest (given d.me before) client.number kept r.posts.bytes (r.posts.posted c known) st.fits.fits);
 }
+  where
+    reply : Message
+    reply = reply_of client.number kept
 
-pub pays_start : (d : DeskData) (due rest : List Ran) (outs : List Output) → rest ≡ due → Pays d (replies_for due) outs (replies_for rest) outs
-pays_start d due rest outs same c s log known st = subst (λ (xs : List Ran). Stands c s log d (replies_for xs) outs) (sym same) st
+-- of the replies that are due these are left, and whatever is due behind them
+abbrev pub PaysOn : DeskData → List Ran → List Output → List Ran → List Output → Type 0
+PaysOn d due before left after = (rest : List Message) → Pays d (replies_for due ++ rest) before (replies_for left ++ rest) after
 
-pub pays_end : (d : DeskData) (due : List Message) (rest : List Ran) (x y : List Output) → rest ≡ [] → Pays d due x (replies_for rest) y → Pays d due x [] y
-pays_end d due rest x y none p c s log known st = subst (λ (xs : List Ran). Stands c s log d (replies_for xs) y) none (p c s log known st)
+pub pays_start : (d : DeskData) (due left : List Ran) (outs : List Output) → left ≡ due → PaysOn d due outs left outs
+pays_start d due left outs same rest c s o known st = subst (λ (xs : List Ran). Stands c s o d (replies_for xs ++ rest) outs) (sym same) st
 
-pub pays_next : (d cur : DeskData) (due : List Message) (it : Ran) (xs ys : List Ran) (x y z : List Output) → cur ≡ d → xs ≡ it ∷ ys → Pays d due x (replies_for xs) y
-    → SaysReply cur it.client (told it).1 y z → Pays d due x (replies_for ys) z
-pays_next d cur due it xs ys x y z same items p r c s log known st =
+pub pays_end : (d : DeskData) (due left : List Ran) (x y : List Output) → left ≡ [] → PaysOn d due x left y → (rest : List Message) → Pays d (replies_for due ++ rest) x rest y
+pays_end d due left x y none p rest c s o known st = subst (λ (xs : List Ran). Stands c s o d (replies_for xs ++ rest) y) none (p rest c s o known st)
+
+pub pays_next : (d cur : DeskData) (due : List Ran) (it : Ran) (xs ys : List Ran) (x y z : List Output) → cur ≡ d → xs ≡ it ∷ ys → PaysOn d due x xs y
+    → SaysReply cur it.client (told it).1 y z → PaysOn d due x ys z
+pays_next d cur due it xs ys x y z same items p r rest c s o known st =
     let r' : SaysReply d it.client (told it).1 y z = subst (λ (e : DeskData). SaysReply e it.client (told it).1 y z) same r in
-    pays_one d it.client (told it).1 y z r' (replies_for ys) c s log known (subst (λ (v : List Ran). Stands c s log d (replies_for v) y) items (p c s log known st))
+    pays_one d it.client (told it).1 y z r' (replies_for ys ++ rest) c s o known (subst (λ (v : List Ran). Stands c s o d (replies_for v ++ rest) y) items (p rest c s o known st))
 
 -- the reply that is kept goes again
 pub pays_again : (d : DeskData) (client : ClientId) (t : ℕ) (kept : Kept) (x y : List Output) → kept_of d.executed.state client.number ≡ Some kept → kept.timestamp ≡ t → SaysReply d client kept x y
     → Pays d (again_for client.number t (kept_of d.executed.state client.number)) x [] y
-pays_again d client t kept x y has same r c s log known st = pays_one d client kept x y r [] c s log known (subst (λ (ms : List Message). Stands c s log d ms x) due st)
+pays_again d client t kept x y has same r c s o known st = pays_one d client kept x y r [] c s o known (subst (λ (ms : List Message). Stands c s o d ms x) due st)
   where
     due : again_for client.number t (kept_of d.executed.state client.number) ≡ reply_of client.number kept ∷ []
     due = rw (has, eq-eqb kept.timestamp t same) refl
-
-pub pays_nothing : (d : DeskData) (due : List Message) (outs : List Output) → due ≡ [] → Pays d due outs [] outs
-pays_nothing d due outs none c s log known st = subst (λ x. Stands c s log d x outs) none st
-
-pub pays_twice : (d : DeskData) (due mid rest : List Message) (x y z : List Output) → Pays d due x mid y → Pays d mid y rest z → Pays d due x rest z
-pays_twice d due mid rest x y z p q c s log known st = q c s log known (p c s log known st)
 
 -- ---- what waits
 
@@ -86,6 +97,36 @@ calls_kept c st (r ∷ rs) (x ∷ calls) h = go (is_new st r) (nat_lt (last_time
     go true false e rest = absurd cc
     go false true e rest = absurd cc
 
+calls_taken : (c : Configuration) (n : ℕ) (rs : List WaitingRequest) (calls : List Call) → AreCallsOf c rs calls → AreCallsOf c (take n rs) (take n calls)
+calls_taken c zero rs calls h = tt
+calls_taken c (suc n) [] [] h = tt
+calls_taken c (suc n) [] (x ∷ calls) h = absurd h
+calls_taken c (suc n) (r ∷ rs) [] h = absurd h
+calls_taken c (suc n) (r ∷ rs) (x ∷ calls) h = (h.0, calls_taken c n rs calls h.1)
+
+as_many_calls : (c : Configuration) (rs : List WaitingRequest) (calls : List Call) → AreCallsOf c rs calls → length calls ≡ length rs
+as_many_calls c [] [] h = refl
+as_many_calls c [] (x ∷ calls) h = absurd h
+as_many_calls c (r ∷ rs) [] h = absurd h
+as_many_calls c (r ∷ rs) (x ∷ calls) h = ap suc (as_many_calls c rs calls h.1)
+
+-- of the first ones as many calls as requests are newer
+pub calls_counted : (c : Configuration) (st : State) (n : ℕ) (rs : List WaitingRequest) (calls : List Call) → AreCallsOf c rs calls → length (still_waiting st (take n calls)) ≡ count_by (is_new st) (take n rs)
+calls_counted c st n rs calls h =
+    as_many_calls c (filter (is_new st) (take n rs)) (still_waiting st (take n calls)) (calls_kept c st (take n rs) (take n calls) (calls_taken c n rs calls h)) ∙ length-filter (is_new st) (take n rs)
+
+frames_kept : (p : WaitingRequest → Bool) (rs : List WaitingRequest) (frame : List ℕ) → Has (λ x. x ≡ frame) (map (λ r. r.frame.items) (filter p rs)) → Has (λ x. x ≡ frame) (map (λ r. r.frame.items) rs)
+frames_kept p rs frame h =
+    has_mapped (λ x. x ≡ frame) (λ (r : WaitingRequest). r.frame.items) rs
+    (has_filter (λ (r : WaitingRequest). r.frame.items ≡ frame) p rs (has_map (λ x. x ≡ frame) (λ (r : WaitingRequest). r.frame.items) (filter p rs) h))
+
+-- Where a desk's calls are those of a history's, and another state comes, they still are without what it ran.
+pub calls_behind : (c : Configuration) (st later : State) (rs : List WaitingRequest) (calls : List Call) → st ≡ later → AreCallsOf c rs calls → AreCallsOf c (filter (is_new later) rs) (still_waiting st calls)
+calls_behind c st later rs calls same h = subst (λ (x : State). AreCallsOf c (filter (is_new x) rs) (still_waiting st calls)) same (calls_kept c st rs calls h)
+
+pub frames_behind : (later : State) (d : DeskData) (frames : List (List ℕ)) → frames ≡ frames_of d.waiting → (frame : List ℕ) → Has (λ x. x ≡ frame) (frames_of (forgotten later d.waiting)) → Has (λ x. x ≡ frame) frames
+frames_behind later d frames same frame h = subst (λ (fs : List (List ℕ)). Has (λ x. x ≡ frame) fs) (sym same) (frames_kept (is_new later) d.waiting.requests frame h)
+
 -- ---- an execution
 
 map_twice : {A B C : Type 0} (f : B → C) (g : A → B) (xs : List A) → map (λ x. f (g x)) xs ≡ map f (map g xs)
@@ -95,64 +136,115 @@ map_twice f g (x ∷ xs) = ap (λ ys. f (g x) ∷ ys) (map_twice f g xs)
 replies_same : (ran : List Ran) (rs : List RanData) → map told ran ≡ map told_of rs → replies_to rs ≡ replies_for ran
 replies_same ran rs e = map_twice reply_for told_of rs ∙ ap (map reply_for) (sym e) ∙ sym (map_twice reply_for told ran)
 
-frames_kept : (p : WaitingRequest → Bool) (rs : List WaitingRequest) (frame : List ℕ) → Has (λ x. x ≡ frame) (map (λ r. r.frame.items) (filter p rs)) → Has (λ x. x ≡ frame) (map (λ r. r.frame.items) rs)
-frames_kept p rs frame h =
-    has_mapped (λ x. x ≡ frame) (λ (r : WaitingRequest). r.frame.items) rs
-    (has_filter (λ (r : WaitingRequest). r.frame.items ≡ frame) p rs (has_map (λ x. x ≡ frame) (λ (r : WaitingRequest). r.frame.items) (filter p rs) h))
+-- the desk behind an execution that leaves this
+abbrev pub behind_run : DeskData → ExecutedData → DeskData
+behind_run d executed = record d {
+  executed = executed;
+  snapshots = snapshots_with d.period executed.state d.snapshots;
+  transfer = above_number executed.state.number d.transfer;
+  waiting = forgotten executed.state d.waiting;
+}
 
-pub runs_stands : (c : Configuration) (s : Start) (log : LogData) (old new : DeskData) (text : List ℕ) (ran : List Ran) (o : Output) (before after : List Output)
-    → members c ≡ old.membership → new.me ≡ old.me → new.membership ≡ old.membership → IsAfter c old.executed text (map told ran) new.executed
-    → new.waiting ≡ forgotten new.executed.state old.waiting → entry_of old.me o ≡ Executed old.me (suc old.executed.state.number) text → after ≡ before ++ o ∷ []
-    → logs.committed_batch log (suc old.executed.state.number) ≡ Some text → Stands c s log old [] before → Stands c s log new (replies_for ran) after
-runs_stands c s log old new text ran o before after known me membership ex waits entry more committed st = record {
-  desk = desk;
-  is = record {
-    members_are = known ∙ sym membership;
-    state = state_same;
+-- the state is kept where it is due, a transfer that is reached is closed, and what ran waits no more
+keeping_is : (d : DeskData) → keeping_due d ≡ record d { snapshots = snapshots_with d.period d.executed.state d.snapshots }
+keeping_is d = go (is_due d)
+  where
+    go : (b : Bool) → cond b (keeping_state d) d ≡ record d { snapshots = cond b (snapshot_of d.executed.state ∷ d.snapshots) d.snapshots }
+    go true = refl
+    go false = refl
+
+pub kept_executed : (d kept : DeskData) → kept ≡ keeping_due d → kept.executed ≡ d.executed
+kept_executed d kept is = ap (λ (x : DeskData). x.executed) (is ∙ keeping_is d)
+
+pub ran_so : (old kept new : DeskData) (executed : ExecutedData) (waiting : WaitingData) → kept ≡ keeping_due (record old { executed = executed }) → waiting ≡ forgotten kept.executed.state kept.waiting
+    → new ≡ closing_reached (record kept { waiting = waiting }) → new ≡ behind_run old executed
+ran_so old kept new executed waiting kept_is waits is =
+    is ∙ ap (λ (w : WaitingData). closing_reached (record kept { waiting = w })) waits
+    ∙ ap (λ (k : DeskData). closing_reached (record k { waiting = forgotten k.executed.state k.waiting })) (kept_is ∙ keeping_is (record old { executed = executed }))
+
+-- an execution of the text at a desk that stands, with the history's configuration and desk
+record Run (c : Configuration) (d : DeskData) (text : List ℕ) (ran : List Ran) (executed : ExecutedData) (desk : Desk) : Type 0 where
+  is : IsDeskOf c d desk
+  ex : IsAfter c d.executed text (map told ran) executed
+  number : executed.state.number ≡ suc d.executed.state.number
+
+module _ (c : Configuration) (d : DeskData) (text : List ℕ) (ran : List Ran) (executed : ExecutedData) (was : Desk) (r : Run c d text ran executed was) where
+  abbrev run_desk : Desk
+  run_desk = executed_desk c was text (frames_of (forgotten executed.state d.waiting))
+
+  run_state : execute c was.state text ≡ executed.state
+  run_state = ap (λ (x : State). execute c x text) r.is.state ∙ sym r.ex.state
+
+  run_is : IsDeskOf c (behind_run d executed) run_desk
+  run_is = record {
+    members_are = r.is.members_are;
+    period_is = r.is.period_is;
+    state = run_state;
+    snapshots = ap (λ (x : State). snapshots_behind c x was.snapshots) run_state ∙ ap (snapshots_with c.period executed.state) r.is.snapshots
+        ∙ ap (λ (n : ℕ). snapshots_with n executed.state d.snapshots) r.is.period_is;
+    transfer = ap (λ (x : State). still_open x.number was.transfer) run_state ∙ ap (still_open executed.state.number) r.is.transfer ∙ above_same executed.state.number d.transfer;
+    rests = rests_above d.executed.state executed.state d.transfer r.number r.is.rests;
     frames = refl;
-    waiting = subst (λ (w : WaitingData). AreCallsOf c w.requests desk.waiting) (sym waits)
-        (subst (λ (x : State). AreCallsOf c (filter (is_new x) old.waiting.requests) desk.waiting) state_same (calls_kept c (execute c st.desk.state text) old.waiting.requests st.desk.waiting st.is.waiting));
-    differ = subst (λ (w : WaitingData). AreOfDifferentClients w.requests) (sym waits) (AllPairs-filter (λ (r t : WaitingRequest). r.client.number ≢ t.client.number) (is_new new.executed.state) old.waiting.requests st.is.differ);
-  };
-  fits = subst (λ (m : ℕ). events.Fits c m s desk log (replies_for ran) (given m after)) (sym me)
-      (subst (λ (es : List Entry). events.Fits c old.me s desk log (replies_for ran) es) (sym outs)
-      (subst (λ (ds : List Message). events.Fits c old.me s desk log ds (Executed old.me (suc st.desk.state.number) text ∷ given old.me before)) due
-      (executes_fit c old.me s st.desk log (given old.me before) text (frames_of new.waiting) there held st.fits)));
+    waiting = calls_behind c (execute c was.state text) executed.state d.waiting.requests was.waiting run_state r.is.waiting;
+    differ = AllPairs-filter (λ (x y : WaitingRequest). x.client.number ≢ y.client.number) (is_new executed.state) d.waiting.requests r.is.differ;
+  }
+
+  -- which of those that wait have numbers
+  run_counts : (o : OrdererData) (history : List Entry) → FitsCount c d.me o d.waiting.numbered was history → FitsCount c d.me o (forgotten executed.state d.waiting).numbered run_desk history
+  run_counts o history f own =
+      subst (λ (n : ℕ). FitsNumbers c d.me o.log.view o.used n (execute c was.state text) (still_waiting (execute c was.state text) was.waiting) history)
+      (calls_counted c (execute c was.state text) d.waiting.numbered d.waiting.requests was.waiting r.is.waiting ∙ ap (λ (x : State). count_by (is_new x) (take d.waiting.numbered d.waiting.requests)) run_state)
+      (states_fit c d.me o.log.view o.used d.waiting.numbered was.state (execute c was.state text) was.waiting history (executions_raise c was.state text) (f own))
+
+  run_due : replies_to (ran_in c (suc was.state.number) was.state (requests_of text)) ++ checkpoint_due c (execute c was.state text) ≡ replies_for ran ++ checkpoint_due c executed.state
+  run_due =
+      ap (λ (x : State). replies_to (ran_in c (suc x.number) x (requests_of text)) ++ checkpoint_due c (execute c was.state text)) r.is.state
+      ∙ ap (λ (ms : List Message). ms ++ checkpoint_due c (execute c was.state text)) (replies_same ran (ran_in c (suc d.executed.state.number) d.executed.state (requests_of text)) r.ex.ran)
+      ∙ ap (λ (x : State). replies_for ran ++ checkpoint_due c x) run_state
+
+  run_fits : (s : Start) (o : OrdererData) (before after : List Output) → given d.me after ≡ Executed d.me (suc was.state.number) text ∷ given d.me before → logs.committed_batch o.log (suc was.state.number) ≡ Some text
+      → FitsEvent c d.me s o was d.waiting.numbered [] before
+      → FitsEvent c d.me s o run_desk (forgotten executed.state d.waiting).numbered (replies_for ran ++ checkpoint_due c executed.state) after
+  run_fits s o before after is committed f =
+      fits_behind c d.me s o o was run_desk d.waiting.numbered (forgotten executed.state d.waiting).numbered [] (replies_for ran ++ checkpoint_due c executed.state) before after e is refl f
+      (subst (λ (ms : List Message). events.Fits c d.me s run_desk o.log ms (e ∷ given d.me before)) run_due
+      (executes_fit c d.me s was o.log (given d.me before) text (frames_of (forgotten executed.state d.waiting)) committed (frames_behind executed.state d was.frames r.is.frames) f.fits))
+      (run_counts o (e ∷ behind s (given d.me before))
+      (numbers_beside c d.me d.waiting.numbered o was (behind s (given d.me before)) e f.fits.of_log.faults f.fits.of_log.own (executed_beside c d.me (suc was.state.number) text (behind s (given d.me before))) f.numbers))
+    where
+      e : Entry
+      e = Executed d.me (suc was.state.number) text
+
+run_stands : (d : DeskData) (executed : ExecutedData) (text : List ℕ) (ran : List Ran) (output : Output) (before after : List Output) (c : Configuration) (s : Start) (o : OrdererData) → IsAfter c d.executed text (map told ran) executed
+    → executed.state.number ≡ suc d.executed.state.number → entry_of d.me output ≡ Executed d.me (suc d.executed.state.number) text → after ≡ before ++ output ∷ []
+    → logs.committed_batch o.log (suc d.executed.state.number) ≡ Some text → Stands c s o d [] before
+    → Stands c s o (behind_run d executed) (replies_for ran ++ checkpoint_due c executed.state) after
+run_stands d executed text ran output before after c s o ex number entry more committed st = record {
+  desk = run_desk c d text ran executed st.desk run;
+  is = run_is c d text ran executed st.desk run;
+  fits = run_fits c d text ran executed st.desk run s o before after
+      (given_one d.me before after output more ∙ ap (λ e. e ∷ given d.me before) (entry ∙ ap (λ (x : State). Executed d.me (suc x.number) text) (sym st.is.state)))
+      (ap (λ (x : State). logs.committed_batch o.log (suc x.number)) st.is.state ∙ committed) st.fits;
 }
   where
-    desk : Desk
-    desk = executed_desk c st.desk text (frames_of new.waiting)
-
-    state_same : execute c st.desk.state text ≡ new.executed.state
-    state_same = ap (λ (x : State). execute c x text) st.is.state ∙ sym ex.state
-
-    outs : given old.me after ≡ Executed old.me (suc st.desk.state.number) text ∷ given old.me before
-    outs = given_one old.me before after o more ∙ ap (λ e. e ∷ given old.me before) (entry ∙ ap (λ (x : State). Executed old.me (suc x.number) text) (sym st.is.state))
-
-    due : replies_to (ran_in c (suc st.desk.state.number) st.desk.state (requests_of text)) ≡ replies_for ran
-    due = ap (λ (x : State). replies_to (ran_in c (suc x.number) x (requests_of text))) st.is.state ∙ replies_same ran (ran_in c (suc old.executed.state.number) old.executed.state (requests_of text)) ex.ran
-
-    there : logs.committed_batch log (suc st.desk.state.number) ≡ Some text
-    there = ap (λ (x : State). logs.committed_batch log (suc x.number)) st.is.state ∙ committed
-
-    held : (frame : List ℕ) → Has (λ x. x ≡ frame) (frames_of new.waiting) → Has (λ x. x ≡ frame) st.desk.frames
-    held frame h = subst (λ (fs : List (List ℕ)). Has (λ x. x ≡ frame) fs) (sym st.is.frames)
-        (frames_kept (is_new new.executed.state) old.waiting.requests frame (subst (λ (w : WaitingData). Has (λ x. x ≡ frame) (frames_of w)) waits h))
+    run : Run c d text ran executed st.desk
+    run = record { is = st.is; ex = ex; number = number }
 
 pub one_more : (n : ℕ) → n + 1 ≡ suc n
 one_more n = omega arith
 
-pub runs_batch : (old new : DeskData) (text : List ℕ) (ran : List Ran) (o : Output) (before after : List Output) → IsDesk old → new.me ≡ old.me → new.membership ≡ old.membership
-    → Executes old.executed text (map told ran) new.executed → new.executed.state.number ≡ old.executed.state.number + 1 → new.waiting ≡ forgotten new.executed.state old.waiting
-    → entry_of old.me o ≡ Executed old.me (suc old.executed.state.number) text → after ≡ before ++ o ∷ [] → RunsBatch old text before new (replies_for ran) after
-runs_batch old new text ran o before after is me membership runs number waits entry more = record {
-  me = me;
-  membership = membership;
-  number = number ∙ one_more old.executed.state.number;
+pub runs_batch : (old new : DeskData) (executed : ExecutedData) (text : List ℕ) (ran : List Ran) (output : Output) (before after : List Output) → new ≡ behind_run old executed → IsDesk old
+    → Executes old.executed text (map told ran) executed → executed.state.number ≡ old.executed.state.number + 1
+    → entry_of old.me output ≡ Executed old.me (suc old.executed.state.number) text → after ≡ before ++ output ∷ [] → RunsBatch old text before new (replies_for ran) after
+runs_batch old new executed text ran output before after same is runs number entry more = subst (λ (d : DeskData). RunsBatch old text before d (replies_for ran) after) (sym same) (record {
+  same = refl;
+  number = suc_is;
   state = λ c known. (runs c (clients c known)).state;
-  waiting = waits;
-  stands = λ c s log known committed st. runs_stands c s log old new text ran o before after known me membership (runs c (clients c known)) waits entry more committed st;
-}
+  stands = λ c s o known committed st. run_stands old executed text ran output before after c s o (runs c (clients c known)) suc_is entry more committed st;
+})
   where
+    suc_is : executed.state.number ≡ suc old.executed.state.number
+    suc_is = number ∙ one_more old.executed.state.number
+
     clients : (c : Configuration) → members c ≡ old.membership → c.clients ≡ old.executed.clients
     clients c known = ap (λ m. m.clients) known ∙ sym is.0

@@ -1,16 +1,17 @@
 -- Where a replica begins, and what fits one that stopped.
-use Rattle.std.proofs.Common.{◌≡◌, ℕ, ◌+◌, ◌*◌, ◌<◌, ◌≤◌, inl, inr, Bool, true, false, List, [], ◌∷◌, Some, None, refl, sym, ap, ◌∙◌, subst, arith}
-use Rattle.ordering.specs.Log.{LogData, new_log, is_in_marks, logged_batch}
+use Rattle.std.proofs.Common.{◌≡◌, ℕ, ◌+◌, ◌*◌, ◌<◌, ◌≤◌, inr, Bool, true, false, List, [], ◌∷◌, Some, None, refl, sym, ap, ◌∙◌, subst, arith}
+use Rattle.ordering.specs.Log.{new_log}
 use Rattle.protocol.specs.System.Configuration.{Configuration, IsConfiguration, span}
 use Rattle.protocol.specs.System.Trace.{Entry, party_of}
-use Rattle.protocol.specs.Replica.Certificates.{logged, target}
+use Rattle.protocol.specs.Replica.Certificates.{target}
 use Rattle.protocol.specs.System.Trace.Entry.{Got, Tick}
 use Rattle.posting.specs.Endpoint.{EndpointState}
 use Rattle.protocol.specs.Replica.State.{opening}
 use Rattle.protocol.specs.Replica.Owed.{IsInput}
 use Rattle.replica_histories.specs.Owing.{IsOrderingReplica}
 use Rattle.replica_histories.specs.Events as histories
-use Rattle.replica_histories.specs.Events.{IsNumberedIn}
+use Rattle.replica_histories.specs.Numbers.{FitsNumbers}
+use Rattle.replica_histories.proofs.Numbers.{first_numbers_fit}
 use Rattle.replica_histories.specs.Histories.{first_desk}
 use Rattle.replica_histories.proofs.Starting.{first_hold}
 use Rattle.replica.specs.declared.replica.Event.{Event}
@@ -18,24 +19,10 @@ use Rattle.replica.specs.declared.replica.Event.TheVariants as events
 use Rattle.replica.specs.State.{OrdererData, ReplicaData}
 use Rattle.replica.specs.Taking.{IsNewOrderer}
 use Rattle.replica.specs.Desking.{IsNewDesk}
-use Rattle.replica.specs.Waiting.{none_waiting}
-use Rattle.replica.specs.Numbering.{Numbers}
 use Rattle.replica.specs.Fits.{Fits, Runs, EventLeads, me_of}
 
--- nothing is logged at the start
-unlogged : (c : Configuration) (me : ℕ) → histories.HoldsLog c me (new_log me c.faults (span c)) [] → (j : ℕ) → logged_batch (new_log me c.faults (span c)) j ≡ None
-unfolding logged
-unlogged c me held j = go (is_in_marks (new_log me c.faults (span c)) j) refl
-  where
-    go : (b : Bool) → is_in_marks (new_log me c.faults (span c)) j ≡ b → logged_batch (new_log me c.faults (span c)) j ≡ None
-    go true e = sym (held.fits.batches j e)
-    go false e = rw e refl
-
-none_numbered : {A : Type 0} (c : Configuration) (log : LogData) → ((j : ℕ) → logged_batch log j ≡ None) → (k t : ℕ) → IsNumberedIn c log k t → A
-none_numbered c log none k t (i, batch, there, has) = absurd (none_some (sym (none i) ∙ there))
-  where
-    none_some : None ≡ Some batch → ⊥
-    none_some e = absurd cc
+none_some : {A : Type 0} (x : A) → None ≡ Some x → ⊥
+none_some x e = absurd cc
 
 -- a replica that begins
 module _ (c : Configuration) (me : ℕ) (valid : IsConfiguration c) (mine : me < 3 * c.faults + 1) where
@@ -45,17 +32,8 @@ module _ (c : Configuration) (me : ℕ) (valid : IsConfiguration c) (mine : me <
   first : histories.Holds c me first_desk (new_log me c.faults (span c)) []
   first = first_hold c me valid.some_faults valid.most mine few
 
-  none : (j : ℕ) → logged_batch (new_log me c.faults (span c)) j ≡ None
-  none = unlogged c me first.of_log
-
-  first_numbers : Numbers c opening (new_log me c.faults (span c)) 0 none_waiting
-  first_numbers = record {
-    free = λ j above. none j;
-    top = inl refl;
-    numbered = tt;
-    unnumbered = tt;
-    known = λ k t h. none_numbered c (new_log me c.faults (span c)) none k t h;
-  }
+  numbers_first : FitsNumbers c me 0 0 0 opening [] []
+  numbers_first = first_numbers_fit c me 0 opening
 
   pub fits_new : (r : ReplicaData) → IsNewOrderer c me r.orderer → IsNewDesk c me r.desk → Fits c r []
   fits_new r orders desks = record {
@@ -64,9 +42,20 @@ module _ (c : Configuration) (me : ℕ) (valid : IsConfiguration c) (mine : me <
     unchanged = refl;
     running = λ e. record {
       desk = first_desk;
-      is_desk = rw desks (record { members_are = refl; state = refl; frames = refl; waiting = tt; differ = λ i j d l m. absurd (omega (arith, m)) });
+      is_desk = rw desks (record {
+        members_are = refl;
+        period_is = refl;
+        state = refl;
+        snapshots = refl;
+        transfer = refl;
+        rests = λ o is. absurd (none_some o is);
+        frames = refl;
+        waiting = tt;
+        differ = λ i j d l m. absurd (omega (arith, m));
+      });
       holds = rw orders first;
-      numbers = rw (orders, desks) (λ own. first_numbers);
+      numbers = rw (orders, desks) (λ own. numbers_first);
+      said = rw orders (λ entry is. absurd (none_some entry is));
       all = rw (orders, desks) (λ next. omega arith);
       first = rw orders refl;
     };

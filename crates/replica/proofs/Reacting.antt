@@ -1,38 +1,38 @@
 -- A whole event: where nothing is left to do, the history behind it fits.
-use Rattle.std.proofs.Common.{◌≡◌, ℕ, suc, ◌+◌, ◌<◌, ◌≤◌, ◌^◌, ◌⊎◌, inl, inr, Bool, true, false, List, [], ◌∷◌, ◌++◌, reverse, map, Some, None, refl, sym, ap, ◌∙◌, subst, arith, append_assoc, nat_lt, nat_le, ◌&&◌}
-use Rattle.std.proofs.lemmas.List.{reverse-append, take_all}
-use Rattle.std.proofs.lemmas.Bool.{and_parts, ltb-true, ltb-false, lt-ltb, le-leb}
-use Rattle.wire.specs.Lists.{Each}
+use Rattle.std.proofs.Common.{◌≡◌, ℕ, suc, ◌+◌, ◌≤◌, ◌⊎◌, inl, inr, true, false, List, [], ◌∷◌, ◌++◌, reverse, map, length, None, refl, sym, ap, ◌∙◌, subst, arith, append_assoc, max}
+use Rattle.std.proofs.lemmas.List.{reverse-append}
 use Rattle.events.specs.declared.output.Output.{Output}
 use Rattle.events.specs.Outputs.{entry_of, behind, after_event}
 use Rattle.ordering.specs.Log as logs
-use Rattle.ordering.specs.Log.{LogData, is_in_marks, logged_batch}
+use Rattle.ordering.specs.Log.{LogData}
 use Rattle.protocol.specs.System.Configuration.{Configuration, members}
-use Rattle.protocol.specs.System.Trace.{Entry, Has, is_output}
-use Rattle.protocol.specs.System.Trace.Entry.{Got, Tick}
+use Rattle.protocol.specs.System.Trace.{Entry, is_output}
+use Rattle.protocol.specs.System.Trace.Entry.{Got}
 use Rattle.protocol.specs.Replica.Certificates.{target}
 use Rattle.protocol.specs.Replica.State.{State, Call}
 use Rattle.posting.specs.Endpoint.{EndpointState}
 use Rattle.replica_histories.specs.Desk.{Desk}
+use Rattle.replica_histories.specs.Logs.{FitsLog}
 use Rattle.replica_histories.specs.Owing.{IsOrderingReplica}
 use Rattle.replica_histories.specs.Events as histories
-use Rattle.replica_histories.specs.Events.{Start, IsSettled, IsFreeIn, IsTaken, IsNumberedIn, start_at}
-use Rattle.replica_histories.proofs.Entering.{ticks_fit}
+use Rattle.replica_histories.specs.Events.{Start, IsSettled, IsTaken, start_at}
+use Rattle.replica_histories.specs.Numbers as numbers
+use Rattle.replica_histories.specs.TransfersAnswers.{AnswersFetches, place_heard}
 use Rattle.replica_histories.proofs.Ending.{events_end}
+use Rattle.replica_histories.proofs.Numbers.{numbers_are_given}
 use Rattle.replica_histories.proofs.Starting.{held_order}
+use Rattle.replica_histories.proofs.TransfersAnswering.{others_owe_none}
 use Rattle.terms.specs.declared.order.Number.{Number}
 use Rattle.replica.specs.declared.waiting.WaitingRequest.{WaitingRequest}
 use Rattle.replica.specs.declared.taking.Touched.TheVariants as touched
 use Rattle.replica.specs.State.{ReplicaData, AreOne}
-use Rattle.replica.specs.Desks.{given, Stands, AreCallsOf, IsDeskOf}
-use Rattle.replica.specs.Going.{IsSameParty, Rests, GoesOnWith}
-use Rattle.replica.specs.Numbering.{HasNumber, NumbersRight, IsAllNumbered}
+use Rattle.replica.specs.Desks.{given, Stands, FitsEvent, FitsCount, WasSaid, AreCallsOf, IsDeskOf}
+use Rattle.replica.specs.Going.{IsSameParty, Rests, ExecutesAll, GoesOnWith}
+use Rattle.replica.specs.Numbering.{next_number, IsAllNumbered}
 use Rattle.replica.specs.NumbersNext.{NumbersWaiting}
 use Rattle.replica.specs.Fits.{Runs, Fits, Leads, me_of}
-use Rattle.replica.specs.Entering.{event_of, TakesBytes}
-use Rattle.replica.proofs.Rows.{within}
-use Rattle.replica.proofs.Beginning.{rests}
-use Rattle.replica.proofs.NumbersGiven.{parties_twice}
+use Rattle.replica.specs.Entering.{event_of, IsTakenBeside, TakesBytes}
+use Rattle.replica.proofs.Parties.{same_party, parties_twice}
 
 -- ---- what was given, on the history
 
@@ -42,76 +42,48 @@ behind_is (e ∷ es) past = ap (λ (xs : List Entry). xs ++ past) (reverse-appen
 
 -- ---- what is numbered
 
--- each call that waits has a number, where each request has
-called : (c : Configuration) (log : LogData) (rs : List WaitingRequest) (calls : List Call) → AreCallsOf c rs calls → Each (HasNumber c log) rs → (call : Call) → Has (λ x. x ≡ call) calls
-    → IsNumberedIn c log call.client call.timestamp
-called c log [] [] are each call has = absurd has
-called c log [] (x ∷ calls) are each call has = absurd are
-called c log (r ∷ rs) [] are each call has = absurd are
-called c log (r ∷ rs) (x ∷ calls) are each call (inl e) =
-    subst (λ (y : Call). IsNumberedIn c log y.client y.timestamp) e
-    (subst (λ (k : ℕ). IsNumberedIn c log k x.timestamp) (sym are.0.1) (subst (λ (t : ℕ). IsNumberedIn c log r.client.number t) (sym are.0.2) each.0))
-called c log (r ∷ rs) (x ∷ calls) are each call (inr has) = called c log rs calls are.1 each.1 call has
+-- there are as many calls as requests
+as_many : (c : Configuration) (rs : List WaitingRequest) (calls : List Call) → AreCallsOf c rs calls → length calls ≡ length rs
+as_many c [] [] are = refl
+as_many c [] (x ∷ calls) are = absurd are
+as_many c (r ∷ rs) [] are = absurd are
+as_many c (r ∷ rs) (x ∷ calls) are = ap suc (as_many c rs calls are.1)
 
-none_some : {A : Type 0} (x : A) → None ≡ Some x → ⊥
-none_some x e = absurd cc
-
-logged_within : (log : LogData) (i : ℕ) (batch : List ℕ) → logged_batch log i ≡ Some batch → is_in_marks log i ≡ true
-logged_within log i batch h = go (is_in_marks log i) refl
-  where
-    go : (b : Bool) → is_in_marks log i ≡ b → is_in_marks log i ≡ true
-    go true e = e
-    go false e = absurd (none_some batch (sym (rw e refl) ∙ h))
-
--- Where a number is free, the one behind the last used one may be given.
-module _ (c : Configuration) (r : ReplicaData) (i : ℕ) (inside : is_in_marks r.orderer.log i ≡ true) (free : (j : ℕ) → i ≤ j → logged_batch r.orderer.log j ≡ None) where
-  low_above : (used : ℕ) → (used ≡ r.orderer.log.low) ⊎ ((batch : List ℕ) × (logged_batch r.orderer.log used ≡ Some batch)) → r.orderer.log.low ≤ used
-  low_above used (inl e) = omega (arith, e)
-  low_above used (inr (batch, there)) = let l = (within r.orderer.log used (logged_within r.orderer.log used batch there)).low in omega (arith, l)
-
-  below : (used : ℕ) → (used ≡ r.orderer.log.low) ⊎ ((batch : List ℕ) × (logged_batch r.orderer.log used ≡ Some batch)) → used < i
-  below used (inl e) = let l = (within r.orderer.log i inside).low in omega (arith, e, l)
-  below used (inr (batch, there)) = go (nat_lt used i) refl
-    where
-      go : (b : Bool) → nat_lt used i ≡ b → used < i
-      go true e = ltb-true used i e
-      go false e = absurd (none_some batch (sym (free used (ltb-false used i e)) ∙ there))
-
-  next_inside : (used : ℕ) → used < i → r.orderer.log.low ≤ used → is_in_marks r.orderer.log (suc used) ≡ true
-  next_inside used l m =
-      let high = (within r.orderer.log i inside).high in
-      let small = ltb-true i (2 ^ 48) (and_parts (nat_lt r.orderer.log.low i && nat_le i (r.orderer.log.low + r.orderer.log.span)) (nat_lt i (2 ^ 48)) inside).1 in
-      rw (lt-ltb r.orderer.log.low (suc used) (omega (arith, m)), le-leb (suc used) (r.orderer.log.low + r.orderer.log.span) (omega (arith, l, high)), lt-ltb (suc used) (2 ^ 48) (omega (arith, l, small))) refl
-
-  -- so all that waits has a number then
-  pub all_numbered : logs.primary r.orderer.log r.orderer.log.view ≡ r.orderer.log.me → i ≤ r.desk.executed.state.number + 2 → NumbersRight c r → IsAllNumbered r
-      → Each (HasNumber c r.orderer.log) r.desk.waiting.requests
-  all_numbered own near right all =
-      let n = right own in
-      let l = below r.orderer.used n.top in
-      let enough = all (own, next_inside r.orderer.used l (low_above r.orderer.used n.top), omega (arith, l, near)) in
-      subst (Each (HasNumber c r.orderer.log)) (take_all r.desk.waiting.numbered r.desk.waiting.requests enough) n.numbered
+-- the number that is next by the history is so by the log
+next_free : (c : Configuration) (me used executed : ℕ) (log : LogData) (history : List Entry) → FitsLog c me log history → numbers.IsNextFree c me history used executed
+    → (logs.is_in_marks log (suc (max log.low used)) ≡ true) × (suc (max log.low used) ≤ executed + 2)
+next_free c me used executed log history fits next = rw (fits.span, sym fits.low) next
 
 -- ---- settled
 
-pub settled : (c : Configuration) (r : ReplicaData) (desk : Desk) → IsDeskOf c r.desk desk → NumbersRight c r → Rests r → IsAllNumbered r → IsSettled c desk r.orderer.log
-settled c r desk is right rest all = record {
+pub settled : (c : Configuration) (me : ℕ) (r : ReplicaData) (desk : Desk) (history : List Entry) → IsDeskOf c r.desk desk → FitsLog c me r.orderer.log history
+    → FitsCount c me r.orderer r.desk.waiting.numbered desk history → Rests r → IsAllNumbered r → IsSettled c me desk r.orderer.log history
+settled c me r desk history is fits count rest all = record {
   prepares = λ i. (rest.0 i).0;
   commits = λ i. (rest.0 i).1;
   executes = subst (λ (st : State). logs.committed_batch r.orderer.log (suc st.number) ≡ None) (sym is.state) rest.1;
   numbers = λ i call own has free.
-      called c r.orderer.log r.desk.waiting.requests desk.waiting is.waiting
-      (all_numbered c r i free.0 free.2 own (subst (λ (st : State). i ≤ st.number + 2) is.state free.1) right all) call has;
+      numbers_are_given c me r.orderer.log.view r.orderer.used r.desk.waiting.numbered desk.state desk.waiting history (count own) (enough own) i call has free;
 }
+  where
+    enough : logs.primary r.orderer.log r.orderer.log.view ≡ r.orderer.log.me → numbers.IsNextFree c me history r.orderer.used desk.state.number
+        → length desk.waiting ≤ r.desk.waiting.numbered
+    enough own next =
+        let n = next_free c me r.orderer.used desk.state.number r.orderer.log history fits next in
+        let near = subst (λ (st : State). next_number r.orderer ≤ st.number + 2) is.state n.1 in
+        let some = all (own, n.0, near) in
+        let same = as_many c r.desk.waiting.requests desk.waiting is.waiting in
+        omega (arith, some, same)
 
 -- ---- the end of an event
 
 module _ (old new : ReplicaData) (one : AreOne old.orderer old.desk) (party : IsSameParty old new) (goes : new.stopped ≡ false) where
   pub ends : (c : Configuration) (past : List Entry) (input : Entry) (outs : List Output) (f : Fits c old past) (runs : Runs c old past) → is_output input ≡ false
-      → Stands c (start_at c (me_of old) runs.desk old.orderer.log past runs.holds input) new.orderer.log new.desk [] outs → NumbersRight c new → Rests new → IsAllNumbered new
+      → Stands c (start_at c (me_of old) runs.desk old.orderer.log past runs.holds input) new.orderer new.desk [] outs → Rests new → IsAllNumbered new
+      → AnswersFetches c (me_of old) past input (given (me_of old) outs) runs.holds.of_desk.point
       → (outs ≡ []) ⊎ IsTaken c (me_of old) (start_at c (me_of old) runs.desk old.orderer.log past runs.holds input)
       → Fits c new (after_event (me_of old) input outs past)
-  ends c past input outs f runs is st right rest all why = subst (Fits c new) (behind_is (map (entry_of (me_of old)) outs) (input ∷ past)) (record {
+  ends c past input outs f runs is st rest all answered why = subst (Fits c new) (behind_is (map (entry_of (me_of old)) outs) (input ∷ past)) (record {
     members_are = f.members_are ∙ sym (ap (λ (e : EndpointState). e.membership) party.orderer.endpoint);
     right = subst (λ (e : EndpointState). IsOrderingReplica c e.me now) (sym party.orderer.endpoint) (held_order c (me_of old) st.desk new.orderer.log now held);
     unchanged = unchanged;
@@ -119,27 +91,32 @@ module _ (old new : ReplicaData) (one : AreOne old.orderer old.desk) (party : Is
       desk = st.desk;
       is_desk = st.is;
       holds = subst (λ (x : EndpointState). histories.Holds c x.me st.desk new.orderer.log now) (sym party.orderer.endpoint) held;
-      numbers = right;
+      numbers = subst (λ (x : EndpointState). FitsCount c x.me new.orderer new.desk.waiting.numbered st.desk now) (sym party.orderer.endpoint) event.numbers;
+      said = subst (λ (x : EndpointState). WasSaid x.me new.orderer.last_checkpoint now) (sym party.orderer.endpoint) event.said;
       all = all;
       first = party.orderer.log.view ∙ runs.first;
     };
   })
     where
+      s : Start
+      s = start_at c (me_of old) runs.desk old.orderer.log past runs.holds input
+
       now : List Entry
       now = given (me_of old) outs ++ input ∷ past
 
       mine : new.desk.me ≡ me_of old
       mine = party.me ∙ one.0
 
-      taken_so : (outs ≡ []) ⊎ IsTaken c (me_of old) (start_at c (me_of old) runs.desk old.orderer.log past runs.holds input)
-          → (given (me_of old) outs ≡ []) ⊎ IsTaken c (me_of old) (start_at c (me_of old) runs.desk old.orderer.log past runs.holds input)
+      event : FitsEvent c (me_of old) s new.orderer st.desk new.desk.waiting.numbered [] outs
+      event = subst (λ (m : ℕ). FitsEvent c m s new.orderer st.desk new.desk.waiting.numbered [] outs) mine st.fits
+
+      taken_so : (outs ≡ []) ⊎ IsTaken c (me_of old) s → (given (me_of old) outs ≡ []) ⊎ IsTaken c (me_of old) s
       taken_so (inl e) = inl (ap (given (me_of old)) e)
       taken_so (inr t) = inr t
 
       held : histories.Holds c (me_of old) st.desk new.orderer.log now
-      held = events_end c (me_of old) runs.desk st.desk old.orderer.log new.orderer.log past (given (me_of old) outs) input runs.holds
-          (subst (λ (m : ℕ). histories.Fits c m (start_at c (me_of old) runs.desk old.orderer.log past runs.holds input) st.desk new.orderer.log [] (given m outs)) mine st.fits)
-          (settled c new st.desk st.is right rest all) is (taken_so why)
+      held = events_end c (me_of old) runs.desk st.desk old.orderer.log new.orderer.log past (given (me_of old) outs) input runs.holds event.fits
+          (settled c (me_of old) new st.desk now st.is event.fits.of_log event.numbers rest all) answered is (taken_so why)
 
       unchanged : target now ≡ 0
       unchanged = let t = held.of_log.fits.target in let v = party.orderer.log.view ∙ runs.first in omega (arith, t, v)
@@ -158,45 +135,49 @@ module _ (old : ReplicaData) (bytes : List ℕ) (one : AreOne old.orderer old.de
   why c s new outs party (inl e) = inl e
   why c s new outs party (inr t) = inr (taken_then c s new party t)
 
+  -- what is no fetch is owed no answer
+  owes_none : (c : Configuration) (s : Start) (mid : ReplicaData) (outs : List Output) → IsSameParty old mid → IsTakenBeside c (me_of mid) s
+      → AnswersFetches c (me_of old) s.before s.input (given (me_of old) outs) s.old
+  owes_none c s mid outs party t =
+      others_owe_none c (me_of old) s.before s.input (given (me_of old) outs) s.old (subst (λ (e : EndpointState). place_heard c e.me s.input ≡ None) party.orderer.endpoint t.1)
+
+  -- an event that ends with numbers for what waits
+  ends_numbered : (c : Configuration) (past : List Entry) (mid before new : ReplicaData) (x outs : List Output) (f : Fits c old past) (runs : Runs c old past)
+      → IsSameParty old mid → IsSameParty mid before → NumbersWaiting before x new outs → Rests before
+      → Stands c (event_of c old past runs bytes) before.orderer before.desk [] x → IsTakenBeside c (me_of mid) (event_of c old past runs bytes)
+      → Fits c new (after_event (me_of old) (Got (me_of old) bytes) outs past)
+  ends_numbered c past mid before new x outs f runs first then n rest st t =
+      let party = parties_twice old mid before first then in
+      let p = n.proceeds rest c (event_of c old past runs bytes) (known c past f ∙ sym party.membership) st in
+      ends old new one (parties_twice old before new party n.party) (n.party.stopped ∙ party.stopped ∙ goes) c past (Got (me_of old) bytes) outs f runs refl p (n.rests rest) n.all
+      (owes_none c (event_of c old past runs bytes) mid outs first t) (inr (taken_then c (event_of c old past runs bytes) mid first t.0))
+
   pub leads_nothing : (new : ReplicaData) (outs : List Output) → TakesBytes bytes old touched.Nothing new outs → Leads old (Got (me_of old) bytes) outs new
   leads_nothing new outs t c past f free =
       let runs = f.running goes in
       let b = t.begins c past runs (known c past f) free in
-      ends old new one t.party (t.party.stopped ∙ goes) c past (Got (me_of old) bytes) outs f runs refl b.0 b.1 b.2.0 b.2.1 (why c (event_of c old past runs bytes) new outs t.party b.2.2)
+      ends old new one t.party (t.party.stopped ∙ goes) c past (Got (me_of old) bytes) outs f runs refl b.0 b.1.0 b.1.1
+      (subst (λ (e : EndpointState). AnswersFetches c e.me past (Got (me_of old) bytes) (given e.me outs) runs.holds.of_desk.point) t.party.orderer.endpoint b.1.2)
+      (why c (event_of c old past runs bytes) new outs t.party b.1.3)
 
   pub leads_waiting : (mid new : ReplicaData) (x outs : List Output) → TakesBytes bytes old touched.Waiting mid x → NumbersWaiting mid x new outs → Leads old (Got (me_of old) bytes) outs new
   leads_waiting mid new x outs t n c past f free =
       let runs = f.running goes in
       let b = t.begins c past runs (known c past f) free in
-      let p = n.proceeds c _ (known c past f ∙ sym t.party.membership) b.1 b.0 in
-      ends old new one (parties_twice old mid new t.party n.party) (n.party.stopped ∙ t.party.stopped ∙ goes) c past (Got (me_of old) bytes) outs f runs refl p.0 p.1 (n.rests b.2.0) n.all (inr (taken_then c (event_of c old past runs bytes) mid t.party b.2.1))
+      ends_numbered c past mid mid new x outs f runs t.party (same_party mid) n b.1.0 b.0 b.1.1
 
   pub leads_row : (number : Number) (mid voted new : ReplicaData) (x y outs : List Output) → TakesBytes bytes old (touched.Row number) mid x → GoesOnWith number.0 mid x voted y
       → NumbersWaiting voted y new outs → Leads old (Got (me_of old) bytes) outs new
   leads_row number mid voted new x y outs t g n c past f free =
       let runs = f.running goes in
       let b = t.begins c past runs (known c past f) free in
-      let at = known c past f ∙ sym t.party.membership in
-      let p = n.proceeds c _ (at ∙ sym g.party.membership) (g.numbers c at b.1) (g.proceeds c _ at b.0) in
-      ends old new one (parties_twice old voted new (parties_twice old mid voted t.party g.party) n.party) (n.party.stopped ∙ g.party.stopped ∙ t.party.stopped ∙ goes)
-      c past (Got (me_of old) bytes) outs f runs refl p.0 p.1 (n.rests (g.voted b.2.0, g.executed)) n.all (inr (taken_then c (event_of c old past runs bytes) mid t.party b.2.1))
+      let st = g.proceeds b.1.0 c (event_of c old past runs bytes) (known c past f ∙ sym t.party.membership) b.0 in
+      ends_numbered c past mid voted new y outs f runs t.party g.party n (g.rests b.1.0) st b.1.1
 
--- ---- a tick
-
-pub leads_tick : (r : ReplicaData) → AreOne r.orderer r.desk → r.stopped ≡ false → Leads r (Tick (me_of r)) [] r
-leads_tick r one goes c past f free =
-    let runs = f.running goes in
-    ends r r one same_party goes c past (Tick (me_of r)) [] f runs refl (record {
-      desk = runs.desk;
-      is = runs.is_desk;
-      fits = subst (λ (m : ℕ). histories.Fits c m (start_at c (me_of r) runs.desk r.orderer.log past runs.holds (Tick (me_of r))) runs.desk r.orderer.log [] []) (sym one.0)
-          (ticks_fit c (me_of r) runs.desk r.orderer.log past runs.holds);
-    }) runs.numbers (rests c r past runs) runs.all (inl refl)
-  where
-    same_party : IsSameParty r r
-    same_party = record {
-      orderer = record { endpoint = refl; log = record { me = refl; faults = refl; span = refl; view = refl; active = refl; low = refl } };
-      me = refl;
-      membership = refl;
-      stopped = refl;
-    }
+  pub leads_state : (mid run new : ReplicaData) (x y outs : List Output) → TakesBytes bytes old touched.State mid x → ExecutesAll mid x run y → NumbersWaiting run y new outs
+      → Leads old (Got (me_of old) bytes) outs new
+  leads_state mid run new x y outs t g n c past f free =
+      let runs = f.running goes in
+      let b = t.begins c past runs (known c past f) free in
+      let st = g.proceeds b.1.0 c (event_of c old past runs bytes) (known c past f ∙ sym t.party.membership) b.0 in
+      ends_numbered c past mid run new y outs f runs t.party g.party n (g.rests b.1.0) st b.1.1

@@ -1,5 +1,5 @@
 -- What a client's ordered request does to what a replica holds.
-use Rattle.std.proofs.Common.{◌≡◌, ℕ, suc, ◌+◌, ◌-◌, ◌<◌, ◌≤◌, ◌⊎◌, inl, inr, Bool, true, false, cond, not, ◌==◌, List, [], ◌∷◌, ◌++◌, filter, Option, Some, None, is_some, refl, sym, ap, ◌∙◌, subst, arith}
+use Rattle.std.proofs.Common.{◌≡◌, ℕ, ◌+◌, ◌-◌, ◌<◌, ◌≤◌, ◌⊎◌, inl, inr, Bool, true, false, cond, not, ◌==◌, List, [], ◌∷◌, ◌++◌, filter, length, take, Option, Some, None, is_some, refl, sym, ap, ◌∙◌, subst, arith}
 use Rattle.std.specs.Prelude.{nat_le, option_and_then}
 use Rattle.std.specs.Option.{option_map_or}
 use Rattle.std.proofs.lemmas.Bool.{le-leb}
@@ -14,7 +14,6 @@ use Rattle.signing.specs.Heard.{heard}
 use Rattle.signing.proofs.Heard.{heard_was_opened}
 use Rattle.events.specs.declared.output.Output.{Output}
 use Rattle.reply_cache.specs.Replies.{Kept}
-use Rattle.ordering.specs.Log as logs
 use Rattle.ordering.specs.Log.{LogData}
 use Rattle.protocol.specs.System.Configuration.{Configuration, is_client, members}
 use Rattle.protocol.specs.System.Trace.{Entry, Has}
@@ -22,30 +21,33 @@ use Rattle.protocol.specs.System.Trace.Entry.{Got}
 use Rattle.protocol.specs.Replica.Certificates.{taken}
 use Rattle.protocol.specs.Replica.State.{State, Call, call_in, call_of, kept_of, last_time}
 use Rattle.protocol.specs.Replica.RightReplica.{with_waiting}
-use Rattle.protocol.specs.Replica.Owed.{IsNoOlder}
+use Rattle.protocol.specs.Replica.Owed.{IsNoOlder, place_from}
 use Rattle.replica_histories.specs.Desk.{Desk}
 use Rattle.replica_histories.specs.Logs.{FitsLog}
 use Rattle.replica_histories.specs.Events as histories
 use Rattle.replica_histories.specs.Events.{Start, IsTaken}
 use Rattle.replica_histories.specs.Inputs.{Enters, IsBesideLog, again_for, asked}
+use Rattle.replica_histories.specs.Numbers.{FitsNumbers, count_with}
+use Rattle.replica_histories.specs.TransfersAnswers.{place_heard}
 use Rattle.replica_histories.proofs.Counting.{requests_count, others_drop}
 use Rattle.replica_histories.proofs.Entering.{inputs_fit}
-use Rattle.replica_histories.proofs.Resting.{held_are_settled}
+use Rattle.replica_histories.proofs.NumbersWaiting.{requests_fit}
+use Rattle.replica_histories.proofs.TransfersAnswering.{others_owe_none}
 use Rattle.replica.specs.declared.waiting.WaitingRequest.{WaitingRequest}
 use Rattle.replica.specs.declared.taking.Touched.TheVariants as touched
 use Rattle.replica.specs.State.{OrdererData, DeskData, ReplicaData, AreOne}
 use Rattle.replica.specs.Waiting.{frames_of, is_of, request_of, with_request, without}
-use Rattle.replica.specs.Desks.{IsDeskOf, Stands}
+use Rattle.replica.specs.Desks.{IsDeskOf, FitsCount, FitsEvent, Stands, given}
 use Rattle.replica.specs.Desking.{HasReply, PaysAgain, Waits}
 use Rattle.replica.specs.Arriving.{IsBehind, IsPast, IsWaitingAlready, IsNewer}
 use Rattle.replica.specs.Saying.{SaysAgain}
-use Rattle.replica.specs.Going.{IsSameParty, Rests}
-use Rattle.replica.specs.Numbering.{NumbersRight}
 use Rattle.replica.specs.Fits.{Runs, me_of}
-use Rattle.replica.specs.Entering.{event_of, TakesBytes, TakesRequest}
+use Rattle.replica.specs.Entering.{event_of, Leaves, TakesBytes, TakesRequest}
+use Rattle.replica.proofs.Beginning.{rests}
 use Rattle.replica.proofs.GoingOn.{said_stands}
-use Rattle.replica.proofs.WaitingOn.{AreOlder, older, no_older, no_older_same, stays_seen, stays_waiting, replaces, calls_replaced, differ_replaced, frames_replaced}
-use Rattle.replica.proofs.NumbersOn.{numbers_on}
+use Rattle.replica.proofs.Parties.{same_orderer, same_party}
+use Rattle.replica.proofs.Staying.{numbers_beside, said_on}
+use Rattle.replica.proofs.WaitingOn.{AreOlder, older, no_older, no_older_same, is_latest, seen_before, waits_before, latest, calls_replaced, calls_counted, differ_replaced, frames_replaced}
 
 -- ---- what is heard
 
@@ -87,14 +89,15 @@ module _ (c : Configuration) (me : ℕ) (bytes : List ℕ) (k t : ℕ) (op : Ope
       go false e = absurd cc
 
   -- the log takes nothing of it
-  enters : (log : LogData) (past : List Entry) (desk new : Desk) → FitsLog c me log past → new.state ≡ desk.state → new.snapshots ≡ desk.snapshots
+  enters : (log : LogData) (past : List Entry) (desk new : Desk) → FitsLog c me log past → new.state ≡ desk.state → new.snapshots ≡ desk.snapshots → new.transfer ≡ desk.transfer
       → new.waiting ≡ with_waiting desk.state desk.waiting (call_for k t op)
       → ((frame : List ℕ) → Has (λ x. x ≡ frame) new.frames → Has (λ x. x ≡ frame) desk.frames ⊎ (frame ≡ bytes))
       → Enters c me bytes desk new log log (again_for k t (kept_of desk.state k))
-  enters log past desk new fits state snapshots waiting frames = record {
+  enters log past desk new fits state snapshots transfer waiting frames = record {
     takes = others_drop c me log past bytes fits (subst IsBesideLog (sym h) tt);
     state = state;
     snapshots = snapshots;
+    transfer = transfer;
     waiting = waiting ∙ sym (ap (λ (o : Option Call). option_map_or (with_waiting desk.state desk.waiting) o desk.waiting) call_heard);
     frames = λ frame has. here frame (frames frame has);
     due_is = sym (asked_is desk.state);
@@ -113,14 +116,6 @@ seen_of_kept st k t kept has same = go (kept_of st k) has
     go None e = absurd cc
     go (Some x) e = let one : x.timestamp ≡ kept.timestamp = cc in omega (arith, one, same)
 
-same_party : (r : ReplicaData) (desk : DeskData) → desk.me ≡ r.desk.me → desk.membership ≡ r.desk.membership → IsSameParty r (record r { desk = desk })
-same_party r desk me membership = record {
-  orderer = record { endpoint = refl; log = record { me = refl; faults = refl; span = refl; view = refl; active = refl; low = refl } };
-  me = me;
-  membership = membership;
-  stopped = refl;
-}
-
 module _ (old : ReplicaData) (client : ClientId) (timestamp : Timestamp) (bytes : List ℕ) (one : AreOne old.orderer old.desk) (op : Operation)
     (hears : heard old.desk.membership old.desk.me bytes ≡ Some (body_of client.number timestamp.0 op)) where
   abbrev k : ℕ
@@ -129,9 +124,16 @@ module _ (old : ReplicaData) (client : ClientId) (timestamp : Timestamp) (bytes 
   abbrev t : ℕ
   t = timestamp.0
 
+  -- the reply that is kept
+  abbrev due : List Message
+  due = again_for k t (kept_of old.desk.executed.state k)
+
   module _ (c : Configuration) (past : List Entry) (runs : Runs c old past) (known : members c ≡ old.desk.membership) (free : taken c past (Got (me_of old) bytes) ≡ None) where
     abbrev start : Start
     start = event_of c old past runs bytes
+
+    abbrev input : Entry
+    input = Got (me_of old) bytes
 
     h : heard (members c) (me_of old) bytes ≡ Some (body_of k t op)
     h = ap (λ m. heard m (me_of old) bytes) known ∙ ap (λ (n : ℕ). heard old.desk.membership n bytes) (sym one.0) ∙ hears
@@ -139,44 +141,50 @@ module _ (old : ReplicaData) (client : ClientId) (timestamp : Timestamp) (bytes 
     state_is : runs.desk.state ≡ old.desk.executed.state
     state_is = runs.is_desk.state
 
+    -- what has a number of what waits then
+    numbers : FitsCount c (me_of old) old.orderer (count_with runs.desk.state runs.desk.waiting old.desk.waiting.numbered (call_for k t op))
+        (record runs.desk { waiting = with_waiting runs.desk.state runs.desk.waiting (call_for k t op) }) (input ∷ past)
+    numbers own = requests_fit c (me_of old) old.orderer.log.view old.orderer.used old.desk.waiting.numbered runs.desk.state runs.desk.waiting (input ∷ past) (call_for k t op)
+        (numbers_beside c (me_of old) old.desk.waiting.numbered old.orderer runs.desk past input runs.holds.of_log.fits.faults runs.holds.of_log.fits.own (record { here = refl; none = free; sends = refl }) runs.numbers own)
+
     -- what is due is the reply that is kept
     stands : (desk : Desk) (d : DeskData) → d.me ≡ old.desk.me → IsDeskOf c d desk
         → Enters c (me_of old) bytes runs.desk desk old.orderer.log old.orderer.log (again_for k t (kept_of runs.desk.state k))
-        → Stands c start old.orderer.log d (again_for k t (kept_of old.desk.executed.state k)) []
-    stands desk d me is e = record {
+        → FitsCount c (me_of old) old.orderer d.waiting.numbered desk (input ∷ past)
+        → Stands c start old.orderer d due []
+    stands desk d me is e counted = record {
       desk = desk;
       is = is;
-      fits = subst (λ (n : ℕ). histories.Fits c n start desk old.orderer.log (again_for k t (kept_of old.desk.executed.state k)) []) (sym (me ∙ one.0))
-          (subst (λ (st : State). histories.Fits c (me_of old) start desk old.orderer.log (again_for k t (kept_of st k)) []) state_is
-          (inputs_fit c (me_of old) runs.desk desk old.orderer.log old.orderer.log (again_for k t (kept_of runs.desk.state k)) past bytes runs.holds free e));
+      fits = subst (λ (n : ℕ). FitsEvent c n start old.orderer desk d.waiting.numbered due []) (sym (me ∙ one.0)) (record {
+        fits = subst (λ (st : State). histories.Fits c (me_of old) start desk old.orderer.log (again_for k t (kept_of st k)) []) state_is
+            (inputs_fit c (me_of old) runs.desk desk old.orderer.log old.orderer.log (again_for k t (kept_of runs.desk.state k)) past bytes runs.holds free e);
+        numbers = counted;
+        said = said_on (me_of old) old.orderer.last_checkpoint past input runs.said;
+      });
     }
 
     -- nothing else changes, where it doesn't wait
-    stands_same : with_waiting runs.desk.state runs.desk.waiting (call_for k t op) ≡ runs.desk.waiting
-        → Stands c start old.orderer.log old.desk (again_for k t (kept_of old.desk.executed.state k)) []
-    stands_same same =
+    stands_same : is_latest runs.desk.state runs.desk.waiting (call_for k t op) ≡ false → Stands c start old.orderer old.desk due []
+    stands_same early =
         stands runs.desk old.desk refl runs.is_desk
-        (enters c (me_of old) bytes k t op h old.orderer.log past runs.desk runs.desk runs.holds.of_log.fits refl refl (sym same) (λ frame x. inl x))
+        (enters c (me_of old) bytes k t op h old.orderer.log past runs.desk runs.desk runs.holds.of_log.fits refl refl refl
+        (sym (ap (λ (b : Bool). cond b (filter (λ other. not (other.client == k)) runs.desk.waiting ++ call_for k t op ∷ []) runs.desk.waiting) early)) (λ frame x. inl x))
+        (numbers_beside c (me_of old) old.desk.waiting.numbered old.orderer runs.desk past input runs.holds.of_log.fits.faults runs.holds.of_log.fits.own
+        (record { here = refl; none = free; sends = refl }) runs.numbers)
 
-    stands_seen : t ≤ last_time old.desk.executed.state k → Stands c start old.orderer.log old.desk (again_for k t (kept_of old.desk.executed.state k)) []
-    stands_seen le = stands_same (stays_seen runs.desk.state runs.desk.waiting k t op (subst (λ (st : State). t ≤ last_time st k) (sym state_is) le))
+    stands_seen : t ≤ last_time old.desk.executed.state k → Stands c start old.orderer old.desk due []
+    stands_seen le = stands_same (seen_before runs.desk.state runs.desk.waiting k t op (subst (λ (st : State). t ≤ last_time st k) (sym state_is) le))
 
-    stands_waiting : (r : WaitingRequest) → request_of k old.desk.waiting ≡ Some r → t ≤ r.timestamp.0 → Stands c start old.orderer.log old.desk (again_for k t (kept_of old.desk.executed.state k)) []
-    stands_waiting r found le = stands_same (stays_waiting c runs.desk.state k t op old.desk.waiting.requests runs.desk.waiting r runs.is_desk.waiting found le)
+    stands_waiting : (r : WaitingRequest) → request_of k old.desk.waiting ≡ Some r → t ≤ r.timestamp.0 → Stands c start old.orderer old.desk due []
+    stands_waiting r found le = stands_same (waits_before c runs.desk.state k t op old.desk.waiting.requests runs.desk.waiting r runs.is_desk.waiting found le)
 
-    stands_past : IsPast old.desk k t bytes → Stands c start old.orderer.log old.desk (again_for k t (kept_of old.desk.executed.state k)) []
+    stands_past : IsPast old.desk k t bytes → Stands c start old.orderer old.desk due []
     stands_past (inl le) = stands_seen le
     stands_past (inr (r, found, behind)) = stands_waiting r found (at_most r behind)
       where
         at_most : (r : WaitingRequest) → IsBehind r t bytes → t ≤ r.timestamp.0
         at_most r (inl below) = omega (arith, below)
         at_most r (inr other) = let same = other.0 in omega (arith, same)
-
-    rests : Rests old
-    rests = (
-      λ i. (runs.holds.of_log.prepares i, runs.holds.of_log.commits i),
-      subst (λ (st : State). logs.committed_batch old.orderer.log (suc st.number) ≡ None) state_is (held_are_settled c (me_of old) runs.desk old.orderer.log past runs.holds).executes,
-    )
 
     -- it counts
     counts : ((kept : Kept) × (kept_of runs.desk.state k ≡ Some kept) × (kept.timestamp ≡ t)) ⊎ ((last_time runs.desk.state k < t) × IsNoOlder runs.desk.waiting k t op)
@@ -186,58 +194,62 @@ module _ (old : ReplicaData) (client : ClientId) (timestamp : Timestamp) (bytes 
     unseen : last_time old.desk.executed.state k < t → last_time runs.desk.state k < t
     unseen lt = subst (λ (st : State). last_time st k < t) (sym state_is) lt
 
+    -- it asks for no part of a state
+    no_part : place_heard c (me_of old) input ≡ None
+    no_part = ap (option_and_then place_from) h
+
+    -- where nothing is touched
+    leaves : (outs : List Output) → (outs ≡ []) ⊎ IsTaken c (me_of old) start → Leaves c start touched.Nothing old outs
+    leaves outs silent = (
+      rests c old past runs,
+      runs.all,
+      others_owe_none c (me_of old) past input (given (me_of old) outs) runs.holds.of_desk.point no_part,
+      silent,
+    )
+
   -- ---- what is given for it
 
-  due_none : (d : DeskData) (c : Configuration) (s : Start) (log : LogData) (outs : List Output) → again_for k t (kept_of old.desk.executed.state k) ≡ []
-      → Stands c s log d (again_for k t (kept_of old.desk.executed.state k)) outs → Stands c s log d [] outs
-  due_none d c s log outs none st = subst (λ (ms : List Message). Stands c s log d ms outs) none st
+  due_none : (d : DeskData) (c : Configuration) (s : Start) (o : OrdererData) (outs : List Output) → due ≡ [] → Stands c s o d due outs → Stands c s o d [] outs
+  due_none d c s o outs none st = subst (λ (ms : List Message). Stands c s o d ms outs) none st
 
   -- the kept reply goes again
   takes_kept : (outs : List Output) → PaysAgain old.desk client timestamp [] outs → HasReply old.desk client timestamp true → TakesBytes bytes old touched.Nothing old outs
   takes_kept outs pays (kept, has, same) = record {
-    party = same_party old old.desk refl refl;
+    party = same_party old;
     begins = λ c past runs known free. (
-      pays c (start c past runs known free) old.orderer.log known (stands_seen c past runs known free (seen_of_kept old.desk.executed.state k t kept has same)),
-      runs.numbers,
-      (rests c past runs known free, runs.all, inr (counts c past runs known free (inl (kept, ap (λ (st : State). kept_of st k) (state_is c past runs known free) ∙ has, same)))),
+      pays c (start c past runs known free) old.orderer known (stands_seen c past runs known free (seen_of_kept old.desk.executed.state k t kept has same)),
+      leaves c past runs known free outs (inr (counts c past runs known free (inl (kept, ap (λ (st : State). kept_of st k) (state_is c past runs known free) ∙ has, same)))),
     );
   }
 
   -- what is past is dropped
-  takes_past : (outs : List Output) → again_for k t (kept_of old.desk.executed.state k) ≡ [] → outs ≡ [] → IsPast old.desk k t bytes → TakesBytes bytes old touched.Nothing old outs
+  takes_past : (outs : List Output) → due ≡ [] → outs ≡ [] → IsPast old.desk k t bytes → TakesBytes bytes old touched.Nothing old outs
   takes_past outs none silent is = record {
-    party = same_party old old.desk refl refl;
+    party = same_party old;
     begins = λ c past runs known free. (
-      subst (λ (xs : List Output). Stands c (start c past runs known free) old.orderer.log old.desk [] xs) (sym silent)
-          (due_none old.desk c (start c past runs known free) old.orderer.log [] none (stands_past c past runs known free is)),
-      runs.numbers,
-      (rests c past runs known free, runs.all, inl silent),
+      subst (λ (xs : List Output). Stands c (start c past runs known free) old.orderer old.desk [] xs) (sym silent)
+          (due_none old.desk c (start c past runs known free) old.orderer [] none (stands_past c past runs known free is)),
+      leaves c past runs known free outs (inl silent),
     );
   }
 
   -- what waits already makes the replica say again what it said
-  takes_again : (outs : List Output) → again_for k t (kept_of old.desk.executed.state k) ≡ [] → IsWaitingAlready old.desk k t bytes → SaysAgain old.orderer [] old.orderer outs
-      → TakesBytes bytes old touched.Nothing old outs
+  takes_again : (outs : List Output) → due ≡ [] → IsWaitingAlready old.desk k t bytes → SaysAgain old.orderer [] old.orderer outs → TakesBytes bytes old touched.Nothing old outs
   takes_again outs none (lt, r, found, same, says) again = record {
-    party = same_party old old.desk refl refl;
+    party = same_party old;
     begins = λ c past runs known free. (
       said_stands old old.orderer [] outs one again.goes c (start c past runs known free) known
-          (due_none old.desk c (start c past runs known free) old.orderer.log [] none (stands_waiting c past runs known free r found (omega (arith, same)))),
-      runs.numbers,
-      (
-        rests c past runs known free,
-        runs.all,
-        inr (counts c past runs known free (inr (
-          unseen c past runs known free lt,
-          no_older_same c k t op old.desk.waiting.requests runs.desk.waiting r runs.is_desk.waiting runs.is_desk.differ found
-              (ap (option_and_then (call_in c)) says ∙ call_of_bytes c (me_of old) bytes k t op (h c past runs known free)),
-        ))),
-      ),
+          (due_none old.desk c (start c past runs known free) old.orderer [] none (stands_waiting c past runs known free r found (omega (arith, same)))),
+      leaves c past runs known free outs (inr (counts c past runs known free (inr (
+        unseen c past runs known free lt,
+        no_older_same c k t op old.desk.waiting.requests runs.desk.waiting r runs.is_desk.waiting runs.is_desk.differ found
+            (ap (option_and_then (call_in c)) says ∙ call_of_bytes c (me_of old) bytes k t op (h c past runs known free)),
+      )))),
     );
   }
 
   -- what is newer waits
-  module _ (outs : List Output) (desk : DeskData) (none : again_for k t (kept_of old.desk.executed.state k) ≡ []) (silent : outs ≡ []) (newer : IsNewer old.desk k t) (waits : Waits client timestamp bytes old.desk desk) where
+  module _ (outs : List Output) (desk : DeskData) (none : due ≡ []) (silent : outs ≡ []) (newer : IsNewer old.desk k t) (waits : Waits client timestamp bytes old.desk desk) where
     abbrev r : WaitingRequest
     r = waits.0
 
@@ -254,18 +266,26 @@ module _ (old : ReplicaData) (client : ClientId) (timestamp : Timestamp) (bytes 
       are_older : AreOlder k t old.desk.waiting.requests
       are_older = older k t old.desk.waiting.requests runs.is_desk.differ newer.1
 
+      abbrev new_calls : List Call
+      new_calls = filter (λ x. not (x.client == k)) runs.desk.waiting ++ call_for k t op ∷ []
+
       abbrev new_desk : Desk
       new_desk = record {
         state = runs.desk.state;
         snapshots = runs.desk.snapshots;
-        waiting = filter (λ x. not (x.client == k)) runs.desk.waiting ++ call_for k t op ∷ [];
+        waiting = new_calls;
         frames = frames_of (with_request r (without k old.desk.waiting));
+        transfer = runs.desk.transfer;
       }
 
       is_new : IsDeskOf c waiting_desk new_desk
       is_new = record {
-        members_are = known;
+        members_are = runs.is_desk.members_are;
+        period_is = runs.is_desk.period_is;
         state = state_is c past runs known free;
+        snapshots = runs.is_desk.snapshots;
+        transfer = runs.is_desk.transfer;
+        rests = runs.is_desk.rests;
         frames = refl;
         waiting = calls_replaced c k old.desk.waiting.requests runs.desk.waiting r (call_for k t op) runs.is_desk.waiting
             (ap (call_of c) waits.3 ∙ call_of_bytes c (me_of old) bytes k t op (h c past runs known free), sym of_client, sym of_time);
@@ -279,27 +299,44 @@ module _ (old : ReplicaData) (client : ClientId) (timestamp : Timestamp) (bytes 
           go (inl y) = inl (subst (λ (fs : List (List ℕ)). Has (λ x. x ≡ frame) fs) (sym runs.is_desk.frames) y)
           go (inr y) = inr (y ∙ waits.3)
 
-      stands_new : Stands c (start c past runs known free) old.orderer.log waiting_desk (again_for k t (kept_of old.desk.executed.state k)) []
-      stands_new = stands c past runs known free new_desk waiting_desk refl is_new
-          (enters c (me_of old) bytes k t op (h c past runs known free) old.orderer.log past runs.desk new_desk runs.holds.of_log.fits refl refl
-          (sym (replaces c runs.desk.state k t op old.desk.waiting.requests runs.desk.waiting runs.is_desk.waiting (unseen c past runs known free newer.0) are_older)) frames_are)
+      is_first : is_latest runs.desk.state runs.desk.waiting (call_for k t op) ≡ true
+      is_first = latest c runs.desk.state k t op old.desk.waiting.requests runs.desk.waiting runs.is_desk.waiting (unseen c past runs known free newer.0) are_older
 
-      numbers : NumbersRight c (record old { desk = waiting_desk })
-      numbers own = numbers_on old.desk.executed.state old.desk.waiting k t r of_client of_time newer.0 are_older c old.orderer.log old.orderer.used (runs.numbers own)
+      waiting_is : with_waiting runs.desk.state runs.desk.waiting (call_for k t op) ≡ new_calls
+      waiting_is = ap (λ (b : Bool). cond b new_calls runs.desk.waiting) is_first
+
+      -- where the one that it replaces had a number, one fewer has
+      count_is : count_with runs.desk.state runs.desk.waiting old.desk.waiting.numbered (call_for k t op) ≡ waiting_desk.waiting.numbered
+      count_is =
+          ap (λ (b : Bool). cond b (length (filter (λ x. not (x.client == k)) (take old.desk.waiting.numbered runs.desk.waiting))) old.desk.waiting.numbered) is_first
+          ∙ calls_counted c k old.desk.waiting.numbered old.desk.waiting.requests runs.desk.waiting runs.is_desk.waiting
+
+      new_numbers : FitsCount c (me_of old) old.orderer waiting_desk.waiting.numbered new_desk (Got (me_of old) bytes ∷ past)
+      new_numbers own =
+          subst (λ (n : ℕ). FitsNumbers c (me_of old) old.orderer.log.view old.orderer.used n runs.desk.state new_calls (Got (me_of old) bytes ∷ past)) count_is
+          (subst (λ (calls : List Call). FitsNumbers c (me_of old) old.orderer.log.view old.orderer.used (count_with runs.desk.state runs.desk.waiting old.desk.waiting.numbered (call_for k t op))
+          runs.desk.state calls (Got (me_of old) bytes ∷ past)) waiting_is (numbers c past runs known free own))
+
+      stands_new : Stands c (start c past runs known free) old.orderer waiting_desk due []
+      stands_new = stands c past runs known free new_desk waiting_desk refl is_new
+          (enters c (me_of old) bytes k t op (h c past runs known free) old.orderer.log past runs.desk new_desk runs.holds.of_log.fits refl refl refl (sym waiting_is) frames_are)
+          new_numbers
 
     takes_new_so : TakesBytes bytes old touched.Waiting (record old { desk = waiting_desk }) outs
     takes_new_so = record {
-      party = same_party old waiting_desk refl refl;
+      party = record { orderer = same_orderer old.orderer; me = refl; membership = refl; stopped = refl };
       begins = λ c past runs known free. (
-        subst (λ (xs : List Output). Stands c (start c past runs known free) old.orderer.log waiting_desk [] xs) (sym silent)
-            (due_none waiting_desk c (start c past runs known free) old.orderer.log [] none (stands_new c past runs known free)),
-        numbers c past runs known free,
+        subst (λ (xs : List Output). Stands c (start c past runs known free) old.orderer waiting_desk [] xs) (sym silent)
+            (due_none waiting_desk c (start c past runs known free) old.orderer [] none (stands_new c past runs known free)),
         (
-          rests c past runs known free,
-          counts c past runs known free (inr (
-            unseen c past runs known free newer.0,
-            no_older c k t op old.desk.waiting.requests runs.desk.waiting runs.is_desk.waiting (are_older c past runs known free),
-          )),
+          rests c old past runs,
+          (
+            counts c past runs known free (inr (
+              unseen c past runs known free newer.0,
+              no_older c k t op old.desk.waiting.requests runs.desk.waiting runs.is_desk.waiting (are_older c past runs known free),
+            )),
+            no_part c past runs known free,
+          ),
         ),
       );
     }

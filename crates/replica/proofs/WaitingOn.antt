@@ -1,15 +1,16 @@
 -- What waits, once a client's request replaces its older one.
-use Rattle.std.proofs.Common.{◌≡◌, ◌≢◌, ℕ, zero, suc, ◌<◌, ◌≤◌, ◌⊎◌, inl, inr, Bool, true, false, cond, not, ◌&&◌, ◌||◌, ◌==◌, nat_lt, List, [], ◌∷◌, ◌++◌, filter, find, Some, refl, sym, ap, ◌∙◌, subst, arith, eq-eqb, eqb-true}
+use Rattle.std.proofs.Common.{◌≡◌, ◌≢◌, ℕ, zero, suc, ◌<◌, ◌≤◌, ◌⊎◌, inl, inr, Bool, true, false, cond, not, ◌&&◌, ◌||◌, ◌==◌, nat_lt, List, [], ◌∷◌, ◌++◌, length, filter, count_by, take, find, Some, refl, sym, ap, ◌∙◌, subst, arith, eq-eqb, eqb-true}
 use Rattle.std.specs.Prelude.{AllPairs, All}
 use Rattle.std.specs.List.{list_all}
 use Rattle.std.proofs.lemmas.Bool.{eqb-false, lt-ltb, le-ltb, and_left, and_right}
 use Rattle.std.proofs.lemmas.List.Kept.{AllPairs-cons, AllPairs-filter}
+use Rattle.std.proofs.lemmas.List.Sums.{length-filter}
 use Rattle.tuple_codec.specs.Operations.{Operation}
 use Rattle.wire.specs.Lists.{Each}
 use Rattle.protocol.specs.System.Configuration.{Configuration}
 use Rattle.protocol.specs.System.Trace.{Has}
 use Rattle.protocol.specs.Replica.State.{State, Call, call_of, last_time}
-use Rattle.protocol.specs.Replica.RightReplica.{is_newer, with_waiting}
+use Rattle.protocol.specs.Replica.RightReplica.{is_newer}
 use Rattle.protocol.specs.Replica.Owed.{IsNoOlder}
 use Rattle.protocol.proofs.Words.Elements.{has_either, has_filter, has_map, has_mapped, each_weaker, each_with, all_of_each}
 use Rattle.replica.specs.declared.waiting.WaitingRequest.{WaitingRequest}
@@ -149,41 +150,23 @@ all_newer k t op calls h = all_of_each (λ (x : Call). (x.client ≡ k) → x.ti
     one x f true e = ap (λ (b : Bool). not b || nat_lt x.timestamp t) e ∙ lt-ltb x.timestamp t (f (eqb-true x.client k e))
     one x f false e = ap (λ (b : Bool). not b || nat_lt x.timestamp t) e
 
--- what ran, or isn't newer than what waits, changes nothing
-pub stays_seen : (st : State) (calls : List Call) (k t : ℕ) (op : Operation) → t ≤ last_time st k → with_waiting st calls (record { client = k; timestamp = t; op = op }) ≡ calls
-stays_seen st calls k t op le = go (nat_lt (last_time st k) t) (le-ltb (last_time st k) t le)
-  where
-    call : Call
-    call = record { client = k; timestamp = t; op = op }
+-- the call is newer than what its client ran, and than all that waits
+abbrev pub is_latest : State → List Call → Call → Bool
+is_latest st calls call = nat_lt (last_time st call.client) call.timestamp && list_all (is_newer call) calls
 
-    go : (b : Bool) → b ≡ false → cond (b && list_all (is_newer call) calls) (filter (λ other. not (other.client == k)) calls ++ call ∷ []) calls ≡ calls
-    go true e = absurd cc
-    go false e = refl
+-- what ran isn't, nor what a waiting request is no older than
+pub seen_before : (st : State) (calls : List Call) (k t : ℕ) (op : Operation) → t ≤ last_time st k → is_latest st calls (record { client = k; timestamp = t; op = op }) ≡ false
+seen_before st calls k t op le = and_left (nat_lt (last_time st k) t) (list_all (beats k t op) calls) (le-ltb (last_time st k) t le)
 
-pub stays_waiting : (c : Configuration) (st : State) (k t : ℕ) (op : Operation) (rs : List WaitingRequest) (calls : List Call) (r : WaitingRequest) → AreCallsOf c rs calls → find (is_of k) rs ≡ Some r
-    → t ≤ r.timestamp.0 → with_waiting st calls (record { client = k; timestamp = t; op = op }) ≡ calls
-stays_waiting c st k t op rs calls r h f le = go (nat_lt (last_time st k) t) (list_all (is_newer call) calls) (not_newer c k t op rs calls r h f le)
-  where
-    call : Call
-    call = record { client = k; timestamp = t; op = op }
+pub waits_before : (c : Configuration) (st : State) (k t : ℕ) (op : Operation) (rs : List WaitingRequest) (calls : List Call) (r : WaitingRequest) → AreCallsOf c rs calls → find (is_of k) rs ≡ Some r
+    → t ≤ r.timestamp.0 → is_latest st calls (record { client = k; timestamp = t; op = op }) ≡ false
+waits_before c st k t op rs calls r h f le = and_right (nat_lt (last_time st k) t) (list_all (beats k t op) calls) (not_newer c k t op rs calls r h f le)
 
-    go : (a b : Bool) → b ≡ false → cond (a && b) (filter (λ other. not (other.client == k)) calls ++ call ∷ []) calls ≡ calls
-    go a true e = absurd cc
-    go true false e = refl
-    go false false e = refl
-
--- what is newer replaces the client's
-pub replaces : (c : Configuration) (st : State) (k t : ℕ) (op : Operation) (rs : List WaitingRequest) (calls : List Call) → AreCallsOf c rs calls → last_time st k < t → AreOlder k t rs
-    → with_waiting st calls (record { client = k; timestamp = t; op = op }) ≡ filter (λ other. not (other.client == k)) calls ++ record { client = k; timestamp = t; op = op } ∷ []
-replaces c st k t op rs calls h lt o = go (nat_lt (last_time st k) t) (list_all (is_newer call) calls) (lt-ltb (last_time st k) t lt) (all_newer k t op calls (calls_older c k t rs calls h o))
-  where
-    call : Call
-    call = record { client = k; timestamp = t; op = op }
-
-    go : (a b : Bool) → a ≡ true → b ≡ true → cond (a && b) (filter (λ other. not (other.client == k)) calls ++ call ∷ []) calls ≡ filter (λ other. not (other.client == k)) calls ++ call ∷ []
-    go true true e f = refl
-    go true false e f = absurd cc
-    go false b e f = absurd cc
+-- what is newer than both is
+pub latest : (c : Configuration) (st : State) (k t : ℕ) (op : Operation) (rs : List WaitingRequest) (calls : List Call) → AreCallsOf c rs calls → last_time st k < t → AreOlder k t rs
+    → is_latest st calls (record { client = k; timestamp = t; op = op }) ≡ true
+latest c st k t op rs calls h lt o =
+    ap (λ (b : Bool). b && list_all (beats k t op) calls) (lt-ltb (last_time st k) t lt) ∙ all_newer k t op calls (calls_older c k t rs calls h o)
 
 -- ---- the requests then
 
@@ -209,6 +192,26 @@ calls_with c (t ∷ rs) (y ∷ calls) r x h is = (h.0, calls_with c rs calls r x
 pub calls_replaced : (c : Configuration) (k : ℕ) (rs : List WaitingRequest) (calls : List Call) (r : WaitingRequest) (x : Call) → AreCallsOf c rs calls → IsCallOf c r x
     → AreCallsOf c (filter (λ r. not (is_of k r)) rs ++ r ∷ []) (filter (λ x. not (x.client == k)) calls ++ x ∷ [])
 calls_replaced c k rs calls r x h is = calls_with c (filter (λ r. not (is_of k r)) rs) (filter (λ x. not (x.client == k)) calls) r x (calls_without c k rs calls h) is
+
+calls_taken : (c : Configuration) (n : ℕ) (rs : List WaitingRequest) (calls : List Call) → AreCallsOf c rs calls → AreCallsOf c (take n rs) (take n calls)
+calls_taken c zero rs calls h = tt
+calls_taken c (suc n) [] [] h = tt
+calls_taken c (suc n) [] (x ∷ calls) h = absurd h
+calls_taken c (suc n) (r ∷ rs) [] h = absurd h
+calls_taken c (suc n) (r ∷ rs) (x ∷ calls) h = (h.0, calls_taken c n rs calls h.1)
+
+as_many_calls : (c : Configuration) (rs : List WaitingRequest) (calls : List Call) → AreCallsOf c rs calls → length calls ≡ length rs
+as_many_calls c [] [] h = refl
+as_many_calls c [] (x ∷ calls) h = absurd h
+as_many_calls c (r ∷ rs) [] h = absurd h
+as_many_calls c (r ∷ rs) (x ∷ calls) h = ap suc (as_many_calls c rs calls h.1)
+
+-- of the first ones as many calls as requests are of other clients
+pub calls_counted : (c : Configuration) (k n : ℕ) (rs : List WaitingRequest) (calls : List Call) → AreCallsOf c rs calls
+    → length (filter (λ x. not (x.client == k)) (take n calls)) ≡ count_by (λ r. not (is_of k r)) (take n rs)
+calls_counted c k n rs calls h =
+    as_many_calls c (filter (λ r. not (is_of k r)) (take n rs)) (filter (λ x. not (x.client == k)) (take n calls)) (calls_without c k (take n rs) (take n calls) (calls_taken c n rs calls h))
+    ∙ length-filter (λ r. not (is_of k r)) (take n rs)
 
 pub differ_replaced : (k : ℕ) (rs : List WaitingRequest) (r : WaitingRequest) → r.client.number ≡ k → AreOfDifferentClients rs → AreOfDifferentClients (filter (λ x. not (is_of k x)) rs ++ r ∷ [])
 differ_replaced k rs r is d =

@@ -3,4 +3,12 @@ use Rattle.replica.specs.declared.desk.Desk.TheInside.{Inside}
 use Rattle.replica.specs.State.{DeskData}
 
 abbrev pub desk_data : Inside → DeskData
-desk_data d = record { me = d.me.0; membership = d.ring; executed = d.executed; waiting = d.waiting }
+desk_data d = record {
+  me = d.me.0;
+  membership = d.ring;
+  period = d.period;
+  executed = d.executed;
+  snapshots = d.snapshots;
+  transfer = d.transfer;
+  waiting = d.waiting;
+}

@@ -1,32 +1,38 @@
 -- What a desk does within an event.
-use Rattle.std.specs.Prelude.{◌≡◌, ℕ, suc, Bool, true, false, List, [], ◌∷◌, ◌++◌, map, Some}
+use Rattle.std.specs.Prelude.{◌≡◌, ℕ, suc, ◌%◌, ◌==◌, Bool, true, false, if◌then◌else◌, List, [], ◌∷◌, ◌++◌, map, Option, Some, None, option_and_then, nat_lt}
+use Rattle.std.specs.Bool.{then_some}
 use Rattle.terms.specs.declared.parties.ClientId.{ClientId}
 use Rattle.terms.specs.declared.parties.Party.TheVariants as parties
 use Rattle.terms.specs.declared.order.Timestamp.{Timestamp}
-use Rattle.wire.specs.Messages.{MessageData as Message}
+use Rattle.wire.specs.Messages.{MessageData as Message, CheckpointEntryData as CheckpointEntry}
+use Rattle.partition_tree.specs.Digests.{root_of as root_of_pages}
 use Rattle.reply_cache.specs.Replies.{Kept}
 use Rattle.posting.specs.Endpoint.{SealsForOne}
 use Rattle.events.specs.declared.output.Output.{Output}
 use Rattle.execution.specs.Executed.{told}
 use Rattle.execution.specs.declared.running.Ran.{Ran}
 use Rattle.ordering.specs.Log as logs
-use Rattle.ordering.specs.Log.{LogData}
 use Rattle.protocol.specs.System.Configuration.{Configuration, members}
-use Rattle.protocol.specs.Replica.State.{opening, execute, kept_of}
+use Rattle.protocol.specs.Replica.State.{State, opening, execute, kept_of}
 use Rattle.protocol.specs.Replica.RightReplica.{reply_of}
+use Rattle.replica_histories.specs.Desk.{Snapshot, snapshot_of, kept_from}
 use Rattle.replica_histories.specs.Events.{Start}
 use Rattle.replica_histories.specs.Inputs.{again_for}
-use Rattle.replica.specs.State.{DeskData}
+use Rattle.replica_histories.specs.Outputs.{checkpoint_due}
+use Rattle.replica.specs.State.{OrdererData, OpenData, DeskData}
 use Rattle.replica.specs.declared.waiting.WaitingRequest.{WaitingRequest}
 use Rattle.replica.specs.Waiting.{none_waiting, forgotten, with_request, without}
 use Rattle.replica.specs.Desks.{Stands}
 
--- the opening state, and nothing waits
+-- the opening state, which is kept, and nothing waits
 abbrev pub IsNewDesk : Configuration → ℕ → DeskData → Type 0
 IsNewDesk c me d = d ≡ record {
   me = me;
   membership = members c;
+  period = c.period;
   executed = record { state = opening; clients = c.clients };
+  snapshots = snapshot_of opening ∷ [];
+  transfer = None;
   waiting = none_waiting;
 }
 
@@ -36,11 +42,13 @@ Waits client timestamp frame old new =
     (r : WaitingRequest) × (r.client ≡ client) × (r.timestamp ≡ timestamp) × (r.frame.items ≡ frame)
     × (new ≡ record old { waiting = with_request r (without client.number old.waiting) })
 
--- From what is due before to what is due since: whatever stands, stands with that, and the log isn't asked.
+-- ---- what is due
+
+-- From what is due before to what is due since: whatever stands, stands with that, and the orderer isn't asked.
 abbrev pub Pays : DeskData → List Message → List Output → List Message → List Output → Type 0
 Pays d due before rest after =
-    (c : Configuration) (s : Start) (log : LogData) → members c ≡ d.membership → Stands c s log d due before
-    → Stands c s log d rest after
+    (c : Configuration) (s : Start) (o : OrdererData) → members c ≡ d.membership → Stands c s o d due before
+    → Stands c s o d rest after
 
 -- the reply that tells of a request that ran
 abbrev pub reply_for : ℕ × Kept → Message
@@ -49,9 +57,9 @@ reply_for p = reply_of p.0 p.1
 abbrev pub replies_for : List Ran → List Message
 replies_for ran = map (λ r. reply_for (told r)) ran
 
--- each reply that is due is given
+-- each reply that is due is given, before all else that is
 abbrev pub PaysAll : DeskData → List Message → List Output → List Output → Type 0
-PaysAll d due before after = Pays d due before [] after
+PaysAll d due before after = (rest : List Message) → Pays d (due ++ rest) before rest after
 
 -- the reply is given behind what was
 pub record SaysReply (d : DeskData) (client : ClientId) (kept : Kept) (before after : List Output) : Type 0 where
@@ -62,7 +70,7 @@ pub record SaysReply (d : DeskData) (client : ClientId) (kept : Kept) (before af
 -- The reply that is kept for the client goes again where it is to this timestamp, and nothing else is due.
 abbrev pub PaysAgain : DeskData → ClientId → Timestamp → List Output → List Output → Type 0
 PaysAgain d client timestamp before after =
-    PaysAll d (again_for client.number timestamp.0 (kept_of d.executed.state client.number)) before after
+    Pays d (again_for client.number timestamp.0 (kept_of d.executed.state client.number)) before [] after
 
 -- whether there is one
 abbrev pub HasReply : DeskData → ClientId → Timestamp → Bool → Type 0
@@ -71,20 +79,55 @@ HasReply d client timestamp true =
 HasReply d client timestamp false =
     again_for client.number timestamp.0 (kept_of d.executed.state client.number) ≡ []
 
--- The committed batch of the next number is executed: what stood stands, with these messages due, and no other request
--- is forgotten than those that ran, or are older.
+-- ---- executions
+
+-- the state is kept where it is to have a checkpoint
+abbrev pub snapshots_with : ℕ → State → List Snapshot → List Snapshot
+snapshots_with period st snapshots = if st.number % period == 0 then snapshot_of st ∷ snapshots else snapshots
+
+-- a transfer of a state that is reached is closed
+abbrev pub above_number : ℕ → Option OpenData → Option OpenData
+above_number number transfer = option_and_then (λ o. then_some (nat_lt number o.transfer.number) o) transfer
+
+-- The committed batch of the next number is executed: what stood stands, with these replies due, and then the
+-- checkpoint of the new state. No other request is forgotten than those that ran, or are older.
 pub record RunsBatch (old : DeskData) (text : List ℕ) (before : List Output) (new : DeskData) (due : List Message)
     (after : List Output) : Type 0 where
-  pub me : new.me ≡ old.me
-  pub membership : new.membership ≡ old.membership
+  pub same : new ≡ record old {
+    executed = new.executed;
+    snapshots = snapshots_with old.period new.executed.state old.snapshots;
+    transfer = above_number new.executed.state.number old.transfer;
+    waiting = forgotten new.executed.state old.waiting;
+  }
   pub number : new.executed.state.number ≡ suc old.executed.state.number
   pub state : (c : Configuration) → members c ≡ old.membership
       → new.executed.state ≡ execute c old.executed.state text
-  pub waiting : new.waiting ≡ forgotten new.executed.state old.waiting
-  pub stands : (c : Configuration) (s : Start) (log : LogData) → members c ≡ old.membership
-      → logs.committed_batch log (suc old.executed.state.number) ≡ Some text → Stands c s log old [] before
-      → Stands c s log new due after
+  pub stands : (c : Configuration) (s : Start) (o : OrdererData) → members c ≡ old.membership
+      → logs.committed_batch o.log (suc old.executed.state.number) ≡ Some text → Stands c s o old [] before
+      → Stands c s o new (due ++ checkpoint_due c new.executed.state) after
 
 -- and so does all of it, once its replies are given
 abbrev pub RunsWhole : DeskData → List ℕ → List Output → DeskData → List Output → Type 0
 RunsWhole old text before new after = RunsBatch old text before new [] after
+
+-- the executed state is kept; and is so where it is to have a checkpoint
+abbrev pub keeping_state : DeskData → DeskData
+keeping_state d = record d { snapshots = snapshot_of d.executed.state ∷ d.snapshots }
+
+abbrev pub is_due : DeskData → Bool
+is_due d = d.executed.state.number % d.period == 0
+
+abbrev pub keeping_due : DeskData → DeskData
+keeping_due d = if is_due d then keeping_state d else d
+
+-- the newest kept state's number and root; and so of the executed state, where that is to have a checkpoint
+abbrev pub newest_entry : List Snapshot → Option CheckpointEntry
+newest_entry [] = None
+newest_entry (snapshot ∷ older) = Some (record { number = snapshot.number; digest = root_of_pages snapshot.pages })
+
+abbrev pub due_entry : DeskData → Option CheckpointEntry
+due_entry d = if is_due d then newest_entry d.snapshots else None
+
+-- those below a low mark are given up
+abbrev pub desk_above : ℕ → DeskData → DeskData
+desk_above low d = record d { snapshots = kept_from low d.snapshots }

@@ -1,18 +1,24 @@
--- What a desk is of a history, and what an event has given so far.
-use Rattle.std.specs.Prelude.{◌≡◌, ◌≢◌, ℕ, List, [], ◌∷◌, map, reverse, Some, ⊤, AllPairs}
-use Rattle.wire.specs.Messages.{MessageData as Message}
+-- What a replica's parts are of a history, and what an event has given so far.
+use Rattle.std.specs.Prelude.{◌≡◌, ◌≢◌, ℕ, ◌≤◌, List, [], ◌∷◌, map, reverse, Option, Some, option_map, ⊤, AllPairs}
+use Rattle.std.specs.Option.{ForSome}
+use Rattle.wire.specs.Messages.{MessageData as Message, CheckpointEntryData as CheckpointEntry, checkpoint as Checkpoint}
 use Rattle.events.specs.declared.output.Output.{Output}
 use Rattle.events.specs.Outputs.{entry_of}
-use Rattle.ordering.specs.Log.{LogData}
+use Rattle.ordering.specs.Log as logs
 use Rattle.protocol.specs.System.Configuration.{Configuration, members}
-use Rattle.protocol.specs.System.Trace.{Entry}
-use Rattle.protocol.specs.Replica.State.{Call, call_of}
+use Rattle.protocol.specs.System.Trace.{Entry, Once}
+use Rattle.protocol.specs.Replica.State.{State, Call, call_of}
+use Rattle.protocol.specs.Replica.Owed.{IsSaying}
 use Rattle.replica_histories.specs.Desk.{Desk}
 use Rattle.replica_histories.specs.Events as events
-use Rattle.replica_histories.specs.Events.{Start}
+use Rattle.replica_histories.specs.Events.{Start, behind}
+use Rattle.replica_histories.specs.Numbers.{FitsNumbers}
+use Rattle.replica_histories.specs.Transfers.{RestsOn}
 use Rattle.replica.specs.declared.waiting.WaitingRequest.{WaitingRequest}
-use Rattle.replica.specs.State.{DeskData}
+use Rattle.replica.specs.State.{OrdererData, OpenData, DeskData}
 use Rattle.replica.specs.Waiting.{frames_of}
+
+-- ---- the desk
 
 -- the call is the request's
 abbrev pub IsCallOf : Configuration → WaitingRequest → Call → Type 0
@@ -28,21 +34,50 @@ AreCallsOf c _ _ = ⊥
 abbrev pub AreOfDifferentClients : List WaitingRequest → Type 0
 AreOfDifferentClients rs = AllPairs (λ r t. r.client.number ≢ t.client.number) rs
 
--- It holds the state, the requests that wait and their frames, one of each client; the snapshots are no part of it yet.
+-- Where the transfer rests at the executed state, the pages that were not fetched are the state's.
+abbrev pub RestsAt : State → OpenData → Type 0
+RestsAt st o = (o.rests_at ≤ st.number) × (o.rests_at ≡ st.number → RestsOn o.transfer st)
+
+-- It holds the state, the kept states, the open transfer, and the requests that wait with their frames, one of each
+-- client.
 pub record IsDeskOf (c : Configuration) (d : DeskData) (desk : Desk) : Type 0 where
   pub members_are : members c ≡ d.membership
+  pub period_is : c.period ≡ d.period
   pub state : desk.state ≡ d.executed.state
+  pub snapshots : desk.snapshots ≡ d.snapshots
+  pub transfer : desk.transfer ≡ option_map (λ o. o.transfer) d.transfer
+  pub rests : ForSome d.transfer (RestsAt d.executed.state)
   pub frames : desk.frames ≡ frames_of d.waiting
   pub waiting : AreCallsOf c d.waiting.requests desk.waiting
   pub differ : AreOfDifferentClients d.waiting.requests
+
+-- ---- the orderer
 
 -- the outputs of an event so far as entries, the newest first
 abbrev pub given : ℕ → List Output → List Entry
 given me outs = reverse (map (entry_of me) outs)
 
--- Desk and log fit the history behind what the event gave so far, with these messages due.
-pub record Stands (c : Configuration) (s : Start) (log : LogData) (d : DeskData) (due : List Message)
+-- at the primary, the first of the requests that wait, so many as are counted, have the numbers that were given
+abbrev pub FitsCount : Configuration → ℕ → OrdererData → ℕ → Desk → List Entry → Type 0
+FitsCount c me o count desk history = logs.primary o.log o.log.view ≡ o.log.me
+    → FitsNumbers c me o.log.view o.used count desk.state desk.waiting history
+
+-- the last checkpoint was said
+abbrev pub WasSaid : ℕ → Option CheckpointEntry → List Entry → Type 0
+WasSaid me last history =
+    ForSome last (λ entry. Once (λ earlier e. IsSaying me (Checkpoint entry.number entry.digest) e) history)
+
+-- ---- an event
+
+-- Desk and orderer fit the history behind what the event gave so far, with these messages due.
+pub record FitsEvent (c : Configuration) (me : ℕ) (s : Start) (o : OrdererData) (desk : Desk) (count : ℕ)
+    (due : List Message) (outs : List Output) : Type 0 where
+  pub fits : events.Fits c me s desk o.log due (given me outs)
+  pub numbers : FitsCount c me o count desk (behind s (given me outs))
+  pub said : WasSaid me o.last_checkpoint (behind s (given me outs))
+
+pub record Stands (c : Configuration) (s : Start) (o : OrdererData) (d : DeskData) (due : List Message)
     (outs : List Output) : Type 0 where
   pub desk : Desk
   pub is : IsDeskOf c d desk
-  pub fits : events.Fits c d.me s desk log due (given d.me outs)
+  pub fits : FitsEvent c d.me s o desk d.waiting.numbered due outs

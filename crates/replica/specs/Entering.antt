@@ -1,4 +1,4 @@
--- What bytes that come do, before anything is said of them.
+-- What bytes that come do, before anything more is said of them.
 use Rattle.std.specs.Prelude.{◌≡◌, ◌+◌, ◌⊎◌, ℕ, List, [], None, Some}
 use Rattle.tuple_codec.specs.Operations.{Operation}
 use Rattle.terms.specs.declared.parties.ClientId.{ClientId}
@@ -14,12 +14,13 @@ use Rattle.protocol.specs.System.Trace.Entry.{Got}
 use Rattle.protocol.specs.Replica.Certificates.{taken}
 use Rattle.replica_histories.specs.Events as histories
 use Rattle.replica_histories.specs.Events.{Start, IsTaken}
+use Rattle.replica_histories.specs.TransfersAnswers.{AnswersFetches, place_heard}
 use Rattle.replica.specs.declared.taking.Touched.{Touched}
 use Rattle.replica.specs.declared.taking.Touched.TheVariants as touched
 use Rattle.replica.specs.State.{ReplicaData}
-use Rattle.replica.specs.Desks.{Stands}
-use Rattle.replica.specs.Going.{IsVotedBut, IsSameParty, Rests}
-use Rattle.replica.specs.Numbering.{NumbersRight, IsAllNumbered}
+use Rattle.replica.specs.Desks.{given, Stands}
+use Rattle.replica.specs.Going.{IsVotedBut, IsVotedAll, IsSameParty, Rests}
+use Rattle.replica.specs.Numbering.{IsAllNumbered}
 use Rattle.replica.specs.Fits.{Runs, me_of}
 
 -- the event in which a replica that runs gets the bytes
@@ -27,12 +28,20 @@ abbrev pub event_of : (c : Configuration) (r : ReplicaData) (past : List Entry) 
 event_of c r past runs bytes =
     histories.start_at c (me_of r) runs.desk r.orderer.log past runs.holds (Got (me_of r) bytes)
 
--- What is left to do, by what was touched: nothing; numbers for what waits; votes for one number, and what follows.
--- What touches anything, or gives an output, is taken.
+-- a rule takes the input, which asks for no part of a state
+abbrev pub IsTakenBeside : Configuration → ℕ → Start → Type 0
+IsTakenBeside c me s = IsTaken c me s × (place_heard c me s.input ≡ None)
+
+-- What is left to do, by what was touched: nothing, and what was asked for is given; numbers for what waits; votes for
+-- one number, and what follows; or to execute what is committed behind a state that was installed. What touches
+-- anything, or gives an output, is taken.
 abbrev pub Leaves : Configuration → Start → Touched → ReplicaData → List Output → Type 0
-Leaves c s touched.Nothing r outs = Rests r × IsAllNumbered r × ((outs ≡ []) ⊎ IsTaken c (me_of r) s)
-Leaves c s touched.Waiting r outs = Rests r × IsTaken c (me_of r) s
-Leaves c s (touched.Row number) r outs = IsVotedBut number.0 r.orderer.log × IsTaken c (me_of r) s
+Leaves c s touched.Nothing r outs = Rests r × IsAllNumbered r
+    × AnswersFetches c (me_of r) s.before s.input (given (me_of r) outs) s.old
+    × ((outs ≡ []) ⊎ IsTaken c (me_of r) s)
+Leaves c s touched.Waiting r outs = Rests r × IsTakenBeside c (me_of r) s
+Leaves c s (touched.Row number) r outs = IsVotedBut number.0 r.orderer.log × IsTakenBeside c (me_of r) s
+Leaves c s touched.State r outs = IsVotedAll r.orderer.log × IsTakenBeside c (me_of r) s
 
 -- In an event that begins with these bytes, what holds of the past fits the event, with these outputs.
 pub record TakesBytes (bytes : List ℕ) (old : ReplicaData) (touched : Touched) (new : ReplicaData)
@@ -40,8 +49,8 @@ pub record TakesBytes (bytes : List ℕ) (old : ReplicaData) (touched : Touched)
   pub party : IsSameParty old new
   pub begins : (c : Configuration) (past : List Entry) (runs : Runs c old past) → members c ≡ old.desk.membership
       → taken c past (Got (me_of old) bytes) ≡ None
-      → Stands c (event_of c old past runs bytes) new.orderer.log new.desk [] outs
-      × NumbersRight c new × Leaves c (event_of c old past runs bytes) touched new outs
+      → Stands c (event_of c old past runs bytes) new.orderer new.desk [] outs
+      × Leaves c (event_of c old past runs bytes) touched new outs
 
 -- So it is where the bytes are the client's ordered request.
 abbrev pub TakesRequest :

@@ -12,8 +12,8 @@ use Rattle.replica_histories.specs.Owing.{IsOrderingReplica}
 use Rattle.replica.specs.declared.replica.Event.{Event}
 use Rattle.replica.specs.declared.replica.Event.TheVariants as events
 use Rattle.replica.specs.State.{ReplicaData}
-use Rattle.replica.specs.Desks.{IsDeskOf}
-use Rattle.replica.specs.Numbering.{NumbersRight, IsAllNumbered}
+use Rattle.replica.specs.Desks.{IsDeskOf, FitsCount, WasSaid}
+use Rattle.replica.specs.Numbering.{IsAllNumbered}
 
 -- the replica's number
 abbrev pub me_of : ReplicaData → ℕ
@@ -24,7 +24,8 @@ pub record Runs (c : Configuration) (r : ReplicaData) (history : List Entry) : T
   pub desk : Desk
   pub is_desk : IsDeskOf c r.desk desk
   pub holds : histories.Holds c (me_of r) desk r.orderer.log history
-  pub numbers : NumbersRight c r
+  pub numbers : FitsCount c (me_of r) r.orderer r.desk.waiting.numbered desk history
+  pub said : WasSaid (me_of r) r.orderer.last_checkpoint history
   pub all : IsAllNumbered r
   pub first : r.orderer.log.view ≡ 0
 

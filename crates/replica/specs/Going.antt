@@ -1,23 +1,22 @@
--- How the log goes on within an event.
-use Rattle.std.specs.Prelude.{◌≡◌, ◌≢◌, ℕ, suc, List, [], None}
+-- How a replica goes on within an event.
+use Rattle.std.specs.Prelude.{◌≡◌, ◌≢◌, ℕ, suc, ◌≤◌, Bool, true, false, List, [], Some, None}
 use Rattle.wire.specs.Messages.{MessageData as Message}
 use Rattle.events.specs.declared.output.Output.{Output}
 use Rattle.ordering.specs.Log as logs
 use Rattle.ordering.specs.Log.{LogData}
 use Rattle.protocol.specs.System.Configuration.{Configuration, members}
 use Rattle.replica_histories.specs.Desk.{Desk}
-use Rattle.replica_histories.specs.Events as events
 use Rattle.replica_histories.specs.Events.{Start}
 use Rattle.replica.specs.State.{OrdererData, DeskData, ReplicaData}
-use Rattle.replica.specs.Desks.{given, Stands}
-use Rattle.replica.specs.Numbering.{NumbersRight}
+use Rattle.replica.specs.Waiting.{count_unnumbered}
+use Rattle.replica.specs.Desks.{FitsEvent, Stands}
 
--- What fits what the event gave before, with the log as it was then, fits what it gave since, with the log as it is.
+-- What fits what the event gave before, with the orderer as it was then, fits what it gave since, with it as it is.
 abbrev pub GoesOn : OrdererData → List Output → OrdererData → List Output → Type 0
 GoesOn old before new after =
-    (c : Configuration) (s : Start) (desk : Desk) (due : List Message) → members c ≡ old.endpoint.membership
-    → events.Fits c old.endpoint.me s desk old.log due (given old.endpoint.me before)
-    → events.Fits c old.endpoint.me s desk new.log due (given old.endpoint.me after)
+    (c : Configuration) (s : Start) (desk : Desk) (count : ℕ) (due : List Message)
+    → members c ≡ old.endpoint.membership
+    → FitsEvent c old.endpoint.me s old desk count due before → FitsEvent c old.endpoint.me s new desk count due after
 
 -- the log asks for no vote for the number
 abbrev pub IsVoted : LogData → ℕ → Type 0
@@ -30,27 +29,27 @@ IsVotedBut number log = (i : ℕ) → i ≢ number → IsVoted log i
 abbrev pub IsVotedAll : LogData → Type 0
 IsVotedAll log = (i : ℕ) → IsVoted log i
 
--- the log is of the same replica, view and marks
+-- the log is of the same replica and view; its low mark is where it was, or above
 pub record IsSameLog (old new : LogData) : Type 0 where
   pub me : new.me ≡ old.me
   pub faults : new.faults ≡ old.faults
   pub span : new.span ≡ old.span
   pub view : new.view ≡ old.view
   pub active : new.active ≡ old.active
-  pub low : new.low ≡ old.low
+  pub low : old.low ≤ new.low
 
--- and has the same batches
-abbrev pub KeepsBatches : LogData → LogData → Type 0
-KeepsBatches old new = (i : ℕ) → logs.logged_batch new i ≡ logs.logged_batch old i
+-- a batch is committed of no other number than before
+abbrev pub CommitsNoMore : LogData → LogData → Type 0
+CommitsNoMore old new =
+    (i : ℕ) (text : List ℕ) → logs.committed_batch new i ≡ Some text → logs.committed_batch old i ≡ Some text
 
--- nothing but the log changes
 pub record IsSameOrderer (old new : OrdererData) : Type 0 where
   pub endpoint : new.endpoint ≡ old.endpoint
   pub log : IsSameLog old.log new.log
 
 -- ---- both parts
 
--- the party is the same, in the same view and marks
+-- the party is the same, in the same view
 pub record IsSameParty (old new : ReplicaData) : Type 0 where
   pub orderer : IsSameOrderer old.orderer new.orderer
   pub me : new.desk.me ≡ old.desk.me
@@ -60,38 +59,48 @@ pub record IsSameParty (old new : ReplicaData) : Type 0 where
 -- what stands with what the event gave before, stands with what it gave since
 abbrev pub Proceeds : ReplicaData → List Output → ReplicaData → List Output → Type 0
 Proceeds old before new after =
-    (c : Configuration) (s : Start) → members c ≡ old.desk.membership → Stands c s old.orderer.log old.desk [] before
-    → Stands c s new.orderer.log new.desk [] after
-
--- and what is right of numbers stays so
-abbrev pub KeepsNumbers : ReplicaData → ReplicaData → Type 0
-KeepsNumbers old new =
-    (c : Configuration) → members c ≡ old.desk.membership → NumbersRight c old → NumbersRight c new
+    (c : Configuration) (s : Start) → members c ≡ old.desk.membership → Stands c s old.orderer old.desk [] before
+    → Stands c s new.orderer new.desk [] after
 
 -- no batch is committed for the next number
 abbrev pub IsExecuted : LogData → DeskData → Type 0
 IsExecuted log d = logs.committed_batch log (suc d.executed.state.number) ≡ None
 
--- What is committed is executed, one batch after another.
+-- nothing is left to say or to execute
+abbrev pub Rests : ReplicaData → Type 0
+Rests r = IsVotedAll r.orderer.log × IsExecuted r.orderer.log r.desk
+
+-- The next batch is executed, where the log asks for no vote, and its checkpoint said; or none is committed, and nothing
+-- changes.
+pub record ExecutesNext (old : ReplicaData) (before : List Output) (new : ReplicaData) (after : List Output) : Type 0
+  where
+    pub proceeds : IsVotedAll old.orderer.log → Proceeds old before new after
+    pub party : IsSameParty old new
+    pub used : new.orderer.used ≡ old.orderer.used
+    pub number : new.desk.executed.state.number ≡ suc old.desk.executed.state.number
+    pub within : old.orderer.log.low ≤ old.desk.executed.state.number
+    pub voted : IsVotedAll old.orderer.log → IsVotedAll new.orderer.log
+    pub commits : CommitsNoMore old.orderer.log new.orderer.log
+    pub waiting : count_unnumbered new.desk.waiting ≤ count_unnumbered old.desk.waiting
+
+abbrev pub ExecutesTurn : ReplicaData → List Output → ReplicaData → List Output → Bool → Type 0
+ExecutesTurn old before new after true = ExecutesNext old before new after
+ExecutesTurn old before new after false = (new ≡ old) × (after ≡ before) × IsExecuted old.orderer.log old.desk
+
+-- Where the log asks for no vote, what is committed is executed, one batch after another.
 pub record ExecutesAll (old : ReplicaData) (before : List Output) (new : ReplicaData) (after : List Output) : Type 0
   where
-    pub proceeds : Proceeds old before new after
+    pub proceeds : IsVotedAll old.orderer.log → Proceeds old before new after
     pub party : IsSameParty old new
-    pub orderer : new.orderer ≡ old.orderer
-    pub numbers : KeepsNumbers old new
-    pub executed : IsExecuted new.orderer.log new.desk
+    pub used : new.orderer.used ≡ old.orderer.used
+    pub waiting : count_unnumbered new.desk.waiting ≤ count_unnumbered old.desk.waiting
+    pub rests : IsVotedAll old.orderer.log → Rests new
 
 -- All that the log asks for of a number is said, and what is committed then is executed.
 pub record GoesOnWith (number : ℕ) (old : ReplicaData) (before : List Output) (new : ReplicaData)
     (after : List Output) : Type 0 where
-  pub proceeds : Proceeds old before new after
+  pub proceeds : IsVotedBut number old.orderer.log → Proceeds old before new after
   pub party : IsSameParty old new
   pub used : new.orderer.used ≡ old.orderer.used
-  pub keeps : KeepsBatches old.orderer.log new.orderer.log
-  pub numbers : KeepsNumbers old new
-  pub voted : IsVotedBut number old.orderer.log → IsVotedAll new.orderer.log
-  pub executed : IsExecuted new.orderer.log new.desk
-
--- nothing is left to say or to execute
-abbrev pub Rests : ReplicaData → Type 0
-Rests r = IsVotedAll r.orderer.log × IsExecuted r.orderer.log r.desk
+  pub waiting : count_unnumbered new.desk.waiting ≤ count_unnumbered old.desk.waiting
+  pub rests : IsVotedBut number old.orderer.log → Rests new

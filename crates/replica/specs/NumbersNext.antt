@@ -1,16 +1,13 @@
 -- What giving numbers does.
-use Rattle.std.specs.Prelude.{◌≡◌, ℕ, suc, ◌+◌, ◌≤◌, Bool, true, false, List, [], length}
+use Rattle.std.specs.Prelude.{◌≡◌, ℕ, ◌+◌, ◌≤◌, ◌<◌, Bool, true, false, List, length}
 use Rattle.wire.specs.Lists.{Each}
 use Rattle.wire.specs.Spelling.{IsCarried, is_ordered_request, pieces_spelling}
 use Rattle.events.specs.declared.output.Output.{Output}
-use Rattle.protocol.specs.System.Configuration.{Configuration, members}
-use Rattle.replica_histories.specs.Events.{Start}
 use Rattle.replica.specs.State.{ReplicaData}
-use Rattle.replica.specs.Waiting.{texts, unnumbered, with_numbered}
+use Rattle.replica.specs.Waiting.{texts, unnumbered, with_numbered, count_unnumbered}
 use Rattle.replica.specs.Saying.{SaysBatch}
-use Rattle.replica.specs.Desks.{Stands}
-use Rattle.replica.specs.Going.{IsSameParty, Rests}
-use Rattle.replica.specs.Numbering.{NumbersRight, IsNextFree, IsAllNumbered}
+use Rattle.replica.specs.Going.{IsSameParty, Proceeds, Rests}
+use Rattle.replica.specs.Numbering.{IsAllNumbered}
 
 -- The oldest requests without a number get this one, in a batch that is said.
 pub record NumbersNext (number : ℕ) (old : ReplicaData) (before : List Output) (new : ReplicaData)
@@ -24,21 +21,13 @@ pub record NumbersNext (number : ℕ) (old : ReplicaData) (before : List Output)
   pub carried : Each (IsCarried is_ordered_request) (texts (unnumbered old.desk.waiting))
   pub there : old.desk.waiting.numbered + length (unnumbered old.desk.waiting) ≤ length old.desk.waiting.requests
 
--- What fits, with numbers that are right, fits then.
-abbrev pub NumbersOn : ReplicaData → List Output → ReplicaData → List Output → Type 0
-NumbersOn old before new after =
-    (c : Configuration) (s : Start) → members c ≡ old.desk.membership → NumbersRight c old
-    → Stands c s old.orderer.log old.desk [] before
-    → Stands c s new.orderer.log new.desk [] after × NumbersRight c new
-
--- The number behind the last used one is given, and what it asks for is done.
+-- The next number is given, and what it asks for is done: fewer requests are left without one.
 pub record GivesNumber (old : ReplicaData) (before : List Output) (new : ReplicaData) (after : List Output) : Type 0
   where
-    pub free : IsNextFree old
-    pub used : new.orderer.used ≡ suc old.orderer.used
-    pub proceeds : NumbersOn old before new after
+    pub proceeds : Rests old → Proceeds old before new after
     pub party : IsSameParty old new
     pub rests : Rests old → Rests new
+    pub fewer : count_unnumbered new.desk.waiting < count_unnumbered old.desk.waiting
 
 -- One number is given; or there is none, or no request without one, and nothing changes.
 abbrev pub NumbersTurn : ReplicaData → List Output → ReplicaData → List Output → Bool → Type 0
@@ -49,7 +38,7 @@ NumbersTurn old before new after false = (new ≡ old) × (after ≡ before) × 
 -- execute or to number.
 pub record NumbersWaiting (old : ReplicaData) (before : List Output) (new : ReplicaData)
     (after : List Output) : Type 0 where
-  pub proceeds : NumbersOn old before new after
+  pub proceeds : Rests old → Proceeds old before new after
   pub party : IsSameParty old new
   pub rests : Rests old → Rests new
   pub all : IsAllNumbered new

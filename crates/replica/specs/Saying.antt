@@ -1,6 +1,7 @@
 -- What an orderer says to the other replicas.
-use Rattle.std.specs.Prelude.{◌≡◌, ◌≢◌, ℕ, ◌==◌, if◌then◌else◌, List, [], ◌∷◌, ◌++◌, Some, None}
+use Rattle.std.specs.Prelude.{◌≡◌, ◌≢◌, ℕ, ◌+◌, ◌<◌, List, [], ◌∷◌, ◌++◌, length, take, drop, None}
 use Rattle.wire.specs.Messages.{MessageData as Message}
+use Rattle.wire.specs.Words.{requests_of}
 use Rattle.events.specs.declared.output.Output.{Output}
 use Rattle.posting.specs.Endpoint.{PostsToOthers}
 use Rattle.ordering.specs.Log as logs
@@ -8,12 +9,12 @@ use Rattle.ordering.specs.Log.{with_batch, with_prepare, with_commit}
 use Rattle.ordering.specs.declared.votes.Vote.{Vote}
 use Rattle.protocol.specs.System.Configuration.{Configuration, members}
 use Rattle.replica_histories.specs.Desk.{Desk}
-use Rattle.replica_histories.specs.Events as events
-use Rattle.replica_histories.specs.Events.{Start}
+use Rattle.replica_histories.specs.Events.{Start, behind}
+use Rattle.replica_histories.specs.Numbers.{AreCalls}
 use Rattle.replica_histories.specs.Outputs.{MayNumber}
 use Rattle.replica.specs.State.{OrdererData}
-use Rattle.replica.specs.Desks.{given}
-use Rattle.replica.specs.Going.{GoesOn, IsVoted, IsSameOrderer, KeepsBatches}
+use Rattle.replica.specs.Desks.{given, FitsEvent}
+use Rattle.replica.specs.Going.{GoesOn, IsVoted, IsSameOrderer}
 
 -- the message is posted to the other replicas behind what was given
 pub record Says (o : OrdererData) (message : Message) (before after : List Output) : Type 0 where
@@ -34,13 +35,13 @@ pub record AddsCommit (number : ℕ) (digest : List ℕ) (old new : OrdererData)
   pub digest_is : vote.digest ≡ digest
   pub new_is : new ≡ record old { log = with_commit old.log number vote }
 
--- All goes on, with the same batches, and the log asks for no more votes for numbers but this one.
+-- All goes on, and the log asks for no more votes for numbers but this one.
 pub record SaysVote (number : ℕ) (old : OrdererData) (before : List Output) (new : OrdererData)
     (after : List Output) : Type 0 where
   pub goes : GoesOn old before new after
   pub same : IsSameOrderer old new
+  pub low : new.log.low ≡ old.log.low
   pub used : new.used ≡ old.used
-  pub keeps : KeepsBatches old.log new.log
   pub others : (i : ℕ) → i ≢ number → IsVoted old.log i → IsVoted new.log i
 
 -- So it is where the prepare that the log asks for is said, for which it asks no more, or the commit.
@@ -61,17 +62,19 @@ pub record SaysVotes (number : ℕ) (old : OrdererData) (before : List Output) (
   pub says : SaysVote number old before new after
   pub said : IsVoted new.log number
 
--- What was said of numbers is said again, and nothing changes.
+-- What was said is said again, and nothing changes.
 pub record SaysAgain (old : OrdererData) (before : List Output) (new : OrdererData) (after : List Output) : Type 0 where
   pub goes : GoesOn old before new after
   pub same : new ≡ old
 
--- The primary's own batch of this text is said, where it may be numbered.
+-- The primary's own batch of this text is said. Where it may be numbered, and is of the oldest requests without a number,
+-- up to so many, these have it then.
 pub record SaysBatch (number : ℕ) (text : List ℕ) (old : OrdererData) (before : List Output) (new : OrdererData)
     (after : List Output) : Type 0 where
   pub new_is : new ≡ record old { log = with_batch old.log number text; used = number }
-  pub logged : (i : ℕ) → logs.logged_batch new.log i ≡ (if i == number then Some text else logs.logged_batch old.log i)
-  pub goes : (c : Configuration) (s : Start) (desk : Desk) (due : List Message) → members c ≡ old.endpoint.membership
-      → MayNumber c desk old.log number text
-      → events.Fits c old.endpoint.me s desk old.log due (given old.endpoint.me before)
-      → events.Fits c old.endpoint.me s desk new.log due (given old.endpoint.me after)
+  pub goes : (c : Configuration) (s : Start) (desk : Desk) (count most : ℕ) (due : List Message)
+      → members c ≡ old.endpoint.membership → old.used < number
+      → MayNumber c old.endpoint.me desk old.log (behind s (given old.endpoint.me before)) number text
+      → AreCalls c (requests_of text) (take most (drop count desk.waiting))
+      → FitsEvent c old.endpoint.me s old desk count due before
+      → FitsEvent c old.endpoint.me s new desk (count + length (take most (drop count desk.waiting))) due after

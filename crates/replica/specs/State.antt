@@ -1,22 +1,36 @@
--- What a replica holds, as plain data: what orders, what is executed and waits, and whether it has stopped.
-use Rattle.std.specs.Prelude.{◌≡◌, ℕ, ◌<◌, Bool}
+-- What a replica holds, as plain data: what orders, what is executed, kept, fetched and waits, and whether it has stopped.
+use Rattle.std.specs.Prelude.{◌≡◌, ℕ, ◌<◌, ◌≤◌, Bool, List, Option}
 use Rattle.authenticator.specs.Membership.{Membership}
+use Rattle.wire.specs.Messages.{CheckpointEntryData as CheckpointEntry}
 use Rattle.posting.specs.Endpoint.{EndpointState}
 use Rattle.ordering.specs.Log.{LogData}
 use Rattle.execution.specs.Executed.{ExecutedData}
+use Rattle.state_transfer.specs.Transfer.{TransferData}
+use Rattle.replica_histories.specs.Desk.{Snapshot}
 use Rattle.replica.specs.Waiting.{WaitingData}
 
--- what orders; used is the greatest number that the replica gave to a batch as the primary, or the low mark
+-- what orders; used is the greatest number that the replica gave to a batch as the primary, 0 before the first; and the
+-- last checkpoint that it said
 pub record OrdererData : Type 0 where
   pub endpoint : EndpointState
   pub log : LogData
   pub used : ℕ
+  pub last_checkpoint : Option CheckpointEntry
 
--- the desk: what is executed, and what waits
+-- an open transfer, and the number of the executed state whose pages stand where none were fetched
+pub record OpenData : Type 0 where
+  pub transfer : TransferData
+  pub rests_at : ℕ
+
+-- the desk: what is executed, and how many batches lie between checkpoints; the states that are kept, the newest first;
+-- the transfer that is open; and what waits
 pub record DeskData : Type 0 where
   pub me : ℕ
   pub membership : Membership
+  pub period : ℕ
   pub executed : ExecutedData
+  pub snapshots : List Snapshot
+  pub transfer : Option OpenData
   pub waiting : WaitingData
 
 pub record ReplicaData : Type 0 where
@@ -30,9 +44,9 @@ pub record ReplicaData : Type 0 where
 abbrev pub IsOrderer : OrdererData → Type 0
 IsOrderer o = (o.log.me ≡ o.endpoint.me) × (o.log.faults ≡ o.endpoint.membership.faults)
 
--- the state is one of as many clients, and the replica may seal for them
+-- the state is one of as many clients, the replica may seal for them, and there are checkpoints
 abbrev pub IsDesk : DeskData → Type 0
-IsDesk d = (d.executed.clients ≡ d.membership.clients) × (d.me < 10)
+IsDesk d = (d.executed.clients ≡ d.membership.clients) × (d.me < 10) × (1 ≤ d.period)
 
 -- both are of one replica
 abbrev pub AreOne : OrdererData → DeskData → Type 0

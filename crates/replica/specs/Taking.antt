@@ -17,6 +17,7 @@ IsNewOrderer c me o = o ≡ record {
   endpoint = record { membership = members c; me = me; used = 0 };
   log = new_log me c.faults (span c);
   used = 0;
+  last_checkpoint = None;
 }
 
 -- A batch is taken where the log has no fault for it and its requests are genuine. What isn't taken changes nothing.

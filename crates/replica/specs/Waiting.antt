@@ -43,6 +43,9 @@ request_of client w = find (is_of client) w.requests
 abbrev pub unnumbered : WaitingData → List WaitingRequest
 unnumbered w = take 16 (drop w.numbered w.requests)
 
+abbrev pub count_unnumbered : WaitingData → ℕ
+count_unnumbered w = length (drop w.numbered w.requests)
+
 -- ---- changes
 
 -- one more behind all others

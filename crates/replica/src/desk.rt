@@ -1,4 +1,5 @@
-//! The desk: the executed state, the requests that wait, and the keys for replies.
+//! The desk: the executed state, the states that are kept, the requests that wait, the transfer that is open, and the
+//! keys for replies.
 
 ghost use Rattle.std.specs.Prelude.{◌≡◌, ◌+◌, ◌*◌, ◌^◌, ◌<◌, ◌≤◌, false, length, IfOk, IsFalse, IsTrue, OnOk};
 ghost use Rattle.tuple_codec.specs.OperationView.{outcome_of};
@@ -6,9 +7,11 @@ ghost use Rattle.protocol.specs.System.Configuration.{IsConfiguration};
 ghost use Rattle.wire.specs.Lists.{Each};
 ghost use Rattle.wire.specs.Spelling.{IsCarried, is_ordered_request};
 ghost use Rattle.wire.specs.Views.{texts_of};
-ghost use Rattle.replica.specs.Waiting.{texts, unnumbered, with_numbered};
+ghost use Rattle.replica.specs.Waiting.{count_unnumbered, texts, unnumbered, with_numbered};
 ghost use Rattle.replica.specs.Desking.{IsNewDesk, HasReply, PaysAgain, PaysAll, RunsBatch, RunsWhole, SaysReply, Waits, replies_for};
 
+use crate::open_transfer::OpenTransfer;
+use crate::snapshots::Snapshots;
 use crate::waiting::{Waiting, WaitingRequest};
 use authenticator::Ring;
 use events::{Config, Output, Outputs, Stop, give};
@@ -19,12 +22,16 @@ use std::marker::Model;
 use terms::{ClientId, Mode, NoMemory, Number, Party, ReplicaId, Timestamp};
 use tuple_codec::Answer;
 
-/// What is executed, and what waits for it.
+/// What is executed, what is kept of it, and what waits for it.
 #[derive(Drop)]
 pub(crate) struct Desk {
-    me: ReplicaId,
-    ring: Ring,
+    pub(crate) me: ReplicaId,
+    pub(crate) ring: Ring,
+    // So many batches lie from one checkpoint to the next, 1 to 16.
+    pub(crate) period: u8,
     pub(crate) executed: Executed,
+    pub(crate) snapshots: Snapshots,
+    pub(crate) transfer: Option<OpenTransfer>,
     pub(crate) waiting: Waiting,
 }
 
@@ -51,11 +58,16 @@ impl Desk {
         ensures valid { IsConfiguration config.now }
     {
         let ring = Ring::new(alloc, config.seed(), config.faults(), config.clients());
-        let executed = Executed::new(alloc, config.clients())?;
+        let mut executed = Executed::new(alloc, config.clients())?;
+        let mut snapshots = Snapshots::new(alloc);
+        snapshots.keep(Number(0), executed.checkpoint()?)?;
         Ok(Desk {
             me,
             ring,
+            period: config.period(),
             executed,
+            snapshots,
+            transfer: None,
             waiting: Waiting::new(alloc),
         })
     }
@@ -76,7 +88,8 @@ impl Desk {
         self.reply_to_all(alloc, ran, outputs)
     }
 
-    // Executes the batch, and forgets the requests that ran.
+    // Executes the batch, keeps the state that it leaves where that is to have a checkpoint, forgets the requests that
+    // ran, and closes a transfer of a state that is reached.
     fn run(&mut self, alloc: Global, text: &[u8], outputs: &mut Outputs) -> Result<Vec<Ran>, Stop>
         requires { self.old.executed.state.number + 1 < 2 ^ 48 }
         ensures ok { IfOk result (λ ran. RunsBatch self.old text.now outputs.old.items
@@ -85,9 +98,11 @@ impl Desk {
         ensures membership { self.new.membership ≡ self.old.membership }
     {
         let ran = self.executed.execute(text)?;
+        self.keep_due()?;
         let copy = Vec::from_slice(alloc, text)?;
         give(outputs, Output::Executed(self.executed.number(), copy))?;
         self.waiting.forget(&self.executed);
+        self.close_reached();
         Ok(ran)
     }
 
@@ -135,6 +150,13 @@ impl Desk {
             frame,
         })?;
         Ok(())
+    }
+
+    /// How many requests that wait have no number yet.
+    pub(crate) fn count_unnumbered(&self) -> usize
+        ensures { result ≡ count_unnumbered self.now.waiting }
+    {
+        self.waiting.count_unnumbered()
     }
 
     /// Whether a request that waits has no number yet.

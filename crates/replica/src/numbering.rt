@@ -5,8 +5,7 @@ ghost use Rattle.wire.specs.Spelling.{IsCarried, is_ordered_request};
 ghost use Rattle.ordering.specs.Log.{is_in_marks};
 ghost use Rattle.replica.specs.Waiting.{unnumbered};
 ghost use Rattle.replica.specs.Entering.{TakesRequest};
-ghost use Rattle.replica.specs.Going.{ExecutesAll, GoesOnWith};
-ghost use Rattle.replica.specs.Numbering.{IsNextFree};
+ghost use Rattle.replica.specs.Numbering.{IsNextFree, next_number};
 ghost use Rattle.replica.specs.NumbersNext.{NumbersNext, NumbersTurn, NumbersWaiting};
 
 use crate::arriving::Arrival;
@@ -14,7 +13,6 @@ use crate::replica::Replica;
 use crate::taking::Touched;
 use events::{Outputs, Stop};
 use std::alloc::Global;
-use std::sync::Arc;
 use terms::{ClientId, Number, Timestamp};
 
 /// So many numbers above the executed one a primary gives at the most.
@@ -54,39 +52,8 @@ impl Replica {
         }
     }
 
-    /// Says what the log asks for of a number, and executes all that is committed then.
-    pub(crate) fn go_on(
-        &mut self,
-        alloc: Global,
-        number: Number,
-        outputs: &mut Outputs,
-    ) -> Result<(), Stop>
-        ensures ok { OnOk result
-            (GoesOnWith number.0 self.old outputs.old.items self.new outputs.new.items) }
-        ensures endpoint { self.new.orderer.endpoint ≡ self.old.orderer.endpoint }
-    {
-        self.orderer.say_votes(alloc, number, outputs)?;
-        self.execute_committed(alloc, outputs)
-    }
-
-    // Executes batches as long as the next one is committed.
-    fn execute_committed(&mut self, alloc: Global, outputs: &mut Outputs) -> Result<(), Stop>
-        ensures ok { OnOk result
-            (ExecutesAll self.old outputs.old.items self.new outputs.new.items) }
-        ensures endpoint { self.new.orderer.endpoint ≡ self.old.orderer.endpoint }
-    {
-        for _ in 0..self.orderer.log.span() {
-            let next = Number(self.desk.executed.number().0 + 1);
-            let Some(batch) = self.orderer.log.next_batch(next) else {
-                return Ok(());
-            };
-            let batch = Arc::try_clone(batch)?;
-            self.desk.execute(alloc, batch.text(), outputs)?;
-        }
-        Ok(())
-    }
-
-    /// Gives the free numbers to requests that wait, if the replica is the primary.
+    /// Gives the free numbers to requests that wait, if the replica is the primary. Each turn leaves fewer requests
+    /// without one.
     pub(crate) fn number_waiting(
         &mut self,
         alloc: Global,
@@ -96,7 +63,7 @@ impl Replica {
             (NumbersWaiting self.old outputs.old.items self.new outputs.new.items) }
         ensures endpoint { self.new.orderer.endpoint ≡ self.old.orderer.endpoint }
     {
-        for _ in 0..self.orderer.log.span() {
+        for _ in 0..self.desk.count_unnumbered() {
             if !self.number_turn(alloc, outputs)? {
                 return Ok(());
             }
@@ -140,15 +107,15 @@ impl Replica {
         Ok(())
     }
 
-    // The number behind the last one that was used, if the replica, as the primary, may give it to a batch.
+    // The number above the low mark and all that were used, if the replica, as the primary, may give it to a batch.
     fn free_number(&self) -> Option<Number>
         ensures within { IfSome result (λ number. is_in_marks self.now.orderer.log number.0 ≡ true) }
-        ensures next { IfSome result (λ number. number.0 ≡ suc self.now.orderer.used) }
+        ensures next { IfSome result (λ number. number.0 ≡ next_number self.now.orderer) }
         ensures free { IfSome result (λ _. IsNextFree self.now) }
         ensures none { IfNone result (IsNextFree self.now → ⊥) }
     {
         let log = &self.orderer.log;
-        let number = Number(self.orderer.used.0.checked_add(1)?);
+        let number = Number(self.orderer.used.0.max(log.low().0).checked_add(1)?);
         if log.me().0 == log.primary(log.view()).0
             && log.is_in_marks(number)
             && number.0 <= self.desk.executed.number().0 + AHEAD

@@ -13,15 +13,17 @@ use std::alloc::Global;
 use std::marker::Model;
 use std::sync::Arc;
 use terms::{NoMemory, Number, Party, ReplicaId};
-use wire::{Body, Commit, PrePrepare, Prepare};
+use wire::{Body, CheckpointEntry, Commit, PrePrepare, Prepare};
 
 /// What orders.
 #[derive(Drop)]
 pub(crate) struct Orderer {
     pub(crate) endpoint: Endpoint,
     pub(crate) log: Log,
-    /// The greatest number that the replica gave to a batch as the primary, or the low mark.
+    /// The greatest number that the replica gave to a batch as the primary, 0 before the first.
     pub(crate) used: Number,
+    /// The last checkpoint that the replica said.
+    pub(crate) last_checkpoint: Option<CheckpointEntry>,
 }
 
 impl Model for Orderer {
@@ -54,6 +56,7 @@ impl Orderer {
             endpoint: Endpoint::new(me, faults, ring, publics, signer),
             log: Log::new(alloc, me, faults, 2 * u64::from(config.period()))?,
             used: Number(0),
+            last_checkpoint: None,
         })
     }
 

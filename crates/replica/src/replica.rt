@@ -113,7 +113,7 @@ impl Replica {
     }
 
     // What is given for an event: first what the message itself asks for, then what the log asks for, and last the
-    // numbers that are free for waiting requests.
+    // numbers that are free for waiting requests. For time that goes by a part that is asked for is asked for again.
     fn react(&mut self, alloc: Global, event: Event<'_>) -> Result<Outputs, Stop>
         requires { self.old.stopped ≡ false }
         ensures leads { IfOk result (λ outs. EventLeads self.old event.entry outs.items self.new) }
@@ -123,12 +123,16 @@ impl Replica {
         self.are_one();
         let mut outputs = Vec::new(alloc);
         match event {
-            Event::Timeout => {}
+            Event::Timeout => self.say_fetch(alloc, &mut outputs)?,
             Event::Got(bytes) => match self.take(alloc, bytes, &mut outputs)? {
                 Touched::Nothing => {}
                 Touched::Waiting => self.number_waiting(alloc, &mut outputs)?,
                 Touched::Row(number) => {
                     self.go_on(alloc, number, &mut outputs)?;
+                    self.number_waiting(alloc, &mut outputs)?;
+                }
+                Touched::State => {
+                    self.execute_committed(alloc, &mut outputs)?;
                     self.number_waiting(alloc, &mut outputs)?;
                 }
             },

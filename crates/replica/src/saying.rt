@@ -3,16 +3,18 @@
 ghost use Rattle.std.specs.Prelude.{◌≡◌, ◌≤◌, ◌<◌, ◌^◌, true, false, length, OnOk, IsTrue};
 ghost use Rattle.tuple_tree.specs.Values.{AreBytes};
 ghost use Rattle.wire.specs.Lists.{Each};
-ghost use Rattle.wire.specs.Messages.{pre_prepare};
+ghost use Rattle.wire.specs.Messages.{fetch, pre_prepare};
 ghost use Rattle.wire.specs.Spelling.{IsBatch, IsCarried, IsMessage, is_ordered_request, is_signed, pieces_spelling};
 ghost use Rattle.ordering.specs.Log.{is_in_marks};
 ghost use Rattle.wire.specs.Views.{message_data, texts_of};
+ghost use Rattle.state_transfer.specs.Places.{IsPlace};
 ghost use Rattle.replica.specs.Saying.{Says, SaysAgain, SaysBatch};
 
 use crate::orderer::Orderer;
 use events::{Outputs, Stop, give};
 use ordering::HashedBatch;
-use posting::pre_prepare_message;
+use posting::{fetch_message, pre_prepare_message};
+use state_transfer::Place;
 use std::alloc::Global;
 use std::sync::Arc;
 use terms::Number;
@@ -43,7 +45,8 @@ impl Orderer {
         Ok(())
     }
 
-    /// Says again what the replica said of the numbers above this one, each in its order.
+    /// Says again what the replica said of the numbers above this one, each in its order, and last its latest
+    /// checkpoint.
     pub(crate) fn say_again(
         &mut self,
         alloc: Global,
@@ -59,7 +62,7 @@ impl Orderer {
         for number in executed.0 + 1..last + 1 {
             self.say_row_again(alloc, Number(number), outputs)?;
         }
-        Ok(())
+        self.say_checkpoint_again(alloc, outputs)
     }
 
     // Says again what the replica said of a number.
@@ -153,6 +156,23 @@ impl Orderer {
     {
         let text = Vec::from_slice(alloc, text)?;
         let message = pre_prepare_message(self.log.view(), number, Batch { text });
+        self.say(alloc, message, outputs)
+    }
+
+    /// Asks all other replicas for a part of the state of this number.
+    pub(crate) fn say_fetch(
+        &mut self,
+        alloc: Global,
+        number: Number,
+        place: Place,
+        outputs: &mut Outputs,
+    ) -> Result<(), Stop>
+        requires { IsPlace place }
+        ensures said { OnOk result (Says self.old (fetch number.0 place.level place.index)
+            outputs.old.items outputs.new.items) }
+        ensures same { self.new ≡ self.old }
+    {
+        let message = fetch_message(number, place.level, place.index);
         self.say(alloc, message, outputs)
     }
 

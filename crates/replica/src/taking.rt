@@ -17,10 +17,12 @@ use wire::{Body, Commit, Message, PrePrepare, Prepare, Request};
 pub(crate) enum Touched {
     /// Nothing is asked for: the message was dropped, or answered.
     Nothing,
-    /// The requests that wait.
+    /// The requests that wait, or the marks, and so the numbers that are free for them.
     Waiting,
     /// The log's row of this number.
     Row(Number),
+    /// The executed state: another one was installed.
+    State,
 }
 
 impl Replica {
@@ -42,7 +44,7 @@ impl Replica {
         };
         match sender {
             Party::Client(client) => self.on_client(alloc, client, message, bytes, outputs),
-            Party::Replica(sender) => self.on_ordering(alloc, sender, message),
+            Party::Replica(sender) => self.on_replica(alloc, sender, message, outputs),
         }
     }
 
@@ -77,15 +79,17 @@ impl Replica {
         }
     }
 
-    // The messages of the three phases.
-    fn on_ordering(
+    // Another replica's message.
+    fn on_replica(
         &mut self,
         alloc: Global,
         sender: ReplicaId,
         message: Message,
+        outputs: &mut Outputs,
     ) -> Result<Touched, Stop>
+        requires first { outputs.old.items ≡ [] }
         ensures ok { IfOk result (λ touched. TakesMessage sender (message_data message)
-            self.old touched self.new []) }
+            self.old touched self.new outputs.new.items) }
         ensures endpoint { self.new.orderer.endpoint ≡ self.old.orderer.endpoint }
     {
         self.are_one();
@@ -93,6 +97,10 @@ impl Replica {
             Message::PrePrepare(message) => self.on_pre_prepare(alloc, sender, message),
             Message::Prepare(message) => Ok(self.on_prepare(sender, &message)),
             Message::Commit(message) => Ok(self.on_commit(sender, &message)),
+            Message::Checkpoint(message) => self.on_checkpoint(alloc, sender, &message, outputs),
+            Message::Fetch(message) => self.on_fetch(alloc, sender, &message, outputs),
+            Message::Meta(message) => self.on_meta(alloc, sender, &message, outputs),
+            Message::Page(message) => self.on_page(alloc, sender, &message, outputs),
             _ => {
                 note_replica(sender);
                 Ok(Touched::Nothing)

@@ -4,7 +4,7 @@ ghost use Rattle.std.specs.Prelude.{◌≡◌, ◌≤◌, ◌+◌, ◌++◌, ◌
 ghost use Rattle.wire.specs.Lists.{Each};
 ghost use Rattle.wire.specs.Spelling.{IsCarried, is_ordered_request};
 ghost use Rattle.wire.specs.Views.{texts_of};
-ghost use Rattle.replica.specs.Waiting.{IsRequest, none_waiting, lent, request_of, texts, unnumbered, is_of, is_new, with_request, with_numbered, without, forgotten};
+ghost use Rattle.replica.specs.Waiting.{IsRequest, count_unnumbered, none_waiting, lent, request_of, texts, unnumbered, is_of, is_new, with_request, with_numbered, without, forgotten};
 
 use events::Stop;
 use execution::Executed;
@@ -59,6 +59,13 @@ impl Waiting {
             .find(|request| request.client.number == client.number)
     }
 
+    /// How many requests have no number yet.
+    pub(crate) fn count_unnumbered(&self) -> usize
+        ensures { result ≡ count_unnumbered self.now }
+    {
+        self.requests.len() - self.numbered
+    }
+
     /// Whether a request has no number yet.
     pub(crate) fn has_unnumbered(&self) -> bool
         ensures some { IsTrue result → 1 ≤ length (unnumbered self.now) }
@@ -68,7 +75,7 @@ impl Waiting {
     }
 
     // Up to 16 requests that have no number yet, the oldest first.
-    #[tactic(auto, using(crate::proofs::Keeping::each_unnumbered, crate::proofs::Keeping::few_unnumbered))]
+    #[tactic(auto, using(crate::proofs::WaitingKept::each_unnumbered, crate::proofs::WaitingKept::few_unnumbered))]
     fn unnumbered(&self) -> &[WaitingRequest]
         ensures value { result.now ≡ unnumbered self.now }
         ensures each { Each IsRequest result.now }

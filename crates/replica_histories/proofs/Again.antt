@@ -1,33 +1,37 @@
 -- What goes again: the own votes and batches that stand in the log.
-use Rattle.std.proofs.Common.{◌≡◌, ◌≢◌, ℕ, zero, suc, ◌-◌, ◌⊎◌, inl, inr, true, ◌&&◌, not, List, [], ◌∷◌, refl, sym, ap, ◌∙◌, subst, Some, None, eqb-true, slice_get}
+use Rattle.std.proofs.Common.{◌≡◌, ◌≢◌, ℕ, zero, suc, ◌-◌, ◌≤◌, ◌⊎◌, inl, inr, Bool, true, false, ◌&&◌, not, cond, List, [], ◌∷◌, take, refl, sym, ap, ◌∙◌, subst, Some, None, eqb-true, slice_get}
 use Rattle.std.specs.Prelude.{◌==◌, nat_lt, option_and_then}
 use Rattle.std.proofs.lemmas.Bool.{and_parts, eqb-false, not-true}
-use Rattle.wire.specs.Messages.{BodyData as Body, MessageData as Message, NewViewData, pre_prepare as PrePrepare, prepare as Prepare, commit as Commit}
+use Rattle.std.specs.Bool.{then_some}
+use Rattle.wire.specs.Messages.{BodyData as Body, MessageData as Message, NewViewData, CheckpointEntryData as CheckpointEntry, pre_prepare as PrePrepare, prepare as Prepare, commit as Commit, checkpoint as Checkpoint}
 use Rattle.wire.specs.Words.{carried, requests_of}
 use Rattle.wire.specs.Lists.{Each}
 use Rattle.ordering.specs.Log as logs
 use Rattle.ordering.specs.Log.{LogData}
 use Rattle.ordering.specs.Votes.{vote_of}
-use Rattle.protocol.specs.System.Configuration.{Configuration, primary}
+use Rattle.protocol.specs.System.Configuration.{Configuration, primary, is_number}
 use Rattle.protocol.specs.System.Trace.{Entry, Once, Always, Has}
 use Rattle.protocol.specs.System.Trace.Entry.{Invoke, Got, Tick, Executed, Installed, Sent, Accepted}
-use Rattle.protocol.specs.Replica.Certificates.{are_genuine, counts_at, taken, batch_from, prepare_from, commit_from, batch_begun, brought, low, is_in_marks, begun_proposal, entry_proposal, proposal, logged, prepare_of, commit_of}
-use Rattle.protocol.specs.Replica.RightReplica.{Point, Leaves, HasSeen, others}
+use Rattle.protocol.specs.Replica.Certificates.{are_genuine, counts_at, taken, checkpoint_from, with_checkpoint, insert_checkpoint, checkpoints_of, batch_from, prepare_from, commit_from, batch_begun, brought, low, is_in_marks, begun_proposal, entry_proposal, proposal, logged, prepare_of, commit_of}
+use Rattle.protocol.specs.Replica.RightReplica.{Point, Leaves, HasSeen, MayCheckpoint, others}
 use Rattle.protocol.specs.Replica.Owed.{BeginsViewWith, NumbersOnce}
 use Rattle.protocol.proofs.Words.Options.{some_injective, and_then_some, then_some_gives, given_once, or_else_cases}
 use Rattle.protocol.proofs.Words.Temporal.{once_weaker, once_stays}
 use Rattle.protocol.proofs.Words.Elements.{each_weaker}
 use Rattle.protocol.proofs.Agreement.Voting.{RightAt, once_right, Logs, logged_stays}
 use Rattle.replica_histories.specs.Desk.{Desk, point_of}
-use Rattle.replica_histories.specs.Logs.{Takes}
+use Rattle.replica_histories.specs.Logs.{above_mark, Takes}
 use Rattle.replica_histories.specs.Events.{Start, behind, Fits}
-use Rattle.replica_histories.specs.Outputs.{PreparesGoAgain, CommitsGoAgain, BatchesGoAgain}
+use Rattle.replica_histories.specs.Outputs.{PreparesGoAgain, CommitsGoAgain, BatchesGoAgain, CheckpointsGoAgain}
 use Rattle.replica_histories.proofs.Words.{passed, given_not, marks_are, primary_same}
 use Rattle.replica_histories.proofs.Certified.{active}
 use Rattle.replica_histories.proofs.Speaking.{heard_other, prepare_spoken, spoken_logged, prepare_backup, Certified, commit_spoken, spoken_certified}
+use Rattle.replica_histories.proofs.Latest.{IsPassed, behind_above, passed_adds_nothing}
+use Rattle.replica_histories.proofs.Checking.{latest_of, said_may, executed_at_most, said_passed}
 use Rattle.replica_histories.proofs.Taking.{takes_nothing, none_there}
 use Rattle.replica_histories.proofs.Ending.{steps_leave}
-use Rattle.replica_histories.proofs.Giving.{sent_fits, log_sent, no_proposal, placed}
+use Rattle.replica_histories.proofs.TransfersQuorums.{no_root, own_root}
+use Rattle.replica_histories.proofs.Giving.{sent_fits, log_sent, no_proposal, placed, prepare_placed, commit_placed}
 
 leaves_now : (c : Configuration) (me : ℕ) (s : Start) (desk : Desk) (log : LogData) (due : List Message) (outputs : List Entry) (f : Fits c me s desk log due outputs)
     → Leaves c me (behind s outputs) (point_of desk f.of_desk.states f.of_desk.ran)
@@ -35,10 +39,10 @@ leaves_now c me s desk log due outputs f = steps_leave c me s outputs (point_of 
 
 pub prepares_go_again : PreparesGoAgain
 prepares_go_again c me s desk log due outputs i digest bytes there posted f =
-    sent_fits c me s desk log log due due outputs bytes (others c me) (Prepare log.view i digest) f posted tt refl tt
+    sent_fits c me s desk log log due due outputs bytes (others c me) (Prepare log.view i digest) f posted refl refl tt
     (record { is_backup = backup; active = active c me log past f.of_log; batch = l.batch; is_logged = l.is_logged; digest_is = l.digest })
-    (log_sent c me log log past bytes (others c me) (Prepare log.view i digest) f.of_log posted tt takes (λ v j x h. absurd cc))
-    (λ x h. inl h) (λ x h. h) (no_proposal c me past bytes (Prepare log.view i digest) posted.says tt)
+    (log_sent c me log log past bytes (others c me) (Prepare log.view i digest) f.of_log posted tt takes (prepare_placed c me me i digest log within))
+    refl (no_root c (behind s outputs) bytes me (Prepare log.view i digest) desk.state.number posted.says refl) (λ x h. inl h) (λ x h. h) (no_proposal c me past bytes (Prepare log.view i digest) posted.says tt)
   where
     past : List Entry
     past = behind s outputs
@@ -54,7 +58,7 @@ prepares_go_again c me s desk log due outputs i digest bytes there posted f =
         let b = and_parts ((me == x) && (log.view == log.view)) (i == j) a.0 in
         let d = and_parts (me == x) (log.view == log.view) b.0 in
         given_not (logs.prepare_of log i me) digest there (subst (λ (y : ℕ). logs.prepare_of log y me ≡ None) (sym (eqb-true i j b.1)) (subst (λ (y : ℕ). logs.prepare_of log j y ≡ None) (sym (eqb-true me x d.0)) none))))
-        (λ j x k h. refl)
+        (λ j x k h. refl) (λ x. refl)
 
     own : prepare_of c me past log.view i me ≡ Some digest
     own = f.of_log.prepares i me within ∙ there
@@ -69,10 +73,10 @@ prepares_go_again c me s desk log due outputs i digest bytes there posted f =
 
 pub commits_go_again : CommitsGoAgain
 commits_go_again c me s desk log due outputs i digest bytes there posted f =
-    sent_fits c me s desk log log due due outputs bytes (others c me) (Commit log.view i digest) f posted tt refl tt
+    sent_fits c me s desk log log due due outputs bytes (others c me) (Commit log.view i digest) f posted refl refl tt
     (record { active = active c me log past f.of_log; batch = l.batch; prepared = l.prepared; digest_is = l.digest_is })
-    (log_sent c me log log past bytes (others c me) (Commit log.view i digest) f.of_log posted tt takes (λ v j x h. absurd cc))
-    (λ x h. inl h) (λ x h. h) (no_proposal c me past bytes (Commit log.view i digest) posted.says tt)
+    (log_sent c me log log past bytes (others c me) (Commit log.view i digest) f.of_log posted tt takes (commit_placed c me me i digest log within))
+    refl (no_root c (behind s outputs) bytes me (Commit log.view i digest) desk.state.number posted.says refl) (λ x h. inl h) (λ x h. h) (no_proposal c me past bytes (Commit log.view i digest) posted.says tt)
   where
     past : List Entry
     past = behind s outputs
@@ -87,6 +91,7 @@ commits_go_again c me s desk log due outputs i digest bytes there posted f =
         let b = and_parts ((me == x) && (log.view == log.view)) (i == j) e in
         let d = and_parts (me == x) (log.view == log.view) b.0 in
         given_not (logs.commit_of log i me) digest there (subst (λ (y : ℕ). logs.commit_of log y me ≡ None) (sym (eqb-true i j b.1)) (subst (λ (y : ℕ). logs.commit_of log j y ≡ None) (sym (eqb-true me x d.0)) none))))
+        (λ x. refl)
 
     own : commit_of c me past log.view i me ≡ Some digest
     own = f.of_log.commits i me within ∙ there
@@ -180,9 +185,10 @@ batch_proposed c me v i batch past point leaves own none h =
 
 pub batches_go_again : BatchesGoAgain
 batches_go_again c me s desk log due outputs i batch bytes own there posted f =
-    sent_fits c me s desk log log due due outputs bytes (others c me) (PrePrepare log.view i batch) f posted tt refl proposed.1
+    sent_fits c me s desk log log due due outputs bytes (others c me) (PrePrepare log.view i batch) f posted refl refl proposed.1
     (record { is_primary = primary_is; active = active c me log past f.of_log; in_marks = marks_are c me log past i f.of_log ∙ within; genuine = proposed.0; one = logged_stays c me log.view i batch (Sent me bytes) past logs_it })
-    (log_sent c me log log past bytes (others c me) (PrePrepare log.view i batch) f.of_log posted tt takes place) (λ x h. inl h) (λ x h. h) once
+    (log_sent c me log log past bytes (others c me) (PrePrepare log.view i batch) f.of_log posted tt takes (record { batch = place; votes = λ j x out. (refl, refl) }))
+    refl (no_root c (behind s outputs) bytes me (PrePrepare log.view i batch) desk.state.number posted.says refl) (λ x h. inl h) (λ x h. h) once
   where
     past : List Entry
     past = behind s outputs
@@ -208,7 +214,7 @@ batches_go_again c me s desk log due outputs i batch bytes own there posted f =
         let b = and_parts ((log.view == log.view) && (i == j)) (me == primary c log.view) a.0 in
         let d = and_parts (log.view == log.view) (i == j) b.0 in
         given_not (logs.logged_batch log i) batch there (subst (λ (y : ℕ). logs.logged_batch log y ≡ None) (sym (eqb-true i j d.1)) none)))
-        (λ j x k h. refl) (λ j x k h. refl)
+        (λ j x k h. refl) (λ j x k h. refl) (λ x. refl)
 
     place : (v j : ℕ) (b : List ℕ) → batch_from c me v j (record { sender = me; message = PrePrepare log.view i batch }) ≡ Some b → (v ≡ log.view) × (logs.is_in_marks log j ≡ true)
     place v j b h = let w = placed c me log.view i v j me batch b h in (sym w.0, subst (λ (x : ℕ). logs.is_in_marks log x ≡ true) w.1 within)
@@ -223,3 +229,40 @@ batches_go_again c me s desk log due outputs i batch bytes own there posted f =
       where
         place_of : Message → ℕ × ℕ
         place_of message = elim message [ PrePrepare w k x ↦ (w, k) | _ ↦ (0, 0) ]
+
+-- ---- an own checkpoint
+
+pub checkpoints_go_again : CheckpointsGoAgain
+checkpoints_go_again c me s desk log due outputs k root bytes once posted f =
+    sent_fits c me s desk log log due due outputs bytes (others c me) (Checkpoint k root) f posted refl refl tt
+    may
+    (log_sent c me log log past bytes (others c me) (Checkpoint k root) f.of_log posted tt takes (record { batch = λ v j x h. absurd cc; votes = λ j x out. (refl, refl) }))
+    refl (own_root c past bytes me k root desk.state.number posted.says executed) (λ x h. inl h) (λ x h. h) (no_proposal c me past bytes (Checkpoint k root) posted.says tt)
+  where
+    past : List Entry
+    past = behind s outputs
+
+    may : MayCheckpoint c past (point_of desk f.of_desk.states f.of_desk.ran) k root
+    may = said_may c me k root past (point_of desk f.of_desk.states f.of_desk.ran) (leaves_now c me s desk log due outputs f) once
+
+    executed : k ≤ desk.state.number
+    executed = executed_at_most c me k past (point_of desk f.of_desk.states f.of_desk.ran) (leaves_now c me s desk log due outputs f) may.executed
+
+    -- the history has it, or three of larger numbers
+    adds_nothing : (x : ℕ) → with_checkpoint x (checkpoint_from (record { sender = me; message = Checkpoint k root })) (checkpoints_of c past x) ≡ checkpoints_of c past x
+    adds_nothing x = numbered (is_number k) refl
+      where
+        of : (b : Bool) → (me == x) ≡ b → is_number k ≡ true → cond b (take 3 (insert_checkpoint (record { number = k; digest = root }) (checkpoints_of c past x))) (checkpoints_of c past x) ≡ checkpoints_of c past x
+        of true own is =
+            passed_adds_nothing 3 (record { number = k; digest = root }) (checkpoints_of c past x) (latest_of c past x).few
+            (subst (λ (y : ℕ). IsPassed 3 k (checkpoints_of c past y)) (eqb-true me x own) (said_passed c me k root past is once))
+        of false own is = refl
+
+        numbered : (b : Bool) → is_number k ≡ b → with_checkpoint x (then_some b (let y : ℕ × CheckpointEntry = (me, record { number = k; digest = root }) in y)) (checkpoints_of c past x) ≡ checkpoints_of c past x
+        numbered true is = of (me == x) refl is
+        numbered false is = refl
+
+    takes : Takes c me (Some (record { sender = me; message = Checkpoint k root })) log log
+    takes = takes_nothing c me _ log f.of_log.is_log (λ j e h. refl) (λ j x e h. refl) (λ j x e h. refl)
+        (λ x. sym (behind_above log.low x (checkpoint_from (record { sender = me; message = Checkpoint k root })) (checkpoints_of c past x) (logs.checkpoints_of log x) (latest_of c past x) (f.of_log.latest x) (f.of_log.checkpoints x))
+        ∙ ap (above_mark log.low) (adds_nothing x) ∙ f.of_log.checkpoints x)

@@ -1,5 +1,5 @@
 -- What is prepared and committed in a log is so in the history that it fits, and the other way round.
-use Rattle.std.proofs.Common.{◌≡◌, ℕ, ◌+◌, ◌*◌, true, false, List, refl, sym, ap, ◌∙◌, subst, Option, Some, None, option_map}
+use Rattle.std.proofs.Common.{◌≡◌, ℕ, ◌+◌, ◌*◌, ◌≤◌, ◌<◌, ◌⊎◌, inl, inr, true, false, List, refl, sym, ap, ◌∙◌, subst, arith, Option, Some, None, option_map}
 use Rattle.std.specs.Prelude.{nat_le, ◌==◌}
 use Rattle.std.specs.Option.{option_map_or}
 use Rattle.std.proofs.lemmas.Bool.{and_parts, and_from, leb-true, le-leb, eqb-true, eq-eqb}
@@ -13,7 +13,7 @@ use Rattle.ordering.specs.Log as logs
 use Rattle.ordering.specs.Log.{Row, LogData}
 use Rattle.protocol.specs.System.Configuration.{Configuration, replicas}
 use Rattle.protocol.specs.System.Trace.{Entry}
-use Rattle.protocol.specs.Replica.Certificates.{view, target, is_active_in, prepare_of, commit_of, Prepared, Committed}
+use Rattle.protocol.specs.Replica.Certificates.{view, target, is_active_in, logged, prepare_of, commit_of, Prepared, Committed}
 use Rattle.replica_histories.specs.Logs.{FitsLog}
 use Rattle.replica_histories.proofs.Words.{passed, batch_read, given_digest, digest_given}
 
@@ -79,10 +79,19 @@ prepared_here c me log past i batch f p = record {
       (sym (counted c log (λ n. 2 * n) (sha256 batch) (logs.row_of log i).prepares (prepare_of c me past log.view i) f.faults (λ s. prepare_read c me log past i s f p.within)) ∙ p.backups);
 }
 
--- what is prepared in the history is so in the log, in its view
-pub prepared_there : (c : Configuration) (me : ℕ) (log : LogData) (past : List Entry) (v i : ℕ) (batch : List ℕ) → FitsLog c me log past → Prepared c me past v i batch
+-- what is logged above the low mark is in the marks, in the view of the log
+pub logged_within : (c : Configuration) (me : ℕ) (log : LogData) (past : List Entry) (v i : ℕ) (batch : List ℕ) → FitsLog c me log past → log.low < i → logged c me past v i ≡ Some batch
+    → (v ≡ log.view) × (logs.is_in_marks log i ≡ true)
+logged_within c me log past v i batch f above h = let w = f.within v i batch h in (w.0, go w.1)
+  where
+    go : (i ≤ log.low) ⊎ (logs.is_in_marks log i ≡ true) → logs.is_in_marks log i ≡ true
+    go (inl k) = absurd (omega arith)
+    go (inr k) = k
+
+-- what is prepared above it in the history is so in the log
+pub prepared_there : (c : Configuration) (me : ℕ) (log : LogData) (past : List Entry) (v i : ℕ) (batch : List ℕ) → FitsLog c me log past → log.low < i → Prepared c me past v i batch
     → (v ≡ log.view) × PreparedIn log i batch
-prepared_there c me log past v i batch f p = (
+prepared_there c me log past v i batch f above p = (
   w.0,
   record {
     within = w.1;
@@ -93,7 +102,7 @@ prepared_there c me log past v i batch f p = (
 )
   where
     w : (v ≡ log.view) × (logs.is_in_marks log i ≡ true)
-    w = f.within v i batch p.logged
+    w = logged_within c me log past v i batch f above p.logged
 
     at : Prepared c me past log.view i batch
     at = subst (λ (x : ℕ). Prepared c me past x i batch) w.0 p
@@ -131,11 +140,11 @@ committed_here c me log past i batch f h = record {
       backups = subst (λ (o : Option (List ℕ)). option_map_or (λ (digest : List ℕ). nat_le (2 * log.faults) (voters (logs.replicas log) digest (logs.row_of log i).prepares)) (option_map sha256 o) false ≡ true) given.1 row.0;
     }
 
-pub committed_there : (c : Configuration) (me : ℕ) (log : LogData) (past : List Entry) (v i : ℕ) (batch : List ℕ) → FitsLog c me log past → Committed c me past v i batch → logs.committed_batch log i ≡ Some batch
-committed_there c me log past v i batch f k = rw is p.1.row
+pub committed_there : (c : Configuration) (me : ℕ) (log : LogData) (past : List Entry) (v i : ℕ) (batch : List ℕ) → FitsLog c me log past → log.low < i → Committed c me past v i batch → logs.committed_batch log i ≡ Some batch
+committed_there c me log past v i batch f above k = rw is p.1.row
   where
     p : (v ≡ log.view) × PreparedIn log i batch
-    p = prepared_there c me log past v i batch f k.prepared
+    p = prepared_there c me log past v i batch f above k.prepared
 
     at : Committed c me past log.view i batch
     at = subst (λ (x : ℕ). Committed c me past x i batch) p.0 k

@@ -1,10 +1,13 @@
 -- Which messages count, and what the others change: nothing.
-use Rattle.std.proofs.Common.{◌≡◌, ℕ, ◌+◌, ◌*◌, ◌<◌, ◌⊎◌, inl, inr, Bool, true, false, cond, ◌&&◌, not, List, refl, sym, ap, ◌∙◌, subst, Option, Some, None, option_map, eqb-true, eq-eqb}
-use Rattle.std.specs.Prelude.{◌==◌, nat_lt, option_and_then}
-use Rattle.std.proofs.lemmas.Bool.{and_parts, ltb-true}
+use Rattle.std.proofs.Common.{◌≡◌, ℕ, ◌+◌, ◌*◌, ◌^◌, ◌<◌, ◌⊎◌, inl, inr, Bool, true, false, cond, ◌&&◌, ◌||◌, not, List, [], ◌∷◌, take, slice_set, refl, sym, ap, ◌∙◌, subst, Option, Some, None, option_map, eqb-true, eq-eqb}
+use Rattle.std.specs.Prelude.{◌==◌, nat_lt, nat_le, find, option_and_then}
+use Rattle.std.specs.Bool.{then_some}
+use Rattle.std.specs.List.{list_any}
+use Rattle.std.proofs.lemmas.Bool.{and_parts, ltb-true, leb-true, leb-false, le-ltb}
+use Rattle.std.proofs.lemmas.List.{set-get_or}
 use Rattle.sha2.specs.Sha256.{sha256}
 use Rattle.quorum.specs.Votes.{or_else}
-use Rattle.wire.specs.Messages.{BodyData as Body, MessageData as Message, pre_prepare as PrePrepare, prepare as Prepare, commit as Commit}
+use Rattle.wire.specs.Messages.{BodyData as Body, MessageData as Message, CheckpointEntryData as CheckpointEntry, pre_prepare as PrePrepare, prepare as Prepare, commit as Commit, checkpoint as Checkpoint}
 use Rattle.authenticator.specs.Membership.{has_sender}
 use Rattle.signing.specs.Heard.{heard}
 use Rattle.signing.proofs.Heard.{heard_was_opened}
@@ -13,20 +16,25 @@ use Rattle.ordering.specs.declared.dropped.Dropped.{Dropped}
 use Rattle.ordering.specs.declared.dropped.Dropped.TheVariants.{WrongView, OutOfMarks, UnknownSender}
 use Rattle.ordering.specs.Log as logs
 use Rattle.ordering.specs.Log.{LogData}
-use Rattle.ordering.specs.Taking.{fault_beside, ordering_fault, preprepare_fault, prepare_fault, commit_fault}
-use Rattle.protocol.specs.System.Configuration.{Configuration, primary, members}
+use Rattle.ordering.specs.Checkpoints.{root_at}
+use Rattle.ordering.specs.Keeping.{IsLog}
+use Rattle.ordering.specs.Taking.{fault_beside, ordering_fault, preprepare_fault, prepare_fault, commit_fault, checkpoint_fault}
+use Rattle.protocol.specs.System.Configuration.{Configuration, primary, is_number, members}
 use Rattle.protocol.specs.System.Trace.{Entry}
 use Rattle.protocol.specs.System.Trace.Entry.{Got}
-use Rattle.protocol.specs.Replica.Certificates.{are_genuine, batch_from, prepare_from, commit_from, entry_proposal, vote_in, logged, prepare_of, commit_of}
+use Rattle.protocol.specs.Replica.Certificates.{are_genuine, checkpoint_from, checkpoint_in, insert_checkpoint, with_checkpoint, checkpoints_of, says_checkpoint, batch_from, prepare_from, commit_from, entry_proposal, vote_in, logged, prepare_of, commit_of}
 use Rattle.protocol.specs.Replica.State.{State, Call, kept_of, last_time}
 use Rattle.protocol.specs.Replica.RightReplica.{Point}
-use Rattle.protocol.specs.Replica.Owed.{IsNoOlder}
+use Rattle.protocol.specs.Replica.Owed.{IsNoOlder, has_number}
 use Rattle.protocol.proofs.Words.Plain.{IsPlain, heard_plain, taken_none}
-use Rattle.replica_histories.specs.Logs.{FitsLog, Takes}
-use Rattle.replica_histories.specs.Inputs.{BatchesCount, PreparesCount, CommitsCount, RequestsCount, BatchesDrop, PreparesDrop, CommitsDrop, IsBesideLog, OthersDrop}
-use Rattle.replica_histories.proofs.Words.{apart, given_not, batch_read, primary_same}
+use Rattle.replica_histories.specs.Logs.{above_mark, FitsLog, Takes}
+use Rattle.replica_histories.specs.Inputs.{BatchesCount, PreparesCount, CommitsCount, CheckpointsCount, RequestsCount, BatchesDrop, PreparesDrop, CommitsDrop, CheckpointsDrop, EarlyCheckpointsDrop, IsBesideLog, OthersDrop}
+use Rattle.replica_histories.proofs.Words.{apart, mapped, given_not, batch_read, primary_same}
+use Rattle.replica_histories.proofs.Latest.{inserts_same, says_above, number_above, says_number, above_with, listed_passed, passed_adds_nothing, put_or_passed}
+use Rattle.replica_histories.proofs.Checking.{checking}
 use Rattle.replica_histories.proofs.Taking.{takes_nothing, none_there, prepare_taken, commit_taken, batch_taken}
 use Rattle.replica_histories.proofs.Logging.{Read, got_read}
+use Rattle.replica_histories.proofs.Cutting.{counts_one, counts_alike}
 
 -- ---- faults
 
@@ -120,7 +128,7 @@ batches_drop c me log past s v i batch bytes f h faulty = subst (λ (o : Option 
     let d = and_parts (v == log.view) (i == j) b.0 in
     let same : i ≡ j = eqb-true i j d.1 in
     clash (eqb-true v log.view d.0) (subst (λ (x : ℕ). logs.is_in_marks log x ≡ true) (sym same) k) b.1 a.1 (subst (λ (x : ℕ). logs.logged_batch log x ≡ None) (sym same) free) faulty))
-    (λ j x k none. refl) (λ j x k none. refl))
+    (λ j x k none. refl) (λ j x k none. refl) (λ x. refl))
   where
     clash : v ≡ log.view → logs.is_in_marks log i ≡ true → (s == primary c log.view) ≡ true → are_genuine c me batch ≡ true → logs.logged_batch log i ≡ None
         → ((fault : Dropped) × (preprepare_fault log s v i batch ≡ Some fault)) ⊎ (are_genuine c me batch ≡ false) → ⊥
@@ -180,7 +188,7 @@ prepares_drop c me log past s v i digest bytes fault f h faulty = subst (λ (o :
     let from : s ≡ x = eqb-true s x d.0 in
     clash (eqb-true v log.view d.1) (subst (λ (y : ℕ). logs.is_in_marks log y ≡ true) (sym same) k) (subst (λ (y : ℕ). not (y == primary c log.view) ≡ true) (sym from) a.1)
     (subst (λ (y : ℕ). logs.prepare_of log y s ≡ None) (sym same) (subst (λ (y : ℕ). logs.prepare_of log j y ≡ None) (sym from) free))))
-    (λ j x k none. refl))
+    (λ j x k none. refl) (λ x. refl))
   where
     clash : v ≡ log.view → logs.is_in_marks log i ≡ true → not (s == primary c log.view) ≡ true → logs.prepare_of log i s ≡ None → ⊥
     clash view within backup free =
@@ -221,7 +229,8 @@ commits_drop c me log past s v i digest bytes fault f h faulty = subst (λ (o : 
     let same : i ≡ j = eqb-true i j b.1 in
     let from : s ≡ x = eqb-true s x d.0 in
     clash (eqb-true v log.view d.1) (subst (λ (y : ℕ). logs.is_in_marks log y ≡ true) (sym same) k)
-    (subst (λ (y : ℕ). logs.commit_of log y s ≡ None) (sym same) (subst (λ (y : ℕ). logs.commit_of log j y ≡ None) (sym from) free)))))
+    (subst (λ (y : ℕ). logs.commit_of log y s ≡ None) (sym same) (subst (λ (y : ℕ). logs.commit_of log j y ≡ None) (sym from) free))))
+    (λ x. refl))
   where
     clash : v ≡ log.view → logs.is_in_marks log i ≡ true → logs.commit_of log i s ≡ None → ⊥
     clash view within free =
@@ -247,10 +256,130 @@ others_drop c me log past bytes f beside = go (heard (members c) me bytes) besid
     no_commit v j x sender (Commit w k digest) b = absurd b
     no_commit v j x sender _ b = refl
 
+    no_checkpoint : (sender : ℕ) (message : Message) → IsBesideLog (Some (record { sender = sender; message = message })) → checkpoint_from (record { sender = sender; message = message }) ≡ None
+    no_checkpoint sender (Checkpoint k root) b = absurd b
+    no_checkpoint sender _ b = refl
+
     go : (o : Option Body) → IsBesideLog o → Takes c me o log log
-    go None b = takes_nothing c me None log f.is_log (λ j k none. refl) (λ j x k none. refl) (λ j x k none. refl)
+    go None b = takes_nothing c me None log f.is_log (λ j k none. refl) (λ j x k none. refl) (λ j x k none. refl) (λ x. refl)
     go (Some body) b = takes_nothing c me (Some body) log f.is_log (λ j k none. no_proposal log.view j body.sender body.message b) (λ j x k none. no_prepare log.view j x body.sender body.message b)
         (λ j x k none. no_commit log.view j x body.sender body.message b)
+        (λ x. ap (λ (o : Option (ℕ × CheckpointEntry)). above_mark log.low (with_checkpoint x o (logs.checkpoints_of log x))) (no_checkpoint body.sender body.message b))
+
+-- ---- checkpoints
+
+-- nothing speaks against the checkpoint
+pub record CheckpointFree (log : LogData) (s k : ℕ) (root : List ℕ) : Type 0 where
+  pub known : s < logs.replicas log
+  pub above : log.low < k
+  pub number : is_number k ≡ true
+  pub free : root_at (logs.checkpoints_of log s) k ≡ None
+
+pub checkpoint_free : (log : LogData) (s k : ℕ) (root : List ℕ) → checkpoint_fault log s k root ≡ None → CheckpointFree log s k root
+checkpoint_free log s k root h = go (nat_le (logs.replicas log) s) (nat_lt log.low k) (nat_lt k (2 ^ 48)) refl refl refl h
+  where
+    go : (a b d : Bool) → nat_le (logs.replicas log) s ≡ a → nat_lt log.low k ≡ b → nat_lt k (2 ^ 48) ≡ d
+        → cond a (Some UnknownSender) (cond (not (b && d)) (Some OutOfMarks) (fault_beside (root_at (logs.checkpoints_of log s) k) root)) ≡ None → CheckpointFree log s k root
+    go true b d x y z h = absurd cc
+    go false false d x y z h = absurd cc
+    go false true false x y z h = absurd cc
+    go false true true x y z h = record { known = leb-false (logs.replicas log) s x; above = ltb-true log.low k y; number = z; free = beside_none (root_at (logs.checkpoints_of log s) k) root h }
+
+-- what has a root there has the number
+not_found : (test : CheckpointEntry → Bool) (xs : List CheckpointEntry) → find test xs ≡ None → list_any test xs ≡ false
+not_found test [] h = refl
+not_found test (x ∷ xs) h = go (test x) (not_found test xs) h
+  where
+    go : (b : Bool) → (find test xs ≡ None → list_any test xs ≡ false) → cond b (Some x) (find test xs) ≡ None → (b || list_any test xs) ≡ false
+    go true below h = absurd cc
+    go false below h = below h
+
+found : (test : CheckpointEntry → Bool) (xs : List CheckpointEntry) (m : CheckpointEntry) → find test xs ≡ Some m → list_any test xs ≡ true
+found test [] m h = absurd cc
+found test (x ∷ xs) m h = go (test x) (found test xs m) h
+  where
+    go : (b : Bool) → (find test xs ≡ Some m → list_any test xs ≡ true) → cond b (Some x) (find test xs) ≡ Some m → (b || list_any test xs) ≡ true
+    go true below h = refl
+    go false below h = below h
+
+pub checkpoints_count : CheckpointsCount
+checkpoints_count c me log past point s entry bytes f h none says = (
+  subst (λ (n : ℕ). n < entry.number) (sym f.low) p.above,
+  p.number,
+  sym (number_above log.low entry.number (checkpoints_of c past s) p.above) ∙ ap (has_number entry.number) (f.checkpoints s) ∙ number_above log.low entry.number (logs.checkpoints_of log s) p.above
+      ∙ not_found (λ m. m.number == entry.number) (logs.checkpoints_of log s) (mapped_none (λ (m : CheckpointEntry). m.digest) (find (λ m. m.number == entry.number) (logs.checkpoints_of log s)) p.free),
+  says_number entry (checkpoints_of c (Got me bytes ∷ past) s) now,
+)
+  where
+    p : CheckpointFree log s entry.number entry.digest
+    p = checkpoint_free log s entry.number entry.digest none
+
+    marked : checkpoint_in c (Got me bytes) ≡ Some (s, entry)
+    marked = ap (option_and_then checkpoint_from) h ∙ ap (λ (t : Bool). then_some t (let x : ℕ × CheckpointEntry = (s, entry) in x)) p.number
+
+    now : says_checkpoint entry (checkpoints_of c (Got me bytes ∷ past) s) ≡ true
+    now =
+        sym (says_above log.low entry (checkpoints_of c (Got me bytes ∷ past) s) p.above)
+        ∙ ap (says_checkpoint entry) (counts_alike c log past (Got me bytes) s s entry f.is_log p.known marked (f.checkpoints s) (f.latest s))
+        ∙ says_above log.low entry (logs.checkpoints_of (logs.with_checkpoint_of log s entry) s) p.above ∙ says
+
+-- a checkpoint that is brought and adds nothing above the mark
+adds_nothing : (c : Configuration) (me : ℕ) (log : LogData) (s : ℕ) (entry : CheckpointEntry) → IsLog log
+    → (is_number entry.number ≡ true → above_mark log.low (take 3 (insert_checkpoint entry (logs.checkpoints_of log s))) ≡ above_mark log.low (logs.checkpoints_of log s))
+    → Takes c me (Some (record { sender = s; message = Checkpoint entry.number entry.digest })) log log
+adds_nothing c me log s entry is same = takes_nothing c me _ log is (λ j k none. refl) (λ j x k none. refl) (λ j x k none. refl) (λ x. numbered x (is_number entry.number) refl)
+  where
+    of : (x : ℕ) (b : Bool) → (s == x) ≡ b → is_number entry.number ≡ true
+        → above_mark log.low (cond b (take 3 (insert_checkpoint entry (logs.checkpoints_of log x))) (logs.checkpoints_of log x)) ≡ above_mark log.low (logs.checkpoints_of log x)
+    of x true own is = subst (λ (y : ℕ). above_mark log.low (take 3 (insert_checkpoint entry (logs.checkpoints_of log y))) ≡ above_mark log.low (logs.checkpoints_of log y)) (eqb-true s x own) (same is)
+    of x false own is = refl
+
+    numbered : (x : ℕ) (b : Bool) → is_number entry.number ≡ b
+        → above_mark log.low (with_checkpoint x (then_some b (let y : ℕ × CheckpointEntry = (s, entry) in y)) (logs.checkpoints_of log x)) ≡ above_mark log.low (logs.checkpoints_of log x)
+    numbered x true is = of x (s == x) refl is
+    numbered x false is = refl
+
+pub checkpoints_drop : CheckpointsDrop
+checkpoints_drop c me log past s entry bytes fault f h faulty = subst (λ (o : Option Body). Takes c me o log log) (sym h) (adds_nothing c me log s entry f.is_log same)
+  where
+    passed_by : (root : List ℕ) → root_at (logs.checkpoints_of log s) entry.number ≡ Some root → take 3 (insert_checkpoint entry (logs.checkpoints_of log s)) ≡ logs.checkpoints_of log s
+    passed_by root there =
+        let m = mapped (λ (x : CheckpointEntry). x.digest) (find (λ x. x.number == entry.number) (logs.checkpoints_of log s)) root there in
+        passed_adds_nothing 3 entry (logs.checkpoints_of log s) (f.latest s).few
+        (listed_passed 3 entry.number (logs.checkpoints_of log s) (f.latest s).few (f.latest s).descend (found (λ x. x.number == entry.number) (logs.checkpoints_of log s) m.0 m.1))
+
+    same : is_number entry.number ≡ true → above_mark log.low (take 3 (insert_checkpoint entry (logs.checkpoints_of log s))) ≡ above_mark log.low (logs.checkpoints_of log s)
+    same is = go (nat_le (logs.replicas log) s) (nat_lt log.low entry.number) (nat_lt entry.number (2 ^ 48)) (root_at (logs.checkpoints_of log s) entry.number) refl refl refl refl faulty
+      where
+        go : (a b d : Bool) (o : Option (List ℕ)) → nat_le (logs.replicas log) s ≡ a → nat_lt log.low entry.number ≡ b → nat_lt entry.number (2 ^ 48) ≡ d → root_at (logs.checkpoints_of log s) entry.number ≡ o
+            → cond a (Some UnknownSender) (cond (not (b && d)) (Some OutOfMarks) (fault_beside o entry.digest)) ≡ Some fault
+            → above_mark log.low (take 3 (insert_checkpoint entry (logs.checkpoints_of log s))) ≡ above_mark log.low (logs.checkpoints_of log s)
+        go true b d o x y z w none =
+            absurd (apart (nat_lt s (logs.replicas log)) (known c me log past bytes (checking s entry.number entry.digest) f h refl) (le-ltb s (logs.replicas log) (leb-true (logs.replicas log) s x)))
+        go false false d o x y z w none = above_with log.low entry (logs.checkpoints_of log s) (f.latest s) ∙ ap (λ (b : Bool). cond b (take 3 (insert_checkpoint entry (above_mark log.low (logs.checkpoints_of log s)))) (above_mark log.low (logs.checkpoints_of log s))) y
+        go false true false o x y z w none = absurd (apart (is_number entry.number) is z)
+        go false true true None x y z w none = absurd cc
+        go false true true (Some root) x y z w none = ap (above_mark log.low) (passed_by root w)
+
+pub early_checkpoints_drop : EarlyCheckpointsDrop
+early_checkpoints_drop c me log past s entry bytes f h says = (
+  ap (λ (xs : List (List CheckpointEntry)). let m : LogData = record log { checkpoints = xs } in m) (ap (slice_set log.checkpoints s) (ap (take 3) (sym (inserts_same entry (logs.checkpoints_of log s))) ∙ same) ∙ set-get_or log.checkpoints s []),
+  subst (λ (o : Option Body). Takes c me o log log) (sym h) (adds_nothing c me log s entry f.is_log (λ is. ap (above_mark log.low) same)),
+)
+  where
+    is_known : s < logs.replicas log
+    is_known = ltb-true s (logs.replicas log) (known c me log past bytes (checking s entry.number entry.digest) f h refl)
+
+    now : logs.checkpoints_of (logs.with_checkpoint_of log s entry) s ≡ take 3 (insert_checkpoint entry (logs.checkpoints_of log s))
+    now = counts_one log s s entry f.is_log is_known ∙ ap (λ (b : Bool). cond b (take 3 (insert_checkpoint entry (logs.checkpoints_of log s))) (logs.checkpoints_of log s)) (eq-eqb s s refl)
+
+    same : take 3 (insert_checkpoint entry (logs.checkpoints_of log s)) ≡ logs.checkpoints_of log s
+    same = go (put_or_passed 3 entry (logs.checkpoints_of log s) (f.latest s).few)
+      where
+        go : (says_checkpoint entry (take 3 (insert_checkpoint entry (logs.checkpoints_of log s))) ≡ true) ⊎ (take 3 (insert_checkpoint entry (logs.checkpoints_of log s)) ≡ logs.checkpoints_of log s)
+            → take 3 (insert_checkpoint entry (logs.checkpoints_of log s)) ≡ logs.checkpoints_of log s
+        go (inl k) = absurd (apart (says_checkpoint entry (logs.checkpoints_of (logs.with_checkpoint_of log s entry) s)) (ap (says_checkpoint entry) now ∙ k) says)
+        go (inr k) = k
 
 -- ---- requests
 

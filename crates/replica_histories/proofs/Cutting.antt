@@ -1,197 +1,393 @@
--- A checkpoint moves the low mark, and the log is cut at it.
-use Rattle.std.proofs.Common.{◌≡◌, ℕ, ◌+◌, ◌-◌, ◌≤◌, ◌<◌, ◌⊎◌, inl, inr, Bool, true, false, cond, ◌&&◌, List, ◌∷◌, min, refl, sym, ap, ◌∙◌, subst, arith, Option, Some, None}
-use Rattle.std.specs.Prelude.{nat_le, nat_lt, option_and_then, ◌^◌}
+-- The marks move: the log is cut where a checkpoint becomes stable, or a state is installed.
+use Rattle.std.proofs.Common.{◌≡◌, ℕ, ◌+◌, ◌-◌, ◌≤◌, ◌<◌, ◌⊎◌, inl, inr, Bool, true, false, cond, ◌&&◌, List, [], ◌∷◌, length, drop, replicate, min, max, slice_index_or, slice_set, take, refl, sym, ap, ◌∙◌, subst, arith, Option, Some, None, eqb-true}
+use Rattle.std.specs.Prelude.{◌==◌, nat_le, nat_lt, option_and_then, ◌^◌}
+use Rattle.std.specs.Bool.{then_some}
 use Rattle.std.specs.Option.{option_map_or}
-use Rattle.std.proofs.lemmas.Bool.{and_parts, and_from, ltb-false, leb-true, le-leb}
-use Rattle.quorum.specs.Quorum.{count_below}
-use Rattle.quorum.proofs.Counting.{count_same}
-use Rattle.wire.specs.Messages.{BodyData as Body, NewViewData, CheckpointEntryData as CheckpointEntry, checkpoint as Checkpoint}
+use Rattle.std.proofs.lemmas.Bool.{and_parts, and_from, eqb-false, ltb-true, ltb-false, leb-true, le-leb}
+use Rattle.std.proofs.lemmas.List.{length-append, length-drop, length-replicate, length-set, get_or-set_same, get_or-set_other}
+use Rattle.std.proofs.lemmas.List.Elements.{All-append, All-drop, All-replicate}
+use Rattle.wire.specs.Messages.{BodyData as Body, NewViewData, CheckpointEntryData as CheckpointEntry}
 use Rattle.ordering.specs.Log as logs
-use Rattle.ordering.specs.Log.{LogData}
-use Rattle.ordering.specs.Keeping.{IsLog}
+use Rattle.ordering.specs.Log.{Row, no_row, LogData}
+use Rattle.ordering.specs.Keeping.{IsRow, IsLog}
+use Rattle.ordering.specs.Checkpoints as held
 use Rattle.ordering.proofs.Reading.{above_low}
 use Rattle.ordering.proofs.Moving.{cuts_keep}
-use Rattle.protocol.specs.System.Configuration.{Configuration, replicas}
+use Rattle.protocol.specs.System.Configuration.{Configuration}
 use Rattle.protocol.specs.System.Trace.{Entry}
-use Rattle.protocol.specs.Replica.Selection.{is_quorum}
-use Rattle.protocol.specs.Replica.Certificates.{brought, view, view_after, target, taken, is_stable, stable_at, started_at, low, is_in_marks, is_later, counts_at, checkpoint_in, checkpoint_from, checkpoints_of, with_checkpoint, says_checkpoint, batch_begun, batch_from, begun_proposal, entry_proposal, proposal, logged, prepare_from, prepare_of, commit_from, commit_of, vote_in}
-use Rattle.std.specs.Bool.{then_some}
-use Rattle.protocol.proofs.Words.Options.{or_else_alone, or_else_second}
-use Rattle.replica_histories.specs.Marks.{is_stable_by, low_by, FitsMarks, BringsCheckpoint, MarksMove}
+use Rattle.protocol.specs.System.Trace.Entry.{Invoke, Got, Tick, Executed, Installed, Sent, Accepted}
+use Rattle.protocol.specs.Replica.Certificates.{brought, taken, new_view_from, change_sent, change_from, installed_at, checkpoint_in, checkpoint_from, checkpoints_of, with_checkpoint, insert_checkpoint, is_stable, stable_at, started_at, low, counts_at, batch_from, entry_proposal, proposal, logged, prepare_from, prepare_of, commit_from, commit_of, vote_in}
+use Rattle.protocol.proofs.Words.Options.{or_else_alone}
+use Rattle.replica_histories.specs.Logs.{above_mark, AreLatest, FitsLog, IsVoted}
+use Rattle.replica_histories.specs.Marks.{checked_log, IsVotedTo, BringsCheckpoint, MarksMove, InstallationsMove}
 use Rattle.replica_histories.proofs.Words.{gated}
+use Rattle.replica_histories.proofs.Latest.{inserts_same, behind_latest, behind_above, above_higher}
+use Rattle.replica_histories.proofs.Checking.{checking, latest_of, log_stable}
+use Rattle.replica_histories.proofs.Settling.{votes_said, voted_goes}
+use Rattle.replica_histories.proofs.Logging.{none_taken, view_quiet, proposal_quiet, begun_quiet}
 
 -- ---- the log behind a cut
 
-cut_low : (log : LogData) (h : ℕ) → log.low ≤ h → (logs.cut_to log h).low ≡ h
+pub cut_low : (log : LogData) (h : ℕ) → log.low ≤ h → (logs.cut_to log h).low ≡ h
 cut_low log h above = go (nat_le h log.low) refl
   where
     go : (b : Bool) → nat_le h log.low ≡ b → (cond b log (record log { low = h; rows = logs.cut_rows (min (h - log.low) log.span) log.rows })).low ≡ h
     go true e = let l = leb-true h log.low e in omega arith
     go false e = refl
 
-cut_view : (log : LogData) (h : ℕ) → (logs.cut_to log h).view ≡ log.view
-cut_view log h = go (nat_le h log.low)
+-- what a cut leaves
+pub cut_same : {A : Type 0} (of : LogData → A) → ((log : LogData) (h : ℕ) (rows : List Row) → of (record log { low = h; rows = rows }) ≡ of log) → (log : LogData) (h : ℕ) → of (logs.cut_to log h) ≡ of log
+cut_same of same log h = go (nat_le h log.low)
   where
-    go : (b : Bool) → (cond b log (record log { low = h; rows = logs.cut_rows (min (h - log.low) log.span) log.rows })).view ≡ log.view
+    go : (b : Bool) → of (cond b log (record log { low = h; rows = logs.cut_rows (min (h - log.low) log.span) log.rows })) ≡ of log
     go true = refl
-    go false = refl
+    go false = same log h (logs.cut_rows (min (h - log.low) log.span) log.rows)
 
-cut_span : (log : LogData) (h : ℕ) → (logs.cut_to log h).span ≡ log.span
-cut_span log h = go (nat_le h log.low)
+-- a cut at the low mark, or below it, changes nothing
+cut_none : (log : LogData) (h : ℕ) → h ≤ log.low → logs.cut_to log h ≡ log
+cut_none log h l = rw (le-leb h log.low l) refl
+
+-- so a cut is at the larger one
+cut_at : (log : LogData) (h : ℕ) → logs.cut_to log (max log.low h) ≡ logs.cut_to log h
+cut_at log h = go (nat_lt log.low h) refl
   where
-    go : (b : Bool) → (cond b log (record log { low = h; rows = logs.cut_rows (min (h - log.low) log.span) log.rows })).span ≡ log.span
-    go true = refl
-    go false = refl
+    go : (b : Bool) → nat_lt log.low h ≡ b → logs.cut_to log (max log.low h) ≡ logs.cut_to log h
+    go true e = let l = ltb-true log.low h e in let most : max log.low h ≡ h = omega arith in ap (logs.cut_to log) most
+    go false e = let l = ltb-false log.low h e in cut_none log (max log.low h) (omega arith) ∙ sym (cut_none log h l)
 
-module _ (c : Configuration) (me : ℕ) (log : LogData) (held next : ℕ → List CheckpointEntry) (past : List Entry) (e : Entry) (s : ℕ) (entry : CheckpointEntry) (is : IsLog log) (f : FitsMarks c me log held past)
-    (b : BringsCheckpoint c e s entry) (adds : (x : ℕ) → next x ≡ with_checkpoint x (Some (s, entry)) (held x)) where
-  abbrev mark : ℕ
-  mark = low_by c me next log.low entry
+cut_is_log : (log : LogData) (h : ℕ) → IsLog log → h < 2 ^ 48 → IsLog (logs.cut_to log h)
+cut_is_log log h is small = go (nat_le h log.low)
+  where
+    size : length (logs.cut_rows (min (h - log.low) log.span) log.rows) ≡ log.span
+    size =
+        let a = length-append (drop (min (h - log.low) log.span) log.rows) (replicate (min (h - log.low) log.span) no_row) in
+        let d = length-drop (min (h - log.low) log.span) log.rows in
+        let r = length-replicate (min (h - log.low) log.span) no_row in
+        let s = is.size in
+        omega arith
+
+    go : (b : Bool) → IsLog (cond b log (record log { low = h; rows = logs.cut_rows (min (h - log.low) log.span) log.rows }))
+    go true = is
+    go false = record {
+      some = is.some;
+      few = is.few;
+      me = is.me;
+      span = is.span;
+      low = small;
+      size = size;
+      rows = All-append (IsRow (logs.replicas log)) (drop (min (h - log.low) log.span) log.rows) (replicate (min (h - log.low) log.span) no_row) (All-drop (IsRow (logs.replicas log)) (min (h - log.low) log.span) log.rows is.rows)
+          (All-replicate (IsRow (logs.replicas log)) (min (h - log.low) log.span) no_row (record { prepares = tt; commits = tt }));
+      checkpoints = is.checkpoints;
+    }
+
+-- ---- an entry that proposes nothing and casts no vote
+
+record Mute (c : Configuration) (me : ℕ) (past : List Entry) (e : Entry) : Type 0 where
+  pub no_view : taken c past e ≡ None
+  pub no_change : change_sent e ≡ 0
+  pub batch : (v i : ℕ) → entry_proposal c me past e v i ≡ None
+  pub prepare : (v i s : ℕ) → vote_in c me past e (prepare_from c s v i) v i ≡ None
+  pub commit : (v i s : ℕ) → vote_in c me past e (commit_from s v i) v i ≡ None
+
+-- The log with these checkpoints, cut where the low mark of the history is behind the entry.
+module _ (c : Configuration) (me : ℕ) (log : LogData) (past : List Entry) (e : Entry) (f : FitsLog c me log past) (q : Mute c me past e) (held : List (List CheckpointEntry)) (mark : ℕ) where
+  abbrev counted : LogData
+  counted = record log { checkpoints = held }
 
   abbrev new : LogData
-  new = logs.cut_to log mark
-
-  abbrev body : Body
-  body = record { sender = s; message = Checkpoint entry.number entry.digest }
-
-  low_new : new.low ≡ mark
-  low_new = cut_low log mark (omega arith)
-
-  grows : log.low ≤ new.low
-  grows = let l = low_new in omega arith
-
-  none_taken : taken c past e ≡ None
-  none_taken = ap (option_and_then (λ (new : NewViewData). then_some (is_later (view c past) (target past) new) new)) b.no_view
-
-  marked : checkpoint_in c e ≡ Some (s, entry)
-  marked = ap (option_and_then checkpoint_from) b.brings ∙ b.numbered
-
-  -- it casts no vote, and proposes nothing
-  mute : (v i : ℕ) (vote : Body → Option (List ℕ)) → vote body ≡ None → vote_in c me past e vote v i ≡ None
-  mute v i vote h = gated (counts_at c me past e v i) (option_and_then vote (brought c e)) (ap (option_and_then vote) b.brings ∙ h)
-
-  proposes : (v i : ℕ) → proposal c me past e v i ≡ None
-  proposes v i =
-      or_else_second (begun_proposal c me past e v i) (entry_proposal c me past e v i) (gated (is_in_marks c (low c me (e ∷ past)) i) (option_and_then (batch_begun v i) (taken c past e)) (ap (option_and_then (batch_begun v i)) none_taken))
-      ∙ mute v i (batch_from c me v i) refl
-
-  held_next : (x : ℕ) → checkpoints_of c (e ∷ past) x ≡ next x
-  unfolding checkpoints_of
-  held_next x = ap (λ (o : Option (ℕ × CheckpointEntry)). with_checkpoint x o (checkpoints_of c past x)) marked ∙ ap (with_checkpoint x (Some (s, entry))) (f.checkpoints x) ∙ sym (adds x)
-
-  stable_same : is_stable c me (e ∷ past) entry ≡ is_stable_by c me next entry
-  stable_same =
-      ap (λ (n : ℕ). is_quorum c n && says_checkpoint entry (checkpoints_of c (e ∷ past) me))
-      (count_same (λ x. says_checkpoint entry (checkpoints_of c (e ∷ past) x)) (λ x. says_checkpoint entry (next x)) (λ x. ap (says_checkpoint entry) (held_next x)) (replicas c))
-      ∙ ap (λ (xs : List CheckpointEntry). is_quorum c (count_below (λ x. says_checkpoint entry (next x)) (replicas c)) && says_checkpoint entry xs) (held_next me)
-
-  low_is : low c me (e ∷ past) ≡ new.low
-  unfolding low
-  low_is =
-      let stable : stable_at c me past e ≡ cond (is_stable_by c me next entry) entry.number 0 =
-      ap (λ (o : Option (ℕ × CheckpointEntry)). option_map_or (λ (x : ℕ × CheckpointEntry). cond (is_stable c me (e ∷ past) x.1) x.1.number 0) o 0) marked ∙ ap (λ (t : Bool). cond t entry.number 0) stable_same in
-      let started : started_at c past e ≡ 0 = ap (λ (o : Option NewViewData). option_map_or (λ (new : NewViewData). new.start) o 0) none_taken in
-      let installed = b.not_installed in
-      let was = f.low in
-      let at = low_new in
-      omega arith
-
-  view_is : view c (e ∷ past) ≡ log.view
-  unfolding view
-  view_is = ap (view_after (view c past) (target past)) b.no_view ∙ f.view
+  new = logs.cut_to counted mark
 
   log_next : (v i : ℕ) → logged c me (e ∷ past) v i ≡ logged c me past v i
   unfolding logged
-  log_next v i = or_else_alone (logged c me past v i) (proposal c me past e v i) (proposes v i)
+  log_next v i = or_else_alone (logged c me past v i) (proposal c me past e v i) (proposal_quiet c me past e v i q.no_view ∙ q.batch v i)
 
-  prepare_next : (v i x : ℕ) → prepare_of c me (e ∷ past) v i x ≡ prepare_of c me past v i x
+  prepare_next : (v i s : ℕ) → prepare_of c me (e ∷ past) v i s ≡ prepare_of c me past v i s
   unfolding prepare_of
-  prepare_next v i x = or_else_alone (prepare_of c me past v i x) (vote_in c me past e (prepare_from c x v i) v i) (mute v i (prepare_from c x v i) refl)
+  prepare_next v i s = or_else_alone (prepare_of c me past v i s) (vote_in c me past e (prepare_from c s v i) v i) (q.prepare v i s)
 
-  commit_next : (v i x : ℕ) → commit_of c me (e ∷ past) v i x ≡ commit_of c me past v i x
+  commit_next : (v i s : ℕ) → commit_of c me (e ∷ past) v i s ≡ commit_of c me past v i s
   unfolding commit_of
-  commit_next v i x = or_else_alone (commit_of c me past v i x) (vote_in c me past e (commit_from x v i) v i) (mute v i (commit_from x v i) refl)
+  commit_next v i s = or_else_alone (commit_of c me past v i s) (vote_in c me past e (commit_from s v i) v i) (q.commit v i s)
 
-  -- what is above the new mark was above the old one
-  above_mark : (i : ℕ) → logs.is_in_marks new i ≡ true → log.low < i
-  above_mark i k = let a = above_low new i k in let g = grows in omega arith
+  module _ (is : IsLog counted) (up : log.low ≤ mark) (small : mark < 2 ^ 48) (low_is : low c me (e ∷ past) ≡ mark) (voted : (i : ℕ) → log.low < i → i ≤ mark → (logs.due_prepare log i ≡ None) × (logs.due_commit log i ≡ None))
+      (checks : (s : ℕ) → above_mark mark (checkpoints_of c (e ∷ past) s) ≡ above_mark mark (logs.checkpoints_of counted s)) (latest : (s : ℕ) → AreLatest (logs.checkpoints_of counted s)) where
+    low_new : new.low ≡ mark
+    low_new = cut_low counted mark up
 
-  -- what is in the old marks is cut or in the new ones
-  cut_or_in : (i : ℕ) → logs.is_in_marks log i ≡ true → (i ≤ new.low) ⊎ (logs.is_in_marks new i ≡ true)
-  cut_or_in i k = go (nat_lt new.low i) refl
-    where
-      p : (nat_lt log.low i && nat_le i (log.low + log.span) ≡ true) × (nat_lt i (2 ^ 48) ≡ true)
-      p = and_parts (nat_lt log.low i && nat_le i (log.low + log.span)) (nat_lt i (2 ^ 48)) k
+    ev : new.view ≡ log.view
+    ev = cut_same (λ m. m.view) (λ m h rows. refl) counted mark
 
-      go : (t : Bool) → nat_lt new.low i ≡ t → (i ≤ new.low) ⊎ (logs.is_in_marks new i ≡ true)
-      go true e =
-          let within = leb-true i (log.low + log.span) (and_parts (nat_lt log.low i) (nat_le i (log.low + log.span)) p.0).1 in
-          let g = grows in
-          let same = cut_span log mark in
-          inr (and_from (nat_lt new.low i && nat_le i (new.low + new.span)) (nat_lt i (2 ^ 48)) (and_from (nat_lt new.low i) (nat_le i (new.low + new.span)) e (le-leb i (new.low + new.span) (omega arith))) p.1)
-      go false e = inl (let l = ltb-false new.low i e in omega arith)
+    es : new.span ≡ log.span
+    es = cut_same (λ m. m.span) (λ m h rows. refl) counted mark
 
-  -- a reading within the new marks: the old one, or nothing on both sides
-  read : (i : ℕ) → logs.is_in_marks new i ≡ true → (now old behind : Option (List ℕ)) → behind ≡ cond (logs.is_in_marks new i) old None → (logs.is_in_marks log i ≡ true → now ≡ old)
-      → (logs.is_in_marks log i ≡ false → (now ≡ None) × (old ≡ None)) → now ≡ behind
-  read i k now old behind cut there beyond = go (logs.is_in_marks log i) refl ∙ sym (cut ∙ ap (λ (t : Bool). cond t old None) k)
-    where
-      go : (t : Bool) → logs.is_in_marks log i ≡ t → now ≡ old
-      go true e = there e
-      go false e = let n = beyond e in n.0 ∙ sym n.1
+    -- what is above the new mark was above the old one
+    above_new : (i : ℕ) → logs.is_in_marks new i ≡ true → log.low < i
+    above_new i k = let a = above_low new i k in let n = low_new in omega arith
 
-  nothing_logged : (i : ℕ) → log.low < i → logs.is_in_marks log i ≡ false → logged c me past log.view i ≡ None
-  nothing_logged i l out = go (logged c me past log.view i) refl
-    where
-      go : (o : Option (List ℕ)) → logged c me past log.view i ≡ o → logged c me past log.view i ≡ None
-      go None h = h
-      go (Some batch) h = at (f.within log.view i batch h).1
-        where
-          at : (i ≤ log.low) ⊎ (logs.is_in_marks log i ≡ true) → logged c me past log.view i ≡ None
-          at (inl k) = absurd (omega arith)
-          at (inr k) = absurd (let bad : true ≡ false = sym k ∙ out in cc)
+    -- what is in the old marks is cut or in the new ones
+    cut_or_in : (i : ℕ) → logs.is_in_marks log i ≡ true → (i ≤ new.low) ⊎ (logs.is_in_marks new i ≡ true)
+    cut_or_in i k = go (nat_lt new.low i) refl
+      where
+        p : (nat_lt log.low i && nat_le i (log.low + log.span) ≡ true) × (nat_lt i (2 ^ 48) ≡ true)
+        p = and_parts (nat_lt log.low i && nat_le i (log.low + log.span)) (nat_lt i (2 ^ 48)) k
 
-  outside : (i : ℕ) (o : Option (List ℕ)) → logs.is_in_marks log i ≡ false → cond (logs.is_in_marks log i) o None ≡ None
-  outside i o out = ap (λ (t : Bool). cond t o None) out
+        go : (t : Bool) → nat_lt new.low i ≡ t → (i ≤ new.low) ⊎ (logs.is_in_marks new i ≡ true)
+        go true h =
+            let within = leb-true i (log.low + log.span) (and_parts (nat_lt log.low i) (nat_le i (log.low + log.span)) p.0).1 in
+            let n = low_new in
+            let same = es in
+            inr (and_from (nat_lt new.low i && nat_le i (new.low + new.span)) (nat_lt i (2 ^ 48)) (and_from (nat_lt new.low i) (nat_le i (new.low + new.span)) h (le-leb i (new.low + new.span) (omega arith))) p.1)
+        go false h = inl (let l = ltb-false new.low i h in omega arith)
 
-  at_view : (P : ℕ → Type 0) → P log.view → P new.view
-  at_view P h = subst P (sym (cut_view log mark)) h
+    -- a reading within the new marks: the old one, or nothing on both sides
+    read : (i : ℕ) → logs.is_in_marks new i ≡ true → (now old behind : Option (List ℕ)) → behind ≡ cond (logs.is_in_marks new i) old None → (logs.is_in_marks log i ≡ true → now ≡ old)
+        → (logs.is_in_marks log i ≡ false → (now ≡ None) × (old ≡ None)) → now ≡ behind
+    read i k now old behind cut there beyond = go (logs.is_in_marks log i) refl ∙ sym (cut ∙ ap (λ (t : Bool). cond t old None) k)
+      where
+        go : (t : Bool) → logs.is_in_marks log i ≡ t → now ≡ old
+        go true h = there h
+        go false h = let n = beyond h in n.0 ∙ sym n.1
 
-  moved : FitsMarks c me new next (e ∷ past)
-  moved = record {
-    span = cut_span log mark ∙ f.span;
-    view = view_is ∙ sym (cut_view log mark);
-    target = let a = f.target in let q = b.no_change in let v = cut_view log mark in omega arith;
-    low = low_is;
-    batches = λ i k. at_view (λ v. logged c me (e ∷ past) v i ≡ logs.logged_batch new i) (log_next log.view i ∙
-        read i k (logged c me past log.view i) (logs.logged_batch log i) (logs.logged_batch new i) ((cuts_keep log mark i me is).0) (f.batches i)
-        (λ out. (nothing_logged i (above_mark i k) out, outside i (logs.row_of log i).batch out)));
-    prepares = λ i x k. at_view (λ v. prepare_of c me (e ∷ past) v i x ≡ logs.prepare_of new i x) (prepare_next log.view i x ∙
-        read i k (prepare_of c me past log.view i x) (logs.prepare_of log i x) (logs.prepare_of new i x) ((cuts_keep log mark i x is).1) (f.prepares i x)
-        (λ out. ((f.above i x (above_mark i k) out).0, outside i _ out)));
-    commits = λ i x k. at_view (λ v. commit_of c me (e ∷ past) v i x ≡ logs.commit_of new i x) (commit_next log.view i x ∙
-        read i k (commit_of c me past log.view i x) (logs.commit_of log i x) (logs.commit_of new i x) ((cuts_keep log mark i x is).2) (f.commits i x)
-        (λ out. ((f.above i x (above_mark i k) out).1, outside i _ out)));
-    within = λ v i batch h. let w = f.within v i batch (sym (log_next v i) ∙ h) in (w.0 ∙ sym (cut_view log mark), place i w.1);
-    above = λ i x l out. at_view (λ v. (prepare_of c me (e ∷ past) v i x ≡ None) × (commit_of c me (e ∷ past) v i x ≡ None))
-        (let n = beyond i x l out in (prepare_next log.view i x ∙ n.0, commit_next log.view i x ∙ n.1));
-    checkpoints = held_next;
+    nothing_logged : (i : ℕ) → log.low < i → logs.is_in_marks log i ≡ false → logged c me past log.view i ≡ None
+    nothing_logged i l out = go (logged c me past log.view i) refl
+      where
+        go : (o : Option (List ℕ)) → logged c me past log.view i ≡ o → logged c me past log.view i ≡ None
+        go None h = h
+        go (Some batch) h = at (f.within log.view i batch h).1
+          where
+            at : (i ≤ log.low) ⊎ (logs.is_in_marks log i ≡ true) → logged c me past log.view i ≡ None
+            at (inl k) = absurd (omega arith)
+            at (inr k) = absurd (let bad : true ≡ false = sym k ∙ out in cc)
+
+    outside : (i : ℕ) (o : Option (List ℕ)) → logs.is_in_marks log i ≡ false → cond (logs.is_in_marks log i) o None ≡ None
+    outside i o out = ap (λ (t : Bool). cond t o None) out
+
+    at_view : (P : ℕ → Type 0) → P log.view → P new.view
+    at_view P h = subst P (sym ev) h
+
+    place : (i : ℕ) → (i ≤ log.low) ⊎ (logs.is_in_marks log i ≡ true) → (i ≤ new.low) ⊎ (logs.is_in_marks new i ≡ true)
+    place i (inl k) = inl (let n = low_new in omega arith)
+    place i (inr k) = cut_or_in i k
+
+    beyond : (i s : ℕ) → new.low < i → logs.is_in_marks new i ≡ false → (prepare_of c me past log.view i s ≡ None) × (commit_of c me past log.view i s ≡ None)
+    beyond i s l out = go (logs.is_in_marks log i) refl
+      where
+        go : (t : Bool) → logs.is_in_marks log i ≡ t → (prepare_of c me past log.view i s ≡ None) × (commit_of c me past log.view i s ≡ None)
+        go false h = f.above i s (let n = low_new in omega arith) h
+        go true h = at (cut_or_in i h)
+          where
+            at : (i ≤ new.low) ⊎ (logs.is_in_marks new i ≡ true) → (prepare_of c me past log.view i s ≡ None) × (commit_of c me past log.view i s ≡ None)
+            at (inl k) = absurd (omega arith)
+            at (inr k) = absurd (let bad : true ≡ false = sym k ∙ out in cc)
+
+    settled : (i : ℕ) (batch : List ℕ) → i ≤ mark → logged c me past log.view i ≡ Some batch → IsVoted c me (e ∷ past) log.view i batch
+    settled i batch l h = voted_goes c me e past log.view i batch h (prepare_next log.view i) (votes_said c me log past f i batch (λ above. voted i above l) h)
+
+    moved : FitsLog c me new (e ∷ past)
+    moved = record {
+      is_log = cut_is_log counted mark is small;
+      own = cut_same (λ m. m.me) (λ m h rows. refl) counted mark ∙ f.own;
+      faults = cut_same (λ m. m.faults) (λ m h rows. refl) counted mark ∙ f.faults;
+      span = es ∙ f.span;
+      active = cut_same (λ m. m.active) (λ m h rows. refl) counted mark ∙ f.active;
+      view = view_quiet c past e q.no_view ∙ f.view ∙ sym ev;
+      target = let a = f.target in let n = q.no_change in let v = ev in omega arith;
+      low = low_is ∙ sym low_new;
+      batches = λ i k. at_view (λ v. logged c me (e ∷ past) v i ≡ logs.logged_batch new i) (log_next log.view i ∙
+          read i k (logged c me past log.view i) (logs.logged_batch log i) (logs.logged_batch new i) ((cuts_keep counted mark i me is).0) (f.batches i)
+          (λ out. (nothing_logged i (above_new i k) out, outside i (logs.row_of log i).batch out)));
+      prepares = λ i s k. at_view (λ v. prepare_of c me (e ∷ past) v i s ≡ logs.prepare_of new i s) (prepare_next log.view i s ∙
+          read i k (prepare_of c me past log.view i s) (logs.prepare_of log i s) (logs.prepare_of new i s) ((cuts_keep counted mark i s is).1) (f.prepares i s)
+          (λ out. ((f.above i s (above_new i k) out).0, outside i _ out)));
+      commits = λ i s k. at_view (λ v. commit_of c me (e ∷ past) v i s ≡ logs.commit_of new i s) (commit_next log.view i s ∙
+          read i k (commit_of c me past log.view i s) (logs.commit_of log i s) (logs.commit_of new i s) ((cuts_keep counted mark i s is).2) (f.commits i s)
+          (λ out. ((f.above i s (above_new i k) out).1, outside i _ out)));
+      within = λ v i batch h. let w = f.within v i batch (sym (log_next v i) ∙ h) in (w.0 ∙ sym ev, place i w.1);
+      above = λ i s l out. at_view (λ v. (prepare_of c me (e ∷ past) v i s ≡ None) × (commit_of c me (e ∷ past) v i s ≡ None))
+          (let n = beyond i s l out in (prepare_next log.view i s ∙ n.0, commit_next log.view i s ∙ n.1));
+      begun = begun_quiet c past e q.no_view f.begun;
+      settled = λ i batch l h. at_view (λ v. IsVoted c me (e ∷ past) v i batch)
+          (settled i batch (subst (λ (n : ℕ). i ≤ n) low_new l) (sym (log_next log.view i) ∙ subst (λ (v : ℕ). logged c me (e ∷ past) v i ≡ Some batch) ev h));
+      checkpoints = λ s. subst (λ (n : ℕ). above_mark n (checkpoints_of c (e ∷ past) s) ≡ above_mark n (logs.checkpoints_of new s)) (sym low_new)
+          (checks s ∙ ap (above_mark mark) (sym (kept s)));
+      latest = λ s. subst AreLatest (sym (kept s)) (latest s);
+    }
+      where
+        kept : (s : ℕ) → logs.checkpoints_of new s ≡ logs.checkpoints_of counted s
+        kept s = cut_same (λ m. logs.checkpoints_of m s) (λ m h rows. refl) counted mark
+
+-- ---- a checkpoint
+
+changes_nothing : (c : Configuration) (s k : ℕ) (root : List ℕ) (e : Entry) → brought c e ≡ Some (checking s k root) → change_sent e ≡ 0
+changes_nothing c s k root (Sent p bytes) h = ap (λ (o : Option Body). option_map_or change_from o 0) h
+changes_nothing c s k root (Got p bytes) h = refl
+changes_nothing c s k root (Tick p) h = refl
+changes_nothing c s k root (Executed x y z) h = refl
+changes_nothing c s k root (Installed x y z) h = refl
+changes_nothing c s k root (Invoke x y z) h = refl
+changes_nothing c s k root (Accepted x y z) h = refl
+
+installs_nothing : (c : Configuration) (body : Body) (e : Entry) → brought c e ≡ Some body → installed_at e ≡ 0
+installs_nothing c body (Installed x y z) h = absurd (let bad : None ≡ Some body = h in cc)
+installs_nothing c body (Sent p bytes) h = refl
+installs_nothing c body (Got p bytes) h = refl
+installs_nothing c body (Tick p) h = refl
+installs_nothing c body (Executed x y z) h = refl
+installs_nothing c body (Invoke x y z) h = refl
+installs_nothing c body (Accepted x y z) h = refl
+
+-- the checkpoints of each sender with one more
+pub counts_one : (log : LogData) (s x : ℕ) (entry : CheckpointEntry) → IsLog log → s < logs.replicas log → logs.checkpoints_of (logs.with_checkpoint_of log s entry) x ≡ with_checkpoint x (Some (s, entry)) (logs.checkpoints_of log x)
+counts_one log s x entry is known = go (s == x) refl
+  where
+    put : List CheckpointEntry
+    put = held.with_checkpoint entry (logs.checkpoints_of log s)
+
+    size : length log.checkpoints ≡ logs.replicas log
+    size = is.checkpoints
+
+    go : (b : Bool) → (s == x) ≡ b → slice_index_or (slice_set log.checkpoints s (held.with_checkpoint entry (logs.checkpoints_of log s))) x [] ≡ cond b (take 3 (insert_checkpoint entry (logs.checkpoints_of log x))) (logs.checkpoints_of log x)
+    go true e =
+        let same : s ≡ x = eqb-true s x e in
+        let n = size in
+        ap (λ (y : ℕ). slice_index_or (slice_set log.checkpoints s (held.with_checkpoint entry (logs.checkpoints_of log s))) y []) (sym same)
+        ∙ get_or-set_same log.checkpoints s (held.with_checkpoint entry (logs.checkpoints_of log s)) [] (omega arith)
+        ∙ ap (take 3) (sym (inserts_same entry (logs.checkpoints_of log s))) ∙ ap (λ (y : ℕ). take 3 (insert_checkpoint entry (logs.checkpoints_of log y))) same
+    go false e = get_or-set_other log.checkpoints s x (held.with_checkpoint entry (logs.checkpoints_of log s)) [] (λ same. eqb-false s x e (sym same))
+
+-- The checkpoints of log and history with one more are the same above the mark.
+pub counts_alike : (c : Configuration) (log : LogData) (past : List Entry) (e : Entry) (s x : ℕ) (entry : CheckpointEntry) → IsLog log → s < logs.replicas log → checkpoint_in c e ≡ Some (s, entry)
+    → above_mark log.low (checkpoints_of c past x) ≡ above_mark log.low (logs.checkpoints_of log x) → AreLatest (logs.checkpoints_of log x)
+    → above_mark log.low (checkpoints_of c (e ∷ past) x) ≡ above_mark log.low (logs.checkpoints_of (logs.with_checkpoint_of log s entry) x)
+unfolding checkpoints_of
+counts_alike c log past e s x entry is known marked same latest =
+    ap (λ (o : Option (ℕ × CheckpointEntry)). above_mark log.low (with_checkpoint x o (checkpoints_of c past x))) marked
+    ∙ behind_above log.low x (Some (s, entry)) (checkpoints_of c past x) (logs.checkpoints_of log x) (latest_of c past x) latest same
+    ∙ ap (above_mark log.low) (sym (counts_one log s x entry is known))
+
+module _ (c : Configuration) (me : ℕ) (log : LogData) (past : List Entry) (e : Entry) (s : ℕ) (entry : CheckpointEntry) (f : FitsLog c me log past) (b : BringsCheckpoint c e s entry) (known : s < logs.replicas log) where
+  abbrev more : LogData
+  more = logs.with_checkpoint_of log s entry
+
+  -- where the low mark is behind it
+  abbrev next : ℕ
+  next = cond (logs.is_stable more entry) (max log.low entry.number) log.low
+
+  pub marked : checkpoint_in c e ≡ Some (s, entry)
+  marked = ap (option_and_then checkpoint_from) b.brings ∙ ap (λ (t : Bool). then_some t (let x : ℕ × CheckpointEntry = (s, entry) in x)) b.number
+
+  mute : Mute c me past e
+  mute = record {
+    no_view = none_taken c past e (ap (option_and_then (new_view_from c)) b.brings);
+    no_change = changes_nothing c s entry.number entry.digest e b.brings;
+    batch = λ v i. gated (counts_at c me past e v i) (option_and_then (batch_from c me v i) (brought c e)) (ap (option_and_then (batch_from c me v i)) b.brings);
+    prepare = λ v i x. gated (counts_at c me past e v i) (option_and_then (prepare_from c x v i) (brought c e)) (ap (option_and_then (prepare_from c x v i)) b.brings);
+    commit = λ v i x. gated (counts_at c me past e v i) (option_and_then (commit_from x v i) (brought c e)) (ap (option_and_then (commit_from x v i)) b.brings);
   }
-    where
-      place : (i : ℕ) → (i ≤ log.low) ⊎ (logs.is_in_marks log i ≡ true) → (i ≤ new.low) ⊎ (logs.is_in_marks new i ≡ true)
-      place i (inl k) = inl (let g = grows in omega arith)
-      place i (inr k) = cut_or_in i k
 
-      beyond : (i x : ℕ) → new.low < i → logs.is_in_marks new i ≡ false → (prepare_of c me past log.view i x ≡ None) × (commit_of c me past log.view i x ≡ None)
-      beyond i x l out = go (logs.is_in_marks log i) refl
-        where
-          go : (t : Bool) → logs.is_in_marks log i ≡ t → (prepare_of c me past log.view i x ≡ None) × (commit_of c me past log.view i x ≡ None)
-          go false e = f.above i x (let g = grows in omega arith) e
-          go true e = at (cut_or_in i e)
-            where
-              at : (i ≤ new.low) ⊎ (logs.is_in_marks new i ≡ true) → (prepare_of c me past log.view i x ≡ None) × (commit_of c me past log.view i x ≡ None)
-              at (inl k) = absurd (omega arith)
-              at (inr k) = absurd (let bad : true ≡ false = sym k ∙ out in cc)
+  pub alike : (x : ℕ) → above_mark log.low (checkpoints_of c (e ∷ past) x) ≡ above_mark log.low (logs.checkpoints_of more x)
+  alike x = counts_alike c log past e s x entry f.is_log known marked (f.checkpoints x) (f.latest x)
+
+  latest : (x : ℕ) → AreLatest (logs.checkpoints_of more x)
+  latest x = subst AreLatest (sym (counts_one log s x entry f.is_log known)) (behind_latest x (Some (s, entry)) (logs.checkpoints_of log x) (f.latest x))
+
+  is_log : IsLog more
+  is_log = record {
+    some = f.is_log.some;
+    few = f.is_log.few;
+    me = f.is_log.me;
+    span = f.is_log.span;
+    low = f.is_log.low;
+    size = f.is_log.size;
+    rows = f.is_log.rows;
+    checkpoints = length-set log.checkpoints s (held.with_checkpoint entry (logs.checkpoints_of log s)) ∙ f.is_log.checkpoints;
+  }
+
+  up : log.low ≤ next
+  up = go (logs.is_stable more entry)
+    where
+      go : (t : Bool) → log.low ≤ cond t (max log.low entry.number) log.low
+      go true = omega arith
+      go false = omega arith
+
+  small : next < 2 ^ 48
+  small = go (logs.is_stable more entry)
+    where
+      go : (t : Bool) → cond t (max log.low entry.number) log.low < 2 ^ 48
+      go true = let a = f.is_log.low in let n = ltb-true entry.number (2 ^ 48) b.number in omega arith
+      go false = f.is_log.low
+
+  low_is : low c me (e ∷ past) ≡ next
+  unfolding low
+  low_is =
+      let stable : stable_at c me past e ≡ cond (is_stable c me (e ∷ past) entry) entry.number 0 =
+      ap (λ (o : Option (ℕ × CheckpointEntry)). option_map_or (λ (x : ℕ × CheckpointEntry). cond (is_stable c me (e ∷ past) x.1) x.1.number 0) o 0) marked in
+      let started : started_at c past e ≡ 0 = ap (λ (o : Option NewViewData). option_map_or (λ (new : NewViewData). new.start) o 0) mute.no_view in
+      let installed = installs_nothing c (checking s entry.number entry.digest) e b.brings in
+      let was = f.low in
+      let same : max log.low (cond (is_stable c me (e ∷ past) entry) entry.number 0) ≡ cond (logs.is_stable more entry) (max log.low entry.number) log.low = go (nat_lt log.low entry.number) refl in
+      omega arith
+    where
+      low_mark : (t u : Bool) → entry.number ≤ log.low → max log.low (cond t entry.number 0) ≡ cond u (max log.low entry.number) log.low
+      low_mark true true l = refl
+      low_mark true false l = omega arith
+      low_mark false true l = omega arith
+      low_mark false false l = omega arith
+
+      high_mark : (t : Bool) → max log.low (cond t entry.number 0) ≡ cond t (max log.low entry.number) log.low
+      high_mark true = refl
+      high_mark false = omega arith
+
+      go : (t : Bool) → nat_lt log.low entry.number ≡ t → max log.low (cond (is_stable c me (e ∷ past) entry) entry.number 0) ≡ cond (logs.is_stable more entry) (max log.low entry.number) log.low
+      go true l =
+          high_mark (is_stable c me (e ∷ past) entry)
+          ∙ ap (λ (t : Bool). cond t (max log.low entry.number) log.low) (log_stable c me more (e ∷ past) entry f.faults f.own (ltb-true log.low entry.number l) alike)
+      go false l = low_mark (is_stable c me (e ∷ past) entry) (logs.is_stable more entry) (ltb-false log.low entry.number l)
+
+  cut_is : logs.cut_to more next ≡ checked_log log s entry
+  cut_is = go (logs.is_stable more entry)
+    where
+      go : (t : Bool) → logs.cut_to more (cond t (max log.low entry.number) log.low) ≡ cond t (logs.cut_to more entry.number) more
+      go true = cut_at more entry.number
+      go false = cut_none more log.low (omega arith)
+
+  pub checked : IsVotedTo log (checked_log log s entry).low → FitsLog c me (checked_log log s entry) (e ∷ past)
+  checked voted = subst (λ (m : LogData). FitsLog c me m (e ∷ past)) cut_is
+      (moved c me log past e f mute more.checkpoints next is_log up small low_is (λ i above l. voted i (subst (λ (n : ℕ). i ≤ n) mark_is l))
+      (λ x. sym (above_higher log.low next (checkpoints_of c (e ∷ past) x) up) ∙ ap (above_mark next) (alike x) ∙ above_higher log.low next (logs.checkpoints_of more x) up) latest)
+    where
+      mark_is : next ≡ (checked_log log s entry).low
+      mark_is = sym (cut_low more next up) ∙ ap (λ (m : LogData). m.low) cut_is
+
+  checked_low : (checked_log log s entry).low ≡ next
+  checked_low = sym (ap (λ (m : LogData). m.low) cut_is) ∙ cut_low more next up
+
+  pub checked_up : log.low ≤ (checked_log log s entry).low
+  checked_up = let is = checked_low in let l = up in omega arith
+
+  -- the low mark is at most what it was, or what is stable
+  pub checked_at_most : (n : ℕ) → log.low ≤ n → (is_stable c me (e ∷ past) entry ≡ true → entry.number ≤ n) → (checked_log log s entry).low ≤ n
+  checked_at_most n was stable = subst (λ (x : ℕ). x ≤ n) (sym checked_low) (go (logs.is_stable more entry) refl)
+    where
+      above : (t : Bool) → nat_lt log.low entry.number ≡ t → logs.is_stable more entry ≡ true → max log.low entry.number ≤ n
+      above true l is = let a = stable (log_stable c me more (e ∷ past) entry f.faults f.own (ltb-true log.low entry.number l) alike ∙ is) in omega arith
+      above false l is = let k = ltb-false log.low entry.number l in omega arith
+
+      go : (t : Bool) → logs.is_stable more entry ≡ t → cond t (max log.low entry.number) log.low ≤ n
+      go true is = above (nat_lt log.low entry.number) refl is
+      go false is = was
 
 pub marks_move : MarksMove
-marks_move c me log held next past e s entry is f b adds = moved c me log held next past e s entry is f b adds
+marks_move c me log past e s entry f b known voted = checked c me log past e s entry f b known voted
+
+-- ---- an installation
+
+pub installations_move : InstallationsMove
+unfolding low checkpoints_of
+installations_move c me log past k root f small voted =
+    subst (λ (m : LogData). FitsLog c me m (Installed me k root ∷ past)) (cut_at log k)
+    (moved c me log past (Installed me k root) f mute log.checkpoints (max log.low k) f.is_log (omega arith) (let l = f.is_log.low in omega arith) (let was = f.low in omega arith) (λ i above l. voted i (omega arith))
+    (λ s. sym (above_higher log.low (max log.low k) (checkpoints_of c past s) (omega arith)) ∙ ap (above_mark (max log.low k)) (f.checkpoints s) ∙ above_higher log.low (max log.low k) (logs.checkpoints_of log s) (omega arith)) f.latest)
+  where
+    mute : Mute c me past (Installed me k root)
+    mute = record { no_view = refl; no_change = refl; batch = λ v i. refl; prepare = λ v i s. refl; commit = λ v i s. refl }

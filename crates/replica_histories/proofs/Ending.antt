@@ -1,38 +1,39 @@
 -- An event ends: what it owes was given.
-use Rattle.std.proofs.Common.{◌≡◌, ◌≢◌, ℕ, suc, ◌≤◌, ◌⊎◌, inl, inr, Bool, true, false, cond, ◌&&◌, not, List, [], ◌∷◌, ◌++◌, refl, sym, ap, ◌∙◌, subst, Option, Some, None, is_none, reverse}
-use Rattle.std.specs.Prelude.{◌==◌}
+use Rattle.std.proofs.Common.{◌≡◌, ◌≢◌, ℕ, suc, ◌<◌, ◌⊎◌, inl, inr, Bool, true, false, List, [], ◌∷◌, ◌++◌, refl, sym, ap, ◌∙◌, subst, arith, ◌%◌, Some, None, reverse}
 use mathlib.Core.List.{reverse_aux}
-use Rattle.std.proofs.lemmas.Bool.{ne_eqb}
 use Rattle.std.proofs.lemmas.List.{reverse-reverse}
 use Rattle.sha2.specs.Sha256.{sha256}
-use Rattle.wire.specs.Messages.{MessageData as Message, prepare as Prepare, commit as Commit}
+use Rattle.terms.specs.declared.state.Level.{Level}
+use Rattle.terms.specs.declared.state.Level.TheVariants as levels
+use Rattle.wire.specs.Messages.{MessageData as Message, prepare as Prepare, commit as Commit, checkpoint as Checkpoint, fetch as Fetch, meta as Meta, page as Page}
+use Rattle.wire.specs.Spelling.{has_children}
 use Rattle.ordering.specs.Log as logs
 use Rattle.ordering.specs.Log.{LogData}
 use Rattle.protocol.specs.System.Configuration.{Configuration, primary}
-use Rattle.protocol.specs.System.Trace.{Entry, is_output, Once, Has, either}
+use Rattle.protocol.specs.System.Trace.{Entry, is_output, Once, Has, either, Hears}
 use Rattle.protocol.specs.System.Trace.Entry.{Got}
 use Rattle.protocol.specs.Replica.Certificates.{is_active_in, logged, prepare_of, commit_of, Prepared}
-use Rattle.protocol.specs.Replica.State.{Call}
-use Rattle.protocol.specs.Replica.RightReplica.{Point, Leaves, reply_of}
-use Rattle.protocol.specs.Replica.Owed.{IsSaying, Gives, AtOutputs, NumbersOnce, IsFree, IsNumbered, IsDropped}
+use Rattle.protocol.specs.Replica.State.{State, Call, root_of, page_text}
+use Rattle.protocol.specs.Replica.RightReplica.{Point, Leaves, Executes, reply_of, KeptState, digests_at}
+use Rattle.protocol.specs.Replica.Owed.{IsSaying, Gives, GivesTo, fetching, AtOutputs, NumbersOnce, IsFree, IsNumbered, IsDropped}
 use Rattle.protocol.proofs.Words.Options.{some_injective}
-use Rattle.protocol.proofs.Words.Elements.{has_reversed}
+use Rattle.protocol.proofs.Words.Elements.{has_weaker, has_reverse, has_reversed}
 use Rattle.protocol.proofs.Words.Linking.{Speaks}
 use Rattle.protocol.proofs.Agreement.Voting.{preparing}
 use Rattle.protocol.proofs.Agreement.Commits.{committing, prepared_stays, prepared_remains}
 use Rattle.replica_histories.specs.Desk.{Desk, point_of}
 use Rattle.replica_histories.specs.Owing.{OwesOrdering, ProceedsOrdering}
 use Rattle.replica_histories.specs.Events.{Start, behind, Steps, AtEach, IsOnItsWay, Fits, IsSettled, IsTaken, EventsEnd}
-use Rattle.replica_histories.proofs.Words.{passed, given_not, marks_are, primary_same, digest_read}
-use Rattle.replica_histories.proofs.Certified.{PreparedIn, active_view, prepared_there, prepared_is, committed_there}
+use Rattle.replica_histories.specs.Logs.{IsVoted}
+use Rattle.replica_histories.specs.Transfers.{HasQuorum}
+use Rattle.replica_histories.specs.TransfersAnswers.{AnswersFetches}
+use Rattle.replica_histories.specs.TransfersQuorums.{QuorumsFetched}
+use Rattle.replica_histories.proofs.Words.{given_not, primary_same}
+use Rattle.replica_histories.proofs.Certified.{active_view, committed_there}
+use Rattle.replica_histories.proofs.Settling.{votes_said}
 use Rattle.replica_histories.proofs.Speaking.{prepare_spoken, spoken_logged, commit_spoken, spoken_certified, in_event}
-
--- ---- what the log does not ask for was said
-
--- a vote that is not due is there, where the digest is given and the rest of the test passes
-voted : (b : Bool) (own digest : Option (List ℕ)) (d : List ℕ) → cond (b && is_none own) digest None ≡ None → b ≡ true → digest ≡ Some d → (x : List ℕ) × (own ≡ Some x)
-voted b None digest d h e k = absurd (given_not digest d k (sym (ap (λ (t : Bool). cond (t && true) digest None) e) ∙ h))
-voted b (Some x) digest d h e k = (x, refl)
+use Rattle.replica_histories.proofs.TransfersAnswering.{answers_turn, answers_in_parts}
+use Rattle.replica_histories.proofs.TransfersQuorums.{quorums_end}
 
 -- ---- at each output
 
@@ -47,7 +48,7 @@ steps_leave c me s (e ∷ outputs) point leaves steps = (steps.0, steps_leave c 
 
 -- ---- what is owed
 
-module _ (c : Configuration) (me : ℕ) (s : Start) (desk : Desk) (log : LogData) (outputs : List Entry) (is : is_output s.input ≡ false) (f : Fits c me s desk log [] outputs) (settled : IsSettled c desk log) where
+module _ (c : Configuration) (me : ℕ) (s : Start) (desk : Desk) (log : LogData) (outputs : List Entry) (is : is_output s.input ≡ false) (f : Fits c me s desk log [] outputs) (settled : IsSettled c me desk log (behind s outputs)) where
   abbrev now : List Entry
   now = behind s outputs
 
@@ -65,33 +66,19 @@ module _ (c : Configuration) (me : ℕ) (s : Start) (desk : Desk) (log : LogData
   gave message (inl h) = absurd h
   gave message (inr h) = h
 
-  own_prepare : (i : ℕ) (batch : List ℕ) → primary c log.view ≢ me → logs.is_in_marks log i ≡ true → logs.logged_batch log i ≡ Some batch → (d : List ℕ) × (prepare_of c me now log.view i me ≡ Some d)
-  own_prepare i batch backup k h =
-      let other : (log.me == logs.primary log log.view) ≡ false = ne_eqb log.me (logs.primary log log.view) (λ e. backup (sym (primary_same c log log.view f.of_log.faults) ∙ sym e ∙ f.of_log.own)) in
-      let v = voted (not (log.me == logs.primary log log.view)) (logs.prepare_of log i log.me) (logs.logged_digest log i) (sha256 batch) (settled.prepares i) (ap not other) (digest_read log i batch k h) in
-      (v.0, f.of_log.prepares i me k ∙ ap (logs.prepare_of log i) (sym f.of_log.own) ∙ v.1)
-
-  own_commit : (i : ℕ) (batch : List ℕ) → PreparedIn log i batch → (d : List ℕ) × (commit_of c me now log.view i me ≡ Some d)
-  own_commit i batch p =
-      let batch_is : logs.logged_batch log i ≡ Some batch = rw (p.within) p.row in
-      let v = voted (logs.is_prepared log i) (logs.commit_of log i log.me) (logs.logged_digest log i) (sha256 batch) (settled.commits i) (prepared_is log i batch p) (digest_read log i batch p.within batch_is) in
-      (v.0, f.of_log.commits i me p.within ∙ ap (logs.commit_of log i) (sym f.of_log.own) ∙ v.1)
+  -- what is logged has the own votes
+  votes : (v i : ℕ) (batch : List ℕ) → logged c me now v i ≡ Some batch → IsVoted c me now v i batch
+  votes v i batch h =
+      let at : v ≡ log.view = (f.of_log.within v i batch h).0 in
+      subst (λ (x : ℕ). IsVoted c me now x i batch) (sym at) (votes_said c me log now f.of_log i batch (λ above. (settled.prepares i, settled.commits i)) (subst (λ (x : ℕ). logged c me now x i ≡ Some batch) at h))
 
   prepares : (v i : ℕ) (batch : List ℕ) → logged c me s.before v i ≡ None → logged c me now v i ≡ Some batch → is_active_in c now v ≡ true → primary c v ≢ me
       → Gives me (Prepare v i (sha256 batch)) outputs
   prepares v i batch none some active backup =
       subst (λ (x : List ℕ). Gives me (Prepare v i x) outputs) digest (pick (in_event me (Prepare v i own.0) s outputs is said))
     where
-      w : (v ≡ log.view) × (logs.is_in_marks log i ≡ true)
-      w = f.of_log.within v i batch some
-
-      there : logs.logged_batch log i ≡ Some batch
-      there = sym (f.of_log.batches i w.1) ∙ subst (λ (x : ℕ). logged c me now x i ≡ Some batch) w.0 some
-
       own : (d : List ℕ) × (prepare_of c me now v i me ≡ Some d)
-      own =
-          let o = own_prepare i batch (λ mine. backup (ap (primary c) w.0 ∙ mine)) w.1 there in
-          (o.0, subst (λ (x : ℕ). prepare_of c me now x i me ≡ Some o.0) (sym w.0) o.1)
+      own = (votes v i batch some).prepare backup
 
       said : Once (Speaks (preparing me v i own.0)) now
       said = prepare_spoken c me v i own.0 now reached leaves_now own.1
@@ -113,11 +100,8 @@ module _ (c : Configuration) (me : ℕ) (s : Start) (desk : Desk) (log : LogData
   commits v i batch none some active =
       subst (λ (x : List ℕ). Gives me (Commit v i x) outputs) digest (pick (in_event me (Commit v i own.0) s outputs is said))
     where
-      p : (v ≡ log.view) × PreparedIn log i batch
-      p = prepared_there c me log now v i batch f.of_log some
-
       own : (d : List ℕ) × (commit_of c me now v i me ≡ Some d)
-      own = let o = own_commit i batch p.1 in (o.0, subst (λ (x : ℕ). commit_of c me now x i me ≡ Some o.0) (sym p.0) o.1)
+      own = (votes v i batch some.logged).commit some
 
       said : Once (Speaks (committing me v i own.0)) now
       said = commit_spoken c me v i own.0 now reached leaves_now own.1
@@ -137,35 +121,45 @@ module _ (c : Configuration) (me : ℕ) (s : Start) (desk : Desk) (log : LogData
   numbers : (v i : ℕ) (call : Call) → is_active_in c now v ≡ true → primary c v ≡ me → Has (λ x. x ≡ call) desk.waiting
       → IsFree c me now desk.state.number v i → IsNumbered c me now v call.client call.timestamp
   numbers v i call active own waits free =
-      let there = settled.numbers i call (primary_same c log log.view f.of_log.faults ∙ ap (primary c) (sym at) ∙ own ∙ sym f.of_log.own) waits (marked, free.1, none) in
-      let k = (passed (logs.is_in_marks log there.0) (logs.row_of log there.0).batch there.1 there.2).0 in
-      (there.1, inl (there.0, subst (λ (x : ℕ). logged c me now x there.0 ≡ Some there.1) (sym at) (f.of_log.batches there.0 k ∙ there.2)), there.3)
+      subst (λ (x : ℕ). IsNumbered c me now x call.client call.timestamp) (sym at)
+      (settled.numbers i call (primary_same c log log.view f.of_log.faults ∙ ap (primary c) (sym at) ∙ own ∙ sym f.of_log.own) waits (subst (λ (x : ℕ). IsFree c me now desk.state.number x i) at free))
     where
       at : v ≡ log.view
       at = active_view c me log now v f.of_log active
 
-      marked : logs.is_in_marks log i ≡ true
-      marked = sym (marks_are c me log now i f.of_log) ∙ free.0
+  checkpoints : (k : ℕ) → Has (λ e. Executes k [] e) (reverse outputs) → k % c.period ≡ 0 → Has (λ st. (st.number ≡ k) × Gives me (Checkpoint k (root_of st)) (reverse outputs)) f.of_desk.states
+  checkpoints k h multiple =
+      has_weaker (λ st. (st.number ≡ k) × IsOnItsWay me [] outputs (Checkpoint k (root_of st))) (λ st. (st.number ≡ k) × Gives me (Checkpoint k (root_of st)) (reverse outputs))
+      (λ st w. (w.0, given (Checkpoint k (root_of st)) (gave (Checkpoint k (root_of st)) w.1))) f.of_desk.states
+      (f.of_desk.checkpoints k (has_reverse (λ e. Executes k [] e) outputs h) multiple)
 
-      none : (j : ℕ) → i ≤ j → logs.logged_batch log j ≡ None
-      none j above = go (logs.is_in_marks log j) refl
-        where
-          go : (b : Bool) → logs.is_in_marks log j ≡ b → logs.logged_batch log j ≡ None
-          go true e = sym (f.of_log.batches j e) ∙ subst (λ (x : ℕ). logged c me now x j ≡ None) at (free.2 j above)
-          go false e = rw e refl
+  -- what was fetched of the quorums
+  pub fetched : QuorumsFetched c desk.state.number now
+      × ((k : ℕ) (root : List ℕ) → HasQuorum c now k root → desk.state.number < k → fetching s.before < k → Gives me (Fetch k levels.Root 0) outputs)
+  fetched = quorums_end c me s desk.state.number outputs f.of_desk.fetches
 
-  pub owes : (outputs ≡ []) ⊎ IsTaken c me s → OwesOrdering c me s.before s.input (reverse outputs) now s.old reached
-  owes taken = record {
+  pub owes : AnswersFetches c me s.before s.input outputs s.old → (outputs ≡ []) ⊎ IsTaken c me s → OwesOrdering c me s.before s.input (reverse outputs) now s.old reached
+  owes answered taken = record {
     numbers = numbers;
     numbers_once = at_outputs (NumbersOnce c me) s outputs [] f.once tt;
     prepares = λ v i batch none some active backup. given (Prepare v i (sha256 batch)) (prepares v i batch none some active backup);
     commits = λ v i batch none some active. given (Commit v i (sha256 batch)) (commits v i batch none some active);
-    executes = λ v batch k. given_not (logs.committed_batch log (suc desk.state.number)) batch (committed_there c me log now v (suc desk.state.number) batch f.of_log k) settled.executes;
+    executes = λ v batch k. given_not (logs.committed_batch log (suc desk.state.number)) batch (committed_there c me log now v (suc desk.state.number) batch f.of_log (let l = f.low in omega arith) k) settled.executes;
     replies = λ ran h. given (reply_of ran.call.client ran.kept) (gave (reply_of ran.call.client ran.kept) (f.of_desk.replies ran h));
+    checkpoints = checkpoints;
     again = λ k t op kept hears is same. given (reply_of k kept) (gave (reply_of k kept) (f.of_desk.asked k kept (t, op, hears, is, same)));
+    fetched_digests = parts.0;
+    fetched_page = parts.1;
+    fetches = λ k root h above fresh. given (Fetch k levels.Root 0) (fetched.1 k root h above fresh);
     dropped = λ bytes got drops. dropped taken bytes got drops;
   }
     where
+      parts : ((p k index : ℕ) (level : Level) → has_children level ≡ true → Hears c me (record { sender = p; message = Fetch k level index }) s.before s.input → (st : State) → KeptState c me s.before s.old k (λ x. x ≡ st)
+          → GivesTo me p (Meta k level index (digests_at st level index)) (reverse outputs))
+          × ((p k index : ℕ) → Hears c me (record { sender = p; message = Fetch k levels.Page index }) s.before s.input → (st : State) → KeptState c me s.before s.old k (λ x. x ≡ st)
+          → GivesTo me p (Page k index (page_text st index)) (reverse outputs))
+      parts = answers_in_parts c me s.before s.input (reverse outputs) s.old (answers_turn c me s.before s.input outputs s.old answered)
+
       dropped : (outputs ≡ []) ⊎ IsTaken c me s → (bytes : List ℕ) → s.input ≡ Got me bytes → IsDropped c me s.before s.old bytes → reverse outputs ≡ []
       dropped (inl none) bytes got drops = ap reverse none
       dropped (inr t) bytes got drops =
@@ -190,17 +184,20 @@ proceed c me s (e ∷ outputs) later mid new is steps owes past =
     (steps.0, steps.2, by_either (is_output e) _ _ steps.3 (proceed c me s outputs (e ∷ later) steps.0 new is steps.1 owes past))
 
 pub events_end : EventsEnd
-events_end c me desk new log after past outputs input held f settled is taken = record {
+events_end c me desk new log after past outputs input held f settled answered is taken = record {
   of_desk = record {
     point = point_of new f.of_desk.states f.of_desk.ran;
     proceeds = proceed c me s outputs [] (point_of new f.of_desk.states f.of_desk.ran) (point_of new f.of_desk.states f.of_desk.ran) is f.of_desk.steps
         (subst (λ (xs : List Entry). OwesOrdering c me past input (reverse outputs) (xs ++ input ∷ past) held.of_desk.point (point_of new f.of_desk.states f.of_desk.ran)) (sym (reverse-reverse outputs))
-        (owes c me s new after outputs is f settled taken)) held.of_desk.proceeds;
+        (owes c me s new after outputs is f settled answered taken)) held.of_desk.proceeds;
     is = refl;
     kept = f.of_desk.kept;
     frames = f.of_desk.frames;
+    opened = f.of_desk.opened;
+    fetches = (fetched c me s new after outputs is f settled).0;
   };
   of_log = record { fits = f.of_log; prepares = settled.prepares; commits = settled.commits };
+  low = f.low;
 }
   where
     s : Start

@@ -1,23 +1,43 @@
 -- An event begins: what is held behind the input fits.
-use Rattle.std.proofs.Common.{◌≡◌, ℕ, ◌+◌, ◌-◌, ◌⊎◌, inl, inr, Bool, true, false, cond, List, [], ◌∷◌, map, refl, sym, ap, ◌∙◌, subst, arith, Option, Some, None, is_some, eq-eqb}
-use Rattle.std.specs.Prelude.{◌==◌, nat_le}
-use Rattle.std.proofs.lemmas.Bool.{le-leb}
+use Rattle.std.proofs.Common.{◌≡◌, ℕ, ◌+◌, ◌-◌, ◌*◌, ◌≤◌, ◌<◌, ◌⊎◌, inl, inr, Bool, true, false, cond, ◌&&◌, slice_index_or, List, [], ◌∷◌, map, refl, sym, ap, ◌∙◌, subst, arith, Option, Some, None, is_some, eq-eqb}
+use Rattle.std.specs.Prelude.{◌==◌, nat_le, nat_lt, option_and_then, ⊤}
+use Rattle.std.specs.Option.{option_map_or}
+use Rattle.std.proofs.lemmas.Bool.{and_parts, le-leb, ltb-true, ltb-false}
+use Rattle.ordering.specs.Log as logs
+use Rattle.ordering.specs.Log.{LogData}
 use Rattle.terms.specs.declared.order.Mode.TheVariants as modes
-use Rattle.wire.specs.Messages.{BodyData as Body, MessageData as Message, request as Request}
+use Rattle.terms.specs.declared.state.Level.TheVariants as levels
+use Rattle.wire.specs.Messages.{BodyData as Body, MessageData as Message, CheckpointEntryData as CheckpointEntry, request as Request, checkpoint as Checkpoint, fetch as Fetch}
 use Rattle.signing.specs.Heard.{heard}
 use Rattle.reply_cache.specs.Replies.{Kept}
 use Rattle.protocol.specs.System.Configuration.{Configuration, members}
 use Rattle.protocol.specs.System.Trace.{Entry, Once, Has}
 use Rattle.protocol.specs.System.Trace.Entry.{Got, Tick}
-use Rattle.protocol.specs.Replica.State.{State, Call, kept_of}
-use Rattle.protocol.specs.Replica.RightReplica.{Point, kept_states, HasSeen, reply_of, waiting_after}
+use Rattle.protocol.specs.Replica.Selection.{is_quorum}
+use Rattle.protocol.specs.Replica.Certificates.{count_checkpoints, says_checkpoint, checkpoints_of, is_stable}
+use Rattle.protocol.specs.Replica.State.{State, Call, call_in, kept_of}
+use Rattle.protocol.specs.Replica.RightReplica.{Point, Leaves, IsStep, kept_states, HasSeen, reply_of, with_waiting, waiting_after}
+use Rattle.protocol.specs.Replica.Owed.{fetching}
 use Rattle.protocol.proofs.Words.Plain.{Plain, plain_low}
+use Rattle.protocol.proofs.Words.Options.{some_injective}
 use Rattle.replica_histories.specs.Desk.{snapshot_of, point_of}
+use Rattle.state_transfer.specs.Transfer.{TransferData}
+use Rattle.replica_histories.specs.Logs.{above_mark, FitsLog}
+use Rattle.replica_histories.specs.Marks.{checked_log, BringsCheckpoint}
 use Rattle.replica_histories.specs.Events.{Start, IsAsked, MaySayDue}
-use Rattle.replica_histories.specs.Inputs.{again_for, asked_by, asked, InputsFit, TicksFit}
+use Rattle.replica_histories.specs.Transfers.{HasQuorum, FitsOpen, open_number}
+use Rattle.replica_histories.specs.TransfersQuorums.{BringsRoot, QuorumsFetched}
+use Rattle.replica_histories.specs.Inputs.{again_for, asked_by, asked, fetch_due, InputsFit, CheckpointsEnter, TicksFit}
+use Rattle.replica_histories.proofs.Checking.{checking, log_stable, quorum_counted, own_at_most}
 use Rattle.replica_histories.proofs.Taking.{takes_nothing}
-use Rattle.replica_histories.proofs.Logging.{got_quiet, low_quiet, log_goes, got_read, silent_read}
+use Rattle.replica_histories.proofs.Logging.{log_goes, got_read, silent_read}
+use Rattle.replica_histories.proofs.Cutting.{marked, alike, checked, checked_up, checked_at_most}
 use Rattle.replica_histories.proofs.Parting.{ordering_leaves}
+use Rattle.replica_histories.proofs.Giving.{kept_on}
+use Rattle.replica_histories.proofs.Counting.{CheckpointFree, checkpoint_free}
+use Rattle.replica_histories.proofs.Words.{apart}
+use Rattle.replica_histories.proofs.Transfers.{open_stays, open_above, quorums_want, lower_are_fetched}
+use Rattle.replica_histories.proofs.TransfersQuorums.{unchanged_bring_none, quorums_begin}
 
 -- ---- what is asked for is due
 
@@ -37,25 +57,25 @@ module _ (c : Configuration) (me : ℕ) (past : List Entry) (bytes : List ℕ) (
       at : (n : ℕ) → n ≡ k → (b : Bool) → b ≡ true → Has (λ x. x ≡ reply_of k kept) (cond b (again_for n a.0 (kept_of old.state n)) [])
       at n e b tests = rw (tests, e, kept_is, eq-eqb kept.timestamp a.0 a.4) (inl refl)
 
-  due_is_right : (point : Point) → point.state ≡ old.state → (message : Message) → Has (λ x. x ≡ message) (asked old.state (heard (members c) me bytes)) → MaySayDue point message
-  due_is_right point same message h = go (heard (members c) me bytes) h
+  due_is_right : (history : List Entry) (point : Point) → point.state ≡ old.state → (message : Message) → Has (λ x. x ≡ message) (asked old.state (heard (members c) me bytes)) → MaySayDue c history point message
+  due_is_right history point same message h = go (heard (members c) me bytes) h
     where
-      ordered : (k t : ℕ) (b : Bool) (o : Option Kept) → kept_of old.state k ≡ o → Has (λ x. x ≡ message) (cond b (again_for k t o) []) → MaySayDue point message
+      ordered : (k t : ℕ) (b : Bool) (o : Option Kept) → kept_of old.state k ≡ o → Has (λ x. x ≡ message) (cond b (again_for k t o) []) → MaySayDue c history point message
       ordered k t false o is h = absurd h
       ordered k t true None is h = absurd h
       ordered k t true (Some kept) is h = at (kept.timestamp == t) h
         where
-          at : (b : Bool) → Has (λ x. x ≡ message) (cond b (reply_of k kept ∷ []) []) → MaySayDue point message
+          at : (b : Bool) → Has (λ x. x ≡ message) (cond b (reply_of k kept ∷ []) []) → MaySayDue c history point message
           at false h = absurd h
           at true (inr h) = absurd h
-          at true (inl h) = subst (MaySayDue point) h (inr (k, kept, ap (λ (st : State). kept_of st k) same ∙ is, refl))
+          at true (inl h) = subst (MaySayDue c history point) h (inr (k, kept, ap (λ (st : State). kept_of st k) same ∙ is, refl))
 
-      of : (sender : ℕ) (m : Message) → Has (λ x. x ≡ message) (asked_by old.state (record { sender = sender; message = m })) → MaySayDue point message
+      of : (sender : ℕ) (m : Message) → Has (λ x. x ≡ message) (asked_by old.state (record { sender = sender; message = m })) → MaySayDue c history point message
       of sender (Request t modes.Ordered op) h = ordered (sender - 256) t (nat_le 256 sender) (kept_of old.state (sender - 256)) refl h
       of sender (Request t modes.ReadOnly op) h = absurd h
       of sender _ h = absurd h
 
-      go : (o : Option Body) → Has (λ x. x ≡ message) (asked old.state o) → MaySayDue point message
+      go : (o : Option Body) → Has (λ x. x ≡ message) (asked old.state o) → MaySayDue c history point message
       go None h = absurd h
       go (Some body) h = of body.sender body.message h
 
@@ -73,18 +93,33 @@ inputs_fit c me desk new log after due past bytes held none e = record {
     ran = [];
     leaves = ordering_leaves c me past [] old old held.of_desk.proceeds;
     steps = record { own = refl; may = tt; moves = moves };
-    kept = ap (λ (x : ℕ). map snapshot_of (kept_states x old.snapshots)) (low_quiet c me past (Got me bytes) held.of_log.fits.unchecked (got_quiet c me past bytes none)) ∙ held.of_desk.kept ∙ sym e.snapshots;
+    kept = ap (λ (x : ℕ). map snapshot_of (kept_states x old.snapshots)) (fits.low ∙ e.takes.stays.low ∙ sym held.of_log.fits.low) ∙ held.of_desk.kept ∙ sym e.snapshots;
     frames = λ frame k. kept_frame frame (e.frames frame k);
     replies = λ r k. absurd k;
     asked = λ k kept a. inl (subst (λ (xs : List Message). Has (λ x. x ≡ reply_of k kept) xs) (sym due_is) (asked_is_due c me past bytes old k kept a));
-    rightly = λ message k. due_is_right c me past bytes old (point_of new old.snapshots []) (e.state ∙ sym state_is) message (subst (λ (xs : List Message). Has (λ x. x ≡ message) xs) due_is k);
+    checkpoints = λ k h multiple. absurd h;
+    opened = subst (λ (o : Option TransferData). FitsOpen c me o new.state.number (Got me bytes ∷ past)) (sym e.transfer)
+        (subst (λ (st : State). FitsOpen c me desk.transfer st.number (Got me bytes ∷ past)) (sym e.state) (open_stays c me desk.transfer desk.state.number past (Got me bytes) refl held.of_desk.opened));
+    fetches = quorums_begin c me (record { before = past; input = Got me bytes; old = old }) new.state.number due (subst (λ (st : State). QuorumsFetched c st.number past) (sym e.state) held.of_desk.fetches)
+        (λ k root b quorum above. absurd (let l = unchanged_bring_none c log.low past (Got me bytes) k root unchanged b in let most = held.low in let number = ap (λ (st : State). st.number) e.state in omega arith));
+    rightly = λ message k. due_is_right c me past bytes old (Got me bytes ∷ past) (point_of new old.snapshots []) (e.state ∙ sym state_is) message (subst (λ (xs : List Message). Has (λ x. x ≡ message) xs) due_is k);
   };
-  of_log = log_goes c me log after past (Got me bytes) held.of_log.fits (got_read c me log past bytes held.of_log.fits none) e.takes;
+  of_log = fits;
+  low = let l = held.low in let same = e.takes.stays.low in let number = ap (λ (st : State). st.number) e.state in omega arith;
   once = tt;
 }
   where
     old : Point
     old = held.of_desk.point
+
+    fits : FitsLog c me after (Got me bytes ∷ past)
+    fits = log_goes c me log after past (Got me bytes) held.of_log.fits (got_read c me log past bytes held.of_log.fits none) e.takes
+
+    -- it brings no checkpoint above the low mark
+    unchanged : (s : ℕ) → above_mark log.low (checkpoints_of c (Got me bytes ∷ past) s) ≡ above_mark log.low (checkpoints_of c past s)
+    unchanged s =
+        subst (λ (h : ℕ). above_mark h (checkpoints_of c (Got me bytes ∷ past) s) ≡ above_mark h (logs.checkpoints_of after s)) e.takes.stays.low (fits.checkpoints s)
+        ∙ ap (λ (xs : List (List CheckpointEntry)). above_mark log.low (slice_index_or xs s [])) e.takes.stays.checkpoints ∙ sym (held.of_log.fits.checkpoints s)
 
     state_is : old.state ≡ desk.state
     state_is = ap (λ (p : Point). p.state) held.of_desk.is
@@ -107,6 +142,134 @@ inputs_fit c me desk new log after due past bytes held none e = record {
     kept_frame frame (inl k) = let f = held.of_desk.frames frame k in (inr f.0, f.1)
     kept_frame frame (inr k) = (inl (inl (sym k.0)), subst (λ (x : List ℕ). is_some (heard (members c) me x) ≡ true) (sym k.0) k.1)
 
+-- ---- a checkpoint is got
+
+-- what no other message is
+abbrev IsCheckpoint : Message → Type 0
+IsCheckpoint message = elim message [ Checkpoint k root ↦ ⊤ | _ ↦ ⊥ ]
+
+pub checkpoints_enter : CheckpointsEnter
+checkpoints_enter c me desk log past s entry bytes held h none = record {
+  of_desk = record {
+    states = old.snapshots;
+    ran = [];
+    leaves = leaves;
+    steps = step;
+    kept = ap (λ (x : ℕ). map snapshot_of (kept_states x old.snapshots)) fits.low
+        ∙ kept_on log.low (checked_log log s entry).low old.snapshots desk.snapshots (checked_up c me log past (Got me bytes) s entry f brings known)
+        (ap (λ (x : ℕ). map snapshot_of (kept_states x old.snapshots)) (sym f.low) ∙ held.of_desk.kept);
+    frames = λ frame k. let g = held.of_desk.frames frame k in (inr g.0, g.1);
+    replies = λ r k. absurd k;
+    asked = λ k kept a. absurd (asks_nothing k kept a);
+    checkpoints = λ k x multiple. absurd x;
+    opened = open_stays c me desk.transfer desk.state.number past (Got me bytes) refl held.of_desk.opened;
+    fetches = quorums_begin c me (record { before = past; input = Got me bytes; old = old }) desk.state.number (fetch_due desk more entry) held.of_desk.fetches fetched;
+    rightly = λ message k. rightly message k;
+  };
+  of_log = fits;
+  low = checked_at_most c me log past (Got me bytes) s entry f brings known desk.state.number held.low
+      executed;
+  once = tt;
+}
+  where
+    old : Point
+    old = held.of_desk.point
+
+    new : Point
+    new = point_of desk old.snapshots []
+
+    f : FitsLog c me log past
+    f = held.of_log.fits
+
+    parts : CheckpointFree log s entry.number entry.digest
+    parts = checkpoint_free log s entry.number entry.digest none
+
+    brings : BringsCheckpoint c (Got me bytes) s entry
+    brings = record { brings = h; number = parts.number }
+
+    known : s < logs.replicas log
+    known = parts.known
+
+    fits : FitsLog c me (checked_log log s entry) (Got me bytes ∷ past)
+    fits = checked c me log past (Got me bytes) s entry f brings known (λ i l. (held.of_log.prepares i, held.of_log.commits i))
+
+    leaves : Leaves c me past old
+    leaves = ordering_leaves c me past [] old old held.of_desk.proceeds
+
+    waits : waiting_after c me old bytes ≡ old.waiting
+    waits = ap (λ (o : Option Body). option_map_or (with_waiting old.state old.waiting) (option_and_then (call_in c) o) old.waiting) h
+
+    step : IsStep c me past old (Got me bytes) new
+    step = record {
+      own = refl;
+      may = tt;
+      moves = same_point old.snapshots desk.state old.state desk.waiting (waiting_after c me old bytes) (sym (ap (λ (p : Point). p.state) held.of_desk.is)) (sym (ap (λ (p : Point). p.waiting) held.of_desk.is) ∙ sym waits);
+    }
+
+    asks_nothing : (k : ℕ) (kept : Kept) → IsAsked c me (record { before = past; input = Got me bytes; old = old }) k kept → ⊥
+    asks_nothing k kept a =
+        let hears : heard (members c) me bytes ≡ Some (record { sender = 256 + k; message = Request a.0 modes.Ordered a.1 }) = a.2 in
+        let same : checking s entry.number entry.digest ≡ record { sender = 256 + k; message = Request a.0 modes.Ordered a.1 } = some_injective _ _ (sym h ∙ hears) in
+        subst IsCheckpoint (ap (λ (b : Body). b.message) same) tt
+
+    -- a stable one was executed
+    executed : is_stable c me (Got me bytes ∷ past) entry ≡ true → entry.number ≤ desk.state.number
+    executed stable =
+        own_at_most c me entry (Got me bytes ∷ past) new (old, leaves, step)
+        (and_parts (is_quorum c (count_checkpoints c (Got me bytes ∷ past) entry)) (says_checkpoint entry (checkpoints_of c (Got me bytes ∷ past) me)) stable).1
+
+    more : LogData
+    more = logs.with_checkpoint_of log s entry
+
+    same : (x : ℕ) → above_mark log.low (checkpoints_of c (Got me bytes ∷ past) x) ≡ above_mark log.low (logs.checkpoints_of more x)
+    same x = alike c me log past (Got me bytes) s entry f brings known x
+
+    is_ahead : Bool
+    is_ahead = nat_lt (open_number desk.state.number desk.transfer) entry.number
+
+    has_quorum : Bool
+    has_quorum = nat_le (2 * more.faults + 1) (logs.count_checkpoints more entry)
+
+    counted : is_quorum c (count_checkpoints c (Got me bytes ∷ past) entry) ≡ has_quorum
+    counted = quorum_counted c more (Got me bytes ∷ past) entry f.faults parts.above same
+
+    -- a quorum that it makes above the state is fetched already, or due
+    is_due : desk.state.number < entry.number → HasQuorum c (Got me bytes ∷ past) entry.number entry.digest → (entry.number ≤ fetching past) ⊎ Has (λ x. x ≡ Fetch entry.number levels.Root 0) (fetch_due desk more entry)
+    is_due above quorum = go (logs.is_stable more entry) has_quorum is_ahead refl refl refl
+      where
+        go : (a b d : Bool) → logs.is_stable more entry ≡ a → has_quorum ≡ b → is_ahead ≡ d
+            → (entry.number ≤ fetching past) ⊎ Has (λ x. x ≡ Fetch entry.number levels.Root 0) (cond a [] (cond (b && d) (Fetch entry.number levels.Root 0 ∷ []) []))
+        go true b d stable x y = let least = executed (log_stable c me more (Got me bytes ∷ past) entry f.faults f.own parts.above same ∙ stable) in absurd (omega arith)
+        go false false d stable x y = absurd (apart has_quorum (sym counted ∙ quorum) x)
+        go false true false stable x y = inl (lower_are_fetched c me desk.transfer desk.state.number entry.number past above (ltb-false (open_number desk.state.number desk.transfer) entry.number y) held.of_desk.opened)
+        go false true true stable x y = inr (inl refl)
+
+    fetched : (k : ℕ) (root : List ℕ) → BringsRoot c past (Got me bytes) k root → HasQuorum c (Got me bytes ∷ past) k root → desk.state.number < k
+        → (k ≤ fetching past) ⊎ Has (λ x. x ≡ Fetch k levels.Root 0) (fetch_due desk more entry)
+    fetched k root b quorum above =
+        subst (λ (x : ℕ). (x ≤ fetching past) ⊎ Has (λ y. y ≡ Fetch x levels.Root 0) (fetch_due desk more entry)) number
+        (is_due (subst (λ (x : ℕ). desk.state.number < x) (sym number) above) (subst (λ (x : CheckpointEntry). HasQuorum c (Got me bytes ∷ past) x.number x.digest) (sym this) quorum))
+      where
+        this : ◌≡◌ {A = CheckpointEntry} entry (record { number = k; digest = root })
+        this = ap (λ (x : ℕ × CheckpointEntry). x.1) (some_injective (s, entry) (b.sender, record { number = k; digest = root }) (sym (marked c me log past (Got me bytes) s entry f brings known) ∙ b.brings))
+
+        number : entry.number ≡ k
+        number = ap (λ (x : CheckpointEntry). x.number) this
+
+    -- the fetch that is due may be said
+    rightly : (message : Message) → Has (λ x. x ≡ message) (fetch_due desk more entry) → MaySayDue c (Got me bytes ∷ past) new message
+    rightly message h = go (logs.is_stable more entry) has_quorum is_ahead refl refl h
+      where
+        go : (a b d : Bool) → has_quorum ≡ b → is_ahead ≡ d → Has (λ x. x ≡ message) (cond a [] (cond (b && d) (Fetch entry.number levels.Root 0 ∷ []) [])) → MaySayDue c (Got me bytes ∷ past) new message
+        go true b d x y h = absurd h
+        go false false d x y h = absurd h
+        go false true false x y h = absurd h
+        go false true true x y (inr h) = absurd h
+        go false true true x y (inl h) =
+            let least = open_above c me desk.transfer desk.state.number past held.of_desk.opened in
+            let over = ltb-true (open_number desk.state.number desk.transfer) entry.number y in
+            subst (λ (z : Message). MaySayDue c (Got me bytes ∷ past) new z) h (entry.digest, (omega arith, quorums_want c (Got me bytes ∷ past) entry.number entry.digest (counted ∙ x)))
+
 -- a tick alone owes nothing
 pub ticks_fit : TicksFit
 ticks_fit c me desk log past held = record {
@@ -119,10 +282,15 @@ ticks_fit c me desk log past held = record {
     frames = λ frame k. let f = held.of_desk.frames frame k in (inr f.0, f.1);
     replies = λ r k. absurd k;
     asked = λ k kept a. absurd a.2;
+    checkpoints = λ k h multiple. absurd h;
+    opened = open_stays c me desk.transfer desk.state.number past (Tick me) refl held.of_desk.opened;
+    fetches = quorums_begin c me (record { before = past; input = Tick me; old = old }) desk.state.number [] held.of_desk.fetches
+        (λ k root b quorum above. absurd (let bad : None ≡ Some (b.sender, (let x : CheckpointEntry = record { number = k; digest = root } in x)) = b.brings in cc));
     rightly = λ message k. absurd k;
   };
+  low = held.low;
   of_log = log_goes c me log log past (Tick me) held.of_log.fits (silent_read c me log past (Tick me) plain refl)
-      (takes_nothing c me None log held.of_log.fits.is_log (λ i w h. refl) (λ i x w h. refl) (λ i x w h. refl));
+      (takes_nothing c me None log held.of_log.fits.is_log (λ i w h. refl) (λ i x w h. refl) (λ i x w h. refl) (λ x. refl));
   once = tt;
 }
   where

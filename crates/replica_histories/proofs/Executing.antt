@@ -1,27 +1,30 @@
 -- An execution: what is held behind it fits, and its replies are due.
-use Rattle.std.proofs.Common.{◌≡◌, ℕ, suc, ◌%◌, ◌⊎◌, inl, inr, Bool, true, false, cond, List, [], ◌∷◌, ◌++◌, map, refl, sym, ap, ◌∙◌, subst, arith, None}
-use Rattle.std.specs.Prelude.{◌==◌, nat_le}
+use Rattle.std.proofs.Common.{◌≡◌, ℕ, suc, ◌+◌, ◌%◌, ◌^◌, ◌≤◌, ◌⊎◌, inl, inr, Bool, true, false, cond, ◌&&◌, List, [], ◌∷◌, ◌++◌, map, refl, sym, ap, ◌∙◌, subst, arith, Some, None, eqb-true, eq-eqb}
+use Rattle.std.specs.Prelude.{◌==◌, nat_le, nat_lt}
 use Rattle.std.proofs.lemmas.Bool.{and_parts, le-leb}
-use Rattle.wire.specs.Messages.{MessageData as Message}
+use Rattle.wire.specs.Messages.{MessageData as Message, CheckpointEntryData as CheckpointEntry, checkpoint as Checkpoint}
 use Rattle.wire.specs.Words.{requests_of}
 use Rattle.ordering.specs.Log as logs
 use Rattle.ordering.specs.Log.{LogData}
 use Rattle.ordering.proofs.Reading.{above_low}
+use Rattle.protocol.specs.System.Configuration.{is_number}
 use Rattle.protocol.specs.System.Trace.{Entry, Has}
 use Rattle.protocol.specs.System.Trace.Entry.{Executed}
 use Rattle.protocol.specs.Replica.Certificates.{low}
-use Rattle.protocol.specs.Replica.State.{State, Ran, execute, ran_in}
-use Rattle.protocol.specs.Replica.RightReplica.{kept_states, reply_of, snapshots_after}
-use Rattle.protocol.proofs.Words.Elements.{has_either, has_right, has_map, has_mapped, has_weaker, has_some}
+use Rattle.protocol.specs.Replica.State.{State, Ran, execute, ran_in, root_of}
+use Rattle.protocol.specs.Replica.RightReplica.{Point, Executes, kept_states, reply_of, snapshots_after}
+use Rattle.protocol.proofs.Words.Elements.{has_either, has_left, has_right, has_map, has_mapped, has_weaker, has_some}
 use Rattle.protocol.proofs.Words.Leaving.{executed_number}
 use Rattle.protocol.proofs.Words.Plain.{Plain, plain_low}
 use Rattle.replica_histories.specs.Desk.{Desk, Snapshot, snapshot_of, point_of}
 use Rattle.replica_histories.specs.Events.{behind, IsOnItsWay, MaySayDue}
-use Rattle.replica_histories.specs.Outputs.{replies_to, executed_desk, ExecutesFit}
-use Rattle.replica_histories.proofs.Words.{passed}
+use Rattle.replica_histories.specs.Outputs.{replies_to, checkpoint_due, executed_desk, ExecutesFit}
+use Rattle.replica_histories.proofs.Words.{apart, passed}
 use Rattle.replica_histories.proofs.Certified.{committed_here}
 use Rattle.replica_histories.proofs.Taking.{takes_nothing}
 use Rattle.replica_histories.proofs.Logging.{log_goes, silent_read}
+use Rattle.replica_histories.proofs.Transfers.{open_stays, open_ends}
+use Rattle.replica_histories.proofs.TransfersQuorums.{quorums_go_on}
 
 abbrev reply_to : Ran → Message
 reply_to r = reply_of r.call.client r.kept
@@ -37,9 +40,14 @@ executes_fit c me s desk log outputs batch frames commits fewer f = record {
     frames = λ frame h. let g = f.of_desk.frames frame (fewer frame h) in (inr g.0, g.1);
     replies = λ r h. reply r (has_either (λ x. x ≡ r) f.of_desk.ran more h);
     asked = λ k kept h. sent (reply_of k kept) (f.of_desk.asked k kept h);
-    rightly = λ message h. right message (has_some (λ r. reply_to r ≡ message) more (has_map (λ x. x ≡ message) reply_to more h));
+    checkpoints = λ j h multiple. checked j (st.number % c.period == 0) refl h multiple;
+    opened = open_ends c me desk.transfer desk.state.number st.number (e ∷ past) grows (open_stays c me desk.transfer desk.state.number past e refl f.of_desk.opened);
+    fetches = quorums_go_on c me s desk.state.number st.number [] (replies_to more ++ checkpoint_due c st) outputs e grows
+        (λ i root b. absurd (let bad : None ≡ Some (b.sender, (let x : CheckpointEntry = record { number = i; digest = root } in x)) = b.brings in cc)) (λ x h. absurd h) f.of_desk.fetches;
+    rightly = λ message h. rightly message (has_either (λ x. x ≡ message) (replies_to more) (checkpoint_due c st) h);
   };
-  of_log = log_goes c me log log past e f.of_log (silent_read c me log past e plain refl) (takes_nothing c me None log f.of_log.is_log (λ i w h. refl) (λ i x w h. refl) (λ i x w h. refl));
+  of_log = log_goes c me log log past e f.of_log (silent_read c me log past e plain refl) (takes_nothing c me None log f.of_log.is_log (λ i w h. refl) (λ i x w h. refl) (λ i x w h. refl) (λ x. refl));
+  low = let l = f.low in let n = number_is in omega arith;
   once = (tt, f.once);
 }
   where
@@ -67,13 +75,42 @@ executes_fit c me s desk log outputs batch frames commits fewer f = record {
     low_same : low c me (e ∷ past) ≡ low c me past
     low_same = plain_low c me past e plain
 
-    sent : (x : Message) → IsOnItsWay me [] outputs x → IsOnItsWay me (replies_to more) (e ∷ outputs) x
+    number_is : st.number ≡ k
+    number_is = executed_number c desk.state batch
+
+    grows : desk.state.number ≤ st.number
+    grows = let n = number_is in omega arith
+
+    sent : (x : Message) → IsOnItsWay me [] outputs x → IsOnItsWay me (replies_to more ++ checkpoint_due c st) (e ∷ outputs) x
     sent x (inl h) = absurd h
     sent x (inr h) = inr (inr h)
 
-    reply : (r : Ran) → Has (λ x. x ≡ r) f.of_desk.ran ⊎ Has (λ x. x ≡ r) more → IsOnItsWay me (replies_to more) (e ∷ outputs) (reply_to r)
+    reply : (r : Ran) → Has (λ x. x ≡ r) f.of_desk.ran ⊎ Has (λ x. x ≡ r) more → IsOnItsWay me (replies_to more ++ checkpoint_due c st) (e ∷ outputs) (reply_to r)
     reply r (inl h) = sent (reply_to r) (f.of_desk.replies r h)
-    reply r (inr h) = inl (has_mapped (λ x. x ≡ reply_to r) reply_to more (has_weaker (λ x. x ≡ r) (λ x. reply_to x ≡ reply_to r) (λ x is. ap reply_to is) more h))
+    reply r (inr h) =
+        inl (has_left (λ x. x ≡ reply_to r) (replies_to more) (checkpoint_due c st)
+        (has_mapped (λ x. x ≡ reply_to r) reply_to more (has_weaker (λ x. x ≡ r) (λ x. reply_to x ≡ reply_to r) (λ x is. ap reply_to is) more h)))
+
+    -- the checkpoint of each state that was executed
+    checked : (j : ℕ) (b : Bool) → (st.number % c.period == 0) ≡ b → (k ≡ j) ⊎ Has (λ x. Executes j [] x) outputs → j % c.period ≡ 0
+        → Has (λ x. (x.number ≡ j) × IsOnItsWay me (replies_to more ++ cond b (Checkpoint st.number (root_of st) ∷ []) []) (e ∷ outputs) (Checkpoint j (root_of x))) (cond b (st ∷ f.of_desk.states) f.of_desk.states)
+    checked j b is (inr h) multiple = older b (f.of_desk.checkpoints j h multiple)
+      where
+        way : (b : Bool) (x : State) → (x.number ≡ j) × IsOnItsWay me [] outputs (Checkpoint j (root_of x))
+            → (x.number ≡ j) × IsOnItsWay me (replies_to more ++ cond b (Checkpoint st.number (root_of st) ∷ []) []) (e ∷ outputs) (Checkpoint j (root_of x))
+        way b x w = (w.0, gone w.1)
+          where
+            gone : IsOnItsWay me [] outputs (Checkpoint j (root_of x)) → IsOnItsWay me (replies_to more ++ cond b (Checkpoint st.number (root_of st) ∷ []) []) (e ∷ outputs) (Checkpoint j (root_of x))
+            gone (inl h) = absurd h
+            gone (inr h) = inr (inr h)
+
+        older : (b : Bool) → Has (λ x. (x.number ≡ j) × IsOnItsWay me [] outputs (Checkpoint j (root_of x))) f.of_desk.states
+            → Has (λ x. (x.number ≡ j) × IsOnItsWay me (replies_to more ++ cond b (Checkpoint st.number (root_of st) ∷ []) []) (e ∷ outputs) (Checkpoint j (root_of x))) (cond b (st ∷ f.of_desk.states) f.of_desk.states)
+        older true w = inr (has_weaker _ _ (way true) f.of_desk.states w)
+        older false w = has_weaker _ _ (way false) f.of_desk.states w
+    checked j true is (inl same) multiple =
+        inl (number_is ∙ same, inl (has_right (λ x. x ≡ Checkpoint j (root_of st)) (replies_to more) (Checkpoint st.number (root_of st) ∷ []) (inl (ap (λ (n : ℕ). Checkpoint n (root_of st)) (number_is ∙ same)))))
+    checked j false is (inl same) multiple = absurd (apart (st.number % c.period == 0) (eq-eqb (st.number % c.period) 0 (ap (λ (n : ℕ). n % c.period) (number_is ∙ same) ∙ multiple)) is)
 
     -- what is kept above the low mark
     within : logs.is_in_marks log k ≡ true
@@ -92,7 +129,26 @@ executes_fit c me s desk log outputs batch frames commits fewer f = record {
     keeps false = was
     keeps true = rw above (ap (λ (xs : List Snapshot). snapshot_of st ∷ xs) was)
 
-    right : (message : Message) → (r : Ran) × Has (λ x. x ≡ r) more × (reply_to r ≡ message) → MaySayDue (point_of new (snapshots_after c st f.of_desk.states) (f.of_desk.ran ++ more)) message
+    point : Point
+    point = point_of new (snapshots_after c st f.of_desk.states) (f.of_desk.ran ++ more)
+
+    right : (message : Message) → (r : Ran) × Has (λ x. x ≡ r) more × (reply_to r ≡ message) → MaySayDue c (e ∷ past) point message
     right message r =
-        subst (λ (x : Message). MaySayDue (point_of new (snapshots_after c st f.of_desk.states) (f.of_desk.ran ++ more)) x) r.2
+        subst (λ (x : Message). MaySayDue c (e ∷ past) point x) r.2
         (inl (has_right (λ x. reply_to x ≡ reply_to r.0) f.of_desk.ran more (has_weaker (λ x. x ≡ r.0) (λ x. reply_to x ≡ reply_to r.0) (λ x is. ap reply_to is) more r.1)))
+
+    numbered : is_number st.number ≡ true
+    numbered = ap is_number number_is ∙ (and_parts (nat_lt log.low k && nat_le k (log.low + log.span)) (nat_lt k (2 ^ 48)) within).1
+
+    -- the checkpoint of the new state may be said
+    may : (b : Bool) → (st.number % c.period == 0) ≡ b → (message : Message) → Has (λ x. x ≡ message) (cond b (Checkpoint st.number (root_of st) ∷ []) [])
+        → MaySayDue c (e ∷ past) (point_of new (cond b (st ∷ f.of_desk.states) f.of_desk.states) (f.of_desk.ran ++ more)) message
+    may false is message h = absurd h
+    may true is message (inr h) = absurd h
+    may true is message (inl h) =
+        subst (λ (x : Message). MaySayDue c (e ∷ past) (point_of new (st ∷ f.of_desk.states) (f.of_desk.ran ++ more)) x) h
+        (record { multiple = eqb-true (st.number % c.period) 0 is; executed = inl (sym number_is); state = inl (refl, refl) }, numbered)
+
+    rightly : (message : Message) → Has (λ x. x ≡ message) (replies_to more) ⊎ Has (λ x. x ≡ message) (checkpoint_due c st) → MaySayDue c (e ∷ past) point message
+    rightly message (inl h) = right message (has_some (λ r. reply_to r ≡ message) more (has_map (λ x. x ≡ message) reply_to more h))
+    rightly message (inr h) = may (st.number % c.period == 0) refl message h

@@ -1,33 +1,44 @@
 -- One output more that is sent: what is held behind it fits.
-use Rattle.std.proofs.Common.{◌≡◌, ◌≢◌, ℕ, ◌+◌, ◌<◌, ◌⊎◌, inl, inr, Bool, true, ◌&&◌, not, List, [], ◌∷◌, map, refl, sym, ap, ◌∙◌, subst, Option, Some, is_some, is_none, eqb-true, eq-eqb}
-use Rattle.std.specs.Prelude.{◌==◌, ⊤, AllPairs}
-use Rattle.std.proofs.lemmas.Bool.{and_parts, eqb-false, ne_eqb, not-true}
+use Rattle.std.proofs.Common.{◌≡◌, ◌≢◌, ℕ, ◌+◌, ◌≤◌, ◌<◌, ◌%◌, ◌⊎◌, inl, inr, Bool, true, false, cond, ◌&&◌, not, List, [], ◌∷◌, map, refl, sym, ap, ◌∙◌, subst, arith, Option, Some, None, is_some, is_none, eqb-true, eq-eqb}
+use Rattle.std.specs.Bool.{then_some}
+use Rattle.std.specs.Prelude.{◌==◌, nat_le, ⊤, AllPairs}
+use Rattle.std.proofs.lemmas.Bool.{and_parts, eqb-false, ne_eqb, not-true, leb-true, leb-false}
 use Rattle.sha2.specs.Sha256.{sha256}
-use Rattle.wire.specs.Messages.{BodyData as Body, MessageData as Message, pre_prepare as PrePrepare, prepare as Prepare, commit as Commit}
+use Rattle.terms.specs.declared.order.Mode.TheVariants as modes
+use Rattle.wire.specs.Messages.{BodyData as Body, MessageData as Message, request as Request, pre_prepare as PrePrepare, prepare as Prepare, commit as Commit, checkpoint as Checkpoint, view_change as ViewChange, new_view as NewView, reply as Reply, fetch as Fetch, meta as Meta, page as Page}
 use Rattle.wire.specs.Words.{carried, requests_of, said}
 use Rattle.wire.specs.Lists.{Each}
 use Rattle.signing.specs.Heard.{heard}
 use Rattle.ordering.specs.Log as logs
 use Rattle.ordering.specs.Log.{LogData}
-use Rattle.protocol.specs.System.Configuration.{Configuration, primary, members}
+use Rattle.protocol.specs.System.Configuration.{Configuration, primary, is_number, members}
 use Rattle.protocol.specs.System.Frames.{IsPosted}
 use Rattle.protocol.specs.System.Trace.{Entry, Once, Has}
 use Rattle.protocol.specs.System.Trace.Entry.{Sent}
-use Rattle.protocol.specs.Replica.Certificates.{low, are_genuine, logged, batch_from}
-use Rattle.protocol.specs.Replica.RightReplica.{kept_states, others, reply_of, IsFor, HasSeen, MaySay, MaySend}
-use Rattle.protocol.specs.Replica.Owed.{IsSaying, HasRequest, IsOfView, IsNumbered, AreDifferent, NumbersOnce}
+use Rattle.protocol.specs.Replica.Certificates.{are_genuine, logged, batch_from}
+use Rattle.protocol.specs.Replica.State.{State, root_of}
+use Rattle.protocol.specs.Replica.RightReplica.{Point, Executes, kept_states, others, reply_of, IsFor, HasSeen, MaySay, MaySend, MayCheckpoint}
+use Rattle.protocol.specs.Replica.Owed.{place_from, IsSaying, HasRequest, IsNumbered, AreDifferent, NumbersOnce}
 use Rattle.protocol.proofs.Words.Options.{some_injective, then_some_gives, or_else_second}
-use Rattle.protocol.proofs.Words.Elements.{all_of_each, each_weaker}
-use Rattle.protocol.proofs.Words.Plain.{IsPlain, said_plain, plain_low}
+use Rattle.protocol.proofs.Words.Elements.{has_weaker, all_of_each, each_weaker}
 use Rattle.protocol.proofs.Words.Posting.{may_send}
-use Rattle.replica_histories.specs.Desk.{Desk, snapshot_of, point_of}
+use Rattle.replica_histories.specs.Desk.{Desk, Snapshot, snapshot_of, kept_from, point_of}
 use Rattle.replica_histories.specs.Logs.{FitsLog, Takes}
-use Rattle.replica_histories.specs.Events.{Start, behind, IsOnItsWay, FitsFrames, Fits}
-use Rattle.replica_histories.specs.Outputs.{PreparesFit, CommitsFit, BatchesFit, RepliesFit}
-use Rattle.replica_histories.proofs.Words.{passed, HasBatch, has_batch, batch_read, marks_are, primary_same}
+use Rattle.replica_histories.specs.Marks.{checked_log, BringsCheckpoint}
+use Rattle.replica_histories.specs.Events.{Start, behind, IsOnItsWay, MaySayDue, FitsFrames, Fits, KeptAreAbove}
+use Rattle.state_transfer.specs.Transfer.{TransferData}
+use Rattle.replica_histories.specs.Transfers.{FitsOpen}
+use Rattle.replica_histories.specs.TransfersQuorums.{BringsRoot}
+use Rattle.replica_histories.specs.Outputs.{PreparesFit, CommitsFit, BatchesFit, RepliesFit, CheckpointsFit}
+use Rattle.replica_histories.proofs.Words.{apart, passed, HasBatch, has_batch, batch_read, marks_are, primary_same}
 use Rattle.replica_histories.proofs.Certified.{PreparedIn, active, is_prepared_in, prepared_here}
-use Rattle.replica_histories.proofs.Taking.{takes_nothing, prepare_taken, commit_taken, batch_taken}
-use Rattle.replica_histories.proofs.Logging.{log_goes, sent_read}
+use Rattle.replica_histories.proofs.Checking.{executed_at_most}
+use Rattle.replica_histories.proofs.Taking.{failing, failing_two, takes_nothing, prepare_taken, commit_taken, batch_taken}
+use Rattle.replica_histories.proofs.Logging.{KeepsView, IsPlaced, log_goes, sent_read}
+use Rattle.replica_histories.proofs.Cutting.{checked, checked_up, checked_at_most}
+use Rattle.replica_histories.proofs.Ending.{steps_leave}
+use Rattle.replica_histories.proofs.Transfers.{root_later, open_stays, asks_none}
+use Rattle.replica_histories.proofs.TransfersQuorums.{quorums_go_on, no_root, own_root}
 
 -- ---- what an output leaves as it is
 
@@ -40,29 +51,50 @@ on_way me due rest outputs e paid x (inl h) = go (paid x h)
     go (inr k) = inr (inl k)
 on_way me due rest outputs e paid x (inr h) = inr (inr h)
 
--- A frame that is sent: nothing but the log and what is due changes.
-pub sent_fits : (c : Configuration) (me : ℕ) (s : Start) (desk : Desk) (log after : LogData) (due rest : List Message) (outputs : List Entry) (bytes receivers : List ℕ) (message : Message)
-    (f : Fits c me s desk log due outputs) → IsPosted c me message receivers bytes → IsPlain message → IsFor c me (behind s outputs) message receivers
+-- what may be said as a reply, a checkpoint or a fetch may be said behind one more output
+pub due_stays : (c : Configuration) (past : List Entry) (e : Entry) (point : Point) (message : Message) → MaySayDue c past point message → MaySayDue c (e ∷ past) point message
+due_stays c past e point (Reply client timestamp modes.Ordered number answer) h = h
+due_stays c past e point (Reply client timestamp modes.ReadOnly number answer) h = h
+due_stays c past e point (Checkpoint k root) h = (record { multiple = h.0.multiple; executed = inr h.0.executed; state = h.0.state }, h.1)
+due_stays c past e point (Request t mode op) h = absurd h
+due_stays c past e point (PrePrepare v i batch) h = absurd h
+due_stays c past e point (Prepare v i digest) h = absurd h
+due_stays c past e point (Commit v i digest) h = absurd h
+due_stays c past e point (ViewChange vc) h = absurd h
+due_stays c past e point (NewView new) h = absurd h
+due_stays c past e point (Fetch k level index) h = (h.0, (h.1.0, root_later c k h.0 past e h.1.1))
+due_stays c past e point (Meta k level index digests) h = absurd h
+due_stays c past e point (Page k index text) h = absurd h
+
+-- A frame that is sent: the log changes, of the snapshots these stay, this transfer is open, and what was due may be paid.
+pub sent_goes : (c : Configuration) (me : ℕ) (s : Start) (desk : Desk) (log after : LogData) (due rest : List Message) (outputs : List Entry) (bytes receivers : List ℕ) (message : Message) (snapshots : List Snapshot) (transfer : Option TransferData)
+    (f : Fits c me s desk log due outputs) → IsPosted c me message receivers bytes → IsFor c me (behind s outputs) message receivers
     → Each (λ frame. Once (HasSeen frame) (behind s outputs)) (carried message)
     → MaySay c me (behind s outputs) (point_of desk f.of_desk.states f.of_desk.ran) (Sent me bytes) bytes message
-    → FitsLog c me after (Sent me bytes ∷ behind s outputs)
+    → FitsLog c me after (Sent me bytes ∷ behind s outputs) → map snapshot_of (kept_states after.low f.of_desk.states) ≡ snapshots → after.low ≤ desk.state.number
+    → FitsOpen c me transfer desk.state.number (Sent me bytes ∷ behind s outputs)
+    → ((k : ℕ) (root : List ℕ) → BringsRoot c (behind s outputs) (Sent me bytes) k root → k ≤ desk.state.number)
     → ((x : Message) → Has (λ y. y ≡ x) due → Has (λ y. y ≡ x) rest ⊎ IsSaying me x (Sent me bytes))
     → ((x : Message) → Has (λ y. y ≡ x) rest → Has (λ y. y ≡ x) due)
     → NumbersOnce c me (behind s outputs) (Sent me bytes)
-    → Fits c me s desk after rest (Sent me bytes ∷ outputs)
-sent_fits c me s desk log after due rest outputs bytes receivers message f posted plain for seen say fits paid fewer once = record {
+    → Fits c me s (record desk { snapshots = snapshots; transfer = transfer }) after rest (Sent me bytes ∷ outputs)
+sent_goes c me s desk log after due rest outputs bytes receivers message snapshots transfer f posted for seen say fits kept at_most opened roots paid fewer once = record {
   of_desk = record {
     states = f.of_desk.states;
     ran = f.of_desk.ran;
     leaves = f.of_desk.leaves;
     steps = (point_of desk f.of_desk.states f.of_desk.ran, f.of_desk.steps, record { own = refl; may = may; moves = refl }, refl);
-    kept = ap (λ (h : ℕ). map snapshot_of (kept_states h f.of_desk.states)) low_same ∙ f.of_desk.kept;
+    kept = ap (λ (h : ℕ). map snapshot_of (kept_states h f.of_desk.states)) fits.low ∙ kept;
     frames = λ frame h. let k = f.of_desk.frames frame h in (inr k.0, k.1);
     replies = λ r h. on_way me due rest outputs (Sent me bytes) paid (reply_of r.call.client r.kept) (f.of_desk.replies r h);
     asked = λ k kept h. on_way me due rest outputs (Sent me bytes) paid (reply_of k kept) (f.of_desk.asked k kept h);
-    rightly = λ x h. f.of_desk.rightly x (fewer x h);
+    checkpoints = λ k h multiple. checkpoints k h multiple;
+    opened = opened;
+    fetches = quorums_go_on c me s desk.state.number desk.state.number due rest outputs (Sent me bytes) (omega arith) roots paid f.of_desk.fetches;
+    rightly = λ x h. due_stays c past (Sent me bytes) (point_of desk f.of_desk.states f.of_desk.ran) x (f.of_desk.rightly x (fewer x h));
   };
   of_log = fits;
+  low = at_most;
   once = (once, f.once);
 }
   where
@@ -72,17 +104,54 @@ sent_fits c me s desk log after due rest outputs bytes receivers message f poste
     may : MaySend c me past (point_of desk f.of_desk.states f.of_desk.ran) (Sent me bytes) bytes
     may = may_send c me past (point_of desk f.of_desk.states f.of_desk.ran) (Sent me bytes) bytes receivers message posted for seen say
 
-    low_same : low c me (Sent me bytes ∷ past) ≡ low c me past
-    low_same = plain_low c me past (Sent me bytes) (said_plain c past me bytes (record { sender = me; message = message }) posted.says plain)
+    checkpoints : (k : ℕ) → Executes k [] (Sent me bytes) ⊎ Has (λ e. Executes k [] e) outputs → k % c.period ≡ 0
+        → Has (λ st. (st.number ≡ k) × IsOnItsWay me rest (Sent me bytes ∷ outputs) (Checkpoint k (root_of st))) f.of_desk.states
+    checkpoints k (inl h) multiple = absurd h
+    checkpoints k (inr h) multiple =
+        has_weaker (λ st. (st.number ≡ k) × IsOnItsWay me due outputs (Checkpoint k (root_of st))) (λ st. (st.number ≡ k) × IsOnItsWay me rest (Sent me bytes ∷ outputs) (Checkpoint k (root_of st)))
+        (λ st w. (w.0, on_way me due rest outputs (Sent me bytes) paid (Checkpoint k (root_of st)) w.1)) f.of_desk.states (f.of_desk.checkpoints k h multiple)
+
+-- Where the marks stay and no part is asked for, nothing but the log and what is due changes.
+pub sent_fits : (c : Configuration) (me : ℕ) (s : Start) (desk : Desk) (log after : LogData) (due rest : List Message) (outputs : List Entry) (bytes receivers : List ℕ) (message : Message)
+    (f : Fits c me s desk log due outputs) → IsPosted c me message receivers bytes → after.low ≡ log.low → IsFor c me (behind s outputs) message receivers
+    → Each (λ frame. Once (HasSeen frame) (behind s outputs)) (carried message)
+    → MaySay c me (behind s outputs) (point_of desk f.of_desk.states f.of_desk.ran) (Sent me bytes) bytes message
+    → FitsLog c me after (Sent me bytes ∷ behind s outputs)
+    → place_from (record { sender = me; message = message }) ≡ None
+    → ((k : ℕ) (root : List ℕ) → BringsRoot c (behind s outputs) (Sent me bytes) k root → k ≤ desk.state.number)
+    → ((x : Message) → Has (λ y. y ≡ x) due → Has (λ y. y ≡ x) rest ⊎ IsSaying me x (Sent me bytes))
+    → ((x : Message) → Has (λ y. y ≡ x) rest → Has (λ y. y ≡ x) due)
+    → NumbersOnce c me (behind s outputs) (Sent me bytes)
+    → Fits c me s desk after rest (Sent me bytes ∷ outputs)
+sent_fits c me s desk log after due rest outputs bytes receivers message f posted same for seen say fits none roots paid fewer once =
+    sent_goes c me s desk log after due rest outputs bytes receivers message desk.snapshots desk.transfer f posted for seen say fits
+    (ap (λ (h : ℕ). map snapshot_of (kept_states h f.of_desk.states)) (same ∙ sym f.of_log.low) ∙ f.of_desk.kept) (let l = f.low in omega arith)
+    (open_stays c me desk.transfer desk.state.number (behind s outputs) (Sent me bytes) (asks_none bytes me message posted.says none) f.of_desk.opened) roots paid fewer once
 
 -- the log behind it
-pub log_sent : (c : Configuration) (me : ℕ) (log after : LogData) (past : List Entry) (bytes receivers : List ℕ) (message : Message) → FitsLog c me log past → IsPosted c me message receivers bytes → IsPlain message
-    → Takes c me (Some (record { sender = me; message = message })) log after
-    → ((v i : ℕ) (batch : List ℕ) → batch_from c me v i (record { sender = me; message = message }) ≡ Some batch → (v ≡ log.view) × (logs.is_in_marks log i ≡ true))
-    → FitsLog c me after (Sent me bytes ∷ past)
-log_sent c me log after past bytes receivers message f posted plain takes place =
-    log_goes c me log after past (Sent me bytes) f (sent_read c me log past bytes (record { sender = me; message = message }) (said_plain c past me bytes (record { sender = me; message = message }) posted.says plain) posted.says place)
-    (subst (λ (o : Option Body). Takes c me o log after) (sym posted.says) takes)
+pub log_sent : (c : Configuration) (me : ℕ) (log after : LogData) (past : List Entry) (bytes receivers : List ℕ) (message : Message) → FitsLog c me log past → IsPosted c me message receivers bytes → KeepsView message
+    → Takes c me (Some (record { sender = me; message = message })) log after → IsPlaced c me log (record { sender = me; message = message }) → FitsLog c me after (Sent me bytes ∷ past)
+log_sent c me log after past bytes receivers message f posted keeps takes place =
+    log_goes c me log after past (Sent me bytes) f (sent_read c me log past bytes me message posted.says keeps place) (subst (λ (o : Option Body). Takes c me o log after) (sym posted.says) takes)
+
+-- a prepare is placed where its number is in the marks, and so is a commit
+in_marks_differ : (log : LogData) (i j : ℕ) → logs.is_in_marks log i ≡ true → logs.is_in_marks log j ≡ false → (i == j) ≡ false
+in_marks_differ log i j k out = ne_eqb i j (λ same. apart (logs.is_in_marks log j) (subst (λ (x : ℕ). logs.is_in_marks log x ≡ true) same k) out)
+
+pub prepare_placed : (c : Configuration) (me s i : ℕ) (digest : List ℕ) (log : LogData) → logs.is_in_marks log i ≡ true → IsPlaced c me log (record { sender = s; message = Prepare log.view i digest })
+prepare_placed c me s i digest log k = record {
+  batch = λ v j x h. absurd cc;
+  votes = λ j x out. (
+    ap (λ (b : Bool). then_some b digest) (failing (s == x) (log.view == log.view) (i == j) (not (x == primary c log.view)) (in_marks_differ log i j k out)),
+    refl,
+  );
+}
+
+pub commit_placed : (c : Configuration) (me s i : ℕ) (digest : List ℕ) (log : LogData) → logs.is_in_marks log i ≡ true → IsPlaced c me log (record { sender = s; message = Commit log.view i digest })
+commit_placed c me s i digest log k = record {
+  batch = λ v j x h. absurd cc;
+  votes = λ j x out. (refl, ap (λ (b : Bool). then_some b digest) (failing_two (s == x) (log.view == log.view) (i == j) (in_marks_differ log i j k out)));
+}
 
 -- ---- what numbers no request
 
@@ -102,12 +171,12 @@ backup_of log b h = eqb-false log.me (logs.primary log log.view) (not-true (log.
 
 pub prepares_fit : PreparesFit
 prepares_fit c me s desk log due outputs i digest bytes vote asks sender same posted f =
-    sent_fits c me s desk log (logs.with_prepare log i vote) due due outputs bytes (others c me) (Prepare log.view i digest) f posted tt refl tt
+    sent_fits c me s desk log (logs.with_prepare log i vote) due due outputs bytes (others c me) (Prepare log.view i digest) f posted refl refl tt
     (record { is_backup = backup; active = active c me log (behind s outputs) f.of_log; batch = b.batch; is_logged = f.of_log.batches i b.within ∙ b.logged; digest_is = b.digest_is })
     (log_sent c me log (logs.with_prepare log i vote) (behind s outputs) bytes (others c me) (Prepare log.view i digest) f.of_log posted tt
     (prepare_taken c me me i digest vote log f.of_log.is_log b.within (subst (λ (x : ℕ). x < logs.replicas log) f.of_log.own f.of_log.is_log.me) (ap not (ne_eqb me (primary c log.view) (λ e. backup (sym e)))) sender same)
-    (λ v j x h. absurd cc))
-    (λ x h. inl h) (λ x h. h) (no_proposal c me (behind s outputs) bytes (Prepare log.view i digest) posted.says tt)
+    (prepare_placed c me me i digest log b.within))
+    refl (no_root c (behind s outputs) bytes me (Prepare log.view i digest) desk.state.number posted.says refl) (λ x h. inl h) (λ x h. h) (no_proposal c me (behind s outputs) bytes (Prepare log.view i digest) posted.says tt)
   where
     test : ((not (log.me == logs.primary log log.view) && is_none (logs.prepare_of log i log.me)) ≡ true) × (logs.logged_digest log i ≡ Some digest)
     test = passed (not (log.me == logs.primary log log.view) && is_none (logs.prepare_of log i log.me)) (logs.logged_digest log i) digest asks
@@ -120,12 +189,12 @@ prepares_fit c me s desk log due outputs i digest bytes vote asks sender same po
 
 pub commits_fit : CommitsFit
 commits_fit c me s desk log due outputs i digest bytes vote asks sender same posted f =
-    sent_fits c me s desk log (logs.with_commit log i vote) due due outputs bytes (others c me) (Commit log.view i digest) f posted tt refl tt
+    sent_fits c me s desk log (logs.with_commit log i vote) due due outputs bytes (others c me) (Commit log.view i digest) f posted refl refl tt
     (record { active = active c me log (behind s outputs) f.of_log; batch = p.0; prepared = prepared_here c me log (behind s outputs) i p.0 f.of_log p.1; digest_is = digest_is })
     (log_sent c me log (logs.with_commit log i vote) (behind s outputs) bytes (others c me) (Commit log.view i digest) f.of_log posted tt
     (commit_taken c me me i digest vote log f.of_log.is_log b.within (subst (λ (x : ℕ). x < logs.replicas log) f.of_log.own f.of_log.is_log.me) sender same)
-    (λ v j x h. absurd cc))
-    (λ x h. inl h) (λ x h. h) (no_proposal c me (behind s outputs) bytes (Commit log.view i digest) posted.says tt)
+    (commit_placed c me me i digest log b.within))
+    refl (no_root c (behind s outputs) bytes me (Commit log.view i digest) desk.state.number posted.says refl) (λ x h. inl h) (λ x h. h) (no_proposal c me (behind s outputs) bytes (Commit log.view i digest) posted.says tt)
   where
     test : ((logs.is_prepared log i && is_none (logs.commit_of log i log.me)) ≡ true) × (logs.logged_digest log i ≡ Some digest)
     test = passed (logs.is_prepared log i && is_none (logs.commit_of log i log.me)) (logs.logged_digest log i) digest asks
@@ -159,10 +228,10 @@ each_held c me desk history frames f h = each_weaker (λ frame. Has (λ x. x ≡
 
 pub batches_fit : BatchesFit
 batches_fit c me s desk log due outputs i batch bytes p posted f =
-    sent_fits c me s desk log (logs.with_batch log i batch) due due outputs bytes (others c me) (PrePrepare log.view i batch) f posted tt refl
+    sent_fits c me s desk log (logs.with_batch log i batch) due due outputs bytes (others c me) (PrePrepare log.view i batch) f posted refl refl
     (each_weaker (λ frame. Once (HasSeen frame) past × (is_some (heard (members c) me frame) ≡ true)) (λ frame. Once (HasSeen frame) past) (λ frame k. k.0) (requests_of batch) seen)
     (record { is_primary = primary_is; active = active c me log past f.of_log; in_marks = marks_are c me log past i f.of_log ∙ p.within; genuine = genuine; one = one })
-    fits (λ x h. inl h) (λ x h. h) once
+    fits refl (no_root c (behind s outputs) bytes me (PrePrepare log.view i batch) desk.state.number posted.says refl) (λ x h. inl h) (λ x h. h) once
   where
     past : List Entry
     past = behind s outputs
@@ -183,7 +252,7 @@ batches_fit c me s desk log due outputs i batch bytes p posted f =
     place v j b h = let w = placed c me log.view i v j me batch b h in (sym w.0, subst (λ (x : ℕ). logs.is_in_marks log x ≡ true) w.1 p.within)
 
     fits : FitsLog c me (logs.with_batch log i batch) (Sent me bytes ∷ past)
-    fits = log_sent c me log (logs.with_batch log i batch) past bytes (others c me) (PrePrepare log.view i batch) f.of_log posted tt takes place
+    fits = log_sent c me log (logs.with_batch log i batch) past bytes (others c me) (PrePrepare log.view i batch) f.of_log posted tt takes (record { batch = place; votes = λ j x out. (refl, refl) })
 
     proposed : batch_from c me log.view i (record { sender = me; message = PrePrepare log.view i batch }) ≡ Some batch
     proposed = rw (eq-eqb log.view log.view refl, eq-eqb i i refl, eq-eqb me (primary c log.view) (sym primary_is), genuine) refl
@@ -193,7 +262,7 @@ batches_fit c me s desk log due outputs i batch bytes p posted f =
 
     once : NumbersOnce c me past (Sent me bytes)
     once v j b says free = subst (λ (x : List ℕ). AllPairs (AreDifferent c) (requests_of x) × ((client t : ℕ) → HasRequest c client t x → IsNumbered c me past v client t → ⊥)) same
-        (p.differ, λ client t has numbered. of client t has numbered.0 numbered.2 numbered.1)
+        (p.differ, λ client t has numbered. p.fresh client t has (subst (λ (x : ℕ). IsNumbered c me past x client t) (sym view_is) numbered))
       where
         is : ◌≡◌ {A = Body} (record { sender = me; message = PrePrepare log.view i batch }) (record { sender = me; message = PrePrepare v j b })
         is = some_injective _ _ (sym posted.says ∙ says)
@@ -204,21 +273,78 @@ batches_fit c me s desk log due outputs i batch bytes p posted f =
         same : batch ≡ b
         same = ap (λ (x : Body). batch_of x.message) is
 
-        of : (client t : ℕ) → HasRequest c client t batch → (n : List ℕ) → HasRequest c client t n → IsOfView c me past v n → ⊥
-        of client t has n within (inl l) =
-            let w = f.of_log.within v l.0 n l.1 in
-            p.fresh client t has (l.0, n, sym (f.of_log.batches l.0 w.1) ∙ subst (λ (x : ℕ). logged c me past x l.0 ≡ Some n) w.0 l.1, within)
-        of client t has n within (inr l) = f.of_log.begun v n l
+        view_of : Message → ℕ
+        view_of message = elim message [ PrePrepare w k x ↦ w | _ ↦ 0 ]
+
+        view_is : log.view ≡ v
+        view_is = ap (λ (x : Body). view_of x.message) is
 
 -- ---- a reply that is due
 
 pub replies_fit : RepliesFit
 replies_fit c me s desk log rest outputs k kept bytes posted f =
-    sent_fits c me s desk log log (reply_of k kept ∷ rest) rest outputs bytes ((256 + k) ∷ []) (reply_of k kept) f posted tt refl tt (f.of_desk.rightly (reply_of k kept) (inl refl))
+    sent_fits c me s desk log log (reply_of k kept ∷ rest) rest outputs bytes ((256 + k) ∷ []) (reply_of k kept) f posted refl refl tt (f.of_desk.rightly (reply_of k kept) (inl refl))
     (log_sent c me log log (behind s outputs) bytes ((256 + k) ∷ []) (reply_of k kept) f.of_log posted tt
-    (takes_nothing c me (Some (record { sender = me; message = reply_of k kept })) log f.of_log.is_log (λ i w h. refl) (λ i x w h. refl) (λ i x w h. refl)) (λ v i b h. absurd cc))
-    paid (λ x h. inr h) (no_proposal c me (behind s outputs) bytes (reply_of k kept) posted.says tt)
+    (takes_nothing c me (Some (record { sender = me; message = reply_of k kept })) log f.of_log.is_log (λ i w h. refl) (λ i x w h. refl) (λ i x w h. refl) (λ x. refl)) (record { batch = λ v i b h. absurd cc; votes = λ i x out. (refl, refl) }))
+    refl (no_root c (behind s outputs) bytes me (reply_of k kept) desk.state.number posted.says refl) paid (λ x h. inr h) (no_proposal c me (behind s outputs) bytes (reply_of k kept) posted.says tt)
   where
     paid : (x : Message) → (reply_of k kept ≡ x) ⊎ Has (λ y. y ≡ x) rest → Has (λ y. y ≡ x) rest ⊎ IsSaying me x (Sent me bytes)
+    paid x (inl e) = inr (subst (λ (y : Message). said bytes ≡ Some (record { sender = me; message = y })) e posted.says)
+    paid x (inr h) = inl h
+
+-- ---- a checkpoint that is due
+
+-- of the snapshots those from a later mark on stay
+pub kept_on : (low high : ℕ) (states : List State) (snapshots : List Snapshot) → low ≤ high → map snapshot_of (kept_states low states) ≡ snapshots → map snapshot_of (kept_states high states) ≡ kept_from high snapshots
+kept_on low high states snapshots l is = on states ∙ ap (kept_from high) is
+  where
+    on : (xs : List State) → map snapshot_of (kept_states high xs) ≡ kept_from high (map snapshot_of (kept_states low xs))
+    on [] = refl
+    on (st ∷ xs) = go (nat_le low st.number) (nat_le high st.number) refl refl (on xs)
+      where
+        go : (t u : Bool) → nat_le low st.number ≡ t → nat_le high st.number ≡ u → map snapshot_of (kept_states high xs) ≡ kept_from high (map snapshot_of (kept_states low xs))
+            → map snapshot_of (cond u (st ∷ kept_states high xs) (kept_states high xs)) ≡ kept_from high (map snapshot_of (cond t (st ∷ kept_states low xs) (kept_states low xs)))
+        go true true e g same = rw g (ap (λ (ys : List Snapshot). snapshot_of st ∷ ys) same)
+        go true false e g same = rw g same
+        go false false e g same = same
+        go false true e g same = let a = leb-false low st.number e in let b = leb-true high st.number g in absurd (omega arith)
+
+pub kept_are_above : KeptAreAbove
+kept_are_above c me desk log states history fits kept =
+    let is : map snapshot_of (kept_states log.low states) ≡ desk.snapshots = ap (λ (h : ℕ). map snapshot_of (kept_states h states)) (sym fits.low) ∙ kept in
+    ap (λ (xs : List Snapshot). let new : Desk = record desk { snapshots = xs } in new) (sym (kept_on log.low log.low states desk.snapshots (omega arith) is) ∙ is)
+
+pub checkpoints_fit : CheckpointsFit
+checkpoints_fit c me s desk log rest outputs entry bytes prepares commits posted f =
+    sent_goes c me s desk log (checked_log log me entry) (Checkpoint entry.number entry.digest ∷ rest) rest outputs bytes (others c me) (Checkpoint entry.number entry.digest) (kept_from (checked_log log me entry).low desk.snapshots) desk.transfer
+    f posted refl tt may.0 fits
+    (kept_on log.low (checked_log log me entry).low f.of_desk.states desk.snapshots up (ap (λ (h : ℕ). map snapshot_of (kept_states h f.of_desk.states)) (sym f.of_log.low) ∙ f.of_desk.kept))
+    (checked_at_most c me log past (Sent me bytes) me entry f.of_log brings known desk.state.number f.low (λ stable. executed))
+    (open_stays c me desk.transfer desk.state.number past (Sent me bytes) (asks_none bytes me (Checkpoint entry.number entry.digest) posted.says refl) f.of_desk.opened)
+    (own_root c past bytes me entry.number entry.digest desk.state.number posted.says executed) paid (λ x h. inr h) (no_proposal c me past bytes (Checkpoint entry.number entry.digest) posted.says tt)
+  where
+    past : List Entry
+    past = behind s outputs
+
+    may : MayCheckpoint c past (point_of desk f.of_desk.states f.of_desk.ran) entry.number entry.digest × (is_number entry.number ≡ true)
+    may = f.of_desk.rightly (Checkpoint entry.number entry.digest) (inl refl)
+
+    brings : BringsCheckpoint c (Sent me bytes) me entry
+    brings = record { brings = posted.says; number = may.1 }
+
+    known : me < logs.replicas log
+    known = subst (λ (x : ℕ). x < logs.replicas log) f.of_log.own f.of_log.is_log.me
+
+    fits : FitsLog c me (checked_log log me entry) (Sent me bytes ∷ past)
+    fits = checked c me log past (Sent me bytes) me entry f.of_log brings known (λ i l. (prepares i, commits i))
+
+    up : log.low ≤ (checked_log log me entry).low
+    up = checked_up c me log past (Sent me bytes) me entry f.of_log brings known
+
+    executed : entry.number ≤ desk.state.number
+    executed = executed_at_most c me entry.number past (point_of desk f.of_desk.states f.of_desk.ran)
+        (steps_leave c me s outputs (point_of desk f.of_desk.states f.of_desk.ran) f.of_desk.leaves f.of_desk.steps) may.0.executed
+
+    paid : (x : Message) → (Checkpoint entry.number entry.digest ≡ x) ⊎ Has (λ y. y ≡ x) rest → Has (λ y. y ≡ x) rest ⊎ IsSaying me x (Sent me bytes)
     paid x (inl e) = inr (subst (λ (y : Message). said bytes ≡ Some (record { sender = me; message = y })) e posted.says)
     paid x (inr h) = inl h

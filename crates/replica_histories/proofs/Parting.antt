@@ -16,7 +16,11 @@ owes_ordering c me before input outputs now old new o = record {
   commits = o.commits;
   executes = o.executes;
   replies = o.replies;
+  checkpoints = o.checkpoints;
   again = o.again;
+  fetched_digests = o.fetched_digests;
+  fetched_page = o.fetched_page;
+  fetches = o.fetches;
   dropped = o.dropped;
 }
 
@@ -26,13 +30,7 @@ owed_in_parts c me before input outputs now old new = (parts, whole)
     parts : Owes c me before input outputs now old new → OwesOrdering c me before input outputs now old new × OwesBeside c me before input outputs now old new
     parts o = (
       owes_ordering c me before input outputs now old new o,
-      record {
-        checkpoints = o.checkpoints;
-        reads = o.reads;
-        fetched_digests = o.fetched_digests;
-        fetched_page = o.fetched_page;
-        fetches = o.fetches;
-      },
+      record { reads = o.reads },
     )
 
     whole : OwesOrdering c me before input outputs now old new × OwesBeside c me before input outputs now old new → Owes c me before input outputs now old new
@@ -43,12 +41,12 @@ owed_in_parts c me before input outputs now old new = (parts, whole)
       commits = o.0.commits;
       executes = o.0.executes;
       replies = o.0.replies;
-      checkpoints = o.1.checkpoints;
+      checkpoints = o.0.checkpoints;
       again = o.0.again;
       reads = o.1.reads;
-      fetched_digests = o.1.fetched_digests;
-      fetched_page = o.1.fetched_page;
-      fetches = o.1.fetches;
+      fetched_digests = o.0.fetched_digests;
+      fetched_page = o.0.fetched_page;
+      fetches = o.0.fetches;
       dropped = o.0.dropped;
     }
 

@@ -1,5 +1,5 @@
 -- Between events nothing is left owed, and an input that changes nothing passes.
-use Rattle.std.proofs.Common.{◌≡◌, ℕ, suc, ◌+◌, ◌≤◌, inl, inr, true, List, [], ◌∷◌, ◌++◌, refl, sym, ap, ◌∙◌, subst, Option, Some, None, reverse}
+use Rattle.std.proofs.Common.{◌≡◌, ℕ, suc, inl, inr, true, List, [], ◌∷◌, ◌++◌, refl, sym, ap, ◌∙◌, subst, Option, Some, None, reverse}
 use mathlib.Core.List.{reverse-cons}
 use Rattle.std.proofs.lemmas.List.{append_assoc}
 use Rattle.ordering.specs.Log as logs
@@ -7,19 +7,22 @@ use Rattle.ordering.specs.Log.{LogData}
 use Rattle.protocol.specs.System.Configuration.{Configuration, primary}
 use Rattle.protocol.specs.System.Trace.{Entry, is_output, Has}
 use Rattle.protocol.specs.System.Trace.Entry.{Got, Tick}
-use Rattle.protocol.specs.Replica.Certificates.{is_active_in, logged, Committed}
+use Rattle.protocol.specs.Replica.Certificates.{is_active_in, low, is_in_marks, logged, Committed}
 use Rattle.protocol.specs.Replica.State.{State, Call}
 use Rattle.protocol.specs.Replica.RightReplica.{Point, first_point}
 use Rattle.protocol.specs.Replica.Owed.{IsFree, IsOfView, IsNumbered}
 use Rattle.protocol.proofs.Words.Reacting.{one_of}
+use Rattle.protocol.proofs.Agreement.Voting.{logged_stays}
 use Rattle.replica_histories.specs.Logs.{FitsLog}
 use Rattle.replica_histories.specs.Owing.{OwesOrdering, ProceedsOrdering}
-use Rattle.replica_histories.specs.Events.{IsFreeIn, IsNumberedIn, HeldAreSettled}
+use Rattle.replica_histories.specs.Desk.{Desk}
+use Rattle.replica_histories.specs.Events.{Fits, IsSettled, start_at, HeldAreSettled}
 use Rattle.replica_histories.specs.Inputs.{InputsPass, TicksPass}
-use Rattle.replica_histories.proofs.Words.{given_not, marks_are, primary_same}
+use Rattle.replica_histories.proofs.Words.{given_not, primary_same}
 use Rattle.replica_histories.proofs.Certified.{active, committed_here}
 use Rattle.replica_histories.proofs.Ending.{events_end}
 use Rattle.replica_histories.proofs.Entering.{inputs_fit, ticks_fit}
+use Rattle.replica_histories.proofs.TransfersAnswering.{others_owe_none}
 
 -- ---- what an event leaves
 
@@ -83,30 +86,41 @@ held_are_settled c me desk log history held = record {
     executes (Some batch) e =
         absurd (r.executes log.view batch (subst (λ (st : State). Committed c me history log.view (suc st.number) batch) (sym state_is) (committed_here c me log history (suc desk.state.number) batch f e)))
 
-    numbers : (i : ℕ) (call : Call) → logs.primary log log.view ≡ log.me → Has (λ x. x ≡ call) desk.waiting → IsFreeIn desk log i → IsNumberedIn c log call.client call.timestamp
-    numbers i call own waits free = of (r.numbers log.view i call (active c me log history f) (sym (primary_same c log log.view f.faults) ∙ own ∙ f.own)
-        (subst (λ (w : List Call). Has (λ x. x ≡ call) w) (sym waiting_is) waits)
-        (marks_are c me log history i f ∙ free.0, subst (λ (st : State). i ≤ st.number + 2) (sym state_is) free.1, λ j above. none j above (logged c me history log.view j) refl))
-      where
-        none : (j : ℕ) → i ≤ j → (o : Option (List ℕ)) → logged c me history log.view j ≡ o → o ≡ None
-        none j above None e = refl
-        none j above (Some batch) e =
-            let w = f.within log.view j batch e in
-            absurd (given_not (logs.logged_batch log j) batch (sym (f.batches j w.1) ∙ e) (free.2 j above))
-
-        of : IsNumbered c me history log.view call.client call.timestamp → IsNumberedIn c log call.client call.timestamp
-        of n = go n.1
-          where
-            go : IsOfView c me history log.view n.0 → IsNumberedIn c log call.client call.timestamp
-            go (inl l) = let w = f.within log.view l.0 n.0 l.1 in (l.0, n.0, sym (f.batches l.0 w.1) ∙ l.1, n.2)
-            go (inr l) = absurd (f.begun log.view n.0 l)
+    numbers : (i : ℕ) (call : Call) → logs.primary log log.view ≡ log.me → Has (λ x. x ≡ call) desk.waiting → IsFree c me history desk.state.number log.view i
+        → IsNumbered c me history log.view call.client call.timestamp
+    numbers i call own waits free =
+        r.numbers log.view i call (active c me log history f) (sym (primary_same c log log.view f.faults) ∙ own ∙ f.own) (subst (λ (w : List Call). Has (λ x. x ≡ call) w) (sym waiting_is) waits)
+        (subst (λ (st : State). IsFree c me history st.number log.view i) (sym state_is) free)
 
 -- ---- inputs that pass
 
+-- what is settled stays so behind an entry that leaves the low mark
+settled_goes : (c : Configuration) (me : ℕ) (desk : Desk) (log : LogData) (past : List Entry) (e : Entry) → low c me (e ∷ past) ≡ low c me past → IsSettled c me desk log past → IsSettled c me desk log (e ∷ past)
+settled_goes c me desk log past e same s = record {
+  prepares = s.prepares;
+  commits = s.commits;
+  executes = s.executes;
+  numbers = λ i call own waits free. on call (s.numbers i call own waits (ap (λ (h : ℕ). is_in_marks c h i) (sym same) ∙ free.0, free.1, λ j above. none j (free.2 j above) (logged c me past log.view j) refl));
+}
+  where
+    none : (j : ℕ) → logged c me (e ∷ past) log.view j ≡ None → (o : Option (List ℕ)) → logged c me past log.view j ≡ o → o ≡ None
+    none j h None k = refl
+    none j h (Some batch) k = absurd (given_not (logged c me (e ∷ past) log.view j) batch (logged_stays c me log.view j batch e past k) h)
+
+    of_view : (batch : List ℕ) → IsOfView c me past log.view batch → IsOfView c me (e ∷ past) log.view batch
+    of_view batch (inl l) = inl (l.0, logged_stays c me log.view l.0 batch e past l.1)
+    of_view batch (inr l) = inr (inr l)
+
+    on : (call : Call) → IsNumbered c me past log.view call.client call.timestamp → IsNumbered c me (e ∷ past) log.view call.client call.timestamp
+    on call n = (n.0, of_view n.0 n.1, n.2)
+
 pub inputs_pass : InputsPass
-inputs_pass c me desk log past bytes held none e =
-    events_end c me desk desk log log past [] (Got me bytes) held (inputs_fit c me desk desk log log [] past bytes held none e) (held_are_settled c me desk log past held) refl (inl refl)
+inputs_pass c me desk log past bytes held none e answered =
+    let f : Fits c me (start_at c me desk log past held (Got me bytes)) desk log [] [] = inputs_fit c me desk desk log log [] past bytes held none e in
+    events_end c me desk desk log log past [] (Got me bytes) held f (settled_goes c me desk log past (Got me bytes) (f.of_log.low ∙ sym held.of_log.fits.low) (held_are_settled c me desk log past held)) answered refl (inl refl)
 
 pub ticks_pass : TicksPass
 ticks_pass c me desk log past held =
-    events_end c me desk desk log log past [] (Tick me) held (ticks_fit c me desk log past held) (held_are_settled c me desk log past held) refl (inl refl)
+    let f : Fits c me (start_at c me desk log past held (Tick me)) desk log [] [] = ticks_fit c me desk log past held in
+    events_end c me desk desk log log past [] (Tick me) held f (settled_goes c me desk log past (Tick me) (f.of_log.low ∙ sym held.of_log.fits.low) (held_are_settled c me desk log past held))
+    (others_owe_none c me past (Tick me) [] held.of_desk.point refl) refl (inl refl)

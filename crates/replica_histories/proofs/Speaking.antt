@@ -33,7 +33,7 @@ own_said c me body own past (Executed x y z) r h = absurd cc
 own_said c me body own past (Installed x y z) r h = absurd cc
 own_said c me body own past (Accepted x y z) r h = absurd cc
 
-own_spoken : (c : Configuration) (me : ℕ) (body : Body) (past : List Entry) (point : Point) → Leaves c me past point → body.sender ≡ me → Once (Brings c body) past → Once (Speaks body) past
+pub own_spoken : (c : Configuration) (me : ℕ) (body : Body) (past : List Entry) (point : Point) → Leaves c me past point → body.sender ≡ me → Once (Brings c body) past → Once (Speaks body) past
 own_spoken c me body past point leaves own h =
     once_weaker (λ past e. RightAt c me past e × Brings c body past e × Always (RightAt c me) past) (Speaks body) (λ past e t. own_said c me body own past e t.0 t.1) past
     (once_right c me (Brings c body) past (point, leaves) h)
@@ -106,7 +106,7 @@ spoken_certified c me v i d past point leaves h =
 
 -- ---- in the event, or before
 
-says : (me : ℕ) (message : Message) (past : List Entry) (e : Entry) → Speaks (record { sender = me; message = message }) past e → IsSaying me message e
+pub says : (me : ℕ) (message : Message) (past : List Entry) (e : Entry) → Speaks (record { sender = me; message = message }) past e → IsSaying me message e
 says me message past (Sent p bytes) h = h
 says me message past (Invoke x y z) h = h
 says me message past (Got x y) h = h

@@ -1,5 +1,5 @@
 -- Where a replica begins, and what holds in the end.
-use Rattle.std.proofs.Common.{◌≡◌, ℕ, zero, suc, ◌+◌, ◌*◌, ◌<◌, ◌≤◌, inl, cond, List, [], ◌∷◌, refl, sym, ap, ◌∙◌, arith, Option, None, replicate, slice_index_or}
+use Rattle.std.proofs.Common.{◌≡◌, ℕ, zero, suc, ◌+◌, ◌*◌, ◌<◌, ◌≤◌, inl, cond, List, [], ◌∷◌, refl, sym, ap, ◌∙◌, subst, arith, Option, None, replicate, slice_index_or}
 use Rattle.std.proofs.lemmas.List.{length-replicate}
 use Rattle.std.proofs.lemmas.List.Elements.{All-replicate}
 use Rattle.wire.specs.Messages.{CheckpointEntryData as CheckpointEntry}
@@ -10,14 +10,21 @@ use Rattle.ordering.specs.Keeping.{IsRow, IsLog}
 use Rattle.protocol.specs.System.Configuration.{Configuration, replicas, span}
 use Rattle.protocol.specs.Replica.Certificates.{view, low, logged, prepare_of, commit_of, checkpoints_of}
 use Rattle.protocol.specs.Replica.RightReplica.{first_point}
-use Rattle.replica_histories.specs.Logs.{FitsLog}
-use Rattle.replica_histories.specs.Histories.{FirstHold, HeldOrder}
+use Rattle.replica_histories.specs.Logs.{above_mark, AreLatest, FitsLog}
+use Rattle.replica_histories.specs.Histories.{first_desk, FirstHold, HeldOrder}
 use Rattle.replica_histories.proofs.Words.{gated}
+use Rattle.replica_histories.proofs.Latest.{none_latest}
+use Rattle.replica_histories.proofs.TransfersQuorums.{quorums_first}
 
 empty : (n i : ℕ) → slice_index_or (replicate n no_row) i no_row ≡ no_row
 empty zero i = refl
 empty (suc n) zero = refl
 empty (suc n) (suc i) = empty n i
+
+no_checkpoints : (n s : ℕ) → slice_index_or (replicate n (let none : List CheckpointEntry = [] in none)) s [] ≡ []
+no_checkpoints zero s = refl
+no_checkpoints (suc n) zero = refl
+no_checkpoints (suc n) (suc s) = no_checkpoints n s
 
 module _ (c : Configuration) (me : ℕ) (some : 1 ≤ c.faults) (few : c.faults ≤ 3) (mine : me < replicas c) (fits : span c ≤ 32) where
   abbrev started : LogData
@@ -59,8 +66,11 @@ module _ (c : Configuration) (me : ℕ) (some : 1 ≤ c.faults) (few : c.faults 
     prepares = λ i s k. sym (no_reading (λ r. vote_of r.prepares s) refl i);
     commits = λ i s k. sym (no_reading (λ r. vote_of r.commits s) refl i);
     within = λ v i batch h. absurd cc;
+    above = λ i s l out. (refl, refl);
     begun = λ v batch h. h;
-    unchecked = refl;
+    settled = λ i batch l h. absurd cc;
+    checkpoints = λ s. ap (above_mark 0) (sym (no_checkpoints (3 * c.faults + 1) s));
+    latest = λ s. subst AreLatest (sym (no_checkpoints (3 * c.faults + 1) s)) none_latest;
   }
 
 pub first_hold : FirstHold
@@ -72,12 +82,15 @@ first_hold c me some few mine fits = record {
     is = refl;
     kept = refl;
     frames = λ frame h. absurd h;
+    opened = omega arith;
+    fetches = quorums_first c first_desk.state.number;
   };
   of_log = record {
     fits = first_fits c me some few mine fits;
     prepares = λ i. gated _ _ (no_digest c me some few mine fits i);
     commits = λ i. gated _ _ (no_digest c me some few mine fits i);
   };
+  low = omega arith;
 }
 
 pub held_order : HeldOrder

@@ -11,26 +11,28 @@ use Rattle.ordering.specs.Keeping.{IsLog}
 use Rattle.ordering.proofs.Keeping.{in_span, batch_kept, prepare_kept, commit_kept}
 use Rattle.ordering.proofs.Reading.{batches_are_logged, prepares_count, commits_count}
 use Rattle.protocol.specs.System.Configuration.{Configuration, primary}
-use Rattle.protocol.specs.Replica.Certificates.{are_genuine, batch_from, prepare_from, commit_from}
+use Rattle.protocol.specs.Replica.Certificates.{are_genuine, checkpoint_from, with_checkpoint, batch_from, prepare_from, commit_from}
 use Rattle.protocol.proofs.Words.Options.{or_else_alone}
-use Rattle.replica_histories.specs.Logs.{Stays, Takes}
+use Rattle.replica_histories.specs.Logs.{above_mark, Stays, Takes}
 
 -- ---- what changes nothing
 
 pub stays_itself : (log : LogData) → IsLog log → Stays log log
-stays_itself log is = record { is_log = is; me = refl; faults = refl; span = refl; view = refl; active = refl; low = refl }
+stays_itself log is = record { is_log = is; me = refl; faults = refl; span = refl; view = refl; active = refl; low = refl; checkpoints = refl }
 
 -- a body that adds nothing to what is read
 pub takes_nothing : (c : Configuration) (me : ℕ) (said : Option Body) (log : LogData) → IsLog log
     → ((i : ℕ) → logs.is_in_marks log i ≡ true → logs.logged_batch log i ≡ None → option_and_then (batch_from c me log.view i) said ≡ None)
     → ((i s : ℕ) → logs.is_in_marks log i ≡ true → logs.prepare_of log i s ≡ None → option_and_then (prepare_from c s log.view i) said ≡ None)
     → ((i s : ℕ) → logs.is_in_marks log i ≡ true → logs.commit_of log i s ≡ None → option_and_then (commit_from s log.view i) said ≡ None)
+    → ((s : ℕ) → above_mark log.low (with_checkpoint s (option_and_then checkpoint_from said) (logs.checkpoints_of log s)) ≡ above_mark log.low (logs.checkpoints_of log s))
     → Takes c me said log log
-takes_nothing c me said log is batch prepare commit = record {
+takes_nothing c me said log is batch prepare commit checkpoint = record {
   stays = stays_itself log is;
   batch = λ i k. keeps (logs.logged_batch log i) (option_and_then (batch_from c me log.view i) said) (batch i k);
   prepare = λ i s k. keeps (logs.prepare_of log i s) (option_and_then (prepare_from c s log.view i) said) (prepare i s k);
   commit = λ i s k. keeps (logs.commit_of log i s) (option_and_then (commit_from s log.view i) said) (commit i s k);
+  checkpoint = checkpoint;
 }
   where
     keeps : (o later : Option (List ℕ)) → (o ≡ None → later ≡ None) → o ≡ or_else o later
@@ -53,12 +55,12 @@ passing_two : (a x y : Bool) → x ≡ true → y ≡ true → (a && x && y) ≡
 passing_two true x y e f = rw (e, f) refl
 passing_two false x y e f = refl
 
-failing : (a x y z : Bool) → y ≡ false → (a && x && y && z) ≡ false
+pub failing : (a x y z : Bool) → y ≡ false → (a && x && y && z) ≡ false
 failing true true y z e = rw e refl
 failing true false y z e = refl
 failing false x y z e = refl
 
-failing_two : (a x y : Bool) → y ≡ false → (a && x && y) ≡ false
+pub failing_two : (a x y : Bool) → y ≡ false → (a && x && y) ≡ false
 failing_two true true y e = e
 failing_two true false y e = refl
 failing_two false x y e = refl
@@ -94,6 +96,7 @@ prepare_taken c me s i digest vote log is within known backup sender same = reco
     view = refl;
     active = refl;
     low = refl;
+    checkpoints = refl;
   };
   batch = λ j k. (prepares_count log j i s vote is within).0 ∙ sym (or_else_alone (logs.logged_batch log j) None refl);
   prepare = λ j x k. at_number i j (logs.prepare_of log j x) (logs.prepare_of (logs.with_prepare log i vote) j x) (then_some (vote.sender.0 == x) vote.digest)
@@ -102,6 +105,7 @@ prepare_taken c me s i digest vote log is within known backup sender same = reco
       (λ from. subst (λ (y : ℕ). not (y == primary c log.view) ≡ true) (eqb-true s x from) backup)) ∙ cast x)
       (λ e. failing (s == x) (log.view == log.view) (i == j) (not (x == primary c log.view)) (turned j i false e));
   commit = λ j x k. (prepares_count log j i x vote is within).2 ∙ sym (or_else_alone (logs.commit_of log j x) None refl);
+  checkpoint = λ x. refl;
 }
   where
     cast : (x : ℕ) → then_some (s == x) digest ≡ then_some (vote.sender.0 == x) vote.digest
@@ -120,6 +124,7 @@ commit_taken c me s i digest vote log is within known sender same = record {
     view = refl;
     active = refl;
     low = refl;
+    checkpoints = refl;
   };
   batch = λ j k. (commits_count log j i s vote is within).0 ∙ sym (or_else_alone (logs.logged_batch log j) None refl);
   prepare = λ j x k. (commits_count log j i x vote is within).1 ∙ sym (or_else_alone (logs.prepare_of log j x) None refl);
@@ -127,6 +132,7 @@ commit_taken c me s i digest vote log is within known sender same = record {
       ((s == x) && (log.view == log.view) && (i == j)) digest ((commits_count log j i x vote is within).2)
       (λ e. ap (λ (b : Bool). then_some b digest) (passing_two (s == x) (log.view == log.view) (i == j) (eq-eqb log.view log.view refl) (turned j i true e)) ∙ cast x)
       (λ e. failing_two (s == x) (log.view == log.view) (i == j) (turned j i false e));
+  checkpoint = λ x. refl;
 }
   where
     cast : (x : ℕ) → then_some (s == x) digest ≡ then_some (vote.sender.0 == x) vote.digest
@@ -145,10 +151,12 @@ batch_taken c me s i batch log is within primary_is genuine free = record {
     view = refl;
     active = refl;
     low = refl;
+    checkpoints = refl;
   };
   batch = λ j k. read j (j == i) refl ((batches_are_logged log j i s batch is within).0);
   prepare = λ j x k. (batches_are_logged log j i x batch is within).1 ∙ sym (or_else_alone (logs.prepare_of log j x) None refl);
   commit = λ j x k. (batches_are_logged log j i x batch is within).2 ∙ sym (or_else_alone (logs.commit_of log j x) None refl);
+  checkpoint = λ x. refl;
 }
   where
     test : ℕ → Bool

@@ -1,5 +1,6 @@
 -- Laws of the words on a log: its marks, its primary, and what is read of it.
-use Rattle.std.proofs.Common.{◌≡◌, ℕ, ◌+◌, ◌*◌, ◌%◌, ◌^◌, Bool, true, false, cond, ◌&&◌, List, refl, sym, ap, ◌∙◌, Option, Some, None, option_map, nat_lt, nat_le}
+use Rattle.std.proofs.Common.{◌≡◌, ℕ, ◌+◌, ◌*◌, ◌%◌, ◌^◌, ◌≤◌, Bool, true, false, cond, ◌&&◌, List, refl, sym, ap, ◌∙◌, Option, Some, None, option_map, nat_lt, nat_le}
+use Rattle.std.proofs.lemmas.Bool.{le-ltb}
 use Rattle.std.proofs.lemmas.Slice.Eq.{bytes_eq-Decides}
 use Rattle.sha2.specs.Sha256.{sha256}
 use Rattle.quorum.specs.Votes.{has_digest}
@@ -46,6 +47,10 @@ marks_same c log i e = ap (λ (n : ℕ). nat_lt log.low i && nat_le i (log.low +
 -- the marks of a log that fits are those of the history
 pub marks_are : (c : Configuration) (me : ℕ) (log : LogData) (past : List Entry) (i : ℕ) → FitsLog c me log past → is_in_marks c (low c me past) i ≡ logs.is_in_marks log i
 marks_are c me log past i f = ap (λ (h : ℕ). is_in_marks c h i) f.low ∙ marks_same c log i f.span
+
+-- nothing up to the low mark is in them
+pub below_marks : (log : LogData) (i : ℕ) → i ≤ log.low → logs.is_in_marks log i ≡ false
+below_marks log i l = rw (le-ltb log.low i l) refl
 
 pub marks_stay : (old new : LogData) (i : ℕ) → Stays old new → logs.is_in_marks new i ≡ logs.is_in_marks old i
 marks_stay old new i s = rw (s.low, s.span) refl

@@ -1,5 +1,5 @@
 -- Where a replica begins, and what its history is in the end.
-use Rattle.std.specs.Prelude.{ℕ, ◌<◌, ◌≤◌, List, [], ◌∷◌}
+use Rattle.std.specs.Prelude.{ℕ, ◌<◌, ◌≤◌, List, [], ◌∷◌, None}
 use Rattle.ordering.specs.Log.{LogData, new_log}
 use Rattle.protocol.specs.System.Configuration.{Configuration, replicas, span}
 use Rattle.protocol.specs.System.Trace.{Entry}
@@ -10,7 +10,13 @@ use Rattle.replica_histories.specs.Owing.{IsOrderingReplica}
 
 -- nothing is held but the opening state
 abbrev pub first_desk : Desk
-first_desk = record { state = opening; snapshots = snapshot_of opening ∷ []; waiting = []; frames = [] }
+first_desk = record {
+  state = opening;
+  snapshots = snapshot_of opening ∷ [];
+  waiting = [];
+  frames = [];
+  transfer = None;
+}
 
 -- A replica begins with the opening state and a new log.
 abbrev pub FirstHold : Type 0

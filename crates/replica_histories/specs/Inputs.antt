@@ -1,18 +1,20 @@
 -- What an input does to what a replica holds, and which messages count (Castro and Liskov, TOCS 2002, on normal-case
 -- operation). Which ordering messages are taken the log says by its faults.
-use Rattle.std.specs.Prelude.{◌≡◌, ℕ, ◌+◌, ◌-◌, ◌<◌, ◌⊎◌, true, false, List, [], ◌∷◌, nat_le, ◌==◌, if◌then◌else◌, Option, Some, None, is_some, ⊤}
+use Rattle.std.specs.Prelude.{◌≡◌, ℕ, ◌+◌, ◌-◌, ◌*◌, ◌<◌, ◌⊎◌, true, false, ◌&&◌, List, [], ◌∷◌, nat_le, nat_lt, ◌==◌, if◌then◌else◌, Option, Some, None, is_some, ⊤}
 use Rattle.std.specs.Option.{option_map_or}
 use Rattle.tuple_codec.specs.Operations.{Operation}
 use Rattle.terms.specs.declared.order.Mode.{Mode}
 use Rattle.terms.specs.declared.order.Mode.TheVariants as modes
-use Rattle.wire.specs.Messages.{BodyData as Body, MessageData as Message, request as Request, pre_prepare as PrePrepare, prepare as Prepare, commit as Commit}
+use Rattle.terms.specs.declared.state.Level.TheVariants as levels
+use Rattle.wire.specs.Messages.{BodyData as Body, MessageData as Message, request as Request, CheckpointEntryData as CheckpointEntry, pre_prepare as PrePrepare, prepare as Prepare, commit as Commit, checkpoint as Checkpoint, fetch as Fetch}
 use Rattle.signing.specs.Heard.{heard}
 use Rattle.reply_cache.specs.Replies.{Kept}
 use Rattle.ordering.specs.declared.votes.Vote.{Vote}
 use Rattle.ordering.specs.declared.dropped.Dropped.{Dropped}
 use Rattle.ordering.specs.Log as logs
 use Rattle.ordering.specs.Log.{LogData}
-use Rattle.ordering.specs.Taking.{preprepare_fault, prepare_fault, commit_fault}
+use Rattle.ordering.specs.Checkpoints.{says_checkpoint}
+use Rattle.ordering.specs.Taking.{preprepare_fault, prepare_fault, commit_fault, checkpoint_fault}
 use Rattle.protocol.specs.System.Configuration.{Configuration, members}
 use Rattle.protocol.specs.System.Trace.{Entry, Has}
 use Rattle.protocol.specs.System.Trace.Entry.{Got, Tick}
@@ -20,8 +22,11 @@ use Rattle.protocol.specs.Replica.Certificates.{taken, are_genuine}
 use Rattle.protocol.specs.Replica.State.{State, kept_of, last_time}
 use Rattle.protocol.specs.Replica.RightReplica.{Point, reply_of, waiting_after}
 use Rattle.protocol.specs.Replica.Owed.{IsNoOlder, Counts}
-use Rattle.replica_histories.specs.Desk.{Desk, point_of}
+use Rattle.replica_histories.specs.Desk.{Desk, point_of, desk_from}
 use Rattle.replica_histories.specs.Logs.{FitsLog, Takes}
+use Rattle.replica_histories.specs.Marks.{checked_log}
+use Rattle.replica_histories.specs.Transfers.{open_number}
+use Rattle.replica_histories.specs.TransfersAnswers.{AnswersFetches}
 use Rattle.replica_histories.specs.Events.{Fits, Holds, start_at}
 
 -- ---- what a request asks for
@@ -51,17 +56,38 @@ pub record Enters (c : Configuration) (me : ℕ) (bytes : List ℕ) (desk new : 
   pub state : new.state ≡ desk.state
   pub snapshots : new.snapshots ≡ desk.snapshots
   pub waiting : new.waiting ≡ waiting_after c me (point_of desk [] []) bytes
+  pub transfer : new.transfer ≡ desk.transfer
   pub frames : (frame : List ℕ) → Has (λ x. x ≡ frame) new.frames
       → Has (λ x. x ≡ frame) desk.frames ⊎ ((frame ≡ bytes) × (is_some (heard (members c) me bytes) ≡ true))
   pub due_is : due ≡ asked desk.state (heard (members c) me bytes)
 
--- Bytes that are got begin an event, where they bring no new view.
+-- Bytes that are got begin an event, where they bring no new view and move no mark.
 abbrev pub InputsFit : Type 0
 InputsFit =
     (c : Configuration) (me : ℕ) (desk new : Desk) (log after : LogData) (due : List Message) (past : List Entry)
     (bytes : List ℕ) (held : Holds c me desk log past)
     → taken c past (Got me bytes) ≡ None → Enters c me bytes desk new log after due
     → Fits c me (start_at c me desk log past held (Got me bytes)) new after due []
+
+-- The fetch that is due where a quorum has the checkpoint, the own not among them, and its number is above what is
+-- executed and open.
+abbrev pub fetch_due : Desk → LogData → CheckpointEntry → List Message
+fetch_due desk log entry =
+    if logs.is_stable log entry then [] else
+    if nat_le (2 * log.faults + 1) (logs.count_checkpoints log entry)
+    && nat_lt (open_number desk.state.number desk.transfer) entry.number
+    then Fetch entry.number levels.Root 0 ∷ [] else []
+
+-- A checkpoint that the log has no fault for begins an event: the log counts it and is cut where that makes it stable,
+-- and the snapshots below the low mark go. Where a quorum has it then that is ahead, its state is to be fetched.
+abbrev pub CheckpointsEnter : Type 0
+CheckpointsEnter =
+    (c : Configuration) (me : ℕ) (desk : Desk) (log : LogData) (past : List Entry) (s : ℕ) (entry : CheckpointEntry)
+    (bytes : List ℕ) (held : Holds c me desk log past)
+    → heard (members c) me bytes ≡ Some (record { sender = s; message = Checkpoint entry.number entry.digest })
+    → checkpoint_fault log s entry.number entry.digest ≡ None
+    → Fits c me (start_at c me desk log past held (Got me bytes)) (desk_from (checked_log log s entry).low desk)
+    (checked_log log s entry) (fetch_due desk (logs.with_checkpoint_of log s entry) entry) []
 
 -- A tick begins an event, and changes nothing of itself.
 abbrev pub TicksFit : Type 0
@@ -101,6 +127,16 @@ CommitsCount =
     → Counts c me past point bytes s (Commit v i digest)
     × Takes c me (heard (members c) me bytes) log (logs.with_commit log i vote)
 
+-- A checkpoint counts that the log has no fault for, and that is one of its sender's latest then.
+abbrev pub CheckpointsCount : Type 0
+CheckpointsCount =
+    (c : Configuration) (me : ℕ) (log : LogData) (past : List Entry) (point : Point) (s : ℕ) (entry : CheckpointEntry)
+    (bytes : List ℕ) → FitsLog c me log past
+    → heard (members c) me bytes ≡ Some (record { sender = s; message = Checkpoint entry.number entry.digest })
+    → checkpoint_fault log s entry.number entry.digest ≡ None
+    → says_checkpoint entry (logs.checkpoints_of (logs.with_checkpoint_of log s entry) s) ≡ true
+    → Counts c me past point bytes s (Checkpoint entry.number entry.digest)
+
 -- A client's request counts where its reply is kept, or where it is newer than what ran and not older than what waits.
 abbrev pub RequestsCount : Type 0
 RequestsCount =
@@ -135,13 +171,30 @@ CommitsDrop =
     → heard (members c) me bytes ≡ Some (record { sender = s; message = Commit v i digest })
     → commit_fault log s v i digest ≡ Some fault → Takes c me (heard (members c) me bytes) log log
 
--- what is heard, if anything, is no pre-prepare, prepare or commit
+abbrev pub CheckpointsDrop : Type 0
+CheckpointsDrop =
+    (c : Configuration) (me : ℕ) (log : LogData) (past : List Entry) (s : ℕ) (entry : CheckpointEntry) (bytes : List ℕ)
+    (fault : Dropped) → FitsLog c me log past
+    → heard (members c) me bytes ≡ Some (record { sender = s; message = Checkpoint entry.number entry.digest })
+    → checkpoint_fault log s entry.number entry.digest ≡ Some fault → Takes c me (heard (members c) me bytes) log log
+
+-- A checkpoint that isn't one of its sender's latest leaves the log as it is.
+abbrev pub EarlyCheckpointsDrop : Type 0
+EarlyCheckpointsDrop =
+    (c : Configuration) (me : ℕ) (log : LogData) (past : List Entry) (s : ℕ) (entry : CheckpointEntry) (bytes : List ℕ)
+    → FitsLog c me log past
+    → heard (members c) me bytes ≡ Some (record { sender = s; message = Checkpoint entry.number entry.digest })
+    → says_checkpoint entry (logs.checkpoints_of (logs.with_checkpoint_of log s entry) s) ≡ false
+    → (logs.with_checkpoint_of log s entry ≡ log) × Takes c me (heard (members c) me bytes) log log
+
+-- what is heard, if anything, is no pre-prepare, prepare, commit or checkpoint
 abbrev pub IsBesideLog : Option Body → Type 0
 IsBesideLog None = ⊤
 IsBesideLog (Some body) = elim body.message [
   | PrePrepare v i batch ↦ ⊥
   | Prepare v i digest ↦ ⊥
   | Commit v i digest ↦ ⊥
+  | Checkpoint k root ↦ ⊥
   | _ ↦ ⊤
 ]
 
@@ -153,11 +206,14 @@ OthersDrop =
 
 -- ---- inputs that pass
 
--- Bytes that change neither desk nor log and make nothing due leave both as they hold, with no output; so does a tick.
+-- Bytes that change neither desk nor log, make nothing due and fetch nothing that is kept leave both as they hold, with
+-- no output; so does a tick.
 abbrev pub InputsPass : Type 0
 InputsPass =
     (c : Configuration) (me : ℕ) (desk : Desk) (log : LogData) (past : List Entry) (bytes : List ℕ)
-    → Holds c me desk log past → taken c past (Got me bytes) ≡ None → Enters c me bytes desk desk log log []
+    (held : Holds c me desk log past)
+    → taken c past (Got me bytes) ≡ None → Enters c me bytes desk desk log log []
+    → AnswersFetches c me past (Got me bytes) [] held.of_desk.point
     → Holds c me desk log (Got me bytes ∷ past)
 
 abbrev pub TicksPass : Type 0

@@ -1,8 +1,15 @@
 pub mod Desk
 pub mod Logs
 pub mod Owing
+pub mod Running
+pub mod Transfers
+pub mod TransfersAnswers
+pub mod TransfersQuorums
 pub mod Events
 pub mod Outputs
 pub mod Inputs
 pub mod Marks
+pub mod Fetching
+pub mod Answering
+pub mod Numbers
 pub mod Histories

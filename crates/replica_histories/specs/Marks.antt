@@ -1,56 +1,64 @@
 -- The log where the marks move: a checkpoint that becomes stable cuts the rows up to it (Castro and Liskov, TOCS 2002,
 -- on garbage collection).
-use Rattle.std.specs.Prelude.{◌≡◌, ℕ, ◌≤◌, ◌<◌, ◌⊎◌, Bool, true, false, ◌&&◌, List, ◌∷◌, max, if◌then◌else◌, Some, None}
-use Rattle.quorum.specs.Quorum.{count_below}
+use Rattle.std.specs.Prelude.{◌≡◌, ℕ, ◌^◌, ◌≤◌, ◌<◌, true, List, ◌∷◌, if◌then◌else◌, Some, None}
 use Rattle.wire.specs.Messages.{CheckpointEntryData as CheckpointEntry, checkpoint as Checkpoint}
 use Rattle.ordering.specs.Log as logs
 use Rattle.ordering.specs.Log.{LogData}
 use Rattle.ordering.specs.Keeping.{IsLog}
-use Rattle.protocol.specs.System.Configuration.{Configuration, replicas, span}
+use Rattle.protocol.specs.System.Configuration.{Configuration, is_number}
 use Rattle.protocol.specs.System.Trace.{Entry}
-use Rattle.protocol.specs.Replica.Selection.{is_quorum}
-use Rattle.protocol.specs.Replica.Certificates.{brought, new_view_in, change_sent, installed_at, checkpoint_from, with_checkpoint, says_checkpoint, checkpoints_of, view, target, low, logged, prepare_of, commit_of}
+use Rattle.protocol.specs.System.Trace.Entry.{Installed}
+use Rattle.protocol.specs.Replica.Certificates.{brought, is_stable, low}
+use Rattle.replica_histories.specs.Logs.{FitsLog}
 
--- What is stable by the checkpoints that are held of each sender, and the low mark behind one more.
-abbrev pub is_stable_by : Configuration → ℕ → (ℕ → List CheckpointEntry) → CheckpointEntry → Bool
-is_stable_by c me held entry =
-    is_quorum c (count_below (λ s. says_checkpoint entry (held s)) (replicas c)) && says_checkpoint entry (held me)
+-- The log with one more checkpoint of the replica s, cut where that makes it stable.
+abbrev pub cut_if_stable : LogData → CheckpointEntry → LogData
+cut_if_stable log entry = if logs.is_stable log entry then logs.cut_to log entry.number else log
 
-abbrev pub low_by : Configuration → ℕ → (ℕ → List CheckpointEntry) → ℕ → CheckpointEntry → ℕ
-low_by c me held low entry = max low (if is_stable_by c me held entry then entry.number else 0)
+abbrev pub checked_log : LogData → ℕ → CheckpointEntry → LogData
+checked_log log s entry = cut_if_stable (logs.with_checkpoint_of log s entry) entry
 
--- Log and checkpoints are those of the history: each reading within the marks, and nothing is logged or counted above
--- them. Below them the log has forgotten.
-pub record FitsMarks (c : Configuration) (me : ℕ) (log : LogData) (held : ℕ → List CheckpointEntry)
-    (history : List Entry) : Type 0 where
-  pub span : log.span ≡ span c
-  pub view : view c history ≡ log.view
-  pub target : target history ≤ log.view
-  pub low : low c me history ≡ log.low
-  pub batches : (i : ℕ) → logs.is_in_marks log i ≡ true → logged c me history log.view i ≡ logs.logged_batch log i
-  pub prepares : (i s : ℕ) → logs.is_in_marks log i ≡ true
-      → prepare_of c me history log.view i s ≡ logs.prepare_of log i s
-  pub commits : (i s : ℕ) → logs.is_in_marks log i ≡ true
-      → commit_of c me history log.view i s ≡ logs.commit_of log i s
-  pub within : (v i : ℕ) (batch : List ℕ) → logged c me history v i ≡ Some batch
-      → (v ≡ log.view) × ((i ≤ log.low) ⊎ (logs.is_in_marks log i ≡ true))
-  pub above : (i s : ℕ) → log.low < i → logs.is_in_marks log i ≡ false
-      → (prepare_of c me history log.view i s ≡ None) × (commit_of c me history log.view i s ≡ None)
-  pub checkpoints : (s : ℕ) → checkpoints_of c history s ≡ held s
+-- up to the number the log asks for no vote
+abbrev pub IsVotedTo : LogData → ℕ → Type 0
+IsVotedTo log h = (i : ℕ) → i ≤ h → (logs.due_prepare log i ≡ None) × (logs.due_commit log i ≡ None)
 
--- an entry that brings a checkpoint, and nothing else
+-- what is brought is this checkpoint
 pub record BringsCheckpoint (c : Configuration) (e : Entry) (s : ℕ) (entry : CheckpointEntry) : Type 0 where
   pub brings : brought c e ≡ Some (record { sender = s; message = Checkpoint entry.number entry.digest })
-  pub numbered : checkpoint_from (record { sender = s; message = Checkpoint entry.number entry.digest })
-      ≡ Some (s, entry)
-  pub no_view : new_view_in c e ≡ None
-  pub no_change : change_sent e ≡ 0
-  pub not_installed : installed_at e ≡ 0
+  pub number : is_number entry.number ≡ true
 
--- A checkpoint, got or sent, moves the marks as far as it makes stable: the log is cut there.
+-- A checkpoint, got or sent, is counted, and where it becomes stable the marks move, and the log is cut.
 abbrev pub MarksMove : Type 0
 MarksMove =
-    (c : Configuration) (me : ℕ) (log : LogData) (held next : ℕ → List CheckpointEntry) (past : List Entry) (e : Entry)
-    (s : ℕ) (entry : CheckpointEntry) → IsLog log → FitsMarks c me log held past → BringsCheckpoint c e s entry
-    → ((x : ℕ) → next x ≡ with_checkpoint x (Some (s, entry)) (held x))
-    → FitsMarks c me (logs.cut_to log (low_by c me next log.low entry)) next (e ∷ past)
+    (c : Configuration) (me : ℕ) (log : LogData) (past : List Entry) (e : Entry) (s : ℕ) (entry : CheckpointEntry)
+    → FitsLog c me log past → BringsCheckpoint c e s entry → s < logs.replicas log
+    → IsVotedTo log (checked_log log s entry).low → FitsLog c me (checked_log log s entry) (e ∷ past)
+
+-- An installation moves the marks to its number.
+abbrev pub InstallationsMove : Type 0
+InstallationsMove =
+    (c : Configuration) (me : ℕ) (log : LogData) (past : List Entry) (k : ℕ) (root : List ℕ)
+    → FitsLog c me log past → k < 2 ^ 48 → IsVotedTo log k
+    → FitsLog c me (logs.cut_to log k) (Installed me k root ∷ past)
+
+-- A cut log asks for no more: what it asks for above its low mark, or has committed there, it had before.
+abbrev pub CutsAskNoMore : Type 0
+CutsAskNoMore =
+    (log : LogData) (h i : ℕ) → IsLog log
+    → (logs.due_prepare (logs.cut_to log h) i
+    ≡ (if logs.is_in_marks (logs.cut_to log h) i then logs.due_prepare log i else None))
+    × (logs.due_commit (logs.cut_to log h) i
+    ≡ (if logs.is_in_marks (logs.cut_to log h) i then logs.due_commit log i else None))
+    × (logs.committed_batch (logs.cut_to log h) i
+    ≡ (if logs.is_in_marks (logs.cut_to log h) i then logs.committed_batch log i else None))
+
+-- Nothing above the low mark is stable, by the history or by a log that fits it.
+abbrev pub StableAreLow : Type 0
+StableAreLow =
+    (c : Configuration) (me : ℕ) (history : List Entry) (entry : CheckpointEntry)
+    → is_stable c me history entry ≡ true → entry.number ≤ low c me history
+
+abbrev pub StableAreCut : Type 0
+StableAreCut =
+    (c : Configuration) (me : ℕ) (log : LogData) (history : List Entry) (entry : CheckpointEntry)
+    → FitsLog c me log history → logs.is_stable log entry ≡ true → entry.number ≤ log.low

@@ -1,7 +1,8 @@
 -- What each output does to what a replica holds, and when it may be given (Castro and Liskov, TOCS 2002, on
--- normal-case operation). What asks for an output is an answer of the log.
-use Rattle.std.specs.Prelude.{◌≡◌, ℕ, suc, ◌+◌, ◌%◌, true, List, [], ◌∷◌, map, ◌==◌, if◌then◌else◌, Some, None, AllPairs}
-use Rattle.wire.specs.Messages.{MessageData as Message, pre_prepare as PrePrepare, prepare as Prepare, commit as Commit}
+-- normal-case operation, garbage collection and state transfer). What asks for an output is an answer of the log.
+use Rattle.std.specs.Prelude.{◌≡◌, ℕ, suc, ◌+◌, ◌%◌, ◌^◌, ◌<◌, true, List, [], ◌∷◌, ◌++◌, map, ◌==◌, if◌then◌else◌, Some, None, AllPairs}
+use Rattle.partition_tree.specs.Digests.{root_of as root_of_pages}
+use Rattle.wire.specs.Messages.{MessageData as Message, CheckpointEntryData as CheckpointEntry, pre_prepare as PrePrepare, prepare as Prepare, commit as Commit, checkpoint as Checkpoint}
 use Rattle.wire.specs.Words.{requests_of}
 use Rattle.wire.specs.Lists.{Each}
 use Rattle.reply_cache.specs.Replies.{Kept}
@@ -10,13 +11,16 @@ use Rattle.ordering.specs.Log as logs
 use Rattle.ordering.specs.Log.{LogData}
 use Rattle.protocol.specs.System.Configuration.{Configuration}
 use Rattle.protocol.specs.System.Frames.{IsPosted}
-use Rattle.protocol.specs.System.Trace.{Entry, Has}
-use Rattle.protocol.specs.System.Trace.Entry.{Executed, Sent}
-use Rattle.protocol.specs.Replica.State.{State, Ran, execute, ran_in}
+use Rattle.protocol.specs.System.Trace.{Entry, Once, Has}
+use Rattle.protocol.specs.System.Trace.Entry.{Executed, Installed, Sent}
+use Rattle.protocol.specs.Replica.State.{State, IsState, Ran, execute, ran_in, root_of, pages_of}
 use Rattle.protocol.specs.Replica.RightReplica.{others, reply_of, still_waiting}
-use Rattle.protocol.specs.Replica.Owed.{HasRequest, AreDifferent}
-use Rattle.replica_histories.specs.Desk.{Desk, Snapshot, snapshot_of}
-use Rattle.replica_histories.specs.Events.{Start, Fits, IsNumberedIn}
+use Rattle.protocol.specs.Replica.Owed.{IsSaying, HasRequest, IsNumbered, AreDifferent}
+use Rattle.state_transfer.specs.Transfer.{TransferData}
+use Rattle.replica_histories.specs.Desk.{Desk, Snapshot, snapshot_of, kept_from, desk_from}
+use Rattle.replica_histories.specs.Marks.{checked_log}
+use Rattle.replica_histories.specs.Transfers.{RestsOn, still_open}
+use Rattle.replica_histories.specs.Events.{Start, behind, Fits}
 
 -- ---- votes
 
@@ -41,20 +45,23 @@ CommitsFit =
 -- ---- a batch of the primary's own
 
 -- The number is free at the primary, and the batch is of different requests that are held, none of which has a number.
-pub record MayNumber (c : Configuration) (desk : Desk) (log : LogData) (i : ℕ) (batch : List ℕ) : Type 0 where
+pub record MayNumber (c : Configuration) (me : ℕ) (desk : Desk) (log : LogData) (history : List Entry) (i : ℕ)
+    (batch : List ℕ) : Type 0 where
   pub within : logs.is_in_marks log i ≡ true
   pub own : logs.primary log log.view ≡ log.me
   pub free : logs.logged_batch log i ≡ None
   pub held : Each (λ frame. Has (λ x. x ≡ frame) desk.frames) (requests_of batch)
   pub differ : AllPairs (AreDifferent c) (requests_of batch)
-  pub fresh : (client timestamp : ℕ) → HasRequest c client timestamp batch → IsNumberedIn c log client timestamp → ⊥
+  pub fresh : (client timestamp : ℕ) → HasRequest c client timestamp batch
+      → IsNumbered c me history log.view client timestamp → ⊥
 
 -- The pre-prepare of such a batch.
 abbrev pub BatchesFit : Type 0
 BatchesFit =
     (c : Configuration) (me : ℕ) (s : Start) (desk : Desk) (log : LogData) (due : List Message) (outputs : List Entry)
     (i : ℕ) (batch bytes : List ℕ)
-    → MayNumber c desk log i batch → IsPosted c me (PrePrepare log.view i batch) (others c me) bytes
+    → MayNumber c me desk log (behind s outputs) i batch
+    → IsPosted c me (PrePrepare log.view i batch) (others c me) bytes
     → Fits c me s desk log due outputs → Fits c me s desk (logs.with_batch log i batch) due (Sent me bytes ∷ outputs)
 
 -- ---- executions and replies
@@ -63,21 +70,26 @@ BatchesFit =
 abbrev pub replies_to : List Ran → List Message
 replies_to ran = map (λ r. reply_of r.call.client r.kept) ran
 
+-- the checkpoint of a state, where it is kept
+abbrev pub checkpoint_due : Configuration → State → List Message
+checkpoint_due c st = if st.number % c.period == 0 then Checkpoint st.number (root_of st) ∷ [] else []
+
 -- what is kept behind a state
 abbrev pub snapshots_behind : Configuration → State → List Snapshot → List Snapshot
 snapshots_behind c st snapshots = if st.number % c.period == 0 then snapshot_of st ∷ snapshots else snapshots
 
--- the desk behind an execution, with these frames still held
+-- the desk behind an execution, with these frames still held; a transfer that it reaches is open no more
 abbrev pub executed_desk : Configuration → Desk → List ℕ → List (List ℕ) → Desk
 executed_desk c desk batch frames = record {
   state = execute c desk.state batch;
   snapshots = snapshots_behind c (execute c desk.state batch) desk.snapshots;
   waiting = still_waiting (execute c desk.state batch) desk.waiting;
   frames = frames;
+  transfer = still_open (execute c desk.state batch).number desk.transfer;
 }
 
 -- The execution of the batch that the log has committed for the next number, once nothing is due. Its replies are due
--- then.
+-- then, and the checkpoint of the new state.
 abbrev pub ExecutesFit : Type 0
 ExecutesFit =
     (c : Configuration) (me : ℕ) (s : Start) (desk : Desk) (log : LogData) (outputs : List Entry)
@@ -86,7 +98,8 @@ ExecutesFit =
     → ((frame : List ℕ) → Has (λ x. x ≡ frame) frames → Has (λ x. x ≡ frame) desk.frames)
     → Fits c me s desk log [] outputs
     → Fits c me s (executed_desk c desk batch frames) log
-    (replies_to (ran_in c (suc desk.state.number) desk.state (requests_of batch)))
+    (replies_to (ran_in c (suc desk.state.number) desk.state (requests_of batch))
+    ++ checkpoint_due c (execute c desk.state batch))
     (Executed me (suc desk.state.number) batch ∷ outputs)
 
 -- The first reply that is due.
@@ -97,9 +110,51 @@ RepliesFit =
     → IsPosted c me (reply_of k kept) ((256 + k) ∷ []) bytes
     → Fits c me s desk log (reply_of k kept ∷ rest) outputs → Fits c me s desk log rest (Sent me bytes ∷ outputs)
 
+-- ---- checkpoints
+
+-- The checkpoint that is the first message due, where the log asks for no vote: the log counts it and is cut where that
+-- makes it stable, and the snapshots below the low mark go.
+abbrev pub CheckpointsFit : Type 0
+CheckpointsFit =
+    (c : Configuration) (me : ℕ) (s : Start) (desk : Desk) (log : LogData) (rest : List Message) (outputs : List Entry)
+    (entry : CheckpointEntry) (bytes : List ℕ)
+    → ((i : ℕ) → logs.due_prepare log i ≡ None) → ((i : ℕ) → logs.due_commit log i ≡ None)
+    → IsPosted c me (Checkpoint entry.number entry.digest) (others c me) bytes
+    → Fits c me s desk log (Checkpoint entry.number entry.digest ∷ rest) outputs
+    → Fits c me s (desk_from (checked_log log me entry).low desk) (checked_log log me entry) rest
+    (Sent me bytes ∷ outputs)
+
+-- ---- installations
+
+-- what an installation leaves at the desk, with these frames still held; no transfer is open any more
+abbrev pub installed_desk : Desk → State → List (List ℕ) → Desk
+installed_desk desk st frames = record {
+  state = st;
+  snapshots = kept_from st.number (snapshot_of st ∷ desk.snapshots);
+  waiting = still_waiting st desk.waiting;
+  frames = frames;
+  transfer = None;
+}
+
+-- The installation of the state whose pages the open transfer holds, where they have the root that is wanted, once
+-- nothing is due and where the log asks for no vote: the log is cut at its number.
+abbrev pub InstallationsFit : Type 0
+InstallationsFit =
+    (c : Configuration) (me : ℕ) (s : Start) (desk : Desk) (log : LogData) (outputs : List Entry) (t : TransferData)
+    (st : State) (frames : List (List ℕ))
+    → desk.transfer ≡ Some t → RestsOn t desk.state → root_of_pages t.held ≡ t.root
+    → IsState st → st.number ≡ t.number → pages_of st ≡ t.held → t.number < 2 ^ 48
+    → ((i : ℕ) → logs.due_prepare log i ≡ None)
+    → ((i : ℕ) → logs.due_commit log i ≡ None)
+    → ((frame : List ℕ) → Has (λ x. x ≡ frame) frames → Has (λ x. x ≡ frame) desk.frames)
+    → Fits c me s desk log [] outputs
+    → Fits c me s (installed_desk desk st frames) (logs.cut_to log t.number) []
+    (Installed me t.number t.root ∷ outputs)
+
 -- ---- what goes again
 
--- The own prepare of a number, the own commit, and the own batch may be sent again, and change nothing.
+-- The own prepare of a number, the own commit, the own batch, and a checkpoint that was said may be sent again, and
+-- change nothing.
 abbrev pub PreparesGoAgain : Type 0
 PreparesGoAgain =
     (c : Configuration) (me : ℕ) (s : Start) (desk : Desk) (log : LogData) (due : List Message) (outputs : List Entry)
@@ -120,4 +175,12 @@ BatchesGoAgain =
     (i : ℕ) (batch bytes : List ℕ)
     → logs.primary log log.view ≡ me → logs.logged_batch log i ≡ Some batch
     → IsPosted c me (PrePrepare log.view i batch) (others c me) bytes
+    → Fits c me s desk log due outputs → Fits c me s desk log due (Sent me bytes ∷ outputs)
+
+abbrev pub CheckpointsGoAgain : Type 0
+CheckpointsGoAgain =
+    (c : Configuration) (me : ℕ) (s : Start) (desk : Desk) (log : LogData) (due : List Message) (outputs : List Entry)
+    (k : ℕ) (root bytes : List ℕ)
+    → Once (λ earlier e. IsSaying me (Checkpoint k root) e) (behind s outputs)
+    → IsPosted c me (Checkpoint k root) (others c me) bytes
     → Fits c me s desk log due outputs → Fits c me s desk log due (Sent me bytes ∷ outputs)

@@ -1,5 +1,6 @@
--- What a replica owes as long as it knows one view: the part of what a correct replica owes that orders requests
--- (Castro and Liskov, TOCS 2002, on normal-case operation). Checkpoints, reads and state transfer are the other part.
+-- What a replica owes as long as it knows one view: the part of what a correct replica owes that orders requests and
+-- transfers states (Castro and Liskov, TOCS 2002, on normal-case operation, garbage collection and state transfer).
+-- Reads alone are left out.
 use Rattle.std.specs.Prelude.{◌≡◌, ◌≢◌, ◌↔◌, ℕ, suc, ◌+◌, ◌%◌, ◌<◌, ◌⊎◌, true, List, [], ◌∷◌, ◌++◌, reverse, Some, None, ⊤}
 use Rattle.sha2.specs.Sha256.{sha256}
 use Rattle.tuple_codec.specs.Operations.{Operation}
@@ -19,8 +20,9 @@ use Rattle.protocol.specs.Replica.State.{State, Call, Ran, kept_of, tuples, root
 use Rattle.protocol.specs.Replica.RightReplica.{Point, first_point, reply_of, IsStep, KeptState, Executes, digests_at, SafeReplica}
 use Rattle.protocol.specs.Replica.Owed.{Gives, GivesTo, AtOutputs, IsFree, IsNumbered, NumbersOnce, IsDropped, fetching, Owes, IsInput, IsReplica}
 
--- What orders requests: each is numbered once, prepared, committed, executed and answered, and what is dropped brings
--- about nothing. The words are those of what a correct replica owes.
+-- What orders requests: each is numbered once, prepared, committed, executed and answered, the states of every period
+-- get their checkpoints, a kept state's parts are given to whoever fetches them, what a quorum of checkpoints has above
+-- the state is fetched, and what is dropped brings about nothing. The words are those of what a correct replica owes.
 pub record OwesOrdering (c : Configuration) (me : ℕ) (before : List Entry) (input : Entry) (outputs now : List Entry)
     (old new : Point) : Type 0 where
   pub numbers : (v i : ℕ) (call : Call) → is_active_in c now v ≡ true → primary c v ≡ me
@@ -36,20 +38,11 @@ pub record OwesOrdering (c : Configuration) (me : ℕ) (before : List Entry) (in
   pub executes : (v : ℕ) (batch : List ℕ) → Committed c me now v (suc new.state.number) batch → ⊥
   pub replies : (ran : Ran) → Has (λ x. x ≡ ran) new.ran
       → Gives me (reply_of ran.call.client ran.kept) outputs
+  pub checkpoints : (k : ℕ) → Has (λ e. Executes k [] e) outputs → k % c.period ≡ 0
+      → Has (λ st. (st.number ≡ k) × Gives me (Checkpoint k (root_of st)) outputs) new.snapshots
   pub again : (k timestamp : ℕ) (op : Operation) (kept : Kept)
       → Hears c me (record { sender = 256 + k; message = Request timestamp modes.Ordered op }) before input
       → kept_of old.state k ≡ Some kept → kept.timestamp ≡ timestamp → Gives me (reply_of k kept) outputs
-  pub dropped : (bytes : List ℕ) → input ≡ Got me bytes → IsDropped c me before old bytes → outputs ≡ []
-
--- All else: checkpoints, reads, and the parts of states that are asked for, or fetched.
-pub record OwesBeside (c : Configuration) (me : ℕ) (before : List Entry) (input : Entry) (outputs now : List Entry)
-    (old new : Point) : Type 0 where
-  pub checkpoints : (k : ℕ) → Has (λ e. Executes k [] e) outputs → k % c.period ≡ 0
-      → Has (λ st. (st.number ≡ k) × Gives me (Checkpoint k (root_of st)) outputs) new.snapshots
-  pub reads : (client timestamp : ℕ) (op : Operation)
-      → Hears c me (record { sender = client; message = Request timestamp modes.ReadOnly op }) before input
-      → is_read_only op ≡ true
-      → Gives me (Reply client timestamp modes.ReadOnly old.state.number (outcome (tuples old.state) op)) outputs
   pub fetched_digests : (s k index : ℕ) (level : Level) → has_children level ≡ true
       → Hears c me (record { sender = s; message = Fetch k level index }) before input
       → (st : State) → KeptState c me before old k (λ x. x ≡ st)
@@ -61,6 +54,15 @@ pub record OwesBeside (c : Configuration) (me : ℕ) (before : List Entry) (inpu
   pub fetches : (k : ℕ) (root : List ℕ)
       → is_quorum c (count_checkpoints c now (record { number = k; digest = root })) ≡ true
       → new.state.number < k → fetching before < k → Gives me (Fetch k levels.Root 0) outputs
+  pub dropped : (bytes : List ℕ) → input ≡ Got me bytes → IsDropped c me before old bytes → outputs ≡ []
+
+-- All else: reads.
+pub record OwesBeside (c : Configuration) (me : ℕ) (before : List Entry) (input : Entry) (outputs now : List Entry)
+    (old new : Point) : Type 0 where
+  pub reads : (client timestamp : ℕ) (op : Operation)
+      → Hears c me (record { sender = client; message = Request timestamp modes.ReadOnly op }) before input
+      → is_read_only op ≡ true
+      → Gives me (Reply client timestamp modes.ReadOnly old.state.number (outcome (tuples old.state) op)) outputs
 
 -- The two are together what a correct replica owes.
 abbrev pub OwedInParts : Type 0
@@ -81,8 +83,8 @@ ProceedsOrdering c me (e ∷ past) outputs new point =
     (ProceedsOrdering c me past (e ∷ outputs) new old)
     (OwesOrdering c me past e outputs (reverse outputs ++ e ∷ past) old new × ProceedsOrdering c me past [] old old)
 
--- The history of a replica that orders requests in one view: safe and prompt in that; or it stopped, and from some
--- input on there is no output at all.
+-- The history of a replica that orders requests and transfers states in one view, reads left out: safe and prompt in
+-- that; or it stopped, and from some input on there is no output at all.
 abbrev pub IsOrderingReplica : Configuration → ℕ → List Entry → Type 0
 IsOrderingReplica c me [] = ⊤
 IsOrderingReplica c me (e ∷ past) =

@@ -1,57 +1,74 @@
 //! Laws of the events of a replica.
 
 ghost use Rattle.replica_histories.specs.Owing.{OwedInParts, ReplicasOrder, OrderingIsSafe};
-ghost use Rattle.replica_histories.specs.Events.{EventsEnd, HeldAreSettled};
-ghost use Rattle.replica_histories.specs.Outputs.{PreparesFit, CommitsFit, BatchesFit, ExecutesFit, RepliesFit, PreparesGoAgain, CommitsGoAgain, BatchesGoAgain};
-ghost use Rattle.replica_histories.specs.Inputs.{InputsFit, TicksFit, BatchesCount, PreparesCount, CommitsCount, RequestsCount, BatchesDrop, PreparesDrop, CommitsDrop, OthersDrop, InputsPass, TicksPass};
-ghost use Rattle.replica_histories.specs.Marks.{MarksMove};
+ghost use Rattle.replica_histories.specs.Events.{EventsEnd, HeldAreSettled, KeptAreAbove};
+ghost use Rattle.replica_histories.specs.Outputs.{PreparesFit, CommitsFit, BatchesFit, ExecutesFit, RepliesFit, CheckpointsFit, InstallationsFit, PreparesGoAgain, CommitsGoAgain, BatchesGoAgain, CheckpointsGoAgain};
+ghost use Rattle.replica_histories.specs.Inputs.{InputsFit, CheckpointsEnter, TicksFit, BatchesCount, PreparesCount, CommitsCount, CheckpointsCount, RequestsCount, BatchesDrop, PreparesDrop, CommitsDrop, CheckpointsDrop, EarlyCheckpointsDrop, OthersDrop, InputsPass, TicksPass};
+ghost use Rattle.replica_histories.specs.Marks.{MarksMove, InstallationsMove, CutsAskNoMore, StableAreLow, StableAreCut};
 ghost use Rattle.replica_histories.specs.Histories.{FirstHold, HeldOrder};
+ghost use Rattle.replica_histories.specs.Transfers.{WantedByHistory, DigestsCount, PagesCount, AimsStay, AskedStays, OpenStays, MayAskStays, OpenEnds, DigestsTaken, DigestsOpen, PagesTaken, PagesOpen, PagesGiveBack, PagesRested, QuorumsWant, TransfersStart, TransfersMove, QuorumsOpen, LowerAreFetched, OpenMayAsk, TransfersMayFetch, TransfersAsk, StartedRests, DigestsRest, PagesRest, RestedRests, TransfersInstall};
+ghost use Rattle.replica_histories.specs.TransfersAnswers.{KeptAreOne, SnapshotsAreKept, KeptHaveSnapshots, FetchesCount, AnswersMayGo, PostedToOne, AnswersSuffice, NoneIsOwed, OthersOweNone, AnswersStay, AnswersTurn, AnswersInParts};
+ghost use Rattle.replica_histories.specs.TransfersQuorums.{QuorumsGrow, CountsStay, UnchangedBringNone, QuorumsFirst, QuorumsStay, QuorumsBegin, QuorumsGoOn, QuorumsEnd};
+ghost use Rattle.replica_histories.specs.Fetching.{FetchesFit, DueFetchesFit, QuorumsMayAsk, HeldOweNoFetch, DigestsEnter, PagesEnter, AskedDigestsCount, AskedPagesCount, TransfersChange};
+ghost use Rattle.replica_histories.specs.Answering.{PartsFit, KeptFetchesCount, PartsSuffice, OtherNumbersOweNone};
+ghost use Rattle.replica_histories.specs.Numbers.{FirstNumbersFit, NumbersStay, OthersKeepNumbers, BatchesKeepNumbers, NumbersFit, RequestsFit, InputsKeepNumbers, StatesFit, ExecutionsRaise, NumbersAreGiven, NumbersLeaveFewer, StatesLeaveNoMore};
 
-/// Where desk and log fit the history behind an event's outputs, nothing is due and nothing is left owed, they hold of
-/// that history, and so on at the next event. Between events nothing is left owed.
+/// Where desk and log fit the history behind an event's outputs, nothing is due, nothing is left owed and a fetch was
+/// answered, they hold of that history, and so on at the next event. Between events nothing is left owed.
 pub fn events_end()
     ensures end { EventsEnd }
     ensures settled { HeldAreSettled }
 {}
 
 /// What fits a history fits the one with an output more: the prepare or the commit that the log asks for, the primary's
-/// own batch for a free number, the execution of what the log has committed next, and the first reply that is due
-/// (Castro and Liskov, TOCS 2002, on normal-case operation).
+/// own batch for a free number, the execution of what the log has committed next, the first reply or checkpoint that is
+/// due, and the installation of the state whose pages the open transfer has (Castro and Liskov, TOCS 2002, on
+/// normal-case operation, garbage collection and state transfer).
 pub fn outputs_fit()
     ensures prepares { PreparesFit }
     ensures commits { CommitsFit }
     ensures batches { BatchesFit }
     ensures executes { ExecutesFit }
     ensures replies { RepliesFit }
+    ensures checkpoints { CheckpointsFit }
+    ensures installations { InstallationsFit }
 {}
 
-/// The replica's own votes and batches that stand in the log may be sent again, and change nothing.
+/// The replica's own votes and batches that stand in the log, and a checkpoint that it said, may be sent again, and
+/// change nothing.
 pub fn own_go_again()
     ensures prepares { PreparesGoAgain }
     ensures commits { CommitsGoAgain }
     ensures batches { BatchesGoAgain }
+    ensures checkpoints { CheckpointsGoAgain }
 {}
 
 /// Desk and log behind an input fit, and begin an event.
 pub fn inputs_fit()
     ensures got { InputsFit }
+    ensures checkpoints { CheckpointsEnter }
     ensures ticked { TicksFit }
 {}
 
-/// An ordering message that the log has no fault for counts, and the log takes it. A request counts where its reply is
-/// kept, or where it is newer than what ran and not older than what waits.
+/// An ordering message that the log has no fault for counts, and the log takes it; so does a checkpoint that is one of
+/// its sender's latest then. A request counts where its reply is kept, or where it is newer than what ran and not older
+/// than what waits.
 pub fn messages_count()
     ensures batches { BatchesCount }
     ensures prepares { PreparesCount }
     ensures commits { CommitsCount }
+    ensures checkpoints { CheckpointsCount }
     ensures requests { RequestsCount }
 {}
 
-/// An ordering message that the log has a fault for changes nothing, nor does any other message.
+/// An ordering message or checkpoint that the log has a fault for changes nothing, nor does a checkpoint that isn't one
+/// of its sender's latest, or any other message.
 pub fn messages_drop()
     ensures batches { BatchesDrop }
     ensures prepares { PreparesDrop }
     ensures commits { CommitsDrop }
+    ensures checkpoints { CheckpointsDrop }
+    ensures early_checkpoints { EarlyCheckpointsDrop }
     ensures others { OthersDrop }
 {}
 
@@ -61,10 +78,14 @@ pub fn inputs_pass()
     ensures ticked { TicksPass }
 {}
 
-/// A checkpoint that becomes stable moves the marks, and cuts the log (Castro and Liskov, TOCS 2002, on garbage
-/// collection).
+/// A checkpoint that becomes stable moves the marks, and cuts the log; so does an installation. A log that is cut asks
+/// for no more than before. Nothing above the low mark is stable (Castro and Liskov, TOCS 2002, on garbage collection).
 pub fn marks_move()
     ensures marks { MarksMove }
+    ensures installations { InstallationsMove }
+    ensures asks { CutsAskNoMore }
+    ensures stable { StableAreLow }
+    ensures cut { StableAreCut }
 {}
 
 /// The opening state and a new log hold of the empty history, and each history of which desk and log hold is that of a
@@ -75,8 +96,158 @@ pub fn histories_are_replicas()
     ensures safe { OrderingIsSafe }
 {}
 
-/// What orders requests is one part of what a correct replica owes, and each correct replica orders them.
+/// What orders requests and transfers states is one part of what a correct replica owes, reads are the other; and each
+/// correct replica orders requests.
 pub fn owed_in_parts()
     ensures parts { OwedInParts }
     ensures order { ReplicasOrder }
+{}
+
+/// What a transfer wants is what the history has for the parts of its state, and such parts count (Castro and Liskov,
+/// TOCS 2002, on state transfer).
+pub fn parts_count()
+    ensures wanted { WantedByHistory }
+    ensures digests { DigestsCount }
+    ensures pages { PagesCount }
+{}
+
+/// Whatever comes leaves what is wanted and was got. An entry that asks for no part leaves what is open, and a transfer
+/// ends where the executed number reaches its own.
+pub fn transfers_stay()
+    ensures aims { AimsStay }
+    ensures asked { AskedStays }
+    ensures open_ones { OpenStays }
+    ensures may { MayAskStays }
+    ensures ends { OpenEnds }
+{}
+
+/// Parts that are heard are taken, and leave a transfer open; a page that is given back leaves all as it was, and pages
+/// that were not fetched may be put anew, where the replica's own state changed.
+pub fn parts_are_taken()
+    ensures digests { DigestsTaken }
+    ensures digests_open { DigestsOpen }
+    ensures pages { PagesTaken }
+    ensures pages_open { PagesOpen }
+    ensures back { PagesGiveBack }
+    ensures rested { PagesRested }
+{}
+
+/// Where a quorum of checkpoints has a root above what is executed and open, a transfer of it starts, or the open one
+/// moves to it; and nothing lower is owed.
+pub fn transfers_begin()
+    ensures wanted { QuorumsWant }
+    ensures start { TransfersStart }
+    ensures moved { TransfersMove }
+    ensures open_ones { QuorumsOpen }
+    ensures lower { LowerAreFetched }
+{}
+
+/// A transfer asks for parts of a state that may be installed, and is open behind the fetch of its place, also where it
+/// asks again.
+pub fn transfers_ask()
+    ensures again { OpenMayAsk }
+    ensures may { TransfersMayFetch }
+    ensures ask { TransfersAsk }
+{}
+
+/// The pages that were not fetched stay those of the replica's state; and where all that is held has the root, a state
+/// of these pages may be installed.
+pub fn transfers_install()
+    ensures started { StartedRests }
+    ensures digests { DigestsRest }
+    ensures pages { PagesRest }
+    ensures rested { RestedRests }
+    ensures install { TransfersInstall }
+{}
+
+/// No two kept states have one number, and the snapshots that are kept are theirs, none below the low mark.
+pub fn kept_are_one()
+    ensures one { KeptAreOne }
+    ensures snapshots { SnapshotsAreKept }
+    ensures each { KeptHaveSnapshots }
+    ensures above { KeptAreAbove }
+{}
+
+/// A fetch of a kept state counts, the part that it asks for may be sent to whoever asked, and nothing more is owed to
+/// it (Castro and Liskov, TOCS 2002, on state transfer).
+pub fn fetches_are_answered()
+    ensures counts { FetchesCount }
+    ensures may { AnswersMayGo }
+    ensures posted { PostedToOne }
+    ensures suffice { AnswersSuffice }
+    ensures unkept { NoneIsOwed }
+    ensures others { OthersOweNone }
+    ensures stay { AnswersStay }
+    ensures turn { AnswersTurn }
+    ensures parts { AnswersInParts }
+{}
+
+/// An entry makes a quorum for the checkpoint alone that it brings; and each quorum above the executed number has its
+/// root fetched in the event that makes it (Castro and Liskov, TOCS 2002, on state transfer).
+pub fn quorums_are_fetched()
+    ensures grow { QuorumsGrow }
+    ensures same { CountsStay }
+    ensures unchanged { UnchangedBringNone }
+    ensures first { QuorumsFirst }
+    ensures next { QuorumsStay }
+    ensures begin { QuorumsBegin }
+    ensures go_on { QuorumsGoOn }
+    ensures end { QuorumsEnd }
+{}
+
+/// A fetch fits that a transfer may ask, and leaves the transfer open; so does the one that is due where a quorum of
+/// checkpoints is above what is executed and open. Between events none is due (Castro and Liskov, TOCS 2002, on state
+/// transfer).
+pub fn fetches_fit()
+    ensures fetches { FetchesFit }
+    ensures due { DueFetchesFit }
+    ensures may { QuorumsMayAsk }
+    ensures none { HeldOweNoFetch }
+{}
+
+/// A part that is heard begins an event in which the open transfer has it, and it counts where the transfer asked for
+/// it. In an event another transfer that fits may take the open one's place.
+pub fn parts_enter()
+    ensures digests { DigestsEnter }
+    ensures pages { PagesEnter }
+    ensures digests_count { AskedDigestsCount }
+    ensures pages_count { AskedPagesCount }
+    ensures change { TransfersChange }
+{}
+
+/// The part of a kept snapshot may be given to whoever fetches it, whose fetch counts, and is all that is owed. Where
+/// no snapshot has the number, nothing is owed (Castro and Liskov, TOCS 2002, on state transfer).
+pub fn parts_fit()
+    ensures parts { PartsFit }
+    ensures count { KeptFetchesCount }
+    ensures suffice { PartsSuffice }
+    ensures none { OtherNumbersOweNone }
+{}
+
+/// Which of the requests that wait have a number is known from the start, and stays so behind each entry at the view's
+/// primary that gives no number: all but a pre-prepare of a number that is free, as long as no new view is taken.
+pub fn numbers_stay()
+    ensures first { FirstNumbersFit }
+    ensures stay { NumbersStay }
+    ensures others { OthersKeepNumbers }
+    ensures batches { BatchesKeepNumbers }
+{}
+
+/// A number above all that were used, given to the oldest requests without one, numbers none of them twice; and where
+/// no number may be given, or all that waits has one, nothing is owed of numbers (Castro and Liskov, TOCS 2002, on
+/// normal-case operation). All have one after as many numbers as requests wait.
+pub fn numbers_are_given()
+    ensures fit { NumbersFit }
+    ensures all { NumbersAreGiven }
+    ensures fewer { NumbersLeaveFewer }
+{}
+
+/// It stays known where a newer request waits, and where another state comes in which no client's last timestamp is
+/// lower, such as that behind a batch.
+pub fn waiting_keeps_numbers()
+    ensures requests { RequestsFit }
+    ensures inputs { InputsKeepNumbers }
+    ensures states { StatesFit }
+    ensures executions { ExecutionsRaise }
+    ensures fewer { StatesLeaveNoMore }
 {}

@@ -14,21 +14,21 @@ const DROPPED: [Row; 16] = [
     // A read; frames of its own; a frame without a MAC for it; a prepare of the primary.
     (0, Sent::Read, None),
     (1, Sent::Read, None),
-    (1, Sent::Prepare(1), None),
-    (1, Sent::Commit(1), None),
-    (0, Sent::PrePrepare, None),
-    (1, Sent::Prepare(0), None),
-    (1, Sent::Reply(0), None),
+    (1, Sent::Prepare(1, 1), None),
+    (1, Sent::Commit(1, 1), None),
+    (0, Sent::PrePrepare(1), None),
+    (1, Sent::Prepare(1, 0), None),
+    (1, Sent::Reply(1, 0), None),
     // The length, the type, the sender, the timestamp, the operation, the MAC for replica 0.
-    (0, Sent::Request, Some(3)),
-    (0, Sent::Request, Some(4)),
-    (0, Sent::Request, Some(6)),
-    (0, Sent::Request, Some(14)),
-    (0, Sent::Request, Some(26)),
-    (0, Sent::Request, Some(31)),
+    (0, Sent::Request(1), Some(3)),
+    (0, Sent::Request(1), Some(4)),
+    (0, Sent::Request(1), Some(6)),
+    (0, Sent::Request(1), Some(14)),
+    (0, Sent::Request(1), Some(26)),
+    (0, Sent::Request(1), Some(31)),
     // The kind of proof, and how many MACs there are.
-    (0, Sent::Request, Some(27)),
-    (0, Sent::Request, Some(28)),
+    (0, Sent::Request(1), Some(27)),
+    (0, Sent::Request(1), Some(28)),
     // A batch whose request is not authentic to it.
     (1, Sent::Forged, None),
 ];
@@ -56,15 +56,15 @@ fn goes_on(replica: &mut Replica, alloc: Global, me: u8) -> Result<bool, Fail> {
         return gives_for(
             replica,
             alloc,
-            Sent::Request,
-            &[Given::Sends(Sent::PrePrepare)],
+            Sent::Request(1),
+            &[Given::Sends(Sent::PrePrepare(1))],
         );
     }
     gives_for(
         replica,
         alloc,
-        Sent::PrePrepare,
-        &[Given::Sends(Sent::Prepare(me))],
+        Sent::PrePrepare(1),
+        &[Given::Sends(Sent::Prepare(1, me))],
     )
 }
 

@@ -1,42 +1,52 @@
-//! The frames of the run of one request, `out (1)` of client 0, written by docs/formats.md without what reads them.
+//! The frames of a run of requests, `out (n)` of client n - 1 at the number n, and those of checkpoints and transfers of
+//! its states, written by docs/formats.md without what reads them.
 
+use crate::states::{At, PAGE, State, children_at, page_text, root_of};
 use authenticator::hmac;
 use sha2::{Digest, Sha256};
 use std::alloc::{AllocError, Global};
 
 pub const SEED: [u8; 32] = [7; 32];
 
-/// A frame of the run, by the replica that sends it.
+/// A frame of the run, mostly by its number and the replica that sends it.
 #[derive(Clone, Copy, Debug)]
 pub enum Sent {
-    Request,
+    Request(u8),
     /// A request of client 0 that asks for reads alone.
     Read,
-    PrePrepare,
+    PrePrepare(u8),
     /// A pre-prepare whose request has a wrong MAC for replica 1.
     Forged,
-    Prepare(u8),
-    Commit(u8),
-    Reply(u8),
+    Prepare(u8, u8),
+    Commit(u8, u8),
+    Reply(u8, u8),
+    /// The checkpoint of this state.
+    Checkpoint(u8, State, u8),
+    /// What asks for a part of the state of the number.
+    Fetch(u8, At, u8),
+    /// The part of this state, from a replica to another one.
+    Part(u8, State, At, u8, u8),
 }
 
-const CLIENT: [u8; 2] = [1, 0];
+// Parties are below this.
+const PARTIES: u16 = 260;
 
-const FOUR: [u8; 4] = [0, 1, 2, 3];
-
-// `out (1)`.
-const OUT: &[u8] = b"\x21\x01\x01\x00\x00\x00\x00\x00\x00\x00\x01";
+// The first client.
+const CLIENT: u16 = 256;
 
 // `rdp (*)`.
 const READ: &[u8] = b"\x22\x01\x10";
 
-// A number in eight bytes: the timestamp, and the number of the batch.
-const ONE: [u8; 8] = [0, 0, 0, 0, 0, 0, 0, 1];
-
 // The view.
 const ZERO: [u8; 8] = [0; 8];
 
-fn joined(alloc: Global, parts: &[&[u8]]) -> Result<Vec<u8>, AllocError> {
+/// A number in eight bytes.
+pub fn eight(number: u8) -> [u8; 8] {
+    u64::from(number).to_be_bytes()
+}
+
+/// The parts behind each other.
+pub fn joined(alloc: Global, parts: &[&[u8]]) -> Result<Vec<u8>, AllocError> {
     let mut all = Vec::new(alloc);
     for part in parts {
         all.extend_from_slice(part)?;
@@ -50,31 +60,25 @@ fn piece(alloc: Global, bytes: &[u8]) -> Result<Vec<u8>, AllocError> {
     joined(alloc, &[&len.to_be_bytes(), bytes])
 }
 
-// A MAC behind its receiver, under the key from the sender to it.
-fn mac_for(
-    alloc: Global,
-    sender: [u8; 2],
-    receiver: [u8; 2],
-    body: &[u8],
-) -> Result<Vec<u8>, AllocError> {
-    let [from_high, from_low] = sender;
-    let [to_high, to_low] = receiver;
-    let key = hmac(&SEED, &[0x4d, from_high, from_low, to_high, to_low]);
-    joined(alloc, &[&receiver, &hmac(&key, body)])
+fn client_of(number: u8) -> u16 {
+    CLIENT.wrapping_add(u16::from(number)).wrapping_sub(1)
 }
 
-// The frame of a body with a MAC for each of these replicas but the sender.
-fn for_replicas(
-    alloc: Global,
-    sender: [u8; 2],
-    replicas: &[u8],
-    body: &[u8],
-) -> Result<Vec<u8>, AllocError> {
+// A MAC behind its receiver, under the key from the sender to it.
+fn mac_for(alloc: Global, sender: u16, receiver: u16, body: &[u8]) -> Result<Vec<u8>, AllocError> {
+    let [from_high, from_low] = sender.to_be_bytes();
+    let [to_high, to_low] = receiver.to_be_bytes();
+    let key = hmac(&SEED, &[0x4d, from_high, from_low, to_high, to_low]);
+    joined(alloc, &[&[to_high, to_low], &hmac(&key, body)])
+}
+
+// The frame of a body with a MAC for each party that it is for.
+fn sealed(alloc: Global, sent: Sent, sender: u16, body: &[u8]) -> Result<Vec<u8>, AllocError> {
     let mut macs = Vec::new(alloc);
     let mut count = 0;
-    for replica in replicas {
-        if [0, *replica] != sender && count < 10 {
-            let mac = mac_for(alloc, sender, [0, *replica], body)?;
+    for party in 0..PARTIES {
+        if is_for(sent, party) && count < 10 {
+            let mac = mac_for(alloc, sender, party, body)?;
             macs.extend_from_slice(&mac)?;
             count += 1;
         }
@@ -83,15 +87,16 @@ fn for_replicas(
     joined(alloc, &[&body, &[0, count], &macs])
 }
 
-fn for_client(alloc: Global, sender: [u8; 2], body: &[u8]) -> Result<Vec<u8>, AllocError> {
-    let mac = mac_for(alloc, sender, CLIENT, body)?;
-    let body = piece(alloc, body)?;
-    joined(alloc, &[&body, &[0, 1], &mac])
+fn request(alloc: Global, number: u8, mode: u8, op: &[u8]) -> Result<Vec<u8>, AllocError> {
+    let client = client_of(number);
+    let party = client.to_be_bytes();
+    let body = joined(alloc, &[&[0x41], &party, &eight(1), &[mode], op])?;
+    sealed(alloc, Sent::Request(number), client, &body)
 }
 
-fn request(alloc: Global, mode: u8, op: &[u8]) -> Result<Vec<u8>, AllocError> {
-    let body = joined(alloc, &[&[0x41], &CLIENT, &ONE, &[mode], op])?;
-    for_replicas(alloc, CLIENT, &FOUR, &body)
+fn out_request(alloc: Global, number: u8) -> Result<Vec<u8>, AllocError> {
+    let op = joined(alloc, &[&[0x21, 1, 1], &eight(number)])?;
+    request(alloc, number, 0, &op)
 }
 
 // The text of the batch of one request.
@@ -100,72 +105,124 @@ fn batch_of(alloc: Global, request: &[u8]) -> Result<Vec<u8>, AllocError> {
     joined(alloc, &[&[1], &request])
 }
 
-/// The text of the batch of the run.
-pub fn batch(alloc: Global) -> Result<Vec<u8>, AllocError> {
-    let request = request(alloc, 0, OUT)?;
+/// The text of the run's batch of the number.
+pub fn batch(alloc: Global, number: u8) -> Result<Vec<u8>, AllocError> {
+    let request = out_request(alloc, number)?;
     batch_of(alloc, &request)
 }
 
 // The MACs of the request stand at 31, 65, 99 and 133.
 fn forged_batch(alloc: Global) -> Result<Vec<u8>, AllocError> {
-    let mut request = request(alloc, 0, OUT)?;
+    let mut request = out_request(alloc, 1)?;
     if let Some(byte) = request.get_mut(65) {
         *byte ^= 1;
     }
     batch_of(alloc, &request)
 }
 
-fn pre_prepare(alloc: Global, batch: &[u8]) -> Result<Vec<u8>, AllocError> {
-    let body = joined(alloc, &[&[0x42, 0, 0], &ZERO, &ONE, batch])?;
-    for_replicas(alloc, [0, 0], &FOUR, &body)
+fn pre_prepare(alloc: Global, number: u8, batch: &[u8]) -> Result<Vec<u8>, AllocError> {
+    let body = joined(alloc, &[&[0x42, 0, 0], &ZERO, &eight(number), batch])?;
+    sealed(alloc, Sent::PrePrepare(number), 0, &body)
 }
 
 // A prepare or a commit.
-fn vote(alloc: Global, kind: u8, replica: u8) -> Result<Vec<u8>, AllocError> {
-    let digest: [u8; 32] = Sha256::digest(batch(alloc)?.as_slice());
-    let body = joined(alloc, &[&[kind, 0, replica], &ZERO, &ONE, &digest])?;
-    for_replicas(alloc, [0, replica], &FOUR, &body)
+fn vote(alloc: Global, kind: u8, number: u8, replica: u8) -> Result<Vec<u8>, AllocError> {
+    let digest: [u8; 32] = Sha256::digest(batch(alloc, number)?.as_slice());
+    let body = joined(
+        alloc,
+        &[&[kind, 0, replica], &ZERO, &eight(number), &digest],
+    )?;
+    sealed(
+        alloc,
+        Sent::Prepare(number, replica),
+        u16::from(replica),
+        &body,
+    )
 }
 
 // It says done.
-fn reply(alloc: Global, replica: u8) -> Result<Vec<u8>, AllocError> {
-    let body = joined(
+fn reply(alloc: Global, number: u8, replica: u8) -> Result<Vec<u8>, AllocError> {
+    let client = client_of(number).to_be_bytes();
+    let front = joined(alloc, &[&[0x48, 0, replica], &client, &eight(1)])?;
+    let body = joined(alloc, &[&front, &[0], &eight(number), &[0x31]])?;
+    sealed(
         alloc,
-        &[&[0x48, 0, replica], &CLIENT, &ONE, &[0], &ONE, &[0x31]],
-    )?;
-    for_client(alloc, [0, replica], &body)
+        Sent::Reply(number, replica),
+        u16::from(replica),
+        &body,
+    )
+}
+
+fn checkpoint(alloc: Global, number: u8, state: State, replica: u8) -> Result<Vec<u8>, AllocError> {
+    let root = root_of(alloc, state)?;
+    let body = joined(alloc, &[&[0x45, 0, replica], &eight(number), &root])?;
+    let sent = Sent::Checkpoint(number, state, replica);
+    sealed(alloc, sent, u16::from(replica), &body)
+}
+
+fn fetch(alloc: Global, number: u8, at: At, replica: u8) -> Result<Vec<u8>, AllocError> {
+    let (level, index) = at;
+    let front = joined(alloc, &[&[0x49, 0, replica], &eight(number), &[level]])?;
+    let body = joined(alloc, &[&front, index.to_be_bytes().as_slice()])?;
+    let sent = Sent::Fetch(number, at, replica);
+    sealed(alloc, sent, u16::from(replica), &body)
+}
+
+// A page has no byte for its level.
+fn part_body(
+    alloc: Global,
+    number: u8,
+    state: State,
+    (level, index): At,
+    replica: u8,
+) -> Result<Vec<u8>, AllocError> {
+    let index = index.to_be_bytes();
+    if level == PAGE {
+        let text = page_text(alloc, state, u16::from_be_bytes(index))?;
+        return joined(
+            alloc,
+            &[&[0x4b, 0, replica], &eight(number), &index, text.as_slice()],
+        );
+    }
+    let digests = children_at(alloc, state, (level, u16::from_be_bytes(index)))?;
+    let front = joined(alloc, &[&[0x4a, 0, replica], &eight(number), &[level]])?;
+    joined(alloc, &[&front, &index, digests.as_slice()])
 }
 
 /// Its bytes.
 pub fn frame_of(alloc: Global, sent: Sent) -> Result<Vec<u8>, AllocError> {
     match sent {
-        Sent::Request => request(alloc, 0, OUT),
-        Sent::Read => request(alloc, 1, READ),
-        Sent::PrePrepare => pre_prepare(alloc, &batch(alloc)?),
-        Sent::Forged => pre_prepare(alloc, &forged_batch(alloc)?),
-        Sent::Prepare(replica) => vote(alloc, 0x43, replica),
-        Sent::Commit(replica) => vote(alloc, 0x44, replica),
-        Sent::Reply(replica) => reply(alloc, replica),
+        Sent::Request(number) => out_request(alloc, number),
+        Sent::Read => request(alloc, 1, 1, READ),
+        Sent::PrePrepare(number) => pre_prepare(alloc, number, &batch(alloc, number)?),
+        Sent::Forged => pre_prepare(alloc, 1, &forged_batch(alloc)?),
+        Sent::Prepare(number, replica) => vote(alloc, 0x43, number, replica),
+        Sent::Commit(number, replica) => vote(alloc, 0x44, number, replica),
+        Sent::Reply(number, replica) => reply(alloc, number, replica),
+        Sent::Checkpoint(number, state, replica) => checkpoint(alloc, number, state, replica),
+        Sent::Fetch(number, at, replica) => fetch(alloc, number, at, replica),
+        Sent::Part(number, state, at, from, _) => {
+            let body = part_body(alloc, number, state, at, from)?;
+            sealed(alloc, sent, u16::from(from), &body)
+        }
     }
 }
 
 /// Whether the party of this number is one of those for whom it is.
 pub fn is_for(sent: Sent, party: u16) -> bool {
     match sent {
-        Sent::Request | Sent::Read => party < 4,
-        Sent::PrePrepare | Sent::Forged => party > 0 && party < 4,
-        Sent::Prepare(replica) | Sent::Commit(replica) => {
-            party < 4 && party != u16::from(replica)
-        }
-        Sent::Reply(_) => party == 256,
+        Sent::Request(_) | Sent::Read => party < 4,
+        Sent::PrePrepare(_) | Sent::Forged => party > 0 && party < 4,
+        Sent::Prepare(_, replica)
+        | Sent::Commit(_, replica)
+        | Sent::Checkpoint(_, _, replica)
+        | Sent::Fetch(_, _, replica) => party < 4 && party != u16::from(replica),
+        Sent::Reply(number, _) => party == client_of(number),
+        Sent::Part(_, _, _, _, to) => party == u16::from(to),
     }
 }
 
 /// For how many it is.
 pub fn count_of_receivers(sent: Sent) -> usize {
-    match sent {
-        Sent::Request | Sent::Read => 4,
-        Sent::PrePrepare | Sent::Forged | Sent::Prepare(_) | Sent::Commit(_) => 3,
-        Sent::Reply(_) => 1,
-    }
+    (0..PARTIES).filter(|party| is_for(sent, *party)).count()
 }

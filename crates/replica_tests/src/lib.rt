@@ -1,7 +1,10 @@
 //! Tests of a replica (`replica`), one of four over real frames: a request that is numbered, prepared, committed,
-//! executed and answered, what comes again, what is dropped, and memory refused in each kind of event.
+//! executed and answered, what comes again, what is dropped, checkpoints, marks that move, states that are fetched, and
+//! memory refused in each kind of event.
 #![tactic(auto)]
 
+#[cfg(test)]
+mod checkpoints;
 #[cfg(test)]
 mod dropped;
 #[cfg(test)]
@@ -12,3 +15,7 @@ mod phases;
 mod refused;
 #[cfg(test)]
 mod replicas;
+#[cfg(test)]
+mod states;
+#[cfg(test)]
+mod transfers;

@@ -1,9 +1,11 @@
 //! Memory refused in an event. To be run with each allocation refused in turn, as by `rt try --test --fail-alloc N`:
 //! then the replica stops in that event, or gives what it gives.
 
+use crate::checkpoints::{BECOMES_STABLE, FREES_NUMBERS};
 use crate::frames::frame_of;
-use crate::phases::{AGAIN_AT_BACKUP, AGAIN_AT_PRIMARY, AT_BACKUP, AT_PRIMARY, Row};
-use crate::replicas::{are_given, config, new_replica};
+use crate::phases::{AGAIN_AT_BACKUP, AGAIN_AT_PRIMARY, AT_BACKUP, AT_PRIMARY};
+use crate::replicas::{Row, are_given, config_of_period, new_replica};
+use crate::transfers::{INSTALLS, NO_STATE};
 use events::{Config, Outputs, Stop};
 use replica::{Event, Replica};
 use std::alloc::{AllocError, Global};
@@ -60,27 +62,41 @@ fn made(alloc: Global, config: &Config, me: u8) -> Result<Replica, NoMemory> {
     }
 }
 
-fn orders_or_stops(alloc: Global, me: u8, rows: &[Row<'_>]) -> Result<bool, Fail> {
-    let config = config(alloc)?;
+fn orders_or_stops(alloc: Global, me: u8, period: u8, rows: &[Row<'_>]) -> Result<bool, Fail> {
+    let config = config_of_period(alloc, period)?;
     let mut replica = made(alloc, &config, me)?;
     Ok(gives_or_stops(&mut replica, alloc, rows)?)
 }
 
 #[test]
 fn refused_memory_at_the_primary(rt: HostRuntime) -> Result<(), Fail> {
-    assert!(rt; orders_or_stops(rt.alloc(), 0, &AT_PRIMARY)?);
+    assert!(rt; orders_or_stops(rt.alloc(), 0, 16, &AT_PRIMARY)?);
     Ok(())
 }
 
 #[test]
 fn refused_memory_at_a_backup(rt: HostRuntime) -> Result<(), Fail> {
-    assert!(rt; orders_or_stops(rt.alloc(), 1, &AT_BACKUP)?);
+    assert!(rt; orders_or_stops(rt.alloc(), 1, 16, &AT_BACKUP)?);
     Ok(())
 }
 
 #[test]
 fn refused_memory_where_a_request_comes_again(rt: HostRuntime) -> Result<(), Fail> {
-    assert!(rt; orders_or_stops(rt.alloc(), 0, &AGAIN_AT_PRIMARY)?);
-    assert!(rt; orders_or_stops(rt.alloc(), 1, &AGAIN_AT_BACKUP)?);
+    assert!(rt; orders_or_stops(rt.alloc(), 0, 16, &AGAIN_AT_PRIMARY)?);
+    assert!(rt; orders_or_stops(rt.alloc(), 1, 16, &AGAIN_AT_BACKUP)?);
+    Ok(())
+}
+
+#[test]
+fn refused_memory_at_checkpoints(rt: HostRuntime) -> Result<(), Fail> {
+    assert!(rt; orders_or_stops(rt.alloc(), 1, 1, &BECOMES_STABLE)?);
+    assert!(rt; orders_or_stops(rt.alloc(), 0, 1, &FREES_NUMBERS)?);
+    Ok(())
+}
+
+#[test]
+fn refused_memory_where_states_are_fetched(rt: HostRuntime) -> Result<(), Fail> {
+    assert!(rt; orders_or_stops(rt.alloc(), 3, 1, &INSTALLS)?);
+    assert!(rt; orders_or_stops(rt.alloc(), 3, 1, &NO_STATE)?);
     Ok(())
 }

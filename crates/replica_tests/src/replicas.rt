@@ -1,6 +1,7 @@
 //! One of four replicas, and what it gives.
 
 use crate::frames::{SEED, Sent, batch, count_of_receivers, frame_of, is_for};
+use crate::states::{State, root_of};
 use events::{Config, Output, Outputs};
 use replica::{Event, Replica};
 use signing::PublicKeys;
@@ -8,16 +9,26 @@ use std::alloc::{AllocError, Global};
 use std::test::Fail;
 use terms::{NoMemory, Party, ReplicaId};
 
-/// What is given for an event, besides frames: the batch of the one request is executed at number 1.
+/// What is given for an event: a frame, the batch of a number that is executed, or a state of a number that is
+/// installed.
 #[derive(Clone, Copy, Debug)]
 pub enum Given {
     Sends(Sent),
-    Executes,
+    Executes(u8),
+    Installs(u8, State),
 }
 
-/// The configuration of four replicas and two clients, all correct.
+/// A frame that comes, and what is given for it.
+pub type Row<'a> = (Sent, &'a [Given]);
+
+/// The configuration of four replicas and three clients, all correct, with a checkpoint at each multiple of the period.
+pub fn config_of_period(alloc: Global, period: u8) -> Result<Config, Fail> {
+    Ok(Config::new(1, 3, SEED, period, Vec::new(alloc), Vec::new(alloc))?)
+}
+
+/// That of the greatest period.
 pub fn config(alloc: Global) -> Result<Config, Fail> {
-    Ok(Config::new(1, 2, SEED, 16, Vec::new(alloc), Vec::new(alloc))?)
+    config_of_period(alloc, 16)
 }
 
 /// The replica of this number below 4, before its first event.
@@ -39,8 +50,12 @@ fn is_given(alloc: Global, output: &Output, given: Given) -> Result<bool, AllocE
             let bytes = frame_of(alloc, sent)?;
             Ok(are_receivers(parties, sent) && frame.as_slice() == bytes.as_slice())
         }
-        (Output::Executed(number, text), Given::Executes) => {
-            Ok(number.0 == 1 && text.as_slice() == batch(alloc)?.as_slice())
+        (Output::Executed(at, text), Given::Executes(number)) => {
+            let batch = batch(alloc, number)?;
+            Ok(at.0 == u64::from(number) && text.as_slice() == batch.as_slice())
+        }
+        (Output::Installed(at, root), Given::Installs(number, state)) => {
+            Ok(at.0 == u64::from(number) && *root == root_of(alloc, state)?)
         }
         _ => Ok(false),
     }
@@ -76,4 +91,20 @@ pub fn gives_for(
 ) -> Result<bool, Fail> {
     let frame = frame_of(alloc, sent)?;
     gives(replica, alloc, frame.as_slice(), all)
+}
+
+/// Whether it gives for each frame, one after another, what stands beside it.
+pub fn gives_all(replica: &mut Replica, alloc: Global, rows: &[Row<'_>]) -> Result<bool, Fail> {
+    for (sent, all) in rows {
+        if !gives_for(replica, alloc, *sent, all)? {
+            return Ok(false);
+        }
+    }
+    Ok(true)
+}
+
+/// Whether it gives this when time goes by.
+pub fn gives_in_time(replica: &mut Replica, alloc: Global, all: &[Given]) -> Result<bool, Fail> {
+    let outputs = replica.step(alloc, Event::Timeout)?;
+    Ok(are_given(alloc, &outputs, all)? && !replica.is_stopped())
 }

@@ -15,8 +15,8 @@ use Rattle.schedule_world.specs.declared.running.RunFault.TheVariants as faults
 use Rattle.schedule_world.specs.Stages.{IsOrderly, acceptance_of}
 use Rattle.schedule_world.specs.Moving.{MayCome}
 
--- A trace of correct clients and of replicas that order requests. Those stay in the first view where the trace is
--- unforged, and the trace is then that of one space.
+-- A trace of correct clients and of replicas that order requests and transfer states. Those stay in the first view
+-- where the trace is unforged, and the trace is then that of one space.
 pub record IsOrderingRun (c : Configuration) (trace : List Entry) : Type 0 where
   pub clients : (p : ℕ) → is_correct_client c p ≡ true → IsWeakClient c p (history_of p trace)
   pub replicas : Unforged c trace → (p : ℕ) → is_correct_replica c p ≡ true

@@ -1,9 +1,11 @@
-//! Tests of the world of schedules (`schedule_world`): worked runs of correct parties and of faulty ones, and steps
-//! that may not come.
+//! Tests of the world of schedules (`schedule_world`): worked runs of correct parties and of faulty ones, checkpoints
+//! and states that are fetched, and steps that may not come.
 #![tactic(auto)]
 
 #[cfg(test)]
 mod calls;
+#[cfg(test)]
+mod checkpoints;
 #[cfg(test)]
 mod frames;
 #[cfg(test)]

@@ -8,16 +8,27 @@ use terms::NoMemory;
 
 pub const SEED: [u8; 32] = [7; 32];
 
-/// A world of so many clients, in which these are faulty.
+/// A world of so many clients, in which these are faulty, with a checkpoint at each multiple of the period.
+pub fn world_of_period(
+    alloc: Global,
+    clients: u16,
+    period: u8,
+    faulty_replicas: &[u16],
+    faulty_clients: &[u16],
+) -> Option<Config> {
+    let faulty_replicas = Vec::from_slice(alloc, faulty_replicas).ok()?;
+    let faulty_clients = Vec::from_slice(alloc, faulty_clients).ok()?;
+    Config::new(1, clients, SEED, period, faulty_replicas, faulty_clients).ok()
+}
+
+/// That of the greatest period.
 pub fn world(
     alloc: Global,
     clients: u16,
     faulty_replicas: &[u16],
     faulty_clients: &[u16],
 ) -> Option<Config> {
-    let faulty_replicas = Vec::from_slice(alloc, faulty_replicas).ok()?;
-    let faulty_clients = Vec::from_slice(alloc, faulty_clients).ok()?;
-    Config::new(1, clients, SEED, 16, faulty_replicas, faulty_clients).ok()
+    world_of_period(alloc, clients, 16, faulty_replicas, faulty_clients)
 }
 
 /// The steps of these lines, if each of them is one.

@@ -40,12 +40,13 @@ const LIAR_REPORT: &str = r#"accepted 96 client 0 time 1 all 1 (1)
 trace 99
 "#;
 
-// Schedules, whether they are traced, and what is written.
-const ROWS: [(&str, bool, &str); 4] = [
-    (TWO_CALLS_SCHEDULE, false, TWO_CALLS_REPORT),
-    (LIAR_SCHEDULE, false, LIAR_REPORT),
-    ("", false, "trace 0\n"),
+// Configurations, schedules, whether they are traced, and what is written.
+const ROWS: [(&str, &str, bool, &str); 4] = [
+    (FOUR_SETTINGS, TWO_CALLS_SCHEDULE, false, TWO_CALLS_REPORT),
+    (FOUR_SETTINGS, LIAR_SCHEDULE, false, LIAR_REPORT),
+    (FOUR_SETTINGS, "", false, "trace 0\n"),
     (
+        FOUR_SETTINGS,
         "tick r3\r\n\n# a comment\n tick  c0",
         true,
         "0 tick r3\n1 tick c0\ntrace 2\n",
@@ -59,8 +60,12 @@ const REFUSED: [(&str, u64); 3] = [
     ("flush\n\ndeliver 0 r0\nwait\n", 3),
 ];
 
-fn is_reported(alloc: Global, (text, is_traced, report): (&str, bool, &str)) -> bool {
-    let Ok(config) = read_configuration(alloc, FOUR_SETTINGS.as_bytes()) else {
+// Whether a schedule in this configuration has this report.
+pub fn is_reported(
+    alloc: Global,
+    (settings, text, is_traced, report): (&str, &str, bool, &str),
+) -> bool {
+    let Ok(config) = read_configuration(alloc, settings.as_bytes()) else {
         return false;
     };
     let mut written = Vec::new(alloc);
@@ -71,7 +76,7 @@ fn is_reported(alloc: Global, (text, is_traced, report): (&str, bool, &str)) -> 
 #[test]
 fn runs_the_schedules(rt: HostRuntime) {
     for row in ROWS {
-        assert!(rt; is_reported(rt.alloc(), row), "{}", row.0);
+        assert!(rt; is_reported(rt.alloc(), row), "{}", row.1);
     }
 }
 

@@ -2,7 +2,7 @@ use Rattle.std.proofs.Common.{rules, ap, ◌∙◌, arith}
 use Rattle.std.proofs.lemmas.List.{take_all}
 use Rattle.wire.specs.Views.{texts_of}
 use Rattle.replica.specs.Waiting.{texts}
-use Rattle.replica.proofs.Keeping.{texts_next}
+use Rattle.replica.proofs.WaitingKept.{texts_next}
 use Rattle.replica.proofs.waiting.copies.Goals as goal
 
 pub loop-request-init : goal.loop-request-init

@@ -1,6 +1,6 @@
 use Rattle.std.proofs.Common.{◌≡◌}
 use Rattle.std.specs.Vec.Iter.{into_iter_items}
-use Rattle.replica.specs.Desking.{Pays, replies_for}
+use Rattle.replica.proofs.Desking.{PaysOn}
 use Rattle.replica.proofs.desk.Desk.reply_to_all.Given as goal
 
 abbrev pub invariant-loop-it : goal.invariant-loop-it
@@ -8,5 +8,5 @@ invariant-loop-it l = record {
   can_next : (goal.iterator-loop-it).can_next l.it-iterator;
   is_finite : (goal.iterator-loop-it).is_finite l.it-iterator;
   same : l.self ≡ l.initial.self;
-  pays : Pays l.initial.self (replies_for l.fn.ran.items) l.initial.outputs.items (replies_for (into_iter_items l.it-iterator)) l.outputs.items;
+  pays : PaysOn l.initial.self l.fn.ran.items l.initial.outputs.items (into_iter_items l.it-iterator) l.outputs.items;
 }

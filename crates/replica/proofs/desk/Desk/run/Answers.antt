@@ -1,12 +1,21 @@
-use Rattle.std.proofs.Common.{ℕ, suc, refl, ◌∙◌, ap}
+use Rattle.std.proofs.Common.{◌≡◌, ℕ, suc, ◌∙◌, ap}
 use Rattle.protocol.specs.System.Trace.Entry.{Executed}
-use Rattle.replica.proofs.Desking.{one_more, runs_batch}
+use Rattle.replica.specs.State.{DeskData}
+use Rattle.replica.specs.DeskView.{desk_data}
+use Rattle.replica.specs.Desking.{keeping_due}
+use Rattle.replica.proofs.Desking.{kept_executed, one_more, ran_so, runs_batch}
 use Rattle.replica.proofs.desk.Desk.run.Goals as goal
 
 pub returns-clause-ok : goal.returns-clause-ok
 returns-clause-ok c =
+    let old : DeskData = desk_data c.self.inside in
+    let kept : DeskData = desk_data c.self-2.inside in
+    let kept_is : kept ≡ keeping_due (record old { executed = c.execute.new.self }) = c.self-2.view_is ∙ c.in_ok-keep_due.ensures.ok in
     rw (← c.self.view_is)
-    (runs_batch _ _ c.args.text.now c.in_ok-ran.ran.items _ c.args.outputs.now.items c.give.new.outputs.items c.self.invariant refl refl
-    c.in_ok-ran.ensures.executed c.in_ok-ran.ensures.number c.forget.ensures
-    (ap (λ (n : ℕ). Executed c.self.inside.me.0 n c.in_ok-copy.copy.items) (c.number.ensures.value ∙ c.in_ok-ran.ensures.number ∙ one_more c.self.inside.executed.state.number) ∙ ap (Executed c.self.inside.me.0 (suc c.self.inside.executed.state.number)) c.in_ok-copy.ensures.items)
+    (runs_batch old c.close_reached.new.self c.execute.new.self c.args.text.now c.in_ok-ran.ran.items _ c.args.outputs.now.items c.give.new.outputs.items
+    (ran_so old kept c.close_reached.new.self c.execute.new.self c.forget.new.self kept_is c.forget.ensures c.close_reached.ensures)
+    c.self.invariant c.in_ok-ran.ensures.executed c.in_ok-ran.ensures.number
+    (ap (λ (n : ℕ). Executed old.me n c.in_ok-copy.copy.items)
+    (c.number.ensures.value ∙ ap (λ e. e.state.number) (kept_executed (record old { executed = c.execute.new.self }) kept kept_is) ∙ c.in_ok-ran.ensures.number ∙ one_more old.executed.state.number)
+    ∙ ap (Executed old.me (suc old.executed.state.number)) c.in_ok-copy.ensures.items)
     c.in_ok-give.ensures.given)

@@ -1,9 +1,12 @@
 use Rattle.std.proofs.Common.{refl, ◌∙◌, ap}
 use Rattle.replica.specs.declared.waiting.WaitingRequest.{WaitingRequest}
+use Rattle.replica.specs.State.{DeskData}
+use Rattle.replica.specs.DeskView.{desk_data}
 use Rattle.replica.specs.Waiting.{WaitingData, with_request}
 use Rattle.replica.proofs.desk.Desk.wait.Goals as goal
 
 pub returns-clause-ok : goal.returns-clause-ok
 returns-clause-ok c =
     let r : WaitingRequest = record { client = c.args.client; timestamp = c.args.timestamp; frame = c.in_ok-frame.frame } in
-    (r, refl, refl, c.in_ok-frame.ensures.items, rw (← c.self.view_is) (ap (λ (w : WaitingData). record { me = c.self.inside.me.0; membership = c.self.inside.ring; executed = c.self.inside.executed; waiting = w }) (c.in_ok-push.ensures.ok ∙ ap (with_request r) c.remove.ensures)))
+    let old : DeskData = desk_data c.self.inside in
+    (r, refl, refl, c.in_ok-frame.ensures.items, rw (← c.self.view_is) (ap (λ (w : WaitingData). record old { waiting = w }) (c.in_ok-push.ensures.ok ∙ ap (with_request r) c.remove.ensures)))

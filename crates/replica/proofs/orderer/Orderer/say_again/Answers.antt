@@ -1,3 +1,4 @@
+use Rattle.replica.proofs.Results.{on_ok}
 use Rattle.replica.proofs.Again.{nothing_again, again_twice}
 use Rattle.replica.proofs.orderer.Orderer.say_again.Goals as goal
 
@@ -9,4 +10,4 @@ loop-number-preserved c = again_twice _ _ _ _ _ _ c.loop-number.invariant c.in_o
 
 pub returns-clause-ok : goal.returns-clause-ok
 returns-clause-ok c =
-    c.loop-number.invariant
+    on_ok c.say_checkpoint_again.result (λ k. again_twice _ _ _ _ _ _ c.loop-number.invariant k) c.say_checkpoint_again.ensures.ok

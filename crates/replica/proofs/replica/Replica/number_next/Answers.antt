@@ -1,5 +1,5 @@
 use Rattle.replica.specs.Waiting.{unnumbered}
-use Rattle.replica.proofs.Keeping.{as_many}
+use Rattle.replica.proofs.WaitingKept.{as_many}
 use Rattle.replica.proofs.replica.Replica.number_next.Goals as goal
 
 pub say_batch-requires-clause-few : goal.say_batch-requires-clause-few

@@ -1,5 +1,6 @@
 use Rattle.std.proofs.Common.{rules, ◌≡◌, Bool, ap, subst, arith}
 use Rattle.replica.specs.State.{ReplicaData}
+use Rattle.replica.specs.Waiting.{count_unnumbered}
 use Rattle.replica.specs.NumbersNext.{NumbersTurn}
 use Rattle.replica.proofs.NumbersGiven.{none_given, one_given, numbers_stop, numbers_end}
 use Rattle.replica.proofs.replica.Replica.number_waiting.Goals as goal
@@ -21,11 +22,11 @@ loop-preserved c =
 
 pub returns : goal.returns
 returns c =
-    let span : c.span-end.result ≡ c.self.inside.orderer.log.span = search rules in
-    let same = ap (λ (r : ReplicaData). r.orderer.log.span) c.self.view_is in
+    let some : c.count_unnumbered-end.result ≡ count_unnumbered c.self.inside.desk.waiting = search rules in
+    let same = ap (λ (r : ReplicaData). count_unnumbered r.desk.waiting) c.self.view_is in
     let few = c.loop.auto.counter-end in
     let all = c.loop-test.false in
-    let whole : c.loop.counter ≡ c.args.self.now.orderer.log.span = omega (arith, span, same, few, all) in
+    let whole : c.loop.counter ≡ count_unnumbered c.args.self.now.desk.waiting = omega (arith, some, same, few, all) in
     record {
       ok = numbers_end c.loop.counter c.args.self.now c.loop.self c.args.outputs.now.items c.loop.outputs.items whole c.loop.invariant;
       endpoint = c.loop.invariant.party.orderer.endpoint;

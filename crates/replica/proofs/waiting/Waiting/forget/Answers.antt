@@ -1,5 +1,5 @@
 use Rattle.replica.specs.Waiting.{is_new}
-use Rattle.replica.proofs.Keeping.{kept_waits}
+use Rattle.replica.proofs.WaitingKept.{kept_waits}
 use Rattle.replica.proofs.waiting.Waiting.forget.Goals as goal
 
 pub invariant_of-self : goal.invariant_of-self

@@ -1,6 +1,6 @@
 use Rattle.std.proofs.Common.{not}
 use Rattle.replica.specs.Waiting.{is_of}
-use Rattle.replica.proofs.Keeping.{kept_waits}
+use Rattle.replica.proofs.WaitingKept.{kept_waits}
 use Rattle.replica.proofs.waiting.Waiting.remove.Goals as goal
 
 pub invariant_of-self : goal.invariant_of-self

@@ -1,0 +1,13 @@
+//! Laws of states and their pages.
+
+ghost use Rattle.execution.specs.Laws.{PagesAreShort, PagesDetermine};
+
+/// States are equal where their pages are.
+pub fn pages_determine()
+    ensures { PagesDetermine }
+{}
+
+/// The text of a state's page has at most 66,048 bytes.
+pub fn pages_are_short()
+    ensures { PagesAreShort }
+{}

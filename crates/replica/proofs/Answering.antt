@@ -1,0 +1,134 @@
+-- A fetch is answered from the states that are kept.
+use Rattle.std.proofs.Common.{◌≡◌, ◌≢◌, ℕ, ◌≤◌, ◌⊎◌, inl, inr, List, [], ◌∷◌, Some, None, refl, sym, ap, ◌∙◌, subst}
+use Rattle.terms.specs.declared.parties.Party.TheVariants as parties
+use Rattle.terms.specs.declared.parties.ReplicaId.{ReplicaId}
+use Rattle.terms.specs.declared.state.Level.{Level}
+use Rattle.terms.specs.declared.state.Level.TheVariants as levels
+use Rattle.wire.specs.Lists.{Each}
+use Rattle.wire.specs.Messages.{BodyData as Body, MessageData as Message, fetch as FetchMessage}
+use Rattle.wire.specs.Spelling.{IsMessage, last_index}
+use Rattle.wire.specs.declared.messages.Fetch.{Fetch}
+use Rattle.authenticator.specs.Membership.{Membership}
+use Rattle.signing.specs.Heard.{heard}
+use Rattle.signing.proofs.Heard.{heard_was_opened}
+use Rattle.posting.specs.Endpoint.{SealsForOne}
+use Rattle.events.specs.declared.output.Output.{Output}
+use Rattle.events.specs.Outputs.{entry_of}
+use Rattle.protocol.specs.System.Configuration.{Configuration, members}
+use Rattle.protocol.specs.System.Frames.{IsPosted}
+use Rattle.protocol.specs.System.Trace.{Entry, Has}
+use Rattle.protocol.specs.System.Trace.Entry.{Got, Sent}
+use Rattle.protocol.specs.Replica.Certificates.{taken}
+use Rattle.replica_histories.specs.Desk.{Snapshot}
+use Rattle.replica_histories.specs.Events.{IsTaken}
+use Rattle.replica_histories.specs.TransfersAnswers.{AnswersFetches, answer_by}
+use Rattle.replica_histories.proofs.Answering.{parts_fit, kept_fetches_count, parts_suffice, other_numbers_owe_none}
+use Rattle.replica_histories.proofs.TransfersAnswering.{posted_to_one}
+use Rattle.replica.specs.declared.taking.Touched.TheVariants as touched
+use Rattle.replica.specs.State.{ReplicaData, AreOne}
+use Rattle.replica.specs.Desks.{given, FitsEvent}
+use Rattle.replica.specs.Entering.{event_of, TakesBytes}
+use Rattle.replica.specs.Fetching.{GivesPart, HasKept, HasNone}
+use Rattle.replica.specs.Fits.{Runs, me_of}
+use Rattle.replica.proofs.Beginning.{rests}
+use Rattle.replica.proofs.Beside.{begins, heard_so}
+use Rattle.replica.proofs.Given.{given_one}
+use Rattle.replica.proofs.Parties.{same_log, same_party}
+use Rattle.replica.proofs.Staying.{GivesNoNumber, fits_on, sent_beside}
+
+-- a fetch that is heard is of a place
+pub within_level : (m : Membership) (me : ℕ) (bytes : List ℕ) (s k index : ℕ) (level : Level)
+    → heard m me bytes ≡ Some (record { sender = s; message = FetchMessage k level index }) → index ≤ last_index level
+within_level m me bytes s k index level h =
+    let o = heard_was_opened m me bytes _ h in
+    (subst (λ (b : Body). IsMessage b.message) o.body_is o.opens.spelled.valid.message).1
+
+-- whatever part is given, it is no proposal
+no_number : (pages : List (List ℕ)) (k index : ℕ) (level : Level) → GivesNoNumber (answer_by pages k level index)
+no_number pages k index levels.Root = tt
+no_number pages k index levels.Inner = tt
+no_number pages k index levels.Page = tt
+
+none_of : (k : ℕ) (xs : List Snapshot) → Each (λ x. x.number ≢ k) xs → Has (λ x. x.number ≡ k) xs → ⊥
+none_of k [] each has = absurd has
+none_of k (x ∷ xs) each (inl e) = each.0 e
+none_of k (x ∷ xs) each (inr h) = none_of k xs each.1 h
+
+of_number : (k : ℕ) (pages : List (List ℕ)) (xs : List Snapshot) → Has (λ x. x ≡ record { number = k; pages = pages }) xs → Has (λ x. x.number ≡ k) xs
+of_number k pages [] has = absurd has
+of_number k pages (x ∷ xs) (inl e) = inl (ap (λ (s : Snapshot). s.number) e)
+of_number k pages (x ∷ xs) (inr h) = inr (of_number k pages xs h)
+
+module _ (r : ReplicaData) (one : AreOne r.orderer r.desk) (sender : ReplicaId) (fetch : Fetch) (bytes : List ℕ) (outs : List Output)
+    (hears : heard r.desk.membership r.desk.me bytes ≡ Some (record { sender = sender.0; message = FetchMessage fetch.number.0 fetch.level fetch.index })) where
+  abbrev k : ℕ
+  k = fetch.number.0
+
+  abbrev body : Body
+  body = record { sender = sender.0; message = FetchMessage k fetch.level fetch.index }
+
+  module _ (c : Configuration) (past : List Entry) (runs : Runs c r past) (known : members c ≡ r.desk.membership) (free : taken c past (Got (me_of r) bytes) ≡ None) where
+    begun : FitsEvent c (me_of r) (event_of c r past runs bytes) r.orderer runs.desk r.desk.waiting.numbered [] []
+    begun = begins r one c past runs bytes body known hears free (record { log = tt; call = refl; asks = λ st. refl })
+
+    abbrev Left : List Output → Type 0
+    Left os = FitsEvent c (me_of r) (event_of c r past runs bytes) r.orderer runs.desk r.desk.waiting.numbered [] os
+        × AnswersFetches c (me_of r) past (Got (me_of r) bytes) (given (me_of r) os) runs.holds.of_desk.point
+        × ((os ≡ []) ⊎ IsTaken c (me_of r) (event_of c r past runs bytes))
+
+    kept_none : HasNone r.desk k → Left []
+    kept_none none = (
+      begun,
+      other_numbers_owe_none c (me_of r) runs.desk r.orderer.log past (Got (me_of r) bytes) [] sender.0 k fetch.index fetch.level runs.holds (heard_so r one c past runs bytes body known hears)
+          (none_of k runs.desk.snapshots (subst (Each (λ x. x.number ≢ k)) (sym runs.is_desk.snapshots) none)),
+      inl refl,
+    )
+
+    abbrev part_of : List (List ℕ) → Message
+    part_of pages = answer_by pages k fetch.level fetch.index
+
+    gives : (pages : List (List ℕ)) (output : Output) → HasKept r.desk k pages → SealsForOne r.desk.membership r.desk.me (answer_by pages k fetch.level fetch.index) (parties.Replica sender) output
+        → Left (output ∷ [])
+    gives pages output kept seals = (
+      fits_on c (me_of r) (event_of c r past runs bytes) r.orderer r.orderer runs.desk r.desk.waiting.numbered [] [] [] (output ∷ []) (Sent (me_of r) seals.bytes)
+          (given_one (me_of r) [] (output ∷ []) output refl ∙ ap (λ e. e ∷ []) sends)
+          (sent_beside c (me_of r) (part_of pages) (sender.0 ∷ []) seals.bytes (Got (me_of r) bytes ∷ past) (no_number pages k fetch.index fetch.level) posted)
+          (same_log r.orderer.log) refl refl begun
+          (parts_fit c (me_of r) (event_of c r past runs bytes) runs.desk r.orderer.log [] [] (record { number = k; pages = pages }) sender.0 fetch.index fetch.level seals.bytes has
+          (inl (heard_so r one c past runs bytes body known hears)) posted begun.fits),
+      subst (λ (es : List Entry). AnswersFetches c (me_of r) past (Got (me_of r) bytes) es runs.holds.of_desk.point) (sym (given_one (me_of r) [] (output ∷ []) output refl ∙ ap (λ e. e ∷ []) sends))
+          (parts_suffice c (me_of r) runs.desk r.orderer.log past (Got (me_of r) bytes) (Sent (me_of r) seals.bytes ∷ []) (record { number = k; pages = pages }) sender.0 fetch.index fetch.level
+          runs.holds has (heard_so r one c past runs bytes body known hears) (inl (posted_to_one c (me_of r) sender.0 (part_of pages) seals.bytes posted))),
+      inr (
+        body,
+        heard_so r one c past runs bytes body known hears,
+        kept_fetches_count c (me_of r) runs.desk r.orderer.log past bytes sender.0 k fetch.index fetch.level runs.holds (of_number k pages runs.desk.snapshots has),
+      ),
+    )
+      where
+        sends : entry_of (me_of r) output ≡ Sent (me_of r) seals.bytes
+        sends = subst (λ (m : ℕ). entry_of m output ≡ Sent m seals.bytes) one.0 seals.sends
+
+        posted : IsPosted c (me_of r) (part_of pages) (sender.0 ∷ []) seals.bytes
+        posted = subst (λ (m : ℕ). IsPosted c m (part_of pages) (sender.0 ∷ []) seals.bytes) one.0 (seals.posted c known)
+
+        has : Has (λ x. x ≡ record { number = k; pages = pages }) runs.desk.snapshots
+        has = subst (Has (λ x. x ≡ record { number = k; pages = pages })) (sym runs.is_desk.snapshots) kept
+
+    left : GivesPart r.desk sender fetch [] outs → Left outs
+    left (inl (same, none)) = subst Left (sym same) (kept_none none)
+    left (inr (pages, output, kept, seals, same)) = subst Left (sym same) (gives pages output kept seals)
+
+  -- What is kept is given to whoever asks, and nothing else is left to do.
+  pub answers : GivesPart r.desk sender fetch [] outs → TakesBytes bytes r touched.Nothing r outs
+  answers part = record {
+    party = same_party r;
+    begins = λ c past runs known free. let l = left c past runs known free part in (
+      record {
+        desk = runs.desk;
+        is = runs.is_desk;
+        fits = subst (λ (m : ℕ). FitsEvent c m (event_of c r past runs bytes) r.orderer runs.desk r.desk.waiting.numbered [] outs) (sym one.0) l.0;
+      },
+      (rests c r past runs, runs.all, l.1, l.2),
+    );
+  }

@@ -1,0 +1,294 @@
+-- A checkpoint that comes: it is dropped, or counted, and then the marks move, or its state is fetched.
+use Rattle.std.proofs.Common.{◌≡◌, ◌≤◌, ◌<◌, ◌+◌, ◌*◌, ◌⊎◌, ℕ, suc, inl, inr, Bool, true, false, cond, ◌&&◌, List, [], ◌∷◌, Option, Some, None, refl, sym, ap, ◌∙◌, subst}
+use Rattle.std.specs.Prelude.{nat_le, is_none}
+use Rattle.std.proofs.lemmas.Bool.{leb-true, le-ltb, lt-ltb}
+use Rattle.std.proofs.lemmas.List.{length-set}
+use Rattle.terms.specs.declared.parties.ReplicaId.{ReplicaId}
+use Rattle.terms.specs.declared.state.Level.TheVariants as levels
+use Rattle.wire.specs.Messages.{BodyData as Body, MessageData as Message, CheckpointEntryData as CheckpointEntry, checkpoint as Checkpoint, fetch as Fetch}
+use Rattle.wire.specs.declared.messages.Checkpoint.{Checkpoint as WireCheckpoint}
+use Rattle.signing.specs.Heard.{heard}
+use Rattle.events.specs.declared.output.Output.{Output}
+use Rattle.ordering.specs.Log as logs
+use Rattle.ordering.specs.Log.{LogData}
+use Rattle.ordering.specs.Keeping.{IsLog}
+use Rattle.ordering.specs.Checkpoints.{says_checkpoint, with_checkpoint}
+use Rattle.ordering.specs.Taking.{checkpoint_fault}
+use Rattle.ordering.specs.declared.dropped.Dropped.{Dropped}
+use Rattle.protocol.specs.System.Configuration.{Configuration, members}
+use Rattle.protocol.specs.System.Trace.{Entry}
+use Rattle.protocol.specs.System.Trace.Entry.{Got}
+use Rattle.protocol.specs.Replica.Certificates.{taken}
+use Rattle.replica_histories.specs.Desk.{Desk, desk_from, kept_from}
+use Rattle.replica_histories.specs.Inputs.{fetch_due}
+use Rattle.replica_histories.specs.Marks.{checked_log}
+use Rattle.replica_histories.specs.Transfers.{open_number}
+use Rattle.replica_histories.proofs.Counting.{checkpoints_count, checkpoints_drop, early_checkpoints_drop}
+use Rattle.replica_histories.proofs.Entering.{checkpoints_enter}
+use Rattle.replica_histories.proofs.Giving.{kept_are_above}
+use Rattle.replica_histories.proofs.TransfersAnswering.{others_owe_none}
+use Rattle.replica.specs.declared.taking.Touched.TheVariants as touched
+use Rattle.replica.specs.State.{OrdererData, DeskData, ReplicaData, AreOne}
+use Rattle.replica.specs.Checkpoints.{Follows, Settles, TakesCheckpoint, counting, said_entry}
+use Rattle.replica.specs.Desks.{given, FitsEvent, Stands}
+use Rattle.replica.specs.Entering.{event_of, IsTakenBeside, Leaves, TakesBytes, TakesMessage}
+use Rattle.replica.specs.Fetching.{aimed_at, aiming}
+use Rattle.replica.specs.Fits.{Runs, me_of}
+use Rattle.replica.specs.Going.{CommitsNoMore, IsExecuted, IsSameLog, IsSameOrderer, IsSameParty, IsVotedAll, Rests}
+use Rattle.replica.specs.Saying.{Says}
+use Rattle.replica.proofs.Beginning.{IsNoCall, drops, heard_by, rests}
+use Rattle.replica.proofs.DueCheckpoints.{cut_commits, cut_voted, either, same_cut, settled_desk, settled_orderer, settled_snapshots, settled_stopped}
+use Rattle.replica.proofs.Following.{aim_of, aimed_is, aims, aims_desk}
+use Rattle.replica.proofs.Staying.{numbers_alike, numbers_beside, said_on, same_but_checkpoints}
+
+-- ---- the fetch that is due
+
+none_for_stable : (desk : Desk) (log : LogData) (entry : CheckpointEntry) → logs.is_stable log entry ≡ true → fetch_due desk log entry ≡ []
+none_for_stable desk log entry stable = rw stable refl
+
+none_for_few : (desk : Desk) (log : LogData) (entry : CheckpointEntry) → logs.is_stable log entry ≡ false → nat_le (2 * log.faults + 1) (logs.count_checkpoints log entry) ≡ false
+    → fetch_due desk log entry ≡ []
+none_for_few desk log entry unstable few = rw (unstable, few) refl
+
+none_behind : (desk : Desk) (log : LogData) (entry : CheckpointEntry) → logs.is_stable log entry ≡ false → entry.number ≤ open_number desk.state.number desk.transfer
+    → fetch_due desk log entry ≡ []
+none_behind desk log entry unstable behind = rw (unstable, le-ltb (open_number desk.state.number desk.transfer) entry.number behind) (go (nat_le (2 * log.faults + 1) (logs.count_checkpoints log entry)))
+  where
+    go : (b : Bool) → cond {A = List Message} (b && false) (Fetch entry.number levels.Root 0 ∷ []) [] ≡ []
+    go true = refl
+    go false = refl
+
+one_ahead : (desk : Desk) (log : LogData) (entry : CheckpointEntry) → logs.is_stable log entry ≡ false → nat_le (2 * log.faults + 1) (logs.count_checkpoints log entry) ≡ true
+    → open_number desk.state.number desk.transfer < entry.number → fetch_due desk log entry ≡ Fetch entry.number levels.Root 0 ∷ []
+one_ahead desk log entry unstable quorum ahead = rw (unstable, quorum, lt-ltb (open_number desk.state.number desk.transfer) entry.number ahead) refl
+
+-- ---- the log
+
+counted_is_log : (log : LogData) (s : ℕ) (entry : CheckpointEntry) → IsLog log → IsLog (logs.with_checkpoint_of log s entry)
+counted_is_log log s entry is = record {
+  some = is.some;
+  few = is.few;
+  me = is.me;
+  span = is.span;
+  low = is.low;
+  size = is.size;
+  rows = is.rows;
+  checkpoints = length-set log.checkpoints s (with_checkpoint entry (logs.checkpoints_of log s)) ∙ is.checkpoints;
+}
+
+same_counted : (log : LogData) (s : ℕ) (entry : CheckpointEntry) → IsSameLog log (checked_log log s entry)
+same_counted log s entry =
+    either (λ (m : LogData). IsSameLog log m) (logs.with_checkpoint_of log s entry) entry (same_but_checkpoints log (logs.with_checkpoint_of log s entry).checkpoints)
+    (let m = same_cut (logs.with_checkpoint_of log s entry) entry.number in record { me = m.me; faults = m.faults; span = m.span; view = m.view; active = m.active; low = m.low })
+
+none_more : (old new : LogData) (i : ℕ) → CommitsNoMore old new → logs.committed_batch old i ≡ None → logs.committed_batch new i ≡ None
+none_more old new i no_more none = go (logs.committed_batch new i) refl
+  where
+    go : (o : Option (List ℕ)) → logs.committed_batch new i ≡ o → logs.committed_batch new i ≡ None
+    go None e = e
+    go (Some text) e = let bad : Some text ≡ None = sym (no_more i text e) ∙ none in absurd cc
+
+-- ---- it comes
+
+module _ (r : ReplicaData) (one : AreOne r.orderer r.desk) (s : ℕ) (entry : CheckpointEntry) (bytes : List ℕ)
+    (h : heard r.desk.membership r.desk.me bytes ≡ Some (record { sender = s; message = Checkpoint entry.number entry.digest })) where
+  abbrev body : Body
+  body = record { sender = s; message = Checkpoint entry.number entry.digest }
+
+  hears : (c : Configuration) → members c ≡ r.desk.membership → heard (members c) (me_of r) bytes ≡ Some body
+  hears c known = heard_by r one c bytes body known h
+
+  no_call : (c : Configuration) → members c ≡ r.desk.membership → IsNoCall c (heard (members c) (me_of r) bytes)
+  no_call c known = subst (IsNoCall c) (sym (hears c known)) (record { call = refl; asks = λ st. refl; parts = refl })
+
+  -- it is dropped
+  faulty_dropped : (fault : Dropped) → checkpoint_fault r.orderer.log s entry.number entry.digest ≡ Some fault → TakesBytes bytes r touched.Nothing r []
+  faulty_dropped fault is =
+      drops r one bytes (λ c past runs known. (checkpoints_drop c (me_of r) r.orderer.log past s entry bytes fault runs.holds.of_log.fits (hears c known) is, no_call c known))
+
+  counted_party : IsSameParty r (record r { orderer = counting r.orderer s entry })
+  counted_party = record {
+    orderer = record { endpoint = refl; log = same_but_checkpoints r.orderer.log (logs.with_checkpoint_of r.orderer.log s entry).checkpoints };
+    me = refl;
+    membership = refl;
+    stopped = refl;
+  }
+
+  early_dropped : says_checkpoint entry (logs.checkpoints_of (logs.with_checkpoint_of r.orderer.log s entry) s) ≡ false
+      → TakesBytes bytes r touched.Nothing (record r { orderer = counting r.orderer s entry }) []
+  early_dropped early = record {
+    party = counted_party;
+    begins = λ c past runs known free.
+        subst (λ (log : LogData). let o : OrdererData = record r.orderer { log = log } in Stands c (event_of c r past runs bytes) o r.desk [] []
+        × Leaves c (event_of c r past runs bytes) touched.Nothing (record r { orderer = o }) [])
+        (sym (early_checkpoints_drop c (me_of r) r.orderer.log past s entry bytes runs.holds.of_log.fits (hears c known) early).0)
+        ((drops r one bytes (λ d before held same.
+        ((early_checkpoints_drop d (me_of r) r.orderer.log before s entry bytes held.holds.of_log.fits (hears d same) early).1, no_call d same))).begins c past runs known free);
+  }
+
+  -- or it is counted
+  module _ (none : checkpoint_fault r.orderer.log s entry.number entry.digest ≡ None) (latest : says_checkpoint entry (logs.checkpoints_of (logs.with_checkpoint_of r.orderer.log s entry) s) ≡ true) where
+    abbrev counted : LogData
+    counted = logs.with_checkpoint_of r.orderer.log s entry
+
+    abbrev with_it : ReplicaData
+    with_it = record r { orderer = counting r.orderer s entry }
+
+    abbrev checked : OrdererData
+    checked = record r.orderer { log = checked_log r.orderer.log s entry }
+
+    -- a rule takes it
+    counts : (c : Configuration) (past : List Entry) (runs : Runs c r past) → members c ≡ r.desk.membership → IsTakenBeside c (me_of r) (event_of c r past runs bytes)
+    counts c past runs known = (
+      (body, hears c known, checkpoints_count c (me_of r) r.orderer.log past runs.holds.of_desk.point s entry bytes runs.holds.of_log.fits (hears c known) none latest),
+      (no_call c known).parts,
+    )
+
+    enters : (c : Configuration) (past : List Entry) (runs : Runs c r past) → members c ≡ r.desk.membership → taken c past (Got (me_of r) bytes) ≡ None
+        → FitsEvent c (me_of r) (event_of c r past runs bytes) checked (desk_from checked.log.low runs.desk) r.desk.waiting.numbered (fetch_due runs.desk counted entry) []
+    enters c past runs known free = record {
+      fits = checkpoints_enter c (me_of r) runs.desk r.orderer.log past s entry bytes runs.holds (hears c known) none;
+      numbers = numbers_alike c (me_of r) r.desk.waiting.numbered r.orderer checked runs.desk (Got (me_of r) bytes ∷ past) (same_counted r.orderer.log s entry) refl
+          (numbers_beside c (me_of r) r.desk.waiting.numbered r.orderer runs.desk past (Got (me_of r) bytes) runs.holds.of_log.fits.faults runs.holds.of_log.fits.own
+          (record { here = refl; none = free; sends = refl }) runs.numbers);
+      said = said_on (me_of r) r.orderer.last_checkpoint past (Got (me_of r) bytes) runs.said;
+    }
+
+    -- the kept states are those from the low mark on
+    kept : (c : Configuration) (past : List Entry) (runs : Runs c r past) → kept_from r.orderer.log.low r.desk.snapshots ≡ r.desk.snapshots
+    kept c past runs =
+        let above = kept_are_above c (me_of r) runs.desk r.orderer.log runs.holds.of_desk.point.snapshots past runs.holds.of_log.fits runs.holds.of_desk.kept in
+        ap (kept_from r.orderer.log.low) (sym runs.is_desk.snapshots) ∙ ap (λ (d : Desk). d.snapshots) above ∙ runs.is_desk.snapshots
+
+    module _ (n : ReplicaData) (b : Bool) (settles : Settles entry with_it n b) where
+      orderer_is : n.orderer ≡ checked
+      orderer_is = settled_orderer entry with_it n b settles
+
+      desk_is : n.desk ≡ record r.desk { snapshots = n.desk.snapshots }
+      desk_is = settled_desk entry with_it n b settles
+
+      stands : (c : Configuration) (past : List Entry) (runs : Runs c r past) → members c ≡ r.desk.membership → taken c past (Got (me_of r) bytes) ≡ None
+          → Stands c (event_of c r past runs bytes) n.orderer n.desk (fetch_due runs.desk counted entry) []
+      stands c past runs known free =
+          subst (λ (k : OrdererData). Stands c (event_of c r past runs bytes) k n.desk (fetch_due runs.desk counted entry) []) (sym orderer_is)
+          (subst (λ (k : DeskData). Stands c (event_of c r past runs bytes) checked k (fetch_due runs.desk counted entry) []) (sym desk_is) (record {
+            desk = desk_from checked.log.low runs.desk;
+            is = record {
+              members_are = runs.is_desk.members_are;
+              period_is = runs.is_desk.period_is;
+              state = runs.is_desk.state;
+              snapshots = ap (kept_from checked.log.low) runs.is_desk.snapshots ∙ settled_snapshots entry with_it n b settles (kept c past runs);
+              transfer = runs.is_desk.transfer;
+              rests = runs.is_desk.rests;
+              frames = runs.is_desk.frames;
+              waiting = runs.is_desk.waiting;
+              differ = runs.is_desk.differ;
+            };
+            fits = subst (λ (m : ℕ). FitsEvent c m (event_of c r past runs bytes) checked (desk_from checked.log.low runs.desk) r.desk.waiting.numbered (fetch_due runs.desk counted entry) []) (sym one.0)
+                (enters c past runs known free);
+          }))
+
+      party : IsSameParty r n
+      party = record {
+        orderer = subst (λ (k : OrdererData). IsSameOrderer r.orderer k) (sym orderer_is) (record { endpoint = refl; log = same_counted r.orderer.log s entry });
+        me = ap (λ (d : DeskData). d.me) desk_is;
+        membership = ap (λ (d : DeskData). d.membership) desk_is;
+        stopped = settled_stopped entry with_it n b settles;
+      }
+
+      rests_on : (c : Configuration) (past : List Entry) (runs : Runs c r past) → Rests n
+      rests_on c past runs =
+          let before = rests c r past runs in
+          let is_log = counted_is_log r.orderer.log s entry runs.holds.of_log.fits.is_log in (
+            subst (λ (k : OrdererData). IsVotedAll k.log) (sym orderer_is) (either IsVotedAll counted entry before.0 (cut_voted counted entry.number is_log before.0)),
+            subst (λ (k : OrdererData). IsExecuted k.log n.desk) (sym orderer_is)
+                (subst (λ (k : DeskData). IsExecuted checked.log k) (sym desk_is)
+                (none_more r.orderer.log checked.log (suc r.desk.executed.state.number)
+                (either (CommitsNoMore r.orderer.log) counted entry (λ i text is. is) (cut_commits counted entry.number is_log)) before.1)),
+          )
+
+    -- The marks move.
+    settled : (n : ReplicaData) → Settles entry with_it n true → TakesBytes bytes r touched.Waiting n []
+    settled n settles = record {
+      party = party n true settles;
+      begins = λ c past runs known free. (
+        subst (λ (due : List Message). Stands c (event_of c r past runs bytes) n.orderer n.desk due []) (none_for_stable runs.desk counted entry settles.0) (stands n true settles c past runs known free),
+        (rests_on n true settles c past runs, subst (λ (k : OrdererData). IsTakenBeside c k.endpoint.me (event_of c r past runs bytes)) (sym (orderer_is n true settles)) (counts c past runs known)),
+      );
+    }
+
+    -- Or they don't, and a state may be fetched.
+    module _ (unstable : logs.is_stable counted entry ≡ false) where
+      waits : (nat_le (2 * counted.faults + 1) (logs.count_checkpoints counted entry) ≡ false) ⊎ (entry.number ≤ aimed_at r.desk) → TakesBytes bytes r touched.Nothing with_it []
+      waits why = record {
+        party = counted_party;
+        begins = λ c past runs known free. (
+          subst (λ (due : List Message). Stands c (event_of c r past runs bytes) with_it.orderer r.desk due []) (none_now c past runs why) (stands with_it false (unstable, refl) c past runs known free),
+          (rests c r past runs, runs.all, others_owe_none c (me_of r) past (Got (me_of r) bytes) [] runs.holds.of_desk.point (no_call c known).parts, inl refl),
+        );
+      }
+        where
+          none_now : (c : Configuration) (past : List Entry) (runs : Runs c r past)
+              → (nat_le (2 * counted.faults + 1) (logs.count_checkpoints counted entry) ≡ false) ⊎ (entry.number ≤ aimed_at r.desk) → fetch_due runs.desk counted entry ≡ []
+          none_now c past runs (inl few) = none_for_few runs.desk counted entry unstable few
+          none_now c past runs (inr behind) = none_behind runs.desk counted entry unstable (subst (λ (k : ℕ). entry.number ≤ k) (sym (aimed_is c r.desk runs.desk runs.is_desk)) behind)
+
+      fetches : (outs : List Output) → nat_le (2 * counted.faults + 1) (logs.count_checkpoints counted entry) ≡ true → aimed_at r.desk < entry.number
+          → Says with_it.orderer (Fetch entry.number levels.Root 0) [] outs → TakesBytes bytes r touched.Nothing (record with_it { desk = aiming entry r.desk }) outs
+      fetches outs quorum ahead says = record {
+        party = record { orderer = counted_party.orderer; me = refl; membership = refl; stopped = refl };
+        begins = λ c past runs known free. (
+          asked c past runs known free,
+          (rests c r past runs, runs.all, others_owe_none c (me_of r) past (Got (me_of r) bytes) (given (me_of r) outs) runs.holds.of_desk.point (no_call c known).parts, inr (counts c past runs known).0),
+        );
+      }
+        where
+          asked : (c : Configuration) (past : List Entry) (runs : Runs c r past) → members c ≡ r.desk.membership → taken c past (Got (me_of r) bytes) ≡ None
+              → Stands c (event_of c r past runs bytes) with_it.orderer (aiming entry r.desk) [] outs
+          asked c past runs known free =
+              let due = one_ahead runs.desk counted entry unstable quorum (subst (λ (k : ℕ). k < entry.number) (sym (aimed_is c r.desk runs.desk runs.is_desk)) ahead) in
+              let st = subst (λ (due : List Message). Stands c (event_of c r past runs bytes) with_it.orderer r.desk due []) due (stands with_it false (unstable, refl) c past runs known free) in
+              record {
+                desk = record st.desk { transfer = Some (aim_of entry r.desk).transfer };
+                is = aims_desk c (event_of c r past runs bytes) with_it.orderer r.desk st.desk r.desk.waiting.numbered entry [] outs st.is;
+                fits = subst (λ (m : ℕ). FitsEvent c m (event_of c r past runs bytes) with_it.orderer
+                    (record st.desk { transfer = Some (aim_of entry r.desk).transfer }) r.desk.waiting.numbered [] outs) (sym one.0)
+                    (aims c (event_of c r past runs bytes) with_it.orderer r.desk st.desk r.desk.waiting.numbered entry [] outs st.is [] (known ∙ one.1)
+                    (leb-true (2 * counted.faults + 1) (logs.count_checkpoints counted entry) quorum) ahead says
+                    (subst (λ (m : ℕ). FitsEvent c m (event_of c r past runs bytes) with_it.orderer st.desk r.desk.waiting.numbered (Fetch entry.number levels.Root 0 ∷ []) []) one.0 st.fits));
+              }
+
+      followed : (n : ReplicaData) (outs : List Output) → Follows entry with_it [] n outs → TakesBytes bytes r touched.Nothing n outs
+      followed n outs (inl (why, same, silent)) =
+          subst (λ (k : ReplicaData). TakesBytes bytes r touched.Nothing k outs) (sym same) (subst (λ (os : List Output). TakesBytes bytes r touched.Nothing with_it os) (sym silent) (waits why))
+      followed n outs (inr (quorum, ahead, same, says)) = subst (λ (k : ReplicaData). TakesBytes bytes r touched.Nothing k outs) (sym same) (fetches outs quorum ahead says)
+
+-- ---- as the program takes it
+
+some_fault : (o : Option Dropped) → is_none o ≡ false → (fault : Dropped) × (o ≡ Some fault)
+some_fault None h = absurd cc
+some_fault (Some x) h = (x, refl)
+
+module _ (r : ReplicaData) (one : AreOne r.orderer r.desk) (sender : ReplicaId) (m : WireCheckpoint) where
+  pub checkpoint_dropped : (o : OrdererData) → TakesCheckpoint r.orderer sender m o false → TakesMessage sender (Checkpoint m.number.0 m.root) r touched.Nothing (record r { orderer = o }) []
+  checkpoint_dropped o (inl (fault, same)) bytes h =
+      let why = some_fault _ fault in
+      subst (λ (k : OrdererData). TakesBytes bytes r touched.Nothing (record r { orderer = k }) []) (sym same) (faulty_dropped r one sender.0 (said_entry m) bytes h why.0 why.1)
+  checkpoint_dropped o (inr (counted, early)) bytes h =
+      subst (λ (k : OrdererData). TakesBytes bytes r touched.Nothing (record r { orderer = k }) []) (sym counted)
+      (early_dropped r one sender.0 (said_entry m) bytes h (subst (λ (k : OrdererData). says_checkpoint (said_entry m) (logs.checkpoints_of k.log sender.0) ≡ false) counted early))
+
+  module _ (o : OrdererData) (takes : TakesCheckpoint r.orderer sender m o true) where
+    latest_then : says_checkpoint (said_entry m) (logs.checkpoints_of (logs.with_checkpoint_of r.orderer.log sender.0 (said_entry m)) sender.0) ≡ true
+    latest_then = subst (λ (k : OrdererData). says_checkpoint (said_entry m) (logs.checkpoints_of k.log sender.0) ≡ true) takes.1 takes.2
+
+    pub checkpoint_settled : (n : ReplicaData) → Settles (said_entry m) (record r { orderer = o }) n true → TakesMessage sender (Checkpoint m.number.0 m.root) r touched.Waiting n []
+    checkpoint_settled n settles bytes h =
+        settled r one sender.0 (said_entry m) bytes h takes.0 latest_then n (subst (λ (k : OrdererData). Settles (said_entry m) (record r { orderer = k }) n true) takes.1 settles)
+
+    pub checkpoint_followed : (x n : ReplicaData) (outs : List Output) → Settles (said_entry m) (record r { orderer = o }) x false → Follows (said_entry m) x [] n outs
+        → TakesMessage sender (Checkpoint m.number.0 m.root) r touched.Nothing n outs
+    checkpoint_followed x n outs settles follows bytes h =
+        let unstable = subst (λ (k : OrdererData). logs.is_stable k.log (said_entry m) ≡ false) takes.1 settles.0 in
+        let x_is = settles.1 ∙ ap (λ (k : OrdererData). record r { orderer = k }) takes.1 in
+        followed r one sender.0 (said_entry m) bytes h takes.0 latest_then unstable n outs (subst (λ (k : ReplicaData). Follows (said_entry m) k [] n outs) x_is follows)

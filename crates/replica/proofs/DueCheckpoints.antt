@@ -1,0 +1,265 @@
+-- The checkpoint that is due, and the marks that it moves.
+use Rattle.std.proofs.Common.{◌≡◌, ℕ, ◌%◌, ◌≤◌, ◌<◌, ◌^◌, Bool, true, false, cond, List, [], ◌∷◌, Some, None, inl, refl, sym, ap, ◌∙◌, subst, arith, ◌==◌, min, ◌-◌}
+use Rattle.std.specs.Prelude.{nat_le}
+use Rattle.std.proofs.lemmas.Bool.{leb-false}
+use Rattle.wire.specs.Messages.{MessageData as Message, CheckpointEntryData as CheckpointEntry, checkpoint as Checkpoint}
+use Rattle.events.specs.declared.output.Output.{Output}
+use Rattle.ordering.specs.Log as logs
+use Rattle.ordering.specs.Log.{LogData}
+use Rattle.ordering.specs.Keeping.{IsLog}
+use Rattle.protocol.specs.System.Configuration.{Configuration, members}
+use Rattle.protocol.specs.System.Trace.{Entry, Once}
+use Rattle.protocol.specs.System.Trace.Entry.{Sent}
+use Rattle.protocol.specs.Replica.State.{State, root_of}
+use Rattle.protocol.specs.Replica.RightReplica.{others}
+use Rattle.protocol.specs.Replica.Owed.{IsSaying}
+use Rattle.protocol.proofs.Words.Options.{some_injective}
+use Rattle.replica_histories.specs.Desk.{Desk, desk_from, kept_from, snapshot_of}
+use Rattle.replica_histories.specs.Events as events
+use Rattle.replica_histories.specs.Events.{Start, behind}
+use Rattle.replica_histories.specs.Marks.{cut_if_stable, checked_log}
+use Rattle.replica_histories.specs.Outputs.{checkpoint_due}
+use Rattle.replica_histories.proofs.Words.{passed, gated}
+use Rattle.replica_histories.proofs.Asking.{cuts_ask_no_more}
+use Rattle.replica_histories.proofs.Cutting.{cut_same}
+use Rattle.replica_histories.proofs.Giving.{checkpoints_fit, kept_are_above}
+use Rattle.replica.specs.State.{OrdererData, DeskData, ReplicaData, AreOne}
+use Rattle.replica.specs.Desks.{given, FitsCount, FitsEvent, Stands}
+use Rattle.replica.specs.Going.{CommitsNoMore, IsSameLog, IsSameOrderer, IsVotedAll}
+use Rattle.replica.specs.Desking.{RunsWhole, due_entry, is_due, newest_entry}
+use Rattle.replica.specs.Checkpoints.{IsDueKept, SaysCheckpoint, SaysDueCheckpoint, Settles}
+use Rattle.replica.specs.Saying.{Says}
+use Rattle.replica.proofs.Parties.{same_party}
+use Rattle.replica.proofs.Staying.{numbers_alike, numbers_beside, sent_beside}
+use Rattle.replica.proofs.Voting.{SaidIn, said_in}
+
+-- ---- what is due
+
+-- the checkpoint of a state
+abbrev entry_at : State → CheckpointEntry
+entry_at st = record { number = st.number; digest = root_of st }
+
+abbrev message_at : State → Message
+message_at st = Checkpoint st.number (root_of st)
+
+pub record IsDueEntry (d : DeskData) (entry : CheckpointEntry) : Type 0 where
+  pub due : is_due d ≡ true
+  pub is : entry ≡ entry_at d.executed.state
+
+pub entry_due : (d : DeskData) (entry : CheckpointEntry) → IsDueKept d → due_entry d ≡ Some entry → IsDueEntry d entry
+entry_due d entry kept is =
+    let a = passed (is_due d) (newest_entry d.snapshots) entry is in
+    record { due = a.0; is = some_injective entry (entry_at d.executed.state) (sym a.1 ∙ kept a.0) }
+
+-- its number is one
+pub due_number : (d : DeskData) (entry : CheckpointEntry) → IsDueKept d → d.executed.state.number < 2 ^ 48 → due_entry d ≡ Some entry → entry.number < 2 ^ 48
+due_number d entry kept fits is = subst (λ (e : CheckpointEntry). e.number < 2 ^ 48) (sym (entry_due d entry kept is).is) fits
+
+none_due : (d : DeskData) → IsDueKept d → due_entry d ≡ None → is_due d ≡ false
+none_due d kept none = go (is_due d) refl
+  where
+    go : (b : Bool) → is_due d ≡ b → is_due d ≡ false
+    go false e = e
+    go true e =
+        let bad : Some (entry_at d.executed.state) ≡ None = sym (kept e) ∙ sym (ap (λ (b : Bool). cond b (newest_entry d.snapshots) None) e) ∙ none in
+        absurd cc
+
+due_when : (c : Configuration) (d : DeskData) (b : Bool) → c.period ≡ d.period → is_due d ≡ b → checkpoint_due c d.executed.state ≡ cond b (message_at d.executed.state ∷ []) []
+due_when c d b period is =
+    ap (λ (p : ℕ). cond (d.executed.state.number % p == 0) (message_at d.executed.state ∷ []) []) period
+    ∙ ap (λ (t : Bool). cond t (message_at d.executed.state ∷ []) []) is
+
+-- ---- a cut
+
+pub same_cut : (log : LogData) (h : ℕ) → IsSameLog log (logs.cut_to log h)
+same_cut log h = record {
+  me = cut_same (λ m. m.me) (λ m k rows. refl) log h;
+  faults = cut_same (λ m. m.faults) (λ m k rows. refl) log h;
+  span = cut_same (λ m. m.span) (λ m k rows. refl) log h;
+  view = cut_same (λ m. m.view) (λ m k rows. refl) log h;
+  active = cut_same (λ m. m.active) (λ m k rows. refl) log h;
+  low = go (nat_le h log.low) refl;
+}
+  where
+    go : (b : Bool) → nat_le h log.low ≡ b → log.low ≤ (cond b log (record log { low = h; rows = logs.cut_rows (min (h - log.low) log.span) log.rows })).low
+    go true e = omega arith
+    go false e = let l = leb-false h log.low e in omega (arith, l)
+
+pub cut_voted : (log : LogData) (h : ℕ) → IsLog log → IsVotedAll log → IsVotedAll (logs.cut_to log h)
+cut_voted log h is voted i =
+    let a = cuts_ask_no_more log h i is in
+    (a.0 ∙ gated (logs.is_in_marks (logs.cut_to log h) i) (logs.due_prepare log i) (voted i).0, a.1 ∙ gated (logs.is_in_marks (logs.cut_to log h) i) (logs.due_commit log i) (voted i).1)
+
+pub cut_commits : (log : LogData) (h : ℕ) → IsLog log → CommitsNoMore log (logs.cut_to log h)
+cut_commits log h is i text has =
+    (passed (logs.is_in_marks (logs.cut_to log h) i) (logs.committed_batch log i) text (sym (cuts_ask_no_more log h i is).2 ∙ has)).1
+
+-- what holds of the log, and of a cut of it, holds of the settled one
+pub either : (P : LogData → Type 0) (log : LogData) (entry : CheckpointEntry) → P log → P (logs.cut_to log entry.number) → P (cut_if_stable log entry)
+either P log entry whole cut = go (logs.is_stable log entry)
+  where
+    go : (b : Bool) → P (cond b (logs.cut_to log entry.number) log)
+    go true = cut
+    go false = whole
+
+-- ---- the orderer says it
+
+-- the checkpoint is counted, and the log cut where it is stable
+abbrev checking : OrdererData → CheckpointEntry → OrdererData
+checking o entry = record o { log = checked_log o.log o.log.me entry; last_checkpoint = Some entry }
+
+same_checked : (log : LogData) (entry : CheckpointEntry) → IsSameLog log (checked_log log log.me entry)
+same_checked log entry =
+    either (λ (m : LogData). IsSameLog log m) (logs.with_checkpoint_of log log.me entry) entry (record { me = refl; faults = refl; span = refl; view = refl; active = refl; low = omega arith })
+    (let s = same_cut (logs.with_checkpoint_of log log.me entry) entry.number in record { me = s.me; faults = s.faults; span = s.span; view = s.view; active = s.active; low = s.low })
+
+module _ (c : Configuration) (s : Start) (o : OrdererData) (desk : Desk) (count : ℕ) (entry : CheckpointEntry) (before after : List Output) (known : members c ≡ o.endpoint.membership)
+    (says : Says o (Checkpoint entry.number entry.digest) before after) (voted : IsVotedAll o.log) (f : FitsEvent c o.endpoint.me s o desk count (Checkpoint entry.number entry.digest ∷ []) before) where
+  abbrev me : ℕ
+  me = o.endpoint.me
+
+  abbrev past : List Entry
+  past = behind s (given me before)
+
+  abbrev later : Desk
+  later = desk_from (checking o entry).log.low desk
+
+  said : SaidIn c o (Checkpoint entry.number entry.digest) before after
+  said = said_in c o (Checkpoint entry.number entry.digest) before after known says
+
+  fitting : events.Fits c me s later (checking o entry).log [] (Sent me said.bytes ∷ given me before)
+  fitting = subst (λ (m : ℕ). events.Fits c me s (desk_from (checked_log o.log m entry).low desk) (checked_log o.log m entry) [] (Sent me said.bytes ∷ given me before)) (sym f.fits.of_log.own)
+      (checkpoints_fit c me s desk o.log [] (given me before) entry said.bytes (λ i. (voted i).0) (λ i. (voted i).1) said.posted f.fits)
+
+  numbering : FitsCount c me (checking o entry) count later (Sent me said.bytes ∷ past)
+  numbering = numbers_alike c me count o (checking o entry) desk (Sent me said.bytes ∷ past) (same_checked o.log entry) refl
+      (numbers_beside c me count o desk past (Sent me said.bytes) f.fits.of_log.faults f.fits.of_log.own
+      (sent_beside c me (Checkpoint entry.number entry.digest) (others c me) said.bytes past tt said.posted) f.numbers)
+
+  says_due : FitsEvent c me s (checking o entry) later count [] after
+  says_due = record {
+    fits = subst (λ (es : List Entry). events.Fits c me s later (checking o entry).log [] es) (sym said.is) fitting;
+    numbers = subst (λ (es : List Entry). FitsCount c me (checking o entry) count later (behind s es)) (sym said.is) numbering;
+    said = λ other is. subst (λ (es : List Entry). Once (λ earlier e. IsSaying me (Checkpoint other.number other.digest) e) (behind s es)) (sym said.is)
+        (inl (subst (λ (z : CheckpointEntry). IsSaying me (Checkpoint z.number z.digest) (Sent me said.bytes)) (some_injective entry other is) said.posted.says));
+  }
+
+-- ---- both parts
+
+pub settled_orderer : (entry : CheckpointEntry) (m n : ReplicaData) (b : Bool) → Settles entry m n b → n.orderer ≡ record m.orderer { log = cut_if_stable m.orderer.log entry }
+settled_orderer entry m n true (stable, moves) =
+    ap (λ (r : ReplicaData). r.orderer) moves
+    ∙ ap (λ (b : Bool). record m.orderer { log = cond b (logs.cut_to m.orderer.log entry.number) m.orderer.log }) (sym stable)
+settled_orderer entry m n false (stable, same) =
+    ap (λ (r : ReplicaData). r.orderer) same
+    ∙ ap (λ (b : Bool). record m.orderer { log = cond b (logs.cut_to m.orderer.log entry.number) m.orderer.log }) (sym stable)
+
+pub settled_desk : (entry : CheckpointEntry) (m n : ReplicaData) (b : Bool) → Settles entry m n b → n.desk ≡ record m.desk { snapshots = n.desk.snapshots }
+settled_desk entry m n true (stable, moves) = subst (λ (r : ReplicaData). r.desk ≡ record m.desk { snapshots = r.desk.snapshots }) (sym moves) refl
+settled_desk entry m n false (stable, same) = subst (λ (r : ReplicaData). r.desk ≡ record m.desk { snapshots = r.desk.snapshots }) (sym same) refl
+
+pub settled_stopped : (entry : CheckpointEntry) (m n : ReplicaData) (b : Bool) → Settles entry m n b → n.stopped ≡ m.stopped
+settled_stopped entry m n true (stable, moves) = ap (λ (r : ReplicaData). r.stopped) moves
+settled_stopped entry m n false (stable, same) = ap (λ (r : ReplicaData). r.stopped) same
+
+-- the kept states are those from the mark on
+pub settled_snapshots : (entry : CheckpointEntry) (m n : ReplicaData) (b : Bool) → Settles entry m n b → kept_from m.orderer.log.low m.desk.snapshots ≡ m.desk.snapshots
+    → kept_from (cut_if_stable m.orderer.log entry).low m.desk.snapshots ≡ n.desk.snapshots
+settled_snapshots entry m n true (stable, moves) kept =
+    ap (λ (b : Bool). kept_from (cond b (logs.cut_to m.orderer.log entry.number) m.orderer.log).low m.desk.snapshots) stable
+    ∙ sym (ap (λ (r : ReplicaData). r.desk.snapshots) moves)
+settled_snapshots entry m n false (stable, same) kept =
+    ap (λ (b : Bool). kept_from (cond b (logs.cut_to m.orderer.log entry.number) m.orderer.log).low m.desk.snapshots) stable
+    ∙ kept ∙ sym (ap (λ (r : ReplicaData). r.desk.snapshots) same)
+
+module _ (a : ReplicaData) (o : OrdererData) (n : ReplicaData) (entry : CheckpointEntry) (x y : List Output) (b : Bool) (one : AreOne a.orderer a.desk) (due : IsDueEntry a.desk entry)
+    (says : SaysCheckpoint entry a.orderer x o y) (settles : Settles entry (record a { orderer = o }) n b) (is_log : IsLog o.log) where
+  abbrev counted : LogData
+  counted = logs.with_checkpoint_of a.orderer.log a.orderer.log.me entry
+
+  orderer_is : n.orderer ≡ checking a.orderer entry
+  orderer_is = settled_orderer entry (record a { orderer = o }) n b settles
+      ∙ ap (λ (k : OrdererData). record k { log = cut_if_stable k.log entry }) says.new_is
+
+  desk_is : n.desk ≡ record a.desk { snapshots = n.desk.snapshots }
+  desk_is = settled_desk entry (record a { orderer = o }) n b settles
+
+  snapshots_are : kept_from a.orderer.log.low a.desk.snapshots ≡ a.desk.snapshots → kept_from (checking a.orderer entry).log.low a.desk.snapshots ≡ n.desk.snapshots
+  snapshots_are kept =
+      ap (λ (k : OrdererData). kept_from (cut_if_stable k.log entry).low a.desk.snapshots) (sym says.new_is)
+      ∙ settled_snapshots entry (record a { orderer = o }) n b settles (ap (λ (k : OrdererData). kept_from k.log.low a.desk.snapshots) says.new_is ∙ kept)
+
+  counted_is_log : IsLog counted
+  counted_is_log = subst (λ (k : OrdererData). IsLog k.log) says.new_is is_log
+
+  due_stands : (c : Configuration) (s : Start) → members c ≡ a.desk.membership → IsVotedAll a.orderer.log
+      → Stands c s a.orderer a.desk (checkpoint_due c a.desk.executed.state) x → Stands c s n.orderer n.desk [] y
+  due_stands c s known voted st =
+      subst (λ (k : OrdererData). Stands c s k n.desk [] y) (sym orderer_is)
+      (subst (λ (k : DeskData). Stands c s (checking a.orderer entry) k [] y) (sym desk_is) (record {
+        desk = desk_from (checking a.orderer entry).log.low st.desk;
+        is = record {
+          members_are = st.is.members_are;
+          period_is = st.is.period_is;
+          state = st.is.state;
+          snapshots = ap (kept_from (checking a.orderer entry).log.low) st.is.snapshots ∙ snapshots_are kept;
+          transfer = st.is.transfer;
+          rests = st.is.rests;
+          frames = st.is.frames;
+          waiting = st.is.waiting;
+          differ = st.is.differ;
+        };
+        fits = subst (λ (m : ℕ). FitsEvent c m s (checking a.orderer entry) (desk_from (checking a.orderer entry).log.low st.desk) a.desk.waiting.numbered [] y) (sym one.0)
+            (says_due c s a.orderer st.desk a.desk.waiting.numbered entry x y (known ∙ one.1) says.says voted
+            (subst (λ (m : ℕ). FitsEvent c m s a.orderer st.desk a.desk.waiting.numbered (Checkpoint entry.number entry.digest ∷ []) x) one.0 fits));
+      }))
+    where
+      fits : FitsEvent c a.desk.me s a.orderer st.desk a.desk.waiting.numbered (Checkpoint entry.number entry.digest ∷ []) x
+      fits = subst (λ (ms : List Message). FitsEvent c a.desk.me s a.orderer st.desk a.desk.waiting.numbered ms x)
+          (due_when c a.desk true st.is.period_is due.due ∙ ap (λ (e : CheckpointEntry). Checkpoint e.number e.digest ∷ []) (sym due.is)) st.fits
+
+      above : desk_from a.orderer.log.low st.desk ≡ st.desk
+      above = kept_are_above c a.desk.me st.desk a.orderer.log st.fits.fits.of_desk.states (behind s (given a.desk.me x)) st.fits.fits.of_log st.fits.fits.of_desk.kept
+
+      kept : kept_from a.orderer.log.low a.desk.snapshots ≡ a.desk.snapshots
+      kept = ap (kept_from a.orderer.log.low) (sym st.is.snapshots) ∙ ap (λ (d : Desk). d.snapshots) above ∙ st.is.snapshots
+
+  pub says_due_checkpoint : SaysDueCheckpoint a x n y
+  says_due_checkpoint = record {
+    stands = due_stands;
+    party = record {
+      orderer = subst (λ (k : OrdererData). IsSameOrderer a.orderer k) (sym orderer_is) (record { endpoint = refl; log = same_checked a.orderer.log entry });
+      me = ap (λ (d : DeskData). d.me) desk_is;
+      membership = ap (λ (d : DeskData). d.membership) desk_is;
+      stopped = settled_stopped entry (record a { orderer = o }) n b settles;
+    };
+    used = ap (λ (k : OrdererData). k.used) orderer_is;
+    desk = desk_is;
+    voted = λ voted. subst (λ (k : OrdererData). IsVotedAll k.log) (sym orderer_is) (either IsVotedAll counted entry voted (cut_voted counted entry.number counted_is_log voted));
+    commits = subst (λ (k : OrdererData). CommitsNoMore a.orderer.log k.log) (sym orderer_is)
+        (either (CommitsNoMore a.orderer.log) counted entry (λ i text h. h) (cut_commits counted entry.number counted_is_log));
+  }
+
+-- nothing is due
+pub says_none : (a : ReplicaData) (x : List Output) → IsDueKept a.desk → due_entry a.desk ≡ None → SaysDueCheckpoint a x a x
+says_none a x kept none = record {
+  stands = λ c s known voted st. record {
+    desk = st.desk;
+    is = st.is;
+    fits = subst (λ (ms : List Message). FitsEvent c a.desk.me s a.orderer st.desk a.desk.waiting.numbered ms x) (due_when c a.desk false st.is.period_is (none_due a.desk kept none)) st.fits;
+  };
+  party = same_party a;
+  used = refl;
+  desk = refl;
+  voted = λ v. v;
+  commits = λ i text h. h;
+}
+
+-- ---- behind an execution
+
+-- the executed state is kept where it is to have a checkpoint
+pub runs_kept : (old new : DeskData) (text : List ℕ) (x y : List Output) → RunsWhole old text x new y → IsDueKept new
+runs_kept old new text x y r due =
+    ap (λ (k : DeskData). newest_entry k.snapshots) r.same
+    ∙ ap (λ (b : Bool). newest_entry (cond b (snapshot_of new.executed.state ∷ old.snapshots) old.snapshots))
+    (sym (ap (λ (k : DeskData). new.executed.state.number % k.period == 0) r.same) ∙ due)

@@ -1,0 +1,152 @@
+-- What is committed is executed.
+use Rattle.std.proofs.Common.{◌≡◌, ℕ, zero, suc, ◌+◌, ◌≤◌, ◌<◌, ◌^◌, ◌⊎◌, inl, inr, Bool, true, false, cond, ◌&&◌, List, [], ◌∷◌, length, filter, count_by, take, drop, Option, Some, None, refl, sym, ap, ◌∙◌, subst, arith, nat_lt, nat_le}
+use Rattle.std.proofs.lemmas.List.Sums.{length-filter}
+use Rattle.std.proofs.lemmas.Bool.{and_parts, ltb-true}
+use Rattle.events.specs.declared.output.Output.{Output}
+use Rattle.ordering.specs.Log.{LogData, is_in_marks, committed_batch, is_committed, row_of}
+use Rattle.replica_histories.proofs.Words.{passed, given_not}
+use Rattle.replica.specs.declared.waiting.WaitingRequest.{WaitingRequest}
+use Rattle.replica.specs.State.{ReplicaData, DeskData}
+use Rattle.replica.specs.Waiting.{WaitingData, count_unnumbered, keeping, is_new}
+use Rattle.replica.specs.Going.{Proceeds, CommitsNoMore, ExecutesAll, ExecutesNext, IsExecuted, IsSameParty, IsVotedAll}
+use Rattle.replica.specs.Desking.{RunsWhole}
+use Rattle.replica.specs.Checkpoints.{SaysDueCheckpoint}
+use Rattle.replica.proofs.Parties.{same_party, parties_twice}
+use Rattle.replica.proofs.Rows.{within}
+
+-- ---- what is committed
+
+-- a number whose batch is committed is within the marks
+pub committed_within : (log : LogData) (i : ℕ) (text : List ℕ) → committed_batch log i ≡ Some text → is_in_marks log i ≡ true
+committed_within log i text h =
+    let a = passed (is_committed log i) (row_of log i).batch text h in
+    (and_parts (is_in_marks log i) _ a.0).0
+
+-- and so it is a number
+pub committed_number : (log : LogData) (i : ℕ) (text : List ℕ) → committed_batch log i ≡ Some text → i < 2 ^ 48
+committed_number log i text h =
+    ltb-true i (2 ^ 48) (and_parts (nat_lt log.low i && nat_le i (log.low + log.span)) (nat_lt i (2 ^ 48)) (committed_within log i text h)).1
+
+none_outside : (log : LogData) (i : ℕ) → is_in_marks log i ≡ false → committed_batch log i ≡ None
+none_outside log i e = rw e refl
+
+-- behind so many executions as there are numbers within the marks nothing is committed any more
+after_span : (log : LogData) (first n : ℕ) → n ≡ first + log.span → (log.span ≡ 0) ⊎ (log.low ≤ first) → committed_batch log (suc n) ≡ None
+after_span log first n same low = go (is_in_marks log (suc n)) refl low
+  where
+    go : (b : Bool) → is_in_marks log (suc n) ≡ b → (log.span ≡ 0) ⊎ (log.low ≤ first) → committed_batch log (suc n) ≡ None
+    go false e l = none_outside log (suc n) e
+    go true e (inl z) = let a = within log (suc n) e in let al = a.low in let ah = a.high in absurd (omega (arith, same, z, al, ah))
+    go true e (inr l) = let a = within log (suc n) e in let al = a.low in let ah = a.high in absurd (omega (arith, same, l, al, ah))
+
+none_more : (old new : LogData) (i : ℕ) → CommitsNoMore old new → committed_batch old i ≡ None → committed_batch new i ≡ None
+none_more old new i more none = go (committed_batch new i) refl
+  where
+    go : (o : Option (List ℕ)) → committed_batch new i ≡ o → committed_batch new i ≡ None
+    go None e = e
+    go (Some text) e = absurd (given_not (committed_batch old i) text (more i text e) none)
+
+-- ---- what waits
+
+fewer_kept : (p : WaitingRequest → Bool) (xs : List WaitingRequest) → length (filter p xs) ≤ length xs
+fewer_kept p [] = omega arith
+fewer_kept p (x ∷ xs) = go (p x) (fewer_kept p xs)
+  where
+    go : (b : Bool) → length (filter p xs) ≤ length xs → length (cond b (x ∷ filter p xs) (filter p xs)) ≤ suc (length xs)
+    go true l = omega (arith, l)
+    go false l = omega (arith, l)
+
+fewer_long : (p : WaitingRequest → Bool) (n : ℕ) (xs : List WaitingRequest) → length (drop (length (filter p (take n xs))) (filter p xs)) ≤ length (drop n xs)
+fewer_long p zero xs = fewer_kept p xs
+fewer_long p (suc n) [] = omega arith
+fewer_long p (suc n) (x ∷ xs) = go (p x) (fewer_long p n xs)
+  where
+    go : (b : Bool) → length (drop (length (filter p (take n xs))) (filter p xs)) ≤ length (drop n xs)
+        → length (drop (length (cond b (x ∷ filter p (take n xs)) (filter p (take n xs)))) (cond b (x ∷ filter p xs) (filter p xs))) ≤ length (drop n xs)
+    go true l = l
+    go false l = l
+
+fewer_left : (p : WaitingRequest → Bool) (n : ℕ) (xs : List WaitingRequest) → length (drop (count_by p (take n xs)) (filter p xs)) ≤ length (drop n xs)
+fewer_left p n xs = subst (λ (k : ℕ). length (drop k (filter p xs)) ≤ length (drop n xs)) (length-filter p (take n xs)) (fewer_long p n xs)
+
+-- no more are left without a number
+forgets_no_more : (p : WaitingRequest → Bool) (w : WaitingData) → count_unnumbered (keeping p w) ≤ count_unnumbered w
+forgets_no_more p w = fewer_left p w.numbered w.requests
+
+-- ---- one batch
+
+pub executes_next : (a : ReplicaData) (d : DeskData) (n : ReplicaData) (text : List ℕ) (x y z : List Output) → RunsWhole a.desk text x d y
+    → committed_batch a.orderer.log (suc a.desk.executed.state.number) ≡ Some text → SaysDueCheckpoint (record a { desk = d }) y n z → ExecutesNext a x n z
+executes_next a d n text x y z r h e = record {
+  proceeds = λ voted c s known st.
+      e.stands c s (known ∙ sym (ap (λ (k : DeskData). k.membership) r.same)) voted (r.stands c s a.orderer known h st);
+  party = record {
+    orderer = e.party.orderer;
+    me = e.party.me ∙ ap (λ (k : DeskData). k.me) r.same;
+    membership = e.party.membership ∙ ap (λ (k : DeskData). k.membership) r.same;
+    stopped = e.party.stopped;
+  };
+  used = e.used;
+  number = ap (λ (k : DeskData). k.executed.state.number) e.desk ∙ r.number;
+  within = let l = (within a.orderer.log (suc a.desk.executed.state.number) (committed_within a.orderer.log (suc a.desk.executed.state.number) text h)).low in omega (arith, l);
+  voted = e.voted;
+  commits = e.commits;
+  waiting = subst (λ (w : WaitingData). count_unnumbered w ≤ count_unnumbered a.desk.waiting)
+      (sym (ap (λ (k : DeskData). k.waiting) e.desk ∙ ap (λ (k : DeskData). k.waiting) r.same))
+      (forgets_no_more (is_new d.executed.state) a.desk.waiting);
+}
+
+-- ---- one after another
+
+-- so many are executed
+pub record ExecutesSoFar (count : ℕ) (old : ReplicaData) (before : List Output) (new : ReplicaData) (after : List Output) : Type 0 where
+  pub proceeds : IsVotedAll old.orderer.log → Proceeds old before new after
+  pub party : IsSameParty old new
+  pub used : new.orderer.used ≡ old.orderer.used
+  pub waiting : count_unnumbered new.desk.waiting ≤ count_unnumbered old.desk.waiting
+  pub voted : IsVotedAll old.orderer.log → IsVotedAll new.orderer.log
+  pub commits : CommitsNoMore old.orderer.log new.orderer.log
+  pub number : new.desk.executed.state.number ≡ old.desk.executed.state.number + count
+  pub low : (count ≡ 0) ⊎ (old.orderer.log.low ≤ old.desk.executed.state.number)
+
+pub none_executed : (a : ReplicaData) (x : List Output) → ExecutesSoFar 0 a x a x
+none_executed a x = record {
+  proceeds = λ voted c s known st. st;
+  party = same_party a;
+  used = refl;
+  waiting = omega arith;
+  voted = λ v. v;
+  commits = λ i text h. h;
+  number = omega arith;
+  low = inl refl;
+}
+
+-- the first execution shows that the low mark is not above it
+low_known : (a b : ReplicaData) (count : ℕ) → IsSameParty a b → b.desk.executed.state.number ≡ a.desk.executed.state.number + count → b.orderer.log.low ≤ b.desk.executed.state.number
+    → (count ≡ 0) ⊎ (a.orderer.log.low ≤ a.desk.executed.state.number) → (count + 1 ≡ 0) ⊎ (a.orderer.log.low ≤ a.desk.executed.state.number)
+low_known a b count party at inside (inr low) = inr low
+low_known a b count party at inside (inl none) = let up = party.orderer.log.low in inr (omega (arith, at, inside, none, up))
+
+pub one_executed : (count : ℕ) (a b d : ReplicaData) (x y z : List Output) → ExecutesSoFar count a x b y → ExecutesNext b y d z → ExecutesSoFar (count + 1) a x d z
+one_executed count a b d x y z f e = record {
+  proceeds = λ voted c s known st. e.proceeds (f.voted voted) c s (known ∙ sym f.party.membership) (f.proceeds voted c s known st);
+  party = parties_twice a b d f.party e.party;
+  used = e.used ∙ f.used;
+  waiting = let first = f.waiting in let then = e.waiting in omega (arith, first, then);
+  voted = λ v. e.voted (f.voted v);
+  commits = λ i text h. f.commits i text (e.commits i text h);
+  number = let first = f.number in let then = e.number in omega (arith, first, then);
+  low = low_known a b count f.party f.number e.within f.low;
+}
+
+executes_all : (count : ℕ) (a b : ReplicaData) (x y : List Output) → ExecutesSoFar count a x b y → IsExecuted b.orderer.log b.desk → ExecutesAll a x b y
+executes_all count a b x y f none = record { proceeds = f.proceeds; party = f.party; used = f.used; waiting = f.waiting; rests = λ voted. (f.voted voted, none) }
+
+pub executes_stop : (count : ℕ) (a b d : ReplicaData) (x y z : List Output) → ExecutesSoFar count a x b y → (d ≡ b) × (z ≡ y) × IsExecuted b.orderer.log b.desk → ExecutesAll a x d z
+executes_stop count a b d x y z f (same, outs, none) =
+    subst (λ (r : ReplicaData). ExecutesAll a x r z) (sym same) (subst (λ (o : List Output). ExecutesAll a x b o) (sym outs) (executes_all count a b x y f none))
+
+pub executes_end : (count : ℕ) (a b : ReplicaData) (x y : List Output) → count ≡ a.orderer.log.span → ExecutesSoFar count a x b y → ExecutesAll a x b y
+executes_end count a b x y whole f = executes_all count a b x y f (none_more a.orderer.log b.orderer.log (suc b.desk.executed.state.number) f.commits
+    (after_span a.orderer.log a.desk.executed.state.number b.desk.executed.state.number (f.number ∙ ap (λ (n : ℕ). a.desk.executed.state.number + n) whole)
+    (subst (λ (n : ℕ). (n ≡ 0) ⊎ (a.orderer.log.low ≤ a.desk.executed.state.number)) whole f.low)))

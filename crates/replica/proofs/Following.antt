@@ -1,0 +1,87 @@
+-- A transfer is aimed at a checkpoint that a quorum said.
+use Rattle.std.proofs.Common.{◌≡◌, ◌≤◌, ◌<◌, ◌+◌, ◌*◌, ℕ, List, ◌∷◌, Option, Some, None, refl, sym, ap, ◌∙◌, subst, option_map, arith}
+use Rattle.std.specs.Option.{ForSome}
+use Rattle.terms.specs.declared.state.Level.TheVariants as levels
+use Rattle.wire.specs.Messages.{MessageData as Message, CheckpointEntryData as CheckpointEntry, fetch as Fetch}
+use Rattle.events.specs.declared.output.Output.{Output}
+use Rattle.ordering.specs.Log as logs
+use Rattle.state_transfer.specs.Transfer.{TransferData}
+use Rattle.protocol.specs.System.Configuration.{Configuration, members}
+use Rattle.protocol.specs.Replica.State.{State, pages_of}
+use Rattle.protocol.proofs.Words.Options.{some_injective}
+use Rattle.replica_histories.specs.Desk.{Desk}
+use Rattle.replica_histories.specs.Events.{Start, behind}
+use Rattle.replica_histories.specs.Transfers.{MayAsk, open_number, transfer_to}
+use Rattle.replica_histories.proofs.Fetching.{quorums_may_ask}
+use Rattle.replica_histories.proofs.TransfersInstalling.{started_rests}
+use Rattle.replica.specs.State.{OrdererData, OpenData, DeskData}
+use Rattle.replica.specs.Desks.{given, FitsEvent, IsDeskOf, RestsAt}
+use Rattle.replica.specs.Fetching.{aimed_at, aiming, fetch_of, opened}
+use Rattle.replica.specs.Saying.{Says}
+use Rattle.replica.proofs.Asking.{asks_due}
+
+-- ---- what is open then
+
+-- the transfer that a desk has then
+abbrev pub aim_of : CheckpointEntry → DeskData → OpenData
+aim_of entry d = opened d.executed.state d.transfer entry
+
+-- The fetch is of the root.
+asks_root : (st : State) (open_one : Option OpenData) (entry : CheckpointEntry) → fetch_of (opened st open_one entry).transfer ≡ Fetch entry.number levels.Root 0
+asks_root st None entry = refl
+asks_root st (Some o) entry = refl
+
+opened_same : (st : State) (open_one : Option OpenData) (entry : CheckpointEntry)
+    → transfer_to (option_map (λ o. o.transfer) open_one) entry.number entry.digest (pages_of st) ≡ (opened st open_one entry).transfer
+opened_same st None entry = refl
+opened_same st (Some o) entry = refl
+
+-- What was not fetched is of the state still.
+opened_rests : (st : State) (open_one : Option OpenData) (entry : CheckpointEntry) → ForSome open_one (RestsAt st) → RestsAt st (opened st open_one entry)
+opened_rests st None entry rests = ((omega arith), λ same. started_rests entry.number entry.digest st)
+opened_rests st (Some o) entry rests = rests o refl
+
+aimed_same : (number : ℕ) (open_one : Option OpenData) → open_number number (option_map (λ o. o.transfer) open_one) ≡ elim open_one [ Some o ↦ o.transfer.number | None ↦ number ]
+aimed_same number None = refl
+aimed_same number (Some o) = refl
+
+-- the number that a history's desk is aimed at
+pub aimed_is : (c : Configuration) (d : DeskData) (desk : Desk) → IsDeskOf c d desk → open_number desk.state.number desk.transfer ≡ aimed_at d
+aimed_is c d desk is =
+    ap (λ (st : State). open_number st.number desk.transfer) is.state
+    ∙ ap (open_number d.executed.state.number) is.transfer
+    ∙ aimed_same d.executed.state.number d.transfer
+
+-- ---- in an event
+
+module _ (c : Configuration) (s : Start) (o : OrdererData) (d : DeskData) (desk : Desk) (count : ℕ) (entry : CheckpointEntry) (before after : List Output) (is : IsDeskOf c d desk) where
+  pub aims_desk : IsDeskOf c (aiming entry d) (record desk { transfer = Some (aim_of entry d).transfer })
+  aims_desk = record {
+    members_are = is.members_are;
+    period_is = is.period_is;
+    state = is.state;
+    snapshots = is.snapshots;
+    transfer = refl;
+    rests = λ x e. subst (RestsAt d.executed.state) (some_injective (aim_of entry d) x e) (opened_rests d.executed.state d.transfer entry is.rests);
+    frames = is.frames;
+    waiting = is.waiting;
+    differ = is.differ;
+  }
+
+  may_ask : (due : List Message) → 2 * o.log.faults + 1 ≤ logs.count_checkpoints o.log entry → aimed_at d < entry.number → FitsEvent c o.endpoint.me s o desk count due before
+      → MayAsk c o.endpoint.me (aim_of entry d).transfer desk.state.number (behind s (given o.endpoint.me before))
+  may_ask due enough ahead f =
+      subst (λ (t : TransferData). MayAsk c o.endpoint.me t desk.state.number (behind s (given o.endpoint.me before)))
+      (ap (λ (t : Option TransferData). transfer_to t entry.number entry.digest (pages_of d.executed.state)) is.transfer ∙ opened_same d.executed.state d.transfer entry)
+      (quorums_may_ask c o.endpoint.me s desk o.log due (given o.endpoint.me before) entry (pages_of d.executed.state) enough
+      (subst (λ (n : ℕ). n < entry.number) (sym (aimed_is c d desk is)) ahead) f.fits)
+
+  -- The fetch that is due is said, and the transfer is open behind it.
+  pub aims : (rest : List Message) → members c ≡ o.endpoint.membership → 2 * o.log.faults + 1 ≤ logs.count_checkpoints o.log entry → aimed_at d < entry.number
+      → Says o (Fetch entry.number levels.Root 0) before after → FitsEvent c o.endpoint.me s o desk count (Fetch entry.number levels.Root 0 ∷ rest) before
+      → FitsEvent c o.endpoint.me s o (record desk { transfer = Some (aim_of entry d).transfer }) count rest after
+  aims rest known enough ahead says f =
+      let root = sym (asks_root d.executed.state d.transfer entry) in
+      asks_due c s o desk count before after (aim_of entry d).transfer known (subst (λ (m : Message). Says o m before after) root says) rest
+      (may_ask (Fetch entry.number levels.Root 0 ∷ rest) enough ahead f)
+      (subst (λ (m : Message). FitsEvent c o.endpoint.me s o desk count (m ∷ rest) before) root f)

@@ -1,0 +1,192 @@
+-- The state that was fetched is installed.
+use Rattle.std.proofs.Common.{◌≡◌, ◌≢◌, ℕ, ◌<◌, ◌^◌, true, List, [], ◌∷◌, Option, Some, None, option_map, refl, sym, ap, ◌∙◌, subst, arith}
+use Rattle.std.proofs.lemmas.List.Kept.{AllPairs-filter}
+use Rattle.terms.specs.declared.order.Number.{Number}
+use Rattle.wire.specs.Messages.{CheckpointEntryData as CheckpointEntry}
+use Rattle.events.specs.declared.output.Output.{Output}
+use Rattle.events.specs.declared.output.Output.TheVariants as outputs
+use Rattle.ordering.specs.Log as logs
+use Rattle.ordering.specs.Log.{LogData}
+use Rattle.partition_tree.specs.Digests.{root_of as root_of_pages}
+use Rattle.state_transfer.specs.Transfer.{TransferData}
+use Rattle.execution.specs.Installing.{HasPagesAt, NoneFalls}
+use Rattle.protocol.specs.System.Configuration.{Configuration}
+use Rattle.protocol.proofs.Words.Options.{some_injective}
+use Rattle.protocol.specs.System.Trace.{Entry}
+use Rattle.protocol.specs.System.Trace.Entry.{Installed}
+use Rattle.protocol.specs.Replica.State.{State}
+use Rattle.protocol.specs.Replica.RightReplica.{still_waiting}
+use Rattle.replica_histories.specs.Desk.{Desk, Snapshot, snapshot_of, kept_from}
+use Rattle.replica_histories.specs.Events as events
+use Rattle.replica_histories.specs.Events.{Start, behind}
+use Rattle.replica_histories.specs.Numbers.{FitsNumbers}
+use Rattle.replica_histories.specs.Outputs.{installed_desk}
+use Rattle.replica_histories.specs.Transfers.{FitsOpen, RestsOn}
+use Rattle.replica_histories.proofs.Cutting.{cut_low}
+use Rattle.replica_histories.proofs.Installing.{installations_fit}
+use Rattle.replica_histories.proofs.NumbersWaiting.{states_fit}
+use Rattle.replica.specs.declared.waiting.WaitingRequest.{WaitingRequest}
+use Rattle.replica.specs.State.{OpenData, DeskData, ReplicaData, AreOne}
+use Rattle.replica.specs.Waiting.{forgotten, frames_of, is_new}
+use Rattle.replica.specs.Desks.{given, FitsCount, FitsEvent, IsDeskOf, Stands}
+use Rattle.replica.specs.Desking.{desk_above}
+use Rattle.replica.specs.Fetching.{Installs, InstallsFetched}
+use Rattle.replica.specs.Going.{IsSameParty, IsVotedAll}
+use Rattle.replica.specs.Marking.{MovesMarks}
+use Rattle.replica.specs.Fits.{me_of}
+use Rattle.replica.proofs.Desking.{calls_behind, calls_counted, frames_behind}
+use Rattle.replica.proofs.DueCheckpoints.{same_cut, cut_voted}
+use Rattle.replica.proofs.Given.{given_one}
+use Rattle.replica.proofs.Staying.{fits_behind, installed_beside, numbers_alike, numbers_beside}
+
+-- All that the open transfer holds has the root that is wanted, and it rests on the executed state.
+pub record IsFetched (c : Configuration) (s : Start) (a : ReplicaData) (desk : Desk) (m : OpenData) (before : List Output) : Type 0 where
+  pub is_open : a.desk.transfer ≡ Some m
+  pub is : IsDeskOf c a.desk desk
+  pub fits : FitsEvent c (me_of a) s a.orderer desk a.desk.waiting.numbered [] before
+  pub rests : RestsOn m.transfer a.desk.executed.state
+  pub root : root_of_pages m.transfer.held ≡ m.transfer.root
+
+-- the desk with the state installed, the kept states from a low mark on
+abbrev with_state : State → ℕ → DeskData → DeskData
+with_state st low d = record d {
+  executed = record d.executed { state = st };
+  snapshots = kept_from low (snapshot_of st ∷ d.snapshots);
+  transfer = None;
+  waiting = forgotten st d.waiting;
+}
+
+none_some : (x : OpenData) (P : Type 0) → None ≡ Some x → P
+none_some x P e = absurd cc
+
+-- ---- what an installation leaves
+
+record IsInstalled (a : ReplicaData) (m : OpenData) (number : Number) (root : List ℕ) (st : State) (b : ReplicaData) : Type 0 where
+  has : HasPagesAt m.transfer.number m.transfer.held st
+  falls : NoneFalls a.desk.executed.state st
+  number_is : number.0 ≡ m.transfer.number
+  root_is : root ≡ m.transfer.root
+  new_is : b ≡ record a {
+    orderer = record a.orderer { log = logs.cut_to a.orderer.log m.transfer.number };
+    desk = with_state st (logs.cut_to a.orderer.log m.transfer.number).low a.desk;
+  }
+
+module _ (c : Configuration) (s : Start) (a : ReplicaData) (desk : Desk) (m : OpenData) (before after : List Output) (st : State)
+    (g : IsFetched c s a desk m before) (has : HasPagesAt m.transfer.number m.transfer.held st) (falls : NoneFalls a.desk.executed.state st) (voted : IsVotedAll a.orderer.log)
+    (gives : given (me_of a) after ≡ Installed (me_of a) m.transfer.number m.transfer.root ∷ given (me_of a) before) where
+  abbrev me : ℕ
+  me = a.orderer.endpoint.me
+
+  abbrev past : List Entry
+  past = behind s (given me before)
+
+  abbrev e : Entry
+  e = Installed me m.transfer.number m.transfer.root
+
+  abbrev cut : LogData
+  cut = logs.cut_to a.orderer.log m.transfer.number
+
+  abbrev frames : List (List ℕ)
+  frames = frames_of (forgotten st a.desk.waiting)
+
+  abbrev later : Desk
+  later = installed_desk desk st frames
+
+  known_open : desk.transfer ≡ Some m.transfer
+  known_open = g.is.transfer ∙ ap (option_map (λ (x : OpenData). x.transfer)) g.is_open
+
+  opened : FitsOpen c me (Some m.transfer) desk.state.number past
+  opened = subst (λ (t : Option TransferData). FitsOpen c me t desk.state.number past) known_open g.fits.fits.of_desk.opened
+
+  small : m.transfer.number < 2 ^ 48
+  small = subst (λ (n : ℕ). n < 2 ^ 48) has.number has.state.space.few
+
+  low_is : cut.low ≡ st.number
+  low_is = cut_low a.orderer.log m.transfer.number (let l = g.fits.fits.low in let up = opened.1 in omega (arith, l, up)) ∙ sym has.number
+
+  rests_here : RestsOn m.transfer desk.state
+  rests_here = subst (λ (x : State). RestsOn m.transfer x) (sym g.is.state) g.rests
+
+  falls_here : NoneFalls desk.state st
+  falls_here = subst (λ (x : State). NoneFalls x st) (sym g.is.state) falls
+
+  fitting : events.Fits c me s later cut [] (e ∷ given me before)
+  fitting = installations_fit c me s desk a.orderer.log (given me before) m.transfer st frames known_open rests_here g.root has.state has.number has.pages small
+      (λ i. (voted i).0) (λ i. (voted i).1) (frames_behind st a.desk desk.frames g.is.frames) g.fits.fits
+
+  numbering : FitsCount c me (record a.orderer { log = cut }) (forgotten st a.desk.waiting).numbered later (e ∷ past)
+  numbering = numbers_alike c me (forgotten st a.desk.waiting).numbered a.orderer (record a.orderer { log = cut }) later (e ∷ past) (same_cut a.orderer.log m.transfer.number) refl
+      (λ own. subst (λ (n : ℕ). FitsNumbers c me a.orderer.log.view a.orderer.used n st (still_waiting st desk.waiting) (e ∷ past))
+      (calls_counted c st a.desk.waiting.numbered a.desk.waiting.requests desk.waiting g.is.waiting)
+      (states_fit c me a.orderer.log.view a.orderer.used a.desk.waiting.numbered desk.state st desk.waiting (e ∷ past) falls_here
+      (numbers_beside c me a.desk.waiting.numbered a.orderer desk past e g.fits.fits.of_log.faults g.fits.fits.of_log.own
+      (installed_beside c me m.transfer.number m.transfer.root past) g.fits.numbers own)))
+
+  installed_fits : FitsEvent c me s (record a.orderer { log = cut }) later (forgotten st a.desk.waiting).numbered [] after
+  installed_fits = fits_behind c me s a.orderer (record a.orderer { log = cut }) desk later a.desk.waiting.numbered (forgotten st a.desk.waiting).numbered [] [] before after e gives refl g.fits fitting numbering
+
+  installed_is : IsDeskOf c (with_state st cut.low a.desk) later
+  installed_is = record {
+    members_are = g.is.members_are;
+    period_is = g.is.period_is;
+    state = refl;
+    snapshots = ap (λ (n : ℕ). kept_from n (snapshot_of st ∷ desk.snapshots)) (sym low_is) ∙ ap (λ (xs : List Snapshot). kept_from cut.low (snapshot_of st ∷ xs)) g.is.snapshots;
+    transfer = refl;
+    rests = λ x there. none_some x _ there;
+    frames = refl;
+    waiting = calls_behind c st st a.desk.waiting.requests desk.waiting refl g.is.waiting;
+    differ = AllPairs-filter (λ (x y : WaitingRequest). x.client.number ≢ y.client.number) (is_new st) a.desk.waiting.requests g.is.differ;
+  }
+
+-- ---- both parts
+
+abbrev entry_for : Number → List ℕ → CheckpointEntry
+entry_for number root = record { number = number.0; digest = root }
+
+pub same_open : (x y : OpenData) → Some x ≡ Some y → x ≡ y
+same_open x y e = some_injective x y e
+
+installs_so : (a b : ReplicaData) (d : DeskData) (m : OpenData) (number : Number) (root : List ℕ) → a.desk.transfer ≡ Some m → Installs a.desk d (Some (entry_for number root)) → MovesMarks number.0 (record a { desk = d }) b
+    → IsInstalled a m number root d.executed.state b
+installs_so a b d m number root there (o, is_open, entry_is, has, falls, d_is) moves = record {
+  has = subst (λ (x : OpenData). HasPagesAt x.transfer.number x.transfer.held d.executed.state) same has;
+  falls = falls;
+  number_is = at;
+  root_is = ap (λ (x : CheckpointEntry). x.digest) entry_is ∙ ap (λ (x : OpenData). x.transfer.root) same;
+  new_is = moves
+      ∙ ap (λ (n : ℕ). let new : ReplicaData = record a { orderer = record a.orderer { log = logs.cut_to a.orderer.log n }; desk = desk_above (logs.cut_to a.orderer.log n).low d } in new) at
+      ∙ ap (λ (x : DeskData). let new : ReplicaData = record a { orderer = record a.orderer { log = logs.cut_to a.orderer.log m.transfer.number }; desk = desk_above (logs.cut_to a.orderer.log m.transfer.number).low x } in new) d_is;
+}
+  where
+    same : o ≡ m
+    same = same_open o m (sym is_open ∙ there)
+
+    at : number.0 ≡ m.transfer.number
+    at = ap (λ (x : CheckpointEntry). x.number) entry_is ∙ ap (λ (x : OpenData). x.transfer.number) same
+
+installed_party : (a : ReplicaData) (n : ℕ) (st : State) (low : ℕ) → IsSameParty a (record a { orderer = record a.orderer { log = logs.cut_to a.orderer.log n }; desk = with_state st low a.desk })
+installed_party a n st low = record { orderer = record { endpoint = refl; log = same_cut a.orderer.log n }; me = refl; membership = refl; stopped = refl }
+
+-- The party is the same.
+pub moved_party : (a b : ReplicaData) (m : OpenData) (before after : List Output) → a.desk.transfer ≡ Some m → InstallsFetched a before b after true → IsSameParty a b
+moved_party a b m before after there (d, number, root, installs, gives, moves) =
+    let i = installs_so a b d m number root there installs moves in
+    subst (λ (r : ReplicaData). IsSameParty a r) (sym i.new_is) (installed_party a m.transfer.number d.executed.state (logs.cut_to a.orderer.log m.transfer.number).low)
+
+-- What was fetched is installed.
+pub installs_fetched : (c : Configuration) (s : Start) (a b : ReplicaData) (desk : Desk) (m : OpenData) (before after : List Output) → AreOne a.orderer a.desk → IsFetched c s a desk m before → IsVotedAll a.orderer.log
+    → InstallsFetched a before b after true → Stands c s b.orderer b.desk [] after × IsVotedAll b.orderer.log
+installs_fetched c s a b desk m before after one g voted (d, number, root, installs, gives, moves) =
+    let i = installs_so a b d m number root g.is_open installs moves in
+    let st = d.executed.state in
+    let is : given (me_of a) after ≡ Installed (me_of a) m.transfer.number m.transfer.root ∷ given (me_of a) before = given_one (me_of a) before after (outputs.Installed number root) gives
+    ∙ ap (λ (n : ℕ). Installed (me_of a) n root ∷ given (me_of a) before) i.number_is ∙ ap (λ (r : List ℕ). Installed (me_of a) m.transfer.number r ∷ given (me_of a) before) i.root_is in
+    subst (λ (r : ReplicaData). Stands c s r.orderer r.desk [] after × IsVotedAll r.orderer.log) (sym i.new_is) (
+      record {
+        desk = installed_desk desk st (frames_of (forgotten st a.desk.waiting));
+        is = installed_is c s a desk m before after st g i.has i.falls voted is;
+        fits = subst (λ (k : ℕ). FitsEvent c k s (record a.orderer { log = logs.cut_to a.orderer.log m.transfer.number }) (installed_desk desk st (frames_of (forgotten st a.desk.waiting))) (forgotten st a.desk.waiting).numbered [] after)
+            (sym one.0) (installed_fits c s a desk m before after st g i.has i.falls voted is);
+      },
+      cut_voted a.orderer.log m.transfer.number g.fits.fits.of_log.is_log voted,
+    )

@@ -1,0 +1,35 @@
+-- The party of a replica, from one step to the next.
+use Rattle.std.proofs.Common.{refl, ◌∙◌, arith}
+use Rattle.replica.specs.State.{OrdererData, ReplicaData}
+use Rattle.replica.specs.Going.{IsSameLog, IsSameOrderer, IsSameParty}
+use Rattle.ordering.specs.Log.{LogData}
+
+pub same_log : (log : LogData) → IsSameLog log log
+same_log log = record { me = refl; faults = refl; span = refl; view = refl; active = refl; low = omega arith }
+
+pub same_orderer : (o : OrdererData) → IsSameOrderer o o
+same_orderer o = record { endpoint = refl; log = same_log o.log }
+
+pub same_party : (r : ReplicaData) → IsSameParty r r
+same_party r = record { orderer = same_orderer r.orderer; me = refl; membership = refl; stopped = refl }
+
+pub logs_twice : (a b d : LogData) → IsSameLog a b → IsSameLog b d → IsSameLog a d
+logs_twice a b d first then = record {
+  me = then.me ∙ first.me;
+  faults = then.faults ∙ first.faults;
+  span = then.span ∙ first.span;
+  view = then.view ∙ first.view;
+  active = then.active ∙ first.active;
+  low = let l = first.low in let m = then.low in omega (arith, l, m);
+}
+
+pub orderers_twice : (a b d : OrdererData) → IsSameOrderer a b → IsSameOrderer b d → IsSameOrderer a d
+orderers_twice a b d first then = record { endpoint = then.endpoint ∙ first.endpoint; log = logs_twice a.log b.log d.log first.log then.log }
+
+pub parties_twice : (a b d : ReplicaData) → IsSameParty a b → IsSameParty b d → IsSameParty a d
+parties_twice a b d first then = record {
+  orderer = orderers_twice a.orderer b.orderer d.orderer first.orderer then.orderer;
+  me = then.me ∙ first.me;
+  membership = then.membership ∙ first.membership;
+  stopped = then.stopped ∙ first.stopped;
+}

@@ -1,0 +1,203 @@
+-- The last part of a state came: the state is installed, or it is none.
+use Rattle.std.proofs.Common.{◌≡◌, ℕ, inl, inr, true, false, List, [], Option, Some, None, refl, sym, ap, ◌∙◌, subst}
+use Rattle.wire.specs.Messages.{meta as MetaMessage, page as PageMessage}
+use Rattle.wire.specs.declared.messages.Meta.{Meta}
+use Rattle.wire.specs.declared.messages.Page.{Page}
+use Rattle.terms.specs.declared.parties.ReplicaId.{ReplicaId}
+use Rattle.events.specs.declared.output.Output.{Output}
+use Rattle.partition_tree.specs.Digests.{root_of as root_of_pages}
+use Rattle.signing.specs.Heard.{heard}
+use Rattle.state_transfer.specs.declared.replaced.Replaced.{Replaced}
+use Rattle.state_transfer.specs.Transfer.{TransferData, given_back, with_page}
+use Rattle.protocol.specs.System.Configuration.{Configuration, members}
+use Rattle.protocol.specs.System.Trace.{Entry}
+use Rattle.protocol.specs.System.Trace.Entry.{Got}
+use Rattle.protocol.specs.Replica.Certificates.{taken}
+use Rattle.protocol.specs.Replica.State.{State}
+use Rattle.replica_histories.proofs.Transfers.{pages_give_back}
+use Rattle.replica_histories.proofs.TransfersAnswering.{others_owe_none}
+use Rattle.replica.specs.declared.open_transfer.Taken.{Taken}
+use Rattle.replica.specs.declared.taking.Touched.TheVariants as touched
+use Rattle.replica.specs.State.{DeskData, OpenData, ReplicaData, AreOne}
+use Rattle.replica.specs.Desks.{FitsEvent}
+use Rattle.replica.specs.Entering.{event_of, IsTakenBeside, TakesBytes, TakesMessage}
+use Rattle.replica.specs.Fetching.{AsksOn, GivesBack, InstallsFetched, TakesDigests, TakesPage, with_transfer}
+use Rattle.replica.specs.Fits.{Runs, me_of}
+use Rattle.replica.specs.Going.{IsSameParty}
+use Rattle.replica.specs.Transferring.{AsksPlace, IsRestedAt, TakesPageOf}
+use Rattle.replica.proofs.Beginning.{rests}
+use Rattle.replica.proofs.Beside.{drops_beside}
+use Rattle.replica.proofs.Fetched.{rests_now}
+use Rattle.replica.proofs.Installed.{IsFetched, installs_fetched, moved_party, same_open}
+use Rattle.replica.proofs.Parties.{parties_twice, same_orderer}
+use Rattle.replica.proofs.Parts.{Comes, digests_come, page_comes}
+
+some_none : (x : OpenData) (P : Type 0) → Some x ≡ None → P
+some_none x P e = absurd cc
+
+-- the replica with this transfer
+abbrev pub holding : OpenData → ReplicaData → ReplicaData
+holding n r = record r { desk = with_transfer n r.desk }
+
+same_holding : (r : ReplicaData) (n : OpenData) → IsSameParty r (holding n r)
+same_holding r n = record { orderer = same_orderer r.orderer; me = refl; membership = refl; stopped = refl }
+
+-- Behind a part that came no other is asked for: the transfer rests on the state, and all that it holds has the root.
+pub record Rested (r : ReplicaData) (n m : OpenData) (a : ReplicaData) (outs : List Output) : Type 0 where
+  pub asks : AsksPlace r.desk.executed.state n m None
+  pub root : root_of_pages m.transfer.held ≡ m.transfer.root
+  pub new_is : a ≡ holding m r
+  pub outs_are : outs ≡ []
+
+pub rested_so : (r : ReplicaData) (n : OpenData) (a : ReplicaData) (outs : List Output) → AsksOn (holding n r) [] a outs false → (m : OpenData) × Rested r n m a outs
+rested_so r n a outs (desk, inl (none, same), new_is, given_is) = some_none n _ none
+rested_so r n a outs (desk, inr (o, m, there, desk_is, asks, root), new_is, given_is) = (
+  m,
+  record {
+    asks = subst (λ (x : OpenData). AsksPlace r.desk.executed.state x m None) (sym (same_open n o there)) asks;
+    root = root;
+    new_is = new_is ∙ ap (λ (d : DeskData). let new : ReplicaData = record r { desk = d } in new) desk_is;
+    outs_are = given_is;
+  },
+)
+
+module _ (r : ReplicaData) (one : AreOne r.orderer r.desk) (bytes : List ℕ) (n m : OpenData)
+    (comes : (c : Configuration) (past : List Entry) (runs : Runs c r past) → members c ≡ r.desk.membership → taken c past (Got (me_of r) bytes) ≡ None → Comes c r past runs bytes n)
+    (a b : ReplicaData) (mid outs : List Output) (f : Rested r n m a mid) where
+  fetched : (c : Configuration) (past : List Entry) (runs : Runs c r past) → members c ≡ r.desk.membership → taken c past (Got (me_of r) bytes) ≡ None
+      → IsFetched c (event_of c r past runs bytes) (holding m r) (record runs.desk { transfer = Some m.transfer }) m []
+  fetched c past runs known free =
+      let k = comes c past runs known free in
+      let now = rests_now c (event_of c r past runs bytes) r.orderer (with_transfer n r.desk) (record runs.desk { transfer = Some n.transfer }) r.desk.waiting.numbered n [] refl k.is k.fits m f.asks in
+      record { is_open = refl; is = now.0; fits = now.1; rests = now.2; root = f.root }
+
+  -- it is a state, which is installed
+  pub state_comes : InstallsFetched a mid b outs true → TakesBytes bytes r touched.State b outs
+  state_comes installs = record {
+    party = party;
+    begins = λ c past runs known free.
+        let stands = installs_fetched c (event_of c r past runs bytes) (holding m r) b (record runs.desk { transfer = Some m.transfer }) m [] outs one (fetched c past runs known free) (rests c r past runs).0 here in (
+          stands.0,
+          (stands.1, subst (λ (k : ℕ). IsTakenBeside c k (event_of c r past runs bytes)) (sym (ap (λ e. e.me) party.orderer.endpoint)) (comes c past runs known free).taken),
+        );
+  }
+    where
+      here : InstallsFetched (holding m r) [] b outs true
+      here = subst (λ (x : ReplicaData). InstallsFetched x [] b outs true) f.new_is (subst (λ (os : List Output). InstallsFetched a os b outs true) f.outs_are installs)
+
+      party : IsSameParty r b
+      party = parties_twice r (holding m r) b (same_holding r m) (moved_party (holding m r) b m [] outs refl here)
+
+  -- it is none, and what is open stays so
+  pub none_comes : InstallsFetched a mid b outs false → TakesBytes bytes r touched.Nothing b outs
+  none_comes (same, none) =
+      subst (λ (x : ReplicaData). TakesBytes bytes r touched.Nothing x outs) (sym (same ∙ f.new_is))
+      (subst (λ (os : List Output). TakesBytes bytes r touched.Nothing (holding m r) os) (sym (none ∙ f.outs_are)) (record {
+        party = same_holding r m;
+        begins = λ c past runs known free.
+            let g = fetched c past runs known free in (
+              record {
+                desk = record runs.desk { transfer = Some m.transfer };
+                is = g.is;
+                fits = subst (λ (k : ℕ). FitsEvent c k (event_of c r past runs bytes) r.orderer (record runs.desk { transfer = Some m.transfer }) r.desk.waiting.numbered [] []) (sym one.0) g.fits;
+              },
+              (
+                rests c r past runs,
+                runs.all,
+                others_owe_none c (me_of r) past (Got (me_of r) bytes) [] runs.holds.of_desk.point (comes c past runs known free).taken.1,
+                inl refl,
+              ),
+            );
+      }))
+
+-- ---- a page is given back
+
+-- where the transfer rested since
+given_back_rested : (t new : TransferData) (replaced : Replaced) (held : List (List ℕ)) → new ≡ record t { held = held } → given_back new replaced ≡ given_back t replaced
+given_back_rested t new replaced held is = ap (λ (x : TransferData). given_back x replaced) is
+
+rested_back : (st : State) (n m : OpenData) (replaced : Replaced) → IsRestedAt st n m → given_back m.transfer replaced ≡ given_back n.transfer replaced
+rested_back st n m replaced (inl (same, at)) = ap (λ (x : OpenData). given_back x.transfer replaced) at
+rested_back st n m replaced (inr (rests, at)) = given_back_rested n.transfer m.transfer replaced m.transfer.held rests.same
+
+asked_back : (st : State) (n m : OpenData) (replaced : Replaced) → AsksPlace st n m None → given_back m.transfer replaced ≡ given_back n.transfer replaced
+asked_back st n m replaced (rested, rests, next, m_is, all) = ap (λ (x : OpenData). given_back x.transfer replaced) m_is ∙ rested_back st n rested replaced rests
+
+-- The transfer is as it was before the page came.
+module _ (st : State) (o n m x : OpenData) (page : Page) (back : Taken) (takes : TakesPageOf o page n (Some back)) (asks : AsksPlace st n m None)
+    (gives : x ≡ record { transfer = given_back m.transfer back.replaced; rests_at = back.rests_at.0 }) where
+  transfer_back : given_back m.transfer back.replaced ≡ o.transfer
+  transfer_back =
+      asked_back st n m back.replaced asks
+      ∙ ap (λ (y : OpenData). given_back y.transfer back.replaced) takes.3
+      ∙ ap (given_back (with_page o.transfer page.index page.text.items)) takes.4.0
+      ∙ pages_give_back o.transfer page.index page.text.items
+
+  pub open_back : x ≡ o
+  open_back = gives
+      ∙ ap (λ (t : TransferData). let new : OpenData = record { transfer = t; rests_at = back.rests_at.0 } in new) transfer_back
+      ∙ ap (λ (k : ℕ). let new : OpenData = record { transfer = o.transfer; rests_at = k } in new) takes.4.1
+
+desk_back : (d e : DeskData) (o m : OpenData) (back : Taken) → d.transfer ≡ Some o → ((x : OpenData) → x ≡ record { transfer = given_back m.transfer back.replaced; rests_at = back.rests_at.0 } → x ≡ o)
+    → GivesBack (with_transfer m d) back e → e ≡ d
+desk_back d e o m back there same (inl (none, is)) = some_none m _ none
+desk_back d e o m back there same (inr (k, x, is_open, e_is, gives)) =
+    e_is
+    ∙ ap (λ (y : OpenData). with_transfer y d) (same x (subst (λ (y : OpenData). x ≡ record { transfer = given_back y.transfer back.replaced; rests_at = back.rests_at.0 }) (sym (same_open m k is_open)) gives))
+    ∙ ap (λ (t : Option OpenData). let new : DeskData = record d { transfer = t } in new) (sym there)
+
+-- So the replica is, and the page is dropped.
+pub page_back : (r : ReplicaData) (one : AreOne r.orderer r.desk) (sender : ReplicaId) (page : Page) (bytes : List ℕ) (o n m : OpenData) (back : Taken) (a b : ReplicaData) (d : DeskData) (mid outs : List Output)
+    → heard r.desk.membership r.desk.me bytes ≡ Some (record { sender = sender.0; message = PageMessage page.number.0 page.index page.text.items })
+    → r.desk.transfer ≡ Some o → TakesPageOf o page n (Some back) → Rested r n m a mid → InstallsFetched a mid b outs false → GivesBack b.desk back d
+    → TakesBytes bytes r touched.Nothing (record b { desk = d }) outs
+page_back r one sender page bytes o n m back a b d mid outs hears there takes f (same, none) gives =
+    subst (λ (x : ReplicaData). TakesBytes bytes r touched.Nothing x outs) (sym r_is)
+    (subst (λ (os : List Output). TakesBytes bytes r touched.Nothing r os) (sym (none ∙ f.outs_are))
+    (drops_beside r one bytes (record { sender = sender.0; message = PageMessage page.number.0 page.index page.text.items }) hears (λ c. record { log = tt; call = refl; asks = λ st. refl }) refl))
+  where
+    b_is : b ≡ holding m r
+    b_is = same ∙ f.new_is
+
+    d_is : d ≡ r.desk
+    d_is = desk_back r.desk d o m back there (λ x. open_back r.desk.executed.state o n m x page back takes f.asks)
+        (subst (λ (x : ReplicaData). GivesBack x.desk back d) b_is gives)
+
+    r_is : record b { desk = d } ≡ r
+    r_is = ap (λ (x : ReplicaData). let new : ReplicaData = record x { desk = d } in new) b_is ∙ ap (λ (x : DeskData). let new : ReplicaData = record r { desk = x } in new) d_is
+
+-- ---- digests
+
+module _ (r : ReplicaData) (one : AreOne r.orderer r.desk) (sender : ReplicaId) (meta : Meta) (d : DeskData) (a b : ReplicaData) (mid outs : List Output) (takes : TakesDigests r.desk meta d true)
+    (asks : AsksOn (record r { desk = d }) [] a mid false) where
+  digests_so : (bytes : List ℕ) → heard r.desk.membership r.desk.me bytes ≡ Some (record { sender = sender.0; message = MetaMessage meta.number.0 meta.level meta.index meta.digests.items })
+      → (n : OpenData) × (m : OpenData) × Rested r n m a mid
+      × ((c : Configuration) (past : List Entry) (runs : Runs c r past) → members c ≡ r.desk.membership → taken c past (Got (me_of r) bytes) ≡ None → Comes c r past runs bytes n)
+  digests_so bytes hears =
+      let there = takes.2 in
+      let now = rested_so r takes.1 a mid (subst (λ (x : DeskData). AsksOn (record r { desk = x }) [] a mid false) takes.3 asks) in (
+        takes.1,
+        now.0,
+        now.1,
+        λ c past runs known free. digests_come r one bytes sender.0 takes.0 takes.1 there c past runs known free meta hears takes.4,
+      )
+
+  pub digests_install : InstallsFetched a mid b outs true → TakesMessage sender (MetaMessage meta.number.0 meta.level meta.index meta.digests.items) r touched.State b outs
+  digests_install installs bytes hears = let so = digests_so bytes hears in state_comes r one bytes so.0 so.1 so.3 a b mid outs so.2 installs
+
+  pub digests_end : InstallsFetched a mid b outs false → TakesMessage sender (MetaMessage meta.number.0 meta.level meta.index meta.digests.items) r touched.Nothing b outs
+  digests_end installs bytes hears = let so = digests_so bytes hears in none_comes r one bytes so.0 so.1 so.3 a b mid outs so.2 installs
+
+-- ---- a page
+
+module _ (r : ReplicaData) (one : AreOne r.orderer r.desk) (sender : ReplicaId) (page : Page) (back : Taken) (d : DeskData) (a b : ReplicaData) (mid outs : List Output) (takes : TakesPage r.desk page d (Some back))
+    (asks : AsksOn (record r { desk = d }) [] a mid false) where
+  page_so : (m : OpenData) × Rested r takes.1 m a mid
+  page_so = rested_so r takes.1 a mid (subst (λ (x : DeskData). AsksOn (record r { desk = x }) [] a mid false) takes.3 asks)
+
+  pub page_installs : InstallsFetched a mid b outs true → TakesMessage sender (PageMessage page.number.0 page.index page.text.items) r touched.State b outs
+  page_installs installs bytes hears =
+      state_comes r one bytes takes.1 page_so.0 (λ c past runs known free. page_comes r one bytes sender.0 takes.0 takes.1 takes.2 c past runs known free page back hears takes.4) a b mid outs page_so.1 installs
+
+  pub page_ends : (e : DeskData) → InstallsFetched a mid b outs false → GivesBack b.desk back e → TakesMessage sender (PageMessage page.number.0 page.index page.text.items) r touched.Nothing (record b { desk = e }) outs
+  page_ends e installs gives bytes hears = page_back r one sender page bytes takes.0 takes.1 page_so.0 back a b e mid outs hears takes.2 takes.4 page_so.1 installs gives

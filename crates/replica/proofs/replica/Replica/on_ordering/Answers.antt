@@ -1,9 +1,0 @@
-use Rattle.std.proofs.Common.{rules}
-use Rattle.replica.proofs.Beginning.{other_dropped}
-use Rattle.replica.proofs.replica.Replica.on_ordering.Goals as goal
-
-pub returns : goal.returns
-returns c = record {
-  ok = other_dropped _ c.args.sender c.args.message c.are_one.ensures c.note_replica.ensures (c.in_default.not-PrePrepare, c.in_default.not-Prepare, c.in_default.not-Commit);
-  endpoint = search rules;
-}

@@ -1,0 +1,79 @@
+-- Checkpoints of a replica's own, those that come, and the marks that they move (Castro and Liskov, TOCS 2002, on garbage
+-- collection).
+use Rattle.std.specs.Prelude.{◌≡◌, ◌⊎◌, ℕ, ◌+◌, ◌*◌, ◌<◌, ◌≤◌, Bool, true, false, List, [], Some, None, is_none, nat_le}
+use Rattle.terms.specs.declared.parties.ReplicaId.{ReplicaId}
+use Rattle.terms.specs.declared.state.Level.TheVariants as levels
+use Rattle.wire.specs.Messages.{CheckpointEntryData as CheckpointEntry, checkpoint as Checkpoint, fetch as FetchMessage}
+use Rattle.wire.specs.declared.messages.Checkpoint.{Checkpoint as CheckpointMessage}
+use Rattle.events.specs.declared.output.Output.{Output}
+use Rattle.ordering.specs.Log as logs
+use Rattle.ordering.specs.Checkpoints.{says_checkpoint}
+use Rattle.ordering.specs.Messages.{checkpoint_fault_of}
+use Rattle.protocol.specs.System.Configuration.{Configuration, members}
+use Rattle.protocol.specs.Replica.State.{root_of}
+use Rattle.replica_histories.specs.Events.{Start}
+use Rattle.replica_histories.specs.Outputs.{checkpoint_due}
+use Rattle.replica.specs.State.{OrdererData, DeskData, ReplicaData}
+use Rattle.replica.specs.Desks.{Stands}
+use Rattle.replica.specs.Desking.{is_due, newest_entry}
+use Rattle.replica.specs.Marking.{MovesMarks}
+use Rattle.replica.specs.Fetching.{aimed_at, aiming}
+use Rattle.replica.specs.Going.{CommitsNoMore, IsSameParty, IsVotedAll}
+use Rattle.replica.specs.Saying.{Says}
+
+-- what a checkpoint message says
+abbrev pub said_entry : CheckpointMessage → CheckpointEntry
+said_entry m = record { number = m.number.0; digest = m.root }
+
+-- the orderer counts the sender's checkpoint
+abbrev pub counting : OrdererData → ℕ → CheckpointEntry → OrdererData
+counting o s entry = record o { log = logs.with_checkpoint_of o.log s entry }
+
+-- A checkpoint is taken where the log has no fault for it, and it is one of its sender's latest then. A fault changes
+-- nothing; what is counted and isn't one of the latest is not taken either.
+abbrev pub TakesCheckpoint : OrdererData → ReplicaId → CheckpointMessage → OrdererData → Bool → Type 0
+TakesCheckpoint old sender m new true =
+    (checkpoint_fault_of old.log sender m ≡ None) × (new ≡ counting old sender.0 (said_entry m))
+    × (says_checkpoint (said_entry m) (logs.checkpoints_of new.log sender.0) ≡ true)
+TakesCheckpoint old sender m new false =
+    ((is_none (checkpoint_fault_of old.log sender m) ≡ false) × (new ≡ old))
+    ⊎ ((new ≡ counting old sender.0 (said_entry m))
+    × (says_checkpoint (said_entry m) (logs.checkpoints_of new.log sender.0) ≡ false))
+
+-- The own checkpoint is said, counted, and noted.
+pub record SaysCheckpoint (entry : CheckpointEntry) (old : OrdererData) (before : List Output) (new : OrdererData)
+    (after : List Output) : Type 0 where
+  pub says : Says old (Checkpoint entry.number entry.digest) before after
+  pub new_is : new ≡ record (counting old old.log.me entry) { last_checkpoint = Some entry }
+
+-- They move to a checkpoint where that is stable, and else nothing changes.
+abbrev pub Settles : CheckpointEntry → ReplicaData → ReplicaData → Bool → Type 0
+Settles entry old new true = (logs.is_stable old.orderer.log entry ≡ true) × MovesMarks entry.number old new
+Settles entry old new false = (logs.is_stable old.orderer.log entry ≡ false) × (new ≡ old)
+
+-- where the executed state is to have a checkpoint, it is the newest one that is kept
+abbrev pub IsDueKept : DeskData → Type 0
+IsDueKept d = is_due d ≡ true
+    → newest_entry d.snapshots
+    ≡ Some (record { number = d.executed.state.number; digest = root_of d.executed.state })
+
+-- The checkpoint that is due is said, where the log asks for no vote, and marks may move.
+pub record SaysDueCheckpoint (old : ReplicaData) (before : List Output) (new : ReplicaData) (after : List Output)
+    : Type 0 where
+  pub stands : (c : Configuration) (s : Start) → members c ≡ old.desk.membership → IsVotedAll old.orderer.log
+      → Stands c s old.orderer old.desk (checkpoint_due c old.desk.executed.state) before
+      → Stands c s new.orderer new.desk [] after
+  pub party : IsSameParty old new
+  pub used : new.orderer.used ≡ old.orderer.used
+  pub desk : new.desk ≡ record old.desk { snapshots = new.desk.snapshots }
+  pub voted : IsVotedAll old.orderer.log → IsVotedAll new.orderer.log
+  pub commits : CommitsNoMore old.orderer.log new.orderer.log
+
+-- A quorum's checkpoint above what is executed and fetched is aimed at, and its root asked for; else nothing is done.
+abbrev pub Follows : CheckpointEntry → ReplicaData → List Output → ReplicaData → List Output → Type 0
+Follows entry old before new after =
+    (((nat_le (2 * old.orderer.log.faults + 1) (logs.count_checkpoints old.orderer.log entry) ≡ false)
+    ⊎ (entry.number ≤ aimed_at old.desk)) × (new ≡ old) × (after ≡ before))
+    ⊎ ((nat_le (2 * old.orderer.log.faults + 1) (logs.count_checkpoints old.orderer.log entry) ≡ true)
+    × (aimed_at old.desk < entry.number) × (new ≡ record old { desk = aiming entry old.desk })
+    × Says old.orderer (FetchMessage entry.number levels.Root 0) before after)

@@ -1,0 +1,155 @@
+-- What a desk fetches of a state that is ahead, and what it gives of those that it keeps (Castro and Liskov, TOCS 2002, on
+-- state transfer).
+use Rattle.std.specs.Prelude.{◌≡◌, ◌≢◌, ◌⊎◌, ℕ, ◌<◌, ◌≤◌, Bool, true, false, List, [], ◌∷◌, ◌++◌, Option, Some, None}
+use Rattle.terms.specs.declared.order.Number.{Number}
+use Rattle.terms.specs.declared.parties.Party.TheVariants as parties
+use Rattle.terms.specs.declared.parties.ReplicaId.{ReplicaId}
+use Rattle.wire.specs.Lists.{Each}
+use Rattle.wire.specs.Messages.{MessageData, CheckpointEntryData as CheckpointEntry, fetch as FetchMessage}
+use Rattle.wire.specs.Views.{message_data}
+use Rattle.wire.specs.declared.messages.Message.{Message}
+use Rattle.wire.specs.declared.messages.Fetch.{Fetch}
+use Rattle.wire.specs.declared.messages.Meta.{Meta}
+use Rattle.wire.specs.declared.messages.Page.{Page}
+use Rattle.posting.specs.Endpoint.{SealsForOne}
+use Rattle.events.specs.declared.output.Output.{Output}
+use Rattle.events.specs.declared.output.Output.TheVariants as outputs
+use Rattle.partition_tree.specs.Digests.{root_of as root_of_pages}
+use Rattle.state_transfer.specs.declared.place.Place.{Place}
+use Rattle.state_transfer.specs.Transfer.{TransferData}
+use Rattle.execution.specs.Installing.{HasPagesAt, NoneFalls}
+use Rattle.protocol.specs.System.Trace.{Has}
+use Rattle.protocol.specs.Replica.State.{State}
+use Rattle.replica_histories.specs.Desk.{snapshot_of}
+use Rattle.replica_histories.specs.TransfersAnswers.{answer_by}
+use Rattle.replica.specs.declared.open_transfer.Taken.{Taken}
+use Rattle.replica.specs.State.{OpenData, DeskData, ReplicaData}
+use Rattle.replica.specs.Waiting.{forgotten}
+use Rattle.replica.specs.Desking.{above_number}
+use Rattle.replica.specs.Marking.{MovesMarks}
+use Rattle.replica.specs.Saying.{Says}
+use Rattle.replica.specs.Transferring.{started, moved, TakesDigestsOf, TakesPageOf, is_given_back, AsksPlace}
+
+-- ---- answers
+
+-- a state of the number is kept, with these pages
+abbrev pub HasKept : DeskData → ℕ → List (List ℕ) → Type 0
+HasKept d k pages = Has (λ x. x ≡ record { number = k; pages = pages }) d.snapshots
+
+abbrev pub HasNone : DeskData → ℕ → Type 0
+HasNone d k = Each (λ x. x.number ≢ k) d.snapshots
+
+-- The message is the part of a kept state that is asked for; there is none where no state of the number is kept.
+abbrev pub HasPart : DeskData → Fetch → Option Message → Type 0
+HasPart d fetch (Some message) = (pages : List (List ℕ)) × HasKept d fetch.number.0 pages
+    × (message_data message ≡ answer_by pages fetch.number.0 fetch.level fetch.index)
+HasPart d fetch None = HasNone d fetch.number.0
+
+-- That part is given to the asking replica alone; where no state of the number is kept, nothing is.
+abbrev pub GivesPart : DeskData → ReplicaId → Fetch → List Output → List Output → Type 0
+GivesPart d asker fetch before after = ((after ≡ before) × HasNone d fetch.number.0)
+    ⊎ ((pages : List (List ℕ)) × (output : Output) × HasKept d fetch.number.0 pages
+    × SealsForOne d.membership d.me (answer_by pages fetch.number.0 fetch.level fetch.index)
+    (parties.Replica asker) output
+    × (after ≡ before ++ output ∷ []))
+
+-- ---- a transfer is aimed
+
+-- the number above which a checkpoint's state is fetched
+abbrev pub aimed_at : DeskData → ℕ
+aimed_at d = elim d.transfer [ Some o ↦ o.transfer.number | None ↦ d.executed.state.number ]
+
+-- the transfer of a checkpoint's state: a new one, or the open one, moved to it
+abbrev pub opened : State → Option OpenData → CheckpointEntry → OpenData
+opened st None entry = started st entry
+opened st (Some o) entry = moved o entry
+
+abbrev pub aiming : CheckpointEntry → DeskData → DeskData
+aiming entry d = record d { transfer = Some (opened d.executed.state d.transfer entry) }
+
+-- It is aimed at a checkpoint above that number, and else nothing changes.
+abbrev pub AimsAt : CheckpointEntry → DeskData → DeskData → Bool → Type 0
+AimsAt entry old new true = (aimed_at old < entry.number) × (new ≡ aiming entry old)
+AimsAt entry old new false = (entry.number ≤ aimed_at old) × (new ≡ old)
+
+-- the number and place that are asked for
+abbrev pub IsAskedFor : DeskData → Option (Number × Place) → Type 0
+IsAskedFor d (Some asked) =
+    (o : OpenData) × (d.transfer ≡ Some o) × (asked.0.0 ≡ o.transfer.number) × (asked.1 ≡ o.transfer.asked)
+IsAskedFor d None = d.transfer ≡ None
+
+-- the fetch of the place that is asked for
+abbrev pub fetch_of : TransferData → MessageData
+fetch_of t = FetchMessage t.number t.asked.level t.asked.index
+
+-- What is asked for is asked for again; where no transfer is open, nothing is.
+abbrev pub SaysFetch : ReplicaData → List Output → List Output → Type 0
+SaysFetch r before after = ((r.desk.transfer ≡ None) × (after ≡ before))
+    ⊎ ((o : OpenData) × (r.desk.transfer ≡ Some o) × Says r.orderer (fetch_of o.transfer) before after)
+
+-- ---- parts
+
+-- the open transfer alone changes
+abbrev pub with_transfer : OpenData → DeskData → DeskData
+with_transfer o d = record d { transfer = Some o }
+
+abbrev pub TakesDigests : DeskData → Meta → DeskData → Bool → Type 0
+TakesDigests old meta new true = (o : OpenData) × (n : OpenData) × (old.transfer ≡ Some o)
+    × (new ≡ with_transfer n old) × TakesDigestsOf o meta n true
+TakesDigests old meta new false = new ≡ old
+
+abbrev pub TakesPage : DeskData → Page → DeskData → Option Taken → Type 0
+TakesPage old page new (Some taken) = (o : OpenData) × (n : OpenData) × (old.transfer ≡ Some o)
+    × (new ≡ with_transfer n old) × TakesPageOf o page n (Some taken)
+TakesPage old page new None = new ≡ old
+
+abbrev pub GivesBack : DeskData → Taken → DeskData → Type 0
+GivesBack old taken new = ((old.transfer ≡ None) × (new ≡ old))
+    ⊎ ((o : OpenData) × (n : OpenData) × (old.transfer ≡ Some o) × (new ≡ with_transfer n old)
+    × is_given_back o taken n)
+
+-- a transfer of a state that is reached is closed
+abbrev pub closing_reached : DeskData → DeskData
+closing_reached d = record d { transfer = above_number d.executed.state.number d.transfer }
+
+-- ---- the next part
+
+-- A part is still to be fetched, which is asked for then; or all that is held has the wanted root, or nothing is open.
+abbrev pub AsksPart : DeskData → DeskData → Bool → Type 0
+AsksPart old new true = (o : OpenData) × (n : OpenData) × (place : Place) × (old.transfer ≡ Some o)
+    × (new ≡ with_transfer n old) × AsksPlace old.executed.state o n (Some place)
+AsksPart old new false = ((old.transfer ≡ None) × (new ≡ old))
+    ⊎ ((o : OpenData) × (n : OpenData) × (old.transfer ≡ Some o) × (new ≡ with_transfer n old)
+    × AsksPlace old.executed.state o n None × (root_of_pages n.transfer.held ≡ n.transfer.root))
+
+-- and its fetch is said
+abbrev pub AsksOn : ReplicaData → List Output → ReplicaData → List Output → Bool → Type 0
+AsksOn old before new after asks =
+    (desk : DeskData) × AsksPart old.desk desk asks × (new ≡ record old { desk = desk })
+    × (elim asks [ true ↦ SaysFetch new before after | false ↦ after ≡ before ])
+
+-- ---- a state is installed
+
+-- The state of the pages that are held is installed and kept, and nothing is open any more; or there is none that may be.
+abbrev pub Installs : DeskData → DeskData → Option CheckpointEntry → Type 0
+Installs old new (Some entry) =
+    (o : OpenData) × (old.transfer ≡ Some o)
+    × (entry ≡ record { number = o.transfer.number; digest = o.transfer.root })
+    × HasPagesAt o.transfer.number o.transfer.held new.executed.state
+    × NoneFalls old.executed.state new.executed.state
+    × (new ≡ record old {
+      executed = record old.executed { state = new.executed.state };
+      snapshots = snapshot_of new.executed.state ∷ old.snapshots;
+      transfer = None;
+      waiting = forgotten new.executed.state old.waiting;
+    })
+Installs old new None = new ≡ old
+
+-- That is told, and the marks move up to it.
+abbrev pub InstallsFetched : ReplicaData → List Output → ReplicaData → List Output → Bool → Type 0
+InstallsFetched old before new after true =
+    (desk : DeskData) × (number : Number) × (root : List ℕ)
+    × Installs old.desk desk (Some (record { number = number.0; digest = root }))
+    × (after ≡ before ++ outputs.Installed number root ∷ [])
+    × MovesMarks number.0 (record old { desk = desk }) new
+InstallsFetched old before new after false = (new ≡ old) × (after ≡ before)

@@ -1,0 +1,6 @@
+-- What the fields of an open transfer stand for.
+use Rattle.replica.specs.declared.open_transfer.OpenTransfer.TheInside.{Inside}
+use Rattle.replica.specs.State.{OpenData}
+
+abbrev pub open_data : Inside → OpenData
+open_data o = record { transfer = o.transfer; rests_at = o.rests_at.0 }

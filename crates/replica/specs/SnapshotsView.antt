@@ -1,0 +1,11 @@
+-- What kept states stand for.
+use Rattle.std.specs.Prelude.{List, map}
+use Rattle.replica_histories.specs.Desk.{Snapshot}
+use Rattle.replica.specs.declared.snapshots.KeptState.{KeptState}
+use Rattle.replica.specs.declared.snapshots.Snapshots.TheInside.{Inside}
+
+abbrev pub kept_data : KeptState → Snapshot
+kept_data state = record { number = state.number.0; pages = state.pages }
+
+abbrev pub snapshots_data : Inside → List Snapshot
+snapshots_data s = map kept_data s.kept.items

@@ -1,0 +1,108 @@
+//! Checkpoints: the own one behind each period, those that come, and what a quorum of them does.
+
+ghost use Rattle.std.specs.Prelude.{◌≡◌, ◌^◌, ◌<◌, [], IfOk, OnOk};
+ghost use Rattle.wire.specs.Messages.{checkpoint};
+ghost use Rattle.wire.specs.Views.{checkpoint_entry_data};
+ghost use Rattle.replica.specs.Checkpoints.{Follows, IsDueKept, SaysDueCheckpoint, Settles};
+ghost use Rattle.replica.specs.Marking.{MovesMarks};
+ghost use Rattle.replica.specs.Entering.{TakesMessage};
+
+use crate::marks::entry_in;
+use crate::replica::Replica;
+use crate::taking::Touched;
+use events::{Outputs, Stop};
+use std::alloc::Global;
+use terms::{Number, ReplicaId};
+use wire::{Checkpoint, CheckpointEntry};
+
+impl Replica {
+    /// Takes a checkpoint of another replica. Where it completes a quorum, the own one among them, the marks move;
+    /// where the quorum is without the own one and ahead of the executed state, that state is fetched.
+    pub(crate) fn on_checkpoint(
+        &mut self,
+        alloc: Global,
+        sender: ReplicaId,
+        message: &Checkpoint,
+        outputs: &mut Outputs,
+    ) -> Result<Touched, Stop>
+        requires first { outputs.old.items ≡ [] }
+        ensures ok { IfOk result (λ touched. TakesMessage sender
+            (checkpoint message.now.number.0 message.now.root)
+            self.old touched self.new outputs.new.items) }
+        ensures endpoint { self.new.orderer.endpoint ≡ self.old.orderer.endpoint }
+    {
+        self.are_one();
+        if !self.orderer.take_checkpoint(sender, message) {
+            return Ok(Touched::Nothing);
+        }
+        let entry = entry_in(message);
+        if self.settle(&entry) {
+            return Ok(Touched::Waiting);
+        }
+        self.follow(alloc, &entry, outputs)?;
+        Ok(Touched::Nothing)
+    }
+
+    /// Says the checkpoint of the executed state, where it is to have one, and is the newest that is kept then.
+    pub(crate) fn say_due_checkpoint(
+        &mut self,
+        alloc: Global,
+        outputs: &mut Outputs,
+    ) -> Result<(), Stop>
+        requires fits { self.old.desk.executed.state.number < 2 ^ 48 }
+        requires kept { IsDueKept self.old.desk }
+        ensures ok { OnOk result
+            (SaysDueCheckpoint self.old outputs.old.items self.new outputs.new.items) }
+        ensures endpoint { self.new.orderer.endpoint ≡ self.old.orderer.endpoint }
+    {
+        let Some(entry) = self.desk.due_checkpoint() else {
+            return Ok(());
+        };
+        self.orderer.say_checkpoint(alloc, entry, outputs)?;
+        self.orderer.keeps();
+        self.settle(&entry);
+        Ok(())
+    }
+
+    // Moves the marks to a checkpoint that is stable. Returns whether it is. Only the one that was counted last can
+    // have become so.
+    fn settle(&mut self, entry: &CheckpointEntry) -> bool
+        requires { entry.now.number.0 < 2 ^ 48 }
+        ensures settles { Settles (checkpoint_entry_data entry.now) self.old self.new result }
+        ensures endpoint { self.new.orderer.endpoint ≡ self.old.orderer.endpoint }
+    {
+        if !self.orderer.log.is_stable(entry) {
+            return false;
+        }
+        self.move_marks(entry.number);
+        true
+    }
+
+    /// Moves the low mark up to this number, and drops what is below it.
+    pub(crate) fn move_marks(&mut self, low: Number)
+        requires { low.0 < 2 ^ 48 }
+        ensures moves { MovesMarks low.0 self.old self.new }
+        ensures endpoint { self.new.orderer.endpoint ≡ self.old.orderer.endpoint }
+    {
+        self.orderer.cut(low);
+        self.desk.drop_below(self.orderer.log.low());
+    }
+
+    // Fetches the state of a checkpoint that a quorum said and that is ahead of the executed state and of the one that
+    // is fetched.
+    fn follow(
+        &mut self,
+        alloc: Global,
+        entry: &CheckpointEntry,
+        outputs: &mut Outputs,
+    ) -> Result<(), Stop>
+        ensures ok { OnOk result (Follows (checkpoint_entry_data entry.now) self.old outputs.old.items self.new
+            outputs.new.items) }
+        ensures endpoint { self.new.orderer.endpoint ≡ self.old.orderer.endpoint }
+    {
+        if !self.orderer.has_quorum(entry) || !self.desk.aim(alloc, entry)? {
+            return Ok(());
+        }
+        self.say_fetch(alloc, outputs)
+    }
+}

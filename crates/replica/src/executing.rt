@@ -1,0 +1,63 @@
+//! What is committed is executed.
+
+ghost use Rattle.std.specs.Prelude.{◌≡◌, IfOk, OnOk};
+ghost use Rattle.replica.specs.Going.{ExecutesAll, ExecutesTurn, GoesOnWith};
+
+use crate::replica::Replica;
+use events::{Outputs, Stop};
+use std::alloc::Global;
+use std::sync::Arc;
+use terms::Number;
+
+impl Replica {
+    /// Says what the log asks for of a number, and executes all that is committed then.
+    pub(crate) fn go_on(
+        &mut self,
+        alloc: Global,
+        number: Number,
+        outputs: &mut Outputs,
+    ) -> Result<(), Stop>
+        ensures ok { OnOk result
+            (GoesOnWith number.0 self.old outputs.old.items self.new outputs.new.items) }
+        ensures endpoint { self.new.orderer.endpoint ≡ self.old.orderer.endpoint }
+    {
+        self.orderer.say_votes(alloc, number, outputs)?;
+        self.execute_committed(alloc, outputs)
+    }
+
+    /// Executes batches as long as the next one is committed. There are no more of them than numbers within the marks
+    /// when it begins: where marks move meanwhile, nothing is committed of the numbers that come into them.
+    pub(crate) fn execute_committed(
+        &mut self,
+        alloc: Global,
+        outputs: &mut Outputs,
+    ) -> Result<(), Stop>
+        ensures ok { OnOk result
+            (ExecutesAll self.old outputs.old.items self.new outputs.new.items) }
+        ensures endpoint { self.new.orderer.endpoint ≡ self.old.orderer.endpoint }
+    {
+        for _ in 0..self.orderer.log.span() {
+            if !self.execute_next(alloc, outputs)? {
+                return Ok(());
+            }
+        }
+        Ok(())
+    }
+
+    // Executes the next batch, if it is committed, answers its requests and says the checkpoint that is due then.
+    // Returns whether it is committed.
+    fn execute_next(&mut self, alloc: Global, outputs: &mut Outputs) -> Result<bool, Stop>
+        ensures ok { IfOk result
+            (ExecutesTurn self.old outputs.old.items self.new outputs.new.items) }
+        ensures endpoint { self.new.orderer.endpoint ≡ self.old.orderer.endpoint }
+    {
+        let next = Number(self.desk.executed.number().0 + 1);
+        let Some(batch) = self.orderer.log.next_batch(next) else {
+            return Ok(false);
+        };
+        let batch = Arc::try_clone(batch)?;
+        self.desk.execute(alloc, batch.text(), outputs)?;
+        self.say_due_checkpoint(alloc, outputs)?;
+        Ok(true)
+    }
+}

@@ -1,0 +1,186 @@
+//! The desk's part in transfers of states: it gives parts of those that it keeps, and fetches one that is ahead.
+
+ghost use Rattle.std.specs.Prelude.{◌≡◌, ◌≤◌, false, IfOk, IfSome, OnOk, option_map};
+ghost use Rattle.wire.specs.Views.{checkpoint_entry_data, message_data};
+ghost use Rattle.wire.specs.Spelling.{IsMessage, is_signed, last_index};
+ghost use Rattle.state_transfer.specs.Places.{IsPlace};
+ghost use Rattle.replica.specs.Fetching.{AimsAt, AsksPart, GivesBack, GivesPart, HasPart, Installs, IsAskedFor, TakesDigests, TakesPage, aimed_at, closing_reached};
+
+use crate::desk::Desk;
+use crate::open_transfer::{OpenTransfer, Taken};
+use events::{Outputs, Stop, give};
+use posting::{meta_message, page_message, seal_for_one};
+use state_transfer::Place;
+use std::alloc::Global;
+use terms::{Level, NoMemory, Number, Party, ReplicaId};
+use wire::{CheckpointEntry, Fetch, Message, Meta, Page};
+
+impl Desk {
+    /// Gives the part that a replica asks for to that replica alone, if the state is kept.
+    pub(crate) fn give_part(
+        &mut self,
+        alloc: Global,
+        asker: ReplicaId,
+        fetch: &Fetch,
+        outputs: &mut Outputs,
+    ) -> Result<(), Stop>
+        requires { fetch.now.index ≤ last_index fetch.now.level }
+        ensures ok { OnOk result (GivesPart self.old asker fetch.now outputs.old.items outputs.new.items) }
+        ensures same { self.new ≡ self.old }
+    {
+        let Some(message) = self.part_message(alloc, fetch)? else {
+            return Ok(());
+        };
+        let party = Party::Replica(asker);
+        match seal_for_one(&mut self.ring, alloc, self.me, message, party) {
+            Ok(output) => give(outputs, output),
+            Err(_) => Err(Stop::NoMemory),
+        }
+    }
+
+    // The part that is asked for, if the state is kept: the digests below a place, or the text of a page.
+    fn part_message(&self, alloc: Global, fetch: &Fetch) -> Result<Option<Message>, NoMemory>
+        requires { fetch.now.index ≤ last_index fetch.now.level }
+        ensures part { IfOk result (HasPart self.now fetch.now) }
+        ensures may { IfOk result (λ part. IfSome part (λ message. IsMessage (message_data message))) }
+        ensures unsigned { IfOk result
+            (λ part. IfSome part (λ message. is_signed (message_data message) ≡ false)) }
+    {
+        let Some(pages) = self.snapshots.of(fetch.number) else {
+            return Ok(None);
+        };
+        let Fetch {
+            number,
+            level,
+            index,
+        } = *fetch;
+        let at = usize::from(index);
+        match level {
+            Level::Root | Level::Inner => {
+                let digests = pages.children(level, at);
+                Ok(Some(meta_message(alloc, number, level, index, digests)?))
+            }
+            Level::Page => {
+                let text = Vec::from_slice(alloc, pages.page(at))?;
+                Ok(Some(page_message(number, index, text)))
+            }
+        }
+    }
+
+    // The number above which the state of a checkpoint is fetched: that of the one that is, or else the executed one.
+    fn aimed_at(&self) -> Number
+        ensures { result.0 ≡ aimed_at self.now }
+    {
+        match &self.transfer {
+            Some(open) => open.entry().number,
+            None => self.executed.number(),
+        }
+    }
+
+    /// Opens a transfer of this checkpoint's state, or moves the open one to it, if it is above what is executed and
+    /// fetched. Returns whether. NoMemory where memory runs out.
+    pub(crate) fn aim(&mut self, alloc: Global, entry: &CheckpointEntry) -> Result<bool, NoMemory>
+        ensures ok { IfOk result (AimsAt (checkpoint_entry_data entry.now) self.old self.new) }
+        ensures me { self.new.me ≡ self.old.me }
+        ensures membership { self.new.membership ≡ self.old.membership }
+    {
+        if entry.number.0 <= self.aimed_at().0 {
+            return Ok(false);
+        }
+        match &mut self.transfer {
+            None => {
+                let open = OpenTransfer::start(alloc, entry, &mut self.executed)?;
+                self.transfer = Some(open);
+            }
+            Some(open) => open.move_to(entry),
+        }
+        Ok(true)
+    }
+
+    /// What is asked for, if a transfer is open: the number of the state, and the place.
+    pub(crate) fn asked(&self) -> Option<(Number, Place)>
+        ensures value { IsAskedFor self.now result }
+        ensures range { IfSome result (λ asked. IsPlace asked.1) }
+    {
+        let open = self.transfer.as_ref()?;
+        Some((open.entry().number, open.asked()))
+    }
+
+    /// Takes the digests below a place, if they are asked for. Returns whether. Takes no memory.
+    pub(crate) fn take_digests(&mut self, meta: &Meta) -> bool
+        ensures { TakesDigests self.old meta.now self.new result }
+    {
+        match &mut self.transfer {
+            Some(open) => open.take_digests(meta),
+            None => false,
+        }
+    }
+
+    /// Takes a page, if it is asked for, and returns what it replaced. NoMemory where memory runs out.
+    pub(crate) fn take_page(&mut self, page: &Page) -> Result<Option<Taken>, NoMemory>
+        ensures ok { IfOk result (TakesPage self.old page.now self.new) }
+        ensures me { self.new.me ≡ self.old.me }
+        ensures membership { self.new.membership ≡ self.old.membership }
+    {
+        match &mut self.transfer {
+            Some(open) => open.take_page(page),
+            None => Ok(None),
+        }
+    }
+
+    /// Whether a part is still to be fetched, which is asked for then. NoMemory where memory runs out.
+    pub(crate) fn has_next_part(&mut self) -> Result<bool, NoMemory>
+        ensures ok { IfOk result (AsksPart self.old self.new) }
+        ensures me { self.new.me ≡ self.old.me }
+        ensures membership { self.new.membership ≡ self.old.membership }
+    {
+        let Some(open) = &mut self.transfer else {
+            return Ok(false);
+        };
+        let Some(_place) = open.next_fetch(&mut self.executed)? else {
+            return Ok(false);
+        };
+        Ok(true)
+    }
+
+    /// Puts the state that was fetched in the place of the executed one, keeps it as a checkpoint, and closes the
+    /// transfer; nothing, if what was fetched is no state of that number, or one that is behind in some client's
+    /// timestamp. Tells which state it is. NoMemory where memory runs out.
+    pub(crate) fn install(&mut self) -> Result<Option<CheckpointEntry>, NoMemory>
+        ensures ok { IfOk result (λ entry. Installs self.old self.new (option_map checkpoint_entry_data entry)) }
+        ensures me { self.new.me ≡ self.old.me }
+        ensures membership { self.new.membership ≡ self.old.membership }
+    {
+        let Some(open) = &self.transfer else {
+            return Ok(None);
+        };
+        if !open.install(&mut self.executed)? {
+            return Ok(None);
+        }
+        let entry = open.entry();
+        self.transfer = None;
+        self.keep_state()?;
+        self.waiting.forget(&self.executed);
+        Ok(Some(entry))
+    }
+
+    /// Forgets the page that was taken last, as if it hadn't come. Takes no memory.
+    pub(crate) fn give_back(&mut self, taken: Taken)
+        ensures { GivesBack self.old taken self.new }
+    {
+        if let Some(open) = &mut self.transfer {
+            open.give_back(taken);
+        }
+    }
+
+    /// Closes the transfer of a state that executions have reached.
+    pub(crate) fn close_reached(&mut self)
+        ensures { self.new ≡ closing_reached self.old }
+    {
+        if let Some(open) = &self.transfer {
+            if open.entry().number.0 <= self.executed.number().0 {
+                self.transfer = None;
+            }
+        }
+    }
+}

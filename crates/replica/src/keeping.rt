@@ -1,0 +1,57 @@
+//! The states that the desk keeps at checkpoints.
+
+ghost use Rattle.std.specs.Prelude.{◌≡◌, OnErr, OnOk, option_map, IfOk};
+ghost use Rattle.wire.specs.Views.{checkpoint_entry_data};
+ghost use Rattle.replica.specs.Desking.{desk_above, due_entry, is_due, keeping_due, keeping_state};
+
+use crate::desk::Desk;
+use terms::{NoMemory, Number};
+use wire::CheckpointEntry;
+
+impl Desk {
+    /// Keeps the executed state, where it is to have a checkpoint. NoMemory where memory runs out.
+    pub(crate) fn keep_due(&mut self) -> Result<(), NoMemory>
+        ensures ok { OnOk result (self.new ≡ keeping_due self.old) }
+        ensures err { OnErr result (self.new ≡ self.old) }
+    {
+        if !self.is_checkpoint_due() {
+            return Ok(());
+        }
+        self.keep_state()
+    }
+
+    /// Keeps the executed state. Only pages that requests may have changed since the last checkpoint are written and
+    /// hashed. NoMemory where memory runs out.
+    pub(crate) fn keep_state(&mut self) -> Result<(), NoMemory>
+        ensures ok { OnOk result (self.new ≡ keeping_state self.old) }
+        ensures err { OnErr result (self.new ≡ self.old) }
+    {
+        let number = self.executed.number();
+        let pages = self.executed.checkpoint()?;
+        self.snapshots.keep(number, pages)
+    }
+
+    // Whether the executed state is to have a checkpoint: its number is a multiple of the period.
+    fn is_checkpoint_due(&self) -> bool
+        ensures { result ≡ is_due self.now }
+    {
+        self.executed.number().0 % u64::from(self.period) == 0
+    }
+
+    /// The checkpoint of the executed state, where it is to have one. It is of the newest state that is kept.
+    pub(crate) fn due_checkpoint(&self) -> Option<CheckpointEntry>
+        ensures { option_map checkpoint_entry_data result ≡ due_entry self.now }
+    {
+        if !self.is_checkpoint_due() {
+            return None;
+        }
+        self.snapshots.newest()
+    }
+
+    /// Drops the states below the low mark.
+    pub(crate) fn drop_below(&mut self, low: Number)
+        ensures { self.new ≡ desk_above low.0 self.old }
+    {
+        self.snapshots.drop_below(low);
+    }
+}

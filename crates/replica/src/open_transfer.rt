@@ -1,0 +1,167 @@
+//! A transfer that is open: the state of a checkpoint is fetched, part by part.
+
+ghost use Rattle.std.specs.Prelude.{◌≡◌, true, IfNone, IfOk, IfSome, OnErr, OnOk};
+ghost use Rattle.wire.specs.Views.{checkpoint_entry_data};
+ghost use Rattle.partition_tree.specs.Digests.{root_of};
+ghost use Rattle.state_transfer.specs.Places.{IsPlace};
+ghost use Rattle.execution.specs.Installing.{HasPagesAt, NoneFalls};
+ghost use Rattle.replica.specs.Transferring.{AsksPlace, IsRestedAt, TakesDigestsOf, TakesPageOf, is_given_back, moved, started};
+
+use execution::Executed;
+use state_transfer::{PartFault, Place, Replaced, Transfer};
+use std::alloc::Global;
+use std::marker::Model;
+use terms::{NoMemory, Number};
+use wire::{CheckpointEntry, Meta, Page};
+
+/// A transfer of a state, and the number of the executed state whose pages stand where none were fetched. Where
+/// requests were executed since, the transfer rests on the pages of the new state before it is looked at again, and not
+/// before: so executions themselves write and hash nothing.
+#[derive(Drop)]
+pub(crate) struct OpenTransfer {
+    transfer: Transfer,
+    rests_at: Number,
+}
+
+impl Model for OpenTransfer {
+    ghost use Rattle.replica.specs.State.{OpenData};
+    ghost use Rattle.replica.specs.OpenTransferView.{open_data};
+
+    ghost Value = { OpenData };
+
+    ghost view = { open_data };
+}
+
+/// What a page replaced, and where the transfer rested before it.
+#[derive(Drop)]
+pub(crate) struct Taken {
+    pub(crate) replaced: Replaced,
+    pub(crate) rests_at: Number,
+}
+
+impl OpenTransfer {
+    /// A transfer of the state of this checkpoint, which rests on the executed state. NoMemory where memory runs out.
+    pub(crate) fn start(
+        alloc: Global,
+        entry: &CheckpointEntry,
+        executed: &mut Executed,
+    ) -> Result<OpenTransfer, NoMemory>
+        ensures made { IfOk result (λ o. o ≡ started executed.old.state (checkpoint_entry_data entry.now)) }
+        ensures same { executed.new ≡ executed.old }
+    {
+        let rests_at = executed.number();
+        let pages = executed.pages()?;
+        Ok(OpenTransfer {
+            transfer: Transfer::start(alloc, entry.number, entry.digest, pages)?,
+            rests_at,
+        })
+    }
+
+    /// The checkpoint whose state is fetched.
+    pub(crate) fn entry(&self) -> CheckpointEntry
+        ensures { checkpoint_entry_data result
+            ≡ record { number = self.now.transfer.number; digest = self.now.transfer.root } }
+    {
+        CheckpointEntry {
+            number: self.transfer.number(),
+            digest: self.transfer.root(),
+        }
+    }
+
+    /// The place that is asked for.
+    pub(crate) fn asked(&self) -> Place
+        ensures value { result ≡ self.now.transfer.asked }
+        ensures range { IsPlace result }
+    {
+        self.transfer.asked()
+    }
+
+    /// A newer checkpoint overtakes.
+    pub(crate) fn move_to(&mut self, entry: &CheckpointEntry)
+        ensures { self.new ≡ moved self.old (checkpoint_entry_data entry.now) }
+    {
+        self.transfer.move_to(entry.number, entry.digest);
+    }
+
+    /// Takes the digests below a place, if they are the ones asked for. Returns whether. Takes no memory.
+    pub(crate) fn take_digests(&mut self, meta: &Meta) -> bool
+        ensures { TakesDigestsOf self.old meta.now self.new result }
+    {
+        // Of a message that was heard there are 32.
+        let Ok(digests) = <&[_; 32]>::try_from(meta.digests.as_slice()) else {
+            return false;
+        };
+        let place = Place {
+            level: meta.level,
+            index: meta.index,
+        };
+        self.transfer.on_meta(meta.number, place, digests).is_ok()
+    }
+
+    /// Takes the text of a page, if it is the one asked for, and returns what it replaced. NoMemory where memory runs
+    /// out.
+    pub(crate) fn take_page(&mut self, page: &Page) -> Result<Option<Taken>, NoMemory>
+        ensures ok { IfOk result (TakesPageOf self.old page.now self.new) }
+        ensures err { OnErr result (self.new ≡ self.old) }
+    {
+        self.transfer.keeps();
+        match self.transfer.on_page(page.number, page.index, &page.text) {
+            Ok(replaced) => Ok(Some(Taken {
+                replaced,
+                rests_at: self.rests_at,
+            })),
+            Err(PartFault::NotAsked) => Ok(None),
+            Err(PartFault::WrongDigest) => Ok(None),
+            Err(PartFault::NoMemory) => Err(NoMemory),
+        }
+    }
+
+    /// The next place that differs from the state that is wanted, which is asked for then; none where all are equal.
+    pub(crate) fn next_fetch(&mut self, executed: &mut Executed) -> Result<Option<Place>, NoMemory>
+        ensures asks { IfOk result (AsksPlace executed.old.state self.old self.new) }
+        ensures range { IfOk result (λ place. IfSome place IsPlace) }
+        ensures done { IfOk result (λ place. IfNone place (root_of self.new.transfer.held ≡ self.new.transfer.root)) }
+        ensures same { executed.new ≡ executed.old }
+    {
+        self.transfer.keeps();
+        self.rest_on(executed)?;
+        Ok(self.transfer.next_fetch())
+    }
+
+    // Rests on the executed state, if requests were executed since it last did.
+    fn rest_on(&mut self, executed: &mut Executed) -> Result<(), NoMemory>
+        ensures ok { OnOk result (IsRestedAt executed.old.state self.old self.new) }
+        ensures same { executed.new ≡ executed.old }
+    {
+        let number = executed.number();
+        if self.rests_at.0 == number.0 {
+            return Ok(());
+        }
+        self.transfer.rest_on(executed.pages()?)?;
+        self.rests_at = number;
+        Ok(())
+    }
+
+    /// Puts the state that has the pages which are held in the place of the executed one, if there is one that may take
+    /// it. Returns whether. NoMemory where memory runs out.
+    pub(crate) fn install(&self, executed: &mut Executed) -> Result<bool, NoMemory>
+        ensures installed { (result ≡ Ok true)
+            → HasPagesAt self.now.transfer.number self.now.transfer.held executed.new.state }
+        ensures rises { (result ≡ Ok true) → NoneFalls executed.old.state executed.new.state }
+        ensures same { ¬ (result ≡ Ok true) → executed.new ≡ executed.old }
+        ensures clients { executed.new.clients ≡ executed.old.clients }
+    {
+        let Some(pages) = self.transfer.finish() else {
+            return Ok(false);
+        };
+        executed.install(self.transfer.number(), pages.copy()?)
+    }
+
+    /// Forgets the page that was taken last, as if it hadn't come. Takes no memory.
+    pub(crate) fn give_back(&mut self, taken: Taken)
+        ensures { is_given_back self.old taken self.new }
+    {
+        self.transfer.give_back(taken.replaced);
+        self.rests_at = taken.rests_at;
+    }
+}

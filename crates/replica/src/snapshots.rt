@@ -1,0 +1,93 @@
+//! The states that are kept for those that fetch them.
+
+ghost use Rattle.std.specs.Prelude.{◌≡◌, ◌≢◌, ◌∷◌, [], IfNone, IfSome, OnErr, OnOk, option_map};
+ghost use Rattle.wire.specs.Lists.{Each};
+ghost use Rattle.wire.specs.Views.{checkpoint_entry_data};
+ghost use Rattle.protocol.specs.System.Trace.{Has};
+ghost use Rattle.replica_histories.specs.Desk.{kept_from};
+ghost use Rattle.replica.specs.Desking.{newest_entry};
+
+use partition_tree::Snapshot;
+use std::alloc::Global;
+use std::marker::Model;
+use terms::{NoMemory, Number};
+use wire::CheckpointEntry;
+
+/// The state of a number, by its pages.
+#[derive(Drop)]
+pub(crate) struct KeptState {
+    pub(crate) number: Number,
+    pub(crate) pages: Snapshot,
+}
+
+/// The states at checkpoints from the low mark on, the newest first. They share the pages that are the same in them.
+///
+/// Their numbers are those of checkpoints within the marks, and the low mark, so there are at most three.
+#[derive(Drop)]
+pub(crate) struct Snapshots {
+    kept: Vec<KeptState>,
+}
+
+impl Model for Snapshots {
+    ghost use Rattle.std.specs.Prelude.{List};
+    ghost use Rattle.replica_histories.specs.Desk.{Snapshot as SnapshotData};
+    ghost use Rattle.replica.specs.SnapshotsView.{snapshots_data};
+
+    ghost Value = { List SnapshotData };
+
+    ghost view = { snapshots_data };
+}
+
+impl Snapshots {
+    /// None yet.
+    pub(crate) fn new(alloc: Global) -> Snapshots
+        ensures { result ≡ [] }
+    {
+        Snapshots {
+            kept: Vec::new(alloc),
+        }
+    }
+
+    /// Keeps the state of a number. NoMemory where memory runs out, and nothing changes then.
+    pub(crate) fn keep(&mut self, number: Number, pages: Snapshot) -> Result<(), NoMemory>
+        ensures ok { OnOk result (self.new ≡ (record { number = number.0; pages = pages }) ∷ self.old) }
+        ensures err { OnErr result (self.new ≡ self.old) }
+    {
+        self.kept.insert(0, KeptState { number, pages })?;
+        Ok(())
+    }
+
+    /// The pages of the state of this number, if it is kept. Takes no memory.
+    pub(crate) fn of(&self, number: Number) -> Option<&Snapshot>
+        ensures some { IfSome result
+            (λ pages. Has (λ x. x ≡ record { number = number.0; pages = pages.now }) self.now) }
+        ensures none { IfNone result (Each (λ x. x.number ≢ number.0) self.now) }
+    {
+        for state in &self.kept {
+            if state.number.0 == number.0 {
+                return Some(&state.pages);
+            }
+        }
+        None
+    }
+
+    /// The number and root of the newest one. Takes no memory.
+    pub(crate) fn newest(&self) -> Option<CheckpointEntry>
+        ensures { option_map checkpoint_entry_data result ≡ newest_entry self.now }
+    {
+        match self.kept.as_slice() {
+            [newest, ..] => Some(CheckpointEntry {
+                number: newest.number,
+                digest: newest.pages.root(),
+            }),
+            [] => None,
+        }
+    }
+
+    /// Drops those below the low mark.
+    pub(crate) fn drop_below(&mut self, low: Number)
+        ensures { self.new ≡ kept_from low.0 self.old }
+    {
+        self.kept.retain(|state| state.number.0 >= low.0);
+    }
+}

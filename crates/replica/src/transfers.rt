@@ -1,0 +1,145 @@
+//! Transfers of states: parts that are asked for, and parts that come.
+
+ghost use Rattle.std.specs.Prelude.{◌≡◌, ◌≤◌, ◌<◌, [], IfOk, IsFalse, IsTrue, OnOk};
+ghost use Rattle.wire.specs.Messages.{fetch, meta, page};
+ghost use Rattle.wire.specs.Spelling.{last_index};
+ghost use Rattle.replica.specs.Entering.{TakesMessage};
+ghost use Rattle.replica.specs.Fetching.{AsksOn, InstallsFetched, SaysFetch};
+
+use crate::replica::Replica;
+use crate::taking::Touched;
+use events::{Output, Outputs, Stop, give};
+use std::alloc::Global;
+use terms::{Level, ReplicaId};
+use wire::{Fetch, Meta, Page};
+
+impl Replica {
+    /// Asks all others for the part that an open transfer asks for.
+    pub(crate) fn say_fetch(&mut self, alloc: Global, outputs: &mut Outputs) -> Result<(), Stop>
+        ensures ok { OnOk result (SaysFetch self.old outputs.old.items outputs.new.items) }
+        ensures same { self.new ≡ self.old }
+    {
+        match self.desk.asked() {
+            Some((number, place)) => self.orderer.say_fetch(alloc, number, place, outputs),
+            None => Ok(()),
+        }
+    }
+
+    /// Gives a part of a state that is kept to the replica that asks for it.
+    pub(crate) fn on_fetch(
+        &mut self,
+        alloc: Global,
+        sender: ReplicaId,
+        message: &Fetch,
+        outputs: &mut Outputs,
+    ) -> Result<Touched, Stop>
+        requires first { outputs.old.items ≡ [] }
+        ensures ok { IfOk result (λ touched. TakesMessage sender
+            (fetch message.now.number.0 message.now.level message.now.index)
+            self.old touched self.new outputs.new.items) }
+        ensures endpoint { self.new.orderer.endpoint ≡ self.old.orderer.endpoint }
+    {
+        self.are_one();
+        // What is heard asks for a place; the proof is told so by a look at it.
+        if !is_place(message) {
+            return Ok(Touched::Nothing);
+        }
+        self.desk.give_part(alloc, sender, message, outputs)?;
+        Ok(Touched::Nothing)
+    }
+
+    /// Takes the digests below a place, and goes on with what differs.
+    pub(crate) fn on_meta(
+        &mut self,
+        alloc: Global,
+        sender: ReplicaId,
+        message: &Meta,
+        outputs: &mut Outputs,
+    ) -> Result<Touched, Stop>
+        requires first { outputs.old.items ≡ [] }
+        ensures ok { IfOk result (λ touched. TakesMessage sender
+            (meta message.now.number.0 message.now.level message.now.index message.now.digests.items)
+            self.old touched self.new outputs.new.items) }
+        ensures endpoint { self.new.orderer.endpoint ≡ self.old.orderer.endpoint }
+    {
+        self.are_one();
+        if !self.desk.take_digests(message) {
+            return Ok(Touched::Nothing);
+        }
+        if self.ask_next(alloc, outputs)? {
+            return Ok(Touched::Nothing);
+        }
+        if self.install(outputs)? {
+            return Ok(Touched::State);
+        }
+        Ok(Touched::Nothing)
+    }
+
+    /// Takes the text of a page, and goes on with what differs. Where it completes what is no state, it is forgotten
+    /// again, as if it hadn't come.
+    pub(crate) fn on_page(
+        &mut self,
+        alloc: Global,
+        sender: ReplicaId,
+        message: &Page,
+        outputs: &mut Outputs,
+    ) -> Result<Touched, Stop>
+        requires first { outputs.old.items ≡ [] }
+        ensures ok { IfOk result (λ touched. TakesMessage sender
+            (page message.now.number.0 message.now.index message.now.text.items)
+            self.old touched self.new outputs.new.items) }
+        ensures endpoint { self.new.orderer.endpoint ≡ self.old.orderer.endpoint }
+    {
+        self.are_one();
+        let Some(taken) = self.desk.take_page(message)? else {
+            return Ok(Touched::Nothing);
+        };
+        if self.ask_next(alloc, outputs)? {
+            return Ok(Touched::Nothing);
+        }
+        if self.install(outputs)? {
+            return Ok(Touched::State);
+        }
+        self.desk.give_back(taken);
+        Ok(Touched::Nothing)
+    }
+
+    // Asks for the next part, if one is still to be fetched. Returns whether.
+    fn ask_next(&mut self, alloc: Global, outputs: &mut Outputs) -> Result<bool, Stop>
+        ensures ok { IfOk result (AsksOn self.old outputs.old.items self.new outputs.new.items) }
+        ensures endpoint { self.new.orderer.endpoint ≡ self.old.orderer.endpoint }
+    {
+        if !self.desk.has_next_part()? {
+            return Ok(false);
+        }
+        self.say_fetch(alloc, outputs)?;
+        Ok(true)
+    }
+
+    // Installs the state that was fetched, keeps it as a checkpoint, and moves the marks up to it. Returns whether it
+    // is a state.
+    fn install(&mut self, outputs: &mut Outputs) -> Result<bool, Stop>
+        ensures ok { IfOk result (InstallsFetched self.old outputs.old.items self.new outputs.new.items) }
+        ensures endpoint { self.new.orderer.endpoint ≡ self.old.orderer.endpoint }
+    {
+        let Some(entry) = self.desk.install()? else {
+            return Ok(false);
+        };
+        give(outputs, Output::Installed(entry.number, entry.digest))?;
+        self.move_marks(entry.number);
+        Ok(true)
+    }
+}
+
+// Whether there is a place of this index at the level.
+fn is_place(fetch: &Fetch) -> bool
+    ensures within { IsTrue result → fetch.now.index ≤ last_index fetch.now.level }
+    ensures beyond { IsFalse result → last_index fetch.now.level < fetch.now.index }
+{
+    let last = match fetch.level {
+        Level::Root => 0,
+        Level::Inner => 31,
+        Level::Page => 1023,
+    };
+    fetch.index <= last
+}

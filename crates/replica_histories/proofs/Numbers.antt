@@ -1,0 +1,82 @@
+-- Where a history begins, and where nothing is left without a number.
+use Rattle.std.proofs.Common.{◌≡◌, ℕ, ◌+◌, ◌^◌, ◌≤◌, ◌<◌, ◌⊎◌, inl, inr, Bool, true, false, ◌&&◌, List, [], length, drop, nat_lt, nat_le, refl, ap, subst, arith, Some}
+use Rattle.std.proofs.lemmas.Bool.{and_parts, and_from, lt-ltb, ltb-true, ltb-false, le-leb, leb-true}
+use Rattle.std.proofs.lemmas.List.{take_all, length-drop}
+use Rattle.wire.specs.Lists.{Each}
+use Rattle.protocol.specs.System.Configuration.{Configuration, span}
+use Rattle.protocol.specs.System.Trace.{Entry}
+use Rattle.protocol.specs.Replica.Certificates.{low, is_in_marks, logged}
+use Rattle.protocol.specs.Replica.State.{State}
+use Rattle.protocol.specs.Replica.Owed.{IsFree, IsNumbered}
+use Rattle.protocol.proofs.Words.Elements.{each_has}
+use Rattle.replica_histories.specs.Numbers.{HasNumber, FirstNumbersFit, next_number, IsNextFree, NumbersAreGiven, NumbersLeaveFewer}
+use Rattle.replica_histories.proofs.Words.{given_not}
+use Rattle.replica_histories.proofs.NumbersLists.{more_dropped}
+
+-- ---- where it begins
+
+nothing_numbered : (c : Configuration) (me v client timestamp : ℕ) → IsNumbered c me [] v client timestamp → ⊥
+unfolding logged
+nothing_numbered c me v client timestamp (batch, inl (i, there), has) = cc
+nothing_numbered c me v client timestamp (batch, inr begun, has) = begun
+
+pub first_numbers_fit : FirstNumbersFit
+unfolding logged
+first_numbers_fit c me v st = record {
+  free = λ j above. refl;
+  top = inl refl;
+  numbered = tt;
+  unnumbered = tt;
+  known = λ client timestamp h. absurd (nothing_numbered c me v client timestamp h);
+  differ = λ i j d below within. absurd (omega (arith, within));
+}
+
+-- ---- the next number
+
+-- a smaller number above the low mark is in the marks too
+lower_in_marks : (c : Configuration) (h i j : ℕ) → is_in_marks c h j ≡ true → h < i → i ≤ j → is_in_marks c h i ≡ true
+lower_in_marks c h i j e above below =
+    let p = and_parts (nat_lt h j && nat_le j (h + span c)) (nat_lt j (2 ^ 48)) e in
+    let q = and_parts (nat_lt h j) (nat_le j (h + span c)) p.0 in
+    let high = leb-true j (h + span c) q.1 in
+    let number = ltb-true j (2 ^ 48) p.1 in
+    and_from (nat_lt h i && nat_le i (h + span c)) (nat_lt i (2 ^ 48))
+    (and_from (nat_lt h i) (nat_le i (h + span c)) (lt-ltb h i above) (le-leb i (h + span c) (omega (arith, below, high))))
+    (lt-ltb i (2 ^ 48) (omega (arith, below, number)))
+
+above_low : (c : Configuration) (h j : ℕ) → is_in_marks c h j ≡ true → h < j
+above_low c h j e =
+    let p = and_parts (nat_lt h j && nat_le j (h + span c)) (nat_lt j (2 ^ 48)) e in
+    ltb-true h j (and_parts (nat_lt h j) (nat_le j (h + span c)) p.0).0
+
+-- where a number is free, all that were used are below it
+used_below : (c : Configuration) (me v used : ℕ) (st : State) (history : List Entry) (i : ℕ) → (used ≡ 0) ⊎ ((batch : List ℕ) × (logged c me history v used ≡ Some batch)) → IsFree c me history st.number v i → used < i
+used_below c me v used st history i (inl none) free = let above = above_low c (low c me history) i free.0 in omega (arith, none, above)
+used_below c me v used st history i (inr (batch, there)) free = go (nat_lt used i) refl
+  where
+    go : (b : Bool) → nat_lt used i ≡ b → used < i
+    go true e = ltb-true used i e
+    go false e = absurd (given_not (logged c me history v used) batch there (free.2 used (ltb-false used i e)))
+
+next_free : (c : Configuration) (me v used : ℕ) (st : State) (history : List Entry) (i : ℕ) → used < i → IsFree c me history st.number v i → IsNextFree c me history used st.number
+next_free c me v used st history i below free =
+    let above = above_low c (low c me history) i free.0 in
+    let most = free.1 in
+    let next : next_number c me history used ≤ i = omega (arith, above, below) in
+    (lower_in_marks c (low c me history) (next_number c me history used) i free.0 (omega arith) next, omega (arith, next, most))
+
+-- ---- all that waits has a number
+
+pub numbers_are_given : NumbersAreGiven
+numbers_are_given c me v used count st waiting history f all i call has free =
+    let few = all (next_free c me v used st history i (used_below c me v used st history i f.top free) free) in
+    each_has (HasNumber c me v history) waiting call (subst (Each (HasNumber c me v history)) (take_all count waiting few) f.numbered) has
+
+-- ---- turns
+
+pub numbers_leave_fewer : NumbersLeaveFewer
+numbers_leave_fewer count most waiting some there =
+    let same = ap length (more_dropped count most waiting) in
+    let left = length-drop most (drop count waiting) in
+    let before = length-drop count waiting in
+    omega (arith, some, there, same, left, before)

@@ -1,0 +1,154 @@
+-- Entries that give no number.
+use Rattle.std.proofs.Common.{◌≡◌, ◌≢◌, ℕ, ◌⊎◌, inl, inr, true, false, ◌&&◌, List, [], ◌∷◌, take, drop, refl, sym, ap, ◌∙◌, subst, Option, Some, None, eqb-true}
+use Rattle.std.specs.Prelude.{◌==◌, option_and_then}
+use Rattle.std.specs.Option.{option_map_or}
+use Rattle.std.proofs.lemmas.Bool.{and_parts}
+use Rattle.quorum.specs.Votes.{or_else}
+use Rattle.wire.specs.Messages.{BodyData as Body, MessageData as Message, pre_prepare as PrePrepare}
+use Rattle.wire.specs.Words.{said}
+use Rattle.protocol.specs.System.Configuration.{Configuration, primary}
+use Rattle.protocol.specs.System.Trace.{Entry, party_of}
+use Rattle.protocol.specs.System.Trace.Entry.{Invoke, Got, Tick, Executed, Installed, Sent, Accepted}
+use Rattle.protocol.specs.Replica.Certificates.{brought, taken, low, is_in_marks, are_genuine, counts_at, batch_from, batch_begun, begun_proposal, entry_proposal, proposal, logged}
+use Rattle.protocol.specs.Replica.Owed.{IsNumbered}
+use Rattle.protocol.proofs.Words.Options.{and_then_some, then_some_gives, some_injective, or_else_second}
+use Rattle.protocol.proofs.Words.Plain.{said_plain, taken_none}
+use Rattle.protocol.proofs.Words.Elements.{each_weaker}
+use Rattle.protocol.proofs.Agreement.Voting.{logged_stays}
+use Rattle.replica_histories.specs.Numbers.{HasNumber, HasNone, KeepsNumbers, NumbersStay, is_pre_prepare, sends_pre_prepare, OthersKeepNumbers, BatchesKeepNumbers}
+use Rattle.replica_histories.proofs.Words.{passed, gated, given_not}
+use Rattle.replica_histories.proofs.Speaking.{heard_other}
+
+-- ---- what an entry logs
+
+-- a batch is proposed by a pre-prepare of the view's primary
+pub batch_said : (c : Configuration) (me v i : ℕ) (batch : List ℕ) (sender : ℕ) (message : Message) → batch_from c me v i (record { sender = sender; message = message }) ≡ Some batch
+    → (message ≡ PrePrepare v i batch) × (sender ≡ primary c v)
+batch_said c me v i batch sender (PrePrepare w k b) h =
+    let g = then_some_gives ((w == v) && (k == i) && (sender == primary c v) && are_genuine c me b) b batch h in
+    let p = and_parts ((w == v) && (k == i) && (sender == primary c v)) (are_genuine c me b) g.0 in
+    let q = and_parts ((w == v) && (k == i)) (sender == primary c v) p.0 in
+    let r = and_parts (w == v) (k == i) q.0 in
+    let ev : w ≡ v = eqb-true w v r.0 in
+    let ei : k ≡ i = eqb-true k i r.1 in
+    (rw (ev, ei, g.1) refl, eqb-true sender (primary c v) q.1)
+batch_said c me v i batch sender _ h = absurd cc
+
+-- where no new view is taken, what is logged comes from such a message
+pub proposal_said : (c : Configuration) (me v i : ℕ) (batch : List ℕ) (past : List Entry) (e : Entry) → taken c past e ≡ None → proposal c me past e v i ≡ Some batch
+    → (body : Body) × (brought c e ≡ Some body) × (body.message ≡ PrePrepare v i batch) × (body.sender ≡ primary c v)
+proposal_said c me v i batch past e none h =
+    let begun = gated (is_in_marks c (low c me (e ∷ past)) i) (option_and_then (batch_begun v i) (taken c past e)) (ap (option_and_then (batch_begun v i)) none) in
+    let entry : entry_proposal c me past e v i ≡ Some batch = sym (or_else_second (begun_proposal c me past e v i) (entry_proposal c me past e v i) begun) ∙ h in
+    let p = passed (counts_at c me past e v i) (option_and_then (batch_from c me v i) (brought c e)) batch entry in
+    let b = and_then_some (batch_from c me v i) (brought c e) batch p.1 in
+    let s = batch_said c me v i batch b.0.sender b.0.message b.2 in
+    (b.0, b.1, s.0, s.1)
+
+-- what proposes nothing for a number that is free logs nothing
+pub logged_same : (c : Configuration) (me v i : ℕ) (past : List Entry) (e : Entry) → ((batch : List ℕ) → proposal c me past e v i ≡ Some batch → logged c me past v i ≡ None → ⊥)
+    → logged c me (e ∷ past) v i ≡ logged c me past v i
+unfolding logged
+logged_same c me v i past e none = go (logged c me past v i) (proposal c me past e v i) none
+  where
+    go : (o later : Option (List ℕ)) → ((batch : List ℕ) → later ≡ Some batch → o ≡ None → ⊥) → or_else o later ≡ o
+    go (Some x) later f = refl
+    go None None f = refl
+    go None (Some batch) f = absurd (f batch refl refl)
+
+-- ---- what has a number
+
+-- a number stays
+pub numbered_stays : (c : Configuration) (me v client timestamp : ℕ) (past : List Entry) (e : Entry) → IsNumbered c me past v client timestamp → IsNumbered c me (e ∷ past) v client timestamp
+numbered_stays c me v client timestamp past e (batch, inl (i, there), has) = (batch, inl (i, logged_stays c me v i batch e past there), has)
+numbered_stays c me v client timestamp past e (batch, inr begun, has) = (batch, inr (inr begun), has)
+
+pub keeps : (c : Configuration) (me v : ℕ) (past : List Entry) (e : Entry) → taken c past e ≡ None → ((i : ℕ) → logged c me (e ∷ past) v i ≡ logged c me past v i) → KeepsNumbers c me v past e
+keeps c me v past e none same = record { batches = same; numbered = λ client timestamp. (back client timestamp, numbered_stays c me v client timestamp past e) }
+  where
+    back : (client timestamp : ℕ) → IsNumbered c me (e ∷ past) v client timestamp → IsNumbered c me past v client timestamp
+    back client timestamp (batch, inl (i, there), has) = (batch, inl (i, sym (same i) ∙ there), has)
+    back client timestamp (batch, inr (inl begins), has) = absurd (given_not (taken c past e) begins.0 begins.1 none)
+    back client timestamp (batch, inr (inr before), has) = (batch, inr before, has)
+
+pub numbers_stay : NumbersStay
+numbers_stay c me v used count st waiting past e k f = record {
+  free = λ j above. k.batches j ∙ f.free j above;
+  top = top f.top;
+  numbered = each_weaker (HasNumber c me v past) (HasNumber c me v (e ∷ past)) (λ x h. (k.numbered x.client x.timestamp).1 h) (take count waiting) f.numbered;
+  unnumbered = each_weaker (HasNone c me v past) (HasNone c me v (e ∷ past)) (λ x none h. none ((k.numbered x.client x.timestamp).0 h)) (drop count waiting) f.unnumbered;
+  known = λ client timestamp h. f.known client timestamp ((k.numbered client timestamp).0 h);
+  differ = f.differ;
+}
+  where
+    top : (used ≡ 0) ⊎ ((batch : List ℕ) × (logged c me past v used ≡ Some batch)) → (used ≡ 0) ⊎ ((batch : List ℕ) × (logged c me (e ∷ past) v used ≡ Some batch))
+    top (inl none) = inl none
+    top (inr (batch, there)) = inr (batch, k.batches used ∙ there)
+
+-- ---- what is no pre-prepare that is sent
+
+-- what is brought is heard of another, or is said
+proposed_by_other : (c : Configuration) (me v i : ℕ) (batch : List ℕ) (e : Entry) → primary c v ≡ me → party_of e ≡ me → sends_pre_prepare e ≡ false
+    → (body : Body) → brought c e ≡ Some body → body.message ≡ PrePrepare v i batch → body.sender ≡ primary c v → ⊥
+proposed_by_other c me v i batch (Got p bytes) own here none body brings message sender = heard_other c p bytes body brings (sender ∙ own ∙ sym here)
+proposed_by_other c me v i batch (Sent p bytes) own here none body brings message sender =
+    let is : is_pre_prepare body.message ≡ false = ap (λ (o : Option Body). option_map_or (λ (b : Body). is_pre_prepare b.message) o false) (sym brings) ∙ none in
+    let bad : true ≡ false = ap is_pre_prepare (sym message) ∙ is in
+    cc
+proposed_by_other c me v i batch (Invoke x y z) own here none body brings message sender = cc
+proposed_by_other c me v i batch (Tick x) own here none body brings message sender = cc
+proposed_by_other c me v i batch (Executed x y z) own here none body brings message sender = cc
+proposed_by_other c me v i batch (Installed x y z) own here none body brings message sender = cc
+proposed_by_other c me v i batch (Accepted x y z) own here none body brings message sender = cc
+
+pub others_keep_numbers : OthersKeepNumbers
+others_keep_numbers c me v past e own here none sends = keeps c me v past e none same
+  where
+    same : (i : ℕ) → logged c me (e ∷ past) v i ≡ logged c me past v i
+    same i = logged_same c me v i past e
+        (λ batch h free. let s = proposal_said c me v i batch past e none h in proposed_by_other c me v i batch e own here sends s.0 s.1 s.2 s.3)
+
+-- ---- a pre-prepare
+
+abbrev number_of : Message → ℕ
+number_of message = elim message [ PrePrepare v i batch ↦ i | _ ↦ 0 ]
+
+abbrev view_of : Message → ℕ
+view_of message = elim message [ PrePrepare v i batch ↦ v | _ ↦ 0 ]
+
+abbrev batch_of : Message → List ℕ
+batch_of message = elim message [ PrePrepare v i batch ↦ batch | _ ↦ [] ]
+
+-- it is for one view and number
+pub same_proposal : (me v w i k : ℕ) (batch b bytes : List ℕ) → said bytes ≡ Some (record { sender = me; message = PrePrepare v i batch }) → said bytes ≡ Some (record { sender = me; message = PrePrepare w k b })
+    → (v ≡ w) × (i ≡ k) × (batch ≡ b)
+same_proposal me v w i k batch b bytes says other =
+    let same : ◌≡◌ {A = Body} (record { sender = me; message = PrePrepare v i batch }) (record { sender = me; message = PrePrepare w k b }) = some_injective _ _ (sym says ∙ other) in
+    let message : PrePrepare v i batch ≡ PrePrepare w k b = ap (λ (x : Body). x.message) same in
+    (ap view_of message, ap number_of message, ap batch_of message)
+
+-- it takes no new view
+pub proposal_takes_none : (c : Configuration) (me v i : ℕ) (batch bytes : List ℕ) (past : List Entry) → said bytes ≡ Some (record { sender = me; message = PrePrepare v i batch }) → taken c past (Sent me bytes) ≡ None
+proposal_takes_none c me v i batch bytes past says = taken_none c past (Sent me bytes) (said_plain c past me bytes (record { sender = me; message = PrePrepare v i batch }) says tt)
+
+-- and logs nothing for other numbers
+pub logged_elsewhere : (c : Configuration) (me v i j : ℕ) (batch bytes : List ℕ) (past : List Entry) → said bytes ≡ Some (record { sender = me; message = PrePrepare v i batch })
+    → (logged c me past v j ≡ None → j ≢ i) → logged c me (Sent me bytes ∷ past) v j ≡ logged c me past v j
+logged_elsewhere c me v i j batch bytes past says other = logged_same c me v j past (Sent me bytes) none
+  where
+    none : (b : List ℕ) → proposal c me past (Sent me bytes) v j ≡ Some b → logged c me past v j ≡ None → ⊥
+    none b h free =
+        let s = proposal_said c me v j b past (Sent me bytes) (proposal_takes_none c me v i batch bytes past says) h in
+        let same : ◌≡◌ {A = Body} (record { sender = me; message = PrePrepare v i batch }) s.0 = some_injective _ _ (sym says ∙ s.1) in
+        let at : i ≡ j = ap (λ (x : Body). number_of x.message) same ∙ ap number_of s.2 in
+        other free (sym at)
+
+pub batches_keep_numbers : BatchesKeepNumbers
+batches_keep_numbers c me v i batch bytes past says there = (
+  λ w k b says_it free.
+      let s = same_proposal me v w i k batch b bytes says says_it in
+      absurd (given_not (logged c me past v i) batch there (subst (λ (x : ℕ). logged c me past x i ≡ None) (sym s.0) (subst (λ (x : ℕ). logged c me past w x ≡ None) (sym s.1) free))),
+  keeps c me v past (Sent me bytes) (proposal_takes_none c me v i batch bytes past says)
+      (λ j. logged_elsewhere c me v i j batch bytes past says
+      (λ free at. given_not (logged c me past v i) batch there (subst (λ (x : ℕ). logged c me past v x ≡ None) at free))),
+)

@@ -1,0 +1,189 @@
+-- What waits changes: a newer request comes, or a state that has run some.
+use Rattle.std.proofs.Common.{◌≡◌, ◌≢◌, ℕ, suc, ◌≤◌, ◌<◌, ◌⊎◌, inl, inr, Bool, true, false, cond, not, ◌&&◌, ◌||◌, ◌==◌, List, [], ◌∷◌, ◌++◌, length, take, drop, filter, fold, refl, sym, ap, ◌∙◌, subst, arith, Option, Some, None, eqb-true, eq-eqb}
+use Rattle.std.specs.Prelude.{nat_lt, option_and_then}
+use Rattle.std.specs.List.{list_all}
+use Rattle.std.specs.Option.{option_map_or}
+use Rattle.std.proofs.lemmas.Bool.{and_parts, eqb-false, not-true, ltb-true, ltb-false}
+use Rattle.std.proofs.lemmas.List.{append-nil}
+use Rattle.std.proofs.lemmas.List.Filters.{length-filter_both}
+use Rattle.std.proofs.lemmas.List.Kept.{AllPairs-filter}
+use Rattle.wire.specs.Words.{requests_of}
+use Rattle.wire.specs.Lists.{Each}
+use Rattle.signing.specs.Heard.{heard}
+use Rattle.reply_cache.specs.Replies.{Kept, last_of, with_reply}
+use Rattle.protocol.specs.System.Configuration.{Configuration, members}
+use Rattle.protocol.specs.System.Trace.{Entry, Has}
+use Rattle.protocol.specs.Replica.State.{State, Call, call_in, call_of, runs, kept_by, ran_call, run_call, run_frame, execute, last_time}
+use Rattle.protocol.specs.Replica.RightReplica.{is_newer, with_waiting, still_waiting}
+use Rattle.protocol.proofs.Words.Leaving.{last_put}
+use Rattle.protocol.proofs.Words.Elements.{has_some, has_weaker, has_left, has_right, has_filtered, each_has, each_with, each_filtered, each_of_all}
+use Rattle.replica_histories.specs.Numbers.{IsKnown, HasNumber, HasNone, FitsNumbers, count_with, RequestsFit, InputsKeepNumbers, NoneFalls, StatesFit, ExecutionsRaise, StatesLeaveNoMore}
+use Rattle.replica_histories.proofs.NumbersLists.{each_where, kept_taken, kept_dropped, pairs_of, all_pairs, pairs_with, Differ}
+
+-- ---- a newer request
+
+module _ (c : Configuration) (me v used count : ℕ) (st : State) (waiting : List Call) (history : List Entry) (call : Call) (f : FitsNumbers c me v used count st waiting history)
+    (unseen : last_time st call.client < call.timestamp) (newer : list_all (is_newer call) waiting ≡ true) where
+  abbrev is_other : Call → Bool
+  is_other = λ other. not (other.client == call.client)
+
+  -- a request of its client that waits is older
+  older : (other : Call) → Has (λ x. x ≡ other) waiting → other.client ≡ call.client → other.timestamp < call.timestamp
+  older other has same = each_has (λ (x : Call). x.client ≡ call.client → x.timestamp < call.timestamp) waiting other
+      (each_of_all (λ (x : Call). x.client ≡ call.client → x.timestamp < call.timestamp) (is_newer call) below waiting newer) has same
+    where
+      below : (x : Call) → is_newer call x ≡ true → x.client ≡ call.client → x.timestamp < call.timestamp
+      below x e of_client =
+          let tests : (not true || nat_lt x.timestamp call.timestamp) ≡ true = ap (λ (b : Bool). not b || nat_lt x.timestamp call.timestamp) (sym (eq-eqb x.client call.client of_client)) ∙ e in
+          ltb-true x.timestamp call.timestamp tests
+
+  -- so it has no number
+  unknown : IsKnown st waiting call.client call.timestamp → ⊥
+  unknown (inl ran) = omega (arith, unseen, ran)
+  unknown (inr waits) =
+      let x = has_some (λ (y : Call). (y.client ≡ call.client) × (call.timestamp ≤ y.timestamp)) waiting waits in
+      let below = older x.0 x.1 x.2.0 in
+      let above = x.2.1 in
+      omega (arith, below, above)
+
+  abbrev Covers : ℕ → ℕ → Call → Type 0
+  Covers client timestamp = λ x. (x.client ≡ client) × (timestamp ≤ x.timestamp)
+
+  -- what is known stays so
+  known_on : (client timestamp : ℕ) → IsKnown st waiting client timestamp → IsKnown st (filter is_other waiting ++ call ∷ []) client timestamp
+  known_on client timestamp (inl ran) = inl ran
+  known_on client timestamp (inr waits) = inr (go (client == call.client) refl)
+    where
+      go : (b : Bool) → (client == call.client) ≡ b → Has (Covers client timestamp) (filter is_other waiting ++ call ∷ [])
+      go true e =
+          let same : client ≡ call.client = eqb-true client call.client e in
+          let x = has_some (Covers client timestamp) waiting waits in
+          let below = older x.0 x.1 (x.2.0 ∙ same) in
+          let above = x.2.1 in
+          has_right (Covers client timestamp) (filter is_other waiting) (call ∷ []) (inl (sym same, omega (arith, below, above)))
+      go false e = has_left (Covers client timestamp) (filter is_other waiting) (call ∷ [])
+          (has_filtered (Covers client timestamp) is_other (λ x at. ap (λ (k : ℕ). not (k == call.client)) at.0 ∙ ap not e) waiting waits)
+
+  pub request_waits : FitsNumbers c me v used (length (filter is_other (take count waiting))) st (filter is_other waiting ++ call ∷ []) history
+  request_waits = record {
+    free = f.free;
+    top = f.top;
+    numbered = subst (Each (HasNumber c me v history)) (sym (kept_taken is_other count waiting (call ∷ [])))
+        (each_filtered (HasNumber c me v history) (HasNumber c me v history) is_other (λ x e h. h) (take count waiting) f.numbered);
+    unnumbered = subst (Each (HasNone c me v history)) (sym (kept_dropped is_other count waiting (call ∷ [])))
+        (each_with (HasNone c me v history) (filter is_other (drop count waiting)) call
+        (each_filtered (HasNone c me v history) (HasNone c me v history) is_other (λ x e h. h) (drop count waiting) f.unnumbered)
+        (λ h. unknown (f.known call.client call.timestamp h)));
+    known = λ client timestamp h. known_on client timestamp (f.known client timestamp h);
+    differ = all_pairs (Differ c) (filter is_other waiting ++ call ∷ [])
+        (pairs_with (Differ c) (filter is_other waiting) call
+        (pairs_of (Differ c) (filter is_other waiting) (AllPairs-filter (Differ c) is_other waiting f.differ))
+        (each_filtered (λ (x : Call). x ≡ x) (λ (x : Call). x.client ≢ call.client) is_other
+        (λ x e h. eqb-false x.client call.client (not-true (x.client == call.client) e)) waiting (each_where (λ (x : Call). x ≡ x) waiting (λ x has. refl))));
+  }
+
+pub requests_fit : RequestsFit
+requests_fit c me v used count st waiting history call f = go (nat_lt (last_time st call.client) call.timestamp && list_all (is_newer call) waiting) refl
+  where
+    go : (b : Bool) → (nat_lt (last_time st call.client) call.timestamp && list_all (is_newer call) waiting) ≡ b
+        → FitsNumbers c me v used (cond b (length (filter (λ other. not (other.client == call.client)) (take count waiting))) count) st
+        (cond b (filter (λ other. not (other.client == call.client)) waiting ++ call ∷ []) waiting) history
+    go true e =
+        let p = and_parts (nat_lt (last_time st call.client) call.timestamp) (list_all (is_newer call) waiting) e in
+        request_waits c me v used count st waiting history call f (ltb-true (last_time st call.client) call.timestamp p.0) p.1
+    go false e = f
+
+pub inputs_keep_numbers : InputsKeepNumbers
+inputs_keep_numbers c me v used count point history bytes f = go (option_and_then (call_in c) (heard (members c) me bytes))
+  where
+    go : (o : Option Call) → FitsNumbers c me v used (option_map_or (count_with point.state point.waiting count) o count) point.state (option_map_or (with_waiting point.state point.waiting) o point.waiting) history
+    go None = f
+    go (Some call) = requests_fit c me v used count point.state point.waiting history call f
+
+-- ---- another state
+
+abbrev waits_on : State → Call → Bool
+waits_on st call = nat_lt (last_time st call.client) call.timestamp
+
+known_behind : (old new : State) (waiting : List Call) (client timestamp : ℕ) → NoneFalls old new → IsKnown old waiting client timestamp → IsKnown new (still_waiting new waiting) client timestamp
+known_behind old new waiting client timestamp grows (inl ran) = let more = grows client in inl (omega (arith, ran, more))
+known_behind old new waiting client timestamp grows (inr waits) =
+    let x = has_some (λ (y : Call). (y.client ≡ client) × (timestamp ≤ y.timestamp)) waiting waits in
+    go x.0 x.1 x.2.0 x.2.1 (waits_on new x.0) refl
+  where
+    go : (call : Call) → Has (λ y. y ≡ call) waiting → call.client ≡ client → timestamp ≤ call.timestamp → (b : Bool) → waits_on new call ≡ b → IsKnown new (still_waiting new waiting) client timestamp
+    go call has own late true e =
+        inr (has_weaker (λ (y : Call). y ≡ call) (λ (y : Call). (y.client ≡ client) × (timestamp ≤ y.timestamp))
+        (λ y same. (ap (λ (z : Call). z.client) same ∙ own, subst (λ (z : Call). timestamp ≤ z.timestamp) (sym same) late))
+        (still_waiting new waiting) (has_filtered (λ (y : Call). y ≡ call) (waits_on new) (λ y same. ap (waits_on new) same ∙ e) waiting has))
+    go call has own late false e =
+        let past : call.timestamp ≤ last_time new call.client = ltb-false (last_time new call.client) call.timestamp e in
+        let here : call.timestamp ≤ last_time new client = subst (λ (k : ℕ). call.timestamp ≤ last_time new k) own past in
+        inl (omega (arith, late, here))
+
+taken_still : (new : State) (count : ℕ) (waiting : List Call) → take (length (still_waiting new (take count waiting))) (still_waiting new waiting) ≡ still_waiting new (take count waiting)
+taken_still new count waiting =
+    ap (take (length (filter (waits_on new) (take count waiting)))) (sym (append-nil (filter (waits_on new) waiting))) ∙ kept_taken (waits_on new) count waiting []
+
+dropped_still : (new : State) (count : ℕ) (waiting : List Call) → drop (length (still_waiting new (take count waiting))) (still_waiting new waiting) ≡ still_waiting new (drop count waiting)
+dropped_still new count waiting =
+    ap (drop (length (filter (waits_on new) (take count waiting)))) (sym (append-nil (filter (waits_on new) waiting))) ∙ kept_dropped (waits_on new) count waiting []
+    ∙ append-nil (filter (waits_on new) (drop count waiting))
+
+pub states_fit : StatesFit
+states_fit c me v used count old new waiting history grows f = record {
+  free = f.free;
+  top = f.top;
+  numbered = subst (Each (HasNumber c me v history)) (sym (taken_still new count waiting))
+      (each_filtered (HasNumber c me v history) (HasNumber c me v history) (waits_on new) (λ x e h. h) (take count waiting) f.numbered);
+  unnumbered = subst (Each (HasNone c me v history)) (sym (dropped_still new count waiting))
+      (each_filtered (HasNone c me v history) (HasNone c me v history) (waits_on new) (λ x e h. h) (drop count waiting) f.unnumbered);
+  known = λ client timestamp h. known_behind old new waiting client timestamp grows (f.known client timestamp h);
+  differ = AllPairs-filter (Differ c) (waits_on new) waiting f.differ;
+}
+
+pub states_leave_no_more : StatesLeaveNoMore
+states_leave_no_more count new waiting =
+    let same = ap length (dropped_still new count waiting) in
+    let fewer = length-filter_both (waits_on new) (λ call. not (waits_on new call)) (λ call. refl) (drop count waiting) in
+    omega (arith, same, fewer)
+
+-- ---- executions
+
+abbrev time_of : Option Kept → ℕ
+time_of o = option_map_or (λ (kept : Kept). kept.timestamp) o 0
+
+call_raises : (st : State) (number : ℕ) (call : Call) → NoneFalls st (run_call st number call)
+call_raises st number call client = go (runs st call) refl
+  where
+    ran : runs st call ≡ true
+        → ((last_of (with_reply st.replies call.client (kept_by st number call)) client ≡ Some (kept_by st number call)) × (call.client ≡ client))
+        ⊎ (last_of (with_reply st.replies call.client (kept_by st number call)) client ≡ last_of st.replies client)
+        → last_time st client ≤ last_time (ran_call st number call) client
+    ran e (inl put) =
+        let newer : last_time st call.client < call.timestamp = ltb-true (last_time st call.client) call.timestamp e in
+        let own : last_time st client < call.timestamp = subst (λ (k : ℕ). last_time st k < call.timestamp) put.1 newer in
+        let now : last_time (ran_call st number call) client ≡ call.timestamp = ap time_of put.0 in
+        omega (arith, own, now)
+    ran e (inr same) =
+        let now : last_time (ran_call st number call) client ≡ last_time st client = ap time_of same in
+        omega (arith, now)
+
+    go : (b : Bool) → runs st call ≡ b → last_time st client ≤ last_time (cond b (ran_call st number call) st) client
+    go true e = ran e (last_put st.replies call.client client (kept_by st number call))
+    go false e = omega arith
+
+frames_raise : (c : Configuration) (number : ℕ) (frames : List (List ℕ)) (st : State) → NoneFalls st (fold (run_frame c number) st frames)
+frames_raise c number [] st client = omega arith
+frames_raise c number (frame ∷ frames) st client =
+    let first : last_time st client ≤ last_time (run_frame c number st frame) client = one (call_of c frame) in
+    let rest = frames_raise c number frames (run_frame c number st frame) client in
+    omega (arith, first, rest)
+  where
+    one : (o : Option Call) → last_time st client ≤ last_time (option_map_or (run_call st number) o st) client
+    one None = omega arith
+    one (Some call) = call_raises st number call client
+
+pub executions_raise : ExecutionsRaise
+unfolding execute
+executions_raise c st batch client = frames_raise c (suc st.number) (requests_of batch) st client

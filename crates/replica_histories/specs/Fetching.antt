@@ -1,0 +1,112 @@
+-- The replica that fetches: what its fetches and the parts that come do to what it holds (Castro and Liskov, TOCS 2002,
+-- on state transfer).
+use Rattle.std.specs.Prelude.{◌≡◌, ℕ, ◌+◌, ◌*◌, ◌≤◌, ◌<◌, List, [], ◌∷◌, length, Option, Some}
+use Rattle.sha2.specs.Sha256.{sha256}
+use Rattle.partition_tree.specs.Digests.{digest_of_children}
+use Rattle.wire.specs.Messages.{MessageData as Message, CheckpointEntryData as CheckpointEntry, fetch as Fetch, meta as Meta, page as Page}
+use Rattle.signing.specs.Heard.{heard}
+use Rattle.ordering.specs.Log as logs
+use Rattle.ordering.specs.Log.{LogData}
+use Rattle.protocol.specs.System.Configuration.{Configuration, members}
+use Rattle.protocol.specs.System.Frames.{IsPosted}
+use Rattle.protocol.specs.System.Trace.{Entry}
+use Rattle.protocol.specs.System.Trace.Entry.{Got, Sent}
+use Rattle.protocol.specs.Replica.RightReplica.{others}
+use Rattle.protocol.specs.Replica.Owed.{Counts}
+use Rattle.state_transfer.specs.declared.place.Place.{Place}
+use Rattle.state_transfer.specs.Places.{page_place}
+use Rattle.state_transfer.specs.Transfer.{TransferData, wanted, with_digests, with_page}
+use Rattle.replica_histories.specs.Desk.{Desk}
+use Rattle.replica_histories.specs.Transfers.{MayAsk, FitsOpen, transfer_to, open_number}
+use Rattle.replica_histories.specs.Events.{Start, behind, Fits, Holds, start_at}
+use Rattle.replica_histories.specs.Inputs.{fetch_due}
+
+-- ---- a fetch
+
+-- The fetch of the place that a transfer asks for, where it may ask: behind it the transfer is open. It may be the
+-- first message that is due.
+abbrev pub FetchesFit : Type 0
+FetchesFit =
+    (c : Configuration) (me : ℕ) (s : Start) (desk : Desk) (log : LogData) (due : List Message) (outputs : List Entry)
+    (t : TransferData) (bytes : List ℕ)
+    → MayAsk c me t desk.state.number (behind s outputs)
+    → IsPosted c me (Fetch t.number t.asked.level t.asked.index) (others c me) bytes
+    → Fits c me s desk log due outputs
+    → Fits c me s (record desk { transfer = Some t }) log due (Sent me bytes ∷ outputs)
+
+abbrev pub DueFetchesFit : Type 0
+DueFetchesFit =
+    (c : Configuration) (me : ℕ) (s : Start) (desk : Desk) (log : LogData) (rest : List Message) (outputs : List Entry)
+    (t : TransferData) (bytes : List ℕ)
+    → MayAsk c me t desk.state.number (behind s outputs)
+    → IsPosted c me (Fetch t.number t.asked.level t.asked.index) (others c me) bytes
+    → Fits c me s desk log (Fetch t.number t.asked.level t.asked.index ∷ rest) outputs
+    → Fits c me s (record desk { transfer = Some t }) log rest (Sent me bytes ∷ outputs)
+
+-- Where a quorum of the log's checkpoints is above what is executed and open, a transfer to it may ask: a new one, or
+-- the open one, moved.
+abbrev pub QuorumsMayAsk : Type 0
+QuorumsMayAsk =
+    (c : Configuration) (me : ℕ) (s : Start) (desk : Desk) (log : LogData) (due : List Message) (outputs : List Entry)
+    (entry : CheckpointEntry) (pages : List (List ℕ))
+    → 2 * log.faults + 1 ≤ logs.count_checkpoints log entry
+    → open_number desk.state.number desk.transfer < entry.number
+    → Fits c me s desk log due outputs
+    → MayAsk c me (transfer_to desk.transfer entry.number entry.digest pages) desk.state.number (behind s outputs)
+
+-- Between events no fetch is due.
+abbrev pub HeldOweNoFetch : Type 0
+HeldOweNoFetch =
+    (c : Configuration) (me : ℕ) (desk : Desk) (log : LogData) (past : List Entry) (entry : CheckpointEntry)
+    → Holds c me desk log past → fetch_due desk log entry ≡ []
+
+-- ---- a part comes
+
+-- Digests that are heard, of the number and with the digest that their place is to have, begin an event: the open
+-- transfer has them.
+abbrev pub DigestsEnter : Type 0
+DigestsEnter =
+    (c : Configuration) (me : ℕ) (desk : Desk) (log : LogData) (past : List Entry) (t : TransferData) (s : ℕ)
+    (place : Place) (digests : List (List ℕ)) (bytes : List ℕ) (held : Holds c me desk log past)
+    → desk.transfer ≡ Some t
+    → heard (members c) me bytes
+    ≡ Some (record { sender = s; message = Meta t.number place.level place.index digests })
+    → wanted t place ≡ Some (digest_of_children digests)
+    → Fits c me (start_at c me desk log past held (Got me bytes))
+    (record desk { transfer = Some (with_digests t place digests) }) log [] []
+
+-- So does a page, of whatever digest: before anything is installed, all that is held is compared with the root.
+abbrev pub PagesEnter : Type 0
+PagesEnter =
+    (c : Configuration) (me : ℕ) (desk : Desk) (log : LogData) (past : List Entry) (t : TransferData) (s index : ℕ)
+    (text bytes : List ℕ) (held : Holds c me desk log past)
+    → desk.transfer ≡ Some t
+    → heard (members c) me bytes ≡ Some (record { sender = s; message = Page t.number index text })
+    → length t.held ≡ 1024
+    → Fits c me (start_at c me desk log past held (Got me bytes))
+    (record desk { transfer = Some (with_page t index text) }) log [] []
+
+-- Digests, or a page, count that the open transfer asked for and that have the digest that is wanted.
+abbrev pub AskedDigestsCount : Type 0
+AskedDigestsCount =
+    (c : Configuration) (me : ℕ) (desk : Desk) (log : LogData) (past : List Entry) (t : TransferData) (s : ℕ)
+    (place : Place) (digests : List (List ℕ)) (bytes : List ℕ) (held : Holds c me desk log past)
+    → desk.transfer ≡ Some t → t.asked ≡ place → wanted t place ≡ Some (digest_of_children digests)
+    → Counts c me past held.of_desk.point bytes s (Meta t.number place.level place.index digests)
+
+abbrev pub AskedPagesCount : Type 0
+AskedPagesCount =
+    (c : Configuration) (me : ℕ) (desk : Desk) (log : LogData) (past : List Entry) (t : TransferData) (s index : ℕ)
+    (text bytes : List ℕ) (held : Holds c me desk log past)
+    → desk.transfer ≡ Some t → t.asked ≡ page_place index → wanted t (page_place index) ≡ Some (sha256 text)
+    → Counts c me past held.of_desk.point bytes s (Page t.number index text)
+
+-- ---- the open transfer
+
+-- In an event the transfer may be another that fits: it rests on other pages, or a page is given back.
+abbrev pub TransfersChange : Type 0
+TransfersChange =
+    (c : Configuration) (me : ℕ) (s : Start) (desk : Desk) (log : LogData) (due : List Message) (outputs : List Entry)
+    (open_one : Option TransferData)
+    → FitsOpen c me open_one desk.state.number (behind s outputs)
+    → Fits c me s desk log due outputs → Fits c me s (record desk { transfer = open_one }) log due outputs

@@ -1,0 +1,138 @@
+-- The parts of kept states that others fetch: which answer a fetch gets, that it may be sent, and that no other is owed
+-- (Castro and Liskov, TOCS 2002, on state transfer).
+use Rattle.std.specs.Prelude.{◌≡◌, ℕ, true, List, [], ◌∷◌, map, reverse, Option, None, slice_index_or, option_and_then, ⊤}
+use Rattle.terms.specs.declared.state.Level.{Level}
+use Rattle.terms.specs.declared.state.Level.TheVariants as levels
+use Rattle.partition_tree.specs.Levels.{children_of}
+use Rattle.wire.specs.Messages.{MessageData as Message, fetch as Fetch, meta as Meta, page as Page}
+use Rattle.wire.specs.Spelling.{has_children}
+use Rattle.wire.specs.Words.{carried}
+use Rattle.signing.specs.Heard.{heard}
+use Rattle.protocol.specs.System.Configuration.{Configuration, members}
+use Rattle.protocol.specs.System.Frames.{IsPosted}
+use Rattle.protocol.specs.System.Trace.{Entry, Has, Hears}
+use Rattle.protocol.specs.System.Trace.Entry.{Got, Sent}
+use Rattle.protocol.specs.Replica.Certificates.{low}
+use Rattle.protocol.specs.Replica.State.{State, pages_of, page_text}
+use Rattle.protocol.specs.Replica.RightReplica.{Point, Leaves, MaySay, IsFor, KeptState, WasAsked, digests_at, kept_states}
+use Rattle.protocol.specs.Replica.Owed.{place_from, IsSayingTo, GivesTo, Counts}
+use Rattle.replica_histories.specs.Desk.{Snapshot, snapshot_of}
+
+-- what a fetch of a place gets of a state, and the same of the state's pages: the digests below it, or the page
+abbrev pub answer_of : State → ℕ → Level → ℕ → Message
+answer_of st k levels.Root index = Meta k levels.Root index (digests_at st levels.Root index)
+answer_of st k levels.Inner index = Meta k levels.Inner index (digests_at st levels.Inner index)
+answer_of st k levels.Page index = Page k index (page_text st index)
+
+abbrev pub answer_by : List (List ℕ) → ℕ → Level → ℕ → Message
+answer_by pages k levels.Root index = Meta k levels.Root index (children_of pages levels.Root index)
+answer_by pages k levels.Inner index = Meta k levels.Inner index (children_of pages levels.Inner index)
+answer_by pages k levels.Page index = Page k index (slice_index_or pages index [])
+
+-- a state of the number and these pages is kept
+abbrev pub KeptPages : Configuration → ℕ → List Entry → Point → ℕ → List (List ℕ) → Type 0
+KeptPages c me past point k pages = KeptState c me past point k (λ st. pages_of st ≡ pages)
+
+-- What an event owes to a fetch, as its input: of the kept state of the number, the answer to whoever asks.
+abbrev pub AnswersFetches : Configuration → ℕ → List Entry → Entry → List Entry → Point → Type 0
+AnswersFetches c me before input outputs old =
+    (s k index : ℕ) (level : Level) → Hears c me (record { sender = s; message = Fetch k level index }) before input
+    → (st : State) → KeptState c me before old k (λ x. x ≡ st) → GivesTo me s (answer_of st k level index) outputs
+
+-- the place that an input is heard to ask for
+abbrev pub place_heard : Configuration → ℕ → Entry → Option (ℕ × (Level × ℕ))
+place_heard c me (Got p bytes) = option_and_then place_from (heard (members c) me bytes)
+place_heard c me _ = None
+
+-- ---- laws: what is kept
+
+-- No two kept states have one number.
+abbrev pub KeptAreOne : Type 0
+KeptAreOne =
+    (c : Configuration) (me : ℕ) (history : List Entry) (point : Point) (k : ℕ) (st other : State)
+    → Leaves c me history point → KeptState c me history point k (λ x. x ≡ st)
+    → KeptState c me history point k (λ x. x ≡ other) → st ≡ other
+
+-- A snapshot of what is kept has the pages of a kept state; and each kept state has its snapshot.
+abbrev pub SnapshotsAreKept : Type 0
+SnapshotsAreKept =
+    (c : Configuration) (me : ℕ) (history : List Entry) (point : Point) (snapshots : List Snapshot)
+    (snapshot : Snapshot)
+    → map snapshot_of (kept_states (low c me history) point.snapshots) ≡ snapshots
+    → Has (λ x. x ≡ snapshot) snapshots → KeptPages c me history point snapshot.number snapshot.pages
+
+abbrev pub KeptHaveSnapshots : Type 0
+KeptHaveSnapshots =
+    (c : Configuration) (me : ℕ) (history : List Entry) (point : Point) (snapshots : List Snapshot) (k : ℕ)
+    → map snapshot_of (kept_states (low c me history) point.snapshots) ≡ snapshots
+    → KeptState c me history point k (λ st. ⊤) → Has (λ x. x.number ≡ k) snapshots
+
+-- ---- laws: answers
+
+-- A fetch of a kept state counts.
+abbrev pub FetchesCount : Type 0
+FetchesCount =
+    (c : Configuration) (me : ℕ) (past : List Entry) (point : Point) (bytes : List ℕ) (s k index : ℕ) (level : Level)
+    (pages : List (List ℕ))
+    → KeptPages c me past point k pages → Counts c me past point bytes s (Fetch k level index)
+
+-- Its answer may be said, to whoever asked; and what is posted so is said to that replica.
+abbrev pub AnswersMayGo : Type 0
+AnswersMayGo =
+    (c : Configuration) (me : ℕ) (past : List Entry) (point : Point) (e : Entry) (bytes : List ℕ) (s k index : ℕ)
+    (level : Level) (pages : List (List ℕ))
+    → KeptPages c me past point k pages → WasAsked c me past s k level index
+    → MaySay c me past point e bytes (answer_by pages k level index)
+    × IsFor c me past (answer_by pages k level index) (s ∷ [])
+    × (carried (answer_by pages k level index) ≡ [])
+
+abbrev pub PostedToOne : Type 0
+PostedToOne =
+    (c : Configuration) (me s : ℕ) (message : Message) (bytes : List ℕ)
+    → IsPosted c me message (s ∷ []) bytes → IsSayingTo me s message (Sent me bytes)
+
+-- Where it is given, no more is owed; nor is anything where no state of the number is kept.
+abbrev pub AnswersSuffice : Type 0
+AnswersSuffice =
+    (c : Configuration) (me : ℕ) (before : List Entry) (input : Entry) (outputs : List Entry) (old : Point)
+    (s k index : ℕ) (level : Level) (pages : List (List ℕ))
+    → Leaves c me before old → Hears c me (record { sender = s; message = Fetch k level index }) before input
+    → KeptPages c me before old k pages → GivesTo me s (answer_by pages k level index) outputs
+    → AnswersFetches c me before input outputs old
+
+abbrev pub NoneIsOwed : Type 0
+NoneIsOwed =
+    (c : Configuration) (me : ℕ) (before : List Entry) (input : Entry) (outputs : List Entry) (old : Point)
+    (s k index : ℕ) (level : Level)
+    → Hears c me (record { sender = s; message = Fetch k level index }) before input
+    → (KeptState c me before old k (λ st. ⊤) → ⊥) → AnswersFetches c me before input outputs old
+
+-- An input that is heard as no fetch owes none.
+abbrev pub OthersOweNone : Type 0
+OthersOweNone =
+    (c : Configuration) (me : ℕ) (before : List Entry) (input : Entry) (outputs : List Entry) (old : Point)
+    → place_heard c me input ≡ None → AnswersFetches c me before input outputs old
+
+-- What is given stays given, in whatever order outputs stand.
+abbrev pub AnswersStay : Type 0
+AnswersStay =
+    (c : Configuration) (me : ℕ) (before : List Entry) (input e : Entry) (outputs : List Entry) (old : Point)
+    → AnswersFetches c me before input outputs old → AnswersFetches c me before input (e ∷ outputs) old
+
+abbrev pub AnswersTurn : Type 0
+AnswersTurn =
+    (c : Configuration) (me : ℕ) (before : List Entry) (input : Entry) (outputs : List Entry) (old : Point)
+    → AnswersFetches c me before input outputs old → AnswersFetches c me before input (reverse outputs) old
+
+-- It is what is owed of digests and of pages.
+abbrev pub AnswersInParts : Type 0
+AnswersInParts =
+    (c : Configuration) (me : ℕ) (before : List Entry) (input : Entry) (outputs : List Entry) (old : Point)
+    → AnswersFetches c me before input outputs old
+    → ((s k index : ℕ) (level : Level) → has_children level ≡ true
+    → Hears c me (record { sender = s; message = Fetch k level index }) before input
+    → (st : State) → KeptState c me before old k (λ x. x ≡ st)
+    → GivesTo me s (Meta k level index (digests_at st level index)) outputs)
+    × ((s k index : ℕ) → Hears c me (record { sender = s; message = Fetch k levels.Page index }) before input
+    → (st : State) → KeptState c me before old k (λ x. x ≡ st)
+    → GivesTo me s (Page k index (page_text st index)) outputs)

@@ -1,0 +1,91 @@
+-- A quorum of checkpoints above the executed number starts a transfer: its root is fetched in the event that makes the
+-- quorum (Castro and Liskov, TOCS 2002, on state transfer).
+use Rattle.std.specs.Prelude.{◌≡◌, ℕ, ◌≤◌, ◌<◌, ◌⊎◌, true, false, List, [], ◌∷◌, filter, nat_lt, Some, None}
+use Rattle.terms.specs.declared.state.Level.TheVariants as levels
+use Rattle.wire.specs.Messages.{MessageData as Message, CheckpointEntryData as CheckpointEntry, fetch as Fetch}
+use Rattle.protocol.specs.System.Configuration.{Configuration}
+use Rattle.protocol.specs.System.Trace.{Entry, Has}
+use Rattle.protocol.specs.Replica.Certificates.{checkpoint_in, checkpoints_of, count_checkpoints}
+use Rattle.protocol.specs.Replica.Owed.{IsSaying, Gives, fetching, has_number}
+use Rattle.replica_histories.specs.Running.{Start, behind, IsOnItsWay}
+use Rattle.replica_histories.specs.Transfers.{HasQuorum}
+
+-- An entry brings a checkpoint of this number and root that counts: it is its sender's first of the number, and no
+-- three of the sender's are of greater ones.
+pub record BringsRoot (c : Configuration) (past : List Entry) (e : Entry) (k : ℕ) (root : List ℕ) : Type 0 where
+  pub sender : ℕ
+  pub brings : checkpoint_in c e ≡ Some (sender, record { number = k; digest = root })
+  pub first : has_number k (checkpoints_of c past sender) ≡ false
+  pub kept : has_number k (checkpoints_of c (e ∷ past) sender) ≡ true
+
+-- Between events: what a quorum says above the executed number was fetched, or something above it.
+abbrev pub QuorumsFetched : Configuration → ℕ → List Entry → Type 0
+QuorumsFetched c number history =
+    (k : ℕ) (root : List ℕ) → HasQuorum c history k root → number < k → k ≤ fetching history
+
+-- In an event: it was fetched before, or its root is fetched in the event, or that is due.
+abbrev pub FetchesQuorums : Configuration → ℕ → Start → ℕ → List Message → List Entry → Type 0
+FetchesQuorums c me s number due outputs =
+    (k : ℕ) (root : List ℕ) → HasQuorum c (behind s outputs) k root → number < k
+    → (k ≤ fetching s.before) ⊎ IsOnItsWay me due outputs (Fetch k levels.Root 0)
+
+-- ---- laws
+
+-- An entry can make a quorum for the checkpoint alone that it brings, and where it counts.
+abbrev pub QuorumsGrow : Type 0
+QuorumsGrow =
+    (c : Configuration) (past : List Entry) (e : Entry) (k : ℕ) (root : List ℕ)
+    → HasQuorum c (e ∷ past) k root → HasQuorum c past k root ⊎ BringsRoot c past e k root
+
+-- One that brings none leaves all counts.
+abbrev pub CountsStay : Type 0
+CountsStay =
+    (c : Configuration) (past : List Entry) (e : Entry) (checkpoint : CheckpointEntry) → checkpoint_in c e ≡ None
+    → count_checkpoints c (e ∷ past) checkpoint ≡ count_checkpoints c past checkpoint
+
+-- Nor does one count, above a mark, that leaves each sender's checkpoints above it.
+abbrev pub UnchangedBringNone : Type 0
+UnchangedBringNone =
+    (c : Configuration) (mark : ℕ) (past : List Entry) (e : Entry) (k : ℕ) (root : List ℕ)
+    → ((s : ℕ) → filter (λ m. nat_lt mark m.number) (checkpoints_of c (e ∷ past) s)
+    ≡ filter (λ m. nat_lt mark m.number) (checkpoints_of c past s))
+    → BringsRoot c past e k root → k ≤ mark
+
+-- At first there is no quorum.
+abbrev pub QuorumsFirst : Type 0
+QuorumsFirst = (c : Configuration) (number : ℕ) → QuorumsFetched c number []
+
+-- From one entry to the next all is fetched, where the quorum is that the entry makes.
+abbrev pub QuorumsStay : Type 0
+QuorumsStay =
+    (c : Configuration) (number later : ℕ) (past : List Entry) (e : Entry) → number ≤ later
+    → ((k : ℕ) (root : List ℕ) → BringsRoot c past e k root → HasQuorum c (e ∷ past) k root → later < k
+    → k ≤ fetching (e ∷ past))
+    → QuorumsFetched c number past → QuorumsFetched c later (e ∷ past)
+
+-- An input begins an event so, where the fetch is due of the quorum that it makes.
+abbrev pub QuorumsBegin : Type 0
+QuorumsBegin =
+    (c : Configuration) (me : ℕ) (s : Start) (number : ℕ) (due : List Message) → QuorumsFetched c number s.before
+    → ((k : ℕ) (root : List ℕ) → BringsRoot c s.before s.input k root → HasQuorum c (s.input ∷ s.before) k root
+    → number < k → (k ≤ fetching s.before) ⊎ Has (λ x. x ≡ Fetch k levels.Root 0) due)
+    → FetchesQuorums c me s number due []
+
+-- An output goes on with it: a checkpoint that it brings is at or below the executed number, and of what was due it
+-- says what is due no more.
+abbrev pub QuorumsGoOn : Type 0
+QuorumsGoOn =
+    (c : Configuration) (me : ℕ) (s : Start) (number later : ℕ) (due rest : List Message) (outputs : List Entry)
+    (e : Entry)
+    → number ≤ later → ((k : ℕ) (root : List ℕ) → BringsRoot c (behind s outputs) e k root → k ≤ later)
+    → ((message : Message) → Has (λ x. x ≡ message) due → Has (λ x. x ≡ message) rest ⊎ IsSaying me message e)
+    → FetchesQuorums c me s number due outputs → FetchesQuorums c me s later rest (e ∷ outputs)
+
+-- Where nothing is due any more, all is fetched, and was given in the event where nothing so high was fetched before.
+abbrev pub QuorumsEnd : Type 0
+QuorumsEnd =
+    (c : Configuration) (me : ℕ) (s : Start) (number : ℕ) (outputs : List Entry)
+    → FetchesQuorums c me s number [] outputs
+    → QuorumsFetched c number (behind s outputs)
+    × ((k : ℕ) (root : List ℕ) → HasQuorum c (behind s outputs) k root → number < k → fetching s.before < k
+    → Gives me (Fetch k levels.Root 0) outputs)

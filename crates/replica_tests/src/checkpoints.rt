@@ -1,0 +1,250 @@
+//! Checkpoints: the own one at each multiple of the period, those that come, and parts of the states that are kept.
+
+use crate::frames::Sent;
+use crate::replicas::{Given, Row, config_of_period, gives_all, new_replica};
+use crate::states::{At, PAGE, ROOT, State, root_of};
+use std::alloc::{AllocError, Global};
+use std::test::Fail;
+
+const ONE: State = State::Behind(1);
+
+const INNER_16: At = (1, 16);
+
+const FIRST_PAGE: At = (PAGE, 0);
+
+// The root of the state behind `out (1)` of client 0. It was computed by Python's hashlib, where pages = [b''] * 1024,
+// one = (1).to_bytes(8, 'big'), pages[0] = bytes(8) + b'\x01\x01' + one, pages[256] = one + one + b'1' and
+// pages[512] = b'\x01' + one + one:
+//   H = lambda text: hashlib.sha256(text).digest()
+//   parts = [H(b''.join(H(page) for page in pages[32 * j:32 * j + 32])) for j in range(32)]
+//   root = H(b''.join(parts))
+const ROOT_OF_ONE: [u8; 32] = [
+    0x96, 0xd4, 0xc2, 0x45, 0x5c, 0x93, 0xd6, 0xd3, 0xe2, 0x04, 0xab, 0xd1, 0xd3, 0x28, 0xe2, 0x45,
+    0x4c, 0x6a, 0x54, 0xca, 0x70, 0x64, 0xd0, 0x84, 0x4c, 0x7c, 0x78, 0xb0, 0x2f, 0x8b, 0x62, 0x99,
+];
+
+fn has_root(alloc: Global) -> Result<bool, AllocError> {
+    Ok(root_of(alloc, ONE)? == ROOT_OF_ONE)
+}
+
+#[test]
+fn a_worked_root(rt: HostRuntime) -> Result<(), Fail> {
+    assert!(rt; has_root(rt.alloc())?);
+    Ok(())
+}
+
+// With a period of 2 number 1 has no checkpoint, and number 2 has one.
+const SECOND_AT_BACKUP: [Row<'static>; 8] = [
+    (Sent::PrePrepare(1), &[Given::Sends(Sent::Prepare(1, 1))]),
+    (Sent::Prepare(1, 2), &[Given::Sends(Sent::Commit(1, 1))]),
+    (Sent::Commit(1, 2), &[]),
+    (
+        Sent::Commit(1, 3),
+        &[Given::Executes(1), Given::Sends(Sent::Reply(1, 1))],
+    ),
+    (Sent::PrePrepare(2), &[Given::Sends(Sent::Prepare(2, 1))]),
+    (Sent::Prepare(2, 2), &[Given::Sends(Sent::Commit(2, 1))]),
+    (Sent::Commit(2, 2), &[]),
+    (
+        Sent::Commit(2, 3),
+        &[
+            Given::Executes(2),
+            Given::Sends(Sent::Reply(2, 1)),
+            Given::Sends(Sent::Checkpoint(2, State::Behind(2), 1)),
+        ],
+    ),
+];
+
+// With a period of 1 each number has one. Until a quorum has it, the opening state is kept beside it. Of a sender the
+// first of a number counts, and once. Where it is stable, the opening state is given up.
+pub const BECOMES_STABLE: [Row<'static>; 19] = [
+    (Sent::PrePrepare(1), &[Given::Sends(Sent::Prepare(1, 1))]),
+    (Sent::Prepare(1, 2), &[Given::Sends(Sent::Commit(1, 1))]),
+    (Sent::Commit(1, 2), &[]),
+    (Sent::Fetch(1, ROOT, 2), &[]),
+    (
+        Sent::Commit(1, 3),
+        &[
+            Given::Executes(1),
+            Given::Sends(Sent::Reply(1, 1)),
+            Given::Sends(Sent::Checkpoint(1, ONE, 1)),
+        ],
+    ),
+    (
+        Sent::Fetch(0, ROOT, 2),
+        &[Given::Sends(Sent::Part(0, State::Behind(0), ROOT, 1, 2))],
+    ),
+    (
+        Sent::Fetch(1, ROOT, 3),
+        &[Given::Sends(Sent::Part(1, ONE, ROOT, 1, 3))],
+    ),
+    (Sent::Checkpoint(1, ONE, 2), &[]),
+    (Sent::Checkpoint(1, ONE, 2), &[]),
+    (Sent::Checkpoint(1, State::NoState, 3), &[]),
+    (Sent::Checkpoint(1, ONE, 3), &[]),
+    (
+        Sent::Fetch(0, INNER_16, 3),
+        &[Given::Sends(Sent::Part(0, State::Behind(0), INNER_16, 1, 3))],
+    ),
+    (Sent::Checkpoint(1, ONE, 0), &[]),
+    (Sent::Fetch(0, ROOT, 2), &[]),
+    (Sent::Fetch(0, FIRST_PAGE, 2), &[]),
+    (Sent::Fetch(2, ROOT, 2), &[]),
+    (
+        Sent::Fetch(1, INNER_16, 0),
+        &[Given::Sends(Sent::Part(1, ONE, INNER_16, 1, 0))],
+    ),
+    (
+        Sent::Fetch(1, FIRST_PAGE, 2),
+        &[Given::Sends(Sent::Part(1, ONE, FIRST_PAGE, 1, 2))],
+    ),
+    (
+        Sent::Fetch(1, FIRST_PAGE, 2),
+        &[Given::Sends(Sent::Part(1, ONE, FIRST_PAGE, 1, 2))],
+    ),
+];
+
+// Checkpoints that came before: the own one makes it stable at once.
+const STABLE_AT_ONCE: [Row<'static>; 9] = [
+    (Sent::Checkpoint(1, ONE, 0), &[]),
+    (Sent::Checkpoint(1, ONE, 3), &[]),
+    (Sent::PrePrepare(1), &[Given::Sends(Sent::Prepare(1, 1))]),
+    (Sent::Prepare(1, 2), &[Given::Sends(Sent::Commit(1, 1))]),
+    (Sent::Commit(1, 2), &[]),
+    (
+        Sent::Fetch(0, ROOT, 2),
+        &[Given::Sends(Sent::Part(0, State::Behind(0), ROOT, 1, 2))],
+    ),
+    (
+        Sent::Commit(1, 3),
+        &[
+            Given::Executes(1),
+            Given::Sends(Sent::Reply(1, 1)),
+            Given::Sends(Sent::Checkpoint(1, ONE, 1)),
+        ],
+    ),
+    (Sent::Fetch(0, ROOT, 2), &[]),
+    (
+        Sent::Fetch(1, ROOT, 2),
+        &[Given::Sends(Sent::Part(1, ONE, ROOT, 1, 2))],
+    ),
+];
+
+// Of a sender the three of largest number are kept: replica 3's fourth one doesn't count.
+const FOURTH: [Row<'static>; 12] = [
+    (Sent::PrePrepare(1), &[Given::Sends(Sent::Prepare(1, 1))]),
+    (Sent::Prepare(1, 2), &[Given::Sends(Sent::Commit(1, 1))]),
+    (Sent::Commit(1, 2), &[]),
+    (
+        Sent::Commit(1, 3),
+        &[
+            Given::Executes(1),
+            Given::Sends(Sent::Reply(1, 1)),
+            Given::Sends(Sent::Checkpoint(1, ONE, 1)),
+        ],
+    ),
+    (Sent::Checkpoint(6, ONE, 3), &[]),
+    (Sent::Checkpoint(5, ONE, 3), &[]),
+    (Sent::Checkpoint(7, ONE, 3), &[]),
+    (Sent::Checkpoint(1, ONE, 3), &[]),
+    (Sent::Checkpoint(1, ONE, 2), &[]),
+    (
+        Sent::Fetch(0, ROOT, 2),
+        &[Given::Sends(Sent::Part(0, State::Behind(0), ROOT, 1, 2))],
+    ),
+    (Sent::Checkpoint(1, ONE, 0), &[]),
+    (Sent::Fetch(0, ROOT, 2), &[]),
+];
+
+// With a period of 1 two numbers are within the marks. The third request gets its number in the event that moves them.
+pub const FREES_NUMBERS: [Row<'static>; 10] = [
+    (Sent::Request(1), &[Given::Sends(Sent::PrePrepare(1))]),
+    (Sent::Request(2), &[Given::Sends(Sent::PrePrepare(2))]),
+    (Sent::Request(3), &[]),
+    (Sent::Prepare(1, 1), &[]),
+    (Sent::Prepare(1, 2), &[Given::Sends(Sent::Commit(1, 0))]),
+    (Sent::Commit(1, 1), &[]),
+    (
+        Sent::Commit(1, 2),
+        &[
+            Given::Executes(1),
+            Given::Sends(Sent::Reply(1, 0)),
+            Given::Sends(Sent::Checkpoint(1, ONE, 0)),
+        ],
+    ),
+    (Sent::Checkpoint(1, ONE, 1), &[]),
+    (
+        Sent::Checkpoint(1, ONE, 3),
+        &[Given::Sends(Sent::PrePrepare(3))],
+    ),
+    (Sent::Checkpoint(1, ONE, 2), &[]),
+];
+
+// The request that waits comes again: the latest checkpoint goes out last, also where it is stable.
+const GOES_AGAIN: [Row<'static>; 11] = [
+    (Sent::PrePrepare(1), &[Given::Sends(Sent::Prepare(1, 1))]),
+    (Sent::Prepare(1, 2), &[Given::Sends(Sent::Commit(1, 1))]),
+    (Sent::Commit(1, 2), &[]),
+    (
+        Sent::Commit(1, 3),
+        &[
+            Given::Executes(1),
+            Given::Sends(Sent::Reply(1, 1)),
+            Given::Sends(Sent::Checkpoint(1, ONE, 1)),
+        ],
+    ),
+    (Sent::Request(2), &[]),
+    (
+        Sent::Request(2),
+        &[Given::Sends(Sent::Checkpoint(1, ONE, 1))],
+    ),
+    (Sent::PrePrepare(2), &[Given::Sends(Sent::Prepare(2, 1))]),
+    (
+        Sent::Request(2),
+        &[
+            Given::Sends(Sent::Prepare(2, 1)),
+            Given::Sends(Sent::Checkpoint(1, ONE, 1)),
+        ],
+    ),
+    (Sent::Checkpoint(1, ONE, 2), &[]),
+    (Sent::Checkpoint(1, ONE, 3), &[]),
+    (
+        Sent::Request(2),
+        &[
+            Given::Sends(Sent::Prepare(2, 1)),
+            Given::Sends(Sent::Checkpoint(1, ONE, 1)),
+        ],
+    ),
+];
+
+fn gives_rows(alloc: Global, me: u8, period: u8, rows: &[Row<'_>]) -> Result<bool, Fail> {
+    let config = config_of_period(alloc, period)?;
+    let mut replica = new_replica(alloc, &config, me)?;
+    gives_all(&mut replica, alloc, rows)
+}
+
+#[test]
+fn a_checkpoint_at_each_multiple(rt: HostRuntime) -> Result<(), Fail> {
+    assert!(rt; gives_rows(rt.alloc(), 1, 2, &SECOND_AT_BACKUP)?);
+    Ok(())
+}
+
+#[test]
+fn a_stable_checkpoint_moves_the_marks(rt: HostRuntime) -> Result<(), Fail> {
+    assert!(rt; gives_rows(rt.alloc(), 1, 1, &BECOMES_STABLE)?);
+    assert!(rt; gives_rows(rt.alloc(), 1, 1, &STABLE_AT_ONCE)?);
+    assert!(rt; gives_rows(rt.alloc(), 0, 1, &FREES_NUMBERS)?);
+    Ok(())
+}
+
+#[test]
+fn three_checkpoints_of_a_sender(rt: HostRuntime) -> Result<(), Fail> {
+    assert!(rt; gives_rows(rt.alloc(), 1, 1, &FOURTH)?);
+    Ok(())
+}
+
+#[test]
+fn the_latest_checkpoint_goes_again(rt: HostRuntime) -> Result<(), Fail> {
+    assert!(rt; gives_rows(rt.alloc(), 1, 1, &GOES_AGAIN)?);
+    Ok(())
+}

@@ -1,0 +1,29 @@
+//! Why a part of a state isn't taken.
+
+use terms::NoMemory;
+use thiserror::Error;
+
+/// Why a part of a state isn't taken. Where several hold, the first is told.
+#[derive(Clone, Copy, Debug, PartialEq, Eq, Error)]
+pub enum PartFault {
+    /// It is of another state or place than was asked for last.
+    #[error("the part was not asked for")]
+    NotAsked,
+    /// It doesn't have the digest that is wanted there.
+    #[error("the part has another digest")]
+    WrongDigest,
+    /// There was no room for it.
+    #[error("out of memory")]
+    NoMemory,
+}
+
+impl From<NoMemory> for PartFault {
+    ghost use Rattle.std.specs.Prelude.{◌≡◌};
+    ghost use Rattle.state_transfer.specs.declared.part_fault.PartFault.TheVariants.{NoMemory as no_memory};
+
+    ghost from_gives = { λ _ e. e ≡ no_memory };
+
+    fn from(_failed: NoMemory) -> PartFault {
+        PartFault::NoMemory
+    }
+}

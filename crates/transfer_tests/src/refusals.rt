@@ -1,0 +1,168 @@
+//! Parts that are not taken, and why: the first fault that applies is told.
+
+use crate::trees::{At, ROOT, answer, completes, place, start, takes, tree_of};
+use partition_tree::{CHILDREN, Tree};
+use state_transfer::{PartFault, Transfer};
+use std::alloc::Global;
+use std::test::Fail;
+use terms::{Digest, Level, NoMemory, Number};
+
+const TO_PAGE_5: [At; 2] = [ROOT, (Level::Inner, 0)];
+
+// Number, index and text of a page, and why it is refused where page 5 of state 2 was asked for, which is `text`.
+const PAGES: [(u64, u16, &[u8], PartFault); 7] = [
+    (2, 5, b"texx", PartFault::WrongDigest),
+    (2, 5, b"", PartFault::WrongDigest),
+    (3, 5, b"text", PartFault::NotAsked),
+    (1, 5, b"text", PartFault::NotAsked),
+    (2, 6, b"text", PartFault::NotAsked),
+    (2, 1029, b"text", PartFault::NotAsked),
+    (3, 6, b"texx", PartFault::NotAsked),
+];
+
+fn refuses_pages(alloc: Global) -> Result<bool, NoMemory> {
+    let tree = tree_of(alloc, &[(5, b"text")])?;
+    let mut transfer = start(alloc, 2, &tree, &[])?;
+    let asked = place((Level::Page, 5));
+    if !takes(&mut transfer, &tree, &TO_PAGE_5)? || transfer.next_fetch() != Some(asked) {
+        return Ok(false);
+    }
+    let own = transfer.pages().root();
+    for (number, index, text, fault) in PAGES {
+        if transfer.on_page(Number(number), index, text).err() != Some(fault) {
+            return Ok(false);
+        }
+    }
+    Ok(
+        transfer.asked() == asked
+            && transfer.pages().root() == own
+            && completes(&mut transfer, &tree, &[(Level::Page, 5)])?,
+    )
+}
+
+#[test]
+fn pages_are_refused(rt: HostRuntime) -> Result<(), Fail> {
+    assert!(rt; refuses_pages(rt.alloc())?);
+    Ok(())
+}
+
+// Number and place of digests that are those of the root's children but for one bit, and why they are refused where the
+// root's of state 2 were asked for.
+const DIGESTS: [(u64, At, PartFault); 6] = [
+    (2, ROOT, PartFault::WrongDigest),
+    (3, ROOT, PartFault::NotAsked),
+    (1, ROOT, PartFault::NotAsked),
+    (2, (Level::Root, 1), PartFault::NotAsked),
+    (2, (Level::Inner, 0), PartFault::NotAsked),
+    (2, (Level::Page, 0), PartFault::NotAsked),
+];
+
+fn refuses_digests(alloc: Global) -> Result<bool, NoMemory> {
+    let tree = tree_of(alloc, &[(5, b"text")])?;
+    let mut transfer = start(alloc, 2, &tree, &[])?;
+    let mut digests = *tree.children(Level::Root, 0);
+    digests[31][31] ^= 1;
+    for (number, at, fault) in DIGESTS {
+        if transfer.on_meta(Number(number), place(at), &digests) != Err(fault) {
+            return Ok(false);
+        }
+    }
+    completes(
+        &mut transfer,
+        &tree,
+        &[ROOT, (Level::Inner, 0), (Level::Page, 5)],
+    )
+}
+
+#[test]
+fn digests_are_refused(rt: HostRuntime) -> Result<(), Fail> {
+    assert!(rt; refuses_digests(rt.alloc())?);
+    Ok(())
+}
+
+// Part 1 is asked for. Digests of part 0 are wrong there, and so are those of part 1 of another state.
+fn refuses_other_parts(alloc: Global) -> Result<bool, NoMemory> {
+    let tree = tree_of(alloc, &[(32, b"text")])?;
+    let other = tree_of(alloc, &[(32, b"lie")])?;
+    let mut transfer = start(alloc, 2, &tree, &[])?;
+    let asked = place((Level::Inner, 1));
+    if !takes(&mut transfer, &tree, &[ROOT])? || transfer.next_fetch() != Some(asked) {
+        return Ok(false);
+    }
+    let wrong = [
+        tree.children(Level::Inner, 0),
+        other.children(Level::Inner, 1),
+    ];
+    for digests in wrong {
+        if transfer.on_meta(Number(2), asked, digests) != Err(PartFault::WrongDigest) {
+            return Ok(false);
+        }
+    }
+    Ok(answer(&mut transfer, &tree, 2).is_ok())
+}
+
+#[test]
+fn digests_of_other_parts_are_refused(rt: HostRuntime) -> Result<(), Fail> {
+    assert!(rt; refuses_other_parts(rt.alloc())?);
+    Ok(())
+}
+
+// The text of page 5 is that of 32 digests, which have its digest. A page has no children.
+fn refuses_digests_for_a_page(alloc: Global) -> Result<bool, NoMemory> {
+    let digests: [Digest; CHILDREN] = [[7; 32]; CHILDREN];
+    let tree = tree_of(alloc, &[(5, &[7; 1024])])?;
+    let mut transfer = start(alloc, 2, &tree, &[])?;
+    let asked = place((Level::Page, 5));
+    if !takes(&mut transfer, &tree, &TO_PAGE_5)? || transfer.next_fetch() != Some(asked) {
+        return Ok(false);
+    }
+    Ok(
+        transfer.on_meta(Number(2), asked, &digests) == Err(PartFault::NotAsked)
+            && completes(&mut transfer, &tree, &[(Level::Page, 5)])?,
+    )
+}
+
+#[test]
+fn digests_for_a_page_are_refused(rt: HostRuntime) -> Result<(), Fail> {
+    assert!(rt; refuses_digests_for_a_page(rt.alloc())?);
+    Ok(())
+}
+
+// Whether the digests of the root's children are refused where another place was asked for behind them, and so are
+// those of the earlier state where a newer one is wanted.
+fn refuses_late_digests(alloc: Global) -> Result<bool, NoMemory> {
+    let tree = tree_of(alloc, &[(5, b"text")])?;
+    let digests = tree.children(Level::Root, 0);
+    let mut transfer = start(alloc, 2, &tree, &[])?;
+    if !takes(&mut transfer, &tree, &[ROOT])? || transfer.next_fetch().is_none() {
+        return Ok(false);
+    }
+    let is_late = transfer.on_meta(Number(2), place(ROOT), digests) == Err(PartFault::NotAsked);
+    transfer.move_to(Number(4), tree.root());
+    Ok(
+        is_late
+            && transfer.on_meta(Number(2), place(ROOT), digests) == Err(PartFault::NotAsked)
+            && transfer.on_meta(Number(4), place(ROOT), digests).is_ok(),
+    )
+}
+
+#[test]
+fn late_digests_are_refused(rt: HostRuntime) -> Result<(), Fail> {
+    assert!(rt; refuses_late_digests(rt.alloc())?);
+    Ok(())
+}
+
+const TEXTS: [(PartFault, &str); 3] = [
+    (PartFault::NotAsked, "the part was not asked for"),
+    (PartFault::WrongDigest, "the part has another digest"),
+    (PartFault::NoMemory, "out of memory"),
+];
+
+#[test]
+fn refusals_have_texts(rt: HostRuntime) -> Result<(), Fail> {
+    for (fault, text) in TEXTS {
+        let written = format!(in rt.alloc(); "{fault}")?;
+        assert!(rt; written.as_str() == text);
+    }
+    Ok(())
+}
