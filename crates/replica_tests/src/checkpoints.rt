@@ -55,6 +55,62 @@ const SECOND_AT_BACKUP: [Row<'static>; 8] = [
     ),
 ];
 
+// And the primary, to which the requests come.
+const SECOND_AT_PRIMARY: [Row<'static>; 10] = [
+    (Sent::Request(1), &[Given::Sends(Sent::PrePrepare(1))]),
+    (Sent::Request(2), &[Given::Sends(Sent::PrePrepare(2))]),
+    (Sent::Prepare(1, 1), &[]),
+    (Sent::Prepare(1, 2), &[Given::Sends(Sent::Commit(1, 0))]),
+    (Sent::Commit(1, 1), &[]),
+    (
+        Sent::Commit(1, 2),
+        &[Given::Executes(1), Given::Sends(Sent::Reply(1, 0))],
+    ),
+    (Sent::Prepare(2, 1), &[]),
+    (Sent::Prepare(2, 2), &[Given::Sends(Sent::Commit(2, 0))]),
+    (Sent::Commit(2, 1), &[]),
+    (
+        Sent::Commit(2, 2),
+        &[
+            Given::Executes(2),
+            Given::Sends(Sent::Reply(2, 0)),
+            Given::Sends(Sent::Checkpoint(2, State::Behind(2), 0)),
+        ],
+    ),
+];
+
+// Where number 2 is stable, the low mark is 2: of the states that are kept the opening one is given up, and that behind
+// number 2 stays, for whoever asks.
+const IS_MARKED_AT_BACKUP: [Row<'static>; 6] = [
+    (Sent::Checkpoint(2, State::Behind(2), 0), &[]),
+    (
+        Sent::Fetch(0, ROOT, 3),
+        &[Given::Sends(Sent::Part(0, State::Behind(0), ROOT, 1, 3))],
+    ),
+    (Sent::Checkpoint(2, State::Behind(2), 3), &[]),
+    (Sent::Fetch(0, ROOT, 3), &[]),
+    (Sent::Fetch(1, ROOT, 3), &[]),
+    (
+        Sent::Fetch(2, ROOT, 3),
+        &[Given::Sends(Sent::Part(2, State::Behind(2), ROOT, 1, 3))],
+    ),
+];
+
+const IS_MARKED_AT_PRIMARY: [Row<'static>; 6] = [
+    (Sent::Checkpoint(2, State::Behind(2), 1), &[]),
+    (
+        Sent::Fetch(0, ROOT, 3),
+        &[Given::Sends(Sent::Part(0, State::Behind(0), ROOT, 0, 3))],
+    ),
+    (Sent::Checkpoint(2, State::Behind(2), 3), &[]),
+    (Sent::Fetch(0, ROOT, 3), &[]),
+    (Sent::Fetch(1, ROOT, 3), &[]),
+    (
+        Sent::Fetch(2, ROOT, 3),
+        &[Given::Sends(Sent::Part(2, State::Behind(2), ROOT, 0, 3))],
+    ),
+];
+
 // With a period of 1 each number has one. Until a quorum has it, the opening state is kept beside it. Of a sender the
 // first of a number counts, and once. Where it is stable, the opening state is given up.
 pub const BECOMES_STABLE: [Row<'static>; 19] = [
@@ -223,9 +279,22 @@ fn gives_rows(alloc: Global, me: u8, period: u8, rows: &[Row<'_>]) -> Result<boo
     gives_all(&mut replica, alloc, rows)
 }
 
+// Number 2 has a checkpoint, and then is stable.
+fn marks_two(
+    alloc: Global,
+    me: u8,
+    second: &[Row<'_>],
+    is_marked: &[Row<'_>],
+) -> Result<bool, Fail> {
+    let config = config_of_period(alloc, 2)?;
+    let mut replica = new_replica(alloc, &config, me)?;
+    Ok(gives_all(&mut replica, alloc, second)? && gives_all(&mut replica, alloc, is_marked)?)
+}
+
 #[test]
 fn a_checkpoint_at_each_multiple(rt: HostRuntime) -> Result<(), Fail> {
-    assert!(rt; gives_rows(rt.alloc(), 1, 2, &SECOND_AT_BACKUP)?);
+    assert!(rt; marks_two(rt.alloc(), 1, &SECOND_AT_BACKUP, &IS_MARKED_AT_BACKUP)?);
+    assert!(rt; marks_two(rt.alloc(), 0, &SECOND_AT_PRIMARY, &IS_MARKED_AT_PRIMARY)?);
     Ok(())
 }
 
