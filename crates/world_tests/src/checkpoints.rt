@@ -92,8 +92,8 @@ fn three_requests_and_two_numbers(rt: HostRuntime) {
     assert!(rt; third_is_numbered(rt.alloc()));
 }
 
-// The number, the level and the index of a part, each below 256 but for the index.
-type Place = (u8, u8, [u8; 2]);
+/// The number, the level and the index of a part, each below 256 but for the index.
+pub type Place = (u8, u8, [u8; 2]);
 
 // The place that a frame asks for, where it asks for one.
 fn place_of(frame: &[u8]) -> Option<Place> {
@@ -107,8 +107,8 @@ fn place_of(frame: &[u8]) -> Option<Place> {
     ))
 }
 
-// Whether replica 3 asks for these places, in this order, and no other replica for any.
-fn fetches(report: &Report, places: &[Place]) -> bool {
+/// Whether replica 3 asks for these places, in this order, and no other replica for any.
+pub fn fetches(report: &Report, places: &[Place]) -> bool {
     let mut left = places.iter();
     for entry in report.trace.as_slice() {
         if let Some((party, frame)) = sent(entry) {
@@ -122,8 +122,8 @@ fn fetches(report: &Report, places: &[Place]) -> bool {
     left.next().is_none()
 }
 
-// Whether replica 3 alone installs a state, once, and it is that of the number.
-fn installs(report: &Report, wanted: u64) -> bool {
+/// Whether replica 3 alone installs a state, once, and it is that of the number.
+pub fn installs(report: &Report, wanted: u64) -> bool {
     let mut count = 0usize;
     for entry in report.trace.as_slice() {
         if let EntryKind::Installed(replica, number, _) = entry.kind() {

@@ -1,5 +1,5 @@
-//! Tests of the world of schedules (`schedule_world`): worked runs of correct parties and of faulty ones, checkpoints
-//! and states that are fetched, and steps that may not come.
+//! Tests of the world of schedules (`schedule_world`): worked runs of correct parties and of faulty ones, replies
+//! that are kept, checkpoints, states that are fetched, and steps that may not come.
 #![tactic(auto)]
 
 #[cfg(test)]
@@ -8,6 +8,10 @@ mod calls;
 mod checkpoints;
 #[cfg(test)]
 mod frames;
+#[cfg(test)]
+mod kept_replies;
+#[cfg(test)]
+mod left_behind;
 #[cfg(test)]
 mod liars;
 #[cfg(test)]

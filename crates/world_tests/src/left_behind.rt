@@ -1,0 +1,287 @@
+//! Replica 3 is cut off while the other three carry calls, and fetches the state that they came to, with a checkpoint at
+//! each second number.
+
+use crate::checkpoints::{Place, fetches, installs};
+use crate::reports::{Row, accepts, execution};
+use crate::worlds::{put_steps, report_of, world_of_period};
+use schedule_text::Step;
+use schedule_world::Report;
+use std::alloc::Global;
+use terms::{ClientId, NoMemory, Party, ReplicaId};
+
+// What comes of a call that replicas 0, 1 and 2 carry: how many frames were made behind the request, and which replica
+// gets the frame. These are the request, the pre-prepare, the prepares of 1 and 2, and the commits of 2, 0 and 1.
+const CARRIED: [(u64, u8); 13] = [
+    (0, 0),
+    (1, 1),
+    (1, 2),
+    (2, 0),
+    (2, 2),
+    (3, 0),
+    (3, 1),
+    (4, 0),
+    (4, 1),
+    (5, 1),
+    (5, 2),
+    (6, 0),
+    (6, 2),
+];
+
+// The replies of 1, 0 and 2, of a number without a checkpoint and of one with it, where each reply is followed by one.
+const REPLIES: [u64; 3] = [7, 8, 9];
+
+const REPLIES_BEFORE: [u64; 3] = [7, 9, 11];
+
+const CHECKPOINTS: [u64; 3] = [8, 10, 12];
+
+const CARRIED_CHECKPOINTS: [(u64, u8); 6] = [(8, 0), (8, 2), (10, 1), (10, 2), (12, 0), (12, 1)];
+
+// Steps, how many frames they make, and how many of these the last request has in front of it.
+#[derive(Drop)]
+struct Walk {
+    steps: Vec<Step>,
+    made: u64,
+    called: u64,
+}
+
+impl Walk {
+    fn new(alloc: Global) -> Walk {
+        Walk {
+            steps: Vec::new(alloc),
+            made: 0,
+            called: 0,
+        }
+    }
+
+    fn put(&mut self, frame: u64, party: Party) -> Result<(), NoMemory> {
+        self.steps.push(Step::Deliver { frame, party })?;
+        Ok(())
+    }
+
+    fn put_behind(&mut self, behind: u64, party: Party) -> Result<(), NoMemory> {
+        self.put(self.called.saturating_add(behind), party)
+    }
+
+    fn put_all(&mut self, rows: &[(u64, u8)]) -> Result<(), NoMemory> {
+        for (behind, replica) in rows {
+            self.put_behind(*behind, Party::Replica(ReplicaId(*replica)))?;
+        }
+        Ok(())
+    }
+
+    fn put_replies(&mut self, replies: &[u64]) -> Result<(), NoMemory> {
+        for behind in replies {
+            self.put_behind(*behind, Party::Client(ClientId { number: 0 }))?;
+        }
+        Ok(())
+    }
+
+    // Client 0 puts the tuple of this number.
+    fn call(&mut self, alloc: Global, number: u8) -> Result<bool, NoMemory> {
+        self.called = self.made;
+        match format!(in alloc; "invoke 0 out ({number})") {
+            Ok(line) => put_steps(alloc, &[line.as_str()], &mut self.steps),
+            Err(_) => Err(NoMemory),
+        }
+    }
+
+    // A call, which has this number, and what comes of it. Replica 3 gets nothing.
+    fn carry(&mut self, alloc: Global, number: u8) -> Result<bool, NoMemory> {
+        if !self.call(alloc, number)? {
+            return Ok(false);
+        }
+        self.put_all(&CARRIED)?;
+        if number & 1 == 1 {
+            self.put_replies(&REPLIES)?;
+            self.made = self.called.saturating_add(10);
+        } else {
+            self.put_replies(&REPLIES_BEFORE)?;
+            self.put_all(&CARRIED_CHECKPOINTS)?;
+            self.made = self.called.saturating_add(13);
+        }
+        Ok(true)
+    }
+
+    // Replica 3 gets the checkpoints that the last call came to, and asks for the root's digests.
+    fn tell_checkpoints(&mut self) -> Result<(), NoMemory> {
+        for behind in CHECKPOINTS {
+            self.put_behind(behind, Party::Replica(ReplicaId(3)))?;
+        }
+        Ok(())
+    }
+
+    // Replica 0 gets what replica 3 asks for, and answers.
+    fn answer(&mut self) -> Result<(), NoMemory> {
+        self.put(self.made, Party::Replica(ReplicaId(0)))?;
+        self.made = self.made.saturating_add(2);
+        Ok(())
+    }
+
+    // So many answers, each of which comes to replica 3.
+    fn fetch(&mut self, parts: usize) -> Result<(), NoMemory> {
+        for _ in 0..parts {
+            self.answer()?;
+            self.put(self.made.saturating_sub(1), Party::Replica(ReplicaId(3)))?;
+        }
+        Ok(())
+    }
+
+    fn carry_six(&mut self, alloc: Global) -> Result<bool, NoMemory> {
+        for number in 1..7 {
+            if !self.carry(alloc, number)? {
+                return Ok(false);
+            }
+        }
+        self.tell_checkpoints()?;
+        Ok(true)
+    }
+}
+
+// The report of a walk that was put together, if it was.
+fn report_of_walk(alloc: Global, put: Result<bool, NoMemory>, walk: &Walk) -> Option<Report> {
+    let config = world_of_period(alloc, 1, 2, &[], &[])?;
+    match put {
+        Ok(true) => report_of(alloc, &config, walk.steps.as_slice()),
+        _ => None,
+    }
+}
+
+// Whether replica 3 executes the batch of this number, which has one request, and no other batch.
+fn executes_alone(report: &Report, number: u64) -> bool {
+    let mut count = 0usize;
+    for entry in report.trace.as_slice() {
+        if let Some((replica, at, requests)) = execution(entry) {
+            if replica == 3 {
+                count = count.saturating_add(1);
+                if (at, requests) != (number, 1) {
+                    return false;
+                }
+            }
+        }
+    }
+    count == 1
+}
+
+// What differs from the opening state: the root, and in three inner parts the pages of six tuples, of client 0 and of
+// the header.
+const OF_SIX: [Place; 12] = [
+    (6, 0, [0, 0]),
+    (6, 1, [0, 0]),
+    (6, 2, [0, 0]),
+    (6, 2, [0, 1]),
+    (6, 2, [0, 2]),
+    (6, 2, [0, 3]),
+    (6, 2, [0, 4]),
+    (6, 2, [0, 5]),
+    (6, 1, [0, 8]),
+    (6, 2, [1, 0]),
+    (6, 1, [0, 16]),
+    (6, 2, [2, 0]),
+];
+
+const DONE: [Row<'static>; 8] = [
+    (0, 1, "done"),
+    (0, 2, "done"),
+    (0, 3, "done"),
+    (0, 4, "done"),
+    (0, 5, "done"),
+    (0, 6, "done"),
+    (0, 7, "done"),
+    (0, 8, "done"),
+];
+
+// It fetches number 6, part by part, and then all three others' frames come, and the next call.
+fn put_catching_up(alloc: Global, walk: &mut Walk) -> Result<bool, NoMemory> {
+    if !walk.carry_six(alloc)? {
+        return Ok(false);
+    }
+    walk.fetch(OF_SIX.len())?;
+    Ok(walk.call(alloc, 7)? && put_steps(alloc, &["flush"], &mut walk.steps)?)
+}
+
+// Of what it was cut off from it executes nothing, and number 7 it executes.
+fn catches_up(alloc: Global) -> bool {
+    let mut walk = Walk::new(alloc);
+    let put = put_catching_up(alloc, &mut walk);
+    match report_of_walk(alloc, put, &walk) {
+        Some(report) => {
+            fetches(&report, &OF_SIX)
+                && installs(&report, 6)
+                && executes_alone(&report, 7)
+                && accepts(alloc, &report, DONE.get(..7).unwrap_or(&[]))
+        }
+        None => false,
+    }
+}
+
+#[test]
+fn six_calls_are_fetched(rt: HostRuntime) {
+    assert!(rt; catches_up(rt.alloc()));
+}
+
+// What then differs from number 8, where the tuples of numbers 1 to 6 were fetched: behind the root the pages of two
+// more tuples, and those of client 0 and of the header, which have changed.
+const OF_EIGHT: [Place; 8] = [
+    (8, 0, [0, 0]),
+    (8, 1, [0, 0]),
+    (8, 2, [0, 6]),
+    (8, 2, [0, 7]),
+    (8, 1, [0, 8]),
+    (8, 2, [1, 0]),
+    (8, 1, [0, 16]),
+    (8, 2, [2, 0]),
+];
+
+fn all_places(alloc: Global) -> Result<Vec<Place>, NoMemory> {
+    let mut all = Vec::from_slice(alloc, &OF_SIX)?;
+    all.extend_from_slice(&OF_EIGHT)?;
+    Ok(all)
+}
+
+// The answer with the header of number 6 is held back while two more calls are carried, whose checkpoints overtake.
+// It comes then, and is asked for no more.
+fn put_overtaken(alloc: Global, walk: &mut Walk) -> Result<bool, NoMemory> {
+    if !walk.carry_six(alloc)? {
+        return Ok(false);
+    }
+    walk.fetch(OF_SIX.len().saturating_sub(1))?;
+    walk.answer()?;
+    let held_back = walk.made.saturating_sub(1);
+    if !walk.carry(alloc, 7)? || !walk.carry(alloc, 8)? {
+        return Ok(false);
+    }
+    walk.tell_checkpoints()?;
+    walk.put(held_back, Party::Replica(ReplicaId(3)))?;
+    walk.fetch(OF_EIGHT.len())?;
+    let lines = ["invoke 0 rdAll 64 (*)", "flush"];
+    put_steps(alloc, &lines, &mut walk.steps)
+}
+
+// Twenty parts are asked for in all. The next number is 9.
+fn is_overtaken(alloc: Global) -> bool {
+    let mut walk = Walk::new(alloc);
+    let put = put_overtaken(alloc, &mut walk);
+    match (report_of_walk(alloc, put, &walk), all_places(alloc)) {
+        (Some(report), Ok(places)) => {
+            fetches(&report, places.as_slice())
+                && installs(&report, 8)
+                && executes_alone(&report, 9)
+                && has_read_eight(alloc, &report)
+        }
+        _ => false,
+    }
+}
+
+fn has_read_eight(alloc: Global, report: &Report) -> bool {
+    let mut rows = Vec::new(alloc);
+    rows.extend_from_slice(&DONE).is_ok()
+        && rows
+            .push((0, 9, "all 8 (1) (2) (3) (4) (5) (6) (7) (8)"))
+            .is_ok()
+        && accepts(alloc, report, rows.as_slice())
+}
+
+#[test]
+fn a_newer_checkpoint_overtakes(rt: HostRuntime) {
+    assert!(rt; is_overtaken(rt.alloc()));
+}
