@@ -1,5 +1,5 @@
-//! The frames of a run of requests, `out (n)` of client n - 1 at the number n, and those of checkpoints and transfers of
-//! its states, written by docs/formats.md without what reads them.
+//! The frames of a run of requests, `out (n)` of client n - 1 at the number n, and those of checkpoints and transfers
+//! of its states, written by docs/formats.md without what reads them.
 
 use crate::states::{At, PAGE, State, children_at, page_text, root_of};
 use authenticator::hmac;

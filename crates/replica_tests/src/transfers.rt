@@ -106,7 +106,8 @@ const EXECUTES_BEHIND: [Row<'static>; 14] = [
     ),
 ];
 
-// Parts that come where none is asked for, parts of other states, of another number, and of other places change nothing.
+// Parts that come where none is asked for, and parts of other states, of another number and of other places change
+// nothing.
 const REFUSED: [Row<'static>; 23] = [
     (Sent::Part(1, ONE, ROOT, 0, 3), &[]),
     (Sent::Checkpoint(1, ONE, 0), &[]),

@@ -165,9 +165,10 @@ const OF_ONE: [Place; 7] = [
 ];
 
 // The others execute the batch, and their checkpoints bring replica 3 to fetch the state. Counted by the protocol: the
-// request is got three times; a pre-prepare, two prepares, three commits and three checkpoints are sent, and got 3, 6, 9
-// and 9 times; there are three executions and three replies to client 1, which is faulty. Each fetch is got three times
-// and answered as often, and each answer is got: of three the first counts. With the installation that is 116 entries.
+// request is got three times; a pre-prepare, two prepares, three commits and three checkpoints are sent, and got 3, 6,
+// 9 and 9 times; there are three executions and three replies to client 1, which is faulty. Each fetch is got three
+// times and answered as often, and each answer is got: of three the first counts. With the installation that is 116
+// entries.
 fn catches_up(alloc: Global) -> bool {
     match report_of_lagging(alloc, 1, &["flush"]) {
         Some(report) => {

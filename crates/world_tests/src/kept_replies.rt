@@ -33,8 +33,8 @@ fn put_to_client(frames: &[u64], number: u16, steps: &mut Vec<Step>) -> Result<(
     Ok(())
 }
 
-// A call makes 13 frames: the request, the pre-prepare, three prepares and four commits, and four replies, which stay on
-// the way here. Those of the second call start at 13, and among its replies, from 22 on, each is followed by the
+// A call makes 13 frames: the request, the pre-prepare, three prepares and four commits, and four replies, which stay
+// on the way here. Those of the second call start at 13, and among its replies, from 22 on, each is followed by the
 // checkpoint of number 2: all have it then. Time goes by for client 0, and its frame 30 makes each replica send its
 // reply again.
 fn put_asking_again(alloc: Global, steps: &mut Vec<Step>) -> Result<bool, NoMemory> {

@@ -1,5 +1,5 @@
-//! Replica 3 is cut off while the other three carry calls, and fetches the state that they came to, with a checkpoint at
-//! each second number.
+//! Replica 3 is cut off while the other three carry calls, and fetches the state that they came to. Each second number
+//! has a checkpoint.
 
 use crate::checkpoints::{Place, fetches, installs};
 use crate::reports::{Row, accepts, execution};
