@@ -12,6 +12,10 @@ const INNER_16: At = (1, 16);
 
 const FIRST_PAGE: At = (PAGE, 0);
 
+const FIRST_REPLY: At = (PAGE, 256);
+
+const HEADER: At = (PAGE, 512);
+
 // The root of the state behind `out (1)` of client 0. It was computed by Python's hashlib, where pages = [b''] * 1024,
 // one = (1).to_bytes(8, 'big'), pages[0] = bytes(8) + b'\x01\x01' + one, pages[256] = one + one + b'1' and
 // pages[512] = b'\x01' + one + one:
@@ -113,7 +117,7 @@ const IS_MARKED_AT_PRIMARY: [Row<'static>; 6] = [
 
 // With a period of 1 each number has one. Until a quorum has it, the opening state is kept beside it. Of a sender the
 // first of a number counts, and once. Where it is stable, the opening state is given up.
-pub const BECOMES_STABLE: [Row<'static>; 19] = [
+pub const BECOMES_STABLE: [Row<'static>; 21] = [
     (Sent::PrePrepare(1), &[Given::Sends(Sent::Prepare(1, 1))]),
     (Sent::Prepare(1, 2), &[Given::Sends(Sent::Commit(1, 1))]),
     (Sent::Commit(1, 2), &[]),
@@ -157,6 +161,14 @@ pub const BECOMES_STABLE: [Row<'static>; 19] = [
     (
         Sent::Fetch(1, FIRST_PAGE, 2),
         &[Given::Sends(Sent::Part(1, ONE, FIRST_PAGE, 1, 2))],
+    ),
+    (
+        Sent::Fetch(1, FIRST_REPLY, 3),
+        &[Given::Sends(Sent::Part(1, ONE, FIRST_REPLY, 1, 3))],
+    ),
+    (
+        Sent::Fetch(1, HEADER, 0),
+        &[Given::Sends(Sent::Part(1, ONE, HEADER, 1, 0))],
     ),
 ];
 
