@@ -1,0 +1,12 @@
+mod Chosen
+mod Claiming
+mod Deciding
+mod Gaps
+mod Keeping
+mod Larger
+mod Mapped
+mod Opening
+mod Placing
+mod Ranking
+mod Sizing
+mod Starting

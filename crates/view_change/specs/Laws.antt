@@ -1,0 +1,54 @@
+-- What is proved of selecting.
+use Rattle.std.specs.Prelude.{◌≡◌, ◌↔◌, ℕ, ◌+◌, ◌≤◌, ◌<◌, true, false, List}
+use Rattle.protocol.specs.System.Configuration.{Configuration}
+use Rattle.protocol.specs.System.Trace.{Has}
+use Rattle.protocol.specs.Replica.Selection.{ascending, changes_of, all_signed, may_stand_at, is_some_below, may_stand, may_select}
+use Rattle.wire.specs.Messages.{ViewChangeData, NewViewData, CheckpointEntryData as CheckpointEntry}
+use Rattle.view_change.specs.Selecting.{is_set_for, are_for, meets, how_many_from, IsPart, IsFrom, AreFrom, stands_by_entry}
+
+-- A new view is selected exactly where its view changes are signed, are a set for it, and its start and batches meet the
+-- rules over them.
+abbrev pub SelectsBySet : Type 0
+SelectsBySet =
+    (c : Configuration) (new : NewViewData)
+    → (may_select c new ≡ true) ↔ ((all_signed c new ≡ true) × (is_set_for c new.view (changes_of c new) ≡ true)
+    × (meets c new.view (changes_of c new) new.start new.root new.batches ≡ true))
+
+-- A larger set allows the same start, and the same batches with null batches behind them.
+abbrev pub LargerSetsAllow : Type 0
+LargerSetsAllow =
+    (c : Configuration) (view start : ℕ) (root : List ℕ) (small large : List (ℕ × ViewChangeData))
+    (texts batches : List (List ℕ))
+    → IsPart small large → ascending small ≡ true → ascending large ≡ true → AreFrom texts batches
+    → meets c view small start root batches ≡ true
+    → (more : List (List ℕ)) × AreFrom texts more × (meets c view large start root more ≡ true)
+
+-- To find the view by which a digest may stand it is enough to look at the entries for it.
+abbrev pub EntriesDecide : Type 0
+EntriesDecide =
+    (c : Configuration) (view number : ℕ) (digest : List ℕ) (set : List (ℕ × ViewChangeData))
+    → are_for view set c ≡ true
+    → is_some_below (may_stand_at c set number digest) view ≡ stands_by_entry c set number digest set
+
+-- Where nothing that is there may stand at a number behind a start, nothing is selected from that start.
+abbrev pub GapsForbid : Type 0
+GapsForbid =
+    (c : Configuration) (view start number : ℕ) (root : List ℕ) (set : List (ℕ × ViewChangeData))
+    (texts batches : List (List ℕ))
+    → start < number → number ≤ start + how_many_from c set start
+    → ((batch : List ℕ) → IsFrom texts batch → may_stand c view set number batch ≡ false)
+    → AreFrom texts batches → meets c view set start root batches ≡ false
+
+-- A start is listed by some view change of the set.
+abbrev pub StartsAreListed : Type 0
+StartsAreListed =
+    (c : Configuration) (view start : ℕ) (root : List ℕ) (set : List (ℕ × ViewChangeData)) (batches : List (List ℕ))
+    → meets c view set start root batches ≡ true
+    → Has (λ x. Has (λ (checkpoint : CheckpointEntry). (checkpoint.number ≡ start) × (checkpoint.digest ≡ root))
+    x.1.checkpoints) set
+
+-- Of a configuration the rules use the seed and the two sizes alone.
+abbrev pub SizesDecide : Type 0
+SizesDecide =
+    (c d : Configuration) (new : NewViewData) → c.seed ≡ d.seed → c.faults ≡ d.faults → c.period ≡ d.period
+    → may_select c new ≡ true → may_select d new ≡ true

@@ -1,0 +1,32 @@
+//! View changes: what may be selected over those of others, which new views are taken, and what a replica keeps for its
+//! own.
+#![tactic(auto)]
+
+mod bounds;
+mod carried;
+mod change_fault;
+mod changes;
+mod checking;
+mod choosing;
+mod claim;
+mod claims;
+mod fault;
+mod laws;
+mod making;
+mod received;
+mod rules;
+mod selecting;
+
+pub use bounds::is_set;
+pub use change_fault::ChangeFault;
+pub use changes::{Change, Selection, SignedChange, Sizes};
+pub use checking::check_new_view;
+pub use claims::Claims;
+pub use fault::NewViewFault;
+pub use laws::{
+    claims_are_recorded, entries_decide, gaps_forbid, larger_sets_allow, selects_by_set,
+    sizes_decide,
+};
+pub use making::make;
+pub use received::{Received, copy_change};
+pub use selecting::select;

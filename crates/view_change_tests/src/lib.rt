@@ -1,0 +1,12 @@
+//! Tests of view changes (`view_change`): what is selected over the view changes of four and of seven replicas, each
+//! refusal of a new view, and the claims that a replica keeps.
+#![tactic(auto)]
+
+#[cfg(test)]
+mod claims;
+#[cfg(test)]
+mod frames;
+#[cfg(test)]
+mod refusals;
+#[cfg(test)]
+mod selections;
