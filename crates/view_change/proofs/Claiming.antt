@@ -160,7 +160,7 @@ stands_there c view number digest set fit h =
     let p = and_parts (is_entry_for number digest q.0) (may_stand_at c set number digest q.0.view) q.2 in
     below_some (may_stand_at c set number digest) view q.0.view (entry_earlier c view set r.0 q.0 fit r.1 q.1) p.1
 
-same_truth : (a b : Bool) → (a ≡ true → b ≡ true) → (b ≡ true → a ≡ true) → a ≡ b
+pub same_truth : (a b : Bool) → (a ≡ true → b ≡ true) → (b ≡ true → a ≡ true) → a ≡ b
 same_truth true b f g = sym (f refl)
 same_truth false true f g = absurd (let e = g refl in cc)
 same_truth false false f g = refl

@@ -16,9 +16,10 @@ use Rattle.view_change.specs.Checking.{refusal_by_rules}
 use Rattle.view_change.specs.Refusing.{passes, refusal_over}
 use Rattle.view_change.specs.Selecting.{are_for, is_set_for, meets}
 use Rattle.view_change.specs.Sets.{given, pairs, signed_changes}
+use Rattle.view_change.proofs.Claiming.{same_truth}
 use Rattle.view_change.proofs.Larger.{selects_by_set}
 
-list_of_given : (xs : List (ℕ × ViewChangeData)) → list_of (given xs) ≡ xs
+pub list_of_given : (xs : List (ℕ × ViewChangeData)) → list_of (given xs) ≡ xs
 list_of_given [] = refl
 list_of_given (x ∷ xs) = ap (λ ys. x ∷ ys) (list_of_given xs)
 
@@ -45,11 +46,6 @@ not_signed c new h =
     let l = short (map (signed_change c) new.changes) h in
     let e = length-map new.changes (signed_change c) in
     ne_eqb (length (changes_of c new)) (length new.changes) (λ i. absurd (omega (arith, l, e, i)))
-
-same_truth : (a b : Bool) → (a ≡ true → b ≡ true) → (b ≡ true → a ≡ true) → a ≡ b
-same_truth true b f g = sym (f refl)
-same_truth false true f g = absurd (let e = g refl in cc)
-same_truth false false f g = refl
 
 -- where all are signed and enough, the tests of the set decide
 may_is : (c : Configuration) (new : NewViewData) (set : List (ℕ × ViewChangeData)) → given set ≡ map (signed_change c) new.changes

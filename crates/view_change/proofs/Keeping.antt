@@ -20,7 +20,7 @@ use Rattle.view_change.proofs.Ranking.{bytes_trans, bytes_irreflexive}
 
 -- ---- an order on claims by which those that name the same are told apart
 
-record IsOrder (before same : Claim → Claim → Bool) : Type 0 where
+pub record IsOrder (before same : Claim → Claim → Bool) : Type 0 where
   trans : (a b d : Claim) → before a b ≡ true → before b d ≡ true → before a d ≡ true
   other : (a b : Claim) → before a b ≡ true → same b a ≡ false
   apart : (a b new : Claim) → before a b ≡ true → same a new ≡ true → same b new ≡ false
@@ -96,7 +96,7 @@ weaker : {A : Type 0} (P Q : A → Type 0) → ((x : A) → P x → Q x) → (xs
 weaker P Q f [] h = tt
 weaker P Q f (x ∷ xs) h = (f x h.0, weaker P Q f xs h.1)
 
-ascends_with : (before same : Claim → Claim → Bool) → IsOrder before same → (new : Claim) (claims : List Claim) → Each (λ x. length x.digest ≡ length new.digest) claims → Ascends before claims → Ascends before (with_claim before same new claims)
+pub ascends_with : (before same : Claim → Claim → Bool) → IsOrder before same → (new : Claim) (claims : List Claim) → Each (λ x. length x.digest ≡ length new.digest) claims → Ascends before claims → Ascends before (with_claim before same new claims)
 ascends_with before same order new [] long up = (tt, tt)
 ascends_with before same order new (x ∷ xs) long up = go (same x new) refl (before new x) refl (ascends_with before same order new xs long.1 up.1)
   where
@@ -135,7 +135,7 @@ new_with before same Q new q g (x ∷ xs) = go (same x new) refl (before new x) 
 
 -- ---- the two orders
 
-by_number : IsOrder batch_entry_before same_number
+pub by_number : IsOrder batch_entry_before same_number
 by_number = record {
   trans = λ a b d x y. let p = ltb-true a.number b.number x in let q = ltb-true b.number d.number y in lt-ltb a.number d.number (omega arith);
   other = λ a b x. let p = ltb-true a.number b.number x in ne_eqb b.number a.number (λ e. absurd (omega arith));
@@ -216,7 +216,7 @@ second_before : (a new b : Claim) → a.number ≡ new.number → a.digest ≡ n
 second_before a new b e f (inl l) = inl (omega arith)
 second_before a new b e f (inr l) = inr (l.0 ∙ e, subst (λ d. bytes_before b.digest d ≡ true) f l.1)
 
-by_name : IsOrder named_before same_name
+pub by_name : IsOrder named_before same_name
 by_name = record {
   trans = λ a b d x y. from_before a d (before_trans a b d (is_before a b x) (is_before b d y));
   other = λ a b x. false_from_ne_true (same_name b a) (λ t. let s = is_same b a t in before_apart a b (is_before a b x) (sym s.0) (sym s.1));
@@ -381,7 +381,7 @@ each_left test P (x ∷ xs) h = go (test x) (each_left test P xs h.1)
     go true below = (h.0, below)
     go false below = below
 
-ascends_left : (before : Claim → Claim → Bool) (test : Claim → Bool) (xs : List Claim) → Ascends before xs → Ascends before (filter test xs)
+pub ascends_left : (before : Claim → Claim → Bool) (test : Claim → Bool) (xs : List Claim) → Ascends before xs → Ascends before (filter test xs)
 ascends_left before test [] h = tt
 ascends_left before test (x ∷ xs) h = go (test x) (ascends_left before test xs h.1)
   where

@@ -1,13 +1,15 @@
 -- What a carried frame tells: the view change that it spells, where its sender signed it.
 use Rattle.std.specs.Prelude.{option_and_then, if◌then◌else◌}
-use Rattle.std.proofs.Common.{◌≡◌, ℕ, Bool, true, false, List, Option, Some, None, refl, ap, ◌∙◌, ◌&&◌}
+use Rattle.std.proofs.Common.{◌≡◌, ℕ, ◌<◌, Bool, true, false, List, Option, Some, None, refl, sym, ap, ◌∙◌, subst, arith, ◌&&◌}
+use Rattle.std.proofs.lemmas.Bool.{ltb-true}
+use Rattle.std.proofs.lemmas.Option.{some_pair_parts}
 use Rattle.wire.specs.Messages.{MessageData as Message, BodyData as Body, FrameData as Frame, ViewChangeData, view_change as ViewChange, new_view as NewView}
 use Rattle.wire.specs.Spelling.{SpellsFrame, is_signed}
 use Rattle.wire.specs.Words.{frame_of}
 use Rattle.wire.proofs.Saying.{reads_frames}
 use Rattle.authenticator.specs.Membership.{is_replica, has_sender, sends}
 use Rattle.signing.specs.Heard.{has_signature, is_signed_frame, signed_body}
-use Rattle.protocol.specs.System.Configuration.{Configuration, members}
+use Rattle.protocol.specs.System.Configuration.{Configuration, members, replicas}
 use Rattle.protocol.specs.Replica.Selection.{change_in, signed_change}
 
 -- what a frame tells
@@ -65,3 +67,44 @@ is_change c f vc sent signed is = rw signed (go f.body.message is)
     go : (m : Message) → m ≡ ViewChange vc
         → option_and_then change_in (if is_signed m && (sends (members c) f.body.sender m && true) then Some (let body : Body = record { sender = f.body.sender; message = m } in body) else None) ≡ Some (f.body.sender, vc)
     go m e = rw e (rw sent refl)
+
+-- ---- what a signed view change is
+
+-- the frame of a view change of a replica
+pub record IsChangeFrame (c : Configuration) (bytes : List ℕ) (x : ℕ × ViewChangeData) : Type 0 where
+  pub frame : Frame
+  pub spelled : SpellsFrame bytes frame
+  pub sender : frame.body.sender ≡ x.0
+  pub message : frame.body.message ≡ ViewChange x.1
+  pub known : x.0 < replicas c
+
+change_is : (body : Body) (x : ℕ × ViewChangeData) → change_in body ≡ Some x → (body.sender ≡ x.0) × (body.message ≡ ViewChange x.1)
+change_is body x = go body.message
+  where
+    go : (m : Message) → change_in (let b : Body = record { sender = body.sender; message = m } in b) ≡ Some x → (body.sender ≡ x.0) × (m ≡ ViewChange x.1)
+    go (ViewChange vc) h = let p = some_pair_parts body.sender x.0 vc x.1 h in (p.0, ap ViewChange p.1)
+    go _ h = absurd cc
+
+tells_change : (c : Configuration) (f : Frame) (x : ℕ × ViewChangeData) → tells c f ≡ Some x → (f.body.sender ≡ x.0) × (f.body.message ≡ ViewChange x.1)
+tells_change c f x = go (is_signed_frame (members c) f)
+  where
+    go : (b : Bool) → option_and_then change_in (if b then Some f.body else None) ≡ Some x → (f.body.sender ≡ x.0) × (f.body.message ≡ ViewChange x.1)
+    go true h = change_is f.body x h
+    go false h = absurd cc
+
+tells_known : (c : Configuration) (f : Frame) (x : ℕ × ViewChangeData) → tells c f ≡ Some x → x.0 < replicas c
+tells_known c f x h = go (is_replica (members c) f.body.sender) refl
+  where
+    go : (b : Bool) → is_replica (members c) f.body.sender ≡ b → x.0 < replicas c
+    go true e = let l = ltb-true f.body.sender (replicas c) e in let s = (tells_change c f x h).0 in omega arith
+    go false e = absurd (let n = no_sender c f e in cc)
+
+pub signed_is : (c : Configuration) (bytes : List ℕ) (x : ℕ × ViewChangeData) → signed_change c bytes ≡ Some x → IsChangeFrame c bytes x
+signed_is c bytes x h = go (frame_of bytes) refl
+  where
+    go : (o : Option Frame) → frame_of bytes ≡ o → IsChangeFrame c bytes x
+    go None e = absurd (let n = told c bytes None e in cc)
+    go (Some f) e =
+        let t : tells c f ≡ Some x = sym (told c bytes (Some f) e) ∙ h in
+        let p = tells_change c f x t in
+        record { frame = f; spelled = (reads_frames bytes f).0 e; sender = p.0; message = p.1; known = tells_known c f x t }

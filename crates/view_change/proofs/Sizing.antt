@@ -1,16 +1,21 @@
 -- Of a configuration the rules use the seed and the two sizes alone.
-use Rattle.std.specs.Prelude.{option_and_then, if◌then◌else◌, nat_lt, ◌==◌}
-use Rattle.std.specs.List.{list_all}
-use Rattle.std.proofs.Common.{◌≡◌, ℕ, ◌+◌, ◌*◌, Bool, true, false, cond, List, [], ◌∷◌, length, map, Option, Some, None, refl, sym, ap, ap₂, ◌∙◌, subst, ◌&&◌}
+use Rattle.std.specs.Prelude.{option_and_then, if◌then◌else◌, nat_lt, not, ◌==◌}
+use Rattle.std.proofs.Common.{◌≡◌, ℕ, ◌+◌, ◌*◌, Bool, true, List, [], ◌∷◌, length, map, Option, Some, None, refl, sym, ap, ap₂, ◌∙◌, subst, ◌&&◌}
 use Rattle.wire.specs.Messages.{MessageData as Message, BodyData as Body, FrameData as Frame, ViewChangeData, view_change as ViewChange, new_view as NewView}
 use Rattle.wire.specs.Words.{frame_of}
 use Rattle.wire.specs.Spelling.{is_signed}
 use Rattle.authenticator.specs.Membership.{sends}
 use Rattle.signing.specs.Heard.{has_signature, is_signed_frame, signed_body}
-use Rattle.protocol.specs.System.Configuration.{Configuration, members}
-use Rattle.protocol.specs.Replica.Selection.{change_in, list_of, signed_change, changes_of}
-use Rattle.view_change.specs.Selecting.{is_set_for, meets}
-use Rattle.view_change.specs.Laws.{SizesDecide}
+use Rattle.protocol.specs.System.Configuration.{Configuration, members, primary}
+use Rattle.protocol.specs.Replica.Certificates.{is_later}
+use Rattle.protocol.specs.Replica.Selection.{change_in, changes_of, count_in, is_quorum, is_within, list_of, may_select, signed_change}
+use Rattle.view_change.specs.declared.fault.NewViewFault.{NewViewFault}
+use Rattle.view_change.specs.declared.fault.NewViewFault.TheVariants.{UnknownSender, WrongView, BadSignature, TooFew, NotSelected}
+use Rattle.view_change.specs.Checking.{refusal}
+use Rattle.view_change.specs.Laws.{AreAlike, SizesDecide}
+use Rattle.view_change.specs.ReceivedData.{HeldData, refusal_of}
+use Rattle.view_change.specs.Selecting.{are_for, is_set_for, meets}
+use Rattle.view_change.proofs.Claiming.{same_truth}
 use Rattle.view_change.proofs.Larger.{selects_by_set}
 use Rattle.view_change.proofs.Opening.{tells}
 
@@ -48,21 +53,85 @@ changes_same c d (x ∷ xs) seed faults = ap₂ (λ (y : Option (ℕ × ViewChan
 of_sizes : ℕ → ℕ → Configuration
 of_sizes faults period = record { faults = faults; clients = 1; seed = []; period = period; faulty_replicas = []; faulty_clients = [] }
 
-set_same : (c d : Configuration) (view : ℕ) (set : List (ℕ × ViewChangeData)) → c.faults ≡ d.faults → c.period ≡ d.period → is_set_for c view set ≡ is_set_for d view set
-unfolding of_sizes
-set_same c d view set faults period = ap₂ (λ f p. is_set_for (of_sizes f p) view set) faults period
+-- what is told by the two sizes
+by_sizes : {A : Type 0} (f : Configuration → A) → ((c : Configuration) → f c ≡ f (of_sizes c.faults c.period)) → (c d : Configuration) → AreAlike c d → f c ≡ f d
+by_sizes f sized c d alike = sized c ∙ ap₂ (λ n p. f (of_sizes n p)) alike.faults alike.period ∙ sym (sized d)
 
-meets_same : (c d : Configuration) (view : ℕ) (set : List (ℕ × ViewChangeData)) (start : ℕ) (root : List ℕ) (batches : List (List ℕ)) → c.faults ≡ d.faults → c.period ≡ d.period
+within_same : (c d : Configuration) → AreAlike c d → (vc : ViewChangeData) → is_within c vc ≡ is_within d vc
+unfolding of_sizes
+within_same c d alike vc = by_sizes (λ x. is_within x vc) (λ x. refl) c d alike
+
+sets_same : (c d : Configuration) → AreAlike c d → (view : ℕ) (set : List (ℕ × ViewChangeData)) → are_for view set c ≡ are_for view set d
+unfolding of_sizes
+sets_same c d alike view set = by_sizes (are_for view set) (λ x. refl) c d alike
+
+meets_same : (c d : Configuration) → AreAlike c d → (view : ℕ) (set : List (ℕ × ViewChangeData)) (start : ℕ) (root : List ℕ) (batches : List (List ℕ))
     → meets c view set start root batches ≡ meets d view set start root batches
 unfolding of_sizes
-meets_same c d view set start root batches faults period = ap₂ (λ f p. meets (of_sizes f p) view set start root batches) faults period
+meets_same c d alike view set start root batches = by_sizes (λ x. meets x view set start root batches) (λ x. refl) c d alike
 
-pub sizes_decide : SizesDecide
-sizes_decide c d new seed faults period h =
+set_same : (c d : Configuration) → AreAlike c d → (view : ℕ) (set : List (ℕ × ViewChangeData)) → is_set_for c view set ≡ is_set_for d view set
+unfolding of_sizes
+set_same c d alike view set = by_sizes (λ x. is_set_for x view set) (λ x. refl) c d alike
+
+untaken_same : (c d : Configuration) → AreAlike c d → (view : ℕ) (held : List (Option HeldData)) (x : ℕ × ViewChangeData) → refusal_of c view held x ≡ refusal_of d view held x
+unfolding of_sizes
+untaken_same c d alike view held x = by_sizes (λ y. refusal_of y view held x) (λ y. refl) c d alike
+
+-- ---- new views
+
+of_changes : (c d : Configuration) → AreAlike c d → (new : NewViewData) → changes_of c new ≡ changes_of d new
+of_changes c d alike new = ap list_of (changes_same c d new.changes alike.seed alike.faults)
+
+selected_too : (c d : Configuration) → AreAlike c d → (new : NewViewData) → may_select c new ≡ true → may_select d new ≡ true
+selected_too c d alike new h =
     let r = (selects_by_set c new).0 h in
-    let e : changes_of c new ≡ changes_of d new = ap list_of (changes_same c d new.changes seed faults) in
+    let e = of_changes c d alike new in
     (selects_by_set d new).1 (
       subst (λ (xs : List (ℕ × ViewChangeData)). (length xs == length new.changes) ≡ true) e r.0,
-      subst (λ xs. is_set_for d new.view xs ≡ true) e (sym (set_same c d new.view (changes_of c new) faults period) ∙ r.1),
-      subst (λ xs. meets d new.view xs new.start new.root new.batches ≡ true) e (sym (meets_same c d new.view (changes_of c new) new.start new.root new.batches faults period) ∙ r.2),
+      subst (λ (xs : List (ℕ × ViewChangeData)). is_set_for d new.view xs ≡ true) e (sym (set_same c d alike new.view (changes_of c new)) ∙ r.1),
+      subst (λ (xs : List (ℕ × ViewChangeData)). meets d new.view xs new.start new.root new.batches ≡ true) e (sym (meets_same c d alike new.view (changes_of c new) new.start new.root new.batches) ∙ r.2),
     )
+
+turned : (c d : Configuration) → AreAlike c d → AreAlike d c
+turned c d alike = record { seed = sym alike.seed; faults = sym alike.faults; period = sym alike.period }
+
+selected_same : (c d : Configuration) → AreAlike c d → (new : NewViewData) → may_select c new ≡ may_select d new
+selected_same c d alike new = same_truth (may_select c new) (may_select d new) (selected_too c d alike new) (selected_too d c (turned c d alike) new)
+
+-- the refusal, by its tests
+by_tests : Bool → Bool → Bool → Bool → Bool → Option NewViewFault
+by_tests sent later signed enough selected =
+    if not sent then Some UnknownSender else if not later then Some WrongView else
+    if not signed then Some BadSignature else if not enough then Some TooFew else if not selected then Some NotSelected else None
+
+enough_in : Configuration → List (ℕ × ViewChangeData) → Bool
+enough_in c set = is_quorum c (count_in c (λ vc. true) set)
+
+enough_same : (c d : Configuration) → AreAlike c d → (set : List (ℕ × ViewChangeData)) → enough_in c set ≡ enough_in d set
+unfolding of_sizes enough_in
+enough_same c d alike set = by_sizes (λ x. enough_in x set) (λ x. refl) c d alike
+
+sent_same : (c d : Configuration) → AreAlike c d → (sender view : ℕ) → (sender == primary c view) ≡ (sender == primary d view)
+unfolding of_sizes
+sent_same c d alike sender view = by_sizes (λ x. sender == primary x view) (λ x. refl) c d alike
+
+refused_same : (c d : Configuration) → AreAlike c d → (view target sender : ℕ) (new : NewViewData) → refusal c view target sender new ≡ refusal d view target sender new
+unfolding by_tests enough_in
+refused_same c d alike view target sender new =
+    let changes = of_changes c d alike new in
+    ap (λ b. by_tests b (is_later view target new) (length (changes_of c new) == length new.changes) (enough_in c (changes_of c new)) (may_select c new)) (sent_same c d alike sender new.view)
+    ∙ ap (λ (set : List (ℕ × ViewChangeData)). by_tests (sender == primary d new.view) (is_later view target new) (length set == length new.changes) (enough_in c set) (may_select c new)) changes
+    ∙ ap (λ b. by_tests (sender == primary d new.view) (is_later view target new) (length (changes_of d new) == length new.changes) b (may_select c new)) (enough_same c d alike (changes_of d new))
+    ∙ ap (by_tests (sender == primary d new.view) (is_later view target new) (length (changes_of d new) == length new.changes) (enough_in d (changes_of d new))) (selected_same c d alike new)
+
+pub sizes_decide : SizesDecide
+sizes_decide c d alike = record {
+  signed = λ bytes. signed_same c d bytes alike.seed alike.faults;
+  within = within_same c d alike;
+  sets = sets_same c d alike;
+  meet = meets_same c d alike;
+  selected = selected_same c d alike;
+  refused = refused_same c d alike;
+  untaken = untaken_same c d alike;
+}

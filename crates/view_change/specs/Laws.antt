@@ -1,9 +1,12 @@
 -- What is proved of selecting.
-use Rattle.std.specs.Prelude.{◌≡◌, ◌↔◌, ℕ, ◌+◌, ◌≤◌, ◌<◌, true, false, List}
-use Rattle.protocol.specs.System.Configuration.{Configuration}
+use Rattle.std.specs.Prelude.{◌≡◌, ◌↔◌, ℕ, ◌+◌, ◌≤◌, ◌<◌, ◌==◌, ◌&&◌, true, false, List, Option, Some, None}
+use Rattle.protocol.specs.System.Configuration.{Configuration, primary}
 use Rattle.protocol.specs.System.Trace.{Has}
-use Rattle.protocol.specs.Replica.Selection.{ascending, changes_of, all_signed, may_stand_at, is_some_below, may_stand, may_select}
+use Rattle.protocol.specs.Replica.Certificates.{is_later}
+use Rattle.protocol.specs.Replica.Selection.{ascending, changes_of, all_signed, is_within, may_stand_at, is_some_below, may_stand, may_select, signed_change}
 use Rattle.wire.specs.Messages.{ViewChangeData, NewViewData, CheckpointEntryData as CheckpointEntry}
+use Rattle.view_change.specs.Checking.{refusal}
+use Rattle.view_change.specs.ReceivedData.{HeldData, held_of, refusal_of}
 use Rattle.view_change.specs.Selecting.{is_set_for, are_for, meets, how_many_from, IsPart, IsFrom, AreFrom, stands_by_entry}
 
 -- A new view is selected exactly where its view changes are signed, are a set for it, and its start and batches meet the
@@ -47,8 +50,40 @@ StartsAreListed =
     → Has (λ x. Has (λ (checkpoint : CheckpointEntry). (checkpoint.number ≡ start) × (checkpoint.digest ≡ root))
     x.1.checkpoints) set
 
+-- The configurations have one seed and one size.
+pub record AreAlike (c d : Configuration) : Type 0 where
+  pub seed : c.seed ≡ d.seed
+  pub faults : c.faults ≡ d.faults
+  pub period : c.period ≡ d.period
+
+-- By both the same is signed, within its bounds, a set for a view, selected, taken, and refused.
+pub record HaveOneRule (c d : Configuration) : Type 0 where
+  pub signed : (bytes : List ℕ) → signed_change c bytes ≡ signed_change d bytes
+  pub within : (vc : ViewChangeData) → is_within c vc ≡ is_within d vc
+  pub sets : (view : ℕ) (set : List (ℕ × ViewChangeData)) → are_for view set c ≡ are_for view set d
+  pub meet : (view : ℕ) (set : List (ℕ × ViewChangeData)) (start : ℕ) (root : List ℕ) (batches : List (List ℕ))
+      → meets c view set start root batches ≡ meets d view set start root batches
+  pub selected : (new : NewViewData) → may_select c new ≡ may_select d new
+  pub refused : (view target sender : ℕ) (new : NewViewData)
+      → refusal c view target sender new ≡ refusal d view target sender new
+  pub untaken : (view : ℕ) (held : List (Option HeldData)) (x : ℕ × ViewChangeData)
+      → refusal_of c view held x ≡ refusal_of d view held x
+
 -- Of a configuration the rules use the seed and the two sizes alone.
 abbrev pub SizesDecide : Type 0
-SizesDecide =
-    (c d : Configuration) (new : NewViewData) → c.seed ≡ d.seed → c.faults ≡ d.faults → c.period ≡ d.period
-    → may_select c new ≡ true → may_select d new ≡ true
+SizesDecide = (c d : Configuration) → AreAlike c d → HaveOneRule c d
+
+-- A new view is taken exactly where it is by its primary, meets the rules, and is of a later view.
+abbrev pub NewViewsAreJudged : Type 0
+NewViewsAreJudged =
+    (c : Configuration) (view target sender : ℕ) (new : NewViewData)
+    → (refusal c view target sender new ≡ None)
+    ↔ ((((sender == primary c new.view) && may_select c new) ≡ true) × (is_later view target new ≡ true))
+
+-- A view change is taken exactly where it is above the view, within its bounds, and newer than its sender's last.
+abbrev pub ChangesAreJudged : Type 0
+ChangesAreJudged =
+    (c : Configuration) (view : ℕ) (held : List (Option HeldData)) (x : ℕ × ViewChangeData)
+    → (refusal_of c view held x ≡ None)
+    ↔ ((view < x.1.view) × (is_within c x.1 ≡ true)
+    × ((h : HeldData) → held_of held x.0 ≡ Some h → h.change.view < x.1.view))

@@ -1,41 +1,57 @@
 -- What the view changes that a replica has stand for.
-use Rattle.std.specs.Prelude.{◌≡◌, ℕ, ◌+◌, ◌*◌, ◌≤◌, List, length, map, Option, Some, None, option_map}
+use Rattle.std.specs.Prelude.{◌≡◌, ℕ, ◌+◌, ◌*◌, List, length, map, Option, Some, None, option_map}
 use Rattle.protocol.specs.System.Configuration.{Configuration}
 use Rattle.protocol.specs.Replica.Selection.{signed_change}
-use Rattle.wire.specs.Messages.{ViewChangeData}
 use Rattle.wire.specs.Views.{view_change_data}
+use Rattle.view_change.specs.declared.changes.Change.{Change}
+use Rattle.view_change.specs.declared.changes.Sizes.{Sizes}
 use Rattle.view_change.specs.declared.changes.SignedChange.{SignedChange}
 use Rattle.view_change.specs.declared.received.Received.TheInside.{Inside}
-use Rattle.view_change.specs.ReceivedData.{HeldData, with_held, held_for, refusal_of, AreHeldFrom}
+use Rattle.view_change.specs.ReceivedData.{HeldData, held_of, with_held, refusal_of, AreHeldFrom}
 use Rattle.view_change.specs.Sets.{keyed}
 
--- what is held, by sender, under a configuration of the seed and the sizes
+-- the seed of the keys, the sizes, and what is held, one place for each replica
 pub record ReceivedState : Type 0 where
-  pub configuration : Configuration
+  pub seed : List ℕ
+  pub sizes : Sizes
   pub held : List (Option HeldData)
 
+-- the configuration by which it is judged
+abbrev pub configuration_of : ReceivedState → Configuration
+configuration_of r = keyed r.seed r.sizes
+
+-- a view change in its frame
+abbrev pub held_as : Change → List ℕ → HeldData
+held_as x frame = record { sender = x.sender.0; change = view_change_data x.change; frame = frame }
+
 abbrev pub held_data : SignedChange → HeldData
-held_data h = record { sender = h.change.sender.0; change = view_change_data h.change.change; frame = h.frame.items }
+held_data h = held_as h.change h.frame.items
+
+abbrev pub held_by : List (Option SignedChange) → List (Option HeldData)
+held_by held = map (option_map held_data) held
 
 abbrev pub received_state : Inside → ReceivedState
-received_state r = record { configuration = keyed r.keys r.sizes; held = map (option_map held_data) r.held.items }
+received_state r = record { seed = r.keys; sizes = r.sizes; held = held_by r.held.items }
 
-abbrev pub AreReceived : ReceivedState → Type 0
-AreReceived r = (length r.held ≡ 3 * r.configuration.faults + 1) × (r.configuration.faults ≤ 3) × AreHeldFrom r.configuration 0 r.held
-
--- those for a view, with their senders; and their frames
-abbrev pub pairs_for : ℕ → List (Option HeldData) → List (ℕ × ViewChangeData)
-pairs_for view held = map (λ h. (h.sender, h.change)) (held_for view held)
-
-abbrev pub frames_for : ℕ → List (Option HeldData) → List (List ℕ)
-frames_for view held = map (λ h. h.frame) (held_for view held)
+-- there is a place for each replica, and each place has its replica's
+pub record AreReceived (r : ReceivedState) : Type 0 where
+  pub places : length r.held ≡ 3 * r.sizes.faults + 1
+  pub each : AreHeldFrom (configuration_of r) 0 r.held
 
 -- a view change is added, against which nothing speaks
-abbrev pub IsAdded : ReceivedState → ℕ → HeldData → ReceivedState → Type 0
-IsAdded old view h new =
-    (refusal_of old.configuration view old.held (h.sender, h.change) ≡ None) × (new ≡ record old { held = with_held h old.held })
+pub record IsAdded (old : ReceivedState) (view : ℕ) (h : HeldData) (new : ReceivedState) : Type 0 where
+  pub right : refusal_of (configuration_of old) view old.held (h.sender, h.change) ≡ None
+  pub held : new ≡ record old { held = with_held h old.held }
 
 -- and it is what the bytes spell, signed by its sender
-abbrev pub IsFrameAdded : ReceivedState → ℕ → List ℕ → ReceivedState → Type 0
-IsFrameAdded old view bytes new =
-    (h : HeldData) × (h.frame ≡ bytes) × (signed_change old.configuration bytes ≡ Some (h.sender, h.change)) × IsAdded old view h new
+pub record IsFrameAdded (old : ReceivedState) (view : ℕ) (bytes : List ℕ) (new : ReceivedState) : Type 0 where
+  pub change : HeldData
+  pub frame : change.frame ≡ bytes
+  pub signed : signed_change (configuration_of old) bytes ≡ Some (change.sender, change.change)
+  pub added : IsAdded old view change new
+
+-- it is held in this frame, as its sender signed it
+pub record IsHeldIn (r : ReceivedState) (bytes : List ℕ) (h : HeldData) : Type 0 where
+  pub frame : h.frame ≡ bytes
+  pub held : held_of r.held h.sender ≡ Some h
+  pub signed : signed_change (configuration_of r) bytes ≡ Some (h.sender, h.change)

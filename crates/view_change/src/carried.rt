@@ -1,16 +1,14 @@
-//! The view changes that a new view carries.
+//! View changes as their frames carry them.
 
-ghost use Rattle.std.specs.Prelude.{◌≡◌, ◌++◌, true, false, IfOk, MatchOption, None};
+ghost use Rattle.std.specs.Prelude.{◌≡◌, IfOk, MatchOption, None};
 ghost use Rattle.std.specs.Option.{option_map};
 ghost use Rattle.protocol.specs.Replica.Selection.{change_in, signed_change};
-ghost use Rattle.protocol.specs.System.Trace.{Has};
 ghost use Rattle.wire.specs.Messages.{FrameData, view_change};
 ghost use Rattle.wire.specs.Spelling.{SpellsFrame};
 ghost use Rattle.wire.specs.Views.{frame_data, message_data, view_change_data};
-ghost use Rattle.view_change.specs.Sets.{change_pair, given, keyed, pairs, signed_changes};
+ghost use Rattle.view_change.specs.Sets.{change_pair, keyed};
 
 use crate::changes::{Change, Sizes};
-use crate::received::Received;
 use signing::PublicKeys;
 use std::alloc::Global;
 use terms::{NoMemory, ReplicaId};
@@ -68,29 +66,4 @@ pub(crate) fn open_change(
         return Ok(None);
     };
     Ok(Some(Change { sender, change }))
-}
-
-/// Appends the view changes that the frames spell, and tells whether each of them is a signed one. What was received
-/// before isn't verified again.
-pub(crate) fn open_changes(
-    alloc: Global,
-    received: &Received,
-    frames: &[Vec<u8>],
-    changes: &mut Vec<Change>,
-) -> Result<bool, NoMemory>
-    ensures all { IfOk result (λ all. all ≡ true → given (pairs changes.new.items)
-        ≡ given (pairs changes.old.items) ++ signed_changes received.now.configuration frames.now) }
-    ensures some { IfOk result (λ all. all ≡ false
-        → Has (λ o. o ≡ None) (signed_changes received.now.configuration frames.now)) }
-{
-    let [frame, rest @ ..] = frames else {
-        return Ok(true);
-    };
-    match received.open(alloc, frame)? {
-        Some(change) => {
-            changes.push(change)?;
-            Ok(open_changes(alloc, received, rest, changes)?)
-        }
-        None => Ok(false),
-    }
 }

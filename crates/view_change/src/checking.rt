@@ -1,16 +1,17 @@
 //! Whether a new view is taken.
 
-ghost use Rattle.std.specs.Prelude.{◌≡◌, ◌≢◌, ◌+◌, ◌^◌, ◌<◌, ◌==◌, ◌&&◌, nat_le, nat_lt, true, map, length, IfOk, IfErr, OnOk, Some, None};
+ghost use Rattle.std.specs.Prelude.{◌≡◌, ◌≢◌, ◌+◌, ◌++◌, ◌^◌, ◌<◌, ◌==◌, ◌&&◌, nat_le, nat_lt, true, false, map, length, IfOk, IfErr, OnOk, Some, None};
 ghost use Rattle.protocol.specs.System.Configuration as configuration;
 ghost use Rattle.protocol.specs.Replica.Selection as selection;
+ghost use Rattle.protocol.specs.System.Trace.{Has};
 ghost use Rattle.wire.specs.Views.{batch_text, new_view_data};
 ghost use Rattle.view_change.specs.Checking.{refusal, refusal_by_rules};
+ghost use Rattle.view_change.specs.ReceivedView.{configuration_of};
 ghost use Rattle.view_change.specs.Refusing as spec;
 ghost use Rattle.view_change.specs.Selecting as selecting;
-ghost use Rattle.view_change.specs.Sets.{pairs, sized};
+ghost use Rattle.view_change.specs.Sets.{given, pairs, signed_changes, sized};
 
 use crate::bounds::{END, are_for, is_ascending};
-use crate::carried::open_changes;
 use crate::changes::{Change, Rule, Sizes};
 use crate::choosing::stands;
 use crate::fault::NewViewFault;
@@ -96,13 +97,38 @@ fn refusal_over(set: &[Change], sizes: Sizes, new: &NewView) -> Option<NewViewFa
     None
 }
 
+// Appends the view changes that the frames spell, and tells whether each of them is a signed one. What was received
+// before isn't verified again.
+fn open_changes(
+    alloc: Global,
+    received: &Received,
+    frames: &[Vec<u8>],
+    changes: &mut Vec<Change>,
+) -> Result<bool, NoMemory>
+    ensures all { IfOk result (λ all. all ≡ true → given (pairs changes.new.items)
+        ≡ given (pairs changes.old.items) ++ signed_changes (configuration_of received.now) frames.now) }
+    ensures some { IfOk result (λ all. all ≡ false
+        → Has (λ o. o ≡ None) (signed_changes (configuration_of received.now) frames.now)) }
+{
+    let [frame, rest @ ..] = frames else {
+        return Ok(true);
+    };
+    match received.open(alloc, frame)? {
+        Some(change) => {
+            changes.push(change)?;
+            open_changes(alloc, received, rest, changes)
+        }
+        None => Ok(false),
+    }
+}
+
 // Why the rules refuse the new view.
 fn refusal_by_rules(
     alloc: Global,
     received: &Received,
     new: &NewView,
 ) -> Result<Option<NewViewFault>, NoMemory>
-    ensures { IfOk result (λ fault. fault ≡ refusal_by_rules received.now.configuration (new_view_data new.now)) }
+    ensures { IfOk result (λ fault. fault ≡ refusal_by_rules (configuration_of received.now) (new_view_data new.now)) }
 {
     let mut set = Vec::new(alloc);
     if !open_changes(alloc, received, &new.changes, &mut set)? {
@@ -139,9 +165,9 @@ pub fn check_new_view(
     sender: ReplicaId,
     new: &NewView,
 ) -> Result<(), NewViewFault>
-    ensures ok { OnOk result (refusal received.now.configuration view.0 target.0 sender.0 (new_view_data new.now) ≡ None) }
+    ensures ok { OnOk result (refusal (configuration_of received.now) view.0 target.0 sender.0 (new_view_data new.now) ≡ None) }
     ensures refused { IfErr result (λ e. e ≢ NewViewFault.NoMemory
-        → refusal received.now.configuration view.0 target.0 sender.0 (new_view_data new.now) ≡ Some e) }
+        → refusal (configuration_of received.now) view.0 target.0 sender.0 (new_view_data new.now) ≡ Some e) }
 {
     if !is_from_primary(received.sizes(), sender, new.view) {
         return Err(NewViewFault::UnknownSender);

@@ -1,11 +1,13 @@
 //! What a replica keeps for its own view changes.
 
-ghost use Rattle.std.specs.Prelude.{◌≡◌, ◌≤◌, filter, length, map, nat_lt, IfOk, OnOk, OnErr};
+ghost use Rattle.std.specs.Prelude.{◌≡◌, ◌∷◌, ◌≤◌, filter, length, map, nat_lt, IfOk, OnOk, OnErr, IsTrue};
 ghost use Rattle.std.specs.Arc.{arc_value};
 ghost use Rattle.sha2.specs.Sha256.{sha256};
+ghost use Rattle.wire.specs.Lists.{Each, ascends};
+ghost use Rattle.wire.specs.Spelling.{batch_entry_before, named_before};
 ghost use Rattle.wire.specs.Views.{batch_entry_data};
 ghost use Rattle.view_change.specs.ClaimsView as spec;
-ghost use Rattle.view_change.specs.ClaimsView.{claims_of, digests_of};
+ghost use Rattle.view_change.specs.ClaimsView.{claims_of, digests_of, texts_in, IsAmong};
 ghost use Rattle.view_change.specs.Places as places;
 ghost use Rattle.view_change.specs.Recording as recording;
 ghost use Rattle.view_change.specs.Sets.{texts_of};
@@ -36,11 +38,13 @@ pub struct Claims {
 }
 
 impl Model for Claims {
-    ghost use Rattle.view_change.specs.ClaimsView.{ClaimsData, claims_data};
+    ghost use Rattle.view_change.specs.ClaimsView.{ClaimsData, claims_data, AreClaims};
 
     ghost Value = { ClaimsData };
 
     ghost view = { claims_data };
+
+    ghost invariant = { λ c. AreClaims (claims_data c) };
 }
 
 impl Claims {
@@ -66,8 +70,7 @@ impl Claims {
         batch: Arc<HashedBatch>,
     ) -> Result<(), NoMemory>
         ensures ok { OnOk result (self.new ≡ record self.old {
-          prepared
-              = recording.with_prepared (spec.claim_of number.0 view.0 (arc_value batch)) self.old.prepared;
+          prepared = recording.with_prepared (spec.claim_of number.0 view.0 (arc_value batch)) self.old.prepared;
         }) }
         ensures err { OnErr result (self.new ≡ self.old) }
     {
@@ -89,10 +92,10 @@ impl Claims {
         view: View,
         batch: Arc<HashedBatch>,
     ) -> Result<(), NoMemory>
-        ensures ok { OnOk result (self.new ≡ record self.old {
-          logged
-              = recording.with_logged (spec.claim_of number.0 view.0 (arc_value batch)) self.old.logged;
-        }) }
+        ensures logged { OnOk result (self.new.logged
+            ≡ recording.with_logged (spec.claim_of number.0 view.0 (arc_value batch)) self.old.logged) }
+        ensures prepared { OnOk result (self.new.prepared ≡ self.old.prepared) }
+        ensures texts { OnOk result (Each (IsAmong (arc_value batch ∷ self.old.texts)) self.new.texts) }
         ensures err { OnErr result (self.new ≡ self.old) }
     {
         add(
@@ -106,6 +109,7 @@ impl Claims {
     pub fn cut(&mut self, low: Number)
         ensures prepared { self.new.prepared ≡ recording.above_mark low.0 self.old.prepared }
         ensures logged { self.new.logged ≡ recording.above_mark low.0 self.old.logged }
+        ensures texts { Each (IsAmong self.old.texts) self.new.texts }
     {
         keep_above(&mut self.prepared, low);
         keep_above(&mut self.logged, low);
@@ -113,28 +117,32 @@ impl Claims {
 
     /// The list of what was prepared, for a view change. The error is want of memory.
     pub fn prepared(&self, alloc: Global) -> Result<Vec<BatchEntry>, NoMemory>
-        ensures { IfOk result (λ entries. map batch_entry_data entries.items ≡ self.now.prepared) }
+        ensures are { IfOk result (λ entries. map batch_entry_data entries.items ≡ self.now.prepared) }
+        ensures order { IsTrue (ascends batch_entry_before self.now.prepared) }
     {
         entries(alloc, &self.prepared)
     }
 
     /// The list of what was logged, for a view change. The error is want of memory.
     pub fn logged(&self, alloc: Global) -> Result<Vec<BatchEntry>, NoMemory>
-        ensures { IfOk result (λ entries. map batch_entry_data entries.items ≡ self.now.logged) }
+        ensures are { IfOk result (λ entries. map batch_entry_data entries.items ≡ self.now.logged) }
+        ensures order { IsTrue (ascends named_before self.now.logged) }
     {
         entries(alloc, &self.logged)
     }
 
     /// The batches that were logged, for a selection: one of the digest of each claim. The error is want of memory.
     pub fn batches(&self, alloc: Global) -> Result<Vec<Arc<HashedBatch>>, NoMemory>
-        ensures { IfOk result (λ batches. map sha256 (texts_of batches.items) ≡ digests_of self.now.logged) }
+        ensures are { IfOk result (λ batches. texts_of batches.items ≡ self.now.texts) }
+        ensures named { map sha256 self.now.texts ≡ digests_of self.now.logged }
     {
         batches(alloc, &self.logged)
     }
 }
 
 fn claim(number: Number, view: View, batch: Arc<HashedBatch>) -> Claim
-    ensures { spec.claim_data result ≡ spec.claim_of number.0 view.0 (arc_value batch) }
+    ensures claim { spec.claim_data result ≡ spec.claim_of number.0 view.0 (arc_value batch) }
+    ensures text { arc_value result.batch ≡ arc_value batch }
 {
     let digest = batch.digest();
     let entry = BatchEntry {
@@ -192,6 +200,8 @@ fn is_same_at(claims: &[Claim], place: usize, order: ClaimOrder, entry: &BatchEn
 fn add(claims: &mut Vec<Claim>, order: ClaimOrder, claim: Claim) -> Result<(), NoMemory>
     ensures ok { OnOk result (claims_of claims.new.items
         ≡ places.with_claim_by order (spec.claim_data claim) (claims_of claims.old.items)) }
+    ensures texts { OnOk result (Each (IsAmong (arc_value claim.batch ∷ texts_in claims.old.items))
+        (texts_in claims.new.items)) }
     ensures err { OnErr result (claims.new.items ≡ claims.old.items) }
 {
     let place = place_of(claims, order, &claim.entry);
@@ -206,7 +216,8 @@ fn add(claims: &mut Vec<Claim>, order: ClaimOrder, claim: Claim) -> Result<(), N
 }
 
 fn keep_above(claims: &mut Vec<Claim>, low: Number)
-    ensures { claims_of claims.new.items ≡ recording.above_mark low.0 (claims_of claims.old.items) }
+    ensures claims { claims_of claims.new.items ≡ recording.above_mark low.0 (claims_of claims.old.items) }
+    ensures texts { Each (IsAmong (texts_in claims.old.items)) (texts_in claims.new.items) }
 {
     claims.retain(|claim| low.0 < claim.entry.number.0);
 }
@@ -222,7 +233,7 @@ fn entries(alloc: Global, claims: &[Claim]) -> Result<Vec<BatchEntry>, NoMemory>
 }
 
 fn batches(alloc: Global, claims: &[Claim]) -> Result<Vec<Arc<HashedBatch>>, NoMemory>
-    ensures { IfOk result (λ batches. map sha256 (texts_of batches.items) ≡ digests_of (claims_of claims.now)) }
+    ensures { IfOk result (λ batches. texts_of batches.items ≡ texts_in claims.now) }
 {
     let mut batches = Vec::with_capacity(alloc, claims.len())?;
     for claim in claims {

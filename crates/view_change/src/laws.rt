@@ -1,7 +1,7 @@
 //! Laws of what may be selected over a set of view changes.
 
 ghost use Rattle.view_change.specs.Recording.{RecordsBegin, PreparedIsRecorded, LoggedIsRecorded, RecordsAreLists};
-ghost use Rattle.view_change.specs.Laws.{SelectsBySet, LargerSetsAllow, EntriesDecide, GapsForbid, StartsAreListed, SizesDecide};
+ghost use Rattle.view_change.specs.Laws.{SelectsBySet, LargerSetsAllow, EntriesDecide, GapsForbid, StartsAreListed, SizesDecide, NewViewsAreJudged, ChangesAreJudged};
 
 /// A new view is selected by its set of view changes.
 pub fn selects_by_set()
@@ -24,9 +24,15 @@ pub fn gaps_forbid()
     ensures listed { StartsAreListed }
 {}
 
-/// Whether a new view is selected depends on the seed, on how many replicas may be faulty and on the period alone.
+/// All rules depend on the seed, on how many replicas may be faulty and on the period alone.
 pub fn sizes_decide()
     ensures decide { SizesDecide }
+{}
+
+/// What is refused, and so what is taken.
+pub fn refusals_decide()
+    ensures new_views { NewViewsAreJudged }
+    ensures changes { ChangesAreJudged }
 {}
 
 /// What a replica keeps of its claims stays what its history says, and is what a view change lists.

@@ -2,6 +2,7 @@
 //! own.
 #![tactic(auto)]
 
+mod assembling;
 mod bounds;
 mod carried;
 mod change_fault;
@@ -10,6 +11,8 @@ mod checking;
 mod choosing;
 mod claim;
 mod claims;
+mod copying;
+mod entries;
 mod fault;
 mod laws;
 mod making;
@@ -17,16 +20,18 @@ mod received;
 mod rules;
 mod selecting;
 
+pub use assembling::assemble;
 pub use bounds::is_set;
 pub use change_fault::ChangeFault;
 pub use changes::{Change, Selection, SignedChange, Sizes};
 pub use checking::check_new_view;
 pub use claims::Claims;
+pub use copying::copy_change;
 pub use fault::NewViewFault;
 pub use laws::{
-    claims_are_recorded, entries_decide, gaps_forbid, larger_sets_allow, selects_by_set,
-    sizes_decide,
+    claims_are_recorded, entries_decide, gaps_forbid, larger_sets_allow, refusals_decide,
+    selects_by_set, sizes_decide,
 };
 pub use making::make;
-pub use received::{Received, copy_change};
+pub use received::Received;
 pub use selecting::select;

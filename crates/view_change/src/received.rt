@@ -1,26 +1,30 @@
 //! The view changes that a replica has.
 
-ghost use Rattle.std.specs.Prelude.{◌≡◌, ◌≢◌, ◌+◌, ◌*◌, ◌<◌, true, None, Some, map, nat_lt, option_map, replicate, IfOk, IfErr, OnOk, OnErr};
+ghost use Rattle.std.specs.Prelude.{◌≡◌, ◌≢◌, ℕ, ◌+◌, ◌*◌, ◌++◌, ◌∷◌, [], ◌≤◌, length, true, None, Some, nat_lt, option_map, replicate, IfOk, IfErr, OnOk, OnErr, MatchOption, IsTrue, IsFalse};
 ghost use Rattle.std.specs.Option.{option_map_or};
 ghost use Rattle.protocol.specs.Replica.Selection as selection;
+ghost use Rattle.protocol.specs.System.Trace.{Has};
+ghost use Rattle.view_change.specs.Finding as finding;
 ghost use Rattle.view_change.specs.ReceivedData as spec;
-ghost use Rattle.view_change.specs.ReceivedView.{held_data, frames_for, pairs_for, IsAdded, IsFrameAdded};
+ghost use Rattle.view_change.specs.ReceivedData.{HeldData, IsHeldSet, IsJoined, frames_for, held_of, later_views, pairs_for};
+ghost use Rattle.view_change.specs.ReceivedView.{configuration_of, held_as, held_by, held_data, IsAdded, IsFrameAdded, IsHeldIn};
 ghost use Rattle.view_change.specs.Selecting.{are_for};
-ghost use Rattle.view_change.specs.Sets.{change_pair, keyed, pairs, sized};
+ghost use Rattle.view_change.specs.Sets.{change_pair, pairs, sized};
 ghost use Rattle.wire.specs.Views.{texts_of, view_change_data};
 
 use crate::bounds::is_within;
 use crate::carried::open_change;
 use crate::change_fault::ChangeFault;
 use crate::changes::{Change, SignedChange, Sizes};
+use crate::copying::{copy_change, copy_changes, copy_frames};
 use signing::PublicKeys;
 use std::alloc::Global;
 use std::marker::Model;
 use terms::{NoMemory, ReplicaId, View};
-use wire::ViewChange;
 
 /// Of each replica, the own one too, the latest view change that was taken, with its frame. There is at most one of each
-/// of the up to ten replicas, so they take at most ten times the 262,144 bytes of a view change's frame and what it says.
+/// of the up to ten replicas, so they take at most ten times the 262,144 bytes of a view change's frame and what it says,
+/// whatever liars send.
 #[derive(Drop)]
 pub struct Received {
     keys: PublicKeys,
@@ -46,8 +50,9 @@ impl Received {
     /// NoMemory where memory runs out.
     pub fn new(alloc: Global, keys: PublicKeys, sizes: Sizes) -> Result<Received, NoMemory>
         ensures { IfOk result (λ r. r ≡ record {
-            configuration = keyed keys sizes;
-            held = replicate (3 * sizes.faults + 1) None;
+          seed = keys;
+          sizes = sizes;
+          held = replicate (3 * sizes.faults + 1) None;
         }) }
     {
         let held = no_changes(alloc, 3 * sizes.faults + 1)?;
@@ -63,7 +68,7 @@ impl Received {
     pub fn add(&mut self, alloc: Global, view: View, bytes: &[u8]) -> Result<(), ChangeFault>
         ensures ok { OnOk result (IsFrameAdded self.old view.0 bytes.now self.new) }
         ensures refused { IfErr result (λ e. e ≢ ChangeFault.NoMemory
-            → spec.refusal_of_frame self.old.configuration view.0 self.old.held bytes.now ≡ Some e) }
+            → spec.refusal_of_frame (configuration_of self.old) view.0 self.old.held bytes.now ≡ Some e) }
         ensures err { OnErr result (self.new ≡ self.old) }
     {
         let Some(change) = self.open(alloc, bytes)? else {
@@ -85,57 +90,53 @@ impl Received {
         change: Change,
         bytes: &[u8],
     ) -> Result<(), ChangeFault>
-        requires { selection.signed_change self.old.configuration bytes.now ≡ Some (change_pair change) }
-        ensures ok { OnOk result (IsFrameAdded self.old view.0 bytes.now self.new) }
+        requires { selection.signed_change (configuration_of self.old) bytes.now ≡ Some (change_pair change) }
+        ensures ok { OnOk result (IsAdded self.old view.0 (held_as change bytes.now) self.new) }
         ensures refused { IfErr result (λ e. e ≢ ChangeFault.NoMemory
-            → spec.refusal_of self.old.configuration view.0 self.old.held (change_pair change) ≡ Some e) }
+            → spec.refusal_of (configuration_of self.old) view.0 self.old.held (change_pair change) ≡ Some e) }
         ensures err { OnErr result (self.new ≡ self.old) }
     {
         if let Some(fault) = self.refusal(view, &change) {
             return Err(fault);
         }
-        let frame = copy(alloc, bytes)?;
-        let sender = usize::from(change.sender.0);
-        self.held[sender] = Some(SignedChange { change, frame });
+        let signed = in_frame(alloc, change, bytes)?;
+        let sender = usize::from(signed.change.sender.0);
+        self.held[sender] = Some(signed);
         Ok(())
     }
 
     /// How many replicas may be faulty, and how many batches lie from one checkpoint to the next.
-    pub fn sizes(&self) -> Sizes {
+    pub fn sizes(&self) -> Sizes
+        ensures { result ≡ self.now.sizes }
+    {
         self.sizes
     }
 
     /// The frame of the replica's latest view change.
-    pub fn frame_of(&self, sender: ReplicaId) -> Option<&[u8]> {
+    pub fn frame_of(&self, sender: ReplicaId) -> Option<&[u8]>
+        ensures { option_map (λ bytes. bytes.now) result ≡ option_map (λ h. h.frame) (held_of self.now.held sender.0) }
+    {
         match self.held.get(usize::from(sender.0)) {
             Some(Some(signed)) => Some(signed.frame.as_slice()),
             _ => None,
         }
     }
 
-    // The view change that is held in this frame.
-    fn held_in(&self, bytes: &[u8]) -> Option<&Change> {
-        for signed in &self.held {
-            if let Some(signed) = signed {
-                if signed.frame.as_slice() == bytes {
-                    return Some(&signed.change);
-                }
-            }
-        }
-        None
-    }
-
     /// Whether a view change is held in this frame. Takes no memory.
-    pub fn has_frame(&self, bytes: &[u8]) -> bool {
-        self.held_in(bytes).is_some()
+    pub fn has_frame(&self, bytes: &[u8]) -> bool
+        ensures held { IsTrue result → (h : HeldData) × IsHeldIn self.now bytes.now h }
+        ensures none { IsFalse result → (h : HeldData) → Has (λ o. o ≡ Some h) self.now.held → h.frame ≢ bytes.now }
+    {
+        held_in(&self.held, bytes).is_some()
     }
 
     /// The view change that the bytes spell, where its sender is a replica and signed it. One that is held isn't
     /// verified again. The error is want of memory.
-    pub fn open(&self, alloc: Global, bytes: &[u8]) -> Result<Option<Change>, NoMemory>
-        ensures { IfOk result (λ o. option_map change_pair o ≡ selection.signed_change self.now.configuration bytes.now) }
+    pub(crate) fn open(&self, alloc: Global, bytes: &[u8]) -> Result<Option<Change>, NoMemory>
+        ensures { IfOk result (λ o. option_map change_pair o
+            ≡ selection.signed_change (configuration_of self.now) bytes.now) }
     {
-        match self.held_in(bytes) {
+        match held_in(&self.held, bytes) {
             Some(change) => Ok(Some(copy_change(alloc, change)?)),
             None => open_change(alloc, &self.keys, self.sizes, bytes),
         }
@@ -143,23 +144,36 @@ impl Received {
 
     /// The least of the views above the target that other replicas' latest view changes are for, where these are f + 1
     /// replicas or more.
-    pub fn joined_view(&self, me: ReplicaId, target: View) -> Option<View> {
-        let mut count = 0;
-        let mut least = None;
-        for signed in &self.held {
-            if let Some(signed) = signed {
-                let view = signed.change.change.view;
-                if signed.change.sender.0 != me.0 && target.0 < view.0 {
-                    count += 1;
-                    least = lesser(least, view);
-                }
-            }
+    pub fn joined_view(&self, me: ReplicaId, target: View) -> Option<View>
+        ensures { MatchOption result (length (later_views me.0 target.0 self.now.held) ≤ self.now.sizes.faults)
+            (λ view. IsJoined self.now.sizes.faults (later_views me.0 target.0 self.now.held) view.0) }
+    {
+        if count_later(&self.held, me, target) <= usize::from(self.sizes.faults) {
+            return None;
         }
-        if self.sizes.faults < count { least } else { None }
+        least_later(&self.held, me, target)
+    }
+
+    /// The view changes for the view, ascending by their senders, for a selection over them. The error is want of
+    /// memory.
+    pub fn changes_for(&self, alloc: Global, view: View) -> Result<Vec<Change>, NoMemory>
+        ensures are { IfOk result (λ changes. pairs changes.items ≡ pairs_for view.0 self.now.held) }
+        ensures order { IfOk result (λ changes. selection.ascending (pairs changes.items) ≡ true) }
+        ensures for_it { IfOk result (λ changes. are_for view.0 (pairs changes.items) (sized self.now.sizes) ≡ true) }
+    {
+        copy_changes(alloc, &self.held, view)
+    }
+
+    /// The frames of the view changes for the view, in the same order. The error is want of memory.
+    pub fn frames_for(&self, alloc: Global, view: View) -> Result<Vec<Vec<u8>>, NoMemory>
+        ensures are { IfOk result (λ frames. texts_of frames.items ≡ frames_for view.0 self.now.held) }
+        ensures set { IsHeldSet (configuration_of self.now) view.0 self.now.held }
+    {
+        copy_frames(alloc, &self.held, view)
     }
 
     fn refusal(&self, view: View, change: &Change) -> Option<ChangeFault>
-        ensures { result ≡ spec.refusal_of self.now.configuration view.0 self.now.held (change_pair change.now) }
+        ensures { result ≡ spec.refusal_of (configuration_of self.now) view.0 self.now.held (change_pair change.now) }
     {
         if change.change.view.0 <= view.0 {
             return Some(ChangeFault::WrongView);
@@ -176,108 +190,102 @@ impl Received {
     // Whether nothing as late is held of the sender.
     fn is_newer(&self, change: &Change) -> bool
         ensures { result ≡ option_map_or (λ h. nat_lt h.change.view change.now.change.view.0)
-            (spec.held_of self.now.held change.now.sender.0) true }
+            (held_of self.now.held change.now.sender.0) true }
     {
         match self.held.get(usize::from(change.sender.0)) {
             Some(Some(last)) => last.change.change.view.0 < change.change.view.0,
             _ => true,
         }
     }
-
-    /// The view changes for the view, ascending by their senders, for a selection over them. The error is want of
-    /// memory.
-    pub fn changes_for(&self, alloc: Global, view: View) -> Result<Vec<Change>, NoMemory>
-        ensures are { IfOk result (λ changes. pairs changes.items ≡ pairs_for view.0 self.now.held) }
-        ensures order { IfOk result (λ changes. selection.ascending (pairs changes.items) ≡ true) }
-        ensures for_it { IfOk result (λ changes. are_for view.0 (pairs changes.items) self.now.configuration ≡ true) }
-    {
-        copy_changes(alloc, &self.held, view)
-    }
-
-    /// The frames of the view changes for the view, in the same order. The error is want of memory.
-    pub fn frames_for(&self, alloc: Global, view: View) -> Result<Vec<Vec<u8>>, NoMemory>
-        ensures { IfOk result (λ frames. texts_of frames.items ≡ frames_for view.0 self.now.held) }
-    {
-        copy_frames(alloc, &self.held, view)
-    }
-}
-
-fn lesser(least: Option<View>, view: View) -> Option<View> {
-    match least {
-        Some(least) if least.0 <= view.0 => Some(least),
-        _ => Some(view),
-    }
-}
-
-fn copy(alloc: Global, bytes: &[u8]) -> Result<Vec<u8>, NoMemory>
-    ensures { IfOk result (λ copy. copy.items ≡ bytes.now) }
-{
-    Ok(Vec::from_slice(alloc, bytes)?)
 }
 
 fn no_changes(alloc: Global, count: u8) -> Result<Vec<Option<SignedChange>>, NoMemory>
-    ensures { IfOk result (λ held. map (option_map held_data) held.items ≡ replicate count None) }
+    ensures { IfOk result (λ held. held.items ≡ replicate count None) }
 {
-    let mut held = Vec::with_capacity(alloc, usize::from(count))?;
+    let mut held = Vec::new(alloc);
     for _sender in 0..count {
         held.push(None)?;
     }
     Ok(held)
 }
 
-/// A copy of a view change. The error is want of memory.
-pub fn copy_change(alloc: Global, change: &Change) -> Result<Change, NoMemory>
-    ensures { IfOk result (λ copy. change_pair copy ≡ change_pair change.now) }
+// The view change with a copy of its frame.
+fn in_frame(alloc: Global, change: Change, bytes: &[u8]) -> Result<SignedChange, NoMemory>
+    ensures { IfOk result (λ signed. held_data signed ≡ held_as change bytes.now) }
 {
-    let said = &change.change;
-    let checkpoints = Vec::from_slice(alloc, &said.checkpoints)?;
-    let prepared = Vec::from_slice(alloc, &said.prepared)?;
-    let pre_prepared = Vec::from_slice(alloc, &said.pre_prepared)?;
-    let copy = ViewChange {
-        view: said.view,
-        low: said.low,
-        checkpoints,
-        prepared,
-        pre_prepared,
+    let frame = Vec::from_slice(alloc, bytes)?;
+    Ok(SignedChange { change, frame })
+}
+
+// The view change that is held in this frame.
+fn held_in<'a>(held: &'a [Option<SignedChange>], bytes: &[u8]) -> Option<&'a Change>
+    ensures { option_map (λ change. change_pair change.now) result
+        ≡ option_map (λ h. (h.sender, h.change)) (finding.frame_in bytes.now (held_by held.now)) }
+{
+    let [first, rest @ ..] = held else {
+        return None;
     };
-    Ok(Change {
-        sender: change.sender,
-        change: copy,
-    })
-}
-
-fn copy_changes(
-    alloc: Global,
-    held: &[Option<SignedChange>],
-    view: View,
-) -> Result<Vec<Change>, NoMemory>
-    ensures { IfOk result (λ changes. pairs changes.items ≡ pairs_for view.0 (map (option_map held_data) held.now)) }
-{
-    let mut changes = Vec::new(alloc);
-    for signed in held {
-        if let Some(signed) = signed {
-            if signed.change.change.view.0 == view.0 {
-                changes.push(copy_change(alloc, &signed.change)?)?;
+    match first {
+        Some(signed) => {
+            if signed.frame.as_slice() == bytes {
+                Some(&signed.change)
+            } else {
+                held_in(rest, bytes)
             }
         }
+        None => held_in(rest, bytes),
     }
-    Ok(changes)
 }
 
-fn copy_frames(
-    alloc: Global,
-    held: &[Option<SignedChange>],
-    view: View,
-) -> Result<Vec<Vec<u8>>, NoMemory>
-    ensures { IfOk result (λ frames. texts_of frames.items ≡ frames_for view.0 (map (option_map held_data) held.now)) }
+// The view of what is held of another replica, where it is above the target.
+fn later_view(signed: &Option<SignedChange>, me: ReplicaId, target: View) -> Option<View>
+    ensures { option_map (λ view. view.0) result
+        ≡ spec.later_view me.0 target.0 (option_map held_data signed.now) }
 {
-    let mut frames = Vec::new(alloc);
-    for signed in held {
-        if let Some(signed) = signed {
-            if signed.change.change.view.0 == view.0 {
-                frames.push(copy(alloc, &signed.frame)?)?;
-            }
-        }
+    let Some(signed) = signed else {
+        return None;
+    };
+    let view = signed.change.change.view;
+    if signed.change.sender.0 != me.0 && target.0 < view.0 {
+        Some(view)
+    } else {
+        None
     }
-    Ok(frames)
+}
+
+fn count_later(held: &[Option<SignedChange>], me: ReplicaId, target: View) -> usize
+    ensures count { result ≡ length (later_views me.0 target.0 (held_by held.now)) }
+    ensures few { result ≤ length held.now }
+{
+    let [first, rest @ ..] = held else {
+        return 0;
+    };
+    let count = count_later(rest, me, target);
+    match later_view(first, me, target) {
+        Some(_view) => count + 1,
+        None => count,
+    }
+}
+
+fn least_later(held: &[Option<SignedChange>], me: ReplicaId, target: View) -> Option<View>
+    ensures { option_map (λ view. view.0) result
+        ≡ finding.least_of (later_views me.0 target.0 (held_by held.now)) }
+{
+    let [first, rest @ ..] = held else {
+        return None;
+    };
+    let least = least_later(rest, me, target);
+    match later_view(first, me, target) {
+        Some(view) => Some(lesser(view, least)),
+        None => least,
+    }
+}
+
+fn lesser(view: View, other: Option<View>) -> View
+    ensures { result.0 ≡ finding.lesser view.0 (option_map (λ other. other.0) other) }
+{
+    match other {
+        Some(other) => { if other.0 < view.0 { other } else { view } }
+        None => view,
+    }
 }

@@ -16,7 +16,7 @@ pub const SEED: [u8; 32] = [5; 32];
 pub const ROOT: u8 = 7;
 
 /// A view change: its view, its low mark, at which it lists a checkpoint, and the byte of the batch that it prepared and
-/// logged for number 1 in view 0.
+/// logged for number 1 in view 0, or 0 for none.
 pub type Said = (u64, u64, u8);
 
 /// The signer of a replica.
@@ -26,6 +26,10 @@ pub fn signer_of(replica: u8) -> Signer {
 }
 
 fn put_entry(alloc: Global, byte: u8, out: &mut Vec<u8>) -> Result<(), Fail> {
+    if byte == 0 {
+        out.extend_from_slice(b"\x00\x00")?;
+        return Ok(());
+    }
     let text = vec![in alloc; byte]?;
     let digest = HashedBatch::new(Batch { text }).digest();
     out.extend_from_slice(b"\x00\x01")?;
@@ -48,12 +52,7 @@ fn body(alloc: Global, sender: u8, (view, low, byte): Said) -> Result<Vec<u8>, F
 }
 
 /// The frame of a replica's view change, with its signature.
-pub fn change(
-    alloc: Global,
-    signer: &mut Signer,
-    sender: u8,
-    said: Said,
-) -> Result<Vec<u8>, Fail> {
+pub fn change(alloc: Global, signer: &mut Signer, sender: u8, said: Said) -> Result<Vec<u8>, Fail> {
     let body = body(alloc, sender, said)?;
     let signature = match signer.sign(alloc, &body) {
         Err(SignFault::NoMemory) => signer.sign(alloc, &body)?,

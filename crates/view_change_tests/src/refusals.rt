@@ -86,23 +86,11 @@ const ROWS: [(Heard, Carried, Option<NewViewFault>); 15] = [
         Some(NewViewFault::NotSelected),
     ),
     // They don't ascend.
-    (
-        WELL,
-        (&[1, 0, 2], 7, &[1]),
-        Some(NewViewFault::NotSelected),
-    ),
+    (WELL, (&[1, 0, 2], 7, &[1]), Some(NewViewFault::NotSelected)),
     // No one lists its start.
-    (
-        WELL,
-        (&[0, 1, 2], 8, &[1]),
-        Some(NewViewFault::NotSelected),
-    ),
+    (WELL, (&[0, 1, 2], 8, &[1]), Some(NewViewFault::NotSelected)),
     // The null batch stands where another one was prepared.
-    (
-        WELL,
-        (&[0, 1, 2], 7, &[0]),
-        Some(NewViewFault::NotSelected),
-    ),
+    (WELL, (&[0, 1, 2], 7, &[0]), Some(NewViewFault::NotSelected)),
     // Nothing stands there, or one batch more.
     (WELL, (&[0, 1, 2], 7, &[]), Some(NewViewFault::NotSelected)),
     (

@@ -64,11 +64,7 @@ fn change(alloc: Global, sender: u8, (kept, prepared, logged): Said<'_>) -> Resu
 }
 
 // What is selected with the batches of the bytes 1 to 3.
-fn selected(
-    alloc: Global,
-    sizes: Sizes,
-    rows: &[Said<'_>],
-) -> Result<Option<Selection>, Fail> {
+fn selected(alloc: Global, sizes: Sizes, rows: &[Said<'_>]) -> Result<Option<Selection>, Fail> {
     let mut set = Vec::new(alloc);
     for (sender, row) in rows.iter().enumerate() {
         set.push(change(alloc, sender as u8, *row)?)?;
@@ -147,14 +143,8 @@ const ROWS_OF_SEVEN: [(&[Said<'static>], Option<Start>); 7] = [
     // Too few have logged it.
     (&[ONE, ONE, NOTHING, NOTHING, NOTHING], None),
     // Two can't make a start, a third one can.
-    (
-        &[HIGHER, HIGHER, NOTHING, NOTHING, NOTHING],
-        Some((0, &[])),
-    ),
-    (
-        &[HIGHER, HIGHER, HIGHER, NOTHING, NOTHING],
-        Some((16, &[])),
-    ),
+    (&[HIGHER, HIGHER, NOTHING, NOTHING, NOTHING], Some((0, &[]))),
+    (&[HIGHER, HIGHER, HIGHER, NOTHING, NOTHING], Some((16, &[]))),
     // The new view of view 1 proposed the null batch, over view changes that had nothing prepared: what two lies say of
     // view 0 doesn't count against it.
     (
