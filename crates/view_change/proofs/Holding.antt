@@ -1,6 +1,7 @@
 -- The view changes that are held, one at each sender's place.
 use Rattle.std.specs.Prelude.{◌==◌, nat_lt, not, min, option_and_then, slice_get, slice_set, bytes_eq}
-use Rattle.std.proofs.Common.{◌≡◌, ◌≢◌, ℕ, zero, suc, ◌+◌, ◌*◌, ◌≤◌, ◌<◌, ◌⊎◌, inl, inr, Bool, true, false, cond, List, [], ◌∷◌, ◌++◌, length, map, replicate, drop, get_or, Option, Some, None, refl, sym, ap, ap₂, ◌∙◌, subst, arith, append_assoc, append-nil, eq-eqb, ne_eqb, ◌&&◌, ⊤}
+use Rattle.std.proofs.Common.{◌≡◌, ◌≢◌, ℕ, zero, suc, ◌+◌, ◌*◌, ◌≤◌, ◌<◌, ◌⊎◌, inl, inr, Bool, true, false, cond, List, [], ◌∷◌, ◌++◌, length, map, replicate, drop, get_or, Option, Some, None, refl, sym, ap, ap₂, ◌∙◌, subst, arith, append_assoc, append-nil, eq-eqb, ne_eqb, ◌&&◌}
+use Rattle.std.specs.Bool.{⊤}
 use Rattle.std.specs.List.{list_all}
 use Rattle.std.specs.Option.{option_map_or}
 use Rattle.std.proofs.lemmas.Bool.{and_parts, and_from, lt-ltb, ltb-true, cases_lt}
@@ -19,7 +20,8 @@ use Rattle.view_change.specs.ReceivedData.{HeldData, held_for, held_of, pairs_fo
 use Rattle.view_change.specs.Finding.{frame_in, lesser, least_of}
 use Rattle.view_change.specs.ReceivedView.{AreReceived, ReceivedState, configuration_of, held_by, IsHeldIn}
 use Rattle.view_change.specs.Selecting.{are_for}
-use Rattle.view_change.proofs.Carried.{carried_of, sender_is}
+use Rattle.view_change.specs.Sets.{sized}
+use Rattle.view_change.proofs.CarriedFrames.{carried_of, sender_is}
 use Rattle.view_change.proofs.Opening.{IsChangeFrame, signed_is}
 
 -- ---- none yet
@@ -216,24 +218,24 @@ held_set_for r view are =
 -- ---- what is held in a frame
 
 -- what is found is held at its sender's place
-pub found_in : (c : Configuration) (sender : ℕ) (held : List (Option HeldData)) (bytes : List ℕ) (h : HeldData) → AreHeldFrom c sender held → frame_in bytes held ≡ Some h
-    → (i : ℕ) × (h.sender ≡ sender + i) × (held_of held i ≡ Some h) × (h.frame ≡ bytes) × (signed_change c bytes ≡ Some (h.sender, h.change))
-found_in c sender [] bytes h are is = absurd cc
-found_in c sender (None ∷ held) bytes h are is =
-    let r = found_in c (suc sender) held bytes h are.1 is in
-    (suc r.0, (let e = r.1 in omega arith), r.2, r.3, r.4)
-found_in c sender (Some g ∷ held) bytes h are is = go (bytes_eq g.frame bytes) refl is
-  where
-    here : g.frame ≡ bytes → g ≡ h → (i : ℕ) × (h.sender ≡ sender + i) × (held_of (Some g ∷ held) i ≡ Some h) × (h.frame ≡ bytes) × (signed_change c bytes ≡ Some (h.sender, h.change))
-    here same e = subst (λ (x : HeldData). (i : ℕ) × (x.sender ≡ sender + i) × (held_of (Some g ∷ held) i ≡ Some x) × (x.frame ≡ bytes) × (signed_change c bytes ≡ Some (x.sender, x.change))) e
-        (0, (let s = are.0.0 in omega arith), refl, same, subst (λ (bs : List ℕ). signed_change c bs ≡ Some (g.sender, g.change)) same are.0.2)
+abbrev FoundFrom : Configuration → ℕ → List (Option HeldData) → List ℕ → HeldData → Type 0
+FoundFrom c sender held bytes h = (i : ℕ) × (h.sender ≡ sender + i) × (held_of held i ≡ Some h) × (h.frame ≡ bytes) × (signed_change c bytes ≡ Some (h.sender, h.change))
 
-    go : (b : Bool) → bytes_eq g.frame bytes ≡ b → cond b (Some g) (frame_in bytes held) ≡ Some h
-        → (i : ℕ) × (h.sender ≡ sender + i) × (held_of (Some g ∷ held) i ≡ Some h) × (h.frame ≡ bytes) × (signed_change c bytes ≡ Some (h.sender, h.change))
-    go true e f = here ((bytes_eq-Decides g.frame bytes).0 e) (same_Some g h f)
-    go false e f =
-        let r = found_in c (suc sender) held bytes h are.1 f in
-        (suc r.0, (let s = r.1 in omega arith), r.2, r.3, r.4)
+found_behind : (c : Configuration) (sender : ℕ) (o : Option HeldData) (held : List (Option HeldData)) (bytes : List ℕ) (h : HeldData) → FoundFrom c (suc sender) held bytes h → FoundFrom c sender (o ∷ held) bytes h
+found_behind c sender o held bytes h f = (suc f.0, (let e = f.1 in omega arith), f.2, f.3, f.4)
+
+found_here : (c : Configuration) (sender : ℕ) (held : List (Option HeldData)) (bytes : List ℕ) (h : HeldData) → IsHeldAt c sender (Some h) → h.frame ≡ bytes → FoundFrom c sender (Some h ∷ held) bytes h
+found_here c sender held bytes h are same = (0, (let s = are.0 in omega arith), refl, same, subst (λ (bs : List ℕ). signed_change c bs ≡ Some (h.sender, h.change)) same are.2)
+
+pub found_in : (c : Configuration) (sender : ℕ) (held : List (Option HeldData)) (bytes : List ℕ) (h : HeldData) → AreHeldFrom c sender held → frame_in bytes held ≡ Some h → FoundFrom c sender held bytes h
+found_in c sender [] bytes h are is = absurd cc
+found_in c sender (None ∷ held) bytes h are is = found_behind c sender None held bytes h (found_in c (suc sender) held bytes h are.1 is)
+found_in c sender (Some g ∷ held) bytes h are is = go (bytes_eq g.frame bytes) refl is (found_in c (suc sender) held bytes h are.1)
+  where
+    go : (b : Bool) → bytes_eq g.frame bytes ≡ b → cond b (Some g) (frame_in bytes held) ≡ Some h → (frame_in bytes held ≡ Some h → FoundFrom c (suc sender) held bytes h) → FoundFrom c sender (Some g ∷ held) bytes h
+    go true e f behind =
+        subst (λ (x : HeldData). FoundFrom c sender (Some g ∷ held) bytes x) (same_Some g h f) (found_here c sender held bytes g are.0 ((bytes_eq-Decides g.frame bytes).0 e))
+    go false e f behind = found_behind c sender (Some g) held bytes h (behind f)
 
 pub held_in_frame : (r : ReceivedState) (bytes : List ℕ) (h : HeldData) → AreReceived r → frame_in bytes r.held ≡ Some h → IsHeldIn r bytes h
 held_in_frame r bytes h are is =
@@ -246,56 +248,68 @@ held_in_frame r bytes h are is =
 
 -- nothing else is held in it
 pub none_in : (held : List (Option HeldData)) (bytes : List ℕ) → frame_in bytes held ≡ None → (h : HeldData) → Has (λ o. o ≡ Some h) held → h.frame ≡ bytes → ⊥
-none_in [] bytes is h has same = has
+none_in [] bytes is h has same = absurd has
 none_in (None ∷ held) bytes is h (inl e) same = absurd cc
 none_in (None ∷ held) bytes is h (inr has) same = none_in held bytes is h has same
-none_in (Some g ∷ held) bytes is h has same = go (bytes_eq g.frame bytes) refl is has
+none_in (Some g ∷ held) bytes is h has same = go (bytes_eq g.frame bytes) refl is has (λ f more. none_in held bytes f h more same)
   where
-    go : (b : Bool) → bytes_eq g.frame bytes ≡ b → cond b (Some g) (frame_in bytes held) ≡ None → (Some g ≡ Some h) ⊎ Has (λ o. o ≡ Some h) held → ⊥
-    go true e f has = absurd cc
-    go false e f (inl i) = absurd (let t = (bytes_eq-Decides g.frame bytes).1 (ap (λ (x : HeldData). x.frame) (same_Some g h i) ∙ same) in cc)
-    go false e f (inr has) = none_in held bytes f h has same
+    go : (b : Bool) → bytes_eq g.frame bytes ≡ b → cond b (Some g) (frame_in bytes held) ≡ None → (Some g ≡ Some h) ⊎ Has (λ o. o ≡ Some h) held
+        → (frame_in bytes held ≡ None → Has (λ o. o ≡ Some h) held → ⊥) → ⊥
+    go true e f has behind = absurd cc
+    go false e f (inl i) behind = absurd (let t = (bytes_eq-Decides g.frame bytes).1 (ap (λ (x : HeldData). x.frame) (same_Some g h i) ∙ same) in cc)
+    go false e f (inr more) behind = behind f more
 
 -- ---- views of others
 
-pub joined : (faults : ℕ) (views : List ℕ) → faults < length views → (view : ℕ) → least_of views ≡ Some view → IsJoined faults views view
-joined faults views enough view is = record { enough = enough; there = there views view is; least = least views view is }
+-- the lesser one is one of the two, and at most either
+lesser_is : (x : ℕ) (o : Option ℕ) → (lesser x o ≡ x) ⊎ (o ≡ Some (lesser x o))
+lesser_is x None = inl refl
+lesser_is x (Some y) = go (cases_lt y x)
   where
-    which : (x : ℕ) (o : Option ℕ) → (lesser x o ≡ x) ⊎ ((y : ℕ) × (o ≡ Some y) × (lesser x o ≡ y))
-    which x None = inl refl
-    which x (Some y) = go (cases_lt y x)
-      where
-        go : (y < x) ⊎ (x ≤ y) → (min y x ≡ x) ⊎ ((z : ℕ) × (Some y ≡ Some z) × (min y x ≡ z))
-        go (inl l) = inr (y, refl, omega arith)
-        go (inr l) = inl (omega arith)
+    go : (y < x) ⊎ (x ≤ y) → (min y x ≡ x) ⊎ (Some y ≡ Some (min y x))
+    go (inl l) = inr (ap Some (let e : y ≡ min y x = omega arith in e))
+    go (inr l) = inl (omega arith)
 
-    there : (xs : List ℕ) (v : ℕ) → least_of xs ≡ Some v → Has (λ w. w ≡ v) xs
-    there [] v e = absurd cc
-    there (x ∷ xs) v e = go (which x (least_of xs))
-      where
-        go : (lesser x (least_of xs) ≡ x) ⊎ ((y : ℕ) × (least_of xs ≡ Some y) × (lesser x (least_of xs) ≡ y)) → (x ≡ v) ⊎ Has (λ w. w ≡ v) xs
-        go (inl s) = inl (sym s ∙ same_Some (lesser x (least_of xs)) v e)
-        go (inr s) = inr (there xs v (s.1 ∙ ap Some (sym s.2 ∙ same_Some (lesser x (least_of xs)) v e)))
+lesser_first : (x : ℕ) (o : Option ℕ) → lesser x o ≤ x
+lesser_first x None = omega arith
+lesser_first x (Some y) = omega arith
 
-    below : (x : ℕ) (o : Option ℕ) → (lesser x o ≤ x) × ((y : ℕ) → o ≡ Some y → lesser x o ≤ y)
-    below x None = (omega arith, λ y e. absurd cc)
-    below x (Some z) = (omega arith, λ y e. (let s = same_Some z y e in omega arith))
+lesser_second : (x y : ℕ) (o : Option ℕ) → o ≡ Some y → lesser x o ≤ y
+lesser_second x y None e = absurd cc
+lesser_second x y (Some z) e = let s = same_Some z y e in omega arith
 
-    lower : (v w : ℕ) (xs : List ℕ) → v ≤ w → Each (λ u. w ≤ u) xs → Each (λ u. v ≤ u) xs
-    lower v w [] l h = tt
-    lower v w (x ∷ xs) l h = ((let k = h.0 in omega arith), lower v w xs l h.1)
+least_there : (xs : List ℕ) (v : ℕ) → least_of xs ≡ Some v → Has (λ w. w ≡ v) xs
+least_there [] v e = absurd cc
+least_there (x ∷ xs) v e = go (lesser_is x (least_of xs)) (least_there xs v)
+  where
+    is : lesser x (least_of xs) ≡ v
+    is = same_Some (lesser x (least_of xs)) v e
 
-    least : (xs : List ℕ) (v : ℕ) → least_of xs ≡ Some v → Each (λ w. v ≤ w) xs
-    least [] v e = absurd cc
-    least (x ∷ xs) v e = ((let l = (below x (least_of xs)).0 in let s = same_Some (lesser x (least_of xs)) v e in omega arith), rest (least_of xs) refl)
-      where
-        rest : (o : Option ℕ) → least_of xs ≡ o → Each (λ w. v ≤ w) xs
-        rest None f = no_views xs f
-          where
-            no_views : (ys : List ℕ) → least_of ys ≡ None → Each (λ w. v ≤ w) ys
-            no_views [] g = tt
-            no_views (y ∷ ys) g = absurd cc
-        rest (Some y) f = lower v y xs (let l = (below x (least_of xs)).1 y f in let s = same_Some (lesser x (least_of xs)) v e in omega arith) (least xs y f)
+    go : (lesser x (least_of xs) ≡ x) ⊎ (least_of xs ≡ Some (lesser x (least_of xs))) → (least_of xs ≡ Some v → Has (λ w. w ≡ v) xs) → (x ≡ v) ⊎ Has (λ w. w ≡ v) xs
+    go (inl s) behind = inl (sym s ∙ is)
+    go (inr s) behind = inr (behind (s ∙ ap Some is))
+
+each_above : (v w : ℕ) (xs : List ℕ) → v ≤ w → Each (λ u. w ≤ u) xs → Each (λ u. v ≤ u) xs
+each_above v w [] l h = tt
+each_above v w (x ∷ xs) l h = ((let k = h.0 in omega arith), each_above v w xs l h.1)
+
+none_above : (v : ℕ) (xs : List ℕ) → least_of xs ≡ None → Each (λ u. v ≤ u) xs
+none_above v [] e = tt
+none_above v (x ∷ xs) e = absurd cc
+
+least_below : (xs : List ℕ) (v : ℕ) → least_of xs ≡ Some v → Each (λ w. v ≤ w) xs
+least_below [] v e = absurd cc
+least_below (x ∷ xs) v e = ((let l = lesser_first x (least_of xs) in let s = is in omega arith), go (least_of xs) refl (least_below xs))
+  where
+    is : lesser x (least_of xs) ≡ v
+    is = same_Some (lesser x (least_of xs)) v e
+
+    go : (o : Option ℕ) → least_of xs ≡ o → ((w : ℕ) → least_of xs ≡ Some w → Each (λ u. w ≤ u) xs) → Each (λ u. v ≤ u) xs
+    go None f behind = none_above v xs f
+    go (Some y) f behind = each_above v y xs (let l = lesser_second x y (least_of xs) f in let s = is in omega arith) (behind y f)
+
+pub joined : (faults : ℕ) (views : List ℕ) → faults < length views → (view : ℕ) → least_of views ≡ Some view → IsJoined faults views view
+joined faults views enough view is = record { enough = enough; there = least_there views view is; least = least_below views view is }
 
 pub some_least : (views : List ℕ) → 0 < length views → least_of views ≡ None → ⊥
 some_least [] l e = absurd (omega arith)
@@ -304,10 +318,18 @@ some_least (x ∷ xs) l e = absurd cc
 -- ---- what a loop gathers of a list
 
 pub one_on : {X A : Type 0} (F : List X → List A) → ((x : X) (rest : List X) → F (x ∷ rest) ≡ F (x ∷ []) ++ F rest) → (xs : List X) (i : ℕ) (x : X) (old new : List A)
-    → i < length xs → get_or xs i x ≡ x → old ++ F (drop i xs) ≡ F xs → new ≡ old ++ F (x ∷ []) → new ++ F (drop (i + 1) xs) ≡ F xs
+    → i < length xs → x ≡ get_or xs i x → old ++ F (drop i xs) ≡ F xs → new ≡ old ++ F (x ∷ []) → new ++ F (drop (i + 1) xs) ≡ F xs
 one_on F parts xs i x old new l at so is =
     ap (λ ys. ys ++ F (drop (i + 1) xs)) is ∙ append_assoc old (F (x ∷ [])) (F (drop (i + 1) xs)) ∙ ap (λ ys. old ++ ys) (sym (parts x (drop (i + 1) xs)))
-    ∙ ap (λ y. old ++ F (y ∷ drop (i + 1) xs)) (sym at) ∙ ap (λ ys. old ++ ys) (sym (at_drop_more F xs i x l)) ∙ so
+    ∙ ap (λ y. old ++ F (y ∷ drop (i + 1) xs)) at ∙ ap (λ ys. old ++ ys) (sym (at_drop_more F xs i x l)) ∙ so
 
 pub all_on : {X A : Type 0} (F : List X → List A) → F [] ≡ [] → (xs : List X) (i : ℕ) (old : List A) → length xs ≤ i → old ++ F (drop i xs) ≡ F xs → old ≡ F xs
 all_on F none xs i old l so = sym (append-nil old) ∙ ap (λ ys. old ++ ys) (sym (at_drop_all F xs i l ∙ none)) ∙ so
+
+-- ---- the view changes for a view, as a list
+
+pub ordered_for : (r : ReceivedState) (view : ℕ) (xs : List (ℕ × ViewChangeData)) → AreReceived r → xs ≡ pairs_for view r.held → ascending xs ≡ true
+ordered_for r view xs are is = subst (λ (ys : List (ℕ × ViewChangeData)). ascending ys ≡ true) (sym is) (held_ordered (configuration_of r) view 0 r.held are.each).order
+
+pub fit_for : (r : ReceivedState) (view : ℕ) (xs : List (ℕ × ViewChangeData)) → AreReceived r → xs ≡ pairs_for view r.held → are_for view xs (sized r.sizes) ≡ true
+fit_for r view xs are is = subst (λ (ys : List (ℕ × ViewChangeData)). are_for view ys (sized r.sizes) ≡ true) (sym is) (held_ordered (configuration_of r) view 0 r.held are.each).fit

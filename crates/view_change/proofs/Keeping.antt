@@ -15,7 +15,7 @@ use Rattle.wire.specs.Lists.{Each}
 use Rattle.protocol.specs.Replica.Certificates.{low, is_in_marks, logged}
 use Rattle.protocol.proofs.Agreement.Marks.{low_grows}
 use Rattle.protocol.proofs.Words.Elements.{each_has, has_some, has_weaker}
-use Rattle.view_change.specs.Recording.{same_number, same_name, later_of, with_claim, with_prepared, with_logged, with_all, above_mark, IsPreparedAs, IsLoggedAs, Adds, Ascends, IsLatest, IsEach, RecordsBegin, PreparedIsRecorded, LoggedIsRecorded, RecordsAreLists}
+use Rattle.view_change.specs.Recording.{same_number, same_name, later_of, with_claim, with_prepared, with_logged, with_all, above_mark, IsPreparedAs, IsLoggedAs, Adds, Ascends, IsLatest, IsEach, AreDigests, MovesUp, RecordsBegin, LatestIsRecorded, EachIsRecorded, PreparedIsRecorded, LoggedIsRecorded, RecordsAreLists}
 use Rattle.view_change.proofs.Ranking.{bytes_trans, bytes_irreflexive}
 
 -- ---- an order on claims by which those that name the same are told apart
@@ -92,7 +92,7 @@ each_with before same P new (x ∷ xs) h p = go (same x new) (before new x) (eac
     go false true below = (p, h)
     go false false below = (h.0, below)
 
-weaker : {A : Type 0} (P Q : A → Type 0) → ((x : A) → P x → Q x) → (xs : List A) → Each P xs → Each Q xs
+pub weaker : {A : Type 0} (P Q : A → Type 0) → ((x : A) → P x → Q x) → (xs : List A) → Each P xs → Each Q xs
 weaker P Q f [] h = tt
 weaker P Q f (x ∷ xs) h = (f x h.0, weaker P Q f xs h.1)
 
@@ -232,13 +232,9 @@ by_name = record {
 abbrev With : (ℕ → ℕ → List ℕ → Type 0) → Claim → ℕ → ℕ → List ℕ → Type 0
 With holds new v i digest = holds v i digest ⊎ ((new.view ≡ v) × (new.number ≡ i) × (new.digest ≡ digest))
 
-each_of : {A : Type 0} (P : A → Type 0) (xs : List A) → ((x : A) → Has (λ y. y ≡ x) xs → P x) → Each P xs
+pub each_of : {A : Type 0} (P : A → Type 0) (xs : List A) → ((x : A) → Has (λ y. y ≡ x) xs → P x) → Each P xs
 each_of P [] f = tt
 each_of P (x ∷ xs) f = (f x (inl refl), each_of P xs (λ y has. f y (inr has)))
-
--- the digests that hold have 32 bytes
-abbrev AreDigests : (ℕ → ℕ → List ℕ → Type 0) → Type 0
-AreDigests holds = (v i : ℕ) (digest : List ℕ) → holds v i digest → length digest ≡ 32
 
 -- a claim of the longer list is still the latest of its number
 latest_listed : (holds : ℕ → ℕ → List ℕ → Type 0) (in_marks : ℕ → Bool) (new : Claim) (claims : List Claim) → in_marks new.number ≡ true → IsLatest holds in_marks claims
@@ -389,12 +385,6 @@ ascends_left before test (x ∷ xs) h = go (test x) (ascends_left before test xs
     go true below = (each_left test (λ y. before x y ≡ true) xs h.0, below)
     go false below = below
 
--- the marks move up
-record MovesUp (holds : ℕ → ℕ → List ℕ → Type 0) (in_marks later : ℕ → Bool) (low : ℕ) : Type 0 where
-  above : (i : ℕ) → later i ≡ true → low < i
-  ahead : (v i : ℕ) (digest : List ℕ) → later i ≡ true → holds v i digest → in_marks i ≡ true
-  still : (i : ℕ) → in_marks i ≡ true → low < i → later i ≡ true
-
 latest_cut : (holds : ℕ → ℕ → List ℕ → Type 0) (in_marks later : ℕ → Bool) (low : ℕ) (claims : List Claim) → MovesUp holds in_marks later low
     → IsLatest holds in_marks claims → IsLatest holds later (above_mark low claims)
 latest_cut holds in_marks later low claims up old = record {
@@ -497,27 +487,31 @@ prepared_digests c me past v i digest h = ap length (sym h.2) ∙ length-sha256 
 logged_digests : (c : Configuration) (me : ℕ) (past : List Entry) → AreDigests (IsLoggedAs c me past)
 logged_digests c me past v i digest h = ap length (sym h.2) ∙ length-sha256 h.0
 
+pub latest_is_recorded : LatestIsRecorded
+latest_is_recorded before after in_marks later low claims new digests fresh up old adds =
+    latest_same (WithAll before new) after later (with_all with_prepared new (above_mark low claims)) (is_added before after later new adds) adds.only
+    (latest_all new before later (above_mark low claims) digests
+    (weaker (λ (x : Claim). after x.view x.number x.digest × (later x.number ≡ true)) (λ (x : Claim). (length x.digest ≡ 32) × (later x.number ≡ true))
+    (λ x h. (fresh x.view x.number x.digest h.0, h.1)) new adds.new)
+    (latest_cut before in_marks later low claims up old))
+
+pub each_is_recorded : EachIsRecorded
+each_is_recorded before after in_marks later low claims new digests fresh up old adds =
+    each_same (WithAll before new) after later (with_all with_logged new (above_mark low claims)) (is_added before after later new adds) adds.only
+    (each_all new before later (above_mark low claims) digests
+    (weaker (λ (x : Claim). after x.view x.number x.digest × (later x.number ≡ true)) (λ (x : Claim). (length x.digest ≡ 32) × (later x.number ≡ true))
+    (λ x h. (fresh x.view x.number x.digest h.0, h.1)) new adds.new)
+    (each_cut before in_marks later low claims up old))
+
 pub prepared_is_recorded : PreparedIsRecorded
 prepared_is_recorded c me e past claims new ahead old adds =
-    let later = is_in_marks c (low c me (e ∷ past)) in
-    latest_same (WithAll (IsPreparedAs c me past) new) (IsPreparedAs c me (e ∷ past)) later (with_all with_prepared new (above_mark (low c me (e ∷ past)) claims))
-    (is_added (IsPreparedAs c me past) (IsPreparedAs c me (e ∷ past)) later new adds) adds.only
-    (latest_all new (IsPreparedAs c me past) later (above_mark (low c me (e ∷ past)) claims) (prepared_digests c me past)
-    (weaker (λ (x : Claim). IsPreparedAs c me (e ∷ past) x.view x.number x.digest × (later x.number ≡ true)) (λ (x : Claim). (length x.digest ≡ 32) × (later x.number ≡ true))
-    (λ x h. (prepared_digests c me (e ∷ past) x.view x.number x.digest h.0, h.1)) new adds.new)
-    (latest_cut (IsPreparedAs c me past) (is_in_marks c (low c me past)) later (low c me (e ∷ past)) claims
-    (moves_up c me e past (IsPreparedAs c me past) (λ v i digest h. ahead v i h.0 h.1.logged)) old))
+    latest_is_recorded (IsPreparedAs c me past) (IsPreparedAs c me (e ∷ past)) (is_in_marks c (low c me past)) (is_in_marks c (low c me (e ∷ past))) (low c me (e ∷ past)) claims new
+    (prepared_digests c me past) (prepared_digests c me (e ∷ past)) (moves_up c me e past (IsPreparedAs c me past) (λ v i digest h. ahead v i h.0 h.1.logged)) old adds
 
 pub logged_is_recorded : LoggedIsRecorded
 logged_is_recorded c me e past claims new ahead old adds =
-    let later = is_in_marks c (low c me (e ∷ past)) in
-    each_same (WithAll (IsLoggedAs c me past) new) (IsLoggedAs c me (e ∷ past)) later (with_all with_logged new (above_mark (low c me (e ∷ past)) claims))
-    (is_added (IsLoggedAs c me past) (IsLoggedAs c me (e ∷ past)) later new adds) adds.only
-    (each_all new (IsLoggedAs c me past) later (above_mark (low c me (e ∷ past)) claims) (logged_digests c me past)
-    (weaker (λ (x : Claim). IsLoggedAs c me (e ∷ past) x.view x.number x.digest × (later x.number ≡ true)) (λ (x : Claim). (length x.digest ≡ 32) × (later x.number ≡ true))
-    (λ x h. (logged_digests c me (e ∷ past) x.view x.number x.digest h.0, h.1)) new adds.new)
-    (each_cut (IsLoggedAs c me past) (is_in_marks c (low c me past)) later (low c me (e ∷ past)) claims
-    (moves_up c me e past (IsLoggedAs c me past) (λ v i digest h. ahead v i h.0 h.1)) old))
+    each_is_recorded (IsLoggedAs c me past) (IsLoggedAs c me (e ∷ past)) (is_in_marks c (low c me past)) (is_in_marks c (low c me (e ∷ past))) (low c me (e ∷ past)) claims new
+    (logged_digests c me past) (logged_digests c me (e ∷ past)) (moves_up c me e past (IsLoggedAs c me past) (λ v i digest h. ahead v i h.0 h.1)) old adds
 
 pub records_begin : RecordsBegin
 unfolding logged

@@ -1,12 +1,13 @@
-mod Assembling
-pub mod Carried
+mod Assembled
+pub mod CarriedFrames
 mod Chosen
 mod Claiming
+mod KeptClaims
 mod Deciding
 mod Gaps
 mod Holding
 mod Judging
-mod Keeping
+pub mod Keeping
 mod Larger
 mod Mapped
 mod Noting

@@ -1,7 +1,7 @@
 -- Of a configuration the rules use the seed and the two sizes alone.
 use Rattle.std.specs.Prelude.{option_and_then, if◌then◌else◌, nat_lt, not, ◌==◌}
 use Rattle.std.proofs.Common.{◌≡◌, ℕ, ◌+◌, ◌*◌, Bool, true, List, [], ◌∷◌, length, map, Option, Some, None, refl, sym, ap, ap₂, ◌∙◌, subst, ◌&&◌}
-use Rattle.wire.specs.Messages.{MessageData as Message, BodyData as Body, FrameData as Frame, ViewChangeData, view_change as ViewChange, new_view as NewView}
+use Rattle.wire.specs.Messages.{MessageData as Message, BodyData as Body, FrameData as Frame, NewViewData, ViewChangeData, view_change as ViewChange, new_view as NewView}
 use Rattle.wire.specs.Words.{frame_of}
 use Rattle.wire.specs.Spelling.{is_signed}
 use Rattle.authenticator.specs.Membership.{sends}

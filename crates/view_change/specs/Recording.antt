@@ -1,7 +1,7 @@
 -- What a replica keeps of what it logged and of what it prepared, over views: for each number in the marks the batch that
 -- was prepared in the latest view, and each batch that was logged, with the latest view in which it was (Castro and
 -- Liskov, Practical Byzantine fault tolerance and proactive recovery, TOCS 2002, on the sets P and Q of view changes).
-use Rattle.std.specs.Prelude.{◌≡◌, ℕ, ◌+◌, ◌^◌, ◌≤◌, ◌<◌, ◌⊎◌, Bool, true, ◌&&◌, List, [], ◌∷◌, Some, filter, nat_lt, nat_le, ◌==◌, if◌then◌else◌, bytes_eq, ⊤}
+use Rattle.std.specs.Prelude.{length, ◌≡◌, ℕ, ◌+◌, ◌^◌, ◌≤◌, ◌<◌, ◌⊎◌, Bool, true, ◌&&◌, List, [], ◌∷◌, Some, filter, nat_lt, nat_le, ◌==◌, if◌then◌else◌, bytes_eq, ⊤}
 use Rattle.sha2.specs.Sha256.{sha256}
 use Rattle.wire.specs.Messages.{BatchEntryData as Claim}
 use Rattle.wire.specs.Spelling.{batch_entry_before, named_before}
@@ -93,13 +93,37 @@ RecordsPrepared c me past claims = IsLatest (IsPreparedAs c me past) (is_in_mark
 abbrev pub RecordsLogged : Configuration → ℕ → List Entry → List Claim → Type 0
 RecordsLogged c me past claims = IsEach (IsLoggedAs c me past) (is_in_marks c (low c me past)) claims
 
+-- digests that hold have 32 bytes
+abbrev pub AreDigests : (ℕ → ℕ → List ℕ → Type 0) → Type 0
+AreDigests holds = (v i : ℕ) (digest : List ℕ) → holds v i digest → length digest ≡ 32
+
+-- the marks move up, to this low mark, and nothing holds that is ahead of them
+pub record MovesUp (holds : ℕ → ℕ → List ℕ → Type 0) (in_marks later : ℕ → Bool) (low : ℕ) : Type 0 where
+  pub above : (i : ℕ) → later i ≡ true → low < i
+  pub ahead : (v i : ℕ) (digest : List ℕ) → later i ≡ true → holds v i digest → in_marks i ≡ true
+  pub still : (i : ℕ) → in_marks i ≡ true → low < i → later i ≡ true
+
 -- ---- laws
 
 -- Before any entry nothing is recorded.
 abbrev pub RecordsBegin : Type 0
 RecordsBegin = (c : Configuration) (me : ℕ) → RecordsPrepared c me [] [] × RecordsLogged c me [] []
 
--- An entry adds what it brings, once what is below its low mark is dropped.
+-- Whatever is recorded, what is added to it is, once what is not above the low mark is dropped. (Laws over all relations, of
+-- which those of a history are instances.)
+abbrev pub LatestIsRecorded : Type 1
+LatestIsRecorded =
+    (before after : ℕ → ℕ → List ℕ → Type 0) (in_marks later : ℕ → Bool) (low : ℕ) (claims new : List Claim)
+    → AreDigests before → AreDigests after → MovesUp before in_marks later low → IsLatest before in_marks claims
+    → Adds before after later new → IsLatest after later (with_all with_prepared new (above_mark low claims))
+
+abbrev pub EachIsRecorded : Type 1
+EachIsRecorded =
+    (before after : ℕ → ℕ → List ℕ → Type 0) (in_marks later : ℕ → Bool) (low : ℕ) (claims new : List Claim)
+    → AreDigests before → AreDigests after → MovesUp before in_marks later low → IsEach before in_marks claims
+    → Adds before after later new → IsEach after later (with_all with_logged new (above_mark low claims))
+
+-- So an entry adds to a history's claims what it brings.
 abbrev pub PreparedIsRecorded : Type 0
 PreparedIsRecorded =
     (c : Configuration) (me : ℕ) (e : Entry) (past : List Entry) (claims new : List Claim) → NothingAhead c me past → RecordsPrepared c me past claims

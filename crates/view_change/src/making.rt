@@ -6,6 +6,7 @@ ghost use Rattle.wire.specs.Spelling.{IsViewChange, checkpoint_entry_before};
 ghost use Rattle.wire.specs.Views.{checkpoint_entries_data, view_change_data};
 
 use crate::claims::Claims;
+use crate::entries::{note_checkpoints, note_entries};
 use std::alloc::Global;
 use terms::{NoMemory, Number, View};
 use wire::{CheckpointEntry, ViewChange};
@@ -44,6 +45,9 @@ pub fn make(
     if prepared.len() > MAX_CLAIMS || pre_prepared.len() > MAX_CLAIMS {
         return Ok(None);
     }
+    note_checkpoints(&checkpoints);
+    note_entries(&prepared);
+    note_entries(&pre_prepared);
     Ok(Some(ViewChange {
         view,
         low,

@@ -285,7 +285,7 @@ fn lesser(view: View, other: Option<View>) -> View
     ensures { result.0 ≡ finding.lesser view.0 (option_map (λ other. other.0) other) }
 {
     match other {
-        Some(other) => { if other.0 < view.0 { other } else { view } }
-        None => view,
+        Some(other) if other.0 < view.0 => other,
+        _ => view,
     }
 }

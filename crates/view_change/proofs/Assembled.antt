@@ -61,13 +61,13 @@ module _ (c : Configuration) (view : ℕ) (held : List (Option HeldData)) (start
       let k = leb-true (2 * c.faults + 1) (count_in c lows (pairs_for view held)) quorum in
       let s = some_below (passes_by lows (pairs_for view held)) (replicas c) (lt-ltb 0 (count_in c lows (pairs_for view held)) (omega arith)) in
       let p = passes_change lows (pairs_for view held) s.0 s.2 in
-      let l = not_empty (pairs_for view held) (change_there (pairs_for view held) s.0 p.0 p.1) in
+      let l = not_empty (λ x. x ≡ (s.0, p.0)) (pairs_for view held) (change_there (pairs_for view held) s.0 p.0 p.1) in
       let n = as_many view held in
       omega arith
     where
-      not_empty : {P : ℕ × ViewChangeData → Type 0} (xs : List (ℕ × ViewChangeData)) → Has P xs → 1 ≤ length xs
-      not_empty [] has = absurd has
-      not_empty (x ∷ xs) has = omega arith
+      not_empty : (P : ℕ × ViewChangeData → Type 0) (xs : List (ℕ × ViewChangeData)) → Has P xs → 1 ≤ length xs
+      not_empty P [] has = absurd has
+      not_empty P (x ∷ xs) has = omega arith
 
   few : c.period ≤ 16 → length batches ≤ 32
   few short =

@@ -31,12 +31,14 @@ carried_of c bytes x is = record {
 
 -- ---- the sender that a frame names
 
-two_bytes : (s : ℕ) (a b d e kind : ℕ) (rest : List ℕ) → s < 2 ^ 16
-    → slice_index (a ∷ b ∷ d ∷ e ∷ kind ∷ (to_be_bytes w16 s ++ rest)) 5 * 256 + slice_index (a ∷ b ∷ d ∷ e ∷ kind ∷ (to_be_bytes w16 s ++ rest)) 6 ≡ s
-two_bytes s a b d e kind rest l = omega arith
+named_bytes : (n kind s : ℕ) (fields proof : List ℕ) → s < 2 ^ 16
+    → slice_index ((to_be_bytes w32 n ++ (kind ∷ (to_be_bytes w16 s ++ fields))) ++ proof) 5 * 256 + slice_index ((to_be_bytes w32 n ++ (kind ∷ (to_be_bytes w16 s ++ fields))) ++ proof) 6 ≡ s
+named_bytes n kind s fields proof l = omega arith
 
 names : (f : Frame) → f.body.sender < 2 ^ 16 → sender_in (frame_spelling f) ≡ f.body.sender
-names f l = sym (sender_there (frame_spelling f)) ∙ two_bytes f.body.sender _ _ _ _ _ (fields_spelling f.body.message ++ authenticator_spelling f.authenticator) l
+names f l =
+    sym (sender_there (frame_spelling f))
+    ∙ named_bytes (length (body_spelling f.body)) (message_type f.body.message) f.body.sender (fields_spelling f.body.message) (authenticator_spelling f.authenticator) l
 
 pub sender_is : (c : Configuration) (bytes : List ℕ) (x : ℕ × ViewChangeData) → IsChangeFrame c bytes x → sender_in bytes ≡ x.0
 sender_is c bytes x is = ap sender_in is.spelled.spelled ∙ names is.frame is.spelled.valid.sender ∙ is.sender
