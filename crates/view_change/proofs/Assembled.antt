@@ -1,8 +1,8 @@
 -- The new view that is made of what is held for its view.
 use Rattle.std.specs.Prelude.{◌==◌, nat_le}
 use Rattle.std.specs.List.{list_any}
-use Rattle.std.proofs.Common.{◌≡◌, ℕ, ◌+◌, ◌*◌, ◌^◌, ◌≤◌, ◌<◌, Bool, true, List, [], ◌∷◌, length, map, bytes_eq, Option, Some, refl, sym, ap, ◌∙◌, subst, arith, ◌&&◌}
-use Rattle.std.proofs.lemmas.Bool.{and_parts, and_from, leb-true, lt-ltb, eq-eqb}
+use Rattle.std.proofs.Common.{◌≡◌, ℕ, ◌+◌, ◌*◌, ◌^◌, ◌≤◌, ◌<◌, ◌⊎◌, inl, inr, Bool, true, List, [], ◌∷◌, length, map, bytes_eq, Option, Some, refl, sym, ap, ◌∙◌, subst, arith, ◌&&◌}
+use Rattle.std.proofs.lemmas.Bool.{and_parts, and_from, cases_lt, leb-true, lt-ltb, eq-eqb}
 use Rattle.std.proofs.lemmas.List.{length-map}
 use Rattle.wire.specs.Messages.{NewViewData, ViewChangeData, CheckpointEntryData as CheckpointEntry}
 use Rattle.wire.specs.Spelling.{IsBatch, IsDigest, IsNewView}
@@ -16,6 +16,7 @@ use Rattle.view_change.specs.ReceivedData.{HeldData, IsHeldSet, frames_for, held
 use Rattle.view_change.specs.Selecting.{are_for, is_set_for, meets}
 use Rattle.view_change.proofs.Deciding.{list_of_given}
 use Rattle.view_change.proofs.Larger.{count_weaker, meets_parts, more_than, selects_by_set}
+use Rattle.view_change.proofs.Starting.{start_is_number}
 
 -- the new view
 abbrev pub assembled : ℕ → List (Option HeldData) → ℕ → List ℕ → List (List ℕ) → NewViewData
@@ -75,8 +76,15 @@ module _ (c : Configuration) (view : ℕ) (held : List (Option HeldData)) (start
       let most = largest_of-le (start + span c) (pairs_for view held) in
       omega arith
 
-  pub said : c.faults ≤ 3 → c.period ≤ 16 → view < 2 ^ 64 → start < 2 ^ 64 → IsDigest root → Each (IsBatch 0) batches → IsNewView (assembled view held start root batches)
-  said faults short view_fits start_fits digest each = record {
+  start_fits : start < 2 ^ 64
+  start_fits = go (cases_lt start (2 ^ 48))
+    where
+      go : (start < 2 ^ 48) ⊎ (2 ^ 48 ≤ start) → start < 2 ^ 64
+      go (inl l) = omega arith
+      go (inr l) = absurd (let f = start_is_number c view (pairs_for view held) start root batches set.fit l in cc)
+
+  pub said : c.faults ≤ 3 → c.period ≤ 16 → view < 2 ^ 64 → IsDigest root → Each (IsBatch 0) batches → IsNewView (assembled view held start root batches)
+  said faults short view_fits digest each = record {
     view = view_fits;
     some = some;
     few = (let l = set.few in omega arith);

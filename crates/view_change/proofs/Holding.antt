@@ -1,5 +1,5 @@
 -- The view changes that are held, one at each sender's place.
-use Rattle.std.specs.Prelude.{◌==◌, nat_lt, not, min, option_and_then, slice_get, slice_set, bytes_eq}
+use Rattle.std.specs.Prelude.{◌==◌, nat_lt, not, min, option_and_then, option_map, is_some, MatchOption, slice_get, slice_set, bytes_eq}
 use Rattle.std.proofs.Common.{◌≡◌, ◌≢◌, ℕ, zero, suc, ◌+◌, ◌*◌, ◌≤◌, ◌<◌, ◌⊎◌, inl, inr, Bool, true, false, cond, List, [], ◌∷◌, ◌++◌, length, map, replicate, drop, get_or, Option, Some, None, refl, sym, ap, ap₂, ◌∙◌, subst, arith, append_assoc, append-nil, eq-eqb, ne_eqb, ◌&&◌}
 use Rattle.std.specs.Bool.{⊤}
 use Rattle.std.specs.List.{list_all}
@@ -325,6 +325,42 @@ one_on F parts xs i x old new l at so is =
 
 pub all_on : {X A : Type 0} (F : List X → List A) → F [] ≡ [] → (xs : List X) (i : ℕ) (old : List A) → length xs ≤ i → old ++ F (drop i xs) ≡ F xs → old ≡ F xs
 all_on F none xs i old l so = sym (append-nil old) ∙ ap (λ ys. old ++ ys) (sym (at_drop_all F xs i l ∙ none)) ∙ so
+
+pub joined_of : {A : Type 0} (view : A → ℕ) (o : Option A) (faults : ℕ) (views : List ℕ) → faults < length views → option_map view o ≡ least_of views
+    → MatchOption o (length views ≤ faults) (λ v. IsJoined faults views (view v))
+joined_of view None faults views enough is = absurd (some_least views (omega arith) (sym is))
+joined_of view (Some v) faults views enough is = joined faults views enough (view v) (sym is)
+
+-- ---- as the program finds them
+
+-- what was found, seen as its pair
+abbrev pub pair_in : List ℕ → List (Option HeldData) → Option (ℕ × ViewChangeData)
+pair_in bytes held = option_map (λ (h : HeldData). (h.sender, h.change)) (frame_in bytes held)
+
+pub opened : (r : ReceivedState) (bytes : List ℕ) (x : ℕ × ViewChangeData) → AreReceived r → Some x ≡ pair_in bytes r.held → Some x ≡ signed_change (configuration_of r) bytes
+opened r bytes x are is = go (frame_in bytes r.held) refl is
+  where
+    go : (o : Option HeldData) → frame_in bytes r.held ≡ o → Some x ≡ option_map (λ (h : HeldData). (h.sender, h.change)) o → Some x ≡ signed_change (configuration_of r) bytes
+    go None e f = absurd cc
+    go (Some h) e f = f ∙ sym (held_in_frame r bytes h are e).signed
+
+pub found_held : {A : Type 0} (pair : A → ℕ × ViewChangeData) (o : Option A) (r : ReceivedState) (bytes : List ℕ) → AreReceived r → option_map pair o ≡ pair_in bytes r.held → is_some o ≡ true
+    → (h : HeldData) × IsHeldIn r bytes h
+found_held pair None r bytes are is some = absurd cc
+found_held pair (Some x) r bytes are is some = go (frame_in bytes r.held) refl is
+  where
+    go : (p : Option HeldData) → frame_in bytes r.held ≡ p → Some (pair x) ≡ option_map (λ (h : HeldData). (h.sender, h.change)) p → (h : HeldData) × IsHeldIn r bytes h
+    go None e f = absurd cc
+    go (Some h) e f = (h, held_in_frame r bytes h are e)
+
+pub none_held_in : {A : Type 0} (pair : A → ℕ × ViewChangeData) (o : Option A) (held : List (Option HeldData)) (bytes : List ℕ) → option_map pair o ≡ pair_in bytes held → is_some o ≡ false
+    → (h : HeldData) → Has (λ p. p ≡ Some h) held → h.frame ≡ bytes → ⊥
+none_held_in pair (Some x) held bytes is none h has same = absurd cc
+none_held_in pair None held bytes is none h has same = go (frame_in bytes held) refl is
+  where
+    go : (p : Option HeldData) → frame_in bytes held ≡ p → ◌≡◌ {A = Option (ℕ × ViewChangeData)} None (option_map (λ (g : HeldData). (g.sender, g.change)) p) → ⊥
+    go None e f = none_in held bytes e h has same
+    go (Some g) e f = absurd cc
 
 -- ---- the view changes for a view, as a list
 
