@@ -1,7 +1,7 @@
 -- The new view that is made of what is held for its view.
 use Rattle.std.specs.Prelude.{◌==◌, nat_le}
 use Rattle.std.specs.List.{list_any}
-use Rattle.std.proofs.Common.{◌≡◌, ℕ, ◌+◌, ◌*◌, ◌^◌, ◌≤◌, ◌<◌, ◌⊎◌, inl, inr, Bool, true, List, [], ◌∷◌, length, map, bytes_eq, Option, Some, refl, sym, ap, ◌∙◌, subst, arith, ◌&&◌}
+use Rattle.std.proofs.Common.{◌≡◌, ℕ, ◌+◌, ◌*◌, ◌^◌, ◌≤◌, ◌<◌, ◌⊎◌, inl, inr, Bool, true, List, [], ◌∷◌, length, bytes_eq, Option, refl, sym, ap, ◌∙◌, subst, arith, ◌&&◌}
 use Rattle.std.proofs.lemmas.Bool.{and_parts, and_from, cases_lt, leb-true, lt-ltb, eq-eqb}
 use Rattle.std.proofs.lemmas.List.{length-map}
 use Rattle.wire.specs.Messages.{NewViewData, ViewChangeData, CheckpointEntryData as CheckpointEntry}
@@ -9,7 +9,7 @@ use Rattle.wire.specs.Spelling.{IsBatch, IsDigest, IsNewView}
 use Rattle.wire.specs.Lists.{Each}
 use Rattle.protocol.specs.System.Configuration.{Configuration, replicas, span}
 use Rattle.protocol.specs.System.Trace.{Has}
-use Rattle.protocol.specs.Replica.Selection.{ascending, changes_of, count_in, is_quorum, is_weak_quorum, list_of, may_select, passes_by, signed_change}
+use Rattle.protocol.specs.Replica.Selection.{ascending, changes_of, count_in, is_quorum, is_weak_quorum, list_of, may_select, passes_by}
 use Rattle.protocol.proofs.Agreement.Marks.{largest_of-le}
 use Rattle.protocol.proofs.Words.Lists.{change_there, passes_change, some_below}
 use Rattle.view_change.specs.ReceivedData.{HeldData, IsHeldSet, frames_for, held_for, pairs_for}

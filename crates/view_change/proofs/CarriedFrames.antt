@@ -1,14 +1,12 @@
 -- What signed view changes are as frames that a new view carries.
-use Rattle.std.specs.Prelude.{nat_lt, slice_index, IsTrue}
+use Rattle.std.specs.Prelude.{slice_index, IsTrue}
 use Rattle.std.specs.Int.{w16, w32, to_be_bytes}
-use Rattle.std.proofs.Common.{◌≡◌, ℕ, ◌+◌, ◌*◌, ◌^◌, ◌<◌, Bool, true, List, [], ◌∷◌, ◌++◌, length, refl, sym, ap, ap₂, ◌∙◌, subst, arith}
-use Rattle.std.proofs.lemmas.Bool.{lt-ltb}
+use Rattle.std.proofs.Common.{◌≡◌, ℕ, ◌+◌, ◌*◌, ◌^◌, ◌<◌, List, ◌∷◌, ◌++◌, length, refl, sym, ap, ◌∙◌, subst, arith}
 use Rattle.wire.specs.Messages.{MessageData as Message, FrameData as Frame, ViewChangeData, view_change as ViewChange}
-use Rattle.wire.specs.Spelling.{body_spelling, frame_spelling, authenticator_spelling, fields_spelling, message_type, IsCarried, IsMessage, IsPlain, is_view_change, sender_before, sender_in, SpellsFrame}
+use Rattle.wire.specs.Spelling.{body_spelling, frame_spelling, authenticator_spelling, fields_spelling, message_type, IsCarried, IsMessage, IsPlain, is_view_change, sender_in}
 use Rattle.wire.proofs.Carrying.{sender_there}
 use Rattle.protocol.specs.System.Configuration.{Configuration}
-use Rattle.protocol.specs.Replica.Selection.{signed_change}
-use Rattle.view_change.proofs.Opening.{IsChangeFrame, signed_is}
+use Rattle.view_change.proofs.Opening.{IsChangeFrame}
 
 plain_of : (m : Message) (vc : ViewChangeData) → m ≡ ViewChange vc → IsMessage m → IsPlain m
 plain_of m vc is = let P : Message → Type 0 = λ x. IsMessage x → IsPlain x in subst P (sym is) (λ h. h)

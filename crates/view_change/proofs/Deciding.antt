@@ -1,6 +1,6 @@
 -- What was opened and tested decides whether a new view is refused.
-use Rattle.std.specs.Prelude.{◌==◌, if◌then◌else◌}
-use Rattle.std.proofs.Common.{◌≡◌, ℕ, suc, ◌<◌, inl, inr, Bool, true, false, cond, not, List, [], ◌∷◌, ◌++◌, length, map, Option, Some, None, Vec, refl, sym, ap, ◌∙◌, subst, arith, ◌&&◌, eq-eqb}
+use Rattle.std.specs.Prelude.{if◌then◌else◌}
+use Rattle.std.proofs.Common.{◌≡◌, ℕ, ◌<◌, inl, inr, Bool, true, false, not, List, [], ◌∷◌, ◌++◌, length, map, Option, Some, None, Vec, refl, sym, ap, ◌∙◌, subst, arith, ◌&&◌, eq-eqb}
 use Rattle.std.specs.declared.alloc.Global.{Global}
 use Rattle.std.proofs.lemmas.Bool.{and_parts, and_from, ne_eqb}
 use Rattle.std.proofs.lemmas.List.{length-map}
@@ -10,7 +10,6 @@ use Rattle.protocol.specs.Replica.Selection.{is_quorum, list_of, signed_change, 
 use Rattle.protocol.proofs.Words.Lists.{no_longer}
 use Rattle.wire.specs.Messages.{NewViewData, ViewChangeData}
 use Rattle.view_change.specs.declared.changes.Change.{Change}
-use Rattle.view_change.specs.declared.fault.NewViewFault.{NewViewFault}
 use Rattle.view_change.specs.declared.fault.NewViewFault.TheVariants.{BadSignature, TooFew, NotSelected}
 use Rattle.view_change.specs.Checking.{refusal_by_rules}
 use Rattle.view_change.specs.Refusing.{passes, refusal_over}

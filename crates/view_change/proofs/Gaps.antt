@@ -1,7 +1,7 @@
 -- Where nothing can stand at a number of the range, nothing is selected; and a start is listed.
 use Rattle.std.specs.List.{list_any}
 use Rattle.std.specs.Prelude.{◌==◌, nat_le}
-use Rattle.std.proofs.Common.{◌≡◌, ℕ, zero, suc, ◌+◌, ◌-◌, inl, inr, Bool, true, false, List, [], ◌∷◌, slice_get, bytes_eq, Some, sym, subst, arith, ◌&&◌, eqb-true}
+use Rattle.std.proofs.Common.{◌≡◌, ℕ, zero, suc, ◌+◌, ◌-◌, inl, inr, Bool, true, List, [], ◌∷◌, slice_get, bytes_eq, Some, sym, subst, arith, ◌&&◌, eqb-true}
 use Rattle.std.proofs.lemmas.Bool.{and_parts, lt-ltb, leb-true, false_from_ne_true}
 use Rattle.std.proofs.lemmas.Slice.Eq.{bytes_eq-Decides}
 use Rattle.protocol.specs.System.Configuration.{Configuration, replicas}

@@ -1,10 +1,9 @@
 -- The view changes that are held, one at each sender's place.
-use Rattle.std.specs.Prelude.{◌==◌, nat_lt, not, min, option_and_then, option_map, is_some, MatchOption, slice_get, slice_set, bytes_eq}
+use Rattle.std.specs.Prelude.{◌==◌, nat_lt, not, min, option_map, is_some, MatchOption, slice_set, bytes_eq}
 use Rattle.std.proofs.Common.{◌≡◌, ◌≢◌, ℕ, zero, suc, ◌+◌, ◌*◌, ◌≤◌, ◌<◌, ◌⊎◌, inl, inr, Bool, true, false, cond, List, [], ◌∷◌, ◌++◌, length, map, replicate, drop, get_or, Option, Some, None, refl, sym, ap, ap₂, ◌∙◌, subst, arith, append_assoc, append-nil, eq-eqb, ne_eqb, ◌&&◌}
 use Rattle.std.specs.Bool.{⊤}
-use Rattle.std.specs.List.{list_all}
 use Rattle.std.specs.Option.{option_map_or}
-use Rattle.std.proofs.lemmas.Bool.{and_parts, and_from, lt-ltb, ltb-true, cases_lt}
+use Rattle.std.proofs.lemmas.Bool.{and_from, lt-ltb, cases_lt}
 use Rattle.std.proofs.lemmas.Option.{same_Some}
 use Rattle.std.proofs.lemmas.Slice.Eq.{bytes_eq-Decides}
 use Rattle.std.proofs.lemmas.List.{map-append, length-replicate, length-set, at_drop_more, at_drop_all}
@@ -12,9 +11,8 @@ use Rattle.wire.specs.Lists.{Each, ascends, leads}
 use Rattle.wire.specs.Messages.{ViewChangeData}
 use Rattle.wire.specs.Spelling.{IsCarried, is_view_change, sender_before, sender_in}
 use Rattle.protocol.specs.System.Trace.{Has}
-use Rattle.protocol.specs.System.Configuration.{Configuration, members, replicas}
+use Rattle.protocol.specs.System.Configuration.{Configuration}
 use Rattle.protocol.specs.Replica.Selection.{ascending, is_within, signed_change}
-use Rattle.view_change.specs.declared.change_fault.ChangeFault.{ChangeFault}
 use Rattle.view_change.specs.declared.change_fault.ChangeFault.TheVariants.{WrongView, OutOfBounds, Duplicate}
 use Rattle.view_change.specs.ReceivedData.{HeldData, held_for, held_of, pairs_for, frames_for, refusal_of, with_held, IsHeldAt, AreHeldFrom, IsHeldSet, IsJoined}
 use Rattle.view_change.specs.Finding.{frame_in, lesser, least_of}
@@ -22,7 +20,7 @@ use Rattle.view_change.specs.ReceivedView.{AreReceived, ReceivedState, configura
 use Rattle.view_change.specs.Selecting.{are_for}
 use Rattle.view_change.specs.Sets.{sized}
 use Rattle.view_change.proofs.CarriedFrames.{carried_of, sender_is}
-use Rattle.view_change.proofs.Opening.{IsChangeFrame, signed_is}
+use Rattle.view_change.proofs.Opening.{signed_is}
 
 -- ---- none yet
 

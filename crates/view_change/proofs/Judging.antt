@@ -1,20 +1,17 @@
 -- What is refused, and what is taken.
 use Rattle.std.specs.Prelude.{◌==◌, nat_lt, not, if◌then◌else◌}
 use Rattle.std.specs.Option.{option_map_or}
-use Rattle.std.proofs.Common.{◌≡◌, ℕ, ◌<◌, Bool, true, false, List, Option, Some, None, refl, ◌&&◌}
+use Rattle.std.proofs.Common.{◌≡◌, ℕ, ◌<◌, Bool, true, false, Option, Some, None, refl}
 use Rattle.std.proofs.lemmas.Bool.{and_parts, and_from, lt-ltb, ltb-true}
 use Rattle.std.proofs.lemmas.Option.{same_Some}
-use Rattle.wire.specs.Messages.{NewViewData, ViewChangeData}
+use Rattle.wire.specs.Messages.{NewViewData}
 use Rattle.protocol.specs.System.Configuration.{Configuration, primary}
 use Rattle.protocol.specs.Replica.Certificates.{is_later}
-use Rattle.protocol.specs.Replica.Selection.{all_signed, are_enough, changes_of, is_within, may_select}
-use Rattle.view_change.specs.declared.change_fault.ChangeFault.{ChangeFault}
+use Rattle.protocol.specs.Replica.Selection.{all_signed, are_enough, is_within, may_select}
 use Rattle.view_change.specs.declared.change_fault.ChangeFault.TheVariants as changes
-use Rattle.view_change.specs.declared.fault.NewViewFault.{NewViewFault}
 use Rattle.view_change.specs.declared.fault.NewViewFault.TheVariants as views
 use Rattle.view_change.specs.Laws.{NewViewsAreJudged, ChangesAreJudged}
 use Rattle.view_change.specs.ReceivedData.{HeldData, held_of}
-use Rattle.view_change.specs.Selecting.{is_set_for}
 use Rattle.view_change.proofs.Larger.{selects_by_set}
 
 -- ---- new views

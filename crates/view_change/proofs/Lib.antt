@@ -10,7 +10,6 @@ mod Judging
 pub mod Keeping
 mod Larger
 mod Mapped
-mod Noting
 pub mod Opening
 mod Placing
 mod Ranking

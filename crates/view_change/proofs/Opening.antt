@@ -1,6 +1,6 @@
 -- What a carried frame tells: the view change that it spells, where its sender signed it.
 use Rattle.std.specs.Prelude.{option_and_then, if◌then◌else◌}
-use Rattle.std.proofs.Common.{◌≡◌, ℕ, ◌<◌, Bool, true, false, List, Option, Some, None, refl, sym, ap, ◌∙◌, subst, arith, ◌&&◌}
+use Rattle.std.proofs.Common.{◌≡◌, ℕ, ◌<◌, Bool, true, false, List, Option, Some, None, refl, sym, ap, ◌∙◌, arith, ◌&&◌}
 use Rattle.std.proofs.lemmas.Bool.{ltb-true}
 use Rattle.std.proofs.lemmas.Option.{some_pair_parts}
 use Rattle.wire.specs.Messages.{MessageData as Message, BodyData as Body, FrameData as Frame, ViewChangeData, view_change as ViewChange, new_view as NewView}

@@ -1,6 +1,6 @@
 -- A claim put in its place.
-use Rattle.std.specs.Prelude.{◌==◌, nat_le, nat_lt, filter}
-use Rattle.std.proofs.Common.{◌≡◌, ℕ, zero, suc, ◌+◌, ◌<◌, ◌≤◌, Bool, true, false, cond, List, [], ◌∷◌, ◌++◌, length, map, take, get_or, set, refl, sym, ap, ◌∙◌, subst, arith, ◌||◌}
+use Rattle.std.specs.Prelude.{nat_le, nat_lt, filter}
+use Rattle.std.proofs.Common.{◌≡◌, ℕ, zero, suc, ◌+◌, ◌<◌, ◌≤◌, Bool, true, false, cond, List, [], ◌∷◌, ◌++◌, length, map, take, get_or, set, refl, sym, ap, ◌∙◌, arith}
 use Rattle.std.specs.List.{insert}
 use Rattle.std.proofs.Math.Seq.{take-suc}
 use Rattle.std.proofs.lemmas.List.{map-append}
@@ -9,7 +9,7 @@ use Rattle.view_change.specs.declared.claim.Claim.{Claim}
 use Rattle.view_change.specs.declared.claim.ClaimOrder.{ClaimOrder}
 use Rattle.view_change.specs.ClaimsView.{claim_data, claims_of}
 use Rattle.view_change.specs.Places.{before_by, same_by, with_claim_by, place_in, same_at}
-use Rattle.view_change.specs.Recording.{later_of, above_mark}
+use Rattle.view_change.specs.Recording.{above_mark}
 
 pub inserted : (order : ClaimOrder) (k : Claim) (xs : List Claim) → same_at order (claim_data k) (place_in order (claim_data k) (claims_of xs)) (claims_of xs) ≡ false
     → claims_of (insert xs (place_in order (claim_data k) (claims_of xs)) k) ≡ with_claim_by order (claim_data k) (claims_of xs)

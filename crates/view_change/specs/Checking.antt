@@ -1,6 +1,6 @@
 -- Why a new view is refused (Castro and Liskov, Practical Byzantine fault tolerance and proactive recovery, TOCS 2002,
 -- on view changes).
-use Rattle.std.specs.Prelude.{ℕ, Bool, ◌&&◌, not, ◌==◌, if◌then◌else◌, Option, Some, None}
+use Rattle.std.specs.Prelude.{ℕ, not, ◌==◌, if◌then◌else◌, Option, Some, None}
 use Rattle.protocol.specs.System.Configuration.{Configuration, primary}
 use Rattle.protocol.specs.Replica.Certificates.{is_later}
 use Rattle.protocol.specs.Replica.Selection.{all_signed, are_enough, may_select}

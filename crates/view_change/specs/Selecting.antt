@@ -5,7 +5,7 @@ use Rattle.std.specs.Prelude.{◌≡◌, ℕ, suc, ◌+◌, ◌-◌, ◌<◌, Bo
 use Rattle.std.specs.List.{list_all, list_any}
 use Rattle.protocol.specs.System.Configuration.{Configuration, span}
 use Rattle.protocol.specs.System.Trace.{Has}
-use Rattle.protocol.specs.Replica.Selection.{is_quorum, count_in, ascending, is_within, is_start, may_stand_at, may_stand, may_all_stand, largest_of, null_batch}
+use Rattle.protocol.specs.Replica.Selection.{is_quorum, count_in, ascending, is_within, is_start, may_stand_at, may_all_stand, largest_of, null_batch}
 use Rattle.sha2.specs.Sha256.{sha256}
 use Rattle.wire.specs.Lists.{Each}
 use Rattle.wire.specs.Spelling.{bytes_before}

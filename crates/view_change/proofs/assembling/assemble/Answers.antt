@@ -1,12 +1,10 @@
 use Rattle.std.proofs.Common.{◌≡◌, true, List, ℕ, sym, ap, ap₂, ◌∙◌, subst, rules}
-use Rattle.std.specs.declared.alloc.Global.{Global}
-use Rattle.std.specs.declared.sync.Arc.{Arc}
 use Rattle.protocol.specs.Replica.Selection.{may_select}
 use Rattle.wire.specs.Messages.{NewViewData}
 use Rattle.wire.specs.Spelling.{IsNewView}
 use Rattle.view_change.specs.ReceivedView.{configuration_of}
 use Rattle.view_change.specs.Sets.{texts_of}
-use Rattle.view_change.proofs.Assembled.{assembled, right, said}
+use Rattle.view_change.proofs.Assembled.{right, said}
 use Rattle.view_change.proofs.assembling.assemble.Goals as goal
 
 pub returns-clause-right : goal.returns-clause-right

@@ -1,4 +1,4 @@
-use Rattle.std.proofs.Common.{◌≡◌, ◌+◌, true, false, drop, refl, sym, ap, ap₂, ◌∙◌, subst, arith, ◌||◌}
+use Rattle.std.proofs.Common.{◌≡◌, ◌+◌, false, drop, refl, sym, ap, ap₂, ◌∙◌, subst, arith}
 use Rattle.std.specs.Arc.{arc_value}
 use Rattle.std.proofs.lemmas.Bool.{or_left, or_right, or_from}
 use Rattle.std.proofs.lemmas.List.{drop_all}

@@ -1,5 +1,5 @@
 use Rattle.std.specs.Prelude.{IsTrue}
-use Rattle.std.proofs.Common.{List, length, map, sym, subst, arith, rules}
+use Rattle.std.proofs.Common.{List, map, sym, subst, arith, rules}
 use Rattle.std.proofs.lemmas.List.{length-map}
 use Rattle.wire.specs.Lists.{Each, ascends}
 use Rattle.wire.specs.Messages.{BatchEntryData}

@@ -1,5 +1,4 @@
-use Rattle.std.proofs.Common.{◌+◌, ◌*◌, List, None, Option, replicate, refl, ap, ◌∙◌}
-use Rattle.view_change.specs.declared.changes.SignedChange.{SignedChange}
+use Rattle.std.proofs.Common.{◌+◌, ◌*◌, List, Option, refl, ap, ◌∙◌}
 use Rattle.view_change.specs.ReceivedData.{HeldData}
 use Rattle.view_change.specs.ReceivedView.{ReceivedState, held_by}
 use Rattle.view_change.proofs.Holding.{no_held, none_received}
