@@ -133,9 +133,6 @@ pub record FillsTo (c : Configuration) (view : ℕ) (set : List (ℕ × ViewChan
   pub from : AreFrom texts batches
   pub first : AreFirst c set texts (suc start) batches
 
-pub fills_none : (c : Configuration) (view : ℕ) (set : List (ℕ × ViewChangeData)) (texts : List (List ℕ)) (start : ℕ) → FillsTo c view set texts start start []
-fills_none c view set texts start = record { long = omega arith; stand = refl; from = tt; first = tt }
-
 length_more : (xs : List (List ℕ)) (y : List ℕ) → length (xs ++ y ∷ []) ≡ suc (length xs)
 length_more [] y = refl
 length_more (x ∷ xs) y = ap suc (length_more xs y)

@@ -1,6 +1,6 @@
 -- The view changes that are held, one at each sender's place.
 use Rattle.std.specs.Prelude.{◌==◌, nat_lt, not, min, option_map, is_some, MatchOption, slice_set, bytes_eq}
-use Rattle.std.proofs.Common.{◌≡◌, ◌≢◌, ℕ, zero, suc, ◌+◌, ◌*◌, ◌≤◌, ◌<◌, ◌⊎◌, inl, inr, Bool, true, false, cond, List, [], ◌∷◌, ◌++◌, length, map, replicate, drop, get_or, Option, Some, None, refl, sym, ap, ap₂, ◌∙◌, subst, arith, append_assoc, append-nil, eq-eqb, ne_eqb, ◌&&◌}
+use Rattle.std.proofs.Common.{◌≡◌, ℕ, zero, suc, ◌+◌, ◌*◌, ◌≤◌, ◌<◌, ◌⊎◌, inl, inr, Bool, true, false, cond, List, [], ◌∷◌, ◌++◌, length, map, replicate, drop, get_or, Option, Some, None, refl, sym, ap, ap₂, ◌∙◌, subst, arith, append_assoc, append-nil, ◌&&◌}
 use Rattle.std.specs.Bool.{⊤}
 use Rattle.std.specs.Option.{option_map_or}
 use Rattle.std.proofs.lemmas.Bool.{and_from, lt-ltb, cases_lt}
@@ -84,19 +84,6 @@ pairs_then view o rest =
 
 pub frames_then : (view : ℕ) (o : Option HeldData) (rest : List (Option HeldData)) → frames_for view (o ∷ rest) ≡ frames_for view (o ∷ []) ++ frames_for view rest
 frames_then view o rest = ap (map (λ (h : HeldData). h.frame)) (held_then view o rest) ∙ map-append (λ (h : HeldData). h.frame) (held_for view (o ∷ [])) (held_for view rest)
-
-not_for : (view : ℕ) (h : HeldData) → h.change.view ≢ view → held_for view (Some h ∷ []) ≡ []
-not_for view h other = rw (ne_eqb h.change.view view other) refl
-
-is_for : (view : ℕ) (h : HeldData) → h.change.view ≡ view → held_for view (Some h ∷ []) ≡ h ∷ []
-is_for view h is = rw (eq-eqb h.change.view view is) refl
-
--- one of another view adds nothing, one of the view itself
-pub none_more : {A : Type 0} (f : HeldData → A) (view : ℕ) (h : HeldData) (old : List A) → h.change.view ≢ view → old ≡ old ++ map f (held_for view (Some h ∷ []))
-none_more f view h old other = sym (append-nil old) ∙ ap (λ (hs : List HeldData). old ++ map f hs) (sym (not_for view h other))
-
-pub one_more : {A : Type 0} (f : HeldData → A) (view : ℕ) (h : HeldData) (old new : List A) → h.change.view ≡ view → new ≡ old ++ f h ∷ [] → new ≡ old ++ map f (held_for view (Some h ∷ []))
-one_more f view h old new is more = more ∙ ap (λ (hs : List HeldData). old ++ map f hs) (sym (is_for view h is))
 
 -- each is of this sender or of one behind it
 abbrev StartsAt : ℕ → List (ℕ × ViewChangeData) → Type 0

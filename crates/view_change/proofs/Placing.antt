@@ -1,9 +1,7 @@
 -- A claim put in its place.
 use Rattle.std.specs.Prelude.{nat_le, nat_lt, filter}
-use Rattle.std.proofs.Common.{◌≡◌, ℕ, zero, suc, ◌+◌, ◌<◌, ◌≤◌, Bool, true, false, cond, List, [], ◌∷◌, ◌++◌, length, map, take, get_or, set, refl, sym, ap, ◌∙◌, arith}
+use Rattle.std.proofs.Common.{◌≡◌, ℕ, zero, suc, ◌<◌, ◌≤◌, Bool, true, false, cond, List, [], ◌∷◌, length, get_or, set, refl, ap, arith}
 use Rattle.std.specs.List.{insert}
-use Rattle.std.proofs.Math.Seq.{take-suc}
-use Rattle.std.proofs.lemmas.List.{map-append}
 use Rattle.wire.specs.Messages.{BatchEntryData}
 use Rattle.view_change.specs.declared.claim.Claim.{Claim}
 use Rattle.view_change.specs.declared.claim.ClaimOrder.{ClaimOrder}
@@ -91,15 +89,3 @@ cut_is low (x ∷ xs) = go (nat_lt low x.entry.number.0) (cut_is low xs)
         → claims_of (cond b (x ∷ filter (λ y. nat_lt low y.entry.number.0) xs) (filter (λ y. nat_lt low y.entry.number.0) xs)) ≡ cond b (claim_data x ∷ above_mark low (claims_of xs)) (above_mark low (claims_of xs))
     go true h = ap (λ (ys : List BatchEntryData). claim_data x ∷ ys) h
     go false h = h
-
--- ---- copies of a list
-
--- one more of them, as it is seen
-pub next_of : {A B : Type 0} (view : A → B) (xs : List A) (i : ℕ) (x : A) (front : List B) → i < length xs → get_or xs i x ≡ x → front ≡ map view (take i xs)
-    → front ++ view x ∷ [] ≡ map view (take (i + 1) xs)
-next_of view xs i x front l at so =
-    ap (λ ys. ys ++ view x ∷ []) so ∙ ap (λ y. map view (take i xs) ++ view y ∷ []) (sym at) ∙ sym (map-append view (take i xs) (get_or xs i x ∷ []))
-    ∙ ap (map view) (sym (take-suc xs i x l)) ∙ ap (λ (n : ℕ). map view (take n xs)) (one_more i)
-  where
-    one_more : (n : ℕ) → suc n ≡ n + 1
-    one_more n = omega arith
