@@ -1,0 +1,17 @@
+mod Assembled
+pub mod CarriedFrames
+mod Chosen
+mod Claiming
+mod KeptClaims
+mod Deciding
+mod Gaps
+mod Holding
+mod Judging
+pub mod Keeping
+mod Larger
+mod Mapped
+pub mod Opening
+mod Placing
+mod Ranking
+mod Sizing
+mod Starting

@@ -1,0 +1,89 @@
+-- What is proved of selecting.
+use Rattle.std.specs.Prelude.{◌≡◌, ◌↔◌, ℕ, ◌+◌, ◌≤◌, ◌<◌, ◌==◌, ◌&&◌, true, false, List, Option, Some, None}
+use Rattle.protocol.specs.System.Configuration.{Configuration, primary}
+use Rattle.protocol.specs.System.Trace.{Has}
+use Rattle.protocol.specs.Replica.Certificates.{is_later}
+use Rattle.protocol.specs.Replica.Selection.{ascending, changes_of, all_signed, is_within, may_stand_at, is_some_below, may_stand, may_select, signed_change}
+use Rattle.wire.specs.Messages.{ViewChangeData, NewViewData, CheckpointEntryData as CheckpointEntry}
+use Rattle.view_change.specs.Checking.{refusal}
+use Rattle.view_change.specs.ReceivedData.{HeldData, held_of, refusal_of}
+use Rattle.view_change.specs.Selecting.{is_set_for, are_for, meets, how_many_from, IsPart, IsFrom, AreFrom, stands_by_entry}
+
+-- A new view is selected exactly where its view changes are signed, are a set for it, and its start and batches meet the
+-- rules over them.
+abbrev pub SelectsBySet : Type 0
+SelectsBySet =
+    (c : Configuration) (new : NewViewData)
+    → (may_select c new ≡ true) ↔ ((all_signed c new ≡ true) × (is_set_for c new.view (changes_of c new) ≡ true)
+    × (meets c new.view (changes_of c new) new.start new.root new.batches ≡ true))
+
+-- A larger set allows the same start, and the same batches with null batches behind them.
+abbrev pub LargerSetsAllow : Type 0
+LargerSetsAllow =
+    (c : Configuration) (view start : ℕ) (root : List ℕ) (small large : List (ℕ × ViewChangeData))
+    (texts batches : List (List ℕ))
+    → IsPart small large → ascending small ≡ true → ascending large ≡ true → AreFrom texts batches
+    → meets c view small start root batches ≡ true
+    → (more : List (List ℕ)) × AreFrom texts more × (meets c view large start root more ≡ true)
+
+-- To find the view by which a digest may stand it is enough to look at the entries for it.
+abbrev pub EntriesDecide : Type 0
+EntriesDecide =
+    (c : Configuration) (view number : ℕ) (digest : List ℕ) (set : List (ℕ × ViewChangeData))
+    → are_for view set c ≡ true
+    → is_some_below (may_stand_at c set number digest) view ≡ stands_by_entry c set number digest set
+
+-- Where nothing that is there may stand at a number behind a start, nothing is selected from that start.
+abbrev pub GapsForbid : Type 0
+GapsForbid =
+    (c : Configuration) (view start number : ℕ) (root : List ℕ) (set : List (ℕ × ViewChangeData))
+    (texts batches : List (List ℕ))
+    → start < number → number ≤ start + how_many_from c set start
+    → ((batch : List ℕ) → IsFrom texts batch → may_stand c view set number batch ≡ false)
+    → AreFrom texts batches → meets c view set start root batches ≡ false
+
+-- A start is listed by some view change of the set.
+abbrev pub StartsAreListed : Type 0
+StartsAreListed =
+    (c : Configuration) (view start : ℕ) (root : List ℕ) (set : List (ℕ × ViewChangeData)) (batches : List (List ℕ))
+    → meets c view set start root batches ≡ true
+    → Has (λ x. Has (λ (checkpoint : CheckpointEntry). (checkpoint.number ≡ start) × (checkpoint.digest ≡ root))
+    x.1.checkpoints) set
+
+-- The configurations have one seed and one size.
+pub record AreAlike (c d : Configuration) : Type 0 where
+  pub seed : c.seed ≡ d.seed
+  pub faults : c.faults ≡ d.faults
+  pub period : c.period ≡ d.period
+
+-- By both the same is signed, within its bounds, a set for a view, selected, taken, and refused.
+pub record HaveOneRule (c d : Configuration) : Type 0 where
+  pub signed : (bytes : List ℕ) → signed_change c bytes ≡ signed_change d bytes
+  pub within : (vc : ViewChangeData) → is_within c vc ≡ is_within d vc
+  pub sets : (view : ℕ) (set : List (ℕ × ViewChangeData)) → are_for view set c ≡ are_for view set d
+  pub meet : (view : ℕ) (set : List (ℕ × ViewChangeData)) (start : ℕ) (root : List ℕ) (batches : List (List ℕ))
+      → meets c view set start root batches ≡ meets d view set start root batches
+  pub selected : (new : NewViewData) → may_select c new ≡ may_select d new
+  pub refused : (view target sender : ℕ) (new : NewViewData)
+      → refusal c view target sender new ≡ refusal d view target sender new
+  pub untaken : (view : ℕ) (held : List (Option HeldData)) (x : ℕ × ViewChangeData)
+      → refusal_of c view held x ≡ refusal_of d view held x
+
+-- Of a configuration the rules use the seed and the two sizes alone.
+abbrev pub SizesDecide : Type 0
+SizesDecide = (c d : Configuration) → AreAlike c d → HaveOneRule c d
+
+-- A new view is taken exactly where it is by its primary, meets the rules, and is of a later view.
+abbrev pub NewViewsAreJudged : Type 0
+NewViewsAreJudged =
+    (c : Configuration) (view target sender : ℕ) (new : NewViewData)
+    → (refusal c view target sender new ≡ None)
+    ↔ ((((sender == primary c new.view) && may_select c new) ≡ true) × (is_later view target new ≡ true))
+
+-- A view change is taken exactly where it is above the view, within its bounds, and newer than its sender's last.
+abbrev pub ChangesAreJudged : Type 0
+ChangesAreJudged =
+    (c : Configuration) (view : ℕ) (held : List (Option HeldData)) (x : ℕ × ViewChangeData)
+    → (refusal_of c view held x ≡ None)
+    ↔ ((view < x.1.view) × (is_within c x.1 ≡ true)
+    × ((h : HeldData) → held_of held x.0 ≡ Some h → h.change.view < x.1.view))

@@ -1,0 +1,60 @@
+-- What the types of the program stand for: a set of view changes, the sizes of a configuration, and batches.
+use Rattle.std.specs.Prelude.{ℕ, Bool, true, ◌&&◌, not, List, [], map, nat_lt, nat_le, ◌==◌, bytes_eq, Option, Some, Vec}
+use Rattle.std.specs.Arc.{arc_value}
+use Rattle.std.specs.List.{list_all, list_any}
+use Rattle.std.specs.declared.alloc.Global.{Global}
+use Rattle.std.specs.declared.sync.Arc.{Arc}
+use Rattle.protocol.specs.System.Configuration.{Configuration}
+use Rattle.protocol.specs.Replica.Selection.{agrees, vouches, signed_change}
+use Rattle.wire.specs.Messages.{ViewChangeData}
+use Rattle.wire.specs.Views.{view_change_data}
+use Rattle.view_change.specs.declared.changes.Sizes.{Sizes}
+use Rattle.view_change.specs.declared.changes.Change.{Change}
+use Rattle.view_change.specs.declared.changes.Rule.{Rule}
+use Rattle.view_change.specs.declared.changes.Rule.TheVariants as rules
+
+-- a configuration of these sizes, with the seed of the keys; the rules speak of nothing else of it
+abbrev pub keyed : List ℕ → Sizes → Configuration
+keyed seed s =
+    record {
+      faults = s.faults;
+      clients = 1;
+      seed = seed;
+      period = s.period;
+      faulty_replicas = [];
+      faulty_clients = [];
+    }
+
+-- where no key matters
+abbrev pub sized : Sizes → Configuration
+sized s = keyed [] s
+
+-- a view change with its sender
+abbrev pub change_pair : Change → ℕ × ViewChangeData
+change_pair x = (x.sender.0, view_change_data x.change)
+
+abbrev pub pairs : List Change → List (ℕ × ViewChangeData)
+pairs xs = map change_pair xs
+
+-- what a view change is asked
+abbrev pub test_of : Rule → ViewChangeData → Bool
+test_of rules.Any vc = true
+test_of (rules.LowAtMost start) vc = nat_le vc.low start.0
+test_of (rules.Lists number digest) vc =
+    list_any (λ checkpoint. (checkpoint.number == number.0) && bytes_eq checkpoint.digest digest) vc.checkpoints
+test_of (rules.Agrees number view digest) vc = nat_lt vc.low number.0 && agrees number.0 view digest vc
+test_of (rules.Vouches number view digest) vc = vouches number.0 view digest vc
+test_of (rules.Nothing number) vc =
+    nat_lt vc.low number.0 && list_all (λ batch_entry. not (batch_entry.number == number.0)) vc.prepared
+
+-- the texts of batches
+abbrev pub texts_of : List (Arc (List ℕ) Global) → List (List ℕ)
+texts_of batches = map arc_value batches
+
+-- what carried frames are, each a signed view change or none
+abbrev pub signed_changes : Configuration → List (Vec ℕ Global) → List (Option (ℕ × ViewChangeData))
+signed_changes c frames = map (signed_change c) (map (λ frame. frame.items) frames)
+
+-- each of these, as given
+abbrev pub given : List (ℕ × ViewChangeData) → List (Option (ℕ × ViewChangeData))
+given xs = map Some xs

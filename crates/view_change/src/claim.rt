@@ -1,0 +1,24 @@
+//! A claim of a replica: a batch that it prepared or logged for a number.
+
+ghost use Rattle.std.specs.Prelude.{◌≡◌};
+ghost use Rattle.std.specs.Arc.{arc_value};
+ghost use Rattle.sha2.specs.Sha256.{sha256};
+
+use ordering::HashedBatch;
+use std::sync::Arc;
+use wire::BatchEntry;
+
+/// A batch that a replica prepared or logged for a number, with what its view changes say of it.
+#[derive(Drop)]
+pub(crate) struct Claim {
+    pub(crate) entry: BatchEntry,
+    pub(crate) batch: Arc<HashedBatch>,
+    ghost named: { entry.digest ≡ sha256 (arc_value batch) },
+}
+
+/// What tells claims of one list apart, and orders them: the number, or the number and then the digest.
+#[derive(Clone, Copy, Drop)]
+pub(crate) enum ClaimOrder {
+    Number,
+    NumberAndDigest,
+}

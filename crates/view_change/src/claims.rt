@@ -1,0 +1,243 @@
+//! What a replica keeps for its own view changes.
+
+ghost use Rattle.std.specs.Prelude.{◌≡◌, ◌∷◌, ◌≤◌, filter, length, map, nat_lt, IfOk, OnOk, OnErr, IsTrue};
+ghost use Rattle.std.specs.Arc.{arc_value};
+ghost use Rattle.sha2.specs.Sha256.{sha256};
+ghost use Rattle.wire.specs.Lists.{Each, ascends};
+ghost use Rattle.wire.specs.Spelling.{batch_entry_before, named_before};
+ghost use Rattle.wire.specs.Views.{batch_entry_data};
+ghost use Rattle.view_change.specs.ClaimsView as spec;
+ghost use Rattle.view_change.specs.ClaimsView.{claims_of, digests_of, texts_in, IsAmong};
+ghost use Rattle.view_change.specs.Places as places;
+ghost use Rattle.view_change.specs.Recording as recording;
+ghost use Rattle.view_change.specs.Sets.{texts_of};
+
+use crate::choosing::is_less;
+use crate::claim::{Claim, ClaimOrder};
+use ordering::HashedBatch;
+use std::alloc::Global;
+use std::marker::Model;
+use std::sync::Arc;
+use terms::{NoMemory, Number, View};
+use wire::BatchEntry;
+
+/// What a replica keeps of what it prepared and of what it logged, over all views, for the numbers within its marks:
+/// for each number the batch that was prepared in the latest view, and each batch that was logged, with the latest view
+/// in which it was. Both lists stand as a view change gives them, by number and then by digest, and each claim has its
+/// batch.
+///
+/// There are at most as many prepared claims as numbers within the marks, 32, and at most one logged claim for each of
+/// them and each view in which the replica was active. A liar can't make these views many: a replica becomes active in a
+/// later view by a new view alone, which carries the signed view changes for it of 2f + 1 replicas, so of f + 1 correct
+/// ones, and each of those signs 64 messages in all. So among 3f + 1 replicas there are fewer than 192 new views, and at
+/// most 193 * 32 logged claims, whatever a liar sends.
+#[derive(Drop)]
+pub struct Claims {
+    prepared: Vec<Claim>,
+    logged: Vec<Claim>,
+}
+
+impl Model for Claims {
+    ghost use Rattle.view_change.specs.ClaimsView.{ClaimsData, claims_data, AreClaims};
+
+    ghost Value = { ClaimsData };
+
+    ghost view = { claims_data };
+
+    ghost invariant = { λ c. AreClaims (claims_data c) };
+}
+
+impl Claims {
+    /// None yet.
+    pub fn new(alloc: Global) -> Claims
+        ensures { result ≡ spec.no_claims }
+    {
+        Claims {
+            prepared: Vec::new(alloc),
+            logged: Vec::new(alloc),
+        }
+    }
+
+    /// Notes that a batch is prepared in a view. Of a number the latest view is kept.
+    ///
+    /// # Errors
+    ///
+    /// NoMemory where memory runs out; nothing is noted then.
+    pub fn note_prepared(
+        &mut self,
+        number: Number,
+        view: View,
+        batch: Arc<HashedBatch>,
+    ) -> Result<(), NoMemory>
+        ensures ok { OnOk result (self.new ≡ record self.old {
+          prepared = recording.with_prepared (spec.claim_of number.0 view.0 (arc_value batch)) self.old.prepared;
+        }) }
+        ensures err { OnErr result (self.new ≡ self.old) }
+    {
+        add(
+            &mut self.prepared,
+            ClaimOrder::Number,
+            claim(number, view, batch),
+        )
+    }
+
+    /// Notes that a batch is logged in a view. Of a number and digest the latest view is kept.
+    ///
+    /// # Errors
+    ///
+    /// NoMemory where memory runs out; nothing is noted then.
+    pub fn note_logged(
+        &mut self,
+        number: Number,
+        view: View,
+        batch: Arc<HashedBatch>,
+    ) -> Result<(), NoMemory>
+        ensures logged { OnOk result (self.new.logged
+            ≡ recording.with_logged (spec.claim_of number.0 view.0 (arc_value batch)) self.old.logged) }
+        ensures prepared { OnOk result (self.new.prepared ≡ self.old.prepared) }
+        ensures texts { OnOk result (Each (IsAmong (arc_value batch ∷ self.old.texts)) self.new.texts) }
+        ensures err { OnErr result (self.new ≡ self.old) }
+    {
+        add(
+            &mut self.logged,
+            ClaimOrder::NumberAndDigest,
+            claim(number, view, batch),
+        )
+    }
+
+    /// Drops the claims of the numbers up to the low mark.
+    pub fn cut(&mut self, low: Number)
+        ensures prepared { self.new.prepared ≡ recording.above_mark low.0 self.old.prepared }
+        ensures logged { self.new.logged ≡ recording.above_mark low.0 self.old.logged }
+        ensures texts { Each (IsAmong self.old.texts) self.new.texts }
+    {
+        keep_above(&mut self.prepared, low);
+        keep_above(&mut self.logged, low);
+    }
+
+    /// The list of what was prepared, for a view change. The error is want of memory.
+    pub fn prepared(&self, alloc: Global) -> Result<Vec<BatchEntry>, NoMemory>
+        ensures are { IfOk result (λ entries. map batch_entry_data entries.items ≡ self.now.prepared) }
+        ensures order { IsTrue (ascends batch_entry_before self.now.prepared) }
+    {
+        entries(alloc, &self.prepared)
+    }
+
+    /// The list of what was logged, for a view change. The error is want of memory.
+    pub fn logged(&self, alloc: Global) -> Result<Vec<BatchEntry>, NoMemory>
+        ensures are { IfOk result (λ entries. map batch_entry_data entries.items ≡ self.now.logged) }
+        ensures order { IsTrue (ascends named_before self.now.logged) }
+    {
+        entries(alloc, &self.logged)
+    }
+
+    /// The batches that were logged, for a selection: one of the digest of each claim. The error is want of memory.
+    pub fn batches(&self, alloc: Global) -> Result<Vec<Arc<HashedBatch>>, NoMemory>
+        ensures are { IfOk result (λ batches. texts_of batches.items ≡ self.now.texts) }
+        ensures named { map sha256 self.now.texts ≡ digests_of self.now.logged }
+    {
+        batches(alloc, &self.logged)
+    }
+}
+
+fn claim(number: Number, view: View, batch: Arc<HashedBatch>) -> Claim
+    ensures claim { spec.claim_data result ≡ spec.claim_of number.0 view.0 (arc_value batch) }
+    ensures text { arc_value result.batch ≡ arc_value batch }
+{
+    let digest = batch.digest();
+    let entry = BatchEntry {
+        number,
+        digest,
+        view,
+    };
+    Claim { entry, batch }
+}
+
+fn comes_before(order: ClaimOrder, one: &BatchEntry, other: &BatchEntry) -> bool
+    ensures { result ≡ places.before_by order (batch_entry_data one.now) (batch_entry_data other.now) }
+{
+    match order {
+        ClaimOrder::Number => one.number.0 < other.number.0,
+        ClaimOrder::NumberAndDigest => {
+            one.number.0 < other.number.0
+                || (one.number.0 == other.number.0 && is_less(&one.digest, &other.digest))
+        }
+    }
+}
+
+fn names_same(order: ClaimOrder, one: &BatchEntry, other: &BatchEntry) -> bool
+    ensures { result ≡ places.same_by order (batch_entry_data one.now) (batch_entry_data other.now) }
+{
+    match order {
+        ClaimOrder::Number => one.number.0 == other.number.0,
+        ClaimOrder::NumberAndDigest => {
+            one.number.0 == other.number.0 && one.digest == other.digest
+        }
+    }
+}
+
+// Where a claim belongs: before the first that names the same or comes after.
+fn place_of(claims: &[Claim], order: ClaimOrder, entry: &BatchEntry) -> usize
+    ensures place { result ≡ places.place_in order (batch_entry_data entry.now) (claims_of claims.now) }
+    ensures within { result ≤ length claims.now }
+{
+    for (place, claim) in claims.iter().enumerate() {
+        if names_same(order, &claim.entry, entry) || comes_before(order, entry, &claim.entry) {
+            return place;
+        }
+    }
+    claims.len()
+}
+
+// Whether one that names the same stands at the place.
+fn is_same_at(claims: &[Claim], place: usize, order: ClaimOrder, entry: &BatchEntry) -> bool
+    ensures { result ≡ places.same_at order (batch_entry_data entry.now) place (claims_of claims.now) }
+{
+    place < claims.len() && names_same(order, &claims[place].entry, entry)
+}
+
+// Puts a claim in its place, where no later one names the same.
+fn add(claims: &mut Vec<Claim>, order: ClaimOrder, claim: Claim) -> Result<(), NoMemory>
+    ensures ok { OnOk result (claims_of claims.new.items
+        ≡ places.with_claim_by order (spec.claim_data claim) (claims_of claims.old.items)) }
+    ensures texts { OnOk result (Each (IsAmong (arc_value claim.batch ∷ texts_in claims.old.items))
+        (texts_in claims.new.items)) }
+    ensures err { OnErr result (claims.new.items ≡ claims.old.items) }
+{
+    let place = place_of(claims, order, &claim.entry);
+    if !is_same_at(claims, place, order, &claim.entry) {
+        claims.insert(place, claim)?;
+        return Ok(());
+    }
+    if claims[place].entry.view.0 <= claim.entry.view.0 {
+        claims[place] = claim;
+    }
+    Ok(())
+}
+
+fn keep_above(claims: &mut Vec<Claim>, low: Number)
+    ensures claims { claims_of claims.new.items ≡ recording.above_mark low.0 (claims_of claims.old.items) }
+    ensures texts { Each (IsAmong (texts_in claims.old.items)) (texts_in claims.new.items) }
+{
+    claims.retain(|claim| low.0 < claim.entry.number.0);
+}
+
+fn entries(alloc: Global, claims: &[Claim]) -> Result<Vec<BatchEntry>, NoMemory>
+    ensures { IfOk result (λ entries. map batch_entry_data entries.items ≡ claims_of claims.now) }
+{
+    let mut entries = Vec::with_capacity(alloc, claims.len())?;
+    for claim in claims {
+        entries.push(claim.entry)?;
+    }
+    Ok(entries)
+}
+
+fn batches(alloc: Global, claims: &[Claim]) -> Result<Vec<Arc<HashedBatch>>, NoMemory>
+    ensures { IfOk result (λ batches. texts_of batches.items ≡ texts_in claims.now) }
+{
+    let mut batches = Vec::with_capacity(alloc, claims.len())?;
+    for claim in claims {
+        batches.push(Arc::try_clone(&claim.batch)?)?;
+    }
+    Ok(batches)
+}

@@ -1,0 +1,49 @@
+//! What is known of the entries that the program holds.
+
+ghost use Rattle.std.specs.Prelude.{map};
+ghost use Rattle.wire.specs.Lists.{Each};
+ghost use Rattle.wire.specs.Spelling.{IsBatchEntry, IsCheckpointEntry, IsDigest};
+ghost use Rattle.wire.specs.Views.{batch_entry_data, checkpoint_entry_data};
+
+use terms::Digest;
+use wire::{BatchEntry, CheckpointEntry};
+
+/// Each of these batch entries may be said.
+pub(crate) fn note_entries(entries: &[BatchEntry])
+    ensures { Each IsBatchEntry (map batch_entry_data entries.now) }
+{
+    for entry in entries {
+        note_entry(entry);
+    }
+}
+
+fn note_entry(entry: &BatchEntry)
+    ensures { IsBatchEntry (batch_entry_data entry.now) }
+{
+    note_digest(&entry.digest);
+    let _number = entry.number.0;
+    let _view = entry.view.0;
+}
+
+/// Each of these checkpoints may be said.
+pub(crate) fn note_checkpoints(entries: &[CheckpointEntry])
+    ensures { Each IsCheckpointEntry (map checkpoint_entry_data entries.now) }
+{
+    for entry in entries {
+        note_checkpoint(entry);
+    }
+}
+
+fn note_checkpoint(entry: &CheckpointEntry)
+    ensures { IsCheckpointEntry (checkpoint_entry_data entry.now) }
+{
+    note_digest(&entry.digest);
+    let _number = entry.number.0;
+}
+
+/// A digest is one.
+pub(crate) fn note_digest(digest: &Digest)
+    ensures { IsDigest digest.now }
+{
+    let _first = digest[0];
+}

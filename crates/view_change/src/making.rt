@@ -1,0 +1,58 @@
+//! The own view change.
+
+ghost use Rattle.std.specs.Prelude.{◌≡◌, ◌^◌, ◌≤◌, ◌⊎◌, length, IfOk, IfSome, IfNone, IsTrue};
+ghost use Rattle.wire.specs.Lists.{ascends};
+ghost use Rattle.wire.specs.Spelling.{IsViewChange, checkpoint_entry_before};
+ghost use Rattle.wire.specs.Views.{checkpoint_entries_data, view_change_data};
+
+use crate::claims::Claims;
+use crate::entries::{note_checkpoints, note_entries};
+use std::alloc::Global;
+use terms::{NoMemory, Number, View};
+use wire::{CheckpointEntry, ViewChange};
+
+/// The most claims that a list counts.
+const MAX_CLAIMS: usize = 65_535;
+
+/// The view change of a replica for the view: its low mark, the checkpoints that it keeps, at most three, ascending, and
+/// its claims. It is none where a list has 65,536 claims or more, which no frame counts.
+///
+/// # Errors
+///
+/// NoMemory where memory runs out.
+pub fn make(
+    alloc: Global,
+    view: View,
+    low: Number,
+    checkpoints: Vec<CheckpointEntry>,
+    claims: &Claims,
+) -> Result<Option<ViewChange>, NoMemory>
+    requires few { length checkpoints.items ≤ 3 }
+    requires order { IsTrue (ascends checkpoint_entry_before (checkpoint_entries_data checkpoints)) }
+    ensures made { IfOk result (λ o. IfSome o (λ change. view_change_data change ≡ record {
+      view = view.0;
+      low = low.0;
+      checkpoints = checkpoint_entries_data checkpoints;
+      prepared = claims.now.prepared;
+      pre_prepared = claims.now.logged;
+    })) }
+    ensures said { IfOk result (λ o. IfSome o (λ change. IsViewChange (view_change_data change))) }
+    ensures none { IfOk result (λ o. IfNone o
+        ((2 ^ 16 ≤ length claims.now.prepared) ⊎ (2 ^ 16 ≤ length claims.now.logged))) }
+{
+    let prepared = claims.prepared(alloc)?;
+    let pre_prepared = claims.logged(alloc)?;
+    if prepared.len() > MAX_CLAIMS || pre_prepared.len() > MAX_CLAIMS {
+        return Ok(None);
+    }
+    note_checkpoints(&checkpoints);
+    note_entries(&prepared);
+    note_entries(&pre_prepared);
+    Ok(Some(ViewChange {
+        view,
+        low,
+        checkpoints,
+        prepared,
+        pre_prepared,
+    }))
+}

@@ -1,0 +1,68 @@
+//! Frames of signed view changes, spelled byte by byte from their format: type 46, sender, view, low mark, and three lists
+//! behind their counts.
+
+use authenticator::signing_seed;
+use ordering::HashedBatch;
+use signing::{SignFault, Signer};
+use std::alloc::Global;
+use std::test::Fail;
+use terms::{Party, ReplicaId};
+use wire::Batch;
+
+/// The seed of all keys.
+pub const SEED: [u8; 32] = [5; 32];
+
+/// Of this byte is the root of the checkpoint that each view change lists.
+pub const ROOT: u8 = 7;
+
+/// A view change: its view, its low mark, at which it lists a checkpoint, and the byte of the batch that it prepared and
+/// logged for number 1 in view 0, or 0 for none.
+pub type Said = (u64, u64, u8);
+
+/// The signer of a replica.
+pub fn signer_of(replica: u8) -> Signer {
+    let party = Party::Replica(ReplicaId(replica));
+    Signer::from_seed(&signing_seed(&SEED, party))
+}
+
+fn put_entry(alloc: Global, byte: u8, out: &mut Vec<u8>) -> Result<(), Fail> {
+    if byte == 0 {
+        out.extend_from_slice(b"\x00\x00")?;
+        return Ok(());
+    }
+    let text = vec![in alloc; byte]?;
+    let digest = HashedBatch::new(Batch { text }).digest();
+    out.extend_from_slice(b"\x00\x01")?;
+    out.extend_from_slice(&1u64.to_be_bytes())?;
+    out.extend_from_slice(&digest)?;
+    out.extend_from_slice(&0u64.to_be_bytes())?;
+    Ok(())
+}
+
+fn body(alloc: Global, sender: u8, (view, low, byte): Said) -> Result<Vec<u8>, Fail> {
+    let mut body = vec![in alloc; 0x46, 0, sender]?;
+    body.extend_from_slice(&view.to_be_bytes())?;
+    body.extend_from_slice(&low.to_be_bytes())?;
+    body.push(1)?;
+    body.extend_from_slice(&low.to_be_bytes())?;
+    body.extend_from_slice(&[ROOT; 32])?;
+    put_entry(alloc, byte, &mut body)?;
+    put_entry(alloc, byte, &mut body)?;
+    Ok(body)
+}
+
+/// The frame of a replica's view change, with its signature.
+pub fn change(alloc: Global, signer: &mut Signer, sender: u8, said: Said) -> Result<Vec<u8>, Fail> {
+    let body = body(alloc, sender, said)?;
+    let signature = match signer.sign(alloc, &body) {
+        Err(SignFault::NoMemory) => signer.sign(alloc, &body)?,
+        first => first?,
+    };
+    let [_, _, _, _, len @ ..] = (body.len() as u64).to_be_bytes();
+    let mut frame = Vec::new(alloc);
+    frame.extend_from_slice(&len)?;
+    frame.extend_from_slice(&body)?;
+    frame.push(1)?;
+    frame.extend_from_slice(signature.as_slice())?;
+    Ok(frame)
+}
