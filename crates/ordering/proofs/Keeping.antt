@@ -1,12 +1,12 @@
 -- What the fields of a log keep.
-use Rattle.std.proofs.Common.{◌≡◌, ℕ, zero, suc, ◌+◌, ◌<◌, ◌^◌, true, List, [], ◌∷◌, ◌++◌, length, drop, replicate, Some, refl, sym, ap, ◌∙◌, subst, arith, ◌&&◌, nat_lt, nat_le, slice_set, slice_index_or}
+use Rattle.std.proofs.Common.{◌≡◌, ℕ, zero, suc, ◌+◌, ◌<◌, ◌^◌, true, List, [], ◌∷◌, ◌++◌, length, drop, replicate, map, take, Some, refl, sym, ap, ◌∙◌, subst, arith, ◌&&◌, nat_lt, nat_le, slice_set, slice_index_or}
 use Rattle.std.specs.List.{All}
 use Rattle.std.proofs.lemmas.Bool.{and_parts, ltb-true, leb-true}
-use Rattle.std.proofs.lemmas.List.{length-set}
-use Rattle.std.proofs.lemmas.List.Elements.{All-set}
+use Rattle.std.proofs.lemmas.List.{length-set, length-map}
+use Rattle.std.proofs.lemmas.List.Elements.{All-set, All-map}
 use Rattle.ordering.specs.declared.votes.Vote.{Vote}
 use Rattle.ordering.specs.Votes.{with_vote}
-use Rattle.ordering.specs.Log.{Row, no_row, LogData, replicas, is_in_marks, place}
+use Rattle.ordering.specs.Log.{Row, no_row, LogData, replicas, is_in_marks, place, entered_row}
 use Rattle.ordering.specs.Keeping.{IsRow, IsLog}
 use Rattle.ordering.specs.Places.{batch_put, prepare_put, commit_put}
 use Rattle.ordering.proofs.Voting.{with_vote_keeps}
@@ -58,3 +58,35 @@ pub cleared : (rows : List Row) (at : ℕ) → at < length rows → slice_set (r
 cleared [] at l = absurd (omega arith)
 cleared (x ∷ rows) zero l = refl
 cleared (x ∷ rows) (suc at) l = ap (λ ys. no_row ∷ ys) (cleared rows at (omega arith))
+
+-- ---- entering a view
+
+-- the rows of which so many are changed
+pub changed_set : (f : Row → Row) (rows : List Row) (at : ℕ) (d : Row) → at < length rows
+    → slice_set (map f (take at rows) ++ drop at rows) at (f (slice_index_or rows at d)) ≡ map f (take (suc at) rows) ++ drop (suc at) rows
+changed_set f [] at d l = absurd (omega arith)
+changed_set f (x ∷ rows) zero d l = refl
+changed_set f (x ∷ rows) (suc at) d l = ap (λ ys. f x ∷ ys) (changed_set f rows at d (omega arith))
+
+pub changed_reads : (f : Row → Row) (rows : List Row) (at : ℕ) (d : Row) → at < length rows → slice_index_or (map f (take at rows) ++ drop at rows) at d ≡ slice_index_or rows at d
+changed_reads f [] at d l = absurd (omega arith)
+changed_reads f (x ∷ rows) zero d l = refl
+changed_reads f (x ∷ rows) (suc at) d l = changed_reads f rows at d (omega arith)
+
+row_entered : (faults n me : ℕ) (row : Row) → IsRow n (entered_row faults n me row)
+row_entered faults n me row = record { prepares = tt; commits = tt }
+
+pub rows_entered : (faults n me : ℕ) (rows : List Row) → All (IsRow n) rows → All (IsRow n) (map (entered_row faults n me) rows)
+rows_entered faults n me rows held = All-map (IsRow n) (entered_row faults n me) rows (λ i d l. row_entered faults n me (slice_index_or rows i d))
+
+pub log_entered : (m : LogData) (view : ℕ) (rows : List Row) → IsLog m → rows ≡ map (entered_row m.faults (replicas m) m.me) m.rows → (let x : LogData = record m { view = view; active = true; rows = rows } in IsLog x)
+log_entered m view rows is e = record {
+  some = is.some;
+  few = is.few;
+  me = is.me;
+  span = is.span;
+  low = is.low;
+  size = ap length e ∙ length-map m.rows (entered_row m.faults (replicas m) m.me) ∙ is.size;
+  rows = subst (All (IsRow (replicas m))) (sym e) (rows_entered m.faults (replicas m) m.me m.rows is.rows);
+  checkpoints = is.checkpoints;
+}

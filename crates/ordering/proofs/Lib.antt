@@ -4,4 +4,5 @@ pub mod Keeping
 pub mod Moving
 pub mod Placing
 pub mod Reading
+pub mod Viewing
 pub mod Voting

@@ -62,6 +62,10 @@ cut_reads f none m h i is = go (nat_le h m.low) refl
     go true l = twice (is_in_marks m i)
     go false l = inner (is_in_marks (moved m h) i) refl (leb-false h m.low l)
 
+-- what was committed in an earlier view stays within the marks
+decided_left : (m : LogData) (h i : ℕ) → IsLog m → is_in_marks (cut_to m h) i ≡ true → (row_of (cut_to m h) i).decided ≡ cond (is_in_marks m i) (row_of m i).decided None
+decided_left m h i is k = let e = cut_reads (λ r. r.decided) refl m h i is in rw k at e
+
 pub cuts_keep : CutsKeep
 cuts_keep m h i s is =
-    (cut_reads (λ r. r.batch) refl m h i is, cut_reads (λ r. vote_of r.prepares s) refl m h i is, cut_reads (λ r. vote_of r.commits s) refl m h i is)
+    (cut_reads (λ r. r.batch) refl m h i is, cut_reads (λ r. vote_of r.prepares s) refl m h i is, cut_reads (λ r. vote_of r.commits s) refl m h i is, decided_left m h i is)

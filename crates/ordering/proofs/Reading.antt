@@ -74,17 +74,25 @@ voted f m i j s vote row is hj same = reads (λ r. vote_of (f r) s) m i j row is
         (ap (λ (votes : List Vote). vote_of votes s) (same ∙ ap (λ (n : ℕ). with_vote vote (f (row_of m n))) (sym is_same)) ∙ with_vote_of vote (f (row_of m i)) s)
     go false e = refl
 
+-- what was committed in an earlier view stays where the row has the same
+decided_stays : (m : LogData) (i j : ℕ) (row : Row) → IsLog m → is_in_marks m j ≡ true → row.decided ≡ (row_of m j).decided → is_in_marks m i ≡ true → (row_of (with_row m j row) i).decided ≡ (row_of m i).decided
+decided_stays m i j row is hj same hi = ap (λ (r : Row). r.decided) (row_behind m i j row is hi hj) ∙ go (i == j) refl
+  where
+    go : (b : Bool) → (i == j) ≡ b → (let r : Row = cond b row (row_of m i) in r.decided) ≡ (row_of m i).decided
+    go true e = same ∙ ap (λ (n : ℕ). (row_of m n).decided) (sym (eqb-true i j e))
+    go false e = refl
+
 pub batches_are_logged : BatchesAreLogged
 batches_are_logged m i j s text is hj =
     let row : Row = record (row_of m j) { batch = Some text } in
-    (reads (λ r. r.batch) m i j row is hj, unread (λ r. vote_of r.prepares s) m i j row is hj refl, unread (λ r. vote_of r.commits s) m i j row is hj refl)
+    (reads (λ r. r.batch) m i j row is hj, unread (λ r. vote_of r.prepares s) m i j row is hj refl, unread (λ r. vote_of r.commits s) m i j row is hj refl, decided_stays m i j row is hj refl)
 
 pub prepares_count : PreparesCount
 prepares_count m i j s vote is hj =
     let row : Row = record (row_of m j) { prepares = with_vote vote (row_of m j).prepares } in
-    (unread (λ r. r.batch) m i j row is hj refl, voted (λ r. r.prepares) m i j s vote row is hj refl, unread (λ r. vote_of r.commits s) m i j row is hj refl)
+    (unread (λ r. r.batch) m i j row is hj refl, voted (λ r. r.prepares) m i j s vote row is hj refl, unread (λ r. vote_of r.commits s) m i j row is hj refl, decided_stays m i j row is hj refl)
 
 pub commits_count : CommitsCount
 commits_count m i j s vote is hj =
     let row : Row = record (row_of m j) { commits = with_vote vote (row_of m j).commits } in
-    (unread (λ r. r.batch) m i j row is hj refl, unread (λ r. vote_of r.prepares s) m i j row is hj refl, voted (λ r. r.commits) m i j s vote row is hj refl)
+    (unread (λ r. r.batch) m i j row is hj refl, unread (λ r. vote_of r.prepares s) m i j row is hj refl, voted (λ r. r.commits) m i j s vote row is hj refl, decided_stays m i j row is hj refl)

@@ -1,11 +1,11 @@
 -- What the changes of a log do to what is read of it. Within the marks what comes first stays, and a change is for one
--- number alone.
+-- number alone. What was committed in an earlier view stays where the marks leave it.
 use Rattle.std.specs.Prelude.{◌≡◌, ℕ, true, List, ◌==◌, if◌then◌else◌, Some, None}
 use Rattle.std.specs.Bool.{then_some}
 use Rattle.quorum.specs.Votes.{or_else}
 use Rattle.ordering.specs.declared.votes.Vote.{Vote}
 use Rattle.ordering.specs.Votes.{vote_of, with_vote}
-use Rattle.ordering.specs.Log.{LogData, is_in_marks, with_batch, with_prepare, with_commit, cut_to, logged_batch, prepare_of, commit_of}
+use Rattle.ordering.specs.Log.{LogData, is_in_marks, with_batch, with_prepare, with_commit, cut_to, entered, row_of, logged_batch, prepare_of, commit_of, committed_batch}
 use Rattle.ordering.specs.Keeping.{IsLog}
 
 -- A vote that is added is its sender's first, and nobody else's.
@@ -22,6 +22,7 @@ BatchesAreLogged =
     → (logged_batch (with_batch m j text) i ≡ (if i == j then Some text else logged_batch m i))
     × (prepare_of (with_batch m j text) i s ≡ prepare_of m i s)
     × (commit_of (with_batch m j text) i s ≡ commit_of m i s)
+    × (is_in_marks m i ≡ true → (row_of (with_batch m j text) i).decided ≡ (row_of m i).decided)
 
 -- A prepare counts for its number, as its sender's first, and nothing else changes.
 abbrev pub PreparesCount : Type 0
@@ -32,6 +33,7 @@ PreparesCount =
     ≡ (if i == j then or_else (prepare_of m i s) (then_some (vote.sender.0 == s) vote.digest)
     else prepare_of m i s))
     × (commit_of (with_prepare m j vote) i s ≡ commit_of m i s)
+    × (is_in_marks m i ≡ true → (row_of (with_prepare m j vote) i).decided ≡ (row_of m i).decided)
 
 -- So does a commit.
 abbrev pub CommitsCount : Type 0
@@ -42,6 +44,7 @@ CommitsCount =
     × (commit_of (with_commit m j vote) i s
     ≡ (if i == j then or_else (commit_of m i s) (then_some (vote.sender.0 == s) vote.digest)
     else commit_of m i s))
+    × (is_in_marks m i ≡ true → (row_of (with_commit m j vote) i).decided ≡ (row_of m i).decided)
 
 -- What is within the marks before and behind a cut stays, and nothing else is read.
 abbrev pub CutsKeep : Type 0
@@ -50,3 +53,13 @@ CutsKeep =
     → (logged_batch (cut_to m h) i ≡ (if is_in_marks (cut_to m h) i then logged_batch m i else None))
     × (prepare_of (cut_to m h) i s ≡ (if is_in_marks (cut_to m h) i then prepare_of m i s else None))
     × (commit_of (cut_to m h) i s ≡ (if is_in_marks (cut_to m h) i then commit_of m i s else None))
+    × (is_in_marks (cut_to m h) i ≡ true
+    → (row_of (cut_to m h) i).decided ≡ (if is_in_marks m i then (row_of m i).decided else None))
+
+-- In a later view nothing is logged or voted for yet, and what was committed is.
+abbrev pub CommittedStay : Type 0
+CommittedStay =
+    (m : LogData) (view i s : ℕ) → IsLog m
+    → (logged_batch (entered m view) i ≡ None) × (prepare_of (entered m view) i s ≡ None)
+    × (commit_of (entered m view) i s ≡ None) × (committed_batch (entered m view) i ≡ committed_batch m i)
+    × (is_in_marks m i ≡ true → (row_of (entered m view) i).decided ≡ committed_batch m i)

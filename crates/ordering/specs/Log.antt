@@ -1,7 +1,7 @@
--- PBFT's message log of one replica for one view, as plain data: what each message changes, and what is logged,
+-- PBFT's message log of one replica, as plain data: what each message of its view changes, and what is logged,
 -- prepared, committed and stable (Castro and Liskov, Practical Byzantine fault tolerance and proactive recovery, TOCS
 -- 2002, on normal-case operation and garbage collection).
-use Rattle.std.specs.Prelude.{ℕ, ◌+◌, ◌-◌, ◌*◌, ◌%◌, ◌^◌, Bool, true, false, ◌&&◌, not, List, [], ◌++◌, drop, replicate, nat_le, nat_lt, ◌==◌, if◌then◌else◌, Option, Some, None, slice_set, slice_index_or, option_map, min, is_none}
+use Rattle.std.specs.Prelude.{ℕ, ◌+◌, ◌-◌, ◌*◌, ◌%◌, ◌^◌, Bool, true, false, ◌&&◌, not, List, [], ◌++◌, drop, map, replicate, nat_le, nat_lt, ◌==◌, if◌then◌else◌, Option, Some, None, slice_set, slice_index_or, option_map, min, is_none}
 use Rattle.std.specs.Option.{option_map_or}
 use Rattle.sha2.specs.Sha256.{sha256}
 use Rattle.quorum.specs.Quorum.{count_below}
@@ -11,14 +11,16 @@ use Rattle.ordering.specs.declared.votes.Vote.{Vote}
 use Rattle.ordering.specs.Votes.{vote_of, voters, with_vote}
 use Rattle.ordering.specs.Checkpoints.{with_checkpoint, says_checkpoint}
 
--- What is held for one number: the text of the batch that is logged, and the prepares and commits.
+-- What is held for one number: the text of the batch that is logged in the view, the prepares and commits of the view,
+-- and the batch that was committed in an earlier view.
 pub record Row : Type 0 where
   pub batch : Option (List ℕ)
   pub prepares : List Vote
   pub commits : List Vote
+  pub decided : Option (List ℕ)
 
 abbrev pub no_row : Row
-no_row = record { batch = None; prepares = []; commits = [] }
+no_row = record { batch = None; prepares = []; commits = []; decided = None }
 
 abbrev pub digest_of : Row → Option (List ℕ)
 digest_of row = option_map sha256 row.batch
@@ -144,22 +146,44 @@ is_row_committed faults n me row =
 abbrev pub is_committed : LogData → ℕ → Bool
 is_committed m i = is_in_marks m i && is_row_committed m.faults (replicas m) m.me (row_of m i)
 
--- the batch that is committed
-abbrev pub committed_batch : LogData → ℕ → Option (List ℕ)
-committed_batch m i = if is_committed m i then (row_of m i).batch else None
+-- the batch that is committed in the view, or was in an earlier one
+abbrev pub row_decided : ℕ → ℕ → ℕ → Row → Option (List ℕ)
+row_decided faults n me row = if is_row_committed faults n me row then row.batch else row.decided
 
--- ---- what the replica still has to say
+abbrev pub committed_batch : LogData → ℕ → Option (List ℕ)
+committed_batch m i =
+    if is_in_marks m i then row_decided m.faults (replicas m) m.me (row_of m i) else None
+
+-- ---- views
+
+-- The replica leaves its view: it is active no more.
+abbrev pub left : LogData → LogData
+left m = record m { active = false }
+
+-- It enters a later view, and is active there: of each row that batch alone stays that is committed.
+abbrev pub entered_row : ℕ → ℕ → ℕ → Row → Row
+entered_row faults n me row = record no_row { decided = row_decided faults n me row }
+
+abbrev pub entered : LogData → ℕ → LogData
+entered m view =
+    record m {
+      view = view;
+      active = true;
+      rows = map (entered_row m.faults (replicas m) m.me) m.rows;
+    }
+
+-- ---- what the replica still has to say, while it is active
 
 -- The digest of a batch that is logged at a backup which has not prepared it.
 abbrev pub due_prepare : LogData → ℕ → Option (List ℕ)
 due_prepare m i =
-    if not (m.me == primary m m.view) && is_none (prepare_of m i m.me)
+    if m.active && not (m.me == primary m m.view) && is_none (prepare_of m i m.me)
     then logged_digest m i else None
 
 -- The digest of a batch that is prepared, where the replica has not committed it.
 abbrev pub due_commit : LogData → ℕ → Option (List ℕ)
 due_commit m i =
-    if is_prepared m i && is_none (commit_of m i m.me) then logged_digest m i else None
+    if m.active && is_prepared m i && is_none (commit_of m i m.me) then logged_digest m i else None
 
 -- ---- stable checkpoints
 

@@ -9,7 +9,12 @@ use Rattle.ordering.specs.Log.{Row}
 
 abbrev pub row_data : Inside → Row
 row_data s =
-    record { batch = option_map arc_value s.batch; prepares = s.prepares; commits = s.commits }
+    record {
+      batch = option_map arc_value s.batch;
+      prepares = s.prepares;
+      commits = s.commits;
+      decided = option_map arc_value s.decided;
+    }
 
 abbrev pub batch_lent : Option (Bor (Arc (List ℕ) Global)) → Option (List ℕ)
 batch_lent lent = option_map (λ batch. arc_value batch.now) lent

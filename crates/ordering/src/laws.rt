@@ -1,6 +1,6 @@
 //! Laws of what is read of a log behind a change.
 
-ghost use Rattle.ordering.specs.Laws.{FirstVotesCount, BatchesAreLogged, PreparesCount, CommitsCount, CutsKeep};
+ghost use Rattle.ordering.specs.Laws.{FirstVotesCount, BatchesAreLogged, PreparesCount, CommitsCount, CutsKeep, CommittedStay};
 
 /// Of each sender the first vote counts.
 pub fn first_votes_count()
@@ -17,4 +17,9 @@ pub fn messages_are_read()
 /// A cut keeps what is within the marks before and behind it.
 pub fn cuts_keep()
     ensures keep { CutsKeep }
+{}
+
+/// In a later view nothing is logged or voted for yet, and what was committed is.
+pub fn committed_stay()
+    ensures stay { CommittedStay }
 {}

@@ -13,8 +13,8 @@ ghost use Rattle.ordering.specs.Log.{with_checkpoint_of};
 use crate::batch::HashedBatch;
 use crate::checkpoints::Checkpoints;
 use crate::places::{
-    add_checkpoint_at, add_commit_at, add_prepare_at, cut_slots, no_checkpoints, no_slots,
-    put_batch_at,
+    add_checkpoint_at, add_commit_at, add_prepare_at, cut_slots, enter_slots, no_checkpoints,
+    no_slots, put_batch_at,
 };
 use crate::row::Slot;
 use crate::votes::Vote;
@@ -28,11 +28,12 @@ use wire::CheckpointEntry;
 pub const NUMBERS_END: u64 = 1 << 48;
 
 /// What one replica holds of the messages of its view: a row for each number within its marks, with the batch that is
-/// logged and the votes for it, and the last three checkpoints of each replica.
+/// logged and the votes for it, and the last three checkpoints of each replica. Of earlier views each row keeps the batch
+/// that was committed then.
 ///
 /// A call goes over the votes of one row at most, ten prepares and ten commits, or over the three checkpoints of each
 /// replica; `cut` alone goes over all rows. A log takes its memory when it is made, under 1 KB for each number within the
-/// marks and for each replica, and none later: batches come with theirs, at most one for each number within the marks.
+/// marks and for each replica, and none later: batches come with theirs, at most two for each number within the marks.
 #[derive(Drop)]
 pub struct Log {
     me: ReplicaId,
@@ -153,9 +154,27 @@ impl Log {
 
     /// Leaves the view: the replica is not active any more, as where it moves to a later one.
     pub fn leave(&mut self)
-        ensures { self.new ≡ record self.old { active = false } }
+        ensures { self.new ≡ spec.left self.old }
     {
         self.active = false;
+    }
+
+    /// Whether the replica is active in its view.
+    pub fn is_active(&self) -> bool
+        ensures { result ≡ self.now.active }
+    {
+        self.active
+    }
+
+    /// Enters a later view, and is active in it. Nothing is logged in it yet, and no vote of it is there. What was
+    /// committed before stays so.
+    pub fn enter(&mut self, view: View)
+        ensures { self.new ≡ spec.entered self.old view.0 }
+    {
+        let alloc = *self.slots.allocator();
+        enter_slots(&mut self.slots, alloc, self.faults, self.me);
+        self.view = view;
+        self.active = true;
     }
 
     /// Whether the number is within the marks.
@@ -257,31 +276,38 @@ impl Log {
         self.is_in_marks(number) && self.slot(number).is_committed(self.faults, self.me)
     }
 
-    /// The batch of the number, where it is committed.
+    /// The batch of the number, where it is committed in this view, or was in an earlier one.
     pub fn next_batch(&self, number: Number) -> Option<&Arc<HashedBatch>>
         ensures { batch_lent result ≡ spec.committed_batch self.now number.0 }
     {
-        if !self.is_committed(number) {
+        if !self.is_in_marks(number) {
             return None;
         }
-        self.slot(number).batch()
+        let slot = self.slot(number);
+        if slot.is_committed(self.faults, self.me) {
+            slot.batch()
+        } else {
+            slot.decided()
+        }
     }
 
-    /// The digest of a batch whose prepare the replica still has to send.
+    /// The digest of a batch whose prepare the replica still has to send, while it is active.
     pub fn due_prepare(&self, number: Number) -> Option<Digest>
         ensures { result ≡ spec.due_prepare self.now number.0 }
     {
-        if self.me.0 == self.primary(self.view).0 || self.prepare_of(number, self.me).is_some() {
+        let is_primary = self.me.0 == self.primary(self.view).0;
+        if !self.active || is_primary || self.prepare_of(number, self.me).is_some() {
             return None;
         }
         self.logged_digest(number)
     }
 
-    /// The digest of a batch whose commit the replica still has to send.
+    /// The digest of a batch whose commit the replica still has to send, while it is active.
     pub fn due_commit(&self, number: Number) -> Option<Digest>
         ensures { result ≡ spec.due_commit self.now number.0 }
     {
-        if self.commit_of(number, self.me).is_some() || !self.is_prepared(number) {
+        let is_said = self.commit_of(number, self.me).is_some();
+        if !self.active || is_said || !self.is_prepared(number) {
             return None;
         }
         self.logged_digest(number)

@@ -1,9 +1,10 @@
 //! Changes of one row, or of one replica's checkpoints, in their place among the others.
 
-ghost use Rattle.std.specs.Prelude.{◌≡◌, ◌<◌, ◌≤◌, IfOk, Some, length, slice_set, slice_index_or, replicate, []};
+ghost use Rattle.std.specs.Prelude.{◌≡◌, ◌+◌, ◌*◌, ◌<◌, ◌≤◌, All, IfOk, Some, length, map, slice_set, slice_index_or, replicate, []};
 ghost use Rattle.std.specs.Arc.{arc_value};
 ghost use Rattle.wire.specs.Views.{checkpoint_entry_data};
-ghost use Rattle.ordering.specs.Log.{cut_rows, no_row};
+ghost use Rattle.ordering.specs.Keeping.{IsRow};
+ghost use Rattle.ordering.specs.Log.{cut_rows, entered_row, no_row};
 ghost use Rattle.ordering.specs.Places.{batch_put, prepare_put, commit_put, checkpoint_put};
 
 use crate::batch::HashedBatch;
@@ -12,7 +13,7 @@ use crate::row::Slot;
 use crate::votes::{MAX_REPLICAS, Vote};
 use std::alloc::Global;
 use std::sync::Arc;
-use terms::NoMemory;
+use terms::{NoMemory, ReplicaId};
 use wire::CheckpointEntry;
 
 /// Rows for so many numbers.
@@ -80,4 +81,16 @@ pub fn cut_slots(slots: &mut Vec<Slot>, alloc: Global, count: usize)
         slots[at] = Slot::new(alloc);
     }
     slots.rotate_left(count);
+}
+
+/// In each row a later view begins.
+pub fn enter_slots(slots: &mut Vec<Slot>, alloc: Global, faults: u8, me: ReplicaId)
+    requires few { faults ≤ 3 }
+    requires rows { All (IsRow (3 * faults + 1)) slots.old.items }
+    ensures { slots.new.items ≡ map (entered_row faults (3 * faults + 1) me.0) slots.old.items }
+{
+    for at in 0..slots.len() {
+        let slot = &mut slots[at];
+        slot.enter_view(alloc, faults, me);
+    }
 }

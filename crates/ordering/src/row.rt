@@ -4,7 +4,7 @@ ghost use Rattle.std.specs.Prelude.{◌≡◌, ℕ, ◌<◌, ◌≤◌, Some};
 ghost use Rattle.std.specs.Arc.{arc_value};
 ghost use Rattle.quorum.specs.Votes.{has_digest};
 ghost use Rattle.ordering.specs.Votes.{with_vote, vote_of};
-ghost use Rattle.ordering.specs.Log.{no_row, digest_of, is_row_prepared, is_row_committed};
+ghost use Rattle.ordering.specs.Log.{no_row, digest_of, is_row_prepared, is_row_committed, entered_row};
 ghost use Rattle.ordering.specs.Keeping.{IsRow};
 ghost use Rattle.ordering.specs.RowView.{batch_lent};
 
@@ -15,12 +15,14 @@ use std::marker::Model;
 use std::sync::Arc;
 use terms::{Digest, ReplicaId};
 
-/// What is held for one number: the batch that is logged, and the prepares and commits.
+/// What is held for one number: the batch that is logged in the view, with the prepares and commits, and the batch that
+/// was committed in an earlier view.
 #[derive(Drop)]
 pub struct Slot {
     batch: Option<Arc<HashedBatch>>,
     prepares: Votes,
     commits: Votes,
+    decided: Option<Arc<HashedBatch>>,
 }
 
 impl Model for Slot {
@@ -40,7 +42,29 @@ impl Slot {
             batch: None,
             prepares: Votes::new(alloc),
             commits: Votes::new(alloc),
+            decided: None,
         }
+    }
+
+    /// A later view begins: of what is held only a batch that is committed stays.
+    pub fn enter_view(&mut self, alloc: Global, faults: u8, me: ReplicaId)
+        requires { faults ≤ 3 }
+        ensures { (n : ℕ) → IsRow n self.old → self.new ≡ entered_row faults n me.0 self.old }
+    {
+        let committed = self.is_committed(faults, me);
+        let batch = self.batch.take();
+        if committed {
+            self.decided = batch;
+        }
+        self.prepares = Votes::new(alloc);
+        self.commits = Votes::new(alloc);
+    }
+
+    /// The batch that was committed in an earlier view.
+    pub fn decided(&self) -> Option<&Arc<HashedBatch>>
+        ensures { batch_lent result ≡ self.now.decided }
+    {
+        self.decided.as_ref()
     }
 
     pub fn put_batch(&mut self, batch: Arc<HashedBatch>)

@@ -1,4 +1,4 @@
-//! A number's way through the log of replica 1 among four, in view 0, with marks of four numbers.
+//! A number's way through the log of replica 1 among four, in view 0 and on to later ones, with marks of four numbers.
 
 use ordering::{HashedBatch, Log, Vote};
 use std::alloc::Global;
@@ -108,6 +108,51 @@ fn a_batch_is_committed(rt: HostRuntime) -> Result<(), Fail> {
     assert!(rt; says_commit(&mut log));
     assert!(rt; is_committed(&mut log));
     assert!(rt; has_text(&log, b"\0"));
+    Ok(())
+}
+
+// Where the replica has left its view nothing is due.
+fn owes_nothing(log: &mut Log) -> bool {
+    log.leave();
+    !log.is_active() && log.due_prepare(FIRST).is_none() && log.due_commit(FIRST).is_none()
+}
+
+// In the later view nothing is logged and nobody voted.
+fn is_empty_in(log: &mut Log, view: View) -> bool {
+    log.enter(view);
+    log.is_active_in(view)
+        && !log.is_active_in(VIEW)
+        && log.logged_batch(FIRST).is_none()
+        && log.prepare_of(FIRST, ReplicaId(2)).is_none()
+        && log.commit_of(FIRST, ReplicaId(3)).is_none()
+}
+
+#[test]
+fn what_is_committed_stays_so(rt: HostRuntime) -> Result<(), Fail> {
+    let mut log = new_log(rt.alloc())?;
+    let batch = batch_of(rt.alloc(), b"\0")?;
+    assert!(rt; is_logged(&mut log, batch));
+    assert!(rt; says_prepare(&mut log));
+    assert!(rt; is_prepared(&mut log));
+    assert!(rt; says_commit(&mut log));
+    assert!(rt; is_committed(&mut log));
+    assert!(rt; is_empty_in(&mut log, View(1)));
+    assert!(rt; has_text(&log, b"\0"));
+    assert!(rt; is_empty_in(&mut log, View(2)));
+    assert!(rt; has_text(&log, b"\0"));
+    Ok(())
+}
+
+#[test]
+fn what_is_prepared_does_not_stay(rt: HostRuntime) -> Result<(), Fail> {
+    let mut log = new_log(rt.alloc())?;
+    let batch = batch_of(rt.alloc(), b"\0")?;
+    assert!(rt; is_logged(&mut log, batch));
+    assert!(rt; says_prepare(&mut log));
+    assert!(rt; is_prepared(&mut log));
+    assert!(rt; owes_nothing(&mut log));
+    assert!(rt; is_empty_in(&mut log, View(1)));
+    assert!(rt; log.next_batch(FIRST).is_none());
     Ok(())
 }
 

@@ -38,6 +38,7 @@ use Rattle.replica.specs.Going.{CommitsNoMore, IsExecuted, IsSameLog, IsSameOrde
 use Rattle.replica.specs.Saying.{Says}
 use Rattle.replica.proofs.Beginning.{IsNoCall, drops, heard_by, rests}
 use Rattle.replica.proofs.DueCheckpoints.{cut_commits, cut_voted, either, same_cut, settled_desk, settled_orderer, settled_snapshots, settled_stopped}
+use Rattle.replica_histories.proofs.Counting.{checkpoint_free}
 use Rattle.replica.proofs.Following.{aim_of, aimed_is, aims, aims_desk}
 use Rattle.replica.proofs.Staying.{numbers_alike, numbers_beside, said_on, same_but_checkpoints}
 
@@ -243,6 +244,9 @@ module _ (r : ReplicaData) (one : AreOne r.orderer r.desk) (s : ℕ) (entry : Ch
         );
       }
         where
+          over : r.orderer.log.low < entry.number
+          over = (checkpoint_free r.orderer.log s entry.number entry.digest none).above
+
           asked : (c : Configuration) (past : List Entry) (runs : Runs c r past) → members c ≡ r.desk.membership → taken c past (Got (me_of r) bytes) ≡ None
               → Stands c (event_of c r past runs bytes) with_it.orderer (aiming entry r.desk) [] outs
           asked c past runs known free =
@@ -254,7 +258,7 @@ module _ (r : ReplicaData) (one : AreOne r.orderer r.desk) (s : ℕ) (entry : Ch
                 fits = subst (λ (m : ℕ). FitsEvent c m (event_of c r past runs bytes) with_it.orderer
                     (record st.desk { transfer = Some (aim_of entry r.desk).transfer }) r.desk.waiting.numbered [] outs) (sym one.0)
                     (aims c (event_of c r past runs bytes) with_it.orderer r.desk st.desk r.desk.waiting.numbered entry [] outs st.is [] (known ∙ one.1)
-                    (leb-true (2 * counted.faults + 1) (logs.count_checkpoints counted entry) quorum) ahead says
+                    (leb-true (2 * counted.faults + 1) (logs.count_checkpoints counted entry) quorum) over ahead says
                     (subst (λ (m : ℕ). FitsEvent c m (event_of c r past runs bytes) with_it.orderer st.desk r.desk.waiting.numbered (Fetch entry.number levels.Root 0 ∷ []) []) one.0 st.fits));
               }
 

@@ -3,7 +3,7 @@ use Rattle.std.proofs.Common.{◌≡◌, ℕ, zero, suc, ◌+◌, ◌≤◌, ◌
 use Rattle.std.proofs.lemmas.List.Sums.{length-filter}
 use Rattle.std.proofs.lemmas.Bool.{and_parts, ltb-true}
 use Rattle.events.specs.declared.output.Output.{Output}
-use Rattle.ordering.specs.Log.{LogData, is_in_marks, committed_batch, is_committed, row_of}
+use Rattle.ordering.specs.Log.{LogData, is_in_marks, replicas, committed_batch, row_decided, row_of}
 use Rattle.replica_histories.proofs.Words.{passed, given_not}
 use Rattle.replica.specs.declared.waiting.WaitingRequest.{WaitingRequest}
 use Rattle.replica.specs.State.{ReplicaData, DeskData}
@@ -19,8 +19,7 @@ use Rattle.replica.proofs.Rows.{within}
 -- a number whose batch is committed is within the marks
 pub committed_within : (log : LogData) (i : ℕ) (text : List ℕ) → committed_batch log i ≡ Some text → is_in_marks log i ≡ true
 committed_within log i text h =
-    let a = passed (is_committed log i) (row_of log i).batch text h in
-    (and_parts (is_in_marks log i) _ a.0).0
+    (passed (is_in_marks log i) (row_decided log.faults (replicas log) log.me (row_of log i)) text h).0
 
 -- and so it is a number
 pub committed_number : (log : LogData) (i : ℕ) (text : List ℕ) → committed_batch log i ≡ Some text → i < 2 ^ 48

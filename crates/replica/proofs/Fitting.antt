@@ -58,6 +58,7 @@ module _ (c : Configuration) (me : ℕ) (valid : IsConfiguration c) (mine : me <
       said = rw orders (λ entry is. absurd (none_some entry is));
       all = rw (orders, desks) (λ next. omega arith);
       first = rw orders refl;
+      active = rw orders refl;
     };
   }
 

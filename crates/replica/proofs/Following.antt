@@ -68,20 +68,20 @@ module _ (c : Configuration) (s : Start) (o : OrdererData) (d : DeskData) (desk 
     differ = is.differ;
   }
 
-  may_ask : (due : List Message) → 2 * o.log.faults + 1 ≤ logs.count_checkpoints o.log entry → aimed_at d < entry.number → FitsEvent c o.endpoint.me s o desk count due before
+  may_ask : (due : List Message) → 2 * o.log.faults + 1 ≤ logs.count_checkpoints o.log entry → o.log.low < entry.number → aimed_at d < entry.number → FitsEvent c o.endpoint.me s o desk count due before
       → MayAsk c o.endpoint.me (aim_of entry d).transfer desk.state.number (behind s (given o.endpoint.me before))
-  may_ask due enough ahead f =
+  may_ask due enough over ahead f =
       subst (λ (t : TransferData). MayAsk c o.endpoint.me t desk.state.number (behind s (given o.endpoint.me before)))
       (ap (λ (t : Option TransferData). transfer_to t entry.number entry.digest (pages_of d.executed.state)) is.transfer ∙ opened_same d.executed.state d.transfer entry)
-      (quorums_may_ask c o.endpoint.me s desk o.log due (given o.endpoint.me before) entry (pages_of d.executed.state) enough
+      (quorums_may_ask c o.endpoint.me s desk o.log due (given o.endpoint.me before) entry (pages_of d.executed.state) enough over
       (subst (λ (n : ℕ). n < entry.number) (sym (aimed_is c d desk is)) ahead) f.fits)
 
   -- The fetch that is due is said, and the transfer is open behind it.
-  pub aims : (rest : List Message) → members c ≡ o.endpoint.membership → 2 * o.log.faults + 1 ≤ logs.count_checkpoints o.log entry → aimed_at d < entry.number
+  pub aims : (rest : List Message) → members c ≡ o.endpoint.membership → 2 * o.log.faults + 1 ≤ logs.count_checkpoints o.log entry → o.log.low < entry.number → aimed_at d < entry.number
       → Says o (Fetch entry.number levels.Root 0) before after → FitsEvent c o.endpoint.me s o desk count (Fetch entry.number levels.Root 0 ∷ rest) before
       → FitsEvent c o.endpoint.me s o (record desk { transfer = Some (aim_of entry d).transfer }) count rest after
-  aims rest known enough ahead says f =
+  aims rest known enough over ahead says f =
       let root = sym (asks_root d.executed.state d.transfer entry) in
       asks_due c s o desk count before after (aim_of entry d).transfer known (subst (λ (m : Message). Says o m before after) root says) rest
-      (may_ask (Fetch entry.number levels.Root 0 ∷ rest) enough ahead f)
+      (may_ask (Fetch entry.number levels.Root 0 ∷ rest) enough over ahead f)
       (subst (λ (m : Message). FitsEvent c o.endpoint.me s o desk count (m ∷ rest) before) root f)

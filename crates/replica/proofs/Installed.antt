@@ -1,5 +1,5 @@
 -- The state that was fetched is installed.
-use Rattle.std.proofs.Common.{◌≡◌, ◌≢◌, ℕ, ◌<◌, ◌^◌, true, List, [], ◌∷◌, Option, Some, None, option_map, refl, sym, ap, ◌∙◌, subst, arith}
+use Rattle.std.proofs.Common.{◌≡◌, ◌≢◌, ℕ, ◌<◌, ◌^◌, true, List, [], ◌∷◌, Option, Some, None, option_map, refl, sym, ap, ◌∙◌, subst}
 use Rattle.std.proofs.lemmas.List.Kept.{AllPairs-filter}
 use Rattle.terms.specs.declared.order.Number.{Number}
 use Rattle.wire.specs.Messages.{CheckpointEntryData as CheckpointEntry}
@@ -37,6 +37,7 @@ use Rattle.replica.specs.Fits.{me_of}
 use Rattle.replica.proofs.Desking.{calls_behind, calls_counted, frames_behind}
 use Rattle.replica.proofs.DueCheckpoints.{same_cut, cut_voted}
 use Rattle.replica.proofs.Given.{given_one}
+use Rattle.replica_histories.proofs.Reaching.{reached_open}
 use Rattle.replica.proofs.Staying.{fits_behind, installed_beside, numbers_alike, numbers_beside}
 
 -- All that the open transfer holds has the root that is wanted, and it rests on the executed state.
@@ -102,7 +103,7 @@ module _ (c : Configuration) (s : Start) (a : ReplicaData) (desk : Desk) (m : Op
   small = subst (λ (n : ℕ). n < 2 ^ 48) has.number has.state.space.few
 
   low_is : cut.low ≡ st.number
-  low_is = cut_low a.orderer.log m.transfer.number (let l = g.fits.fits.low in let up = opened.1 in omega (arith, l, up)) ∙ sym has.number
+  low_is = cut_low a.orderer.log m.transfer.number (reached_open c me a.orderer.log.low desk.state.number (Some m.transfer) past g.fits.fits.low opened) ∙ sym has.number
 
   rests_here : RestsOn m.transfer desk.state
   rests_here = subst (λ (x : State). RestsOn m.transfer x) (sym g.is.state) g.rests

@@ -70,7 +70,7 @@ frame_waits frame w h =
 -- ---- one batch
 
 module _ (c : Configuration) (me number used : ℕ) (log : LogData) (text : List ℕ) (w : WaitingData) (desk : Desk) (history : List Entry) (inside : logs.is_in_marks log number ≡ true)
-    (primary : logs.primary log log.view ≡ log.me) (above : used < number) (reads : requests_of text ≡ texts (unnumbered w)) (frames : desk.frames ≡ frames_of w)
+    (active : log.active ≡ true) (primary : logs.primary log log.view ≡ log.me) (above : used < number) (reads : requests_of text ≡ texts (unnumbered w)) (frames : desk.frames ≡ frames_of w)
     (calls : AreCallsOf c w.requests desk.waiting) (of_log : FitsLog c me log history) (f : FitsNumbers c me log.view used w.numbered desk.state desk.waiting history) where
   abbrev oldest : List Call
   oldest = take 16 (drop w.numbered desk.waiting)
@@ -112,6 +112,7 @@ module _ (c : Configuration) (me number used : ℕ) (log : LogData) (text : List
   pub may_number : MayNumber c me desk log history number text
   may_number = record {
     within = inside;
+    active = active;
     own = primary;
     free = sym (of_log.batches number inside) ∙ f.free number above;
     held = subst (Each (λ frame. Has (λ x. x ≡ frame) desk.frames)) (sym reads) (each_where (λ frame. Has (λ x. x ≡ frame) desk.frames) (texts (unnumbered w)) held);
@@ -122,7 +123,7 @@ module _ (c : Configuration) (me number used : ℕ) (log : LogData) (text : List
 -- ---- one turn
 
 module _ (number : ℕ) (a b : ReplicaData) (x y : List Output) (one : AreOne a.orderer a.desk) (above : a.orderer.used < number) (inside : logs.is_in_marks a.orderer.log number ≡ true)
-    (primary : logs.primary a.orderer.log a.orderer.log.view ≡ a.orderer.log.me) (some : 1 ≤ length (unnumbered a.desk.waiting)) (n : NumbersNext number a x b y) where
+    (active : a.orderer.log.active ≡ true) (primary : logs.primary a.orderer.log a.orderer.log.view ≡ a.orderer.log.me) (some : 1 ≤ length (unnumbered a.desk.waiting)) (n : NumbersNext number a x b y) where
   abbrev w : WaitingData
   w = a.desk.waiting
 
@@ -149,10 +150,10 @@ module _ (number : ℕ) (a b : ReplicaData) (x y : List Output) (one : AreOne a.
     numbered_fits =
         let f = fits.numbers primary in
         subst (λ (k : ℕ). FitsEvent c me s b.orderer st.desk (w.numbered + k) [] y)
-        (sym (as_many c me number a.orderer.used a.orderer.log text w st.desk past inside primary above reads st.is.frames st.is.waiting fits.fits.of_log f))
+        (sym (as_many c me number a.orderer.used a.orderer.log text w st.desk past inside active primary above reads st.is.frames st.is.waiting fits.fits.of_log f))
         (n.says.goes c s st.desk w.numbered 16 [] (known ∙ one.1) above
-        (may_number c me number a.orderer.used a.orderer.log text w st.desk past inside primary above reads st.is.frames st.is.waiting fits.fits.of_log f)
-        (batch_calls c me number a.orderer.used a.orderer.log text w st.desk past inside primary above reads st.is.frames st.is.waiting fits.fits.of_log f) fits)
+        (may_number c me number a.orderer.used a.orderer.log text w st.desk past inside active primary above reads st.is.frames st.is.waiting fits.fits.of_log f)
+        (batch_calls c me number a.orderer.used a.orderer.log text w st.desk past inside active primary above reads st.is.frames st.is.waiting fits.fits.of_log f) fits)
 
     next_stands : Stands c s b.orderer b.desk [] y
     next_stands = subst (λ (d : DeskData). Stands c s b.orderer d [] y) (sym n.waits) (record {

@@ -8,6 +8,7 @@ use Rattle.ordering.specs.Log.{LogData}
 use Rattle.protocol.specs.System.Configuration.{Configuration, members}
 use Rattle.protocol.specs.System.Trace.{Entry, is_output}
 use Rattle.protocol.specs.System.Trace.Entry.{Got}
+use Rattle.std.proofs.lemmas.Bool.{leb-true}
 use Rattle.protocol.specs.Replica.Certificates.{target}
 use Rattle.protocol.specs.Replica.State.{State, Call}
 use Rattle.posting.specs.Endpoint.{EndpointState}
@@ -62,16 +63,16 @@ settled c me r desk history is fits count rest all = record {
   prepares = λ i. (rest.0 i).0;
   commits = λ i. (rest.0 i).1;
   executes = subst (λ (st : State). logs.committed_batch r.orderer.log (suc st.number) ≡ None) (sym is.state) rest.1;
-  numbers = λ i call own has free.
-      numbers_are_given c me r.orderer.log.view r.orderer.used r.desk.waiting.numbered desk.state desk.waiting history (count own) (enough own) i call has free;
+  numbers = λ i call active own has free.
+      numbers_are_given c me r.orderer.log.view r.orderer.used r.desk.waiting.numbered desk.state desk.waiting history (count own) (enough active own) i call has free;
 }
   where
-    enough : logs.primary r.orderer.log r.orderer.log.view ≡ r.orderer.log.me → numbers.IsNextFree c me history r.orderer.used desk.state.number
+    enough : r.orderer.log.active ≡ true → logs.primary r.orderer.log r.orderer.log.view ≡ r.orderer.log.me → numbers.IsNextFree c me history r.orderer.used desk.state.number
         → length desk.waiting ≤ r.desk.waiting.numbered
-    enough own next =
+    enough active own next =
         let n = next_free c me r.orderer.used desk.state.number r.orderer.log history fits next in
         let near = subst (λ (st : State). next_number r.orderer ≤ st.number + 2) is.state n.1 in
-        let some = all (own, n.0, near) in
+        let some = all (own, n.0, near, active) in
         let same = as_many c r.desk.waiting.requests desk.waiting is.waiting in
         omega (arith, some, same)
 
@@ -95,6 +96,7 @@ module _ (old new : ReplicaData) (one : AreOne old.orderer old.desk) (party : Is
       said = subst (λ (x : EndpointState). WasSaid x.me new.orderer.last_checkpoint now) (sym party.orderer.endpoint) event.said;
       all = all;
       first = party.orderer.log.view ∙ runs.first;
+      active = party.orderer.log.active ∙ runs.active;
     };
   })
     where
@@ -119,7 +121,7 @@ module _ (old new : ReplicaData) (one : AreOne old.orderer old.desk) (party : Is
           (settled c (me_of old) new st.desk now st.is event.fits.of_log event.numbers rest all) answered is (taken_so why)
 
       unchanged : target now ≡ 0
-      unchanged = let t = held.of_log.fits.target in let v = party.orderer.log.view ∙ runs.first in omega (arith, t, v)
+      unchanged = let t = leb-true (target now) new.orderer.log.view (held.of_log.fits.active ∙ party.orderer.log.active ∙ runs.active) in let v = party.orderer.log.view ∙ runs.first in omega (arith, t, v)
 
 -- ---- by what was touched
 

@@ -238,7 +238,7 @@ module _ (old : ReplicaData) (client : ClientId) (timestamp : Timestamp) (bytes 
   takes_again outs none (lt, r, found, same, says) again = record {
     party = same_party old;
     begins = λ c past runs known free. (
-      said_stands old old.orderer [] outs one again.goes c (start c past runs known free) known
+      said_stands old old.orderer [] outs one (again.goes (runs.first, runs.active)) c (start c past runs known free) known
           (due_none old.desk c (start c past runs known free) old.orderer [] none (stands_waiting c past runs known free r found (omega (arith, same)))),
       leaves c past runs known free outs (inr (counts c past runs known free (inr (
         unseen c past runs known free lt,

@@ -45,10 +45,10 @@ elsewhere f out m i j row hj ne = go (is_in_marks m i) refl
 
 -- the prepare, or the commit, that is due by a row
 abbrev prepare_by : LogData → Bool → Row → Option (List ℕ)
-prepare_by m b r = cond (not (m.me == primary m m.view) && is_none (cond b (vote_of r.prepares m.me) None)) (cond b (digest_of r) None) None
+prepare_by m b r = cond (m.active && not (m.me == primary m m.view) && is_none (cond b (vote_of r.prepares m.me) None)) (cond b (digest_of r) None) None
 
 abbrev commit_by : LogData → Bool → Row → Option (List ℕ)
-commit_by m b r = cond ((b && is_row_prepared m.faults (replicas m) r) && is_none (cond b (vote_of r.commits m.me) None)) (cond b (digest_of r) None) None
+commit_by m b r = cond (m.active && (b && is_row_prepared m.faults (replicas m) r) && is_none (cond b (vote_of r.commits m.me) None)) (cond b (digest_of r) None) None
 
 prepare_out : (m : LogData) (r s : Row) → prepare_by m false r ≡ prepare_by m false s
 prepare_out m r s = refl
@@ -65,12 +65,12 @@ due_commit_elsewhere m i j row hj ne = elsewhere (commit_by m) (commit_out m) m 
 -- where a vote is due, the number is within the marks, and there is none yet
 pub due_prepare_within : (m : LogData) (i : ℕ) (d : List ℕ) → due_prepare m i ≡ Some d → is_in_marks m i ≡ true
 due_prepare_within m i d h =
-    let a = passed (not (m.me == primary m m.view) && is_none (prepare_of m i m.me)) (logged_digest m i) d h in
+    let a = passed (m.active && not (m.me == primary m m.view) && is_none (prepare_of m i m.me)) (logged_digest m i) d h in
     (passed (is_in_marks m i) (digest_of (row_of m i)) d a.1).0
 
 pub due_commit_within : (m : LogData) (i : ℕ) (d : List ℕ) → due_commit m i ≡ Some d → is_in_marks m i ≡ true
 due_commit_within m i d h =
-    let a = passed (logs.is_prepared m i && is_none (commit_of m i m.me)) (logged_digest m i) d h in
+    let a = passed (m.active && logs.is_prepared m i && is_none (commit_of m i m.me)) (logged_digest m i) d h in
     (passed (is_in_marks m i) (digest_of (row_of m i)) d a.1).0
 
 -- a vote that is counted is the sender's, if not the first
@@ -88,12 +88,12 @@ stopped false o x e = refl
 pub prepare_said : PreparesCount → (m : LogData) (i : ℕ) (vote : Vote) → IsLog m → is_in_marks m i ≡ true → vote.sender.0 ≡ m.me → due_prepare (with_prepare m i vote) i ≡ None
 prepare_said counts m i vote is hi own =
     let k : prepare_of (with_prepare m i vote) i m.me ≡ cond (i == i) (or_else (prepare_of m i m.me) (then_some (vote.sender.0 == m.me) vote.digest)) (prepare_of m i m.me) = (counts m i i m.me vote is hi).1 in
-    stopped (not (m.me == primary m m.view)) (logged_digest (with_prepare m i vote) i) (is_none (prepare_of (with_prepare m i vote) i m.me)) (ap is_none k ∙ counted (prepare_of m i m.me) m.me i vote own)
+    stopped (m.active && not (m.me == primary m m.view)) (logged_digest (with_prepare m i vote) i) (is_none (prepare_of (with_prepare m i vote) i m.me)) (ap is_none k ∙ counted (prepare_of m i m.me) m.me i vote own)
 
 pub commit_said : CommitsCount → (m : LogData) (i : ℕ) (vote : Vote) → IsLog m → is_in_marks m i ≡ true → vote.sender.0 ≡ m.me → due_commit (with_commit m i vote) i ≡ None
 commit_said counts m i vote is hi own =
     let k : commit_of (with_commit m i vote) i m.me ≡ cond (i == i) (or_else (commit_of m i m.me) (then_some (vote.sender.0 == m.me) vote.digest)) (commit_of m i m.me) = (counts m i i m.me vote is hi).2 in
-    stopped (logs.is_prepared (with_commit m i vote) i) (logged_digest (with_commit m i vote) i) (is_none (commit_of (with_commit m i vote) i m.me)) (ap is_none k ∙ counted (commit_of m i m.me) m.me i vote own)
+    stopped (m.active && logs.is_prepared (with_commit m i vote) i) (logged_digest (with_commit m i vote) i) (is_none (commit_of (with_commit m i vote) i m.me)) (ap is_none k ∙ counted (commit_of m i m.me) m.me i vote own)
 
 -- a commit leaves the prepare that is due
 pub prepare_stays : (m : LogData) (i : ℕ) (vote : Vote) → IsLog m → is_in_marks m i ≡ true → due_prepare (with_commit m i vote) i ≡ due_prepare m i

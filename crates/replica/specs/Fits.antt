@@ -1,5 +1,5 @@
 -- The relation between a replica and its history.
-use Rattle.std.specs.Prelude.{◌≡◌, ℕ, false, List, None}
+use Rattle.std.specs.Prelude.{◌≡◌, ℕ, true, false, List, None}
 use Rattle.events.specs.Outputs.{after_event}
 use Rattle.events.specs.declared.output.Output.{Output}
 use Rattle.protocol.specs.System.Configuration.{Configuration, members}
@@ -28,6 +28,7 @@ pub record Runs (c : Configuration) (r : ReplicaData) (history : List Entry) : T
   pub said : WasSaid (me_of r) r.orderer.last_checkpoint history
   pub all : IsAllNumbered r
   pub first : r.orderer.log.view ≡ 0
+  pub active : r.orderer.log.active ≡ true
 
 -- The history is that of a replica which orders requests and sends no view change, and what a replica that runs holds
 -- is what the history says.

@@ -7,12 +7,12 @@ use Rattle.replica.specs.State.{OrdererData, ReplicaData}
 abbrev pub next_number : OrdererData → ℕ
 next_number o = suc (max o.log.low o.used)
 
--- It may be given by the primary: it is within the marks, at most two above the executed one.
+-- It may be given by the primary, while that is active: it is within the marks, at most two above the executed one.
 abbrev pub IsNextFree : ReplicaData → Type 0
 IsNextFree r =
     (logs.primary r.orderer.log r.orderer.log.view ≡ r.orderer.log.me)
     × (logs.is_in_marks r.orderer.log (next_number r.orderer) ≡ true)
-    × (next_number r.orderer ≤ r.desk.executed.state.number + 2)
+    × (next_number r.orderer ≤ r.desk.executed.state.number + 2) × (r.orderer.log.active ≡ true)
 
 -- where it may, no request waits for a number
 abbrev pub IsAllNumbered : ReplicaData → Type 0

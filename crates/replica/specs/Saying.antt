@@ -1,5 +1,5 @@
 -- What an orderer says to the other replicas.
-use Rattle.std.specs.Prelude.{◌≡◌, ◌≢◌, ℕ, ◌+◌, ◌<◌, List, [], ◌∷◌, ◌++◌, length, take, drop, None}
+use Rattle.std.specs.Prelude.{◌≡◌, ◌≢◌, ℕ, ◌+◌, ◌<◌, true, List, [], ◌∷◌, ◌++◌, length, take, drop, None}
 use Rattle.wire.specs.Messages.{MessageData as Message}
 use Rattle.wire.specs.Words.{requests_of}
 use Rattle.events.specs.declared.output.Output.{Output}
@@ -62,9 +62,13 @@ pub record SaysVotes (number : ℕ) (old : OrdererData) (before : List Output) (
   pub says : SaysVote number old before new after
   pub said : IsVoted new.log number
 
--- What was said is said again, and nothing changes.
+-- the replica is active in the first view
+abbrev pub IsFirst : OrdererData → Type 0
+IsFirst o = (o.log.view ≡ 0) × (o.log.active ≡ true)
+
+-- There what was said is said again, and nothing changes.
 pub record SaysAgain (old : OrdererData) (before : List Output) (new : OrdererData) (after : List Output) : Type 0 where
-  pub goes : GoesOn old before new after
+  pub goes : IsFirst old → GoesOn old before new after
   pub same : new ≡ old
 
 -- The primary's own batch of this text is said. Where it may be numbered, and is of the oldest requests without a number,

@@ -119,6 +119,7 @@ impl Replica {
         if log.me().0 == log.primary(log.view()).0
             && log.is_in_marks(number)
             && number.0 <= self.desk.executed.number().0 + AHEAD
+            && log.is_active()
         {
             Some(number)
         } else {

@@ -1,5 +1,5 @@
 -- What goes again: the own votes and batches that stand in the log.
-use Rattle.std.proofs.Common.{◌≡◌, ◌≢◌, ℕ, zero, suc, ◌-◌, ◌≤◌, ◌⊎◌, inl, inr, Bool, true, false, ◌&&◌, not, cond, List, [], ◌∷◌, take, refl, sym, ap, ◌∙◌, subst, Some, None, eqb-true, slice_get}
+use Rattle.std.proofs.Common.{◌≡◌, ◌≢◌, ℕ, zero, suc, ◌-◌, ◌≤◌, ◌⊎◌, inl, inr, Bool, true, false, ◌&&◌, not, cond, List, [], ◌∷◌, length, take, refl, sym, ap, ◌∙◌, subst, arith, Some, None, eqb-true, slice_get}
 use Rattle.std.specs.Prelude.{◌==◌, nat_lt, option_and_then}
 use Rattle.std.proofs.lemmas.Bool.{and_parts, eqb-false, not-true}
 use Rattle.std.specs.Bool.{then_some}
@@ -10,11 +10,11 @@ use Rattle.ordering.specs.Log as logs
 use Rattle.ordering.specs.Log.{LogData}
 use Rattle.ordering.specs.Votes.{vote_of}
 use Rattle.protocol.specs.System.Configuration.{Configuration, primary, is_number}
-use Rattle.protocol.specs.System.Trace.{Entry, Once, Always, Has}
+use Rattle.protocol.specs.System.Trace.{Entry, Once, Always}
 use Rattle.protocol.specs.System.Trace.Entry.{Invoke, Got, Tick, Executed, Installed, Sent, Accepted}
 use Rattle.protocol.specs.Replica.Certificates.{are_genuine, counts_at, taken, checkpoint_from, with_checkpoint, insert_checkpoint, checkpoints_of, batch_from, prepare_from, commit_from, batch_begun, brought, low, is_in_marks, begun_proposal, entry_proposal, proposal, logged, prepare_of, commit_of}
 use Rattle.protocol.specs.Replica.RightReplica.{Point, Leaves, HasSeen, MayCheckpoint, others}
-use Rattle.protocol.specs.Replica.Owed.{BeginsViewWith, NumbersOnce}
+use Rattle.protocol.specs.Replica.Owed.{NumbersOnce}
 use Rattle.protocol.proofs.Words.Options.{some_injective, and_then_some, then_some_gives, given_once, or_else_cases}
 use Rattle.protocol.proofs.Words.Temporal.{once_weaker, once_stays}
 use Rattle.protocol.proofs.Words.Elements.{each_weaker}
@@ -22,7 +22,7 @@ use Rattle.protocol.proofs.Agreement.Voting.{RightAt, once_right, Logs, logged_s
 use Rattle.replica_histories.specs.Desk.{Desk, point_of}
 use Rattle.replica_histories.specs.Logs.{above_mark, Takes}
 use Rattle.replica_histories.specs.Events.{Start, behind, Fits}
-use Rattle.replica_histories.specs.Outputs.{PreparesGoAgain, CommitsGoAgain, BatchesGoAgain, CheckpointsGoAgain}
+use Rattle.replica_histories.specs.Outputs.{IsBegunBelow, PreparesGoAgain, CommitsGoAgain, BatchesGoAgain, CheckpointsGoAgain}
 use Rattle.replica_histories.proofs.Words.{passed, given_not, marks_are, primary_same}
 use Rattle.replica_histories.proofs.Certified.{active}
 use Rattle.replica_histories.proofs.Speaking.{heard_other, prepare_spoken, spoken_logged, prepare_backup, Certified, commit_spoken, spoken_certified}
@@ -31,17 +31,18 @@ use Rattle.replica_histories.proofs.Checking.{latest_of, said_may, executed_at_m
 use Rattle.replica_histories.proofs.Taking.{takes_nothing, none_there}
 use Rattle.replica_histories.proofs.Ending.{steps_leave}
 use Rattle.replica_histories.proofs.TransfersQuorums.{no_root, own_root}
-use Rattle.replica_histories.proofs.Giving.{sent_fits, log_sent, no_proposal, placed, prepare_placed, commit_placed}
+use Rattle.replica_histories.proofs.Logging.{beside_placed}
+use Rattle.replica_histories.proofs.Giving.{sent_fits, no_proposal, placed, never_rests, prepare_placed, commit_placed}
 
 leaves_now : (c : Configuration) (me : ℕ) (s : Start) (desk : Desk) (log : LogData) (due : List Message) (outputs : List Entry) (f : Fits c me s desk log due outputs)
     → Leaves c me (behind s outputs) (point_of desk f.of_desk.states f.of_desk.ran)
 leaves_now c me s desk log due outputs f = steps_leave c me s outputs (point_of desk f.of_desk.states f.of_desk.ran) f.of_desk.leaves f.of_desk.steps
 
 pub prepares_go_again : PreparesGoAgain
-prepares_go_again c me s desk log due outputs i digest bytes there posted f =
-    sent_fits c me s desk log log due due outputs bytes (others c me) (Prepare log.view i digest) f posted refl refl tt
-    (record { is_backup = backup; active = active c me log past f.of_log; batch = l.batch; is_logged = l.is_logged; digest_is = l.digest })
-    (log_sent c me log log past bytes (others c me) (Prepare log.view i digest) f.of_log posted tt takes (prepare_placed c me me i digest log within))
+prepares_go_again c me s desk log due outputs i digest bytes is_active there posted f =
+    sent_fits c me s desk log log due due outputs bytes (others c me) (Prepare log.view i digest) f posted refl tt
+    (record { is_backup = backup; active = active c me log past f.of_log ∙ is_active; batch = l.batch; is_logged = l.is_logged; digest_is = l.digest })
+    tt takes (prepare_placed c me me i digest log is_active within)
     refl (no_root c (behind s outputs) bytes me (Prepare log.view i digest) desk.state.number posted.says refl) (λ x h. inl h) (λ x h. h) (no_proposal c me past bytes (Prepare log.view i digest) posted.says tt)
   where
     past : List Entry
@@ -72,10 +73,10 @@ prepares_go_again c me s desk log due outputs i digest bytes there posted f =
         spoken_logged c me log.view i digest past (point_of desk f.of_desk.states f.of_desk.ran) leaves (prepare_spoken c me log.view i digest past (point_of desk f.of_desk.states f.of_desk.ran) leaves own)
 
 pub commits_go_again : CommitsGoAgain
-commits_go_again c me s desk log due outputs i digest bytes there posted f =
-    sent_fits c me s desk log log due due outputs bytes (others c me) (Commit log.view i digest) f posted refl refl tt
-    (record { active = active c me log past f.of_log; batch = l.batch; prepared = l.prepared; digest_is = l.digest_is })
-    (log_sent c me log log past bytes (others c me) (Commit log.view i digest) f.of_log posted tt takes (commit_placed c me me i digest log within))
+commits_go_again c me s desk log due outputs i digest bytes is_active there posted f =
+    sent_fits c me s desk log log due due outputs bytes (others c me) (Commit log.view i digest) f posted refl tt
+    (record { active = active c me log past f.of_log ∙ is_active; batch = l.batch; prepared = l.prepared; digest_is = l.digest_is })
+    tt takes (commit_placed c me me i digest log is_active within)
     refl (no_root c (behind s outputs) bytes me (Commit log.view i digest) desk.state.number posted.says refl) (λ x h. inl h) (λ x h. h) (no_proposal c me past bytes (Commit log.view i digest) posted.says tt)
   where
     past : List Entry
@@ -138,19 +139,27 @@ proposes c me v i batch own past (Executed x y z) r h = absurd (let bad : None �
 proposes c me v i batch own past (Installed x y z) r h = absurd (let bad : None ≡ Some h.0 = h.1 in cc)
 proposes c me v i batch own past (Accepted x y z) r h = absurd (let bad : None ≡ Some h.0 = h.1 in cc)
 
--- what a new view has for a number is one of its batches
-begun_has : (v i : ℕ) (new : NewViewData) (batch : List ℕ) → batch_begun v i new ≡ Some batch → (new.view ≡ v) × Has (λ x. x ≡ batch) new.batches
-begun_has v i new batch h =
-    let p = passed ((new.view == v) && nat_lt new.start i) (slice_get new.batches (i - new.start - 1)) batch h in
-    (eqb-true new.view v (and_parts (new.view == v) (nat_lt new.start i) p.0).0, get new.batches (i - new.start - 1) p.1)
-  where
-    get : (xs : List (List ℕ)) (k : ℕ) → slice_get xs k ≡ Some batch → Has (λ x. x ≡ batch) xs
-    get [] k h = absurd cc
-    get (x ∷ xs) zero h = inl cc
-    get (x ∷ xs) (suc k) h = inr (get xs k h)
+-- a new view that is taken proposes the batch for the number
+abbrev BegunAt : Configuration → ℕ → ℕ → List ℕ → List Entry → Entry → Type 0
+BegunAt c v i batch past e = (new : NewViewData) × (taken c past e ≡ Some new) × (batch_begun v i new ≡ Some batch)
+
+beyond : (batch : List ℕ) (xs : List (List ℕ)) (k : ℕ) → length xs ≤ k → slice_get xs k ≡ Some batch → ⊥
+beyond batch [] k l h = cc
+beyond batch (x ∷ xs) zero l h = absurd (omega arith)
+beyond batch (x ∷ xs) (suc k) l h = beyond batch xs k (omega arith) h
+
+-- none does where all new views of the view end below it
+not_begun : (c : Configuration) (v i : ℕ) (batch : List ℕ) (history : List Entry) → IsBegunBelow c v i history → Once (BegunAt c v i batch) history → ⊥
+not_begun c v i batch [] below h = h
+not_begun c v i batch (e ∷ past) below (inr h) = not_begun c v i batch past (λ new once at. below new (inr once) at) h
+not_begun c v i batch (e ∷ past) below (inl h) =
+    let p = passed ((h.0.view == v) && nat_lt h.0.start i) (slice_get h.0.batches (i - h.0.start - 1)) batch h.2 in
+    let q = and_parts (h.0.view == v) (nat_lt h.0.start i) p.0 in
+    let l = below h.0 (inl h.1) (eqb-true h.0.view v q.0) in
+    beyond batch h.0.batches (i - h.0.start - 1) (omega arith) p.1
 
 -- what an entry proposes, where no new view begins with it
-proposal_source : (c : Configuration) (me v i : ℕ) (batch : List ℕ) (past : List Entry) (e : Entry) → (BeginsViewWith c v batch past e → ⊥) → proposal c me past e v i ≡ Some batch
+proposal_source : (c : Configuration) (me v i : ℕ) (batch : List ℕ) (past : List Entry) (e : Entry) → (BegunAt c v i batch past e → ⊥) → proposal c me past e v i ≡ Some batch
     → (body : Body) × (brought c e ≡ Some body) × (batch_from c me v i body ≡ Some batch)
 proposal_source c me v i batch past e none h = go (or_else_cases (begun_proposal c me past e v i) (entry_proposal c me past e v i) batch h)
   where
@@ -158,8 +167,7 @@ proposal_source c me v i batch past e none h = go (or_else_cases (begun_proposal
     go (inl k) =
         let p = passed (is_in_marks c (low c me (e ∷ past)) i) (option_and_then (batch_begun v i) (taken c past e)) batch k in
         let n = and_then_some (batch_begun v i) (taken c past e) batch p.1 in
-        let b = begun_has v i n.0 batch n.2 in
-        absurd (none (n.0, n.1, b.0, b.1))
+        absurd (none (n.0, n.1, n.2))
     go (inr k) =
         let p = passed (counts_at c me past e v i) (option_and_then (batch_from c me v i) (brought c e)) batch k in
         and_then_some (batch_from c me v i) (brought c e) batch p.1
@@ -170,24 +178,24 @@ once_but P Q (e ∷ past) (inl h) n = inl (h, λ q. n (inl q))
 once_but P Q (e ∷ past) (inr h) n = inr (once_but P Q past h (λ q. n (inr q)))
 
 -- the own batch of a log that fits was proposed
-batch_proposed : (c : Configuration) (me v i : ℕ) (batch : List ℕ) (past : List Entry) (point : Point) → Leaves c me past point → primary c v ≡ me → (Once (BeginsViewWith c v batch) past → ⊥) → logged c me past v i ≡ Some batch
+batch_proposed : (c : Configuration) (me v i : ℕ) (batch : List ℕ) (past : List Entry) (point : Point) → Leaves c me past point → primary c v ≡ me → (Once (BegunAt c v i batch) past → ⊥) → logged c me past v i ≡ Some batch
     → Proposed c me batch past
 unfolding logged
 batch_proposed c me v i batch past point leaves own none h =
     let once = given_once (λ earlier e. proposal c me earlier e v i) batch past h in
-    let but = once_but (λ past e. proposal c me past e v i ≡ Some batch) (BeginsViewWith c v batch) past once none in
+    let but = once_but (λ past e. proposal c me past e v i ≡ Some batch) (BegunAt c v i batch) past once none in
     once_stays (Proposed c me batch) (proposed_stays c me batch) past
     (once_weaker
-    (λ past e. RightAt c me past e × ((proposal c me past e v i ≡ Some batch) × (BeginsViewWith c v batch past e → ⊥)) × Always (RightAt c me) past)
+    (λ past e. RightAt c me past e × ((proposal c me past e v i ≡ Some batch) × (BegunAt c v i batch past e → ⊥)) × Always (RightAt c me) past)
     (λ past e. Proposed c me batch past)
     (λ past e t. proposes c me v i batch own past e t.0 (proposal_source c me v i batch past e t.1.1 t.1.0)) past
-    (once_right c me (λ past e. (proposal c me past e v i ≡ Some batch) × (BeginsViewWith c v batch past e → ⊥)) past (point, leaves) but))
+    (once_right c me (λ past e. (proposal c me past e v i ≡ Some batch) × (BegunAt c v i batch past e → ⊥)) past (point, leaves) but))
 
 pub batches_go_again : BatchesGoAgain
-batches_go_again c me s desk log due outputs i batch bytes own there posted f =
-    sent_fits c me s desk log log due due outputs bytes (others c me) (PrePrepare log.view i batch) f posted refl refl proposed.1
-    (record { is_primary = primary_is; active = active c me log past f.of_log; in_marks = marks_are c me log past i f.of_log ∙ within; genuine = proposed.0; one = logged_stays c me log.view i batch (Sent me bytes) past logs_it })
-    (log_sent c me log log past bytes (others c me) (PrePrepare log.view i batch) f.of_log posted tt takes (record { batch = place; votes = λ j x out. (refl, refl) }))
+batches_go_again c me s desk log due outputs i batch bytes is_active own there below posted f =
+    sent_fits c me s desk log log due due outputs bytes (others c me) (PrePrepare log.view i batch) f posted refl proposed.1
+    (record { is_primary = primary_is; active = active c me log past f.of_log ∙ is_active; in_marks = marks_are c me log past i f.of_log ∙ within; genuine = proposed.0; one = logged_stays c me log.view i batch (Sent me bytes) past logs_it })
+    tt takes (record { batch = place; votes = λ v j x other. (refl, refl); resting = λ rests j x. never_rests log is_active rests })
     refl (no_root c (behind s outputs) bytes me (PrePrepare log.view i batch) desk.state.number posted.says refl) (λ x h. inl h) (λ x h. h) once
   where
     past : List Entry
@@ -203,7 +211,7 @@ batches_go_again c me s desk log due outputs i batch bytes own there posted f =
     logs_it = f.of_log.batches i within ∙ there
 
     proposed : Proposed c me batch past
-    proposed = batch_proposed c me log.view i batch past (point_of desk f.of_desk.states f.of_desk.ran) (leaves_now c me s desk log due outputs f) primary_is (f.of_log.begun log.view batch) logs_it
+    proposed = batch_proposed c me log.view i batch past (point_of desk f.of_desk.states f.of_desk.ran) (leaves_now c me s desk log due outputs f) primary_is (not_begun c log.view i batch past below) logs_it
 
     takes : Takes c me (Some (record { sender = me; message = PrePrepare log.view i batch })) log log
     takes = takes_nothing c me _ log f.of_log.is_log
@@ -234,9 +242,9 @@ batches_go_again c me s desk log due outputs i batch bytes own there posted f =
 
 pub checkpoints_go_again : CheckpointsGoAgain
 checkpoints_go_again c me s desk log due outputs k root bytes once posted f =
-    sent_fits c me s desk log log due due outputs bytes (others c me) (Checkpoint k root) f posted refl refl tt
+    sent_fits c me s desk log log due due outputs bytes (others c me) (Checkpoint k root) f posted refl tt
     may
-    (log_sent c me log log past bytes (others c me) (Checkpoint k root) f.of_log posted tt takes (record { batch = λ v j x h. absurd cc; votes = λ j x out. (refl, refl) }))
+    tt takes (beside_placed c me log me (Checkpoint k root) tt)
     refl (own_root c past bytes me k root desk.state.number posted.says executed) (λ x h. inl h) (λ x h. h) (no_proposal c me past bytes (Checkpoint k root) posted.says tt)
   where
     past : List Entry

@@ -18,7 +18,8 @@ use Rattle.replica_histories.specs.Events.{Start, behind, Fits, Holds}
 use Rattle.replica_histories.specs.Answering.{PartsFit, KeptFetchesCount, PartsSuffice, OtherNumbersOweNone}
 use Rattle.replica_histories.proofs.Taking.{takes_nothing}
 use Rattle.replica_histories.proofs.Parting.{ordering_leaves}
-use Rattle.replica_histories.proofs.Giving.{sent_fits, log_sent, no_proposal}
+use Rattle.replica_histories.proofs.Logging.{beside_placed}
+use Rattle.replica_histories.proofs.Giving.{sent_fits, no_proposal}
 use Rattle.replica_histories.proofs.TransfersAnswering.{IsPart, snapshots_are_kept, kept_have_snapshots, answers_may_go, answers_suffice, none_is_owed}
 use Rattle.replica_histories.proofs.TransfersQuorums.{no_root}
 
@@ -33,14 +34,14 @@ part_goes : (c : Configuration) (me : ℕ) (s : Start) (desk : Desk) (log : LogD
     → IsPosted c me message receivers bytes → IsFor c me (behind s outputs) message receivers → MaySay c me (behind s outputs) (point_of desk f.of_desk.states f.of_desk.ran) (Sent me bytes) bytes message
     → Fits c me s desk log due (Sent me bytes ∷ outputs)
 part_goes c me s desk log due outputs receivers bytes (Meta k level index digests) f is posted for say =
-    sent_fits c me s desk log log due due outputs bytes receivers (Meta k level index digests) f posted refl for tt say
-    (log_sent c me log log (behind s outputs) bytes receivers (Meta k level index digests) f.of_log posted tt
-    (takes_nothing c me (Some (record { sender = me; message = Meta k level index digests })) log f.of_log.is_log (λ i w h. refl) (λ i x w h. refl) (λ i x w h. refl) (λ x. refl)) (record { batch = λ v i b h. absurd cc; votes = λ i x out. (refl, refl) }))
+    sent_fits c me s desk log log due due outputs bytes receivers (Meta k level index digests) f posted for tt say
+    tt
+    (takes_nothing c me (Some (record { sender = me; message = Meta k level index digests })) log f.of_log.is_log (λ i w h. refl) (λ i x w h. refl) (λ i x w h. refl) (λ x. refl)) (beside_placed c me log me (Meta k level index digests) tt)
     refl (no_root c (behind s outputs) bytes me (Meta k level index digests) desk.state.number posted.says refl) (λ x h. inl h) (λ x h. h) (no_proposal c me (behind s outputs) bytes (Meta k level index digests) posted.says tt)
 part_goes c me s desk log due outputs receivers bytes (Page k index text) f is posted for say =
-    sent_fits c me s desk log log due due outputs bytes receivers (Page k index text) f posted refl for tt say
-    (log_sent c me log log (behind s outputs) bytes receivers (Page k index text) f.of_log posted tt
-    (takes_nothing c me (Some (record { sender = me; message = Page k index text })) log f.of_log.is_log (λ i w h. refl) (λ i x w h. refl) (λ i x w h. refl) (λ x. refl)) (record { batch = λ v i b h. absurd cc; votes = λ i x out. (refl, refl) }))
+    sent_fits c me s desk log log due due outputs bytes receivers (Page k index text) f posted for tt say
+    tt
+    (takes_nothing c me (Some (record { sender = me; message = Page k index text })) log f.of_log.is_log (λ i w h. refl) (λ i x w h. refl) (λ i x w h. refl) (λ x. refl)) (beside_placed c me log me (Page k index text) tt)
     refl (no_root c (behind s outputs) bytes me (Page k index text) desk.state.number posted.says refl) (λ x h. inl h) (λ x h. h) (no_proposal c me (behind s outputs) bytes (Page k index text) posted.says tt)
 part_goes c me s desk log due outputs receivers bytes _ f is posted for say = absurd is
 

@@ -26,14 +26,13 @@ use Rattle.protocol.specs.Replica.Certificates.{are_genuine, checkpoint_from, ch
 use Rattle.protocol.specs.Replica.State.{State, Call, kept_of, last_time}
 use Rattle.protocol.specs.Replica.RightReplica.{Point}
 use Rattle.protocol.specs.Replica.Owed.{IsNoOlder, has_number}
-use Rattle.protocol.proofs.Words.Plain.{IsPlain, heard_plain, taken_none}
 use Rattle.replica_histories.specs.Logs.{above_mark, FitsLog, Takes}
 use Rattle.replica_histories.specs.Inputs.{BatchesCount, PreparesCount, CommitsCount, CheckpointsCount, RequestsCount, BatchesDrop, PreparesDrop, CommitsDrop, CheckpointsDrop, EarlyCheckpointsDrop, IsBesideLog, OthersDrop}
 use Rattle.replica_histories.proofs.Words.{apart, mapped, given_not, batch_read, primary_same}
 use Rattle.replica_histories.proofs.Latest.{inserts_same, says_above, number_above, says_number, above_with, listed_passed, passed_adds_nothing, put_or_passed}
 use Rattle.replica_histories.proofs.Checking.{checking}
-use Rattle.replica_histories.proofs.Taking.{takes_nothing, none_there, prepare_taken, commit_taken, batch_taken}
-use Rattle.replica_histories.proofs.Logging.{Read, got_read}
+use Rattle.replica_histories.proofs.Taking.{takes_no_more, takes_nothing, none_there, prepare_taken, commit_taken, batch_taken}
+use Rattle.replica_histories.proofs.Logging.{got_reads}
 use Rattle.replica_histories.proofs.Cutting.{counts_one, counts_alike}
 
 -- ---- faults
@@ -42,6 +41,7 @@ use Rattle.replica_histories.proofs.Cutting.{counts_one, counts_alike}
 record NoFault (log : LogData) (may_send : Bool) (v i : ℕ) : Type 0 where
   pub sends : may_send ≡ true
   pub view : v ≡ log.view
+  pub active : log.active ≡ true
   pub within : logs.is_in_marks log i ≡ true
 
 no_fault : (log : LogData) (may_send : Bool) (v i : ℕ) → ordering_fault log may_send v i ≡ None → NoFault log may_send v i
@@ -52,11 +52,11 @@ no_fault log may_send v i h = go may_send (logs.is_active_in log v) (logs.is_in_
     go false active within a b d h = absurd cc
     go true false within a b d h = absurd cc
     go true true false a b d h = absurd cc
-    go true true true a b d h = record { sends = a; view = eqb-true v log.view (and_parts (v == log.view) log.active b).0; within = d }
+    go true true true a b d h = record { sends = a; view = eqb-true v log.view (and_parts (v == log.view) log.active b).0; active = (and_parts (v == log.view) log.active b).1; within = d }
 
 -- and so there is none
-none_speaks : (c : Configuration) (me : ℕ) (log : LogData) (past : List Entry) (may_send : Bool) (i : ℕ) → FitsLog c me log past → may_send ≡ true → logs.is_in_marks log i ≡ true → ordering_fault log may_send log.view i ≡ None
-none_speaks c me log past may_send i f sends within = rw (sends, eq-eqb log.view log.view refl, f.active, within) refl
+none_speaks : (log : LogData) (may_send : Bool) (i : ℕ) → log.active ≡ true → may_send ≡ true → logs.is_in_marks log i ≡ true → ordering_fault log may_send log.view i ≡ None
+none_speaks log may_send i active sends within = rw (sends, eq-eqb log.view log.view refl, active, within) refl
 
 or_none : {A : Type 0} (first later : Option A) → or_else first later ≡ None → (first ≡ None) × (later ≡ None)
 or_none None later h = (refl, h)
@@ -83,22 +83,20 @@ no_digest log i k h = let row : (logs.row_of log i).batch ≡ None = sym (batch_
 
 -- ---- what is read of a message that is heard
 
-reader : (c : Configuration) (me : ℕ) (log : LogData) (past : List Entry) (bytes : List ℕ) (body : Body) → FitsLog c me log past → heard (members c) me bytes ≡ Some body → IsPlain body.message → Read c me log past (Got me bytes)
-reader c me log past bytes body f h plain = got_read c me log past bytes f (taken_none c past (Got me bytes) (heard_plain c past me bytes body h plain))
-
-reads_it : (c : Configuration) (me : ℕ) (log : LogData) (past : List Entry) (bytes : List ℕ) (body : Body) (i : ℕ) (vote : Body → Option (List ℕ)) → FitsLog c me log past → heard (members c) me bytes ≡ Some body → IsPlain body.message
-    → logs.is_in_marks log i ≡ true → vote_in c me past (Got me bytes) vote log.view i ≡ vote body
-reads_it c me log past bytes body i vote f h plain k = (reader c me log past bytes body f h plain).reads i vote k ∙ ap (option_and_then vote) h
+reads_it : (c : Configuration) (me : ℕ) (log : LogData) (past : List Entry) (bytes : List ℕ) (body : Body) (i : ℕ) (vote : Body → Option (List ℕ)) → FitsLog c me log past → heard (members c) me bytes ≡ Some body
+    → log.active ≡ true → logs.is_in_marks log i ≡ true → vote_in c me past (Got me bytes) vote log.view i ≡ vote body
+reads_it c me log past bytes body i vote f h active k =
+    got_reads c me log past bytes i vote f k ∙ ap (λ (b : Bool). cond b (option_and_then vote (heard (members c) me bytes)) None) active ∙ ap (option_and_then vote) h
 
 -- ---- a batch
 
 pub batches_count : BatchesCount
 batches_count c me log past point s v i batch bytes f h none genuine = (
   subst (λ (x : ℕ). (entry_proposal c me past (Got me bytes) x i ≡ Some batch) × (logged c me past x i ≡ None)) (sym p.view) (
-    reads_it c me log past bytes (record { sender = s; message = PrePrepare log.view i batch }) i (batch_from c me log.view i) f hears tt p.within ∙ given,
+    reads_it c me log past bytes (record { sender = s; message = PrePrepare log.view i batch }) i (batch_from c me log.view i) f hears p.active p.within ∙ given,
     f.batches i p.within ∙ free,
   ),
-  subst (λ (o : Option Body). Takes c me o log (logs.with_batch log i batch)) (sym hears) (batch_taken c me s i batch log f.is_log p.within primary_is genuine free),
+  subst (λ (o : Option Body). Takes c me o log (logs.with_batch log i batch)) (sym hears) (batch_taken c me s i batch log f.is_log p.active p.within primary_is genuine free),
 )
   where
     faults : (ordering_fault log (s == logs.primary log v) v i ≡ None) × (fault_beside (logs.logged_digest log i) (sha256 batch) ≡ None)
@@ -120,22 +118,22 @@ batches_count c me log past point s v i batch bytes f h none genuine = (
     given = rw (eq-eqb log.view log.view refl, eq-eqb i i refl, primary_is, genuine) refl
 
 pub batches_drop : BatchesDrop
-batches_drop c me log past s v i batch bytes f h faulty = subst (λ (o : Option Body). Takes c me o log log) (sym h) (takes_nothing c me _ log f.is_log
-    (λ j k none. none_there (logs.logged_batch log j) (batch_from c me log.view j (record { sender = s; message = PrePrepare v i batch })) ((v == log.view) && (i == j) && (s == primary c log.view) && are_genuine c me batch) batch refl none
+batches_drop c me log past s v i batch bytes f h faulty = subst (λ (o : Option Body). Takes c me o log log) (sym h) (takes_no_more c me _ log f.is_log
+    (λ j active k none. none_there (logs.logged_batch log j) (batch_from c me log.view j (record { sender = s; message = PrePrepare v i batch })) ((v == log.view) && (i == j) && (s == primary c log.view) && are_genuine c me batch) batch refl none
     (λ e free.
     let a = and_parts ((v == log.view) && (i == j) && (s == primary c log.view)) (are_genuine c me batch) e in
     let b = and_parts ((v == log.view) && (i == j)) (s == primary c log.view) a.0 in
     let d = and_parts (v == log.view) (i == j) b.0 in
     let same : i ≡ j = eqb-true i j d.1 in
-    clash (eqb-true v log.view d.0) (subst (λ (x : ℕ). logs.is_in_marks log x ≡ true) (sym same) k) b.1 a.1 (subst (λ (x : ℕ). logs.logged_batch log x ≡ None) (sym same) free) faulty))
-    (λ j x k none. refl) (λ j x k none. refl) (λ x. refl))
+    clash active (eqb-true v log.view d.0) (subst (λ (x : ℕ). logs.is_in_marks log x ≡ true) (sym same) k) b.1 a.1 (subst (λ (x : ℕ). logs.logged_batch log x ≡ None) (sym same) free) faulty))
+    (λ j x active k none. refl) (λ j x active k none. refl) (λ x. refl))
   where
-    clash : v ≡ log.view → logs.is_in_marks log i ≡ true → (s == primary c log.view) ≡ true → are_genuine c me batch ≡ true → logs.logged_batch log i ≡ None
+    clash : log.active ≡ true → v ≡ log.view → logs.is_in_marks log i ≡ true → (s == primary c log.view) ≡ true → are_genuine c me batch ≡ true → logs.logged_batch log i ≡ None
         → ((fault : Dropped) × (preprepare_fault log s v i batch ≡ Some fault)) ⊎ (are_genuine c me batch ≡ false) → ⊥
-    clash view within primary_is genuine free (inr e) = apart (are_genuine c me batch) genuine e
-    clash view within primary_is genuine free (inl e) =
+    clash active view within primary_is genuine free (inr e) = apart (are_genuine c me batch) genuine e
+    clash active view within primary_is genuine free (inl e) =
         let sends : (s == logs.primary log log.view) ≡ true = ap (λ (x : ℕ). s == x) (primary_same c log log.view f.faults) ∙ primary_is in
-        let speaks = none_speaks c me log past (s == logs.primary log log.view) i f sends within in
+        let speaks = none_speaks log (s == logs.primary log log.view) i active sends within in
         let digest = no_digest log i within free in
         let none : preprepare_fault log s log.view i batch ≡ None = rw (speaks, digest) refl in
         given_not (preprepare_fault log s v i batch) e.0 e.1 (subst (λ (x : ℕ). preprepare_fault log s x i batch ≡ None) (sym view) none)
@@ -152,10 +150,10 @@ known c me log past bytes body f h is =
 pub prepares_count : PreparesCount
 prepares_count c me log past point s v i digest bytes vote f h none sender same = (
   subst (λ (x : ℕ). (vote_in c me past (Got me bytes) (prepare_from c s x i) x i ≡ Some digest) × (prepare_of c me past x i s ≡ None)) (sym p.view) (
-    reads_it c me log past bytes (record { sender = s; message = Prepare log.view i digest }) i (prepare_from c s log.view i) f hears tt p.within ∙ given,
+    reads_it c me log past bytes (record { sender = s; message = Prepare log.view i digest }) i (prepare_from c s log.view i) f hears p.active p.within ∙ given,
     f.prepares i s p.within ∙ beside_none (logs.prepare_of log i s) digest faults.1,
   ),
-  subst (λ (o : Option Body). Takes c me o log (logs.with_prepare log i vote)) (sym hears) (prepare_taken c me s i digest vote log f.is_log p.within (ltb-true s (logs.replicas log) sends.0) backup sender same),
+  subst (λ (o : Option Body). Takes c me o log (logs.with_prepare log i vote)) (sym hears) (prepare_taken c me s i digest vote log f.is_log p.active p.within (ltb-true s (logs.replicas log) sends.0) backup sender same),
 )
   where
     faults : (ordering_fault log (nat_lt s (logs.replicas log) && not (s == logs.primary log v)) v i ≡ None) × (fault_beside (logs.prepare_of log i s) digest ≡ None)
@@ -177,34 +175,34 @@ prepares_count c me log past point s v i digest bytes vote f h none sender same 
     given = rw (eq-eqb s s refl, eq-eqb log.view log.view refl, eq-eqb i i refl, backup) refl
 
 pub prepares_drop : PreparesDrop
-prepares_drop c me log past s v i digest bytes fault f h faulty = subst (λ (o : Option Body). Takes c me o log log) (sym h) (takes_nothing c me _ log f.is_log
-    (λ j k none. refl)
-    (λ j x k none. none_there (logs.prepare_of log j x) (prepare_from c x log.view j (record { sender = s; message = Prepare v i digest })) ((s == x) && (v == log.view) && (i == j) && not (x == primary c log.view)) digest refl none
+prepares_drop c me log past s v i digest bytes fault f h faulty = subst (λ (o : Option Body). Takes c me o log log) (sym h) (takes_no_more c me _ log f.is_log
+    (λ j active k none. refl)
+    (λ j x active k none. none_there (logs.prepare_of log j x) (prepare_from c x log.view j (record { sender = s; message = Prepare v i digest })) ((s == x) && (v == log.view) && (i == j) && not (x == primary c log.view)) digest refl none
     (λ e free.
     let a = and_parts ((s == x) && (v == log.view) && (i == j)) (not (x == primary c log.view)) e in
     let b = and_parts ((s == x) && (v == log.view)) (i == j) a.0 in
     let d = and_parts (s == x) (v == log.view) b.0 in
     let same : i ≡ j = eqb-true i j b.1 in
     let from : s ≡ x = eqb-true s x d.0 in
-    clash (eqb-true v log.view d.1) (subst (λ (y : ℕ). logs.is_in_marks log y ≡ true) (sym same) k) (subst (λ (y : ℕ). not (y == primary c log.view) ≡ true) (sym from) a.1)
+    clash active (eqb-true v log.view d.1) (subst (λ (y : ℕ). logs.is_in_marks log y ≡ true) (sym same) k) (subst (λ (y : ℕ). not (y == primary c log.view) ≡ true) (sym from) a.1)
     (subst (λ (y : ℕ). logs.prepare_of log y s ≡ None) (sym same) (subst (λ (y : ℕ). logs.prepare_of log j y ≡ None) (sym from) free))))
-    (λ j x k none. refl) (λ x. refl))
+    (λ j x active k none. refl) (λ x. refl))
   where
-    clash : v ≡ log.view → logs.is_in_marks log i ≡ true → not (s == primary c log.view) ≡ true → logs.prepare_of log i s ≡ None → ⊥
-    clash view within backup free =
+    clash : log.active ≡ true → v ≡ log.view → logs.is_in_marks log i ≡ true → not (s == primary c log.view) ≡ true → logs.prepare_of log i s ≡ None → ⊥
+    clash active view within backup free =
         let is_known = known c me log past bytes (record { sender = s; message = Prepare v i digest }) f h refl in
         let other : not (s == logs.primary log log.view) ≡ true = ap (λ (x : ℕ). not (s == x)) (primary_same c log log.view f.faults) ∙ backup in
-        let speaks = none_speaks c me log past (nat_lt s (logs.replicas log) && not (s == logs.primary log log.view)) i f (rw (is_known) other) within in
+        let speaks = none_speaks log (nat_lt s (logs.replicas log) && not (s == logs.primary log log.view)) i active (rw (is_known) other) within in
         let none : prepare_fault log s log.view i digest ≡ None = rw (speaks, free) refl in
         given_not (prepare_fault log s v i digest) fault faulty (subst (λ (x : ℕ). prepare_fault log s x i digest ≡ None) (sym view) none)
 
 pub commits_count : CommitsCount
 commits_count c me log past point s v i digest bytes vote f h none sender same = (
   subst (λ (x : ℕ). (vote_in c me past (Got me bytes) (commit_from s x i) x i ≡ Some digest) × (commit_of c me past x i s ≡ None)) (sym p.view) (
-    reads_it c me log past bytes (record { sender = s; message = Commit log.view i digest }) i (commit_from s log.view i) f hears tt p.within ∙ given,
+    reads_it c me log past bytes (record { sender = s; message = Commit log.view i digest }) i (commit_from s log.view i) f hears p.active p.within ∙ given,
     f.commits i s p.within ∙ beside_none (logs.commit_of log i s) digest faults.1,
   ),
-  subst (λ (o : Option Body). Takes c me o log (logs.with_commit log i vote)) (sym hears) (commit_taken c me s i digest vote log f.is_log p.within (ltb-true s (logs.replicas log) p.sends) sender same),
+  subst (λ (o : Option Body). Takes c me o log (logs.with_commit log i vote)) (sym hears) (commit_taken c me s i digest vote log f.is_log p.active p.within (ltb-true s (logs.replicas log) p.sends) sender same),
 )
   where
     faults : (ordering_fault log (nat_lt s (logs.replicas log)) v i ≡ None) × (fault_beside (logs.commit_of log i s) digest ≡ None)
@@ -220,22 +218,22 @@ commits_count c me log past point s v i digest bytes vote f h none sender same =
     given = rw (eq-eqb s s refl, eq-eqb log.view log.view refl, eq-eqb i i refl) refl
 
 pub commits_drop : CommitsDrop
-commits_drop c me log past s v i digest bytes fault f h faulty = subst (λ (o : Option Body). Takes c me o log log) (sym h) (takes_nothing c me _ log f.is_log
-    (λ j k none. refl) (λ j x k none. refl)
-    (λ j x k none. none_there (logs.commit_of log j x) (commit_from x log.view j (record { sender = s; message = Commit v i digest })) ((s == x) && (v == log.view) && (i == j)) digest refl none
+commits_drop c me log past s v i digest bytes fault f h faulty = subst (λ (o : Option Body). Takes c me o log log) (sym h) (takes_no_more c me _ log f.is_log
+    (λ j active k none. refl) (λ j x active k none. refl)
+    (λ j x active k none. none_there (logs.commit_of log j x) (commit_from x log.view j (record { sender = s; message = Commit v i digest })) ((s == x) && (v == log.view) && (i == j)) digest refl none
     (λ e free.
     let b = and_parts ((s == x) && (v == log.view)) (i == j) e in
     let d = and_parts (s == x) (v == log.view) b.0 in
     let same : i ≡ j = eqb-true i j b.1 in
     let from : s ≡ x = eqb-true s x d.0 in
-    clash (eqb-true v log.view d.1) (subst (λ (y : ℕ). logs.is_in_marks log y ≡ true) (sym same) k)
+    clash active (eqb-true v log.view d.1) (subst (λ (y : ℕ). logs.is_in_marks log y ≡ true) (sym same) k)
     (subst (λ (y : ℕ). logs.commit_of log y s ≡ None) (sym same) (subst (λ (y : ℕ). logs.commit_of log j y ≡ None) (sym from) free))))
     (λ x. refl))
   where
-    clash : v ≡ log.view → logs.is_in_marks log i ≡ true → logs.commit_of log i s ≡ None → ⊥
-    clash view within free =
+    clash : log.active ≡ true → v ≡ log.view → logs.is_in_marks log i ≡ true → logs.commit_of log i s ≡ None → ⊥
+    clash active view within free =
         let is_known = known c me log past bytes (record { sender = s; message = Commit v i digest }) f h refl in
-        let speaks = none_speaks c me log past (nat_lt s (logs.replicas log)) i f is_known within in
+        let speaks = none_speaks log (nat_lt s (logs.replicas log)) i active is_known within in
         let none : commit_fault log s log.view i digest ≡ None = rw (speaks, free) refl in
         given_not (commit_fault log s v i digest) fault faulty (subst (λ (x : ℕ). commit_fault log s x i digest ≡ None) (sym view) none)
 

@@ -1,12 +1,12 @@
 -- The marks move: the log is cut where a checkpoint becomes stable, or a state is installed.
-use Rattle.std.proofs.Common.{◌≡◌, ℕ, ◌+◌, ◌-◌, ◌≤◌, ◌<◌, ◌⊎◌, inl, inr, Bool, true, false, cond, ◌&&◌, List, [], ◌∷◌, length, drop, replicate, min, max, slice_index_or, slice_set, take, refl, sym, ap, ◌∙◌, subst, arith, Option, Some, None, eqb-true}
+use Rattle.std.proofs.Common.{◌≡◌, ℕ, suc, ◌+◌, ◌-◌, ◌≤◌, ◌<◌, ◌⊎◌, inl, inr, Bool, true, false, cond, ◌&&◌, List, [], ◌∷◌, length, drop, replicate, min, max, slice_index_or, slice_set, take, refl, sym, ap, ◌∙◌, subst, arith, Option, Some, None, eqb-true}
 use Rattle.std.specs.Prelude.{◌==◌, nat_le, nat_lt, option_and_then, ◌^◌}
 use Rattle.std.specs.Bool.{then_some}
 use Rattle.std.specs.Option.{option_map_or}
 use Rattle.std.proofs.lemmas.Bool.{and_parts, and_from, eqb-false, ltb-true, ltb-false, leb-true, le-leb}
 use Rattle.std.proofs.lemmas.List.{length-append, length-drop, length-replicate, length-set, get_or-set_same, get_or-set_other}
 use Rattle.std.proofs.lemmas.List.Elements.{All-append, All-drop, All-replicate}
-use Rattle.wire.specs.Messages.{BodyData as Body, NewViewData, CheckpointEntryData as CheckpointEntry}
+use Rattle.wire.specs.Messages.{BodyData as Body, MessageData as Message, NewViewData, CheckpointEntryData as CheckpointEntry}
 use Rattle.ordering.specs.Log as logs
 use Rattle.ordering.specs.Log.{Row, no_row, LogData}
 use Rattle.ordering.specs.Keeping.{IsRow, IsLog}
@@ -14,17 +14,21 @@ use Rattle.ordering.specs.Checkpoints as held
 use Rattle.ordering.proofs.Reading.{above_low}
 use Rattle.ordering.proofs.Moving.{cuts_keep}
 use Rattle.protocol.specs.System.Configuration.{Configuration}
-use Rattle.protocol.specs.System.Trace.{Entry}
+use Rattle.protocol.specs.System.Trace.{Entry, Has}
 use Rattle.protocol.specs.System.Trace.Entry.{Invoke, Got, Tick, Executed, Installed, Sent, Accepted}
 use Rattle.protocol.specs.Replica.Certificates.{brought, taken, new_view_from, change_sent, change_from, installed_at, checkpoint_in, checkpoint_from, checkpoints_of, with_checkpoint, insert_checkpoint, is_stable, stable_at, started_at, low, counts_at, batch_from, entry_proposal, proposal, logged, prepare_from, prepare_of, commit_from, commit_of, vote_in}
+use Rattle.protocol.specs.Replica.Owed.{IsSaying}
 use Rattle.protocol.proofs.Words.Options.{or_else_alone}
-use Rattle.replica_histories.specs.Logs.{above_mark, AreLatest, FitsLog, IsVoted}
+use Rattle.replica_histories.specs.Logs.{above_mark, AreLatest, IsWithin, FitsViews, FitsLog, IsVoted}
+use Rattle.replica_histories.specs.Events.{IsReached}
 use Rattle.replica_histories.specs.Marks.{checked_log, IsVotedTo, BringsCheckpoint, MarksMove, InstallationsMove}
-use Rattle.replica_histories.proofs.Words.{gated}
+use Rattle.replica_histories.proofs.Words.{gated, passed}
+use Rattle.replica_histories.proofs.Certified.{Same, same_turned, prepared_back, committed_back, logged_within}
 use Rattle.replica_histories.proofs.Latest.{inserts_same, behind_latest, behind_above, above_higher}
 use Rattle.replica_histories.proofs.Checking.{checking, latest_of, log_stable}
 use Rattle.replica_histories.proofs.Settling.{votes_said, voted_goes}
-use Rattle.replica_histories.proofs.Logging.{none_taken, view_quiet, proposal_quiet, begun_quiet}
+use Rattle.replica_histories.proofs.Logging.{none_taken, view_quiet, proposal_quiet, begun_quiet, active_goes}
+use Rattle.replica_histories.proofs.Reaching.{reached_by}
 
 -- ---- the log behind a cut
 
@@ -89,6 +93,15 @@ record Mute (c : Configuration) (me : ℕ) (past : List Entry) (e : Entry) : Typ
   pub prepare : (v i s : ℕ) → vote_in c me past e (prepare_from c s v i) v i ≡ None
   pub commit : (v i s : ℕ) → vote_in c me past e (commit_from s v i) v i ≡ None
 
+-- it leaves all certificates
+mute_same : (c : Configuration) (me : ℕ) (past : List Entry) (e : Entry) (v i : ℕ) → Mute c me past e → Same c me (e ∷ past) past v i
+unfolding logged prepare_of commit_of
+mute_same c me past e v i q = record {
+  logged = or_else_alone (logged c me past v i) (proposal c me past e v i) (proposal_quiet c me past e v i q.no_view ∙ q.batch v i);
+  prepare = λ s. or_else_alone (prepare_of c me past v i s) (vote_in c me past e (prepare_from c s v i) v i) (q.prepare v i s);
+  commit = λ s. or_else_alone (commit_of c me past v i s) (vote_in c me past e (commit_from s v i) v i) (q.commit v i s);
+}
+
 -- The log with these checkpoints, cut where the low mark of the history is behind the entry.
 module _ (c : Configuration) (me : ℕ) (log : LogData) (past : List Entry) (e : Entry) (f : FitsLog c me log past) (q : Mute c me past e) (held : List (List CheckpointEntry)) (mark : ℕ) where
   abbrev counted : LogData
@@ -97,17 +110,17 @@ module _ (c : Configuration) (me : ℕ) (log : LogData) (past : List Entry) (e :
   abbrev new : LogData
   new = logs.cut_to counted mark
 
+  same : (v i : ℕ) → Same c me (e ∷ past) past v i
+  same v i = mute_same c me past e v i q
+
   log_next : (v i : ℕ) → logged c me (e ∷ past) v i ≡ logged c me past v i
-  unfolding logged
-  log_next v i = or_else_alone (logged c me past v i) (proposal c me past e v i) (proposal_quiet c me past e v i q.no_view ∙ q.batch v i)
+  log_next v i = (same v i).logged
 
   prepare_next : (v i s : ℕ) → prepare_of c me (e ∷ past) v i s ≡ prepare_of c me past v i s
-  unfolding prepare_of
-  prepare_next v i s = or_else_alone (prepare_of c me past v i s) (vote_in c me past e (prepare_from c s v i) v i) (q.prepare v i s)
+  prepare_next v i s = (same v i).prepare s
 
   commit_next : (v i s : ℕ) → commit_of c me (e ∷ past) v i s ≡ commit_of c me past v i s
-  unfolding commit_of
-  commit_next v i s = or_else_alone (commit_of c me past v i s) (vote_in c me past e (commit_from s v i) v i) (q.commit v i s)
+  commit_next v i s = (same v i).commit s
 
   module _ (is : IsLog counted) (up : log.low ≤ mark) (small : mark < 2 ^ 48) (low_is : low c me (e ∷ past) ≡ mark) (voted : (i : ℕ) → log.low < i → i ≤ mark → (logs.due_prepare log i ≡ None) × (logs.due_commit log i ≡ None))
       (checks : (s : ℕ) → above_mark mark (checkpoints_of c (e ∷ past) s) ≡ above_mark mark (logs.checkpoints_of counted s)) (latest : (s : ℕ) → AreLatest (logs.checkpoints_of counted s)) where
@@ -153,7 +166,7 @@ module _ (c : Configuration) (me : ℕ) (log : LogData) (past : List Entry) (e :
       where
         go : (o : Option (List ℕ)) → logged c me past log.view i ≡ o → logged c me past log.view i ≡ None
         go None h = h
-        go (Some batch) h = at (f.within log.view i batch h).1
+        go (Some batch) h = at ((f.within log.view i batch h).marks refl)
           where
             at : (i ≤ log.low) ⊎ (logs.is_in_marks log i ≡ true) → logged c me past log.view i ≡ None
             at (inl k) = absurd (omega arith)
@@ -180,8 +193,53 @@ module _ (c : Configuration) (me : ℕ) (log : LogData) (past : List Entry) (e :
             at (inl k) = absurd (omega arith)
             at (inr k) = absurd (let bad : true ≡ false = sym k ∙ out in cc)
 
-    settled : (i : ℕ) (batch : List ℕ) → i ≤ mark → logged c me past log.view i ≡ Some batch → IsVoted c me (e ∷ past) log.view i batch
-    settled i batch l h = voted_goes c me e past log.view i batch h (prepare_next log.view i) (votes_said c me log past f i batch (λ above. voted i above l) h)
+    settled : log.active ≡ true → (i : ℕ) (batch : List ℕ) → i ≤ mark → logged c me past log.view i ≡ Some batch → IsVoted c me (e ∷ past) log.view i batch
+    settled is_active i batch l h = voted_goes c me e past log.view i batch h (prepare_next log.view i) (votes_said c me log past f i batch is_active (λ above. voted i above l) h)
+
+    ea : new.active ≡ log.active
+    ea = cut_same (λ m. m.active) (λ m h rows. refl) counted mark
+
+    within : (v i : ℕ) (batch : List ℕ) → logged c me past v i ≡ Some batch → IsWithin new v i
+    within v i batch h =
+        let w = f.within v i batch h in
+        let n = low_new in
+        let k = es in
+        let high = w.ahead.0 in
+        record { view = subst (λ (x : ℕ). v ≤ x) (sym ev) w.view; marks = λ at. place i (w.marks (at ∙ ev)); ahead = (omega arith, w.ahead.1) }
+
+    -- what is committed in an earlier view, within the new marks, was within the old ones
+    known_in : (v i : ℕ) (batch : List ℕ) → logs.is_in_marks new i ≡ true → logged c me past v i ≡ Some batch → logs.is_in_marks log i ≡ true
+    known_in v i batch k h = logged_within c me log past v i batch f (above_new i k) h
+
+    row_decided : (i : ℕ) → logs.is_in_marks new i ≡ true → (logs.row_of new i).decided ≡ cond (logs.is_in_marks log i) (logs.row_of log i).decided None
+    row_decided i k = (cuts_keep counted mark i me is).3 k
+
+    was_below : (v : ℕ) → v < new.view → v < log.view
+    was_below v below = subst (λ (x : ℕ). v < x) ev below
+
+    was_earlier : (v : ℕ) → (v < new.view) ⊎ (new.active ≡ false) → (v < log.view) ⊎ (log.active ≡ false)
+    was_earlier v (inl below) = inl (was_below v below)
+    was_earlier v (inr resting) = inr (sym ea ∙ resting)
+
+    views : FitsViews c me new (e ∷ past)
+    views = record {
+      decided = λ i batch k h.
+          let p = passed (logs.is_in_marks log i) (logs.row_of log i).decided batch (sym (row_decided i k) ∙ h) in
+          let d = f.views.decided i batch p.0 p.1 in
+          (d.0, subst (λ (x : ℕ). d.0 < x) (sym ev) d.1, committed_back c me past (e ∷ past) d.0 i batch (same_turned c me (e ∷ past) past d.0 i (same d.0 i)) d.2);
+      all_decided = λ v i batch below k h.
+          let was = committed_back c me (e ∷ past) past v i batch (same v i) h in
+          let inside = known_in v i batch k was.prepared.logged in
+          let known = f.views.all_decided v i batch (was_below v below) inside was in
+          (known.0, row_decided i k ∙ ap (λ (b : Bool). cond b (logs.row_of log i).decided None) inside ∙ known.1);
+      voted = λ v i batch k earlier h.
+          let was = prepared_back c me (e ∷ past) past v i batch (same v i) h in
+          let own = f.views.voted v i batch (known_in v i batch k was.logged) (was_earlier v earlier) was in
+          (own.0, commit_next v i me ∙ own.1);
+      later = λ v i s above.
+          let none = f.views.later v i s (subst (λ (x : ℕ). x < v) ev above) in
+          (prepare_next v i s ∙ none.0, commit_next v i s ∙ none.1);
+    }
 
     moved : FitsLog c me new (e ∷ past)
     moved = record {
@@ -189,9 +247,8 @@ module _ (c : Configuration) (me : ℕ) (log : LogData) (past : List Entry) (e :
       own = cut_same (λ m. m.me) (λ m h rows. refl) counted mark ∙ f.own;
       faults = cut_same (λ m. m.faults) (λ m h rows. refl) counted mark ∙ f.faults;
       span = es ∙ f.span;
-      active = cut_same (λ m. m.active) (λ m h rows. refl) counted mark ∙ f.active;
+      active = active_goes past e log new q.no_change ev ea f.active;
       view = view_quiet c past e q.no_view ∙ f.view ∙ sym ev;
-      target = let a = f.target in let n = q.no_change in let v = ev in omega arith;
       low = low_is ∙ sym low_new;
       batches = λ i k. at_view (λ v. logged c me (e ∷ past) v i ≡ logs.logged_batch new i) (log_next log.view i ∙
           read i k (logged c me past log.view i) (logs.logged_batch log i) (logs.logged_batch new i) ((cuts_keep counted mark i me is).0) (f.batches i)
@@ -202,12 +259,13 @@ module _ (c : Configuration) (me : ℕ) (log : LogData) (past : List Entry) (e :
       commits = λ i s k. at_view (λ v. commit_of c me (e ∷ past) v i s ≡ logs.commit_of new i s) (commit_next log.view i s ∙
           read i k (commit_of c me past log.view i s) (logs.commit_of log i s) (logs.commit_of new i s) ((cuts_keep counted mark i s is).2) (f.commits i s)
           (λ out. ((f.above i s (above_new i k) out).1, outside i _ out)));
-      within = λ v i batch h. let w = f.within v i batch (sym (log_next v i) ∙ h) in (w.0 ∙ sym ev, place i w.1);
+      within = λ v i batch h. within v i batch (sym (log_next v i) ∙ h);
       above = λ i s l out. at_view (λ v. (prepare_of c me (e ∷ past) v i s ≡ None) × (commit_of c me (e ∷ past) v i s ≡ None))
           (let n = beyond i s l out in (prepare_next log.view i s ∙ n.0, commit_next log.view i s ∙ n.1));
-      begun = begun_quiet c past e q.no_view f.begun;
-      settled = λ i batch l h. at_view (λ v. IsVoted c me (e ∷ past) v i batch)
-          (settled i batch (subst (λ (n : ℕ). i ≤ n) low_new l) (sym (log_next log.view i) ∙ subst (λ (v : ℕ). logged c me (e ∷ past) v i ≡ Some batch) ev h));
+      begun = λ v batch h. subst (λ (x : ℕ). v ≤ x) (sym ev) (begun_quiet c past e log.view q.no_view f.begun v batch h);
+      views = views;
+      settled = λ is_active i batch l h. at_view (λ v. IsVoted c me (e ∷ past) v i batch)
+          (settled (sym ea ∙ is_active) i batch (subst (λ (n : ℕ). i ≤ n) low_new l) (sym (log_next log.view i) ∙ subst (λ (v : ℕ). logged c me (e ∷ past) v i ≡ Some batch) ev h));
       checkpoints = λ s. subst (λ (n : ℕ). above_mark n (checkpoints_of c (e ∷ past) s) ≡ above_mark n (logs.checkpoints_of new s)) (sym low_new)
           (checks s ∙ ap (above_mark mark) (sym (kept s)));
       latest = λ s. subst AreLatest (sym (kept s)) (latest s);
@@ -365,17 +423,21 @@ module _ (c : Configuration) (me : ℕ) (log : LogData) (past : List Entry) (e :
   pub checked_up : log.low ≤ (checked_log log s entry).low
   checked_up = let is = checked_low in let l = up in omega arith
 
-  -- the low mark is at most what it was, or what is stable
-  pub checked_at_most : (n : ℕ) → log.low ≤ n → (is_stable c me (e ∷ past) entry ≡ true → entry.number ≤ n) → (checked_log log s entry).low ≤ n
-  checked_at_most n was stable = subst (λ (x : ℕ). x ≤ n) (sym checked_low) (go (logs.is_stable more entry) refl)
+  -- the low mark is what it was, or at most what is stable, so it is reached where what is stable was executed
+  pub checked_reached : (number : ℕ) (due rest : List Message) → ((x : Message) → Has (λ y. y ≡ x) due → Has (λ y. y ≡ x) rest ⊎ IsSaying me x e) → IsReached c me log.low number due past
+      → (is_stable c me (e ∷ past) entry ≡ true → entry.number ≤ number) → IsReached c me (checked_log log s entry).low number rest (e ∷ past)
+  checked_reached number due rest paid was stable = subst (λ (x : ℕ). IsReached c me x number rest (e ∷ past)) (sym checked_low) (go (logs.is_stable more entry) refl)
     where
-      above : (t : Bool) → nat_lt log.low entry.number ≡ t → logs.is_stable more entry ≡ true → max log.low entry.number ≤ n
-      above true l is = let a = stable (log_stable c me more (e ∷ past) entry f.faults f.own (ltb-true log.low entry.number l) alike ∙ is) in omega arith
-      above false l is = let k = ltb-false log.low entry.number l in omega arith
+      kept : IsReached c me log.low number rest (e ∷ past)
+      kept = reached_by c me log.low number due rest past e (λ v below. mute_same c me past e v (suc number) mute) paid was
 
-      go : (t : Bool) → logs.is_stable more entry ≡ t → cond t (max log.low entry.number) log.low ≤ n
+      above : (t : Bool) → nat_lt log.low entry.number ≡ t → logs.is_stable more entry ≡ true → IsReached c me (max log.low entry.number) number rest (e ∷ past)
+      above true l is = inl (let k = ltb-true log.low entry.number l in let a = stable (log_stable c me more (e ∷ past) entry f.faults f.own k alike ∙ is) in omega arith)
+      above false l is = let k = ltb-false log.low entry.number l in let same : max log.low entry.number ≡ log.low = omega arith in subst (λ (x : ℕ). IsReached c me x number rest (e ∷ past)) (sym same) kept
+
+      go : (t : Bool) → logs.is_stable more entry ≡ t → IsReached c me (cond t (max log.low entry.number) log.low) number rest (e ∷ past)
       go true is = above (nat_lt log.low entry.number) refl is
-      go false is = was
+      go false is = kept
 
 pub marks_move : MarksMove
 marks_move c me log past e s entry f b known voted = checked c me log past e s entry f b known voted

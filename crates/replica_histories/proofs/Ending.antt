@@ -12,7 +12,7 @@ use Rattle.ordering.specs.Log.{LogData}
 use Rattle.protocol.specs.System.Configuration.{Configuration, primary}
 use Rattle.protocol.specs.System.Trace.{Entry, is_output, Once, Has, either, Hears}
 use Rattle.protocol.specs.System.Trace.Entry.{Got}
-use Rattle.protocol.specs.Replica.Certificates.{is_active_in, logged, prepare_of, commit_of, Prepared}
+use Rattle.protocol.specs.Replica.Certificates.{is_active_in, logged, prepare_of, commit_of, Prepared, Committed}
 use Rattle.protocol.specs.Replica.State.{State, Call, root_of, page_text}
 use Rattle.protocol.specs.Replica.RightReplica.{Point, Leaves, Executes, reply_of, KeptState, digests_at}
 use Rattle.protocol.specs.Replica.Owed.{IsSaying, Gives, GivesTo, fetching, AtOutputs, NumbersOnce, IsFree, IsNumbered, IsDropped}
@@ -23,13 +23,13 @@ use Rattle.protocol.proofs.Agreement.Voting.{preparing}
 use Rattle.protocol.proofs.Agreement.Commits.{committing, prepared_stays, prepared_remains}
 use Rattle.replica_histories.specs.Desk.{Desk, point_of}
 use Rattle.replica_histories.specs.Owing.{OwesOrdering, ProceedsOrdering}
-use Rattle.replica_histories.specs.Events.{Start, behind, Steps, AtEach, IsOnItsWay, Fits, IsSettled, IsTaken, EventsEnd}
+use Rattle.replica_histories.specs.Events.{Start, behind, Steps, AtEach, IsOnItsWay, IsReached, Fits, IsSettled, IsTaken, EventsEnd}
 use Rattle.replica_histories.specs.Logs.{IsVoted}
 use Rattle.replica_histories.specs.Transfers.{HasQuorum}
 use Rattle.replica_histories.specs.TransfersAnswers.{AnswersFetches}
 use Rattle.replica_histories.specs.TransfersQuorums.{QuorumsFetched}
 use Rattle.replica_histories.proofs.Words.{given_not, primary_same}
-use Rattle.replica_histories.proofs.Certified.{active_view, committed_there}
+use Rattle.replica_histories.proofs.Certified.{active_view, active_log, committed_there}
 use Rattle.replica_histories.proofs.Settling.{votes_said}
 use Rattle.replica_histories.proofs.Speaking.{prepare_spoken, spoken_logged, commit_spoken, spoken_certified, in_event}
 use Rattle.replica_histories.proofs.TransfersAnswering.{answers_turn, answers_in_parts}
@@ -66,11 +66,11 @@ module _ (c : Configuration) (me : ℕ) (s : Start) (desk : Desk) (log : LogData
   gave message (inl h) = absurd h
   gave message (inr h) = h
 
-  -- what is logged has the own votes
-  votes : (v i : ℕ) (batch : List ℕ) → logged c me now v i ≡ Some batch → IsVoted c me now v i batch
-  votes v i batch h =
-      let at : v ≡ log.view = (f.of_log.within v i batch h).0 in
-      subst (λ (x : ℕ). IsVoted c me now x i batch) (sym at) (votes_said c me log now f.of_log i batch (λ above. (settled.prepares i, settled.commits i)) (subst (λ (x : ℕ). logged c me now x i ≡ Some batch) at h))
+  -- what is logged has the own votes, while the replica is active
+  votes : (v i : ℕ) (batch : List ℕ) → is_active_in c now v ≡ true → logged c me now v i ≡ Some batch → IsVoted c me now v i batch
+  votes v i batch active h =
+      let at : v ≡ log.view = active_view c me log now v f.of_log active in
+      subst (λ (x : ℕ). IsVoted c me now x i batch) (sym at) (votes_said c me log now f.of_log i batch (active_log c me log now v f.of_log active) (λ above. (settled.prepares i, settled.commits i)) (subst (λ (x : ℕ). logged c me now x i ≡ Some batch) at h))
 
   prepares : (v i : ℕ) (batch : List ℕ) → logged c me s.before v i ≡ None → logged c me now v i ≡ Some batch → is_active_in c now v ≡ true → primary c v ≢ me
       → Gives me (Prepare v i (sha256 batch)) outputs
@@ -78,7 +78,7 @@ module _ (c : Configuration) (me : ℕ) (s : Start) (desk : Desk) (log : LogData
       subst (λ (x : List ℕ). Gives me (Prepare v i x) outputs) digest (pick (in_event me (Prepare v i own.0) s outputs is said))
     where
       own : (d : List ℕ) × (prepare_of c me now v i me ≡ Some d)
-      own = (votes v i batch some).prepare backup
+      own = (votes v i batch active some).prepare backup
 
       said : Once (Speaks (preparing me v i own.0)) now
       said = prepare_spoken c me v i own.0 now reached leaves_now own.1
@@ -101,7 +101,7 @@ module _ (c : Configuration) (me : ℕ) (s : Start) (desk : Desk) (log : LogData
       subst (λ (x : List ℕ). Gives me (Commit v i x) outputs) digest (pick (in_event me (Commit v i own.0) s outputs is said))
     where
       own : (d : List ℕ) × (commit_of c me now v i me ≡ Some d)
-      own = (votes v i batch some.logged).commit some
+      own = (votes v i batch active some.logged).commit some
 
       said : Once (Speaks (committing me v i own.0)) now
       said = commit_spoken c me v i own.0 now reached leaves_now own.1
@@ -122,7 +122,7 @@ module _ (c : Configuration) (me : ℕ) (s : Start) (desk : Desk) (log : LogData
       → IsFree c me now desk.state.number v i → IsNumbered c me now v call.client call.timestamp
   numbers v i call active own waits free =
       subst (λ (x : ℕ). IsNumbered c me now x call.client call.timestamp) (sym at)
-      (settled.numbers i call (primary_same c log log.view f.of_log.faults ∙ ap (primary c) (sym at) ∙ own ∙ sym f.of_log.own) waits (subst (λ (x : ℕ). IsFree c me now desk.state.number x i) at free))
+      (settled.numbers i call (active_log c me log now v f.of_log active) (primary_same c log log.view f.of_log.faults ∙ ap (primary c) (sym at) ∙ own ∙ sym f.of_log.own) waits (subst (λ (x : ℕ). IsFree c me now desk.state.number x i) at free))
     where
       at : v ≡ log.view
       at = active_view c me log now v f.of_log active
@@ -132,6 +132,11 @@ module _ (c : Configuration) (me : ℕ) (s : Start) (desk : Desk) (log : LogData
       has_weaker (λ st. (st.number ≡ k) × IsOnItsWay me [] outputs (Checkpoint k (root_of st))) (λ st. (st.number ≡ k) × Gives me (Checkpoint k (root_of st)) (reverse outputs))
       (λ st w. (w.0, given (Checkpoint k (root_of st)) (gave (Checkpoint k (root_of st)) w.1))) f.of_desk.states
       (f.of_desk.checkpoints k (has_reverse (λ e. Executes k [] e) outputs h) multiple)
+
+  -- nothing is committed for the next number: the log would have it, or the low mark is above it
+  executes : (v : ℕ) (batch : List ℕ) → Committed c me now v (suc desk.state.number) batch → IsReached c me log.low desk.state.number [] now → ⊥
+  executes v batch k (inl l) = let known = committed_there c me log now v (suc desk.state.number) batch f.of_log (omega arith) k in given_not (logs.committed_batch log (suc desk.state.number)) known.0 known.1 settled.executes
+  executes v batch k (inr h) = h.1 v batch k
 
   -- what was fetched of the quorums
   pub fetched : QuorumsFetched c desk.state.number now
@@ -144,7 +149,7 @@ module _ (c : Configuration) (me : ℕ) (s : Start) (desk : Desk) (log : LogData
     numbers_once = at_outputs (NumbersOnce c me) s outputs [] f.once tt;
     prepares = λ v i batch none some active backup. given (Prepare v i (sha256 batch)) (prepares v i batch none some active backup);
     commits = λ v i batch none some active. given (Commit v i (sha256 batch)) (commits v i batch none some active);
-    executes = λ v batch k. given_not (logs.committed_batch log (suc desk.state.number)) batch (committed_there c me log now v (suc desk.state.number) batch f.of_log (let l = f.low in omega arith) k) settled.executes;
+    executes = λ v batch k. executes v batch k f.low;
     replies = λ ran h. given (reply_of ran.call.client ran.kept) (gave (reply_of ran.call.client ran.kept) (f.of_desk.replies ran h));
     checkpoints = checkpoints;
     again = λ k t op kept hears is same. given (reply_of k kept) (gave (reply_of k kept) (f.of_desk.asked k kept (t, op, hears, is, same)));

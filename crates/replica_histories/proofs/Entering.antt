@@ -24,14 +24,15 @@ use Rattle.replica_histories.specs.Desk.{snapshot_of, point_of}
 use Rattle.state_transfer.specs.Transfer.{TransferData}
 use Rattle.replica_histories.specs.Logs.{above_mark, FitsLog}
 use Rattle.replica_histories.specs.Marks.{checked_log, BringsCheckpoint}
-use Rattle.replica_histories.specs.Events.{Start, IsAsked, MaySayDue}
+use Rattle.replica_histories.specs.Events.{Start, IsAsked, MaySayDue, IsFetched, IsReached}
 use Rattle.replica_histories.specs.Transfers.{HasQuorum, FitsOpen, open_number}
 use Rattle.replica_histories.specs.TransfersQuorums.{BringsRoot, QuorumsFetched}
 use Rattle.replica_histories.specs.Inputs.{again_for, asked_by, asked, fetch_due, InputsFit, CheckpointsEnter, TicksFit}
 use Rattle.replica_histories.proofs.Checking.{checking, log_stable, quorum_counted, own_at_most}
 use Rattle.replica_histories.proofs.Taking.{takes_nothing}
 use Rattle.replica_histories.proofs.Logging.{log_goes, got_read, silent_read}
-use Rattle.replica_histories.proofs.Cutting.{marked, alike, checked, checked_up, checked_at_most}
+use Rattle.replica_histories.proofs.Reaching.{reached_goes}
+use Rattle.replica_histories.proofs.Cutting.{marked, alike, checked, checked_up, checked_reached}
 use Rattle.replica_histories.proofs.Parting.{ordering_leaves}
 use Rattle.replica_histories.proofs.Giving.{kept_on}
 use Rattle.replica_histories.proofs.Counting.{CheckpointFree, checkpoint_free}
@@ -101,11 +102,12 @@ inputs_fit c me desk new log after due past bytes held none e = record {
     opened = subst (λ (o : Option TransferData). FitsOpen c me o new.state.number (Got me bytes ∷ past)) (sym e.transfer)
         (subst (λ (st : State). FitsOpen c me desk.transfer st.number (Got me bytes ∷ past)) (sym e.state) (open_stays c me desk.transfer desk.state.number past (Got me bytes) refl held.of_desk.opened));
     fetches = quorums_begin c me (record { before = past; input = Got me bytes; old = old }) new.state.number due (subst (λ (st : State). QuorumsFetched c st.number past) (sym e.state) held.of_desk.fetches)
-        (λ k root b quorum above. absurd (let l = unchanged_bring_none c log.low past (Got me bytes) k root unchanged b in let most = held.low in let number = ap (λ (st : State). st.number) e.state in omega arith));
+        (λ k root b quorum above. inl (below_fetched k (unchanged_bring_none c log.low past (Got me bytes) k root unchanged b) (let number = ap (λ (st : State). st.number) e.state in omega arith) held.low));
     rightly = λ message k. due_is_right c me past bytes old (Got me bytes ∷ past) (point_of new old.snapshots []) (e.state ∙ sym state_is) message (subst (λ (xs : List Message). Has (λ x. x ≡ message) xs) due_is k);
   };
   of_log = fits;
-  low = let l = held.low in let same = e.takes.stays.low in let number = ap (λ (st : State). st.number) e.state in omega arith;
+  low = subst (λ (n : ℕ). IsReached c me n new.state.number due (Got me bytes ∷ past)) (sym e.takes.stays.low) (subst (λ (st : State). IsReached c me log.low st.number due (Got me bytes ∷ past)) (sym e.state)
+      (reached_goes c me desk.state.number [] due log past (Got me bytes) (got_read c me log past bytes held.of_log.fits none) (λ x k. absurd k) held.low));
   once = tt;
 }
   where
@@ -114,6 +116,15 @@ inputs_fit c me desk new log after due past bytes held none e = record {
 
     fits : FitsLog c me after (Got me bytes ∷ past)
     fits = log_goes c me log after past (Got me bytes) held.of_log.fits (got_read c me log past bytes held.of_log.fits none) e.takes
+
+    -- what is above the state and not above the low mark was fetched
+    below_fetched : (k : ℕ) → k ≤ log.low → desk.state.number < k → IsReached c me log.low desk.state.number [] past → k ≤ fetching past
+    below_fetched k l above (inl low) = absurd (omega arith)
+    below_fetched k l above (inr h) = go h.0
+      where
+        go : IsFetched log.low [] past → k ≤ fetching past
+        go (inl most) = omega arith
+        go (inr d) = absurd d
 
     -- it brings no checkpoint above the low mark
     unchanged : (s : ℕ) → above_mark log.low (checkpoints_of c (Got me bytes ∷ past) s) ≡ above_mark log.low (checkpoints_of c past s)
@@ -167,8 +178,7 @@ checkpoints_enter c me desk log past s entry bytes held h none = record {
     rightly = λ message k. rightly message k;
   };
   of_log = fits;
-  low = checked_at_most c me log past (Got me bytes) s entry f brings known desk.state.number held.low
-      executed;
+  low = checked_reached c me log past (Got me bytes) s entry f brings known desk.state.number [] (fetch_due desk more entry) (λ x k. absurd k) held.low executed;
   once = tt;
 }
   where
@@ -288,7 +298,7 @@ ticks_fit c me desk log past held = record {
         (λ k root b quorum above. absurd (let bad : None ≡ Some (b.sender, (let x : CheckpointEntry = record { number = k; digest = root } in x)) = b.brings in cc));
     rightly = λ message k. absurd k;
   };
-  low = held.low;
+  low = reached_goes c me desk.state.number [] [] log past (Tick me) (silent_read c me log past (Tick me) plain refl) (λ x k. absurd k) held.low;
   of_log = log_goes c me log log past (Tick me) held.of_log.fits (silent_read c me log past (Tick me) plain refl)
       (takes_nothing c me None log held.of_log.fits.is_log (λ i w h. refl) (λ i x w h. refl) (λ i x w h. refl) (λ x. refl));
   once = tt;

@@ -10,7 +10,7 @@ use Rattle.ordering.proofs.Reading.{above_low}
 use Rattle.protocol.specs.System.Configuration.{is_number}
 use Rattle.protocol.specs.System.Trace.{Entry, Has}
 use Rattle.protocol.specs.System.Trace.Entry.{Executed}
-use Rattle.protocol.specs.Replica.Certificates.{low}
+use Rattle.protocol.specs.Replica.Certificates.{low, Committed}
 use Rattle.protocol.specs.Replica.State.{State, Ran, execute, ran_in, root_of}
 use Rattle.protocol.specs.Replica.RightReplica.{Point, Executes, kept_states, reply_of, snapshots_after}
 use Rattle.protocol.proofs.Words.Elements.{has_either, has_left, has_right, has_map, has_mapped, has_weaker, has_some}
@@ -35,7 +35,7 @@ executes_fit c me s desk log outputs batch frames commits fewer f = record {
     states = snapshots_after c st f.of_desk.states;
     ran = f.of_desk.ran ++ more;
     leaves = f.of_desk.leaves;
-    steps = (point_of desk f.of_desk.states f.of_desk.ran, f.of_desk.steps, record { own = refl; may = record { next = refl; in_view = log.view; committed = committed_here c me log past k batch f.of_log commits }; moves = refl }, refl);
+    steps = (point_of desk f.of_desk.states f.of_desk.ran, f.of_desk.steps, record { own = refl; may = record { next = refl; in_view = known.0; committed = known.1 }; moves = refl }, refl);
     kept = ap (λ (h : ℕ). map snapshot_of (kept_states h (snapshots_after c st f.of_desk.states))) (low_same ∙ f.of_log.low) ∙ keeps (st.number % c.period == 0);
     frames = λ frame h. let g = f.of_desk.frames frame (fewer frame h) in (inr g.0, g.1);
     replies = λ r h. reply r (has_either (λ x. x ≡ r) f.of_desk.ran more h);
@@ -47,7 +47,7 @@ executes_fit c me s desk log outputs batch frames commits fewer f = record {
     rightly = λ message h. rightly message (has_either (λ x. x ≡ message) (replies_to more) (checkpoint_due c st) h);
   };
   of_log = log_goes c me log log past e f.of_log (silent_read c me log past e plain refl) (takes_nothing c me None log f.of_log.is_log (λ i w h. refl) (λ i x w h. refl) (λ i x w h. refl) (λ x. refl));
-  low = let l = f.low in let n = number_is in omega arith;
+  low = inl (let l = above_low log k within in let n = number_is in omega arith);
   once = (tt, f.once);
 }
   where
@@ -71,6 +71,9 @@ executes_fit c me s desk log outputs batch frames commits fewer f = record {
 
     plain : Plain c past e
     plain = record { view = refl; change = refl; checkpoint = refl; installed = refl }
+
+    known : (v : ℕ) × Committed c me past v k batch
+    known = committed_here c me log past k batch f.of_log commits
 
     low_same : low c me (e ∷ past) ≡ low c me past
     low_same = plain_low c me past e plain
@@ -114,7 +117,7 @@ executes_fit c me s desk log outputs batch frames commits fewer f = record {
 
     -- what is kept above the low mark
     within : logs.is_in_marks log k ≡ true
-    within = (and_parts (logs.is_in_marks log k) (logs.is_row_committed log.faults (logs.replicas log) log.me (logs.row_of log k)) (passed (logs.is_committed log k) (logs.row_of log k).batch batch commits).0).0
+    within = (passed (logs.is_in_marks log k) (logs.row_decided log.faults (logs.replicas log) log.me (logs.row_of log k)) batch commits).0
 
     above : nat_le log.low st.number ≡ true
     above =

@@ -25,10 +25,11 @@ use Rattle.replica_histories.specs.Events.{Start, behind, Fits, Holds, start_at}
 use Rattle.replica_histories.specs.Inputs.{asked, Enters, IsBesideLog}
 use Rattle.replica_histories.specs.Fetching.{FetchesFit, DueFetchesFit, QuorumsMayAsk, HeldOweNoFetch, DigestsEnter, PagesEnter, AskedDigestsCount, AskedPagesCount, TransfersChange}
 use Rattle.replica_histories.proofs.Taking.{takes_nothing}
-use Rattle.replica_histories.proofs.Logging.{none_taken}
+use Rattle.replica_histories.proofs.Logging.{none_taken, IsPlaced, beside_placed}
+use Rattle.replica_histories.proofs.Reaching.{reached_open}
 use Rattle.replica_histories.proofs.Checking.{quorum_counted}
 use Rattle.replica_histories.proofs.Counting.{others_drop}
-use Rattle.replica_histories.proofs.Giving.{sent_goes, log_sent, no_proposal}
+use Rattle.replica_histories.proofs.Giving.{sent_goes, log_sent, reached_sent, no_proposal}
 use Rattle.replica_histories.proofs.Entering.{inputs_fit}
 use Rattle.replica_histories.proofs.Transfers.{digests_count, pages_count, digests_open, pages_open, quorums_open, transfers_may_fetch, transfers_ask, open_above, fetched_most}
 use Rattle.replica_histories.proofs.TransfersAnswering.{IsPart}
@@ -45,15 +46,19 @@ fetch_goes : (c : Configuration) (me : ℕ) (s : Start) (desk : Desk) (log : Log
     → Fits c me s desk log due outputs → Fits c me s (record desk { transfer = Some t }) log rest (Sent me bytes ∷ outputs)
 fetch_goes c me s desk log due rest outputs t bytes m posted paid fewer f =
     sent_goes c me s desk log log due rest outputs bytes (others c me) (fetch_of t) desk.snapshots (Some t) f posted refl tt (transfers_may_fetch c me t past (point_of desk f.of_desk.states f.of_desk.ran) m) fits
-    (ap (λ (h : ℕ). map snapshot_of (kept_states h f.of_desk.states)) (sym f.of_log.low) ∙ f.of_desk.kept) f.low
+    (ap (λ (h : ℕ). map snapshot_of (kept_states h f.of_desk.states)) (sym f.of_log.low) ∙ f.of_desk.kept)
+    (reached_sent c me desk.state.number due rest log log past bytes (others c me) (fetch_of t) posted tt placed refl paid f.low)
     (transfers_ask c me t desk.state.number past bytes posted.says m) (no_root c past bytes me (fetch_of t) desk.state.number posted.says refl) paid fewer (no_proposal c me past bytes (fetch_of t) posted.says tt)
   where
     past : List Entry
     past = behind s outputs
 
+    placed : IsPlaced c me log (record { sender = me; message = fetch_of t })
+    placed = beside_placed c me log me (fetch_of t) tt
+
     fits : FitsLog c me log (Sent me bytes ∷ past)
     fits = log_sent c me log log past bytes (others c me) (fetch_of t) f.of_log posted tt
-        (takes_nothing c me (Some (record { sender = me; message = fetch_of t })) log f.of_log.is_log (λ i w h. refl) (λ i x w h. refl) (λ i x w h. refl) (λ x. refl)) (record { batch = λ v i b h. absurd cc; votes = λ i x out. (refl, refl) })
+        (takes_nothing c me (Some (record { sender = me; message = fetch_of t })) log f.of_log.is_log (λ i w h. refl) (λ i x w h. refl) (λ i x w h. refl) (λ x. refl)) placed
 
 pub fetches_fit : FetchesFit
 fetches_fit c me s desk log due outputs t bytes m posted f = fetch_goes c me s desk log due due outputs t bytes m posted (λ x h. inl h) (λ x h. h) f
@@ -68,9 +73,9 @@ due_fetches_fit c me s desk log rest outputs t bytes m posted f = fetch_goes c m
 -- ---- quorums
 
 pub quorums_may_ask : QuorumsMayAsk
-quorums_may_ask c me s desk log due outputs entry pages enough above f =
+quorums_may_ask c me s desk log due outputs entry pages enough over above f =
     quorums_open c me desk.transfer desk.state.number entry.number entry.digest pages (behind s outputs)
-    (quorum_counted c log (behind s outputs) entry f.of_log.faults (let least = open_above c me desk.transfer desk.state.number (behind s outputs) f.of_desk.opened in let l = f.low in omega arith) f.of_log.checkpoints
+    (quorum_counted c log (behind s outputs) entry f.of_log.faults over f.of_log.checkpoints
     ∙ le-leb (2 * log.faults + 1) (logs.count_checkpoints log entry) enough)
     above f.of_desk.opened
 
@@ -94,7 +99,7 @@ held_owe_no_fetch c me desk log past entry held = go (logs.is_stable log entry) 
     go false true true x y =
         let above = ltb-true (open_number desk.state.number desk.transfer) entry.number y in
         let l = least in
-        let low = held.low in
+        let low = reached_open c me log.low desk.state.number desk.transfer past held.low held.of_desk.opened in
         absurd (most (quorum_counted c log past entry held.of_log.fits.faults (omega arith) held.of_log.fits.checkpoints ∙ x) above)
 
 -- ---- the open transfer

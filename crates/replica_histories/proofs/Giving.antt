@@ -25,7 +25,7 @@ use Rattle.protocol.proofs.Words.Posting.{may_send}
 use Rattle.replica_histories.specs.Desk.{Desk, Snapshot, snapshot_of, kept_from, point_of}
 use Rattle.replica_histories.specs.Logs.{FitsLog, Takes}
 use Rattle.replica_histories.specs.Marks.{checked_log, BringsCheckpoint}
-use Rattle.replica_histories.specs.Events.{Start, behind, IsOnItsWay, MaySayDue, FitsFrames, Fits, KeptAreAbove}
+use Rattle.replica_histories.specs.Events.{Start, behind, IsOnItsWay, MaySayDue, FitsFrames, IsReached, Fits, KeptAreAbove}
 use Rattle.state_transfer.specs.Transfer.{TransferData}
 use Rattle.replica_histories.specs.Transfers.{FitsOpen}
 use Rattle.replica_histories.specs.TransfersQuorums.{BringsRoot}
@@ -33,9 +33,10 @@ use Rattle.replica_histories.specs.Outputs.{PreparesFit, CommitsFit, BatchesFit,
 use Rattle.replica_histories.proofs.Words.{apart, passed, HasBatch, has_batch, batch_read, marks_are, primary_same}
 use Rattle.replica_histories.proofs.Certified.{PreparedIn, active, is_prepared_in, prepared_here}
 use Rattle.replica_histories.proofs.Checking.{executed_at_most}
-use Rattle.replica_histories.proofs.Taking.{failing, failing_two, takes_nothing, prepare_taken, commit_taken, batch_taken}
-use Rattle.replica_histories.proofs.Logging.{KeepsView, IsPlaced, log_goes, sent_read}
-use Rattle.replica_histories.proofs.Cutting.{checked, checked_up, checked_at_most}
+use Rattle.replica_histories.proofs.Taking.{takes_nothing, prepare_taken, commit_taken, batch_taken}
+use Rattle.replica_histories.proofs.Logging.{KeepsView, IsPlaced, beside_placed, log_goes, sent_read}
+use Rattle.replica_histories.proofs.Reaching.{reached_goes}
+use Rattle.replica_histories.proofs.Cutting.{checked, checked_up, checked_reached}
 use Rattle.replica_histories.proofs.Ending.{steps_leave}
 use Rattle.replica_histories.proofs.Transfers.{root_later, open_stays, asks_none}
 use Rattle.replica_histories.proofs.TransfersQuorums.{quorums_go_on, no_root, own_root}
@@ -71,14 +72,15 @@ pub sent_goes : (c : Configuration) (me : ℕ) (s : Start) (desk : Desk) (log af
     (f : Fits c me s desk log due outputs) → IsPosted c me message receivers bytes → IsFor c me (behind s outputs) message receivers
     → Each (λ frame. Once (HasSeen frame) (behind s outputs)) (carried message)
     → MaySay c me (behind s outputs) (point_of desk f.of_desk.states f.of_desk.ran) (Sent me bytes) bytes message
-    → FitsLog c me after (Sent me bytes ∷ behind s outputs) → map snapshot_of (kept_states after.low f.of_desk.states) ≡ snapshots → after.low ≤ desk.state.number
+    → FitsLog c me after (Sent me bytes ∷ behind s outputs) → map snapshot_of (kept_states after.low f.of_desk.states) ≡ snapshots
+    → IsReached c me after.low desk.state.number rest (Sent me bytes ∷ behind s outputs)
     → FitsOpen c me transfer desk.state.number (Sent me bytes ∷ behind s outputs)
     → ((k : ℕ) (root : List ℕ) → BringsRoot c (behind s outputs) (Sent me bytes) k root → k ≤ desk.state.number)
     → ((x : Message) → Has (λ y. y ≡ x) due → Has (λ y. y ≡ x) rest ⊎ IsSaying me x (Sent me bytes))
     → ((x : Message) → Has (λ y. y ≡ x) rest → Has (λ y. y ≡ x) due)
     → NumbersOnce c me (behind s outputs) (Sent me bytes)
     → Fits c me s (record desk { snapshots = snapshots; transfer = transfer }) after rest (Sent me bytes ∷ outputs)
-sent_goes c me s desk log after due rest outputs bytes receivers message snapshots transfer f posted for seen say fits kept at_most opened roots paid fewer once = record {
+sent_goes c me s desk log after due rest outputs bytes receivers message snapshots transfer f posted for seen say fits kept reached opened roots paid fewer once = record {
   of_desk = record {
     states = f.of_desk.states;
     ran = f.of_desk.ran;
@@ -94,7 +96,7 @@ sent_goes c me s desk log after due rest outputs bytes receivers message snapsho
     rightly = λ x h. due_stays c past (Sent me bytes) (point_of desk f.of_desk.states f.of_desk.ran) x (f.of_desk.rightly x (fewer x h));
   };
   of_log = fits;
-  low = at_most;
+  low = reached;
   once = (once, f.once);
 }
   where
@@ -111,46 +113,75 @@ sent_goes c me s desk log after due rest outputs bytes receivers message snapsho
         has_weaker (λ st. (st.number ≡ k) × IsOnItsWay me due outputs (Checkpoint k (root_of st))) (λ st. (st.number ≡ k) × IsOnItsWay me rest (Sent me bytes ∷ outputs) (Checkpoint k (root_of st)))
         (λ st w. (w.0, on_way me due rest outputs (Sent me bytes) paid (Checkpoint k (root_of st)) w.1)) f.of_desk.states (f.of_desk.checkpoints k h multiple)
 
--- Where the marks stay and no part is asked for, nothing but the log and what is due changes.
-pub sent_fits : (c : Configuration) (me : ℕ) (s : Start) (desk : Desk) (log after : LogData) (due rest : List Message) (outputs : List Entry) (bytes receivers : List ℕ) (message : Message)
-    (f : Fits c me s desk log due outputs) → IsPosted c me message receivers bytes → after.low ≡ log.low → IsFor c me (behind s outputs) message receivers
-    → Each (λ frame. Once (HasSeen frame) (behind s outputs)) (carried message)
-    → MaySay c me (behind s outputs) (point_of desk f.of_desk.states f.of_desk.ran) (Sent me bytes) bytes message
-    → FitsLog c me after (Sent me bytes ∷ behind s outputs)
-    → place_from (record { sender = me; message = message }) ≡ None
-    → ((k : ℕ) (root : List ℕ) → BringsRoot c (behind s outputs) (Sent me bytes) k root → k ≤ desk.state.number)
-    → ((x : Message) → Has (λ y. y ≡ x) due → Has (λ y. y ≡ x) rest ⊎ IsSaying me x (Sent me bytes))
-    → ((x : Message) → Has (λ y. y ≡ x) rest → Has (λ y. y ≡ x) due)
-    → NumbersOnce c me (behind s outputs) (Sent me bytes)
-    → Fits c me s desk after rest (Sent me bytes ∷ outputs)
-sent_fits c me s desk log after due rest outputs bytes receivers message f posted same for seen say fits none roots paid fewer once =
-    sent_goes c me s desk log after due rest outputs bytes receivers message desk.snapshots desk.transfer f posted for seen say fits
-    (ap (λ (h : ℕ). map snapshot_of (kept_states h f.of_desk.states)) (same ∙ sym f.of_log.low) ∙ f.of_desk.kept) (let l = f.low in omega arith)
-    (open_stays c me desk.transfer desk.state.number (behind s outputs) (Sent me bytes) (asks_none bytes me message posted.says none) f.of_desk.opened) roots paid fewer once
-
 -- the log behind it
 pub log_sent : (c : Configuration) (me : ℕ) (log after : LogData) (past : List Entry) (bytes receivers : List ℕ) (message : Message) → FitsLog c me log past → IsPosted c me message receivers bytes → KeepsView message
     → Takes c me (Some (record { sender = me; message = message })) log after → IsPlaced c me log (record { sender = me; message = message }) → FitsLog c me after (Sent me bytes ∷ past)
 log_sent c me log after past bytes receivers message f posted keeps takes place =
     log_goes c me log after past (Sent me bytes) f (sent_read c me log past bytes me message posted.says keeps place) (subst (λ (o : Option Body). Takes c me o log after) (sym posted.says) takes)
 
--- a prepare is placed where its number is in the marks, and so is a commit
-in_marks_differ : (log : LogData) (i j : ℕ) → logs.is_in_marks log i ≡ true → logs.is_in_marks log j ≡ false → (i == j) ≡ false
-in_marks_differ log i j k out = ne_eqb i j (λ same. apart (logs.is_in_marks log j) (subst (λ (x : ℕ). logs.is_in_marks log x ≡ true) same k) out)
+-- and the low mark, which stays, is reached
+pub reached_sent : (c : Configuration) (me number : ℕ) (due rest : List Message) (log after : LogData) (past : List Entry) (bytes receivers : List ℕ) (message : Message) → IsPosted c me message receivers bytes → KeepsView message
+    → IsPlaced c me log (record { sender = me; message = message }) → after.low ≡ log.low → ((x : Message) → Has (λ y. y ≡ x) due → Has (λ y. y ≡ x) rest ⊎ IsSaying me x (Sent me bytes))
+    → IsReached c me log.low number due past → IsReached c me after.low number rest (Sent me bytes ∷ past)
+reached_sent c me number due rest log after past bytes receivers message posted keeps place same paid h =
+    subst (λ (n : ℕ). IsReached c me n number rest (Sent me bytes ∷ past)) (sym same)
+    (reached_goes c me number due rest log past (Sent me bytes) (sent_read c me log past bytes me message posted.says keeps place) paid h)
 
-pub prepare_placed : (c : Configuration) (me s i : ℕ) (digest : List ℕ) (log : LogData) → logs.is_in_marks log i ≡ true → IsPlaced c me log (record { sender = s; message = Prepare log.view i digest })
-prepare_placed c me s i digest log k = record {
+-- Where the marks stay and no part is asked for, nothing but the log and what is due changes.
+pub sent_fits : (c : Configuration) (me : ℕ) (s : Start) (desk : Desk) (log after : LogData) (due rest : List Message) (outputs : List Entry) (bytes receivers : List ℕ) (message : Message)
+    (f : Fits c me s desk log due outputs) → IsPosted c me message receivers bytes → IsFor c me (behind s outputs) message receivers
+    → Each (λ frame. Once (HasSeen frame) (behind s outputs)) (carried message)
+    → MaySay c me (behind s outputs) (point_of desk f.of_desk.states f.of_desk.ran) (Sent me bytes) bytes message
+    → KeepsView message → Takes c me (Some (record { sender = me; message = message })) log after → IsPlaced c me log (record { sender = me; message = message })
+    → place_from (record { sender = me; message = message }) ≡ None
+    → ((k : ℕ) (root : List ℕ) → BringsRoot c (behind s outputs) (Sent me bytes) k root → k ≤ desk.state.number)
+    → ((x : Message) → Has (λ y. y ≡ x) due → Has (λ y. y ≡ x) rest ⊎ IsSaying me x (Sent me bytes))
+    → ((x : Message) → Has (λ y. y ≡ x) rest → Has (λ y. y ≡ x) due)
+    → NumbersOnce c me (behind s outputs) (Sent me bytes)
+    → Fits c me s desk after rest (Sent me bytes ∷ outputs)
+sent_fits c me s desk log after due rest outputs bytes receivers message f posted for seen say keeps takes place none roots paid fewer once =
+    sent_goes c me s desk log after due rest outputs bytes receivers message desk.snapshots desk.transfer f posted for seen say
+    (log_sent c me log after (behind s outputs) bytes receivers message f.of_log posted keeps takes place)
+    (ap (λ (h : ℕ). map snapshot_of (kept_states h f.of_desk.states)) (takes.stays.low ∙ sym f.of_log.low) ∙ f.of_desk.kept)
+    (reached_sent c me desk.state.number due rest log after (behind s outputs) bytes receivers message posted keeps place takes.stays.low paid f.low)
+    (open_stays c me desk.transfer desk.state.number (behind s outputs) (Sent me bytes) (asks_none bytes me message posted.says none) f.of_desk.opened) roots paid fewer once
+
+-- a prepare is placed where its number is in the marks and the replica is active, and so is a commit
+differ : (log : LogData) (v i j : ℕ) → logs.is_in_marks log i ≡ true → (v ≢ log.view) ⊎ (logs.is_in_marks log j ≡ false) → ((log.view == v) && (i == j)) ≡ false
+differ log v i j k (inl other) = rw (ne_eqb log.view v (λ same. other (sym same))) refl
+differ log v i j k (inr out) = and_false (log.view == v) (i == j) (ne_eqb i j (λ same. apart (logs.is_in_marks log j) (subst (λ (x : ℕ). logs.is_in_marks log x ≡ true) same k) out))
+  where
+    and_false : (a b : Bool) → b ≡ false → (a && b) ≡ false
+    and_false true b h = h
+    and_false false b h = refl
+
+-- a test with such a part fails
+fails : (a x y z : Bool) → (x && y) ≡ false → (a && x && y && z) ≡ false
+fails true x y z h = rw h refl
+fails false x y z h = refl
+
+fails_two : (a x y : Bool) → (x && y) ≡ false → (a && x && y) ≡ false
+fails_two true x y h = h
+fails_two false x y h = refl
+
+pub never_rests : {A : Type 0} (log : LogData) → log.active ≡ true → log.active ≡ false → A
+never_rests log is rests = absurd (apart log.active is rests)
+
+pub prepare_placed : (c : Configuration) (me s i : ℕ) (digest : List ℕ) (log : LogData) → log.active ≡ true → logs.is_in_marks log i ≡ true → IsPlaced c me log (record { sender = s; message = Prepare log.view i digest })
+prepare_placed c me s i digest log is k = record {
   batch = λ v j x h. absurd cc;
-  votes = λ j x out. (
-    ap (λ (b : Bool). then_some b digest) (failing (s == x) (log.view == log.view) (i == j) (not (x == primary c log.view)) (in_marks_differ log i j k out)),
+  votes = λ v j x other. (
+    ap (λ (b : Bool). then_some b digest) (fails (s == x) (log.view == v) (i == j) (not (x == primary c v)) (differ log v i j k other)),
     refl,
   );
+  resting = λ rests j x. never_rests log is rests;
 }
 
-pub commit_placed : (c : Configuration) (me s i : ℕ) (digest : List ℕ) (log : LogData) → logs.is_in_marks log i ≡ true → IsPlaced c me log (record { sender = s; message = Commit log.view i digest })
-commit_placed c me s i digest log k = record {
+pub commit_placed : (c : Configuration) (me s i : ℕ) (digest : List ℕ) (log : LogData) → log.active ≡ true → logs.is_in_marks log i ≡ true → IsPlaced c me log (record { sender = s; message = Commit log.view i digest })
+commit_placed c me s i digest log is k = record {
   batch = λ v j x h. absurd cc;
-  votes = λ j x out. (refl, ap (λ (b : Bool). then_some b digest) (failing_two (s == x) (log.view == log.view) (i == j) (in_marks_differ log i j k out)));
+  votes = λ v j x other. (refl, ap (λ (b : Bool). then_some b digest) (fails_two (s == x) (log.view == v) (i == j) (differ log v i j k other)));
+  resting = λ rests j x. never_rests log is rests;
 }
 
 -- ---- what numbers no request
@@ -165,45 +196,56 @@ no_proposal c me past bytes message h none v i batch says free =
 
 -- ---- the own votes
 
--- who is asked for a prepare is a backup
-backup_of : (log : LogData) (b : Bool) → (not (log.me == logs.primary log log.view) && b) ≡ true → log.me ≢ logs.primary log log.view
-backup_of log b h = eqb-false log.me (logs.primary log log.view) (not-true (log.me == logs.primary log log.view) (and_parts (not (log.me == logs.primary log log.view)) b h).0)
+-- who is asked for a prepare is active, and a backup
+backup_of : (log : LogData) (b : Bool) → (log.active && not (log.me == logs.primary log log.view) && b) ≡ true → (log.active ≡ true) × (log.me ≢ logs.primary log log.view)
+backup_of log b h =
+    let p = and_parts log.active (not (log.me == logs.primary log log.view)) (and_parts (log.active && not (log.me == logs.primary log log.view)) b h).0 in
+    (p.0, eqb-false log.me (logs.primary log log.view) (not-true (log.me == logs.primary log log.view) p.1))
 
 pub prepares_fit : PreparesFit
 prepares_fit c me s desk log due outputs i digest bytes vote asks sender same posted f =
-    sent_fits c me s desk log (logs.with_prepare log i vote) due due outputs bytes (others c me) (Prepare log.view i digest) f posted refl refl tt
-    (record { is_backup = backup; active = active c me log (behind s outputs) f.of_log; batch = b.batch; is_logged = f.of_log.batches i b.within ∙ b.logged; digest_is = b.digest_is })
-    (log_sent c me log (logs.with_prepare log i vote) (behind s outputs) bytes (others c me) (Prepare log.view i digest) f.of_log posted tt
-    (prepare_taken c me me i digest vote log f.of_log.is_log b.within (subst (λ (x : ℕ). x < logs.replicas log) f.of_log.own f.of_log.is_log.me) (ap not (ne_eqb me (primary c log.view) (λ e. backup (sym e)))) sender same)
-    (prepare_placed c me me i digest log b.within))
+    sent_fits c me s desk log (logs.with_prepare log i vote) due due outputs bytes (others c me) (Prepare log.view i digest) f posted refl tt
+    (record { is_backup = backup; active = active c me log (behind s outputs) f.of_log ∙ is_active; batch = b.batch; is_logged = f.of_log.batches i b.within ∙ b.logged; digest_is = b.digest_is })
+    tt
+    (prepare_taken c me me i digest vote log f.of_log.is_log is_active b.within (subst (λ (x : ℕ). x < logs.replicas log) f.of_log.own f.of_log.is_log.me) (ap not (ne_eqb me (primary c log.view) (λ e. backup (sym e)))) sender same)
+    (prepare_placed c me me i digest log is_active b.within)
     refl (no_root c (behind s outputs) bytes me (Prepare log.view i digest) desk.state.number posted.says refl) (λ x h. inl h) (λ x h. h) (no_proposal c me (behind s outputs) bytes (Prepare log.view i digest) posted.says tt)
   where
-    test : ((not (log.me == logs.primary log log.view) && is_none (logs.prepare_of log i log.me)) ≡ true) × (logs.logged_digest log i ≡ Some digest)
-    test = passed (not (log.me == logs.primary log log.view) && is_none (logs.prepare_of log i log.me)) (logs.logged_digest log i) digest asks
+    test : ((log.active && not (log.me == logs.primary log log.view) && is_none (logs.prepare_of log i log.me)) ≡ true) × (logs.logged_digest log i ≡ Some digest)
+    test = passed (log.active && not (log.me == logs.primary log log.view) && is_none (logs.prepare_of log i log.me)) (logs.logged_digest log i) digest asks
 
     b : HasBatch log i digest
     b = has_batch log i digest test.1
 
+    is_active : log.active ≡ true
+    is_active = (backup_of log (is_none (logs.prepare_of log i log.me)) test.0).0
+
     backup : primary c log.view ≢ me
-    backup e = backup_of log (is_none (logs.prepare_of log i log.me)) test.0 (f.of_log.own ∙ sym e ∙ sym (primary_same c log log.view f.of_log.faults))
+    backup e = (backup_of log (is_none (logs.prepare_of log i log.me)) test.0).1 (f.of_log.own ∙ sym e ∙ sym (primary_same c log log.view f.of_log.faults))
 
 pub commits_fit : CommitsFit
 commits_fit c me s desk log due outputs i digest bytes vote asks sender same posted f =
-    sent_fits c me s desk log (logs.with_commit log i vote) due due outputs bytes (others c me) (Commit log.view i digest) f posted refl refl tt
-    (record { active = active c me log (behind s outputs) f.of_log; batch = p.0; prepared = prepared_here c me log (behind s outputs) i p.0 f.of_log p.1; digest_is = digest_is })
-    (log_sent c me log (logs.with_commit log i vote) (behind s outputs) bytes (others c me) (Commit log.view i digest) f.of_log posted tt
-    (commit_taken c me me i digest vote log f.of_log.is_log b.within (subst (λ (x : ℕ). x < logs.replicas log) f.of_log.own f.of_log.is_log.me) sender same)
-    (commit_placed c me me i digest log b.within))
+    sent_fits c me s desk log (logs.with_commit log i vote) due due outputs bytes (others c me) (Commit log.view i digest) f posted refl tt
+    (record { active = active c me log (behind s outputs) f.of_log ∙ is_active; batch = p.0; prepared = prepared_here c me log (behind s outputs) i p.0 f.of_log p.1; digest_is = digest_is })
+    tt
+    (commit_taken c me me i digest vote log f.of_log.is_log is_active b.within (subst (λ (x : ℕ). x < logs.replicas log) f.of_log.own f.of_log.is_log.me) sender same)
+    (commit_placed c me me i digest log is_active b.within)
     refl (no_root c (behind s outputs) bytes me (Commit log.view i digest) desk.state.number posted.says refl) (λ x h. inl h) (λ x h. h) (no_proposal c me (behind s outputs) bytes (Commit log.view i digest) posted.says tt)
   where
-    test : ((logs.is_prepared log i && is_none (logs.commit_of log i log.me)) ≡ true) × (logs.logged_digest log i ≡ Some digest)
-    test = passed (logs.is_prepared log i && is_none (logs.commit_of log i log.me)) (logs.logged_digest log i) digest asks
+    test : ((log.active && logs.is_prepared log i && is_none (logs.commit_of log i log.me)) ≡ true) × (logs.logged_digest log i ≡ Some digest)
+    test = passed (log.active && logs.is_prepared log i && is_none (logs.commit_of log i log.me)) (logs.logged_digest log i) digest asks
 
     b : HasBatch log i digest
     b = has_batch log i digest test.1
 
+    asked : (log.active ≡ true) × (logs.is_prepared log i ≡ true)
+    asked = and_parts log.active (logs.is_prepared log i) (and_parts (log.active && logs.is_prepared log i) (is_none (logs.commit_of log i log.me)) test.0).0
+
+    is_active : log.active ≡ true
+    is_active = asked.0
+
     p : (batch : List ℕ) × PreparedIn log i batch
-    p = is_prepared_in log i (and_parts (logs.is_prepared log i) (is_none (logs.commit_of log i log.me)) test.0).0
+    p = is_prepared_in log i asked.1
 
     digest_is : sha256 p.0 ≡ digest
     digest_is =
@@ -228,10 +270,10 @@ each_held c me desk history frames f h = each_weaker (λ frame. Has (λ x. x ≡
 
 pub batches_fit : BatchesFit
 batches_fit c me s desk log due outputs i batch bytes p posted f =
-    sent_fits c me s desk log (logs.with_batch log i batch) due due outputs bytes (others c me) (PrePrepare log.view i batch) f posted refl refl
+    sent_fits c me s desk log (logs.with_batch log i batch) due due outputs bytes (others c me) (PrePrepare log.view i batch) f posted refl
     (each_weaker (λ frame. Once (HasSeen frame) past × (is_some (heard (members c) me frame) ≡ true)) (λ frame. Once (HasSeen frame) past) (λ frame k. k.0) (requests_of batch) seen)
-    (record { is_primary = primary_is; active = active c me log past f.of_log; in_marks = marks_are c me log past i f.of_log ∙ p.within; genuine = genuine; one = one })
-    fits refl (no_root c (behind s outputs) bytes me (PrePrepare log.view i batch) desk.state.number posted.says refl) (λ x h. inl h) (λ x h. h) once
+    (record { is_primary = primary_is; active = active c me log past f.of_log ∙ p.active; in_marks = marks_are c me log past i f.of_log ∙ p.within; genuine = genuine; one = one })
+    tt takes is_placed refl (no_root c (behind s outputs) bytes me (PrePrepare log.view i batch) desk.state.number posted.says refl) (λ x h. inl h) (λ x h. h) once
   where
     past : List Entry
     past = behind s outputs
@@ -246,19 +288,22 @@ batches_fit c me s desk log due outputs i batch bytes p posted f =
     genuine = all_of_each (λ frame. Once (HasSeen frame) past × (is_some (heard (members c) me frame) ≡ true)) (λ request. is_some (heard (members c) me request)) (λ frame k. k.1) (requests_of batch) seen
 
     takes : Takes c me (Some (record { sender = me; message = PrePrepare log.view i batch })) log (logs.with_batch log i batch)
-    takes = batch_taken c me me i batch log f.of_log.is_log p.within (eq-eqb me (primary c log.view) (sym primary_is)) genuine p.free
+    takes = batch_taken c me me i batch log f.of_log.is_log p.active p.within (eq-eqb me (primary c log.view) (sym primary_is)) genuine p.free
 
     place : (v j : ℕ) (b : List ℕ) → batch_from c me v j (record { sender = me; message = PrePrepare log.view i batch }) ≡ Some b → (v ≡ log.view) × (logs.is_in_marks log j ≡ true)
     place v j b h = let w = placed c me log.view i v j me batch b h in (sym w.0, subst (λ (x : ℕ). logs.is_in_marks log x ≡ true) w.1 p.within)
 
+    is_placed : IsPlaced c me log (record { sender = me; message = PrePrepare log.view i batch })
+    is_placed = record { batch = place; votes = λ v j x other. (refl, refl); resting = λ rests j x. never_rests log p.active rests }
+
     fits : FitsLog c me (logs.with_batch log i batch) (Sent me bytes ∷ past)
-    fits = log_sent c me log (logs.with_batch log i batch) past bytes (others c me) (PrePrepare log.view i batch) f.of_log posted tt takes (record { batch = place; votes = λ j x out. (refl, refl) })
+    fits = log_sent c me log (logs.with_batch log i batch) past bytes (others c me) (PrePrepare log.view i batch) f.of_log posted tt takes is_placed
 
     proposed : batch_from c me log.view i (record { sender = me; message = PrePrepare log.view i batch }) ≡ Some batch
     proposed = rw (eq-eqb log.view log.view refl, eq-eqb i i refl, eq-eqb me (primary c log.view) (sym primary_is), genuine) refl
 
     one : logged c me (Sent me bytes ∷ past) log.view i ≡ Some batch
-    one = fits.batches i p.within ∙ takes.batch i p.within ∙ or_else_second (logs.logged_batch log i) _ p.free ∙ proposed
+    one = fits.batches i p.within ∙ takes.batch i p.within ∙ or_else_second (logs.logged_batch log i) _ p.free ∙ ap (λ (b : Bool). cond b (batch_from c me log.view i (record { sender = me; message = PrePrepare log.view i batch })) None) p.active ∙ proposed
 
     once : NumbersOnce c me past (Sent me bytes)
     once v j b says free = subst (λ (x : List ℕ). AllPairs (AreDifferent c) (requests_of x) × ((client t : ℕ) → HasRequest c client t x → IsNumbered c me past v client t → ⊥)) same
@@ -283,9 +328,9 @@ batches_fit c me s desk log due outputs i batch bytes p posted f =
 
 pub replies_fit : RepliesFit
 replies_fit c me s desk log rest outputs k kept bytes posted f =
-    sent_fits c me s desk log log (reply_of k kept ∷ rest) rest outputs bytes ((256 + k) ∷ []) (reply_of k kept) f posted refl refl tt (f.of_desk.rightly (reply_of k kept) (inl refl))
-    (log_sent c me log log (behind s outputs) bytes ((256 + k) ∷ []) (reply_of k kept) f.of_log posted tt
-    (takes_nothing c me (Some (record { sender = me; message = reply_of k kept })) log f.of_log.is_log (λ i w h. refl) (λ i x w h. refl) (λ i x w h. refl) (λ x. refl)) (record { batch = λ v i b h. absurd cc; votes = λ i x out. (refl, refl) }))
+    sent_fits c me s desk log log (reply_of k kept ∷ rest) rest outputs bytes ((256 + k) ∷ []) (reply_of k kept) f posted refl tt (f.of_desk.rightly (reply_of k kept) (inl refl))
+    tt
+    (takes_nothing c me (Some (record { sender = me; message = reply_of k kept })) log f.of_log.is_log (λ i w h. refl) (λ i x w h. refl) (λ i x w h. refl) (λ x. refl)) (beside_placed c me log me (reply_of k kept) tt)
     refl (no_root c (behind s outputs) bytes me (reply_of k kept) desk.state.number posted.says refl) paid (λ x h. inr h) (no_proposal c me (behind s outputs) bytes (reply_of k kept) posted.says tt)
   where
     paid : (x : Message) → (reply_of k kept ≡ x) ⊎ Has (λ y. y ≡ x) rest → Has (λ y. y ≡ x) rest ⊎ IsSaying me x (Sent me bytes)
@@ -319,7 +364,7 @@ checkpoints_fit c me s desk log rest outputs entry bytes prepares commits posted
     sent_goes c me s desk log (checked_log log me entry) (Checkpoint entry.number entry.digest ∷ rest) rest outputs bytes (others c me) (Checkpoint entry.number entry.digest) (kept_from (checked_log log me entry).low desk.snapshots) desk.transfer
     f posted refl tt may.0 fits
     (kept_on log.low (checked_log log me entry).low f.of_desk.states desk.snapshots up (ap (λ (h : ℕ). map snapshot_of (kept_states h f.of_desk.states)) (sym f.of_log.low) ∙ f.of_desk.kept))
-    (checked_at_most c me log past (Sent me bytes) me entry f.of_log brings known desk.state.number f.low (λ stable. executed))
+    (checked_reached c me log past (Sent me bytes) me entry f.of_log brings known desk.state.number (Checkpoint entry.number entry.digest ∷ rest) rest paid f.low (λ stable. executed))
     (open_stays c me desk.transfer desk.state.number past (Sent me bytes) (asks_none bytes me (Checkpoint entry.number entry.digest) posted.says refl) f.of_desk.opened)
     (own_root c past bytes me entry.number entry.digest desk.state.number posted.says executed) paid (λ x h. inr h) (no_proposal c me past bytes (Checkpoint entry.number entry.digest) posted.says tt)
   where

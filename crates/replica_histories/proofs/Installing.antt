@@ -16,6 +16,7 @@ use Rattle.replica_histories.specs.Transfers.{FitsOpen, installed_point}
 use Rattle.replica_histories.specs.Events.{behind, IsOnItsWay}
 use Rattle.replica_histories.specs.Outputs.{InstallationsFit}
 use Rattle.replica_histories.proofs.Cutting.{cut_low, installations_move}
+use Rattle.replica_histories.proofs.Reaching.{reached_open}
 use Rattle.replica_histories.proofs.Giving.{kept_on}
 use Rattle.replica_histories.proofs.TransfersInstalling.{transfers_install}
 use Rattle.replica_histories.proofs.TransfersQuorums.{quorums_go_on}
@@ -38,7 +39,7 @@ installations_fit c me s desk log outputs t st frames is_open rests root_is is n
     rightly = λ message h. absurd h;
   };
   of_log = fits;
-  low = let l = low_is in let n = number in omega arith;
+  low = inl (let l = low_is in let n = number in omega arith);
   once = (tt, f.once);
 }
   where
@@ -61,7 +62,7 @@ installations_fit c me s desk log outputs t st frames is_open rests root_is is n
     fits = installations_move c me log past t.number t.root f.of_log small (λ i l. (prepares i, commits i))
 
     up : log.low ≤ t.number
-    up = let l = f.low in let n = later in omega arith
+    up = reached_open c me log.low desk.state.number (Some t) past f.low opened
 
     low_is : (logs.cut_to log t.number).low ≡ t.number
     low_is = cut_low log t.number up

@@ -6,6 +6,7 @@ pub mod Speaking
 pub mod Checking
 pub mod Taking
 pub mod Logging
+pub mod Reaching
 pub mod Cutting
 pub mod Asking
 pub mod Parting

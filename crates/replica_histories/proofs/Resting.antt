@@ -84,12 +84,13 @@ held_are_settled c me desk log history held = record {
     executes : (o : Option (List ℕ)) → logs.committed_batch log (suc desk.state.number) ≡ o → o ≡ None
     executes None e = refl
     executes (Some batch) e =
-        absurd (r.executes log.view batch (subst (λ (st : State). Committed c me history log.view (suc st.number) batch) (sym state_is) (committed_here c me log history (suc desk.state.number) batch f e)))
+        let k = committed_here c me log history (suc desk.state.number) batch f e in
+        absurd (r.executes k.0 batch (subst (λ (st : State). Committed c me history k.0 (suc st.number) batch) (sym state_is) k.1))
 
-    numbers : (i : ℕ) (call : Call) → logs.primary log log.view ≡ log.me → Has (λ x. x ≡ call) desk.waiting → IsFree c me history desk.state.number log.view i
+    numbers : (i : ℕ) (call : Call) → log.active ≡ true → logs.primary log log.view ≡ log.me → Has (λ x. x ≡ call) desk.waiting → IsFree c me history desk.state.number log.view i
         → IsNumbered c me history log.view call.client call.timestamp
-    numbers i call own waits free =
-        r.numbers log.view i call (active c me log history f) (sym (primary_same c log log.view f.faults) ∙ own ∙ f.own) (subst (λ (w : List Call). Has (λ x. x ≡ call) w) (sym waiting_is) waits)
+    numbers i call is_active own waits free =
+        r.numbers log.view i call (active c me log history f ∙ is_active) (sym (primary_same c log log.view f.faults) ∙ own ∙ f.own) (subst (λ (w : List Call). Has (λ x. x ≡ call) w) (sym waiting_is) waits)
         (subst (λ (st : State). IsFree c me history st.number log.view i) (sym state_is) free)
 
 -- ---- inputs that pass
@@ -100,7 +101,7 @@ settled_goes c me desk log past e same s = record {
   prepares = s.prepares;
   commits = s.commits;
   executes = s.executes;
-  numbers = λ i call own waits free. on call (s.numbers i call own waits (ap (λ (h : ℕ). is_in_marks c h i) (sym same) ∙ free.0, free.1, λ j above. none j (free.2 j above) (logged c me past log.view j) refl));
+  numbers = λ i call is_active own waits free. on call (s.numbers i call is_active own waits (ap (λ (h : ℕ). is_in_marks c h i) (sym same) ∙ free.0, free.1, λ j above. none j (free.2 j above) (logged c me past log.view j) refl));
 }
   where
     none : (j : ℕ) → logged c me (e ∷ past) log.view j ≡ None → (o : Option (List ℕ)) → logged c me past log.view j ≡ o → o ≡ None

@@ -1,7 +1,7 @@
 -- The own votes for what is logged: said where the log asks for none, and not forgotten behind an entry.
 use Rattle.std.proofs.Common.{◌≡◌, ◌≢◌, ℕ, ◌*◌, ◌≤◌, ◌<◌, ◌⊎◌, inl, inr, Bool, true, false, cond, ◌&&◌, not, List, ◌∷◌, refl, sym, ap, ◌∙◌, subst, Option, Some, None, is_none}
 use Rattle.std.specs.Prelude.{◌==◌}
-use Rattle.std.proofs.lemmas.Bool.{ne_eqb}
+use Rattle.std.proofs.lemmas.Bool.{and_from, ne_eqb}
 use Rattle.sha2.specs.Sha256.{sha256}
 use Rattle.quorum.specs.Votes.{has_digest}
 use Rattle.quorum.proofs.Counting.{count_same}
@@ -22,29 +22,29 @@ voted b None digest d h e k = absurd (given_not digest d k (sym (ap (λ (t : Boo
 voted b (Some x) digest d h e k = (x, refl)
 
 module _ (c : Configuration) (me : ℕ) (log : LogData) (past : List Entry) (f : FitsLog c me log past) (i : ℕ) (batch : List ℕ) where
-  own_prepare : logs.due_prepare log i ≡ None → primary c log.view ≢ me → logs.is_in_marks log i ≡ true → logs.logged_batch log i ≡ Some batch → (d : List ℕ) × (prepare_of c me past log.view i me ≡ Some d)
-  own_prepare none backup k h =
+  own_prepare : log.active ≡ true → logs.due_prepare log i ≡ None → primary c log.view ≢ me → logs.is_in_marks log i ≡ true → logs.logged_batch log i ≡ Some batch → (d : List ℕ) × (prepare_of c me past log.view i me ≡ Some d)
+  own_prepare is none backup k h =
       let other : (log.me == logs.primary log log.view) ≡ false = ne_eqb log.me (logs.primary log log.view) (λ e. backup (sym (primary_same c log log.view f.faults) ∙ sym e ∙ f.own)) in
-      let v = voted (not (log.me == logs.primary log log.view)) (logs.prepare_of log i log.me) (logs.logged_digest log i) (sha256 batch) none (ap not other) (digest_read log i batch k h) in
+      let v = voted (log.active && not (log.me == logs.primary log log.view)) (logs.prepare_of log i log.me) (logs.logged_digest log i) (sha256 batch) none (and_from log.active (not (log.me == logs.primary log log.view)) is (ap not other)) (digest_read log i batch k h) in
       (v.0, f.prepares i me k ∙ ap (logs.prepare_of log i) (sym f.own) ∙ v.1)
 
-  own_commit : logs.due_commit log i ≡ None → PreparedIn log i batch → (d : List ℕ) × (commit_of c me past log.view i me ≡ Some d)
-  own_commit none p =
+  own_commit : log.active ≡ true → logs.due_commit log i ≡ None → PreparedIn log i batch → (d : List ℕ) × (commit_of c me past log.view i me ≡ Some d)
+  own_commit is none p =
       let batch_is : logs.logged_batch log i ≡ Some batch = rw (p.within) p.row in
-      let v = voted (logs.is_prepared log i) (logs.commit_of log i log.me) (logs.logged_digest log i) (sha256 batch) none (prepared_is log i batch p) (digest_read log i batch p.within batch_is) in
+      let v = voted (log.active && logs.is_prepared log i) (logs.commit_of log i log.me) (logs.logged_digest log i) (sha256 batch) none (and_from log.active (logs.is_prepared log i) is (prepared_is log i batch p)) (digest_read log i batch p.within batch_is) in
       (v.0, f.commits i me p.within ∙ ap (logs.commit_of log i) (sym f.own) ∙ v.1)
 
   -- what is logged has the own votes, where the log asks for none there
-  pub votes_said : (log.low < i → (logs.due_prepare log i ≡ None) × (logs.due_commit log i ≡ None)) → logged c me past log.view i ≡ Some batch → IsVoted c me past log.view i batch
-  votes_said none h = go (f.within log.view i batch h).1
+  pub votes_said : log.active ≡ true → (log.low < i → (logs.due_prepare log i ≡ None) × (logs.due_commit log i ≡ None)) → logged c me past log.view i ≡ Some batch → IsVoted c me past log.view i batch
+  votes_said is none h = go ((f.within log.view i batch h).marks refl)
     where
       go : (i ≤ log.low) ⊎ (logs.is_in_marks log i ≡ true) → IsVoted c me past log.view i batch
-      go (inl k) = f.settled i batch k h
+      go (inl k) = f.settled is i batch k h
       go (inr k) =
           let above = above_low log i k in
           record {
-            prepare = λ backup. own_prepare (none above).0 backup k (sym (f.batches i k) ∙ h);
-            commit = λ p. own_commit (none above).1 (prepared_there c me log past log.view i batch f above p).1;
+            prepare = λ backup. own_prepare is (none above).0 backup k (sym (f.batches i k) ∙ h);
+            commit = λ p. own_commit is (none above).1 (prepared_there c me log past i batch f above p);
           }
 
 -- They stay said behind an entry that brings no prepare there.

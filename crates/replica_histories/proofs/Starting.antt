@@ -1,5 +1,5 @@
 -- Where a replica begins, and what holds in the end.
-use Rattle.std.proofs.Common.{◌≡◌, ℕ, zero, suc, ◌+◌, ◌*◌, ◌<◌, ◌≤◌, inl, cond, List, [], ◌∷◌, refl, sym, ap, ◌∙◌, subst, arith, Option, None, replicate, slice_index_or}
+use Rattle.std.proofs.Common.{◌≡◌, ℕ, zero, suc, ◌+◌, ◌*◌, ◌<◌, ◌≤◌, inl, cond, List, [], ◌∷◌, refl, sym, ap, ◌∙◌, subst, arith, Option, Some, None, replicate, slice_index_or}
 use Rattle.std.proofs.lemmas.List.{length-replicate}
 use Rattle.std.proofs.lemmas.List.Elements.{All-replicate}
 use Rattle.wire.specs.Messages.{CheckpointEntryData as CheckpointEntry}
@@ -10,7 +10,7 @@ use Rattle.ordering.specs.Keeping.{IsRow, IsLog}
 use Rattle.protocol.specs.System.Configuration.{Configuration, replicas, span}
 use Rattle.protocol.specs.Replica.Certificates.{view, low, logged, prepare_of, commit_of, checkpoints_of}
 use Rattle.protocol.specs.Replica.RightReplica.{first_point}
-use Rattle.replica_histories.specs.Logs.{above_mark, AreLatest, FitsLog}
+use Rattle.replica_histories.specs.Logs.{above_mark, AreLatest, FitsViews, FitsLog}
 use Rattle.replica_histories.specs.Histories.{first_desk, FirstHold, HeldOrder}
 use Rattle.replica_histories.proofs.Words.{gated}
 use Rattle.replica_histories.proofs.Latest.{none_latest}
@@ -51,6 +51,15 @@ module _ (c : Configuration) (me : ℕ) (some : 1 ≤ c.faults) (few : c.faults 
   no_digest : (i : ℕ) → logs.logged_digest started i ≡ None
   no_digest i = no_reading logs.digest_of refl i
 
+  first_views : FitsViews c me started []
+  unfolding logged prepare_of commit_of
+  first_views = record {
+    decided = λ i batch k h. absurd (let bad : None ≡ Some batch = sym (ap (λ (r : Row). r.decided) (empty (span c) (logs.place started i))) ∙ h in cc);
+    all_decided = λ v i batch below k h. absurd (omega arith);
+    voted = λ v i batch k earlier h. absurd (let l : None ≡ Some batch = h.logged in cc);
+    later = λ v i s above. (refl, refl);
+  }
+
   first_fits : FitsLog c me started []
   unfolding view low logged prepare_of commit_of checkpoints_of
   first_fits = record {
@@ -60,15 +69,15 @@ module _ (c : Configuration) (me : ℕ) (some : 1 ≤ c.faults) (few : c.faults 
     span = refl;
     active = refl;
     view = refl;
-    target = omega arith;
     low = refl;
     batches = λ i k. sym (no_reading (λ r. r.batch) refl i);
     prepares = λ i s k. sym (no_reading (λ r. vote_of r.prepares s) refl i);
     commits = λ i s k. sym (no_reading (λ r. vote_of r.commits s) refl i);
     within = λ v i batch h. absurd cc;
     above = λ i s l out. (refl, refl);
-    begun = λ v batch h. h;
-    settled = λ i batch l h. absurd cc;
+    begun = λ v batch h. absurd h;
+    settled = λ is_active i batch l h. absurd cc;
+    views = first_views;
     checkpoints = λ s. ap (above_mark 0) (sym (no_checkpoints (3 * c.faults + 1) s));
     latest = λ s. subst AreLatest (sym (no_checkpoints (3 * c.faults + 1) s)) none_latest;
   }
@@ -90,7 +99,7 @@ first_hold c me some few mine fits = record {
     prepares = λ i. gated _ _ (no_digest c me some few mine fits i);
     commits = λ i. gated _ _ (no_digest c me some few mine fits i);
   };
-  low = omega arith;
+  low = inl (omega arith);
 }
 
 pub held_order : HeldOrder

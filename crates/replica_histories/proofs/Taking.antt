@@ -13,12 +13,33 @@ use Rattle.ordering.proofs.Reading.{batches_are_logged, prepares_count, commits_
 use Rattle.protocol.specs.System.Configuration.{Configuration, primary}
 use Rattle.protocol.specs.Replica.Certificates.{are_genuine, checkpoint_from, with_checkpoint, batch_from, prepare_from, commit_from}
 use Rattle.protocol.proofs.Words.Options.{or_else_alone}
-use Rattle.replica_histories.specs.Logs.{above_mark, Stays, Takes}
+use Rattle.replica_histories.specs.Logs.{above_mark, Stays, while_active, Takes}
 
 -- ---- what changes nothing
 
 pub stays_itself : (log : LogData) → IsLog log → Stays log log
 stays_itself log is = record { is_log = is; me = refl; faults = refl; span = refl; view = refl; active = refl; low = refl; checkpoints = refl }
+
+-- a body that adds nothing to what is read, while the replica is active
+pub takes_no_more : (c : Configuration) (me : ℕ) (said : Option Body) (log : LogData) → IsLog log
+    → ((i : ℕ) → log.active ≡ true → logs.is_in_marks log i ≡ true → logs.logged_batch log i ≡ None → option_and_then (batch_from c me log.view i) said ≡ None)
+    → ((i s : ℕ) → log.active ≡ true → logs.is_in_marks log i ≡ true → logs.prepare_of log i s ≡ None → option_and_then (prepare_from c s log.view i) said ≡ None)
+    → ((i s : ℕ) → log.active ≡ true → logs.is_in_marks log i ≡ true → logs.commit_of log i s ≡ None → option_and_then (commit_from s log.view i) said ≡ None)
+    → ((s : ℕ) → above_mark log.low (with_checkpoint s (option_and_then checkpoint_from said) (logs.checkpoints_of log s)) ≡ above_mark log.low (logs.checkpoints_of log s))
+    → Takes c me said log log
+takes_no_more c me said log is batch prepare commit checkpoint = record {
+  stays = stays_itself log is;
+  batch = λ i k. keeps (logs.logged_batch log i) (option_and_then (batch_from c me log.view i) said) log.active refl (λ a. batch i a k);
+  prepare = λ i s k. keeps (logs.prepare_of log i s) (option_and_then (prepare_from c s log.view i) said) log.active refl (λ a. prepare i s a k);
+  commit = λ i s k. keeps (logs.commit_of log i s) (option_and_then (commit_from s log.view i) said) log.active refl (λ a. commit i s a k);
+  decided = λ i k. refl;
+  checkpoint = checkpoint;
+}
+  where
+    keeps : (o later : Option (List ℕ)) (b : Bool) → log.active ≡ b → (log.active ≡ true → o ≡ None → later ≡ None) → o ≡ or_else o (cond b later None)
+    keeps None later true is h = sym (h is refl)
+    keeps None later false is h = refl
+    keeps (Some x) later b is h = refl
 
 -- a body that adds nothing to what is read
 pub takes_nothing : (c : Configuration) (me : ℕ) (said : Option Body) (log : LogData) → IsLog log
@@ -27,17 +48,7 @@ pub takes_nothing : (c : Configuration) (me : ℕ) (said : Option Body) (log : L
     → ((i s : ℕ) → logs.is_in_marks log i ≡ true → logs.commit_of log i s ≡ None → option_and_then (commit_from s log.view i) said ≡ None)
     → ((s : ℕ) → above_mark log.low (with_checkpoint s (option_and_then checkpoint_from said) (logs.checkpoints_of log s)) ≡ above_mark log.low (logs.checkpoints_of log s))
     → Takes c me said log log
-takes_nothing c me said log is batch prepare commit checkpoint = record {
-  stays = stays_itself log is;
-  batch = λ i k. keeps (logs.logged_batch log i) (option_and_then (batch_from c me log.view i) said) (batch i k);
-  prepare = λ i s k. keeps (logs.prepare_of log i s) (option_and_then (prepare_from c s log.view i) said) (prepare i s k);
-  commit = λ i s k. keeps (logs.commit_of log i s) (option_and_then (commit_from s log.view i) said) (commit i s k);
-  checkpoint = checkpoint;
-}
-  where
-    keeps : (o later : Option (List ℕ)) → (o ≡ None → later ≡ None) → o ≡ or_else o later
-    keeps None later h = sym (h refl)
-    keeps (Some x) later h = refl
+takes_nothing c me said log is batch prepare commit checkpoint = takes_no_more c me said log is (λ i a k h. batch i k h) (λ i s a k h. prepare i s k h) (λ i s a k h. commit i s k h) checkpoint
 
 -- a body that gives something for one place alone, where something stands, adds nothing
 pub none_there : (o added : Option (List ℕ)) (test : Bool) (x : List ℕ) → added ≡ then_some test x → o ≡ None → (test ≡ true → o ≡ None → ⊥) → added ≡ None
@@ -83,11 +94,23 @@ at_number i j old new added test x reads here elsewhere = go (j == i) refl reads
     go true e h = h ∙ ap (or_else old) (sym (here e))
     go false e h = h ∙ sym (or_else_alone old (then_some test x) (ap (λ (b : Bool). then_some b x) (elsewhere e)))
 
+-- what counts while the replica is active
+active_adds : (log : LogData) (old added new : Option (List ℕ)) → log.active ≡ true → new ≡ or_else old added → new ≡ or_else old (while_active log added)
+active_adds log old added new is h = h ∙ ap (λ (b : Bool). or_else old (cond b added None)) (sym is)
+
+-- what is not of the kind adds nothing
+adds_none : (log : LogData) (old new : Option (List ℕ)) → new ≡ old → new ≡ or_else old (while_active log None)
+adds_none log old new h = h ∙ sym (or_else_alone old (while_active log None) (go log.active))
+  where
+    go : (b : Bool) → cond b (let o : Option (List ℕ) = None in o) None ≡ None
+    go true = refl
+    go false = refl
+
 -- ---- a prepare
 
-pub prepare_taken : (c : Configuration) (me s i : ℕ) (digest : List ℕ) (vote : Vote) (log : LogData) → IsLog log → logs.is_in_marks log i ≡ true → s < logs.replicas log → not (s == primary c log.view) ≡ true
+pub prepare_taken : (c : Configuration) (me s i : ℕ) (digest : List ℕ) (vote : Vote) (log : LogData) → IsLog log → log.active ≡ true → logs.is_in_marks log i ≡ true → s < logs.replicas log → not (s == primary c log.view) ≡ true
     → vote.sender.0 ≡ s → vote.digest ≡ digest → Takes c me (Some (record { sender = s; message = Prepare log.view i digest })) log (logs.with_prepare log i vote)
-prepare_taken c me s i digest vote log is within known backup sender same = record {
+prepare_taken c me s i digest vote log is active within known backup sender same = record {
   stays = record {
     is_log = prepare_kept log (logs.place log i) vote _ (in_span log i within) is (subst (λ (x : ℕ). x < logs.replicas log) (sym sender) known) refl;
     me = refl;
@@ -98,13 +121,15 @@ prepare_taken c me s i digest vote log is within known backup sender same = reco
     low = refl;
     checkpoints = refl;
   };
-  batch = λ j k. (prepares_count log j i s vote is within).0 ∙ sym (or_else_alone (logs.logged_batch log j) None refl);
-  prepare = λ j x k. at_number i j (logs.prepare_of log j x) (logs.prepare_of (logs.with_prepare log i vote) j x) (then_some (vote.sender.0 == x) vote.digest)
+  batch = λ j k. adds_none log (logs.logged_batch log j) (logs.logged_batch (logs.with_prepare log i vote) j) (prepares_count log j i s vote is within).0;
+  prepare = λ j x k. active_adds log (logs.prepare_of log j x) (prepare_from c x log.view j (record { sender = s; message = Prepare log.view i digest })) (logs.prepare_of (logs.with_prepare log i vote) j x) active
+      (at_number i j (logs.prepare_of log j x) (logs.prepare_of (logs.with_prepare log i vote) j x) (then_some (vote.sender.0 == x) vote.digest)
       ((s == x) && (log.view == log.view) && (i == j) && not (x == primary c log.view)) digest ((prepares_count log j i x vote is within).1)
       (λ e. ap (λ (b : Bool). then_some b digest) (passing (s == x) (log.view == log.view) (i == j) (not (x == primary c log.view)) (eq-eqb log.view log.view refl) (turned j i true e)
       (λ from. subst (λ (y : ℕ). not (y == primary c log.view) ≡ true) (eqb-true s x from) backup)) ∙ cast x)
-      (λ e. failing (s == x) (log.view == log.view) (i == j) (not (x == primary c log.view)) (turned j i false e));
-  commit = λ j x k. (prepares_count log j i x vote is within).2 ∙ sym (or_else_alone (logs.commit_of log j x) None refl);
+      (λ e. failing (s == x) (log.view == log.view) (i == j) (not (x == primary c log.view)) (turned j i false e)));
+  commit = λ j x k. adds_none log (logs.commit_of log j x) (logs.commit_of (logs.with_prepare log i vote) j x) (prepares_count log j i x vote is within).2;
+  decided = λ j k. (prepares_count log j i s vote is within).3 k;
   checkpoint = λ x. refl;
 }
   where
@@ -113,9 +138,9 @@ prepare_taken c me s i digest vote log is within known backup sender same = reco
 
 -- ---- a commit
 
-pub commit_taken : (c : Configuration) (me s i : ℕ) (digest : List ℕ) (vote : Vote) (log : LogData) → IsLog log → logs.is_in_marks log i ≡ true → s < logs.replicas log
+pub commit_taken : (c : Configuration) (me s i : ℕ) (digest : List ℕ) (vote : Vote) (log : LogData) → IsLog log → log.active ≡ true → logs.is_in_marks log i ≡ true → s < logs.replicas log
     → vote.sender.0 ≡ s → vote.digest ≡ digest → Takes c me (Some (record { sender = s; message = Commit log.view i digest })) log (logs.with_commit log i vote)
-commit_taken c me s i digest vote log is within known sender same = record {
+commit_taken c me s i digest vote log is active within known sender same = record {
   stays = record {
     is_log = commit_kept log (logs.place log i) vote _ (in_span log i within) is (subst (λ (x : ℕ). x < logs.replicas log) (sym sender) known) refl;
     me = refl;
@@ -126,12 +151,14 @@ commit_taken c me s i digest vote log is within known sender same = record {
     low = refl;
     checkpoints = refl;
   };
-  batch = λ j k. (commits_count log j i s vote is within).0 ∙ sym (or_else_alone (logs.logged_batch log j) None refl);
-  prepare = λ j x k. (commits_count log j i x vote is within).1 ∙ sym (or_else_alone (logs.prepare_of log j x) None refl);
-  commit = λ j x k. at_number i j (logs.commit_of log j x) (logs.commit_of (logs.with_commit log i vote) j x) (then_some (vote.sender.0 == x) vote.digest)
+  batch = λ j k. adds_none log (logs.logged_batch log j) (logs.logged_batch (logs.with_commit log i vote) j) (commits_count log j i s vote is within).0;
+  prepare = λ j x k. adds_none log (logs.prepare_of log j x) (logs.prepare_of (logs.with_commit log i vote) j x) (commits_count log j i x vote is within).1;
+  decided = λ j k. (commits_count log j i s vote is within).3 k;
+  commit = λ j x k. active_adds log (logs.commit_of log j x) (commit_from x log.view j (record { sender = s; message = Commit log.view i digest })) (logs.commit_of (logs.with_commit log i vote) j x) active
+      (at_number i j (logs.commit_of log j x) (logs.commit_of (logs.with_commit log i vote) j x) (then_some (vote.sender.0 == x) vote.digest)
       ((s == x) && (log.view == log.view) && (i == j)) digest ((commits_count log j i x vote is within).2)
       (λ e. ap (λ (b : Bool). then_some b digest) (passing_two (s == x) (log.view == log.view) (i == j) (eq-eqb log.view log.view refl) (turned j i true e)) ∙ cast x)
-      (λ e. failing_two (s == x) (log.view == log.view) (i == j) (turned j i false e));
+      (λ e. failing_two (s == x) (log.view == log.view) (i == j) (turned j i false e)));
   checkpoint = λ x. refl;
 }
   where
@@ -140,9 +167,9 @@ commit_taken c me s i digest vote log is within known sender same = record {
 
 -- ---- a batch
 
-pub batch_taken : (c : Configuration) (me s i : ℕ) (batch : List ℕ) (log : LogData) → IsLog log → logs.is_in_marks log i ≡ true → (s == primary c log.view) ≡ true → are_genuine c me batch ≡ true
+pub batch_taken : (c : Configuration) (me s i : ℕ) (batch : List ℕ) (log : LogData) → IsLog log → log.active ≡ true → logs.is_in_marks log i ≡ true → (s == primary c log.view) ≡ true → are_genuine c me batch ≡ true
     → logs.logged_batch log i ≡ None → Takes c me (Some (record { sender = s; message = PrePrepare log.view i batch })) log (logs.with_batch log i batch)
-batch_taken c me s i batch log is within primary_is genuine free = record {
+batch_taken c me s i batch log is active within primary_is genuine free = record {
   stays = record {
     is_log = batch_kept log (logs.place log i) batch _ (in_span log i within) is refl;
     me = refl;
@@ -153,9 +180,11 @@ batch_taken c me s i batch log is within primary_is genuine free = record {
     low = refl;
     checkpoints = refl;
   };
-  batch = λ j k. read j (j == i) refl ((batches_are_logged log j i s batch is within).0);
-  prepare = λ j x k. (batches_are_logged log j i x batch is within).1 ∙ sym (or_else_alone (logs.prepare_of log j x) None refl);
-  commit = λ j x k. (batches_are_logged log j i x batch is within).2 ∙ sym (or_else_alone (logs.commit_of log j x) None refl);
+  batch = λ j k. active_adds log (logs.logged_batch log j) (batch_from c me log.view j (record { sender = s; message = PrePrepare log.view i batch })) (logs.logged_batch (logs.with_batch log i batch) j) active
+      (read j (j == i) refl ((batches_are_logged log j i s batch is within).0));
+  prepare = λ j x k. adds_none log (logs.prepare_of log j x) (logs.prepare_of (logs.with_batch log i batch) j x) (batches_are_logged log j i x batch is within).1;
+  commit = λ j x k. adds_none log (logs.commit_of log j x) (logs.commit_of (logs.with_batch log i batch) j x) (batches_are_logged log j i x batch is within).2;
+  decided = λ j k. (batches_are_logged log j i s batch is within).3 k;
   checkpoint = λ x. refl;
 }
   where

@@ -245,7 +245,7 @@ fetching_grows [] past = omega arith
 fetching_grows (e ∷ outputs) past = let l = fetching_grows outputs past in omega arith
 
 -- the number of a fetch that is given
-says_number : (me k : ℕ) (e : Entry) → IsSaying me (Fetch k levels.Root 0) e → fetch_sent e ≡ k
+pub says_number : (me k : ℕ) (e : Entry) → IsSaying me (Fetch k levels.Root 0) e → fetch_sent e ≡ k
 says_number me k (Sent p bytes) h = ap (λ (o : Option Body). option_map_or number_of o 0) h
 says_number me k (Invoke x y z) h = absurd h
 says_number me k (Got x y) h = absurd h

@@ -2,6 +2,7 @@
 use Rattle.std.specs.Prelude.{◌≡◌, ℕ, suc, ◌%◌, ◌+◌, ◌≤◌, ◌⊎◌, true, false, List, [], ◌∷◌, ◌++◌, Some, None, is_some, ⊤, map}
 use Rattle.tuple_codec.specs.Operations.{Operation}
 use Rattle.terms.specs.declared.order.Mode.TheVariants as modes
+use Rattle.terms.specs.declared.state.Level.TheVariants as levels
 use Rattle.wire.specs.Messages.{BodyData as Body, MessageData as Message, request as Request, reply as Reply, checkpoint as Checkpoint, fetch as Fetch}
 use Rattle.signing.specs.Heard.{heard}
 use Rattle.reply_cache.specs.Replies.{Kept}
@@ -10,10 +11,10 @@ use Rattle.ordering.specs.Log.{LogData}
 use Rattle.protocol.specs.System.Configuration.{Configuration, is_number, members}
 use Rattle.protocol.specs.System.Trace.{Entry, Once, Has, is_output, Hears}
 use Rattle.protocol.specs.System.Trace.Entry.{Got, Tick}
-use Rattle.protocol.specs.Replica.Certificates.{low}
+use Rattle.protocol.specs.Replica.Certificates.{low, Committed}
 use Rattle.protocol.specs.Replica.State.{State, Call, Ran, kept_of, root_of}
 use Rattle.protocol.specs.Replica.RightReplica.{Point, Leaves, Executes, kept_states, HasSeen, MayReplyOrdered, MayCheckpoint, MayFetch, reply_of}
-use Rattle.protocol.specs.Replica.Owed.{IsFree, IsNumbered, NumbersOnce, Counts}
+use Rattle.protocol.specs.Replica.Owed.{IsFree, IsNumbered, NumbersOnce, Counts, fetching}
 use Rattle.replica_histories.specs.Desk.{Desk, snapshot_of, point_of, desk_from}
 use Rattle.replica_histories.specs.Logs.{FitsLog}
 use Rattle.replica_histories.specs.Owing.{ProceedsOrdering}
@@ -69,13 +70,25 @@ pub record FitsDesk (c : Configuration) (me : ℕ) (s : Start) (desk : Desk) (du
   pub rightly : (message : Message) → Has (λ x. x ≡ message) due
       → MaySayDue c (behind s outputs) (point_of desk states ran) message
 
--- Desk and log fit the history behind the outputs, each on its own, the low mark is not above the executed number, and
--- no request was numbered twice.
+-- a state of this number, or of a greater one, was fetched, or its root is to be fetched
+abbrev pub IsFetched : ℕ → List Message → List Entry → Type 0
+IsFetched k due history = (k ≤ fetching history) ⊎ Has (λ x. x ≡ Fetch k levels.Root 0) due
+
+-- The low mark is not above the executed number; or a state there is fetched, as where a new view starts above it, and
+-- no batch is committed for the next number, which the log can't have.
+abbrev pub IsReached : Configuration → ℕ → ℕ → ℕ → List Message → List Entry → Type 0
+IsReached c me mark number due history =
+    (mark ≤ number)
+    ⊎ (IsFetched mark due history
+    × ((v : ℕ) (batch : List ℕ) → Committed c me history v (suc number) batch → ⊥))
+
+-- Desk and log fit the history behind the outputs, each on its own, the low mark is reached, and no request was numbered
+-- twice.
 pub record Fits (c : Configuration) (me : ℕ) (s : Start) (desk : Desk) (log : LogData) (due : List Message)
     (outputs : List Entry) : Type 0 where
   pub of_desk : FitsDesk c me s desk due outputs
   pub of_log : FitsLog c me log (behind s outputs)
-  pub low : log.low ≤ desk.state.number
+  pub low : IsReached c me log.low desk.state.number due (behind s outputs)
   pub once : AtEach (NumbersOnce c me) s outputs
 
 -- ---- nothing is left owed
@@ -85,7 +98,8 @@ pub record IsSettled (c : Configuration) (me : ℕ) (desk : Desk) (log : LogData
   pub prepares : (i : ℕ) → logs.due_prepare log i ≡ None
   pub commits : (i : ℕ) → logs.due_commit log i ≡ None
   pub executes : logs.committed_batch log (suc desk.state.number) ≡ None
-  pub numbers : (i : ℕ) (call : Call) → logs.primary log log.view ≡ log.me → Has (λ x. x ≡ call) desk.waiting
+  pub numbers : (i : ℕ) (call : Call) → log.active ≡ true → logs.primary log log.view ≡ log.me
+      → Has (λ x. x ≡ call) desk.waiting
       → IsFree c me history desk.state.number log.view i → IsNumbered c me history log.view call.client call.timestamp
 
 -- a rule takes the input
@@ -116,11 +130,11 @@ pub record HoldsLog (c : Configuration) (me : ℕ) (log : LogData) (history : Li
   pub prepares : (i : ℕ) → logs.due_prepare log i ≡ None
   pub commits : (i : ℕ) → logs.due_commit log i ≡ None
 
--- Desk and log hold of one history, and the low mark is not above the executed number.
+-- Desk and log hold of one history, and the low mark is reached.
 pub record Holds (c : Configuration) (me : ℕ) (desk : Desk) (log : LogData) (history : List Entry) : Type 0 where
   pub of_desk : HoldsDesk c me desk history
   pub of_log : HoldsLog c me log history
-  pub low : log.low ≤ desk.state.number
+  pub low : IsReached c me log.low desk.state.number [] history
 
 -- an event begins where they hold
 abbrev pub start_at : (c : Configuration) (me : ℕ) (desk : Desk) (log : LogData) (past : List Entry)

@@ -49,7 +49,7 @@ abbrev pub QuorumsMayAsk : Type 0
 QuorumsMayAsk =
     (c : Configuration) (me : ℕ) (s : Start) (desk : Desk) (log : LogData) (due : List Message) (outputs : List Entry)
     (entry : CheckpointEntry) (pages : List (List ℕ))
-    → 2 * log.faults + 1 ≤ logs.count_checkpoints log entry
+    → 2 * log.faults + 1 ≤ logs.count_checkpoints log entry → log.low < entry.number
     → open_number desk.state.number desk.transfer < entry.number
     → Fits c me s desk log due outputs
     → MayAsk c me (transfer_to desk.transfer entry.number entry.digest pages) desk.state.number (behind s outputs)

@@ -13,3 +13,4 @@ pub mod Fetching
 pub mod Answering
 pub mod Numbers
 pub mod Histories
+pub mod Views

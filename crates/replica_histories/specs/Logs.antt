@@ -1,6 +1,7 @@
--- What a log says of its replica's history, in one view: what is logged, who voted for it, and which checkpoints were
--- sent (Castro and Liskov, TOCS 2002, on normal-case operation and garbage collection).
-use Rattle.std.specs.Prelude.{◌≡◌, ◌≢◌, ℕ, ◌≤◌, ◌<◌, ◌⊎◌, true, false, List, [], ◌∷◌, length, filter, nat_lt, Option, Some, None, option_and_then, ⊤}
+-- What a log says of its replica's history: in its view what is logged and who voted for it, of earlier views what was
+-- committed, and which checkpoints were sent (Castro and Liskov, TOCS 2002, on normal-case operation, garbage collection
+-- and view changes).
+use Rattle.std.specs.Prelude.{◌≡◌, ◌≢◌, ℕ, ◌+◌, ◌^◌, ◌≤◌, ◌<◌, ◌⊎◌, true, false, if◌then◌else◌, List, [], ◌∷◌, length, filter, nat_lt, nat_le, Option, Some, None, option_and_then, ⊤}
 use Rattle.quorum.specs.Votes.{or_else}
 use Rattle.wire.specs.Messages.{BodyData as Body, CheckpointEntryData as CheckpointEntry}
 use Rattle.wire.specs.Lists.{Each}
@@ -9,7 +10,7 @@ use Rattle.ordering.specs.Log.{LogData}
 use Rattle.ordering.specs.Keeping.{IsLog}
 use Rattle.protocol.specs.System.Configuration.{Configuration, primary, span}
 use Rattle.protocol.specs.System.Trace.{Entry, Once}
-use Rattle.protocol.specs.Replica.Certificates.{view, target, low, logged, prepare_of, commit_of, checkpoint_from, with_checkpoint, checkpoints_of, batch_from, prepare_from, commit_from, Prepared}
+use Rattle.protocol.specs.Replica.Certificates.{view, target, low, logged, prepare_of, commit_of, checkpoint_from, with_checkpoint, checkpoints_of, batch_from, prepare_from, commit_from, Prepared, Committed}
 use Rattle.protocol.specs.Replica.Owed.{BeginsViewWith}
 
 -- ---- checkpoints
@@ -35,33 +36,54 @@ pub record IsVoted (c : Configuration) (me : ℕ) (history : List Entry) (v i : 
   pub prepare : primary c v ≢ me → (digest : List ℕ) × (prepare_of c me history v i me ≡ Some digest)
   pub commit : Prepared c me history v i batch → (digest : List ℕ) × (commit_of c me history v i me ≡ Some digest)
 
+-- ---- views
+
+-- Where a batch is logged: in no later view than the log's; in that one up to the low mark or within the marks; and in
+-- none above them.
+pub record IsWithin (log : LogData) (v i : ℕ) : Type 0 where
+  pub view : v ≤ log.view
+  pub marks : v ≡ log.view → (i ≤ log.low) ⊎ (logs.is_in_marks log i ≡ true)
+  pub ahead : (i ≤ log.low + log.span) × (i < 2 ^ 48)
+
+-- What the log has of other views than its own. A number has a batch that was committed in an earlier view, exactly where
+-- one was. What is prepared within the marks in an earlier view, or in the own one where the replica is active no more,
+-- has the own commit. And nobody voted in a later view yet.
+pub record FitsViews (c : Configuration) (me : ℕ) (log : LogData) (history : List Entry) : Type 0 where
+  pub decided : (i : ℕ) (batch : List ℕ) → logs.is_in_marks log i ≡ true
+      → (logs.row_of log i).decided ≡ Some batch → (v : ℕ) × (v < log.view) × Committed c me history v i batch
+  pub all_decided : (v i : ℕ) (batch : List ℕ) → v < log.view → logs.is_in_marks log i ≡ true
+      → Committed c me history v i batch → (known : List ℕ) × ((logs.row_of log i).decided ≡ Some known)
+  pub voted : (v i : ℕ) (batch : List ℕ) → logs.is_in_marks log i ≡ true → (v < log.view) ⊎ (log.active ≡ false)
+      → Prepared c me history v i batch → (digest : List ℕ) × (commit_of c me history v i me ≡ Some digest)
+  pub later : (v i s : ℕ) → log.view < v
+      → (prepare_of c me history v i s ≡ None) × (commit_of c me history v i s ≡ None)
+
 -- ---- the log
 
 -- The log is that of the replica, in its view and marks, and each reading within the marks is that of the history. In
--- this view nothing is logged above the marks or voted for there, no new view began it with a batch, and what is logged
--- up to the low mark has the own votes. Of each sender the log has the same checkpoints above the low mark; those below
--- it drops, and the history counts them.
+-- its view nothing is voted for above the marks, and what is logged up to the low mark has the own votes, while the
+-- replica is active. No new view began a later view. Of each sender the log has the same checkpoints above the low mark;
+-- those below it drops, and the history counts them.
 pub record FitsLog (c : Configuration) (me : ℕ) (log : LogData) (history : List Entry) : Type 0 where
   pub is_log : IsLog log
   pub own : log.me ≡ me
   pub faults : log.faults ≡ c.faults
   pub span : log.span ≡ span c
-  pub active : log.active ≡ true
   pub view : view c history ≡ log.view
-  pub target : target history ≤ log.view
+  pub active : nat_le (target history) log.view ≡ log.active
   pub low : low c me history ≡ log.low
   pub batches : (i : ℕ) → logs.is_in_marks log i ≡ true → logged c me history log.view i ≡ logs.logged_batch log i
   pub prepares : (i s : ℕ) → logs.is_in_marks log i ≡ true
       → prepare_of c me history log.view i s ≡ logs.prepare_of log i s
   pub commits : (i s : ℕ) → logs.is_in_marks log i ≡ true
       → commit_of c me history log.view i s ≡ logs.commit_of log i s
-  pub within : (v i : ℕ) (batch : List ℕ) → logged c me history v i ≡ Some batch
-      → (v ≡ log.view) × ((i ≤ log.low) ⊎ (logs.is_in_marks log i ≡ true))
+  pub within : (v i : ℕ) (batch : List ℕ) → logged c me history v i ≡ Some batch → IsWithin log v i
   pub above : (i s : ℕ) → log.low < i → logs.is_in_marks log i ≡ false
       → (prepare_of c me history log.view i s ≡ None) × (commit_of c me history log.view i s ≡ None)
-  pub begun : (v : ℕ) (batch : List ℕ) → Once (BeginsViewWith c v batch) history → ⊥
-  pub settled : (i : ℕ) (batch : List ℕ) → i ≤ log.low → logged c me history log.view i ≡ Some batch
-      → IsVoted c me history log.view i batch
+  pub begun : (v : ℕ) (batch : List ℕ) → Once (BeginsViewWith c v batch) history → v ≤ log.view
+  pub settled : log.active ≡ true → (i : ℕ) (batch : List ℕ) → i ≤ log.low
+      → logged c me history log.view i ≡ Some batch → IsVoted c me history log.view i batch
+  pub views : FitsViews c me log history
   pub checkpoints : (s : ℕ)
       → above_mark log.low (checkpoints_of c history s) ≡ above_mark log.low (logs.checkpoints_of log s)
   pub latest : (s : ℕ) → AreLatest (logs.checkpoints_of log s)
@@ -77,17 +99,25 @@ pub record Stays (old new : LogData) : Type 0 where
   pub low : new.low ≡ old.low
   pub checkpoints : new.checkpoints ≡ old.checkpoints
 
--- What a body that is brought does to the log, where it moves no mark: within the marks what comes first stays, and a
--- checkpoint adds nothing above the low mark.
+-- What orders counts while the replica is active.
+abbrev pub while_active : LogData → Option (List ℕ) → Option (List ℕ)
+while_active log given = if log.active then given else None
+
+-- What a body that is brought does to the log, where it moves no mark: within the marks what comes first stays, and what
+-- was committed in an earlier view; and a checkpoint adds nothing above the low mark.
 pub record Takes (c : Configuration) (me : ℕ) (said : Option Body) (old new : LogData) : Type 0 where
   pub stays : Stays old new
   pub batch : (i : ℕ) → logs.is_in_marks old i ≡ true
-      → logs.logged_batch new i ≡ or_else (logs.logged_batch old i) (option_and_then (batch_from c me old.view i) said)
+      → logs.logged_batch new i
+      ≡ or_else (logs.logged_batch old i) (while_active old (option_and_then (batch_from c me old.view i) said))
   pub prepare : (i s : ℕ) → logs.is_in_marks old i ≡ true
       → logs.prepare_of new i s
-      ≡ or_else (logs.prepare_of old i s) (option_and_then (prepare_from c s old.view i) said)
+      ≡ or_else (logs.prepare_of old i s) (while_active old (option_and_then (prepare_from c s old.view i) said))
   pub commit : (i s : ℕ) → logs.is_in_marks old i ≡ true
-      → logs.commit_of new i s ≡ or_else (logs.commit_of old i s) (option_and_then (commit_from s old.view i) said)
+      → logs.commit_of new i s
+      ≡ or_else (logs.commit_of old i s) (while_active old (option_and_then (commit_from s old.view i) said))
+  pub decided : (i : ℕ) → logs.is_in_marks old i ≡ true
+      → (logs.row_of new i).decided ≡ (logs.row_of old i).decided
   pub checkpoint : (s : ℕ)
       → above_mark old.low (with_checkpoint s (option_and_then checkpoint_from said) (logs.checkpoints_of old s))
       ≡ above_mark old.low (logs.checkpoints_of old s)

@@ -1,8 +1,8 @@
 -- What each output does to what a replica holds, and when it may be given (Castro and Liskov, TOCS 2002, on
 -- normal-case operation, garbage collection and state transfer). What asks for an output is an answer of the log.
-use Rattle.std.specs.Prelude.{◌≡◌, ℕ, suc, ◌+◌, ◌%◌, ◌^◌, ◌<◌, true, List, [], ◌∷◌, ◌++◌, map, ◌==◌, if◌then◌else◌, Some, None, AllPairs}
+use Rattle.std.specs.Prelude.{◌≡◌, ℕ, suc, ◌+◌, ◌%◌, ◌^◌, ◌<◌, true, List, [], ◌∷◌, ◌++◌, length, map, ◌==◌, if◌then◌else◌, Some, None, AllPairs}
 use Rattle.partition_tree.specs.Digests.{root_of as root_of_pages}
-use Rattle.wire.specs.Messages.{MessageData as Message, CheckpointEntryData as CheckpointEntry, pre_prepare as PrePrepare, prepare as Prepare, commit as Commit, checkpoint as Checkpoint}
+use Rattle.wire.specs.Messages.{MessageData as Message, NewViewData, CheckpointEntryData as CheckpointEntry, pre_prepare as PrePrepare, prepare as Prepare, commit as Commit, checkpoint as Checkpoint}
 use Rattle.wire.specs.Words.{requests_of}
 use Rattle.wire.specs.Lists.{Each}
 use Rattle.reply_cache.specs.Replies.{Kept}
@@ -13,6 +13,7 @@ use Rattle.protocol.specs.System.Configuration.{Configuration}
 use Rattle.protocol.specs.System.Frames.{IsPosted}
 use Rattle.protocol.specs.System.Trace.{Entry, Once, Has}
 use Rattle.protocol.specs.System.Trace.Entry.{Executed, Installed, Sent}
+use Rattle.protocol.specs.Replica.Certificates.{taken}
 use Rattle.protocol.specs.Replica.State.{State, IsState, Ran, execute, ran_in, root_of, pages_of}
 use Rattle.protocol.specs.Replica.RightReplica.{others, reply_of, still_waiting}
 use Rattle.protocol.specs.Replica.Owed.{IsSaying, HasRequest, IsNumbered, AreDifferent}
@@ -44,10 +45,12 @@ CommitsFit =
 
 -- ---- a batch of the primary's own
 
--- The number is free at the primary, and the batch is of different requests that are held, none of which has a number.
+-- The number is free at the active primary, and the batch is of different requests that are held, none of which has a
+-- number.
 pub record MayNumber (c : Configuration) (me : ℕ) (desk : Desk) (log : LogData) (history : List Entry) (i : ℕ)
     (batch : List ℕ) : Type 0 where
   pub within : logs.is_in_marks log i ≡ true
+  pub active : log.active ≡ true
   pub own : logs.primary log log.view ≡ log.me
   pub free : logs.logged_batch log i ≡ None
   pub held : Each (λ frame. Has (λ x. x ≡ frame) desk.frames) (requests_of batch)
@@ -153,27 +156,36 @@ InstallationsFit =
 
 -- ---- what goes again
 
--- The own prepare of a number, the own commit, the own batch, and a checkpoint that was said may be sent again, and
--- change nothing.
+-- A replica that is active may send again its own prepare of a number, its own commit, and its own batch, which no new
+-- view began; a checkpoint that was said may always be sent again. All change nothing.
 abbrev pub PreparesGoAgain : Type 0
 PreparesGoAgain =
     (c : Configuration) (me : ℕ) (s : Start) (desk : Desk) (log : LogData) (due : List Message) (outputs : List Entry)
     (i : ℕ) (digest bytes : List ℕ)
-    → logs.prepare_of log i me ≡ Some digest → IsPosted c me (Prepare log.view i digest) (others c me) bytes
+    → log.active ≡ true → logs.prepare_of log i me ≡ Some digest
+    → IsPosted c me (Prepare log.view i digest) (others c me) bytes
     → Fits c me s desk log due outputs → Fits c me s desk log due (Sent me bytes ∷ outputs)
 
 abbrev pub CommitsGoAgain : Type 0
 CommitsGoAgain =
     (c : Configuration) (me : ℕ) (s : Start) (desk : Desk) (log : LogData) (due : List Message) (outputs : List Entry)
     (i : ℕ) (digest bytes : List ℕ)
-    → logs.commit_of log i me ≡ Some digest → IsPosted c me (Commit log.view i digest) (others c me) bytes
+    → log.active ≡ true → logs.commit_of log i me ≡ Some digest
+    → IsPosted c me (Commit log.view i digest) (others c me) bytes
     → Fits c me s desk log due outputs → Fits c me s desk log due (Sent me bytes ∷ outputs)
+
+-- a new view that began the view has batches up to below the number
+abbrev pub IsBegunBelow : Configuration → ℕ → ℕ → List Entry → Type 0
+IsBegunBelow c v i history =
+    (new : NewViewData) → Once (λ past e. taken c past e ≡ Some new) history → new.view ≡ v
+    → new.start + length new.batches < i
 
 abbrev pub BatchesGoAgain : Type 0
 BatchesGoAgain =
     (c : Configuration) (me : ℕ) (s : Start) (desk : Desk) (log : LogData) (due : List Message) (outputs : List Entry)
     (i : ℕ) (batch bytes : List ℕ)
-    → logs.primary log log.view ≡ me → logs.logged_batch log i ≡ Some batch
+    → log.active ≡ true → logs.primary log log.view ≡ me → logs.logged_batch log i ≡ Some batch
+    → IsBegunBelow c log.view i (behind s outputs)
     → IsPosted c me (PrePrepare log.view i batch) (others c me) bytes
     → Fits c me s desk log due outputs → Fits c me s desk log due (Sent me bytes ∷ outputs)
 

@@ -10,6 +10,7 @@ returns c = record {
       (subst (λ (r : ReplicaData). AreOne r.orderer r.desk) c.self.view_is c.self.invariant)
       (let next = c.in-Some.ensures.next in omega (arith, next))
       c.in-Some.ensures.within
+      c.in-Some.ensures.free.3
       c.in-Some.ensures.free.0
       (subst (λ (r : ReplicaData). 1 ≤ length (unnumbered r.desk.waiting)) c.self.view_is (c.has_unnumbered.ensures.some c.if-not-has_unnumbered.false))
       c.in_ok-number_next.ensures.ok c.go_on.new.self c.go_on.new.outputs.items c.in_ok-go_on.ensures.ok;

@@ -1,0 +1,135 @@
+-- How a replica moves from view to view: it leaves its view by a view change, and a new view that it takes or sends begins
+-- a later one (Castro and Liskov, TOCS 2002, on view changes).
+use Rattle.std.specs.Prelude.{◌≡◌, ℕ, suc, ◌≤◌, ◌<◌, true, List, [], ◌∷◌, ◌++◌, map, reverse, nat_lt, if◌then◌else◌, Some, None}
+use Rattle.terms.specs.declared.state.Level.TheVariants as levels
+use Rattle.partition_tree.specs.Digests.{root_of as root_of_pages}
+use Rattle.wire.specs.Messages.{MessageData as Message, ViewChangeData, NewViewData, CheckpointEntryData as CheckpointEntry, view_change as ViewChange, new_view as NewView, fetch as Fetch}
+use Rattle.wire.specs.Lists.{Each}
+use Rattle.signing.specs.Heard.{heard}
+use Rattle.ordering.specs.Log as logs
+use Rattle.ordering.specs.Log.{LogData}
+use Rattle.protocol.specs.System.Configuration.{Configuration, primary, is_number, members}
+use Rattle.protocol.specs.System.Frames.{IsPosted}
+use Rattle.protocol.specs.System.Trace.{Entry, Once}
+use Rattle.protocol.specs.System.Trace.Entry.{Got, Sent}
+use Rattle.protocol.specs.Replica.Selection.{is_within}
+use Rattle.protocol.specs.Replica.Certificates.{view, target, taken}
+use Rattle.protocol.specs.Replica.RightReplica.{Point, HasSeen, SentBefore, IsPreparedList, IsPrePreparedList, others}
+use Rattle.protocol.specs.Replica.Owed.{Counts, latest_change}
+use Rattle.replica_histories.specs.Desk.{Desk, Snapshot, desk_from}
+use Rattle.replica_histories.specs.Logs.{FitsLog}
+use Rattle.replica_histories.specs.Transfers.{MayAsk, transfer_to, open_number}
+use Rattle.replica_histories.specs.Events.{Start, behind, Fits, Holds, start_at}
+
+-- ---- leaving a view
+
+-- what a view change lists of kept states: their numbers and roots, ascending
+abbrev pub entry_of : Snapshot → CheckpointEntry
+entry_of snapshot = record { number = snapshot.number; digest = root_of_pages snapshot.pages }
+
+abbrev pub entries_of : List Snapshot → List CheckpointEntry
+entries_of snapshots = reverse (map entry_of snapshots)
+
+-- The view change says what the history says, for a view above the own one and above those that were said before.
+pub record IsChange (c : Configuration) (me : ℕ) (desk : Desk) (log : LogData) (history : List Entry)
+    (vc : ViewChangeData) : Type 0 where
+  pub above : log.view < vc.view
+  pub newer : target history < vc.view
+  pub is_view : is_number vc.view ≡ true
+  pub low : vc.low ≡ log.low
+  pub checkpoints : vc.checkpoints ≡ entries_of desk.snapshots
+  pub prepared : IsPreparedList c me history vc.prepared
+  pub pre_prepared : IsPrePreparedList c me history vc.pre_prepared
+
+-- Where the log asks for no commit, such a view change may be sent, and the replica leaves its view.
+abbrev pub ViewChangesFit : Type 0
+ViewChangesFit =
+    (c : Configuration) (me : ℕ) (s : Start) (desk : Desk) (log : LogData) (due : List Message) (outputs : List Entry)
+    (vc : ViewChangeData) (bytes : List ℕ)
+    → ((i : ℕ) → logs.due_commit log i ≡ None)
+    → IsChange c me desk log (behind s outputs) vc
+    → IsPosted c me (ViewChange vc) (others c me) bytes
+    → Fits c me s desk log due outputs → Fits c me s desk (logs.left log) due (Sent me bytes ∷ outputs)
+
+-- The last one goes again while the replica is active no more.
+abbrev pub ViewChangesGoAgain : Type 0
+ViewChangesGoAgain =
+    (c : Configuration) (me : ℕ) (s : Start) (desk : Desk) (log : LogData) (due : List Message) (outputs : List Entry)
+    (vc : ViewChangeData) (bytes : List ℕ)
+    → log.view < target (behind s outputs) → vc.view ≡ target (behind s outputs)
+    → SentBefore bytes (behind s outputs)
+    → IsPosted c me (ViewChange vc) (others c me) bytes
+    → Fits c me s desk log due outputs → Fits c me s desk log due (Sent me bytes ∷ outputs)
+
+-- ---- beginning a view
+
+-- the batches from a number on are logged, as far as they are within the marks
+abbrev pub with_batches : LogData → ℕ → List (List ℕ) → LogData
+with_batches log i [] = log
+with_batches log i (batch ∷ batches) =
+    with_batches (if logs.is_in_marks log i then logs.with_batch log i batch else log) (suc i) batches
+
+-- the log where a new view begins: in its view, cut at its start, with its batches
+abbrev pub begun_log : LogData → NewViewData → LogData
+begun_log log new = with_batches (logs.cut_to (logs.entered log new.view) new.start) (suc new.start) new.batches
+
+-- The state at its start is to be fetched, where that is above what is executed and open.
+abbrev pub start_due : Desk → NewViewData → List Message
+start_due desk new =
+    if nat_lt (open_number desk.state.number desk.transfer) new.start then Fetch new.start levels.Root 0 ∷ [] else []
+
+-- A new view that is got and taken begins an event.
+abbrev pub NewViewsEnter : Type 0
+NewViewsEnter =
+    (c : Configuration) (me : ℕ) (desk : Desk) (log : LogData) (past : List Entry) (s : ℕ) (new : NewViewData)
+    (bytes : List ℕ) (held : Holds c me desk log past)
+    → heard (members c) me bytes ≡ Some (record { sender = s; message = NewView new })
+    → taken c past (Got me bytes) ≡ Some new
+    → Fits c me (start_at c me desk log past held (Got me bytes)) (desk_from (begun_log log new).low desk)
+    (begun_log log new) (start_due desk new) []
+
+-- The primary of a view sends one where, got, it would be taken, over view changes that it has seen, where nothing is
+-- due, the log asks for no commit, and no batch is committed for the next number.
+abbrev pub NewViewsFit : Type 0
+NewViewsFit =
+    (c : Configuration) (me : ℕ) (s : Start) (desk : Desk) (log : LogData) (outputs : List Entry) (new : NewViewData)
+    (bytes : List ℕ)
+    → ((i : ℕ) → logs.due_commit log i ≡ None) → logs.committed_batch log (suc desk.state.number) ≡ None
+    → primary c new.view ≡ me
+    → taken c (behind s outputs) (Sent me bytes) ≡ Some new
+    → Each (λ frame. Once (HasSeen frame) (behind s outputs)) new.changes
+    → IsPosted c me (NewView new) (others c me) bytes
+    → Fits c me s desk log [] outputs
+    → Fits c me s (desk_from (begun_log log new).low desk) (begun_log log new) (start_due desk new)
+    (Sent me bytes ∷ outputs)
+
+-- It goes again while the replica is active in its view.
+abbrev pub NewViewsGoAgain : Type 0
+NewViewsGoAgain =
+    (c : Configuration) (me : ℕ) (s : Start) (desk : Desk) (log : LogData) (due : List Message) (outputs : List Entry)
+    (new : NewViewData) (bytes : List ℕ)
+    → log.active ≡ true → new.view ≡ log.view → primary c new.view ≡ me
+    → SentBefore bytes (behind s outputs)
+    → Each (λ frame. Once (HasSeen frame) (behind s outputs)) new.changes
+    → IsPosted c me (NewView new) (others c me) bytes
+    → Fits c me s desk log due outputs → Fits c me s desk log due (Sent me bytes ∷ outputs)
+
+-- The start's state may be fetched then, by a new transfer or the open one, moved.
+abbrev pub StartsMayAsk : Type 0
+StartsMayAsk =
+    (c : Configuration) (me : ℕ) (s : Start) (desk : Desk) (log : LogData) (due : List Message) (outputs : List Entry)
+    (new : NewViewData) (pages : List (List ℕ))
+    → Once (λ past e. taken c past e ≡ Some new) (behind s outputs)
+    → open_number desk.state.number desk.transfer < new.start
+    → Fits c me s desk log due outputs
+    → MayAsk c me (transfer_to desk.transfer new.start new.root pages) desk.state.number (behind s outputs)
+
+-- ---- which messages count
+
+-- A view change counts that is above the own view, within its bounds, and newer than its sender's last.
+abbrev pub ViewChangesCount : Type 0
+ViewChangesCount =
+    (c : Configuration) (me : ℕ) (log : LogData) (past : List Entry) (point : Point) (s : ℕ) (vc : ViewChangeData)
+    (bytes : List ℕ)
+    → FitsLog c me log past → log.view < vc.view → is_within c vc ≡ true → latest_change c past s < vc.view
+    → Counts c me past point bytes s (ViewChange vc)
