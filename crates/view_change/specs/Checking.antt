@@ -16,8 +16,8 @@ refusal_by_rules c new =
     if not (may_select c new) then Some NotSelected else None
 
 -- The first refusal that applies to a new view of the sender, at a replica whose last new view is of the view and whose
--- last view change is for the target: first that it is not from its primary, then that its view is not above the own one
--- or below the target, then its rules.
+-- last view change is for the target: first that it is not from its primary, then that its view is not above the own
+-- one or below the target, then its rules.
 abbrev pub refusal : Configuration → ℕ → ℕ → ℕ → NewViewData → Option NewViewFault
 refusal c view target sender new =
     if not (sender == primary c new.view) then Some UnknownSender else

@@ -10,8 +10,8 @@ use Rattle.view_change.specs.declared.claim.Claim.{Claim}
 use Rattle.view_change.specs.declared.claims.Claims.TheInside.{Inside}
 use Rattle.view_change.specs.Recording.{Ascends}
 
--- what was prepared, and what was logged, as a view change lists it; and the texts of the batches that were logged, in the
--- same order
+-- what was prepared, and what was logged, as a view change lists it; and the texts of the batches that were logged, in
+-- the same order
 pub record ClaimsData : Type 0 where
   pub prepared : List BatchEntryData
   pub logged : List BatchEntryData

@@ -9,8 +9,8 @@ use Rattle.view_change.specs.Checking.{refusal}
 use Rattle.view_change.specs.ReceivedData.{HeldData, held_of, refusal_of}
 use Rattle.view_change.specs.Selecting.{is_set_for, are_for, meets, how_many_from, IsPart, IsFrom, AreFrom, stands_by_entry}
 
--- A new view is selected exactly where its view changes are signed, are a set for it, and its start and batches meet the
--- rules over them.
+-- A new view is selected exactly where its view changes are signed, are a set for it, and its start and batches meet
+-- the rules over them.
 abbrev pub SelectsBySet : Type 0
 SelectsBySet =
     (c : Configuration) (new : NewViewData)

@@ -1,6 +1,7 @@
--- What a replica keeps of what it logged and of what it prepared, over views: for each number in the marks the batch that
--- was prepared in the latest view, and each batch that was logged, with the latest view in which it was (Castro and
--- Liskov, Practical Byzantine fault tolerance and proactive recovery, TOCS 2002, on the sets P and Q of view changes).
+-- What a replica keeps of what it logged and of what it prepared, over views: for each number in the marks the batch
+-- that was prepared in the latest view, and each batch that was logged, with the latest view in which it was (Castro
+-- and Liskov, Practical Byzantine fault tolerance and proactive recovery, TOCS 2002, on the sets P and Q of view
+-- changes).
 use Rattle.std.specs.Prelude.{length, ◌≡◌, ℕ, ◌+◌, ◌^◌, ◌≤◌, ◌<◌, ◌⊎◌, Bool, true, ◌&&◌, List, [], ◌∷◌, Some, filter, nat_lt, nat_le, ◌==◌, if◌then◌else◌, bytes_eq, ⊤}
 use Rattle.sha2.specs.Sha256.{sha256}
 use Rattle.wire.specs.Messages.{BatchEntryData as Claim}
@@ -28,7 +29,8 @@ later_of a b = if nat_le a.view b.view then b else a
 abbrev pub with_claim : (Claim → Claim → Bool) → (Claim → Claim → Bool) → Claim → List Claim → List Claim
 with_claim before same claim [] = claim ∷ []
 with_claim before same claim (x ∷ xs) =
-    if same x claim then later_of x claim ∷ xs else if before claim x then claim ∷ x ∷ xs else x ∷ with_claim before same claim xs
+    if same x claim then later_of x claim ∷ xs else
+    if before claim x then claim ∷ x ∷ xs else x ∷ with_claim before same claim xs
 
 -- what is prepared; what is logged
 abbrev pub with_prepared : Claim → List Claim → List Claim
@@ -64,7 +66,8 @@ pub record Adds (before after : ℕ → ℕ → List ℕ → Type 0) (in_marks :
 
 -- nothing is logged above the marks
 abbrev pub NothingAhead : Configuration → ℕ → List Entry → Type 0
-NothingAhead c me past = (v i : ℕ) (batch : List ℕ) → logged c me past v i ≡ Some batch → (i ≤ low c me past + span c) × (i < 2 ^ 48)
+NothingAhead c me past =
+    (v i : ℕ) (batch : List ℕ) → logged c me past v i ≡ Some batch → (i ≤ low c me past + span c) × (i < 2 ^ 48)
 
 -- each before all that stand behind it
 abbrev pub Ascends : (Claim → Claim → Bool) → List Claim → Type 0
@@ -76,14 +79,17 @@ Ascends before (x ∷ xs) = Each (λ y. before x y ≡ true) xs × Ascends befor
 -- of each number that is in the marks the latest
 pub record IsLatest (holds : ℕ → ℕ → List ℕ → Type 0) (in_marks : ℕ → Bool) (claims : List Claim) : Type 0 where
   pub listed : (claim : Claim) → Has (λ x. x ≡ claim) claims
-      → holds claim.view claim.number claim.digest × (in_marks claim.number ≡ true) × ((v : ℕ) (digest : List ℕ) → claim.view < v → holds v claim.number digest → ⊥)
+      → holds claim.view claim.number claim.digest × (in_marks claim.number ≡ true)
+      × ((v : ℕ) (digest : List ℕ) → claim.view < v → holds v claim.number digest → ⊥)
   pub all : (v i : ℕ) (digest : List ℕ) → in_marks i ≡ true → holds v i digest → Has (λ x. x.number ≡ i) claims
   pub ascending : Ascends batch_entry_before claims
 
 -- each digest of each number that is in the marks, with its latest view
 pub record IsEach (holds : ℕ → ℕ → List ℕ → Type 0) (in_marks : ℕ → Bool) (claims : List Claim) : Type 0 where
-  pub listed : (claim : Claim) → Has (λ x. x ≡ claim) claims → holds claim.view claim.number claim.digest × (in_marks claim.number ≡ true)
-  pub all : (v i : ℕ) (digest : List ℕ) → in_marks i ≡ true → holds v i digest → Has (λ x. (x.number ≡ i) × (x.digest ≡ digest) × (v ≤ x.view)) claims
+  pub listed : (claim : Claim) → Has (λ x. x ≡ claim) claims
+      → holds claim.view claim.number claim.digest × (in_marks claim.number ≡ true)
+  pub all : (v i : ℕ) (digest : List ℕ) → in_marks i ≡ true → holds v i digest
+      → Has (λ x. (x.number ≡ i) × (x.digest ≡ digest) × (v ≤ x.view)) claims
   pub ascending : Ascends named_before claims
 
 -- The claims are what the history says: of what is prepared, and of what is logged.
@@ -109,8 +115,8 @@ pub record MovesUp (holds : ℕ → ℕ → List ℕ → Type 0) (in_marks later
 abbrev pub RecordsBegin : Type 0
 RecordsBegin = (c : Configuration) (me : ℕ) → RecordsPrepared c me [] [] × RecordsLogged c me [] []
 
--- Whatever is recorded, what is added to it is, once what is not above the low mark is dropped. (Laws over all relations, of
--- which those of a history are instances.)
+-- Whatever is recorded, what is added to it is, once what is not above the low mark is dropped. (Laws over all
+-- relations, of which those of a history are instances.)
 abbrev pub LatestIsRecorded : Type 1
 LatestIsRecorded =
     (before after : ℕ → ℕ → List ℕ → Type 0) (in_marks later : ℕ → Bool) (low : ℕ) (claims new : List Claim)
@@ -126,18 +132,21 @@ EachIsRecorded =
 -- So an entry adds to a history's claims what it brings.
 abbrev pub PreparedIsRecorded : Type 0
 PreparedIsRecorded =
-    (c : Configuration) (me : ℕ) (e : Entry) (past : List Entry) (claims new : List Claim) → NothingAhead c me past → RecordsPrepared c me past claims
+    (c : Configuration) (me : ℕ) (e : Entry) (past : List Entry) (claims new : List Claim)
+    → NothingAhead c me past → RecordsPrepared c me past claims
     → Adds (IsPreparedAs c me past) (IsPreparedAs c me (e ∷ past)) (is_in_marks c (low c me (e ∷ past))) new
     → RecordsPrepared c me (e ∷ past) (with_all with_prepared new (above_mark (low c me (e ∷ past)) claims))
 
 abbrev pub LoggedIsRecorded : Type 0
 LoggedIsRecorded =
-    (c : Configuration) (me : ℕ) (e : Entry) (past : List Entry) (claims new : List Claim) → NothingAhead c me past → RecordsLogged c me past claims
+    (c : Configuration) (me : ℕ) (e : Entry) (past : List Entry) (claims new : List Claim)
+    → NothingAhead c me past → RecordsLogged c me past claims
     → Adds (IsLoggedAs c me past) (IsLoggedAs c me (e ∷ past)) (is_in_marks c (low c me (e ∷ past))) new
     → RecordsLogged c me (e ∷ past) (with_all with_logged new (above_mark (low c me (e ∷ past)) claims))
 
 -- The recorded claims are the lists of a view change.
 abbrev pub RecordsAreLists : Type 0
 RecordsAreLists =
-    (c : Configuration) (me : ℕ) (past : List Entry) (prepared logged : List Claim) → RecordsPrepared c me past prepared → RecordsLogged c me past logged
+    (c : Configuration) (me : ℕ) (past : List Entry) (prepared logged : List Claim)
+    → RecordsPrepared c me past prepared → RecordsLogged c me past logged
     → IsPreparedList c me past prepared × IsPrePreparedList c me past logged

@@ -45,7 +45,8 @@ is_entry_by c set number digest batch_entry =
 -- one of these view changes has pre-prepared the digest for the number, and by the view of that entry it may stand
 abbrev pub stands_by_entry : Configuration → List (ℕ × ViewChangeData) → ℕ → List ℕ → List (ℕ × ViewChangeData)
     → Bool
-stands_by_entry c set number digest some = list_any (λ x. list_any (is_entry_by c set number digest) x.1.pre_prepared) some
+stands_by_entry c set number digest some =
+    list_any (λ x. list_any (is_entry_by c set number digest) x.1.pre_prepared) some
 
 -- the latest view of such an entry, 0 where there is none
 abbrev pub latest_in : Configuration → List (ℕ × ViewChangeData) → ℕ → List ℕ → List BatchEntry → ℕ

@@ -3,6 +3,7 @@
 ghost use Rattle.std.specs.Prelude.{◌≡◌, IfOk, MatchOption, None};
 ghost use Rattle.std.specs.Option.{option_map};
 ghost use Rattle.protocol.specs.Replica.Selection.{change_in, signed_change};
+ghost use Rattle.signing.specs.Heard.{has_signature};
 ghost use Rattle.wire.specs.Messages.{FrameData, view_change};
 ghost use Rattle.wire.specs.Spelling.{SpellsFrame};
 ghost use Rattle.wire.specs.Views.{frame_data, message_data, view_change_data};
@@ -42,6 +43,14 @@ fn into_change(frame: Frame) -> Option<ViewChange>
     }
 }
 
+// Whether the frame, which the bytes spell, is signed by its sender.
+fn is_signed(keys: &PublicKeys, frame: &Frame, bytes: &[u8]) -> bool
+    requires { SpellsFrame bytes.now (frame_data frame.now) }
+    ensures { result ≡ has_signature keys.now (frame_data frame.now) }
+{
+    keys.has_signature(frame, bytes)
+}
+
 /// The view change that the bytes spell, where its sender is a replica and signed it.
 pub(crate) fn open_change(
     alloc: Global,
@@ -58,7 +67,7 @@ pub(crate) fn open_change(
     if sender > 3 * sizes.faults as u16 {
         return Ok(None);
     }
-    if !keys.has_signature(&frame, bytes) {
+    if !is_signed(keys, &frame, bytes) {
         return Ok(None);
     }
     let sender = ReplicaId(sender as u8);

@@ -165,7 +165,8 @@ pub fn check_new_view(
     sender: ReplicaId,
     new: &NewView,
 ) -> Result<(), NewViewFault>
-    ensures ok { OnOk result (refusal (configuration_of received.now) view.0 target.0 sender.0 (new_view_data new.now) ≡ None) }
+    ensures ok { OnOk result (refusal (configuration_of received.now) view.0 target.0 sender.0
+        (new_view_data new.now) ≡ None) }
     ensures refused { IfErr result (λ e. e ≢ NewViewFault.NoMemory
         → refusal (configuration_of received.now) view.0 target.0 sender.0 (new_view_data new.now) ≡ Some e) }
 {

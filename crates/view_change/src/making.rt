@@ -14,8 +14,8 @@ use wire::{CheckpointEntry, ViewChange};
 /// The most claims that a list counts.
 const MAX_CLAIMS: usize = 65_535;
 
-/// The view change of a replica for the view: its low mark, the checkpoints that it keeps, at most three, ascending, and
-/// its claims. It is none where a list has 65,536 claims or more, which no frame counts.
+/// The view change of a replica for the view: its low mark, the checkpoints that it keeps, at most three, ascending,
+/// and its claims. It is none where a list has 65,536 claims or more, which no frame counts.
 ///
 /// # Errors
 ///

@@ -22,9 +22,9 @@ use std::alloc::Global;
 use std::marker::Model;
 use terms::{NoMemory, ReplicaId, View};
 
-/// Of each replica, the own one too, the latest view change that was taken, with its frame. There is at most one of each
-/// of the up to ten replicas, so they take at most ten times the 262,144 bytes of a view change's frame and what it says,
-/// whatever liars send.
+/// Of each replica, the own one too, the latest view change that was taken, with its frame. There is at most one of
+/// each of the up to ten replicas, so they take at most ten times the 262,144 bytes of a view change's frame and what
+/// it says, whatever liars send.
 #[derive(Drop)]
 pub struct Received {
     keys: PublicKeys,

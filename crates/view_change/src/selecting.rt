@@ -179,9 +179,9 @@ fn null_batch(alloc: Global) -> Result<Arc<HashedBatch>, NoMemory>
 
 /// The selection of the primary over view changes for the view, with the batches that it holds. The view changes are of
 /// different replicas, ascending, each within its bounds; more of them never allow less. The selection has the greatest
-/// start from which there is one, and for each number, of the batches that may stand there, one of the latest view, then
-/// one that is prepared, then that of the least digest; the null batch comes last, unless it was proposed before. It is
-/// none exactly where the rules allow nothing over these view changes, nor over any part of them.
+/// start from which there is one, and for each number, of the batches that may stand there, one of the latest view,
+/// then one that is prepared, then that of the least digest; the null batch comes last, unless it was proposed before.
+/// It is none exactly where the rules allow nothing over these view changes, nor over any part of them.
 ///
 /// # Errors
 ///

@@ -1,5 +1,5 @@
-//! Frames of signed view changes, spelled byte by byte from their format: type 46, sender, view, low mark, and three lists
-//! behind their counts.
+//! Frames of signed view changes, spelled byte by byte from their format: type 46, sender, view, low mark, and three
+//! lists behind their counts.
 
 use authenticator::signing_seed;
 use ordering::HashedBatch;
@@ -15,8 +15,8 @@ pub const SEED: [u8; 32] = [5; 32];
 /// Of this byte is the root of the checkpoint that each view change lists.
 pub const ROOT: u8 = 7;
 
-/// A view change: its view, its low mark, at which it lists a checkpoint, and the byte of the batch that it prepared and
-/// logged for number 1 in view 0, or 0 for none.
+/// A view change: its view, its low mark, at which it lists a checkpoint, and the byte of the batch that it prepared
+/// and logged for number 1 in view 0, or 0 for none.
 pub type Said = (u64, u64, u8);
 
 /// The signer of a replica.
@@ -58,9 +58,10 @@ pub fn change(alloc: Global, signer: &mut Signer, sender: u8, said: Said) -> Res
         Err(SignFault::NoMemory) => signer.sign(alloc, &body)?,
         first => first?,
     };
-    let [_, _, _, _, len @ ..] = (body.len() as u64).to_be_bytes();
+    // The length has four bytes.
+    let len = (body.len() as u64).to_be_bytes();
     let mut frame = Vec::new(alloc);
-    frame.extend_from_slice(&len)?;
+    frame.extend_from_slice(&len[4..])?;
     frame.extend_from_slice(&body)?;
     frame.push(1)?;
     frame.extend_from_slice(signature.as_slice())?;

@@ -1,5 +1,5 @@
-//! The view changes that a replica keeps: each refusal, told where it is the first that applies, which of them it joins, and
-//! the new view that is made of them: four replicas, a checkpoint each 16 batches.
+//! The view changes that a replica keeps: each refusal, told where it is the first that applies, which of them it joins,
+//! and the new view that is made of them: four replicas, a checkpoint each 16 batches.
 
 use crate::frames::{ROOT, SEED, Said, change, signer_of};
 use signing::PublicKeys;

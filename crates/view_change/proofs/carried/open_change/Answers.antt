@@ -16,11 +16,11 @@ returns-then-sender-sizes c =
     let l = c.if-sender-sizes.true in
     sym (spelled_tells k c.args.bytes.now (frame_data c.in-Some.frame) (rw c.in-Some.is at c.in_ok-frame.ensures) ∙ no_sender k (frame_data c.in-Some.frame) (le-ltb (frame_data c.in-Some.frame).body.sender (3 * c.args.sizes.faults + 1) (omega arith)))
 
-pub returns-then-not-has_signature : goal.returns-then-not-has_signature
-returns-then-not-has_signature c =
+pub returns-then-not-is_signed : goal.returns-then-not-is_signed
+returns-then-not-is_signed c =
     let k = keyed c.args.keys.now c.args.sizes in
     sym (spelled_tells k c.args.bytes.now (frame_data c.in-Some.frame) (rw c.in-Some.is at c.in_ok-frame.ensures)
-    ∙ no_signature k (frame_data c.in-Some.frame) (sym c.if-not-has_signature.ensures.signed))
+    ∙ no_signature k (frame_data c.in-Some.frame) (sym c.if-not-is_signed.ensures))
 
 pub returns-in_default-into_change : goal.returns-in_default-into_change
 returns-in_default-into_change c =
@@ -34,4 +34,4 @@ returns c =
     let l = c.if-sender-sizes.false in
     ap (λ (n : ℕ). let r : ℕ × ViewChangeData = (n, view_change_data c.in-Some-into_change.change) in Some r) e ∙ sym (spelled_tells k c.args.bytes.now (frame_data c.in-Some.frame) (rw c.in-Some.is at c.in_ok-frame.ensures)
     ∙ is_change k (frame_data c.in-Some.frame) (view_change_data c.in-Some-into_change.change) (lt-ltb (frame_data c.in-Some.frame).body.sender (3 * c.args.sizes.faults + 1) (omega arith))
-    (sym c.if-not-has_signature.ensures.signed) c.in-Some-into_change.ensures)
+    (sym c.if-not-is_signed.ensures) c.in-Some-into_change.ensures)
