@@ -17,9 +17,9 @@ use Rattle.protocol.specs.System.Trace.{Entry, Has}
 use Rattle.protocol.specs.System.Trace.Entry.{Invoke, Got, Tick, Executed, Installed, Sent, Accepted}
 use Rattle.protocol.specs.Replica.Selection.{null_batch}
 use Rattle.protocol.specs.Space.Linear.{batch_at, batch_of, executed_at, last_executed}
-use Rattle.points.specs.Numbering.{Numbered, AscendsFrom, HoldsAll, Lists}
+use Rattle.points.specs.Numbering.{Numbered, AscendsFrom}
 use Rattle.points.specs.Batching.{numbered, numbered_of, first_batch, Collects, Notes}
-use Rattle.points.proofs.Listing.{all_listed}
+use Rattle.points.proofs.Listing.{all_listed, HoldsAll, Lists}
 
 abbrev Entries : Type 0
 Entries = List (ℕ × Bor (List ℕ))
@@ -165,6 +165,15 @@ notes_new r n v es fs l a is past h = subst (λ ys. Collects (Executed r n v.now
         apart : n ≡ j → (n < j) ⊎ (j < n) → ⊥
         apart same (inl k) = omega arith
         apart same (inr k) = omega arith
+
+-- an entry that is such an execution
+pub noted_known : (r n : ℕ) (batch : List ℕ) (e : Entry) (es : Entries) → Executed r n batch ≡ e → (n ≡ 0) ⊎ (is_some (lookup (is_at (nat_cmp n)) es) ≡ true) → Notes e es es
+noted_known r n batch e es is h = subst (λ (x : Entry). Notes x es es) is (notes_known r n batch es h)
+
+pub noted_new : (r n : ℕ) (batch : List ℕ) (e : Entry) (v : Bor (List ℕ)) (es fs : Entries) → Executed r n batch ≡ e → v.now ≡ batch → 1 ≤ n → IsAbsent n es
+    → fs ≡ insert_entry nat_cmp es n v → Notes e es fs
+noted_new r n batch e v es fs is text l a put =
+    subst (λ (x : Entry). Notes x es fs) (ap (Executed r n) text ∙ is) (notes_new r n v es fs l a put)
 
 -- an entry that is no execution
 abbrev pub is_execution : Entry → Bool

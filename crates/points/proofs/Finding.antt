@@ -12,9 +12,10 @@ use Rattle.std.proofs.lemmas.Option.{slice_get_past, slice_get-get_or}
 use Rattle.quorum.specs.Votes.{or_else}
 use Rattle.protocol.specs.System.Configuration.{Configuration, IsConfiguration}
 use Rattle.protocol.specs.System.Trace.{Entry}
+use Rattle.protocol.specs.Space.Linear.{first_position}
 use Rattle.points.specs.declared.levels.Rise.{Rise}
 use Rattle.points.specs.Leveling.{place_in, rises}
-use Rattle.points.specs.Places.{position_in, position_of, PositionsAre}
+use Rattle.points.specs.Places.{position_in}
 use Rattle.points.proofs.Rising.{places_are, zero_is_first}
 
 -- the position of the first that is no less, the oldest first
@@ -64,7 +65,11 @@ found_at (x ∷ xs) k (suc i) l h =
 
 -- ---- the same by the definition
 
-pub positions_are : PositionsAre
+-- the first position of a level, else 0
+abbrev pub position_of : Configuration → List Entry → ℕ → ℕ
+position_of c trace k = option_map_or (λ x. x) (first_position c trace k) 0
+
+pub positions_are : (c : Configuration) → IsConfiguration c → (trace : List Entry) (k : ℕ) → position_of c trace k ≡ position_in (rises c trace) k
 positions_are c setting trace zero = zero_is_first c setting trace
 positions_are c setting trace (suc k) = ap (λ o. option_map_or (λ x. x) o 0) (places_are c setting trace (suc k) (omega arith))
 

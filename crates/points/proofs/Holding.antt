@@ -104,6 +104,9 @@ merged_begins held all ranked = record {
 shorter : (rest left : List Placed) (p : Placed) (r : ℕ) → rest ≡ left ++ p ∷ [] → r < length left → r < length rest
 shorter rest left p r is l = let n = ap length is in let m = length-append left (p ∷ []) in omega arith
 
+pub one_shorter : (rest left : List Placed) (p : Placed) → rest ≡ left ++ p ∷ [] → length left < length rest
+one_shorter rest left p is = let n = ap length is in let m = length-append left (p ∷ []) in omega arith
+
 pub merged_double : (held : Reads) (all rest left : List Placed) (p : Placed) (own : CallKey) (entries : List (Key × Placed)) → rest ≡ left ++ p ∷ []
     → own.client ≡ (placing_of p).item.client → own.timestamp ≡ (placing_of p).item.timestamp
     → list_any (is_at (call_cmp own)) held.calls.keys ≡ true → Merged held all rest entries → Merged held all left entries

@@ -4,7 +4,20 @@ use Rattle.std.proofs.lemmas.Bool.{cases_order}
 use Rattle.wire.specs.Lists.{Each}
 use Rattle.protocol.specs.System.Trace.{Has}
 use Rattle.protocol.specs.Replica.Selection.{null_batch}
-use Rattle.points.specs.Numbering.{Numbered, Lists, AscendsFrom, HoldsAll, AllListed}
+use Rattle.points.specs.Numbering.{Numbered, AscendsFrom}
+
+-- of so many numbers from k on, the list has those whose batch is not the null batch, ascending; it may have others
+abbrev pub Lists : (ℕ → List ℕ) → ℕ → ℕ → List Numbered → Type 0
+Lists batch k zero xs = xs ≡ []
+Lists batch k (suc more) xs =
+    ((batch k ≡ null_batch) × Lists batch (suc k) more xs)
+    ⊎ ((rest : List Numbered) × (xs ≡ record { number = k; batch = batch k } ∷ rest) × Lists batch (suc k) more rest)
+
+-- each has its batch, and is one of so many from k on; and a number that has none has the null batch
+pub record HoldsAll (batch : ℕ → List ℕ) (k more : ℕ) (xs : List Numbered) : Type 0 where
+  pub ascends : AscendsFrom k xs
+  pub each : Each (λ x. (x.batch ≡ batch x.number) × (x.number < k + more)) xs
+  pub other : (j : ℕ) → k ≤ j → Has (λ x. x.number ≡ j) xs ⊎ (batch j ≡ null_batch)
 
 above : (m j : ℕ) (xs : List Numbered) → AscendsFrom m xs → Has (λ x. x.number ≡ j) xs → m ≤ j
 above m j [] a h = absurd h
@@ -15,7 +28,7 @@ fewer : (batch : ℕ → List ℕ) (k more : ℕ) (xs : List Numbered) → Each 
 fewer batch k more [] a = tt
 fewer batch k more (x ∷ xs) a = let l = a.0.1 in let m : x.number < suc k + more = omega arith in ((a.0.0, m), fewer batch k more xs a.1)
 
-pub all_listed : AllListed
+pub all_listed : (batch : ℕ → List ℕ) (k more : ℕ) (xs : List Numbered) → HoldsAll batch k more xs → Lists batch k more xs
 all_listed batch k zero [] h = refl
 all_listed batch k zero (x ∷ xs) h = let l = h.ascends.0 in let m = h.each.0.1 in absurd (omega arith)
 all_listed batch k (suc more) [] h = inl (none (h.other k (omega arith)), all_listed batch (suc k) more [] (record { ascends = tt; each = tt; other = λ j l. h.other j (omega arith) }))

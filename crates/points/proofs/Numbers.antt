@@ -8,7 +8,8 @@ use Rattle.wire.specs.Words.{requests_of}
 use Rattle.wire.specs.Reading.{requests_at}
 use Rattle.protocol.specs.Replica.State.{State, execute, run_frame, ran_in}
 use Rattle.protocol.specs.Space.Linear.{Placing, ordered_point, ordered_points, first_position, batch_of}
-use Rattle.points.specs.Numbering.{Numbered, Lists, numbered_points, OrderedAre}
+use Rattle.points.specs.Numbering.{Numbered, numbered_points}
+use Rattle.points.proofs.Listing.{Lists}
 
 pub nothing_requested : requests_of null_batch ≡ []
 unfolding requests_at requests_of
@@ -63,6 +64,7 @@ from_any c trace st k (suc more) xs (inr l) =
     ran : List Placing
     ran = option_map_or (λ position. map (ordered_point position (suc k)) (ran_in c (suc k) (with_number k st) (requests_of (batch_of trace (suc k))))) (first_position c trace (suc k)) []
 
-pub ordered_are : OrderedAre
+pub ordered_are : (c : Configuration) (trace : List Entry) (st : State) (k more : ℕ) (xs : List Numbered) → st.number ≡ k → Lists (batch_of trace) (suc k) more xs
+    → ordered_points c trace st (suc k) more ≡ numbered_points c (first_position c trace) st xs
 ordered_are c trace st k more xs e l =
     subst (λ n. ordered_points c trace (with_number n st) (suc k) more ≡ numbered_points c (first_position c trace) (with_number n st) xs) (sym e) (from_any c trace st k more xs l)

@@ -15,7 +15,14 @@ use Rattle.protocol.specs.Space.Linear.{Placing, comes_before, insert_point}
 use Rattle.points.specs.declared.point.Placed.{Placed}
 use Rattle.points.specs.declared.sorting.Key.{Key}
 use Rattle.points.specs.PointView.{placing_of}
-use Rattle.points.specs.Sorting.{key_of, key_by, key_cmp, AreRankedAbove, IsRankedAbove, sorted_of}
+use Rattle.points.specs.Sorting.{key_of, key_by, AreRankedAbove, IsRankedAbove, sorted_of}
+
+-- keys by the fields in their order
+abbrev pub key_cmp : Key → Key → Ordering
+key_cmp a b =
+    ordering_then (nat_cmp a.position b.position) (ordering_then (nat_cmp a.number b.number)
+    (ordering_then (nat_cmp a.turn b.turn) (ordering_then (nat_cmp a.client b.client)
+    (ordering_then (nat_cmp a.timestamp b.timestamp) (nat_cmp a.rank b.rank)))))
 
 -- what a test makes of an order
 abbrev order_by : Bool → Ordering

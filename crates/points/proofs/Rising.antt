@@ -14,7 +14,7 @@ use Rattle.protocol.specs.System.Configuration.{Configuration, IsConfiguration, 
 use Rattle.protocol.specs.System.Trace.{Entry}
 use Rattle.protocol.specs.Space.Linear.{reached_at, reached, has_reached, is_level, first_position, count_correct}
 use Rattle.protocol.proofs.Points.Levels.{many_correct, level_stays, level_below}
-use Rattle.points.specs.Leveling.{greatest_below, level_at, level, rises, place_in, passes, value_at, level_in, AreReached, Raises, LevelsAre, PlacesAre, ZeroIsFirst}
+use Rattle.points.specs.Leveling.{greatest_below, level_at, level, rises, place_in, passes, value_at, level_in, Raises}
 
 -- ---- the greatest below n
 
@@ -192,10 +192,10 @@ module _ (c : Configuration) (setting : IsConfiguration c) where
           let same : level c (e ∷ past) ≡ level c past = omega arith in
           ap (λ b. or_else (first_position c past k) (then_some b (length past))) (level_test (e ∷ past) k) ∙ stays (nat_le k (level c (e ∷ past))) refl same below
 
-pub levels_are : LevelsAre
+pub levels_are : (c : Configuration) → IsConfiguration c → (past : List Entry) (k : ℕ) → is_level c past k ≡ nat_le k (level c past)
 levels_are c setting past k = level_test c setting past k
 
-pub places_are : PlacesAre
+pub places_are : (c : Configuration) → IsConfiguration c → (trace : List Entry) (k : ℕ) → 1 ≤ k → first_position c trace k ≡ place_in (rises c trace) k
 places_are c setting trace k l = places c setting trace k l
 
 -- ---- by what each replica reached
@@ -211,6 +211,10 @@ pub count_same : (p q : ℕ → Bool) (n : ℕ) → ((r : ℕ) → r < n → p r
 count_same p q n h =
     let a = count_mono p q n (λ r l e. sym (h r l) ∙ e) in
     let b = count_mono q p n (λ r l e. h r l ∙ e) in omega arith
+
+-- the values are what each replica reached
+abbrev pub AreReached : List Entry → List ℕ → Type 0
+AreReached past values = (r : ℕ) → r < 10 → slice_index values r ≡ reached past r
 
 pub level_known : (c : Configuration) → c.faults ≤ 3 → (past : List Entry) (values : List ℕ) → AreReached past values → level_in c values ≡ level c past
 level_known c few past values known = greatest_same (value_at c values) (level_at c past) (replicas c) each
@@ -286,7 +290,7 @@ zero_some c setting e past = go (first_position c past 0) (is_level c (e ∷ pas
 abbrev or_zero : Option ℕ → ℕ
 or_zero o = option_map_or (λ x. x) o 0
 
-pub zero_is_first : ZeroIsFirst
+pub zero_is_first : (c : Configuration) → IsConfiguration c → (trace : List Entry) → option_map_or (λ x. x) (first_position c trace 0) 0 ≡ 0
 zero_is_first c setting [] = refl
 zero_is_first c setting (e ∷ []) = go (is_level c (e ∷ []) 0)
   where

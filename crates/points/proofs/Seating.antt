@@ -12,9 +12,9 @@ use Rattle.protocol.specs.System.Frames.{same_mode}
 use Rattle.protocol.specs.System.Trace.{Entry, party_of, history_of}
 use Rattle.protocol.specs.System.Trace.Entry.{Invoke, Got, Tick, Executed, Installed, Sent, Accepted}
 use Rattle.protocol.specs.Client.RightClient.{Vote, OpenCall, vote_of, open_call, newest_vote}
-use Rattle.protocol.specs.Space.Linear.{Placing, invoked_at, invoke_past, read_point}
-use Rattle.points.specs.Places.{position_of}
-use Rattle.points.specs.Seating.{seat_after, seat_of, number_in, read_number, read_at, seat_read, with_read, seat_reads, ReadsAre}
+use Rattle.protocol.specs.Space.Linear.{Placing, invoked_at, invoke_past, read_point, read_points}
+use Rattle.points.proofs.Finding.{position_of}
+use Rattle.points.specs.Seating.{seat_after, seat_of, number_in, read_number, read_at, seat_read, with_read, seat_reads}
 
 pub call_is : (p : ℕ) (past : List Entry) → open_call (history_of p past) ≡ (seat_of p past).call
 call_is p [] = refl
@@ -114,7 +114,7 @@ joined : (o : Option Placing) (xs : List Placing) → option_map_or (λ point. p
 joined None xs = refl
 joined (Some x) xs = refl
 
-pub reads_are : ReadsAre
+pub reads_are : (c : Configuration) (trace : List Entry) (at : ℕ → ℕ) → ((k : ℕ) → position_of c trace k ≡ at k) → (past : List Entry) → read_points c trace past ≡ seat_reads (members c) at past
 reads_are c trace at same [] = refl
 reads_are c trace at same (Accepted k t answer ∷ past) =
     ap₂ (λ (o : Option Placing) (rest : List Placing). option_map_or (λ point. point ∷ []) o [] ++ rest) (read_is c trace at same past (256 + k) t answer) (reads_are c trace at same past)

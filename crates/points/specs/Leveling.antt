@@ -25,18 +25,15 @@ level c past = greatest_below (level_at c past) (replicas c)
 -- where the level rises, the newest first
 abbrev pub rises : Configuration → List Entry → List Rise
 rises c [] = []
-rises c (e ∷ past) = if nat_lt (level c past) (level c (e ∷ past)) then record { level = level c (e ∷ past); position = length past } ∷ rises c past else rises c past
+rises c (e ∷ past) =
+    if nat_lt (level c past) (level c (e ∷ past))
+    then record { level = level c (e ∷ past); position = length past } ∷ rises c past
+    else rises c past
 
 -- the position of the first that is no less
 abbrev pub place_in : List Rise → ℕ → Option ℕ
 place_in [] k = None
 place_in (x ∷ xs) k = or_else (place_in xs k) (then_some (nat_le k x.level) x.position)
-
-abbrev pub LevelsAre : Type 0
-LevelsAre = (c : Configuration) → IsConfiguration c → (past : List Entry) (k : ℕ) → is_level c past k ≡ nat_le k (level c past)
-
-abbrev pub PlacesAre : Type 0
-PlacesAre = (c : Configuration) → IsConfiguration c → (trace : List Entry) (k : ℕ) → 1 ≤ k → first_position c trace k ≡ place_in (rises c trace) k
 
 -- ---- by what each replica reached
 
@@ -44,20 +41,17 @@ PlacesAre = (c : Configuration) → IsConfiguration c → (trace : List Entry) (
 abbrev pub passes : Configuration → List ℕ → ℕ → ℕ → Bool
 passes c values k r = is_correct_replica c r && nat_le k (slice_index values r)
 
+-- what the replica reached, if all but f of the correct ones did
 abbrev pub value_at : Configuration → List ℕ → ℕ → ℕ
-value_at c values r = if nat_le (count_correct c) (count_below (passes c values (slice_index values r)) (replicas c) + c.faults) then slice_index values r else 0
+value_at c values r =
+    if nat_le (count_correct c) (count_below (passes c values (slice_index values r)) (replicas c) + c.faults)
+    then slice_index values r
+    else 0
 
+-- the greatest such number
 abbrev pub level_in : Configuration → List ℕ → ℕ
 level_in c values = greatest_below (value_at c values) (replicas c)
 
--- the values are what each replica reached
-abbrev pub AreReached : List Entry → List ℕ → Type 0
-AreReached past values = (r : ℕ) → r < 10 → slice_index values r ≡ reached past r
-
--- they go on with the entry
+-- the values go on with the entry
 abbrev pub Raises : Entry → List ℕ → List ℕ → Type 0
 Raises e old new = (r : ℕ) → r < 10 → slice_index new r ≡ max (reached_at r e) (slice_index old r)
-
--- of the number 0 the position is 0
-abbrev pub ZeroIsFirst : Type 0
-ZeroIsFirst = (c : Configuration) → IsConfiguration c → (trace : List Entry) → option_map_or (λ x. x) (first_position c trace 0) 0 ≡ 0

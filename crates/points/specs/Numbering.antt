@@ -15,13 +15,6 @@ pub record Numbered : Type 0 where
   pub number : ℕ
   pub batch : List ℕ
 
--- of so many numbers from k on, the list has those whose batch is not the null batch, ascending; it may have others
-abbrev pub Lists : (ℕ → List ℕ) → ℕ → ℕ → List Numbered → Type 0
-Lists batch k zero xs = xs ≡ []
-Lists batch k (suc more) xs =
-    ((batch k ≡ null_batch) × Lists batch (suc k) more xs)
-    ⊎ ((rest : List Numbered) × (xs ≡ record { number = k; batch = batch k } ∷ rest) × Lists batch (suc k) more rest)
-
 -- the number before
 abbrev pub before : ℕ → ℕ
 before zero = 0
@@ -42,24 +35,7 @@ numbered_points c place st (x ∷ xs) =
     points_at (place x.number) x.number (ran_in c x.number (ready_for x.number st) (requests_of x.batch))
     ++ numbered_points c place (execute c (ready_for x.number st) x.batch) xs
 
-abbrev pub OrderedAre : Type 0
-OrderedAre =
-    (c : Configuration) (trace : List Entry) (st : State) (k more : ℕ) (xs : List Numbered)
-    → st.number ≡ k → Lists (batch_of trace) (suc k) more xs
-    → ordered_points c trace st (suc k) more ≡ numbered_points c (first_position c trace) st xs
-
--- ---- a list that holds all numbers with a batch
-
+-- the numbers ascend, from k on
 abbrev pub AscendsFrom : ℕ → List Numbered → Type 0
 AscendsFrom k [] = ⊤
 AscendsFrom k (x ∷ xs) = (k ≤ x.number) × AscendsFrom (suc x.number) xs
-
--- each has its batch, and is one of so many from k on; and a number that has none has the null batch
-pub record HoldsAll (batch : ℕ → List ℕ) (k more : ℕ) (xs : List Numbered) : Type 0 where
-  pub ascends : AscendsFrom k xs
-  pub each : Each (λ x. (x.batch ≡ batch x.number) × (x.number < k + more)) xs
-  pub other : (j : ℕ) → k ≤ j → Has (λ x. x.number ≡ j) xs ⊎ (batch j ≡ null_batch)
-
-abbrev pub AllListed : Type 0
-AllListed =
-    (batch : ℕ → List ℕ) (k more : ℕ) (xs : List Numbered) → HoldsAll batch k more xs → Lists batch k more xs

@@ -10,11 +10,3 @@ use Rattle.points.specs.Leveling.{rises, place_in}
 -- the position of the first level that is no less, else 0
 abbrev pub position_in : List Rise → ℕ → ℕ
 position_in found k = if k == 0 then 0 else option_map_or (λ x. x) (place_in found k) 0
-
--- the first position of a level by the definition, else 0
-abbrev pub position_of : Configuration → List Entry → ℕ → ℕ
-position_of c trace k = option_map_or (λ x. x) (first_position c trace k) 0
-
-abbrev pub PositionsAre : Type 0
-PositionsAre = (c : Configuration) → IsConfiguration c → (trace : List Entry) (k : ℕ)
-    → position_of c trace k ≡ position_in (rises c trace) k

@@ -18,7 +18,7 @@ use Rattle.protocol.specs.System.Trace.{Entry, party_of}
 use Rattle.protocol.specs.System.Trace.Entry.{Invoke, Got, Accepted}
 use Rattle.protocol.specs.Client.RightClient.{OpenCall, vote_of}
 use Rattle.protocol.specs.Space.Linear.{Placing, read_points}
-use Rattle.points.specs.Places.{position_of, position_in}
+use Rattle.points.specs.Places.{position_in}
 use Rattle.points.specs.declared.levels.Rise.{Rise}
 use Rattle.points.specs.declared.seats.Seat.{Seat}
 
@@ -91,10 +91,6 @@ with_read (Some read) reads = read ∷ reads
 abbrev pub seat_reads : Membership → (ℕ → ℕ) → List Entry → List Placing
 seat_reads m at [] = []
 seat_reads m at (e ∷ past) = with_read (entry_read m at past e) (seat_reads m at past)
-
-abbrev pub ReadsAre : Type 0
-ReadsAre = (c : Configuration) (trace : List Entry) (at : ℕ → ℕ) → ((k : ℕ) → position_of c trace k ≡ at k)
-    → (past : List Entry) → read_points c trace past ≡ seat_reads (members c) at past
 
 -- ---- in the program
 

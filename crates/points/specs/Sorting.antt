@@ -39,13 +39,6 @@ key_by modes.ReadOnly rank x = read_key rank x
 abbrev pub key_of : ℕ → Placing → Key
 key_of rank x = key_by x.mode rank x
 
--- by the fields in their order
-abbrev pub key_cmp : Key → Key → Ordering
-key_cmp a b =
-    ordering_then (nat_cmp a.position b.position) (ordering_then (nat_cmp a.number b.number)
-    (ordering_then (nat_cmp a.turn b.turn) (ordering_then (nat_cmp a.client b.client)
-    (ordering_then (nat_cmp a.timestamp b.timestamp) (nat_cmp a.rank b.rank)))))
-
 -- the entry has the key of its point, of a rank above this
 abbrev pub IsRankedAbove : ℕ → Key × Placed → Type 0
 IsRankedAbove rank e = (r : ℕ) × (rank < r) × (e.0 ≡ key_of r (placing_of e.1))

@@ -1,6 +1,6 @@
 //! Levels, and where they rise.
 
-ghost use Rattle.std.specs.Prelude.{◌≡◌, ◌≤◌, ◌<◌, ◌==◌, ℕ, max, if◌then◌else◌, reverse, slice_index, IfOk};
+ghost use Rattle.std.specs.Prelude.{◌≡◌, ◌≤◌, ◌<◌, ◌==◌, ℕ, max, if◌then◌else◌, reverse, slice_index, IfOk, IsFalse};
 ghost use Rattle.std.specs.List.Sorted.{IsNonDecreasingBy};
 ghost use Rattle.quorum.specs.Quorum.{count_below};
 ghost use Rattle.protocol.specs.System.Configuration.{IsConfiguration, replicas};
@@ -36,12 +36,12 @@ pub(crate) fn find_rises(
     ensures rising { IfOk result
         (λ found. IsNonDecreasingBy (λ (x : RiseData). x.level) found.items) }
 {
+    let correct = count_correct(config);
     let mut reached: Numbers = [0; MAX_REPLICAS];
     let mut level = 0;
     let mut found = Vec::new(alloc);
     for (position, entry) in trace.iter().enumerate() {
-        raise(&mut reached, entry);
-        let now = level_in(config, &reached);
+        let now = level_behind(config, correct, &mut reached, level, entry);
         if level < now {
             found.push(Rise {
                 level: now,
@@ -53,29 +53,56 @@ pub(crate) fn find_rises(
     Ok(found)
 }
 
-fn raise(reached: &mut Numbers, entry: &Entry)
-    ensures { Raises entry.now reached.old reached.new }
+// The level behind an entry, where it was this before: only what a replica executes or installs can raise it.
+fn level_behind(
+    config: &Config,
+    correct: u16,
+    reached: &mut Numbers,
+    level: u64,
+    entry: &Entry,
+) -> u64
+    requires correct { correct ≡ count_correct config.now }
+    requires level { level ≡ level_in config.now reached.old }
+    ensures raises { Raises entry.now reached.old reached.new }
+    ensures level { result ≡ level_in config.now reached.new }
+{
+    if raise(reached, entry) {
+        level_in(config, correct, reached)
+    } else {
+        level
+    }
+}
+
+// Whether the entry raised what a replica reached.
+fn raise(reached: &mut Numbers, entry: &Entry) -> bool
+    ensures raises { Raises entry.now reached.old reached.new }
+    ensures same { IsFalse result → reached.new ≡ reached.old }
 {
     match entry.kind() {
         EntryKind::Executed(replica, number, _) => raise_to(reached, *replica, *number),
         EntryKind::Installed(replica, number, _) => raise_to(reached, *replica, *number),
-        _ => {}
+        _ => false,
     }
 }
 
-fn raise_to(reached: &mut Numbers, replica: ReplicaId, number: Number)
-    ensures { (r : ℕ) → r < 10 → slice_index reached.new r
+fn raise_to(reached: &mut Numbers, replica: ReplicaId, number: Number) -> bool
+    ensures raises { (r : ℕ) → r < 10 → slice_index reached.new r
         ≡ max (if replica.0 == r then number.0 else 0) (slice_index reached.old r) }
+    ensures same { IsFalse result → reached.new ≡ reached.old }
 {
     let place = usize::from(replica.0);
     if place < MAX_REPLICAS && reached[place] < number.0 {
         reached[place] = number.0;
+        true
+    } else {
+        false
     }
 }
 
 fn count_correct(config: &Config) -> u16
     ensures value { result ≡ count_correct config.now }
     ensures few { result ≤ 10 }
+    ensures valid { IsConfiguration config.now }
 {
     let mut count = 0;
     for replica in 0..3 * u16::from(config.faults()) + 1 {
@@ -109,7 +136,7 @@ fn passes(config: &Config, reached: &Numbers, number: u64, replica: u16) -> bool
 }
 
 // What the replica reached, if all but f of the correct ones did.
-fn value_at(config: &Config, reached: &Numbers, correct: u16, replica: usize) -> u64
+fn value_at(config: &Config, correct: u16, reached: &Numbers, replica: usize) -> u64
     requires correct { correct ≡ count_correct config.now }
     requires few { replica < 10 }
     ensures { result ≡ value_at config.now reached.now replica }
@@ -123,17 +150,13 @@ fn value_at(config: &Config, reached: &Numbers, correct: u16, replica: usize) ->
 }
 
 // The greatest number that all but f of the correct replicas reached.
-fn level_in(config: &Config, reached: &Numbers) -> u64
-    ensures value { result ≡ level_in config.now reached.now }
-    ensures valid { IsConfiguration config.now }
+fn level_in(config: &Config, correct: u16, reached: &Numbers) -> u64
+    requires { correct ≡ count_correct config.now }
+    ensures { result ≡ level_in config.now reached.now }
 {
-    let correct = count_correct(config);
     let mut level = 0;
     for replica in 0..3 * usize::from(config.faults()) + 1 {
-        let number = value_at(config, reached, correct, replica);
-        if level < number {
-            level = number;
-        }
+        level = value_at(config, correct, reached, replica).max(level);
     }
     level
 }

@@ -74,9 +74,10 @@ impl Reads {
         let mut merged = sorted;
         let mut rest = ordered;
         while let Some(placed) = rest.pop() {
-            if !calls.contains(&call_of(&placed)) {
-                put(&mut merged, rest.len(), placed)?;
+            if calls.contains(&call_of(&placed)) {
+                continue;
             }
+            put(&mut merged, rest.len(), placed)?;
         }
         Ok(merged)
     }

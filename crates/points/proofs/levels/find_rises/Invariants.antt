@@ -2,7 +2,8 @@ use Rattle.std.proofs.Common.{◌≡◌, ◌≤◌, reverse, take}
 use Rattle.std.specs.List.Sorted.{IsNonDecreasingBy}
 use Rattle.wire.specs.Lists.{Each}
 use Rattle.points.specs.declared.levels.Rise.{Rise}
-use Rattle.points.specs.Leveling.{AreReached, level, rises}
+use Rattle.points.specs.Leveling.{level, rises}
+use Rattle.points.proofs.Rising.{AreReached}
 use Rattle.points.proofs.levels.find_rises.Given as goal
 
 abbrev pub invariant-loop-position : goal.invariant-loop-position

@@ -5,8 +5,8 @@ use Rattle.points.proofs.seats.note.Goals as goal
 
 pub returns-in-Ok : goal.returns-in-Ok
 returns-in-Ok c =
-    notes_own c.in-Some.client.number c.args.position c.args.entry.now c.args.seats.now.entries _ c.seat_after.result (c.in-Some.ensures)
-    ((c.in-Ok.ensures {u = tt}).updates.0) (c.seat_after.ensures ∙ ap (seat_after c.args.position c.args.entry.now) c.seat_of.ensures)
+    notes_own c.in-Some.client.number c.args.position c.args.entry.now c.args.seats.now.entries _ c.seat_after-seat.result (c.in-Some.ensures)
+    ((c.in-Ok.ensures {u = tt}).updates.0) (c.seat_after-seat.ensures ∙ ap (seat_after c.args.position c.args.entry.now) c.seat_of.ensures)
 
 pub returns-in_default : goal.returns-in_default
 returns-in_default c = notes_none c.args.position c.args.entry.now c.args.seats.now.entries c.in_default.ensures
