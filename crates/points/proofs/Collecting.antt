@@ -68,31 +68,34 @@ placed n e es a = go (cases_order n e.0)
 
 put_ascends : (m n : ℕ) (v : Bor (List ℕ)) (es : Entries) → m ≤ n → IsAbsent n es → AscendsFrom m (numbered_of es) → AscendsFrom m (numbered_of (insert_entry nat_cmp es n v))
 put_ascends m n v [] l a h = (l, tt)
-put_ascends m n v (e ∷ es) l a h = go (placed n e es a)
+put_ascends m n v (e ∷ es) l a h = go (placed n e es a) (λ k. put_ascends (suc e.0) n v es (omega arith) (absent_tail n e es a) h.1)
   where
-    go : (n < e.0) ⊎ (e.0 < n) → AscendsFrom m (numbered_of (insert_entry nat_cmp (e ∷ es) n v))
-    go (inl k) = subst (λ ys. AscendsFrom m (numbered_of ys)) (sym (put_before n v e es k)) (l, (omega arith, h.1))
-    go (inr k) = subst (λ ys. AscendsFrom m (numbered_of ys)) (sym (put_behind n v e es k)) (h.0, put_ascends (suc e.0) n v es (omega arith) (absent_tail n e es a) h.1)
+    go : (n < e.0) ⊎ (e.0 < n) → (e.0 < n → AscendsFrom (suc e.0) (numbered_of (insert_entry nat_cmp es n v))) → AscendsFrom m (numbered_of (insert_entry nat_cmp (e ∷ es) n v))
+    go (inl k) rest = subst (λ ys. AscendsFrom m (numbered_of ys)) (sym (put_before n v e es k)) (l, (omega arith, h.1))
+    go (inr k) rest = subst (λ ys. AscendsFrom m (numbered_of ys)) (sym (put_behind n v e es k)) (h.0, rest k)
 
 put_each : (P : Numbered → Type 0) (n : ℕ) (v : Bor (List ℕ)) (es : Entries) → IsAbsent n es → P (numbered (n, v)) → Each P (numbered_of es) → Each P (numbered_of (insert_entry nat_cmp es n v))
 put_each P n v [] a p h = (p, tt)
-put_each P n v (e ∷ es) a p h = go (placed n e es a)
+put_each P n v (e ∷ es) a p h = go (placed n e es a) (put_each P n v es (absent_tail n e es a) p h.1)
   where
-    go : (n < e.0) ⊎ (e.0 < n) → Each P (numbered_of (insert_entry nat_cmp (e ∷ es) n v))
-    go (inl k) = subst (λ ys. Each P (numbered_of ys)) (sym (put_before n v e es k)) (p, h)
-    go (inr k) = subst (λ ys. Each P (numbered_of ys)) (sym (put_behind n v e es k)) (h.0, put_each P n v es (absent_tail n e es a) p h.1)
+    go : (n < e.0) ⊎ (e.0 < n) → Each P (numbered_of (insert_entry nat_cmp es n v)) → Each P (numbered_of (insert_entry nat_cmp (e ∷ es) n v))
+    go (inl k) rest = subst (λ ys. Each P (numbered_of ys)) (sym (put_before n v e es k)) (p, h)
+    go (inr k) rest = subst (λ ys. Each P (numbered_of ys)) (sym (put_behind n v e es k)) (h.0, rest)
 
 put_has : (j n : ℕ) (v : Bor (List ℕ)) (es : Entries) → IsAbsent n es → (n ≡ j) ⊎ Has (λ (x : Numbered). x.number ≡ j) (numbered_of es)
     → Has (λ (x : Numbered). x.number ≡ j) (numbered_of (insert_entry nat_cmp es n v))
 put_has j n v [] a (inl e) = inl e
 put_has j n v [] a (inr h) = absurd h
-put_has j n v (e ∷ es) a h = go (placed n e es a) h
+put_has j n v (e ∷ es) a h = go (placed n e es a) h (put_has j n v es (absent_tail n e es a))
   where
-    go : (n < e.0) ⊎ (e.0 < n) → (n ≡ j) ⊎ Has (λ (x : Numbered). x.number ≡ j) (numbered_of (e ∷ es)) → Has (λ (x : Numbered). x.number ≡ j) (numbered_of (insert_entry nat_cmp (e ∷ es) n v))
-    go (inl k) h = subst (λ ys. Has (λ (x : Numbered). x.number ≡ j) (numbered_of ys)) (sym (put_before n v e es k)) h
-    go (inr k) (inl same) = subst (λ ys. Has (λ (x : Numbered). x.number ≡ j) (numbered_of ys)) (sym (put_behind n v e es k)) (inr (put_has j n v es (absent_tail n e es a) (inl same)))
-    go (inr k) (inr (inl here)) = subst (λ ys. Has (λ (x : Numbered). x.number ≡ j) (numbered_of ys)) (sym (put_behind n v e es k)) (inl here)
-    go (inr k) (inr (inr h)) = subst (λ ys. Has (λ (x : Numbered). x.number ≡ j) (numbered_of ys)) (sym (put_behind n v e es k)) (inr (put_has j n v es (absent_tail n e es a) (inr h)))
+    abbrev Held : Entries → Type 0
+    Held ys = Has (λ (x : Numbered). x.number ≡ j) (numbered_of ys)
+
+    go : (n < e.0) ⊎ (e.0 < n) → (n ≡ j) ⊎ Held (e ∷ es) → ((n ≡ j) ⊎ Held es → Held (insert_entry nat_cmp es n v)) → Held (insert_entry nat_cmp (e ∷ es) n v)
+    go (inl k) h rest = subst (λ ys. Held ys) (sym (put_before n v e es k)) h
+    go (inr k) (inl same) rest = subst (λ ys. Held ys) (sym (put_behind n v e es k)) (inr (rest (inl same)))
+    go (inr k) (inr (inl here)) rest = subst (λ ys. Held ys) (sym (put_behind n v e es k)) (inl here)
+    go (inr k) (inr (inr h)) rest = subst (λ ys. Held ys) (sym (put_behind n v e es k)) (inr (rest (inr h)))
 
 -- ---- one entry of the trace
 
@@ -212,6 +215,3 @@ lists past xs h = all_listed (batch_of past) 1 (last_executed past) xs (record {
     known : (j : ℕ) → Has (λ (x : Numbered). x.number ≡ j) xs ⊎ (first_batch past j ≡ None) → Has (λ (x : Numbered). x.number ≡ j) xs ⊎ (batch_of past j ≡ null_batch)
     known j (inl has) = inl has
     known j (inr o) = inr (ap (λ x. option_map_or (λ batch. batch) x null_batch) o)
-
-pub more_taken : (xs : List Entry) (i : ℕ) (d : Entry) → i < length xs → reverse (take (i + 1) xs) ≡ get_or xs i d ∷ reverse (take i xs)
-more_taken xs i d l = ap reverse (take_more xs i d l) ∙ reverse-append (take i xs) (get_or xs i d ∷ [])

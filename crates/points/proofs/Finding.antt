@@ -71,7 +71,9 @@ position_of c trace k = option_map_or (λ x. x) (first_position c trace k) 0
 
 pub positions_are : (c : Configuration) → IsConfiguration c → (trace : List Entry) (k : ℕ) → position_of c trace k ≡ position_in (rises c trace) k
 positions_are c setting trace zero = zero_is_first c setting trace
-positions_are c setting trace (suc k) = ap (λ o. option_map_or (λ x. x) o 0) (places_are c setting trace (suc k) (omega arith))
+positions_are c setting trace (suc k) =
+    ap (λ o. option_map_or (λ x. x) o 0) (places_are c setting trace (suc k) (omega arith))
+    ∙ sym (ap (λ b. cond b 0 (option_map_or (λ x. x) (place_in (rises c trace) (suc k)) 0)) (ne_eqb (suc k) 0 (λ e. omega arith)))
 
 -- ---- by an element that is lent
 

@@ -28,7 +28,10 @@ fn note<'a>(found: &mut BTreeMap<u64, &'a [u8]>, entry: &'a Entry) -> Result<(),
     let EntryKind::Executed(_, number, batch) = entry.kind() else {
         return Ok(());
     };
-    if number.0 == 0 || found.contains_key(&number.0) {
+    if number.0 == 0 {
+        return Ok(());
+    }
+    if found.contains_key(&number.0) {
         return Ok(());
     }
     match found.insert(number.0, batch.as_slice()) {

@@ -10,6 +10,17 @@ pub put-requires : goal.put-requires
 put-requires c =
     c.loop-placed.invariant.ranked _ (omega (arith, one_shorter c.loop-placed.rest.items c.pop.new.self.items c.in-Some.placed c.in-Some.ensures.items))
 
+pub loop-placed-preserved-then-contains : goal.loop-placed-preserved-then-contains
+loop-placed-preserved-then-contains c =
+    merged_double c.args.self c.args.ordered.items c.loop-placed.rest.items c.pop.new.self.items c.in-Some.placed c.call_of.result c.loop-placed.merged.entries
+    c.in-Some.ensures.items c.call_of.ensures.client c.call_of.ensures.timestamp (sym c.contains.ensures ∙ c.if-contains.true) c.loop-placed.invariant
+
+pub loop-placed-preserved : goal.loop-placed-preserved
+loop-placed-preserved c =
+    merged_kept c.args.self c.args.ordered.items c.loop-placed.rest.items c.pop.new.self.items c.in-Some.placed c.call_of.result c.loop-placed.merged.entries
+    c.put.new.sorted.entries c.in-Some.ensures.items c.call_of.ensures.client c.call_of.ensures.timestamp (sym c.contains.ensures ∙ c.if-contains.false)
+    c.in_ok-put.ensures.sorts (λ r l. c.in_ok-put.ensures.ranked r (omega arith)) c.loop-placed.invariant
+
 pub returns : goal.returns
 returns c =
     let empty : c.loop-placed.rest.items ≡ [] = nil_from_length _ (search rules) in
