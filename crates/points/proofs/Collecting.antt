@@ -82,20 +82,20 @@ put_each P n v (e ∷ es) a p h = go (placed n e es a) (put_each P n v es (absen
     go (inl k) rest = subst (λ ys. Each P (numbered_of ys)) (sym (put_before n v e es k)) (p, h)
     go (inr k) rest = subst (λ ys. Each P (numbered_of ys)) (sym (put_behind n v e es k)) (h.0, rest)
 
-put_has : (j n : ℕ) (v : Bor (List ℕ)) (es : Entries) → IsAbsent n es → (n ≡ j) ⊎ Has (λ (x : Numbered). x.number ≡ j) (numbered_of es)
-    → Has (λ (x : Numbered). x.number ≡ j) (numbered_of (insert_entry nat_cmp es n v))
+-- some entry has the number
+abbrev IsHeld : ℕ → Entries → Type 0
+IsHeld j es = Has (λ (x : Numbered). x.number ≡ j) (numbered_of es)
+
+put_has : (j n : ℕ) (v : Bor (List ℕ)) (es : Entries) → IsAbsent n es → (n ≡ j) ⊎ IsHeld j es → IsHeld j (insert_entry nat_cmp es n v)
 put_has j n v [] a (inl e) = inl e
 put_has j n v [] a (inr h) = absurd h
 put_has j n v (e ∷ es) a h = go (placed n e es a) h (put_has j n v es (absent_tail n e es a))
   where
-    abbrev Held : Entries → Type 0
-    Held ys = Has (λ (x : Numbered). x.number ≡ j) (numbered_of ys)
-
-    go : (n < e.0) ⊎ (e.0 < n) → (n ≡ j) ⊎ Held (e ∷ es) → ((n ≡ j) ⊎ Held es → Held (insert_entry nat_cmp es n v)) → Held (insert_entry nat_cmp (e ∷ es) n v)
-    go (inl k) h rest = subst (λ ys. Held ys) (sym (put_before n v e es k)) h
-    go (inr k) (inl same) rest = subst (λ ys. Held ys) (sym (put_behind n v e es k)) (inr (rest (inl same)))
-    go (inr k) (inr (inl here)) rest = subst (λ ys. Held ys) (sym (put_behind n v e es k)) (inl here)
-    go (inr k) (inr (inr h)) rest = subst (λ ys. Held ys) (sym (put_behind n v e es k)) (inr (rest (inr h)))
+    go : (n < e.0) ⊎ (e.0 < n) → (n ≡ j) ⊎ IsHeld j (e ∷ es) → ((n ≡ j) ⊎ IsHeld j es → IsHeld j (insert_entry nat_cmp es n v)) → IsHeld j (insert_entry nat_cmp (e ∷ es) n v)
+    go (inl k) h rest = subst (λ (ys : Entries). IsHeld j ys) (sym (put_before n v e es k)) h
+    go (inr k) (inl same) rest = subst (λ (ys : Entries). IsHeld j ys) (sym (put_behind n v e es k)) (inr (rest (inl same)))
+    go (inr k) (inr (inl here)) rest = subst (λ (ys : Entries). IsHeld j ys) (sym (put_behind n v e es k)) (inl here)
+    go (inr k) (inr (inr h)) rest = subst (λ (ys : Entries). IsHeld j ys) (sym (put_behind n v e es k)) (inr (rest (inr h)))
 
 -- ---- one entry of the trace
 
