@@ -1,12 +1,10 @@
 -- The batches that a scan collects.
-use Rattle.std.proofs.Common.{◌≡◌, ℕ, zero, suc, ◌+◌, ◌≤◌, ◌<◌, ◌⊎◌, inl, inr, Bool, true, false, cond, List, [], ◌∷◌, ◌++◌, map, max, length, reverse, take, get_or, refl, sym, ap, ◌∙◌, subst, arith, Option, Some, None, Bor, eq-eqb}
-use Rattle.std.proofs.lemmas.List.{reverse-append, take_more}
-use Rattle.std.specs.Prelude.{◌==◌, is_some}
+use Rattle.std.proofs.Common.{◌≡◌, ℕ, suc, ◌+◌, ◌≤◌, ◌<◌, ◌⊎◌, inl, inr, Bool, true, false, cond, List, [], ◌∷◌, refl, sym, ap, ◌∙◌, subst, arith, Some, None, Bor, eq-eqb}
+use Rattle.std.specs.Prelude.{is_some}
 use Rattle.std.specs.Bool.{then_some}
 use Rattle.std.specs.Option.{option_map_or}
 use Rattle.std.specs.Map.{lookup}
 use Rattle.std.specs.Ordering.{nat_cmp, match_ordering}
-use Rattle.std.specs.declared.cmp.Ordering.{Ordering}
 use Rattle.std.specs.BTreeMap.{is_at, insert_entry}
 use Rattle.std.proofs.lemmas.Bool.{cases_order, ne_eqb}
 use Rattle.space.proofs.Trees.{less, greater}
@@ -16,10 +14,10 @@ use Rattle.wire.specs.Lists.{Each}
 use Rattle.protocol.specs.System.Trace.{Entry, Has}
 use Rattle.protocol.specs.System.Trace.Entry.{Invoke, Got, Tick, Executed, Installed, Sent, Accepted}
 use Rattle.protocol.specs.Replica.Selection.{null_batch}
-use Rattle.protocol.specs.Space.Linear.{batch_at, batch_of, executed_at, last_executed}
+use Rattle.protocol.specs.Space.Linear.{batch_at, batch_of, last_executed}
 use Rattle.points.specs.Numbering.{Numbered, AscendsFrom}
 use Rattle.points.specs.Batching.{numbered, numbered_of, first_batch, Collects, Notes}
-use Rattle.points.proofs.Listing.{all_listed, HoldsAll, Lists}
+use Rattle.points.proofs.Listing.{all_listed, Lists}
 
 abbrev Entries : Type 0
 Entries = List (ℕ × Bor (List ℕ))

@@ -1,5 +1,5 @@
 -- The read that an acceptance ends.
-use Rattle.std.proofs.Common.{◌≡◌, ℕ, ◌+◌, List, max, Bor, Option, Some, None, refl, sym, ap, ◌∙◌}
+use Rattle.std.proofs.Common.{◌≡◌, ℕ, ◌+◌, List, Bor, Option, Some, None, refl, sym, ap, ◌∙◌}
 use Rattle.std.specs.Prelude.{option_map}
 use Rattle.terms.specs.declared.order.Mode.TheVariants as modes
 use Rattle.tuple_codec.specs.Operations.{Operation, Outcome}
@@ -10,7 +10,7 @@ use Rattle.protocol.specs.System.Trace.Entry.{Accepted}
 use Rattle.protocol.specs.Client.RightClient.{OpenCall}
 use Rattle.protocol.specs.Space.Linear.{Placing}
 use Rattle.points.specs.Places.{position_in}
-use Rattle.points.specs.Seating.{SeatData, AreSeats, IsRead, entry_read, read_at, read_number, seat_at, seat_data, seat_read}
+use Rattle.points.specs.Seating.{SeatData, IsRead, entry_read, read_at, read_number, seat_at, seat_data, seat_read}
 use Rattle.points.specs.declared.levels.Rise.{Rise}
 use Rattle.points.specs.declared.seats.OpenCall.{OpenCall as Called}
 use Rattle.points.specs.declared.seats.Seat.{Seat}

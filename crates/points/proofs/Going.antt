@@ -9,7 +9,7 @@ use Rattle.protocol.specs.Space.Linear.{Placing, ordered_point}
 use Rattle.points.specs.declared.levels.Rise.{Rise}
 use Rattle.points.specs.declared.running.Turn.{Turn}
 use Rattle.points.specs.Leveling.{place_in}
-use Rattle.points.specs.Numbering.{Numbered, AscendsFrom, before, ready_for, numbered_points, points_at}
+use Rattle.points.specs.Numbering.{Numbered, AscendsFrom, before, numbered_points, points_at}
 use Rattle.points.specs.declared.point.Placed.{Placed}
 use Rattle.points.specs.PointView.{placings_of}
 use Rattle.points.specs.Running.{SoFar, so_far, state_of, frame_ran, Runs, RunsAll, RunsEach}

@@ -1,5 +1,5 @@
 -- The number of a reply.
-use Rattle.std.proofs.Common.{◌≡◌, ℕ, ◌+◌, ◌<◌, ◌⊎◌, inl, inr, Bool, true, false, ◌&&◌, Option, Some, None, refl, sym, ap, ap₂, ◌∙◌, arith, eq-eqb}
+use Rattle.std.proofs.Common.{◌≡◌, ℕ, ◌+◌, ◌<◌, ◌⊎◌, inl, inr, Bool, true, false, ◌&&◌, Option, None, refl, sym, ap, ap₂, ◌∙◌, arith, eq-eqb}
 use Rattle.std.specs.Prelude.{◌==◌, option_and_then, option_map}
 use Rattle.std.specs.Bool.{then_some}
 use Rattle.std.proofs.lemmas.Bool.{cases_order, ne_eqb}

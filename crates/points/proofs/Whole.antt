@@ -1,10 +1,10 @@
 -- The points of a trace by all parts.
-use Rattle.std.proofs.Common.{◌≡◌, ℕ, zero, suc, ◌≤◌, ◌^◌, List, [], ◌∷◌, ◌++◌, map, filter, not, refl, sym, ap, ap₂, ◌∙◌, arith, Option}
+use Rattle.std.proofs.Common.{◌≡◌, ℕ, suc, ◌≤◌, ◌^◌, List, [], ◌∷◌, ◌++◌, map, filter, not, refl, sym, ap, ap₂, ◌∙◌, arith, Option}
 use Rattle.wire.specs.Words.{requests_of}
 use Rattle.protocol.specs.System.Configuration.{Configuration, IsConfiguration, members}
 use Rattle.protocol.specs.System.Trace.{Entry}
 use Rattle.protocol.specs.Replica.State.{State, opening, execute, ran_in}
-use Rattle.protocol.specs.Space.Linear.{Item, Placing, sorted, is_double, points, ordered_points, read_points, first_position, last_executed}
+use Rattle.protocol.specs.Space.Linear.{Placing, sorted, is_double, points, ordered_points, read_points, first_position, last_executed}
 use Rattle.points.specs.Leveling.{place_in, rises}
 use Rattle.points.specs.Places.{position_in}
 use Rattle.points.specs.Numbering.{Numbered, AscendsFrom, numbered_points, points_at, ready_for}

@@ -1,13 +1,12 @@
 -- Levels, and where they rise.
-use Rattle.std.specs.Prelude.{◌≡◌, ℕ, zero, suc, ◌+◌, ◌≤◌, ◌<◌, Bool, ◌&&◌, List, [], ◌∷◌, length, nat_lt, nat_le, if◌then◌else◌, max, Option, None, slice_index}
+use Rattle.std.specs.Prelude.{◌≡◌, ℕ, zero, suc, ◌+◌, ◌<◌, Bool, ◌&&◌, List, [], ◌∷◌, length, nat_lt, nat_le, if◌then◌else◌, max, Option, None, slice_index}
 use Rattle.quorum.specs.Quorum.{count_below}
-use Rattle.std.specs.Option.{option_map_or}
 use Rattle.quorum.specs.Votes.{or_else}
 use Rattle.std.specs.Bool.{then_some}
-use Rattle.protocol.specs.System.Configuration.{Configuration, IsConfiguration, replicas, is_correct_replica}
+use Rattle.protocol.specs.System.Configuration.{Configuration, replicas, is_correct_replica}
 use Rattle.protocol.specs.System.Trace.{Entry}
 use Rattle.points.specs.declared.levels.Rise.{Rise}
-use Rattle.protocol.specs.Space.Linear.{reached_at, reached, count_correct, is_level, first_position}
+use Rattle.protocol.specs.Space.Linear.{reached_at, reached, count_correct, is_level}
 
 -- the greatest of a value over the numbers below n
 abbrev pub greatest_below : (ℕ → ℕ) → ℕ → ℕ

@@ -1,14 +1,11 @@
 -- What the private functions that run batches speak of: the batches of the numbers that have one, and the requests that
 -- ran in them.
-use Rattle.std.specs.Prelude.{◌≡◌, ℕ, zero, suc, ◌+◌, ◌≤◌, ◌<◌, ⊤, ◌⊎◌, List, [], ◌∷◌, ◌++◌, map, Option}
+use Rattle.std.specs.Prelude.{ℕ, zero, suc, ◌≤◌, ⊤, List, [], ◌∷◌, ◌++◌, map, Option}
 use Rattle.std.specs.Option.{option_map_or}
 use Rattle.protocol.specs.System.Configuration.{Configuration}
-use Rattle.wire.specs.Lists.{Each}
-use Rattle.protocol.specs.System.Trace.{Entry, Has}
-use Rattle.protocol.specs.Replica.Selection.{null_batch}
 use Rattle.wire.specs.Words.{requests_of}
 use Rattle.protocol.specs.Replica.State.{State, Ran, execute, ran_in}
-use Rattle.protocol.specs.Space.Linear.{Placing, ordered_point, ordered_points, first_position, batch_of}
+use Rattle.protocol.specs.Space.Linear.{Placing, ordered_point}
 
 -- a number with its batch
 pub record Numbered : Type 0 where

@@ -1,11 +1,8 @@
 -- What the private functions that find places speak of.
-use Rattle.std.specs.Prelude.{◌≡◌, ℕ, ◌==◌, List, if◌then◌else◌}
+use Rattle.std.specs.Prelude.{ℕ, ◌==◌, List, if◌then◌else◌}
 use Rattle.std.specs.Option.{option_map_or}
-use Rattle.protocol.specs.System.Configuration.{Configuration, IsConfiguration}
-use Rattle.protocol.specs.System.Trace.{Entry}
-use Rattle.protocol.specs.Space.Linear.{first_position}
 use Rattle.points.specs.declared.levels.Rise.{Rise}
-use Rattle.points.specs.Leveling.{rises, place_in}
+use Rattle.points.specs.Leveling.{place_in}
 
 -- the position of the first level that is no less, else 0
 abbrev pub position_in : List Rise → ℕ → ℕ

@@ -1,5 +1,5 @@
 -- What the points of the program stand for.
-use Rattle.std.specs.Prelude.{ℕ, ◌+◌, List, map}
+use Rattle.std.specs.Prelude.{◌+◌, List, map}
 use Rattle.tuple_codec.specs.OperationView.{operation_of, outcome_of}
 use Rattle.protocol.specs.Space.Linear.{Item, Placing}
 use Rattle.points.specs.declared.point.Point.{Point}

@@ -1,5 +1,5 @@
 -- What the private functions that find the reads speak of: what one scan keeps of each client.
-use Rattle.std.specs.Prelude.{◌≡◌, ℕ, ◌+◌, ◌<◌, ◌==◌, Bool, ◌&&◌, List, [], ◌∷◌, ◌++◌, length, max, if◌then◌else◌, Option, Some, None, option_and_then, option_map}
+use Rattle.std.specs.Prelude.{◌≡◌, ℕ, ◌+◌, ◌<◌, ◌==◌, Bool, ◌&&◌, List, [], ◌∷◌, length, max, if◌then◌else◌, Option, Some, None, option_and_then, option_map}
 use Rattle.std.specs.Bool.{then_some}
 use Rattle.std.specs.Map.{lookup}
 use Rattle.std.specs.Option.{option_map_or}
@@ -12,12 +12,11 @@ use Rattle.wire.specs.Messages.{BodyData}
 use Rattle.wire.specs.declared.messages.Reply.{Reply}
 use Rattle.authenticator.specs.Membership.{Membership}
 use Rattle.signing.specs.Heard.{heard}
-use Rattle.protocol.specs.System.Configuration.{Configuration, members}
 use Rattle.protocol.specs.System.Frames.{same_mode}
 use Rattle.protocol.specs.System.Trace.{Entry, party_of}
 use Rattle.protocol.specs.System.Trace.Entry.{Invoke, Got, Accepted}
 use Rattle.protocol.specs.Client.RightClient.{OpenCall, vote_of}
-use Rattle.protocol.specs.Space.Linear.{Placing, read_points}
+use Rattle.protocol.specs.Space.Linear.{Placing}
 use Rattle.points.specs.Places.{position_in}
 use Rattle.points.specs.declared.levels.Rise.{Rise}
 use Rattle.points.specs.declared.seats.Seat.{Seat}

@@ -1,6 +1,6 @@
 use Rattle.std.proofs.Common.{arith, inl, inr, sym, ap, ◌∙◌, rules}
 use Rattle.events.specs.EntryView.{entry_of_kind}
-use Rattle.points.proofs.Collecting.{noted_known, noted_new, notes_other}
+use Rattle.points.proofs.Collecting.{noted_known, noted_new}
 use Rattle.points.proofs.batches.note.Goals as goal
 
 pub returns-then-number-eq0 : goal.returns-then-number-eq0

@@ -1,4 +1,4 @@
-use Rattle.std.proofs.Common.{◌≡◌, ℕ, ◌+◌, ◌-◌, ◌^◌, List, [], reverse, take, sym, subst, ap, arith, rules}
+use Rattle.std.proofs.Common.{◌+◌, ◌-◌, ◌^◌, List, [], reverse, take, sym, subst, arith, rules}
 use Rattle.std.proofs.lemmas.List.{take_all}
 use Rattle.protocol.specs.System.Trace.{Entry}
 use Rattle.protocol.specs.System.Configuration.{members}

@@ -1,5 +1,4 @@
-use Rattle.std.proofs.Common.{ℕ, List, [], reverse, refl, sym, ap, ◌∙◌, subst, arith}
-use Rattle.std.specs.Borrow.{Bor}
+use Rattle.std.proofs.Common.{reverse, ap}
 use Rattle.points.specs.Batching.{numbered_of}
 use Rattle.points.proofs.Going.{batch_goes_on, going_begins, going_ends, each_above}
 use Rattle.points.proofs.running.run_batches.Goals as goal

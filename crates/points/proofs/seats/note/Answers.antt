@@ -1,4 +1,4 @@
-use Rattle.std.proofs.Common.{ap, ◌∙◌, sym}
+use Rattle.std.proofs.Common.{ap, ◌∙◌}
 use Rattle.points.specs.Seating.{seat_after}
 use Rattle.points.proofs.Noting.{notes_own, notes_none}
 use Rattle.points.proofs.seats.note.Goals as goal

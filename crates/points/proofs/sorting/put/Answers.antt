@@ -1,6 +1,5 @@
-use Rattle.std.proofs.Common.{ℕ, List, sym, ap, ◌∙◌, subst}
+use Rattle.std.proofs.Common.{sym, ap, ◌∙◌, subst}
 use Rattle.std.specs.BTreeMap.{insert_entry}
-use Rattle.points.specs.PointView.{placing_of}
 use Rattle.points.specs.Sorting.{AreRankedAbove, sorted_of}
 use Rattle.points.proofs.Ordering.{inserts, key_cmp, ranked_on}
 use Rattle.points.proofs.sorting.put.Goals as goal

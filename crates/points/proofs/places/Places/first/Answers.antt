@@ -1,6 +1,5 @@
-use Rattle.std.proofs.Common.{ℕ, List, Option, Some, None, Bor, rules}
+use Rattle.std.proofs.Common.{ℕ, List, Some, None, rules}
 use Rattle.std.specs.Prelude.{nat_lt}
-use Rattle.std.specs.Slice.{IsItemAt}
 use Rattle.std.proofs.lemmas.List.Sorted.{IsPartitionPoint-from_clause, IsPartitionedBy-ltb}
 use Rattle.points.specs.declared.levels.Rise.{Rise}
 use Rattle.points.proofs.Finding.{first_is}

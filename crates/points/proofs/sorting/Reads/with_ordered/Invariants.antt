@@ -1,4 +1,4 @@
-use Rattle.std.proofs.Common.{ℕ, vec_len}
+use Rattle.std.proofs.Common.{vec_len}
 use Rattle.points.proofs.Holding.{Merged}
 use Rattle.points.proofs.sorting.Reads.with_ordered.Given as goal
 
