@@ -1,0 +1,16 @@
+pub mod Calling
+pub mod Holding
+pub mod Collecting
+pub mod Counting
+pub mod Ending
+pub mod Finding
+pub mod Going
+pub mod Listing
+pub mod Noting
+pub mod Numbers
+pub mod Ordering
+pub mod Replying
+pub mod Results
+pub mod Rising
+pub mod Seating
+pub mod Whole

@@ -1,0 +1,18 @@
+use Rattle.std.proofs.Common.{ℕ, List, Bor, sym, ap, ◌∙◌, subst, arith}
+use Rattle.std.specs.Prelude.{OnOk}
+use Rattle.wire.specs.Headers.{IsFrame}
+use Rattle.wire.specs.Lists.{Each}
+use Rattle.points.specs.Running.{so_far, RunsAll}
+use Rattle.points.proofs.Calling.{requests_are_frames}
+use Rattle.points.proofs.Going.{texts}
+use Rattle.points.proofs.running.run_batch.Goals as goal
+
+pub run_frames-requires-clause-frames : goal.run_frames-requires-clause-frames
+run_frames-requires-clause-frames c =
+    subst (λ (frames : List (Bor (List ℕ))). Each IsFrame (texts frames)) (sym c.as_slice.ensures.value)
+    (subst (Each IsFrame) (sym c.requests-frames.ensures.frames) (requests_are_frames c.args.batch.now (λ i. omega (arith, c.type_inv.batch i))))
+
+pub returns : goal.returns
+returns c =
+    subst (λ (fs : List (List ℕ)). OnOk c.run_frames.result (RunsAll c.args.turn fs (so_far c.args.space.now c.args.replies.now c.args.found.now.items) (so_far c.run_frames.new.space c.run_frames.new.replies c.run_frames.new.found.items)))
+    (ap texts c.as_slice.ensures.value ∙ c.requests-frames.ensures.frames) c.run_frames.ensures

@@ -1,0 +1,9 @@
+pub mod Batching
+pub mod Calls
+pub mod Leveling
+pub mod Numbering
+pub mod Places
+pub mod PointView
+pub mod Running
+pub mod Seating
+pub mod Sorting

@@ -1,0 +1,57 @@
+//! The calls that request frames spell.
+
+ghost use Rattle.std.specs.Prelude.{◌<◌, IfOk, IfSome, option_map};
+ghost use Rattle.wire.specs.Headers.{IsFrame};
+ghost use Rattle.wire.specs.Views.{body_data};
+ghost use Rattle.points.specs.Calls.{call_data, IsCallIn, IsCallOf};
+
+use std::alloc::Global;
+use terms::{ClientId, Mode, NoMemory, Party, Timestamp};
+use tuple_codec::Op;
+use wire::{Body, Frame, Message, decode_judged};
+
+/// An ordered request of one of the clients.
+#[derive(Drop)]
+pub(crate) struct Call {
+    pub(crate) client: ClientId,
+    pub(crate) timestamp: Timestamp,
+    pub(crate) op: Op<Global>,
+}
+
+/// The call that a frame spells, where it is an ordered request of one of so many clients. NoMemory where memory runs
+/// out.
+pub(crate) fn read_call(alloc: Global, frame: &[u8], clients: u16) -> Result<Option<Call>, NoMemory>
+    requires { IsFrame frame.now }
+    ensures found { IfOk result (λ call. IsCallOf clients frame.now (option_map call_data call)) }
+    ensures client { IfOk result (λ found. IfSome found (λ call. call.client.number < clients)) }
+{
+    let Frame {
+        body,
+        authenticator: _,
+    } = decode_judged(alloc, frame)?;
+    Ok(call_in(body, clients))
+}
+
+fn call_in(body: Body, clients: u16) -> Option<Call>
+    ensures found { IsCallIn clients (body_data body) (option_map call_data result) }
+    ensures client { IfSome result (λ call. call.client.number < clients) }
+{
+    let Body { sender, message } = body;
+    let Message::Request(request) = message else {
+        return None;
+    };
+    let Party::Client(client) = sender else {
+        return None;
+    };
+    if client.number >= clients {
+        return None;
+    }
+    match request.mode {
+        Mode::Ordered => Some(Call {
+            client,
+            timestamp: request.timestamp,
+            op: request.op,
+        }),
+        Mode::ReadOnly => None,
+    }
+}

@@ -1,0 +1,194 @@
+//! The reads that were accepted read-only.
+
+ghost use Rattle.std.specs.Prelude.{◌≡◌, ◌+◌, ◌^◌, IfOk, option_map, reverse};
+ghost use Rattle.tuple_codec.specs.OperationView.{outcome_of};
+ghost use Rattle.wire.specs.Views.{body_data};
+ghost use Rattle.signing.specs.Heard.{heard};
+ghost use Rattle.protocol.specs.System.Configuration.{members};
+ghost use Rattle.points.specs.Places.{position_in};
+ghost use Rattle.points.specs.PointView.{placing_of};
+ghost use Rattle.protocol.specs.System.Frames.{same_mode};
+ghost use Rattle.points.specs.Seating.{IsRead, answers, number_in, read_number, seat_data, seat_read, seat_reads};
+ghost use Rattle.points.specs.Sorting.{HoldsReads};
+
+use crate::places::Places;
+use crate::point::{Placed, Point, copy_op};
+use crate::seats::{Seat, Seats, note, seat_of};
+use crate::sorting::Reads;
+use authenticator::Ring;
+use events::{Config, Entry, EntryKind};
+use signing::{HearFault, HeardFrame, PublicKeys, hear};
+use std::alloc::Global;
+use std::collections::BTreeMap;
+use terms::{ClientId, Mode, NoMemory, Number, Party, Timestamp};
+use tuple_codec::Answer;
+use wire::{Body, Frame, Message, Reply};
+
+/// The reads that were accepted by read-only replies, in a trace whose oldest entry stands first.
+pub(crate) fn find_reads(
+    alloc: Global,
+    config: &Config,
+    places: &Places,
+    trace: &[Entry],
+) -> Result<Reads, NoMemory>
+    ensures { IfOk result (HoldsReads (2 ^ 63) (seat_reads (members config.now)
+        (position_in (reverse places.now.rises.items)) (reverse trace.now))) }
+{
+    let mut ring = Ring::new(alloc, config.seed(), config.faults(), config.clients());
+    let publics = PublicKeys::new(alloc, config.seed())?;
+    let mut seats = BTreeMap::new(alloc);
+    let mut reads = Reads::new(alloc);
+    for (position, entry) in trace.iter().enumerate() {
+        let read = read_ended(alloc, &mut ring, &publics, places, &seats, entry)?;
+        reads.add(usize::MAX - position, read)?;
+        note(&mut seats, position, entry)?;
+    }
+    Ok(reads)
+}
+
+// The read that an entry ends.
+fn read_ended(
+    alloc: Global,
+    ring: &mut Ring,
+    publics: &PublicKeys,
+    places: &Places,
+    seats: &Seats<'_>,
+    entry: &Entry,
+) -> Result<Option<Placed>, NoMemory>
+    requires keys { publics.now ≡ ring.old.seed }
+    ensures read { IfOk result (λ read. IsRead ring.old (reverse places.now.rises.items)
+        seats.now.entries entry.now (option_map placing_of read)) }
+    ensures same { ring.new ≡ ring.old }
+{
+    match entry.kind() {
+        EntryKind::Accepted(client, timestamp, answer) => {
+            let seat = seat_of(seats, *client);
+            read_at(
+                alloc, ring, publics, places, *client, *timestamp, answer, seat,
+            )
+        }
+        _ => Ok(None),
+    }
+}
+
+// The read that an acceptance ends, by the client's seat.
+fn read_at(
+    alloc: Global,
+    ring: &mut Ring,
+    publics: &PublicKeys,
+    places: &Places,
+    client: ClientId,
+    timestamp: Timestamp,
+    answer: &Answer<Global>,
+    seat: Seat<'_>,
+) -> Result<Option<Placed>, NoMemory>
+    requires keys { publics.now ≡ ring.old.seed }
+    ensures read { IfOk result (λ read. option_map placing_of read
+        ≡ seat_read ring.old (position_in (reverse places.now.rises.items))
+        (256 + client.number) timestamp.0 (outcome_of answer.now) (seat_data seat.entry)) }
+    ensures same { ring.new ≡ ring.old }
+{
+    let Some(call) = seat.call else {
+        return Ok(None);
+    };
+    let Some(bytes) = seat.got else {
+        return Ok(None);
+    };
+    let Some(number) = read_number(alloc, ring, publics, client, timestamp, bytes)? else {
+        return Ok(None);
+    };
+    let position = seat.invoked.max(places.position(number));
+    let op = copy_op(alloc, call.op)?;
+    let answer = answer.copy_in(alloc)?;
+    Ok(Some(Placed {
+        point: Point {
+            client,
+            timestamp: call.timestamp,
+            op,
+            answer,
+            position,
+        },
+        number,
+        mode: Mode::ReadOnly,
+    }))
+}
+
+// The number of the read-only reply to the client's call of this timestamp that the bytes are, if they are one.
+fn read_number(
+    alloc: Global,
+    ring: &mut Ring,
+    publics: &PublicKeys,
+    client: ClientId,
+    timestamp: Timestamp,
+    bytes: &[u8],
+) -> Result<Option<Number>, NoMemory>
+    requires keys { publics.now ≡ ring.old.seed }
+    ensures number { IfOk result (λ number. option_map (λ n. n.0) number
+        ≡ read_number ring.old (256 + client.number) timestamp.0 bytes.now) }
+    ensures same { ring.new ≡ ring.old }
+{
+    match hear_frame(alloc, ring, publics, client, bytes)? {
+        None => Ok(None),
+        Some(frame) => {
+            let Frame {
+                body,
+                authenticator: _,
+            } = frame;
+            Ok(number_in(body, client, timestamp))
+        }
+    }
+}
+
+// The frame that the client hears from the bytes, if it hears one.
+fn hear_frame(
+    alloc: Global,
+    ring: &mut Ring,
+    publics: &PublicKeys,
+    client: ClientId,
+    bytes: &[u8],
+) -> Result<Option<Frame>, NoMemory>
+    requires keys { publics.now ≡ ring.old.seed }
+    ensures heard { IfOk result (λ frame. heard ring.old (256 + client.number) bytes.now
+        ≡ option_map (λ f. body_data f.body) frame) }
+    ensures same { ring.new ≡ ring.old }
+{
+    match hear(alloc, ring, publics, bytes, Party::Client(client)) {
+        Ok(heard) => {
+            let HeardFrame { bytes: _, frame } = heard;
+            Ok(Some(frame))
+        }
+        Err(fault) => match fault {
+            HearFault::NoMemory => Err(NoMemory),
+            _ => Ok(None),
+        },
+    }
+}
+
+fn number_in(body: Body, client: ClientId, timestamp: Timestamp) -> Option<Number>
+    ensures { option_map (λ n. n.0) result
+        ≡ number_in (256 + client.number) timestamp.0 (body_data body) }
+{
+    let Body { sender: _, message } = body;
+    match message {
+        Message::Reply(reply) => answers(&reply, client, timestamp).then_some(reply.number),
+        _ => None,
+    }
+}
+
+// Whether it is a read-only reply to the client's call of this timestamp.
+fn answers(reply: &Reply, client: ClientId, timestamp: Timestamp) -> bool
+    ensures { result ≡ answers client.number timestamp.0 reply.now }
+{
+    reply.client.number == client.number
+        && reply.timestamp.0 == timestamp.0
+        && is_read_only(reply.kind)
+}
+
+fn is_read_only(mode: Mode) -> bool
+    ensures { result ≡ same_mode mode Mode.ReadOnly }
+{
+    match mode {
+        Mode::Ordered => false,
+        Mode::ReadOnly => true,
+    }
+}
