@@ -67,7 +67,7 @@ fn change(alloc: Global, sender: u8, (kept, prepared, logged): Said<'_>) -> Resu
 fn selected(alloc: Global, sizes: Sizes, rows: &[Said<'_>]) -> Result<Option<Selection>, Fail> {
     let mut set = Vec::new(alloc);
     for (sender, row) in rows.iter().enumerate() {
-        set.push(change(alloc, sender as u8, *row)?)?;
+        set.push(change(alloc, (sender % 16) as u8, *row)?)?;
     }
     let mut held = Vec::new(alloc);
     for byte in 1..4 {
