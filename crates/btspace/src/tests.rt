@@ -4,6 +4,7 @@ mod checkpoints;
 mod rows;
 mod schedules;
 mod turns;
+mod views;
 mod words;
 
 use crate::complaints::Complaint;

@@ -22,6 +22,7 @@ mod pages;
 mod replies;
 mod running;
 
+pub use calls::{Call, read_call};
 pub use executed::Executed;
 pub use laws::{pages_are_short, pages_determine};
 pub use running::Ran;

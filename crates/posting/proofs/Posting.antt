@@ -1,6 +1,7 @@
 -- What is sealed or signed is posted.
 use Rattle.std.proofs.Common.{◌≡◌, ℕ, zero, suc, ◌+◌, ◌*◌, ◌<◌, ◌≤◌, ◌^◌, true, false, List, [], ◌∷◌, ◌++◌, length, length-append, arith, Result, Ok, Err, refl, sym, ap, ◌∙◌, subst}
-use Rattle.std.specs.Prelude.{IfOk}
+use Rattle.std.specs.Prelude.{IfOk, Vec}
+use Rattle.std.specs.declared.alloc.Global.{Global}
 use Rattle.tuple_tree.specs.Values.{AreBytes}
 use Rattle.wire.specs.Messages.{BodyData, MessageData as Message, signature}
 use Rattle.wire.specs.Spelling.{IsBody, IsMessage, authenticator_spelling, body_spelling, frame_limit, frame_spelling, is_signed, piece}
@@ -13,9 +14,8 @@ use Rattle.protocol.specs.System.Configuration.{Configuration, members}
 use Rattle.protocol.specs.System.Frames.{IsPosted}
 use Rattle.protocol.specs.Replica.RightReplica.{others}
 use Rattle.protocol.proofs.Words.Posting.{sealed_is_posted, signed_is_posted}
-use Rattle.events.specs.declared.output.Output.{Output}
-use Rattle.posting.specs.Endpoint.{IsSignedPost, Posts, other_replicas, others_below}
-use Rattle.posting.specs.Frames.{SignedFits, SignsPost, SpellsSealed, SpellsSigned, says, signed_frame}
+use Rattle.posting.specs.Endpoint.{Posts, other_replicas, others_below, says}
+use Rattle.posting.specs.Frames.{SignedFits, SpellsSealed, SpellsSigned, signed_frame}
 use Rattle.posting.proofs.Others.{others_ascend, others_few, others_some}
 
 -- ---- what may be sealed
@@ -97,7 +97,7 @@ signed_posts m me message seed bytes own k c known =
     signed_is_posted c (says me message) k.signed bytes k.spells ((verifies-Decides (public_key (signing_seed c.seed me)) (body_spelling (says me message)) k.signed).1 v)
 
 -- of the endpoint's own seed
-pub signs_for : {E : Type 0} (r : Result Output E) (m : Membership) (seed : List ℕ) (faults me : ℕ) (message : Message) → IfOk r (SignsPost seed faults me message) → seed ≡ signing_seed m.seed me
-    → faults ≡ m.faults → IfOk r (IsSignedPost m me message (other_replicas m me))
-signs_for (Ok output) m seed faults me message h own e = h m own e
-signs_for (Err fault) m seed faults me message h own e = h
+pub signs_own : {E : Type 0} (r : Result (Vec ℕ Global) E) (m : Membership) (seed : List ℕ) (me : ℕ) (message : Message) → IfOk r (λ bytes. SpellsSigned seed (says me message) bytes.items)
+    → seed ≡ signing_seed m.seed me → IfOk r (λ bytes. Posts m me message [] bytes.items)
+signs_own (Ok bytes) m seed me message h own = signed_posts m me message seed bytes.items own h
+signs_own (Err fault) m seed me message h own = h

@@ -1,12 +1,14 @@
 -- What an endpoint is, what it hears, and what it posts (Castro and Liskov, Practical Byzantine fault tolerance and
 -- proactive recovery, TOCS 2002, on the authentication of messages).
-use Rattle.std.specs.Prelude.{◌≡◌, ℕ, ◌+◌, ◌*◌, ◌<◌, ◌≤◌, ◌==◌, Bool, not, List, [], ◌∷◌, map, filter, Option, is_some, option_map}
+use Rattle.std.specs.Prelude.{◌≡◌, ℕ, ◌+◌, ◌*◌, ◌<◌, ◌≤◌, ◌==◌, Bool, not, List, [], ◌∷◌, length, map, filter, Option, is_some, option_map, Vec}
 use Rattle.std.specs.List.{list_all, range_with_len}
+use Rattle.std.specs.declared.alloc.Global.{Global}
 use Rattle.terms.specs.Parties.{party_number}
 use Rattle.terms.specs.declared.parties.Party.{Party}
 use Rattle.wire.specs.declared.messages.Batch.{Batch}
 use Rattle.wire.specs.declared.messages.Body.{Body}
-use Rattle.wire.specs.Messages.{MessageData as Message}
+use Rattle.wire.specs.Messages.{BodyData, MessageData as Message}
+use Rattle.wire.specs.Spelling.{body_spelling, frame_limit, piece}
 use Rattle.wire.specs.Views.{body_data}
 use Rattle.wire.specs.Words.{requests_of}
 use Rattle.authenticator.specs.Keys.{signing_seed}
@@ -114,3 +116,33 @@ PostsToOthers e message output = SealsForOthers e.membership e.me message output
 
 abbrev pub PostsSigned : EndpointState → Message → Output → Type 0
 PostsSigned e message output = SignsForOthers e.membership e.me message output
+
+-- ---- signed frames
+
+-- the party says this
+abbrev pub says : ℕ → Message → BodyData
+says me message = record { sender = me; message = message }
+
+-- the bytes are the replica's frame that says this, signed
+abbrev pub IsOwnSigned : EndpointState → Message → List ℕ → Type 0
+IsOwnSigned e message bytes = Posts e.membership e.me message [] bytes
+
+abbrev pub SignsFrame : EndpointState → Message → Vec ℕ Global → Type 0
+SignsFrame e message bytes = IsOwnSigned e message bytes.items
+
+-- With a signature, of 16,578 bytes with that of its sort, the body would be longer than a frame of the message may be.
+abbrev pub SignedExceeds : BodyData → Type 0
+SignedExceeds body = frame_limit body.message < length (piece (body_spelling body)) + 16578
+
+-- Some key is left, and the frame would be too long.
+abbrev pub IsTooLongToSign : EndpointState → Message → Type 0
+IsTooLongToSign e message = (e.used < 64) × SignedExceeds (says e.me message)
+
+-- the bytes go to all other replicas
+pub record SendsToOthers (e : EndpointState) (bytes : List ℕ) (output : Output) : Type 0 where
+  pub sends : entry_of e.me output ≡ Sent e.me bytes
+  pub goes : receivers output ≡ other_replicas e.membership e.me
+
+-- so whatever message the bytes say, signed, is posted
+abbrev pub PostsFrame : EndpointState → List ℕ → Output → Type 0
+PostsFrame e bytes output = (message : Message) → IsOwnSigned e message bytes → PostsSigned e message output

@@ -1,5 +1,5 @@
 -- What the private functions speak of that make frames.
-use Rattle.std.specs.Prelude.{◌≡◌, ℕ, ◌+◌, ◌<◌, ◌≤◌, List, length, map, Vec}
+use Rattle.std.specs.Prelude.{◌≡◌, ℕ, ◌+◌, ◌≤◌, List, length, map, Vec}
 use Rattle.std.specs.Borrow.{Bor}
 use Rattle.std.specs.declared.alloc.Global.{Global}
 use Rattle.terms.specs.declared.parties.Party.{Party}
@@ -10,12 +10,10 @@ use Rattle.wire.specs.Messages.{BodyData, FrameData, MessageData as Message, sig
 use Rattle.wire.specs.Spelling.{SpellsFrame, body_spelling, frame_limit, piece}
 use Rattle.wire.specs.Views.{body_data}
 use Rattle.authenticator.specs.Giving.{sealed_frame}
-use Rattle.authenticator.specs.Keys.{signing_seed}
 use Rattle.authenticator.specs.Membership.{Membership}
 use Rattle.authenticator.specs.Sealing.{IsTooLong, sealed_for}
 use Rattle.signing.specs.Signatures.{Verifies, public_key}
-use Rattle.events.specs.declared.output.Output.{Output}
-use Rattle.posting.specs.Endpoint.{SignsForOthers, numbers}
+use Rattle.posting.specs.Endpoint.{numbers, says}
 
 abbrev pub frame_body : Frame → BodyData
 frame_body frame = body_data frame.body
@@ -23,10 +21,6 @@ frame_body frame = body_data frame.body
 -- the bytes of slices
 abbrev pub texts : List (Bor (List ℕ)) → List (List ℕ)
 texts frames = map (λ frame. frame.now) frames
-
--- the party says this
-abbrev pub says : ℕ → Message → BodyData
-says me message = record { sender = me; message = message }
 
 -- ---- with MACs
 
@@ -66,13 +60,3 @@ SignsMessage seed me message bytes = SpellsSigned seed (says me.0 message) bytes
 -- with a signature the body has at most as many bytes as a frame of it may have
 abbrev pub SignedFits : BodyData → Type 0
 SignedFits body = length (piece (body_spelling body)) + 16578 ≤ frame_limit body.message
-
--- it has more
-abbrev pub SignedExceeds : BodyData → Type 0
-SignedExceeds body = frame_limit body.message < length (piece (body_spelling body)) + 16578
-
--- It is such an output of any members of whom so many may be faulty and whose seed it signs by.
-abbrev pub SignsPost : List ℕ → ℕ → ℕ → Message → Output → Type 0
-SignsPost seed faults me message output =
-    (m : Membership) → seed ≡ signing_seed m.seed me → faults ≡ m.faults
-    → SignsForOthers m me message output

@@ -1,15 +1,16 @@
 //! The endpoint of a replica.
 
-ghost use Rattle.std.specs.Prelude.{◌≡◌, ◌≢◌, ◌+◌, ◌*◌, ◌<◌, ◌≤◌, true, false, IfOk, IfErr, OnOk};
+ghost use Rattle.std.specs.Prelude.{◌≡◌, ◌≢◌, ◌↔◌, ◌+◌, ◌*◌, ◌<◌, ◌≤◌, true, false, IfOk, IfErr, OnOk};
 ghost use Rattle.wire.specs.Spelling.{IsMessage, is_signed};
 ghost use Rattle.wire.specs.Views.{message_data};
 ghost use Rattle.authenticator.specs.Keys.{signing_seed};
-ghost use Rattle.posting.specs.Endpoint.{Hears, PostsSigned, PostsTo, PostsToOthers, TellsGenuine};
+ghost use Rattle.posting.specs.Endpoint.{Hears, IsTooLongToSign, PostsFrame, PostsTo, PostsToOthers, SendsToOthers, SignsFrame, TellsGenuine};
 
 use crate::hearing::{hear_all, hear_body};
 use crate::post_fault::PostFault;
+use crate::receivers::other_replicas;
 use crate::sealing::{seal_for_one, seal_for_others};
-use crate::signing_frames::sign_for_others;
+use crate::signing_frames::sign_message;
 use authenticator::Ring;
 use events::Output;
 use signing::{PublicKeys, Signer};
@@ -130,24 +131,37 @@ impl Endpoint {
         seal_for_others(&mut self.ring, alloc, self.faults, self.me, message)
     }
 
-    /// The output of a message that is signed, by the next of 64 keys, for all other replicas. An error spends at most
-    /// one key.
+    /// The frame of a message that is signed, by the next of 64 keys: 262,144 bytes at the most for a view change, and
+    /// 4,194,304 for a new view. It may be posted any number of times.
+    ///
+    /// The tree of the keys is made at the first call, in some 115,000 blocks of SHA-256, and then kept.
     ///
     /// # Errors
     ///
-    /// TooLarge where the frame would be longer than it may be, and KeysSpent where all keys are spent: neither spends
-    /// one. NoMemory where memory runs out.
-    pub fn post_signed(&mut self, alloc: Global, message: Message) -> Result<Output, PostFault>
+    /// KeysSpent where all keys are spent, and else TooLarge where the frame would be longer than it may be: neither
+    /// spends one. NoMemory where memory runs out: that spends at most one.
+    pub fn sign(&mut self, alloc: Global, message: Message) -> Result<Vec<u8>, PostFault>
         requires said { IsMessage (message_data message) }
         requires signed { is_signed (message_data message) ≡ true }
-        ensures posted { IfOk result (PostsSigned self.old (message_data message)) }
+        ensures frame { IfOk result (SignsFrame self.old (message_data message)) }
         ensures used { OnOk result (self.new ≡ record self.old { used = self.old.used + 1 }) }
         ensures membership { self.new.membership ≡ self.old.membership }
         ensures me { self.new.me ≡ self.old.me }
         ensures kept { IfErr result (λ fault. fault ≢ PostFault.NoMemory → self.new ≡ self.old) }
         ensures one { self.new.used ≤ self.old.used + 1 }
-        ensures spent { result ≡ Err PostFault.KeysSpent → self.old.used ≡ 64 }
+        ensures spent { (result ≡ Err PostFault.KeysSpent) ↔ (self.old.used ≡ 64) }
+        ensures large { (result ≡ Err PostFault.TooLarge) ↔ IsTooLongToSign self.old (message_data message) }
     {
-        sign_for_others(&mut self.signer, alloc, self.faults, self.me, message)
+        sign_message(&mut self.signer, alloc, self.me, message)
+    }
+
+    /// The output of a frame that was signed, for all other replicas. The error is want of memory.
+    pub fn post_frame(&self, alloc: Global, frame: &[u8]) -> Result<Output, NoMemory>
+        ensures sends { IfOk result (SendsToOthers self.now frame.now) }
+        ensures posts { IfOk result (PostsFrame self.now frame.now) }
+    {
+        let receivers = other_replicas(alloc, 3 * self.faults + 1, self.me)?;
+        let frame = Vec::from_slice(alloc, frame)?;
+        Ok(Output::Send(receivers, frame))
     }
 }

@@ -1,17 +1,20 @@
 //! Messages that a replica says, each with what makes it one that may be said.
 
-ghost use Rattle.std.specs.Prelude.{◌≡◌, ◌≤◌, false, IfOk, IsTrue};
+ghost use Rattle.std.specs.Prelude.{◌≡◌, ◌≤◌, true, false, IfOk, IsTrue};
 ghost use Rattle.tuple_codec.specs.OperationView.{outcome_of};
-ghost use Rattle.wire.specs.Messages.{checkpoint, commit, fetch, meta, page, pre_prepare, prepare};
-ghost use Rattle.wire.specs.Spelling.{IsBatch, IsMessage, has_children, is_signed, last_index};
-ghost use Rattle.wire.specs.Views.{message_data};
+ghost use Rattle.wire.specs.Messages.{checkpoint, commit, fetch, meta, new_view, page, pre_prepare, prepare, view_change};
+ghost use Rattle.wire.specs.Spelling.{IsBatch, IsMessage, IsNewView, IsViewChange, has_children, is_signed, last_index};
+ghost use Rattle.wire.specs.Views.{message_data, new_view_data, view_change_data};
 ghost use Rattle.posting.specs.Replies.{IsReply};
 
 use crate::bytes::{note_bytes, note_digests};
 use std::alloc::Global;
 use terms::{ClientId, Digest, Level, Mode, NoMemory, Number, Timestamp, View};
 use tuple_codec::Answer;
-use wire::{Batch, Checkpoint, Commit, Fetch, Message, Meta, Page, PrePrepare, Prepare, Reply};
+use wire::{
+    Batch, Checkpoint, Commit, Fetch, Message, Meta, NewView, Page, PrePrepare, Prepare, Reply,
+    ViewChange,
+};
 
 /// The pre-prepare of a batch of 1 to 16 requests.
 pub fn pre_prepare_message(view: View, number: Number, batch: Batch) -> Message
@@ -137,4 +140,26 @@ pub fn page_message(number: Number, index: u16, text: Vec<u8>) -> Message
         index,
         text,
     })
+}
+
+/// The view change of a replica: at most three checkpoints and at most 65,535 claims in either list, each list
+/// ascending.
+pub fn view_change_message(change: ViewChange) -> Message
+    requires { IsViewChange (view_change_data change) }
+    ensures says { message_data result ≡ view_change (view_change_data change) }
+    ensures may { IsMessage (message_data result) }
+    ensures signed { is_signed (message_data result) ≡ true }
+{
+    Message::ViewChange(change)
+}
+
+/// The new view of a primary: it carries the frames of 1 to 10 view changes, ascending by their senders, and at most 32
+/// batches.
+pub fn new_view_message(new: NewView) -> Message
+    requires { IsNewView (new_view_data new) }
+    ensures says { message_data result ≡ new_view (new_view_data new) }
+    ensures may { IsMessage (message_data result) }
+    ensures signed { is_signed (message_data result) ≡ true }
+{
+    Message::NewView(new)
 }

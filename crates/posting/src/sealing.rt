@@ -5,8 +5,8 @@ ghost use Rattle.wire.specs.Spelling.{IsMessage, is_signed};
 ghost use Rattle.wire.specs.Views.{body_data, message_data};
 ghost use Rattle.authenticator.specs.Giving.{Seals};
 ghost use Rattle.authenticator.specs.Sealing.{IsSealable};
-ghost use Rattle.posting.specs.Endpoint.{SealsFor, SealsForOne, SealsForOthers, numbers};
-ghost use Rattle.posting.specs.Frames.{IsTooLarge, SealsMessage, says};
+ghost use Rattle.posting.specs.Endpoint.{SealsFor, SealsForOne, SealsForOthers, numbers, says};
+ghost use Rattle.posting.specs.Frames.{IsTooLarge, SealsMessage};
 
 use crate::post_fault::PostFault;
 use crate::receivers::{only, other_replicas};

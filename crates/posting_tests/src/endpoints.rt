@@ -6,7 +6,7 @@ ghost use Rattle.wire.specs.Views.{message_data};
 
 use authenticator::{Ring, signing_seed};
 use events::Output;
-use posting::Endpoint;
+use posting::{Endpoint, view_change_message};
 use signing::{PublicKeys, Signer};
 use std::alloc::Global;
 use std::test::Fail;
@@ -65,7 +65,7 @@ pub fn view_change(alloc: Global) -> Message
     ensures said { IsMessage (message_data result) }
     ensures signed { is_signed (message_data result) ≡ true }
 {
-    Message::ViewChange(ViewChange {
+    view_change_message(ViewChange {
         view: View(1),
         low: Number(0),
         checkpoints: Vec::new(alloc),

@@ -1,6 +1,6 @@
 //! What the replicas hear of a prepare that replica 0 posts, and of its view change.
 
-use crate::endpoints::{DIGEST, frame_for_others, new_endpoint, sent, view_change};
+use crate::endpoints::{DIGEST, frame_for_others, new_endpoint, view_change};
 use posting::{Endpoint, prepare_message};
 use std::alloc::Global;
 use std::test::Fail;
@@ -89,8 +89,7 @@ fn hears_any(endpoint: &mut Endpoint, alloc: Global, bytes: &[u8]) -> Result<boo
 
 // The frame of a view change, signed by its sender's first key.
 fn signed_frame(sender: &mut Endpoint, alloc: Global) -> Result<Vec<u8>, Fail> {
-    let output = sender.post_signed(alloc, view_change(alloc))?;
-    Ok(sent(output).unwrap_or(Vec::new(alloc)))
+    Ok(sender.sign(alloc, view_change(alloc))?)
 }
 
 // Another replica hears it, and not where a byte of the body or of the signature is another one.

@@ -162,20 +162,23 @@ fn a_page_too_long(rt: HostRuntime) -> Result<(), Fail> {
     Ok(())
 }
 
-fn signed(endpoint: &mut Endpoint, alloc: Global) -> Result<Output, PostFault> {
-    endpoint.post_signed(alloc, view_change(alloc))
+fn signed(endpoint: &mut Endpoint, alloc: Global) -> Result<Vec<u8>, PostFault> {
+    endpoint.sign(alloc, view_change(alloc))
 }
 
-// By the first key, and then by the others until all 64 are spent.
+// By the first key, and then by the others until all 64 are spent. The first frame may go out at any time.
 #[test]
 fn each_signed_message_spends_a_key(rt: HostRuntime) -> Result<(), Fail> {
     let mut endpoint = new_endpoint(rt.alloc(), 0)?;
     let first = signed(&mut endpoint, rt.alloc())?;
-    assert!(rt; is_sent(&first, &OTHERS, VIEW_CHANGE));
+    let output = endpoint.post_frame(rt.alloc(), &first)?;
+    assert!(rt; is_sent(&output, &OTHERS, VIEW_CHANGE));
     for _ in 1..64 {
         let _next = signed(&mut endpoint, rt.alloc())?;
     }
     assert!(rt; signed(&mut endpoint, rt.alloc()).err() == Some(PostFault::KeysSpent));
+    let again = endpoint.post_frame(rt.alloc(), &first)?;
+    assert!(rt; is_sent(&again, &OTHERS, VIEW_CHANGE));
     Ok(())
 }
 

@@ -1,5 +1,5 @@
 -- A fetch is answered from the states that are kept.
-use Rattle.std.proofs.Common.{◌≡◌, ◌≢◌, ℕ, ◌≤◌, ◌⊎◌, inl, inr, List, [], ◌∷◌, Some, None, refl, sym, ap, ◌∙◌, subst}
+use Rattle.std.proofs.Common.{◌≡◌, ◌≢◌, ℕ, ◌≤◌, ◌⊎◌, inl, inr, List, [], ◌∷◌, Some, refl, sym, ap, ◌∙◌, subst}
 use Rattle.terms.specs.declared.parties.Party.TheVariants as parties
 use Rattle.terms.specs.declared.parties.ReplicaId.{ReplicaId}
 use Rattle.terms.specs.declared.state.Level.{Level}
@@ -18,9 +18,10 @@ use Rattle.protocol.specs.System.Configuration.{Configuration, members}
 use Rattle.protocol.specs.System.Frames.{IsPosted}
 use Rattle.protocol.specs.System.Trace.{Entry, Has}
 use Rattle.protocol.specs.System.Trace.Entry.{Got, Sent}
-use Rattle.protocol.specs.Replica.Certificates.{taken}
 use Rattle.replica_histories.specs.Desk.{Snapshot}
+use Rattle.replica_histories.specs.Changes.{IsNoNews}
 use Rattle.replica_histories.specs.Events.{IsTaken}
+use Rattle.replica_histories.proofs.ChangesKept.{sent_keep}
 use Rattle.replica_histories.specs.TransfersAnswers.{AnswersFetches, answer_by}
 use Rattle.replica_histories.proofs.Answering.{parts_fit, kept_fetches_count, parts_suffice, other_numbers_owe_none}
 use Rattle.replica_histories.proofs.TransfersAnswering.{posted_to_one}
@@ -33,7 +34,7 @@ use Rattle.replica.specs.Fits.{Runs, me_of}
 use Rattle.replica.proofs.Beginning.{rests}
 use Rattle.replica.proofs.Beside.{begins, heard_so}
 use Rattle.replica.proofs.Given.{given_one}
-use Rattle.replica.proofs.Parties.{same_log, same_party}
+use Rattle.replica.proofs.Parties.{one_self, same_log}
 use Rattle.replica.proofs.Staying.{GivesNoNumber, fits_on, sent_beside}
 
 -- a fetch that is heard is of a place
@@ -48,6 +49,12 @@ no_number : (pages : List (List ℕ)) (k index : ℕ) (level : Level) → GivesN
 no_number pages k index levels.Root = tt
 no_number pages k index levels.Inner = tt
 no_number pages k index levels.Page = tt
+
+-- nor anything new of changes
+no_news : (c : Configuration) (me : ℕ) (past : List Entry) (pages : List (List ℕ)) (k index : ℕ) (level : Level) → IsNoNews c me past (answer_by pages k level index)
+no_news c me past pages k index levels.Root = tt
+no_news c me past pages k index levels.Inner = tt
+no_news c me past pages k index levels.Page = tt
 
 none_of : (k : ℕ) (xs : List Snapshot) → Each (λ x. x.number ≢ k) xs → Has (λ x. x.number ≡ k) xs → ⊥
 none_of k [] each has = absurd has
@@ -67,12 +74,12 @@ module _ (r : ReplicaData) (one : AreOne r.orderer r.desk) (sender : ReplicaId) 
   abbrev body : Body
   body = record { sender = sender.0; message = FetchMessage k fetch.level fetch.index }
 
-  module _ (c : Configuration) (past : List Entry) (runs : Runs c r past) (known : members c ≡ r.desk.membership) (free : taken c past (Got (me_of r) bytes) ≡ None) where
-    begun : FitsEvent c (me_of r) (event_of c r past runs bytes) r.orderer runs.desk r.desk.waiting.numbered [] []
-    begun = begins r one c past runs bytes body known hears free (record { log = tt; call = refl; asks = λ st. refl })
+  module _ (c : Configuration) (past : List Entry) (runs : Runs c r past) (known : members c ≡ r.desk.membership) where
+    begun : FitsEvent c (me_of r) (event_of c r past runs bytes) r.orderer runs.desk r.desk.waiting [] []
+    begun = begins r one c past runs bytes body known hears (record { log = tt; call = refl; asks = λ st. refl; views = refl; changes = tt })
 
     abbrev Left : List Output → Type 0
-    Left os = FitsEvent c (me_of r) (event_of c r past runs bytes) r.orderer runs.desk r.desk.waiting.numbered [] os
+    Left os = FitsEvent c (me_of r) (event_of c r past runs bytes) r.orderer runs.desk r.desk.waiting [] os
         × AnswersFetches c (me_of r) past (Got (me_of r) bytes) (given (me_of r) os) runs.holds.of_desk.point
         × ((os ≡ []) ⊎ IsTaken c (me_of r) (event_of c r past runs bytes))
 
@@ -90,10 +97,11 @@ module _ (r : ReplicaData) (one : AreOne r.orderer r.desk) (sender : ReplicaId) 
     gives : (pages : List (List ℕ)) (output : Output) → HasKept r.desk k pages → SealsForOne r.desk.membership r.desk.me (answer_by pages k fetch.level fetch.index) (parties.Replica sender) output
         → Left (output ∷ [])
     gives pages output kept seals = (
-      fits_on c (me_of r) (event_of c r past runs bytes) r.orderer r.orderer runs.desk r.desk.waiting.numbered [] [] [] (output ∷ []) (Sent (me_of r) seals.bytes)
+      fits_on c (me_of r) (event_of c r past runs bytes) r.orderer r.orderer runs.desk r.desk.waiting [] [] [] (output ∷ []) (Sent (me_of r) seals.bytes)
           (given_one (me_of r) [] (output ∷ []) output refl ∙ ap (λ e. e ∷ []) sends)
           (sent_beside c (me_of r) (part_of pages) (sender.0 ∷ []) seals.bytes (Got (me_of r) bytes ∷ past) (no_number pages k fetch.index fetch.level) posted)
-          (same_log r.orderer.log) refl refl begun
+          (sent_keep c (me_of r) (Got (me_of r) bytes ∷ past) (part_of pages) seals.bytes posted.says (no_news c (me_of r) (Got (me_of r) bytes ∷ past) pages k fetch.index fetch.level))
+          (same_log r.orderer.log) refl refl refl refl begun
           (parts_fit c (me_of r) (event_of c r past runs bytes) runs.desk r.orderer.log [] [] (record { number = k; pages = pages }) sender.0 fetch.index fetch.level seals.bytes has
           (inl (heard_so r one c past runs bytes body known hears)) posted begun.fits),
       subst (λ (es : List Entry). AnswersFetches c (me_of r) past (Got (me_of r) bytes) es runs.holds.of_desk.point) (sym (given_one (me_of r) [] (output ∷ []) output refl ∙ ap (λ e. e ∷ []) sends))
@@ -122,12 +130,12 @@ module _ (r : ReplicaData) (one : AreOne r.orderer r.desk) (sender : ReplicaId) 
   -- What is kept is given to whoever asks, and nothing else is left to do.
   pub answers : GivesPart r.desk sender fetch [] outs → TakesBytes bytes r touched.Nothing r outs
   answers part = record {
-    party = same_party r;
-    begins = λ c past runs known free. let l = left c past runs known free part in (
+    party = one_self r;
+    begins = λ c past runs known. let l = left c past runs known part in (
       record {
         desk = runs.desk;
         is = runs.is_desk;
-        fits = subst (λ (m : ℕ). FitsEvent c m (event_of c r past runs bytes) r.orderer runs.desk r.desk.waiting.numbered [] outs) (sym one.0) l.0;
+        fits = subst (λ (m : ℕ). FitsEvent c m (event_of c r past runs bytes) r.orderer runs.desk r.desk.waiting [] outs) (sym one.0) l.0;
       },
       (rests c r past runs, runs.all, l.1, l.2),
     );

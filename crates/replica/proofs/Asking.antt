@@ -1,5 +1,5 @@
 -- The fetch of the place that an open transfer asks for.
-use Rattle.std.proofs.Common.{◌≡◌, ℕ, List, ◌∷◌, Some, None, sym, subst}
+use Rattle.std.proofs.Common.{◌≡◌, ℕ, List, ◌∷◌, Some, None, refl, sym, subst}
 use Rattle.wire.specs.Messages.{MessageData as Message}
 use Rattle.events.specs.declared.output.Output.{Output}
 use Rattle.state_transfer.specs.Transfer.{TransferData}
@@ -11,16 +11,19 @@ use Rattle.replica_histories.specs.Desk.{Desk}
 use Rattle.replica_histories.specs.Events.{Start, behind}
 use Rattle.replica_histories.specs.Transfers.{MayAsk, FitsOpen}
 use Rattle.replica_histories.specs.Events as events
+use Rattle.replica_histories.proofs.ChangesKept.{sent_keep}
 use Rattle.replica_histories.proofs.Fetching.{fetches_fit, due_fetches_fit}
 use Rattle.replica_histories.proofs.Transfers.{open_may_ask}
 use Rattle.replica.specs.State.{OrdererData}
-use Rattle.replica.specs.Desks.{given, FitsCount, WasSaid, FitsEvent}
+use Rattle.replica.specs.Waiting.{WaitingData}
+use Rattle.replica.specs.Desks.{given, FitsEvent}
 use Rattle.replica.specs.Saying.{Says}
 use Rattle.replica.specs.Fetching.{fetch_of}
-use Rattle.replica.proofs.Staying.{numbers_beside, said_on, sent_beside}
+use Rattle.replica.proofs.Parties.{same_log}
+use Rattle.replica.proofs.Staying.{changes_still, fits_behind, numbers_beside, sent_beside}
 use Rattle.replica.proofs.Voting.{SaidIn, said_in}
 
-module _ (c : Configuration) (s : Start) (o : OrdererData) (desk : Desk) (count : ℕ) (before after : List Output) (t : TransferData) (known : members c ≡ o.endpoint.membership)
+module _ (c : Configuration) (s : Start) (o : OrdererData) (desk : Desk) (w : WaitingData) (before after : List Output) (t : TransferData) (known : members c ≡ o.endpoint.membership)
     (says : Says o (fetch_of t) before after) where
   abbrev pub me : ℕ
   me = o.endpoint.me
@@ -35,24 +38,22 @@ module _ (c : Configuration) (s : Start) (o : OrdererData) (desk : Desk) (count 
   with_it = record desk { transfer = Some t }
 
   -- the desk has it behind its fetch
-  behind_it : (due rest : List Message) → FitsEvent c me s o desk count due before → events.Fits c me s with_it o.log rest (Sent me said.bytes ∷ given me before)
-      → FitsEvent c me s o with_it count rest after
-  behind_it due rest f on = record {
-    fits = subst (λ (es : List Entry). events.Fits c me s with_it o.log rest es) (sym said.is) on;
-    numbers = subst (λ (es : List Entry). FitsCount c me o count with_it (behind s es)) (sym said.is)
-        (numbers_beside c me count o desk past (Sent me said.bytes) f.fits.of_log.faults f.fits.of_log.own (sent_beside c me (fetch_of t) (others c me) said.bytes past tt said.posted) f.numbers);
-    said = subst (λ (es : List Entry). WasSaid me o.last_checkpoint (behind s es)) (sym said.is) (said_on me o.last_checkpoint past (Sent me said.bytes) f.said);
-  }
+  behind_it : (due rest : List Message) → FitsEvent c me s o desk w due before → events.Fits c me s with_it o.log rest (Sent me said.bytes ∷ given me before)
+      → FitsEvent c me s o with_it w rest after
+  behind_it due rest f on =
+      fits_behind c me s o o desk with_it w w due rest before after (Sent me said.bytes) said.is refl f on
+      (numbers_beside c me w o desk past (Sent me said.bytes) f.fits.of_log.faults f.fits.of_log.own (sent_beside c me (fetch_of t) (others c me) said.bytes past tt said.posted) f.numbers)
+      (changes_still c me s o o desk with_it due rest (given me before) (Sent me said.bytes) f.fits on (sent_keep c me past (fetch_of t) said.bytes said.posted.says tt) (same_log o.log) refl refl f.changes)
 
-  pub asks : (due : List Message) → MayAsk c me t desk.state.number past → FitsEvent c me s o desk count due before → FitsEvent c me s o with_it count due after
+  pub asks : (due : List Message) → MayAsk c me t desk.state.number past → FitsEvent c me s o desk w due before → FitsEvent c me s o with_it w due after
   asks due may f = behind_it due due f (fetches_fit c me s desk o.log due (given me before) t said.bytes may said.posted f.fits)
 
   -- it was due
-  pub asks_due : (rest : List Message) → MayAsk c me t desk.state.number past → FitsEvent c me s o desk count (fetch_of t ∷ rest) before → FitsEvent c me s o with_it count rest after
+  pub asks_due : (rest : List Message) → MayAsk c me t desk.state.number past → FitsEvent c me s o desk w (fetch_of t ∷ rest) before → FitsEvent c me s o with_it w rest after
   asks_due rest may f = behind_it (fetch_of t ∷ rest) rest f (due_fetches_fit c me s desk o.log rest (given me before) t said.bytes may said.posted f.fits)
 
   -- what is open asks again
-  pub asks_again : (due : List Message) → desk.transfer ≡ Some t → FitsEvent c me s o desk count due before → FitsEvent c me s o desk count due after
+  pub asks_again : (due : List Message) → desk.transfer ≡ Some t → FitsEvent c me s o desk w due before → FitsEvent c me s o desk w due after
   asks_again due there f =
-      subst (λ x. FitsEvent c me s o (record desk { transfer = x }) count due after) (sym there)
+      subst (λ x. FitsEvent c me s o (record desk { transfer = x }) w due after) (sym there)
       (asks due (open_may_ask c me t None desk.state.number past (subst (λ x. FitsOpen c me x desk.state.number past) there f.fits.of_desk.opened)) f)

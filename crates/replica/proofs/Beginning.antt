@@ -1,6 +1,7 @@
 -- An event that begins with bytes: what is dropped, and what the log takes.
 use Rattle.std.proofs.Common.{◌≡◌, ◌≢◌, ℕ, suc, ◌+◌, ◌*◌, ◌<◌, inl, inr, Bool, true, false, not, cond, ◌&&◌, ◌==◌, List, [], ◌∷◌, Option, Some, None, refl, sym, ap, ◌∙◌, subst, nat_lt, nat_le, ◌-◌, arith, eqb-true, ◌⊎◌}
-use Rattle.std.specs.Prelude.{is_none}
+use Rattle.std.specs.Prelude.{is_none, option_map}
+use Rattle.std.specs.Bool.{then_some}
 use Rattle.std.specs.Option.{option_and_then}
 use Rattle.std.proofs.lemmas.Bool.{and_parts, leb-true, ltb-true}
 use Rattle.quorum.specs.Votes.{or_else}
@@ -11,6 +12,8 @@ use Rattle.wire.specs.declared.messages.Prepare.{Prepare as WirePrepare}
 use Rattle.wire.specs.declared.messages.Commit.{Commit as WireCommit}
 use Rattle.wire.specs.declared.messages.Checkpoint.{Checkpoint as WireCheckpoint}
 use Rattle.wire.specs.declared.messages.Fetch.{Fetch as WireFetch}
+use Rattle.wire.specs.declared.messages.ViewChange.{ViewChange as WireViewChange}
+use Rattle.wire.specs.declared.messages.NewView.{NewView as WireNewView}
 use Rattle.wire.specs.Words.{requests_of}
 use Rattle.wire.specs.declared.messages.Request.{Request as WireRequest}
 use Rattle.wire.specs.declared.messages.Message.{Message as WireMessage}
@@ -20,7 +23,7 @@ use Rattle.terms.specs.declared.order.Mode.{Mode}
 use Rattle.terms.specs.declared.order.Mode.TheVariants as modes
 use Rattle.tuple_codec.specs.Operations.{Operation}
 use Rattle.tuple_codec.specs.OperationView.{operation_of}
-use Rattle.wire.specs.Messages.{BodyData as Body, request as Request, pre_prepare as PrePrepare, prepare as Prepare, commit as Commit}
+use Rattle.wire.specs.Messages.{BodyData as Body, NewViewData, request as Request, pre_prepare as PrePrepare, prepare as Prepare, commit as Commit}
 use Rattle.signing.specs.Heard.{heard}
 use Rattle.signing.proofs.Heard.{heard_was_opened}
 use Rattle.ordering.specs.Log as logs
@@ -36,10 +39,15 @@ use Rattle.posting.specs.Endpoint.{are_heard}
 use Rattle.protocol.specs.System.Configuration.{Configuration, members}
 use Rattle.protocol.specs.System.Trace.{Entry}
 use Rattle.protocol.specs.System.Trace.Entry.{Got}
-use Rattle.protocol.specs.Replica.Certificates.{taken, are_genuine}
+use Rattle.protocol.specs.Replica.Certificates.{taken, are_genuine, brought, new_view_from, is_later, view, target}
 use Rattle.protocol.specs.Replica.State.{State, Call, call_in, kept_of}
 use Rattle.protocol.specs.System.Frames.{same_mode}
+use Rattle.view_change.specs.ClaimsView.{ClaimsData}
+use Rattle.replica_histories.specs.Events as histories
 use Rattle.replica_histories.specs.Events.{IsTaken}
+use Rattle.replica_histories.specs.Changes.{CutsClaims, FitsChanges, Passes, KeepsChanges, IsNoBatch, IsNoChange}
+use Rattle.replica_histories.proofs.ChangesPassing.{inputs_enter, changes_stay, claims_are_above, batches_are_claimed}
+use Rattle.replica_histories.proofs.ChangesKept.{got_keep, heard_keep, others_bring_none}
 use Rattle.protocol.specs.Replica.Owed.{place_from}
 use Rattle.replica_histories.proofs.TransfersAnswering.{others_owe_none}
 use Rattle.replica_histories.specs.Inputs.{asked, asked_in, again_for, IsBesideLog}
@@ -49,12 +57,12 @@ use Rattle.replica_histories.proofs.Resting.{held_are_settled}
 use Rattle.replica_histories.proofs.Counting.{batches_count, batches_drop, prepares_count, prepares_drop, commits_count, commits_drop, others_drop}
 use Rattle.replica.specs.declared.taking.Touched.TheVariants as touched
 use Rattle.replica.specs.State.{OrdererData, ReplicaData, AreOne}
-use Rattle.replica.specs.Desks.{Stands, FitsEvent}
+use Rattle.replica.specs.Desks.{Stands, FitsEvent, changes_of}
 use Rattle.replica.specs.Going.{IsSameLog, IsVotedBut, Rests}
 use Rattle.replica.specs.Taking.{TakesBatch, TakesPrepare, TakesCommit}
 use Rattle.replica.specs.Fits.{Runs, me_of}
 use Rattle.replica.specs.Entering.{event_of, TakesBytes, TakesMessage}
-use Rattle.replica.proofs.Parties.{same_log, same_party}
+use Rattle.replica.proofs.Parties.{same_log, one_self}
 use Rattle.replica.proofs.Staying.{numbers_alike, numbers_beside, said_on, same_rows}
 use Rattle.replica.proofs.Rows.{due_prepare_elsewhere, due_commit_elsewhere}
 
@@ -70,11 +78,29 @@ rests c r past runs =
 
 -- ---- what is heard
 
--- it is no ordered request, and asks for no part of a state
+-- it is no ordered request, no view change and no new view, and asks for no part of a state
 pub record IsNoCall (c : Configuration) (said : Option Body) : Type 0 where
   pub call : option_and_then (call_in c) said ≡ None
   pub asks : (st : State) → asked st said ≡ []
   pub parts : option_and_then place_from said ≡ None
+  pub views : option_and_then (new_view_from c) said ≡ None
+  pub changes : IsNoChange said
+
+-- what brings no new view takes none
+pub none_taken : (c : Configuration) (past : List Entry) (e : Entry) → option_and_then (new_view_from c) (brought c e) ≡ None → taken c past e ≡ None
+none_taken c past e h = ap (option_and_then (λ (new : NewViewData). then_some (is_later (view c past) (target past) new) new)) h
+
+-- With this log and these claims what is held for changes fits behind the bytes.
+abbrev pub ChangesFit : (r : ReplicaData) (c : Configuration) (past : List Entry) → List ℕ → LogData → ClaimsData → Type 0
+ChangesFit r c past bytes after claims = Passes c (me_of r) past (Got (me_of r) bytes) r.orderer.log after
+    → FitsChanges c (me_of r) after (record (changes_of r.orderer) { claims = claims }) (Got (me_of r) bytes ∷ past)
+
+-- The log takes the bytes, which count.
+pub record TakesOne (r : ReplicaData) (c : Configuration) (past : List Entry) (runs : Runs c r past) (bytes : List ℕ) (after : LogData) (claims : ClaimsData) : Type 0 where
+  pub takes : Takes c (me_of r) (heard (members c) (me_of r) bytes) r.orderer.log after
+  pub none : IsNoCall c (heard (members c) (me_of r) bytes)
+  pub counts : IsTaken c (me_of r) (event_of c r past runs bytes)
+  pub changes : ChangesFit r c past bytes after claims
 
 module _ (r : ReplicaData) (one : AreOne r.orderer r.desk) where
   -- the desk hears what the orderer does
@@ -82,31 +108,47 @@ module _ (r : ReplicaData) (one : AreOne r.orderer r.desk) where
       → heard (members c) (me_of r) bytes ≡ Some body
   heard_by c bytes body known h = ap (λ m. heard m (me_of r) bytes) known ∙ ap (λ (x : ℕ). heard r.desk.membership x bytes) (sym one.0) ∙ h
 
+  -- So they do where the bytes bring nothing about, and the low mark stays.
+  pub changes_kept : (c : Configuration) (past : List Entry) (runs : Runs c r past) (bytes : List ℕ) (after : LogData) → IsSameLog r.orderer.log after → after.low ≡ r.orderer.log.low
+      → (Passes c (me_of r) past (Got (me_of r) bytes) r.orderer.log after → KeepsChanges c (me_of r) past (Got (me_of r) bytes)) → ChangesFit r c past bytes after r.orderer.claims
+  changes_kept c past runs bytes after same low keeps passes =
+      changes_stay c (me_of r) past (Got (me_of r) bytes) r.orderer.log after (changes_of r.orderer) r.orderer.claims passes (record { view = same.view; active = same.active }) (keeps passes)
+      (subst (λ (n : ℕ). CutsClaims n r.orderer.claims r.orderer.claims) (sym low)
+      (claims_are_above c (me_of r) r.orderer.log past r.orderer.claims runs.holds.of_log.fits runs.changes.claims)) runs.changes
+
   -- bytes that are no ordered request, of which the log may take something
-  pub begins_with : (c : Configuration) (past : List Entry) (runs : Runs c r past) (bytes : List ℕ) (after : LogData) → taken c past (Got (me_of r) bytes) ≡ None
+  pub begins_with : (c : Configuration) (past : List Entry) (runs : Runs c r past) (bytes : List ℕ) (after : LogData) (claims : ClaimsData)
       → IsSameLog r.orderer.log after → Takes c (me_of r) (heard (members c) (me_of r) bytes) r.orderer.log after → IsNoCall c (heard (members c) (me_of r) bytes)
-      → Stands c (event_of c r past runs bytes) (record r.orderer { log = after }) r.desk [] []
-  begins_with c past runs bytes after free same takes none = record {
+      → ChangesFit r c past bytes after claims
+      → Stands c (event_of c r past runs bytes) (record r.orderer { log = after; claims = claims }) r.desk [] []
+  begins_with c past runs bytes after claims same takes none changes = record {
     desk = runs.desk;
     is = runs.is_desk;
-    fits = subst (λ (m : ℕ). FitsEvent c m (event_of c r past runs bytes) (record r.orderer { log = after }) runs.desk r.desk.waiting.numbered [] []) (sym one.0) event;
+    fits = subst (λ (m : ℕ). FitsEvent c m (event_of c r past runs bytes) (record r.orderer { log = after; claims = claims }) runs.desk r.desk.waiting [] []) (sym one.0) event;
   }
     where
-      event : FitsEvent c (me_of r) (event_of c r past runs bytes) (record r.orderer { log = after }) runs.desk r.desk.waiting.numbered [] []
+      free : taken c past (Got (me_of r) bytes) ≡ None
+      free = none_taken c past (Got (me_of r) bytes) none.views
+
+      enters : histories.Fits c (me_of r) (event_of c r past runs bytes) runs.desk after [] []
+      enters = inputs_fit c (me_of r) runs.desk runs.desk r.orderer.log after [] past bytes runs.holds free (record {
+        takes = takes;
+        state = refl;
+        snapshots = refl;
+        waiting = rw none.call refl;
+        transfer = refl;
+        frames = λ frame h. inl h;
+        due_is = sym (none.asks runs.desk.state);
+      })
+
+      event : FitsEvent c (me_of r) (event_of c r past runs bytes) (record r.orderer { log = after; claims = claims }) runs.desk r.desk.waiting [] []
       event = record {
-        fits = inputs_fit c (me_of r) runs.desk runs.desk r.orderer.log after [] past bytes runs.holds free (record {
-          takes = takes;
-          state = refl;
-          snapshots = refl;
-          waiting = rw none.call refl;
-          transfer = refl;
-          frames = λ frame h. inl h;
-          due_is = sym (none.asks runs.desk.state);
-        });
-        numbers = numbers_alike c (me_of r) r.desk.waiting.numbered r.orderer (record r.orderer { log = after }) runs.desk (Got (me_of r) bytes ∷ past) same refl
-            (numbers_beside c (me_of r) r.desk.waiting.numbered r.orderer runs.desk past (Got (me_of r) bytes) runs.holds.of_log.fits.faults runs.holds.of_log.fits.own
+        fits = enters;
+        numbers = numbers_alike c (me_of r) r.desk.waiting r.orderer (record r.orderer { log = after; claims = claims }) runs.desk (Got (me_of r) bytes ∷ past) same refl
+            (numbers_beside c (me_of r) r.desk.waiting r.orderer runs.desk past (Got (me_of r) bytes) runs.holds.of_log.fits.faults runs.holds.of_log.fits.own
             (record { here = refl; none = free; sends = refl }) runs.numbers);
         said = said_on (me_of r) r.orderer.last_checkpoint past (Got (me_of r) bytes) runs.said;
+        changes = changes (inputs_enter c (me_of r) runs.desk runs.desk r.orderer.log after [] past (Got (me_of r) bytes) runs.holds enters);
       }
 
   -- What is dropped changes nothing.
@@ -115,9 +157,9 @@ module _ (r : ReplicaData) (one : AreOne r.orderer r.desk) where
       → Takes c (me_of r) (heard (members c) (me_of r) bytes) r.orderer.log r.orderer.log × IsNoCall c (heard (members c) (me_of r) bytes))
       → TakesBytes bytes r touched.Nothing r []
   drops bytes none = record {
-    party = same_party r;
-    begins = λ c past runs known free. let n = none c past runs known in (
-      begins_with c past runs bytes r.orderer.log free (same_log r.orderer.log) n.0 n.1,
+    party = one_self r;
+    begins = λ c past runs known. let n = none c past runs known in (
+      begins_with c past runs bytes r.orderer.log r.orderer.claims (same_log r.orderer.log) n.0 n.1 (kept c past runs n.1),
       (
         rests c r past runs,
         runs.all,
@@ -126,18 +168,21 @@ module _ (r : ReplicaData) (one : AreOne r.orderer r.desk) where
       ),
     );
   }
+    where
+      kept : (c : Configuration) (past : List Entry) (runs : Runs c r past) → IsNoCall c (heard (members c) (me_of r) bytes) → ChangesFit r c past bytes r.orderer.log r.orderer.claims
+      kept c past runs silent = changes_kept c past runs bytes r.orderer.log (same_log r.orderer.log) refl
+          (λ passes. got_keep c (me_of r) past bytes r.orderer.log r.orderer.log passes (record { view = refl; active = refl }) (none_taken c past (Got (me_of r) bytes) silent.views)
+          (λ i within. refl) (λ s other. others_bring_none c (me_of r) s past bytes silent.changes other))
 
   -- What the log takes touches one number.
-  pub takes_row : (bytes : List ℕ) (number : Number) (after : LogData)
+  pub takes_row : (bytes : List ℕ) (number : Number) (after : LogData) (claims : ClaimsData)
       → IsSameLog r.orderer.log after → ((i : ℕ) → i ≢ number.0 → (due_prepare after i ≡ due_prepare r.orderer.log i) × (due_commit after i ≡ due_commit r.orderer.log i))
-      → ((c : Configuration) (past : List Entry) (runs : Runs c r past) → members c ≡ r.desk.membership
-      → Takes c (me_of r) (heard (members c) (me_of r) bytes) r.orderer.log after × IsNoCall c (heard (members c) (me_of r) bytes)
-      × IsTaken c (me_of r) (event_of c r past runs bytes))
-      → TakesBytes bytes r (touched.Row number) (record r { orderer = record r.orderer { log = after } }) []
-  takes_row bytes number after same others takes = record {
-    party = record { orderer = record { endpoint = refl; log = same }; me = refl; membership = refl; stopped = refl };
-    begins = λ c past runs known free. let t = takes c past runs known in
-        (begins_with c past runs bytes after free same t.0 t.1, (voted c past runs, (t.2, t.1.parts)));
+      → ((c : Configuration) (past : List Entry) (runs : Runs c r past) → members c ≡ r.desk.membership → TakesOne r c past runs bytes after claims)
+      → TakesBytes bytes r (touched.Row number) (record r { orderer = record r.orderer { log = after; claims = claims } }) []
+  takes_row bytes number after claims same others takes = record {
+    party = record { endpoint = refl; me = refl; membership = refl; stopped = refl };
+    begins = λ c past runs known. let t = takes c past runs known in
+        (begins_with c past runs bytes after claims same t.takes t.none t.changes, (voted c past runs, (t.counts, t.none.parts)));
   }
     where
       voted : (c : Configuration) (past : List Entry) → Runs c r past → IsVotedBut number.0 after
@@ -169,11 +214,32 @@ fitting log may_send v i h = go may_send (logs.is_active_in log v) (is_in_marks 
 abbrev vote_by : ReplicaId → List ℕ → Vote
 vote_by sender digest = record { sender = sender; digest = digest }
 
+-- a vote is no call, and brings nothing about
+none_of : (r : ReplicaData) (bytes : List ℕ) (c : Configuration) (body : Body) → heard (members c) (me_of r) bytes ≡ Some body → IsNoCall c (Some body) → IsNoCall c (heard (members c) (me_of r) bytes)
+none_of r bytes c body hears none = subst (IsNoCall c) (sym hears) none
+
+prepare_none : (r : ReplicaData) (bytes : List ℕ) (c : Configuration) (s v i : ℕ) (digest : List ℕ) → heard (members c) (me_of r) bytes ≡ Some (record { sender = s; message = Prepare v i digest })
+    → IsNoCall c (heard (members c) (me_of r) bytes)
+prepare_none r bytes c s v i digest hears = none_of r bytes c _ hears (record { call = refl; asks = λ st. refl; parts = refl; views = refl; changes = tt })
+
+commit_none : (r : ReplicaData) (bytes : List ℕ) (c : Configuration) (s v i : ℕ) (digest : List ℕ) → heard (members c) (me_of r) bytes ≡ Some (record { sender = s; message = Commit v i digest })
+    → IsNoCall c (heard (members c) (me_of r) bytes)
+commit_none r bytes c s v i digest hears = none_of r bytes c _ hears (record { call = refl; asks = λ st. refl; parts = refl; views = refl; changes = tt })
+
+batch_none : (r : ReplicaData) (bytes : List ℕ) (c : Configuration) (s v i : ℕ) (batch : List ℕ) → heard (members c) (me_of r) bytes ≡ Some (record { sender = s; message = PrePrepare v i batch })
+    → IsNoCall c (heard (members c) (me_of r) bytes)
+batch_none r bytes c s v i batch hears = none_of r bytes c _ hears (record { call = refl; asks = λ st. refl; parts = refl; views = refl; changes = tt })
+
+votes_keep : (r : ReplicaData) (bytes : List ℕ) (c : Configuration) (past : List Entry) → IsNoCall c (heard (members c) (me_of r) bytes) → IsNoBatch (heard (members c) (me_of r) bytes)
+    → KeepsChanges c (me_of r) past (Got (me_of r) bytes)
+votes_keep r bytes c past none no_batch =
+    heard_keep c (me_of r) past bytes (none_taken c past (Got (me_of r) bytes) none.views) no_batch (λ s other. others_bring_none c (me_of r) s past bytes none.changes other)
+
 pub prepare_taken : (r : ReplicaData) (sender : ReplicaId) (p : WirePrepare) (new : OrdererData) → AreOne r.orderer r.desk → TakesPrepare r.orderer sender p new true
     → TakesMessage sender (Prepare p.view.0 p.number.0 p.digest) r (touched.Row p.number) (record r { orderer = new }) []
 prepare_taken r sender p new one t bytes h =
     subst (λ (o : OrdererData). TakesBytes bytes r (touched.Row p.number) (record r { orderer = o }) []) (sym t.1)
-    (takes_row r one bytes p.number (with_prepare r.orderer.log p.number.0 vote) (same_rows r.orderer.log (with_prepare r.orderer.log p.number.0 vote).rows)
+    (takes_row r one bytes p.number (with_prepare r.orderer.log p.number.0 vote) r.orderer.claims (same_rows r.orderer.log (with_prepare r.orderer.log p.number.0 vote).rows)
     (λ i ne. (due_prepare_elsewhere r.orderer.log i p.number.0 _ inside ne, due_commit_elsewhere r.orderer.log i p.number.0 _ inside ne)) takes)
   where
     vote : Vote
@@ -183,21 +249,22 @@ prepare_taken r sender p new one t bytes h =
     inside = (fitting r.orderer.log _ p.view.0 p.number.0 (no_fault _ (fault_beside (logs.prepare_of r.orderer.log p.number.0 sender.0) p.digest) t.0)).within
 
     takes : (c : Configuration) (past : List Entry) (runs : Runs c r past) → members c ≡ r.desk.membership
-        → Takes c (me_of r) (heard (members c) (me_of r) bytes) r.orderer.log (with_prepare r.orderer.log p.number.0 vote) × IsNoCall c (heard (members c) (me_of r) bytes)
-        × IsTaken c (me_of r) (event_of c r past runs bytes)
+        → TakesOne r c past runs bytes (with_prepare r.orderer.log p.number.0 vote) r.orderer.claims
     takes c past runs known =
         let hears = heard_by r one c bytes _ known h in
-        let counts = prepares_count c (me_of r) r.orderer.log past runs.holds.of_desk.point sender.0 p.view.0 p.number.0 p.digest bytes vote runs.holds.of_log.fits hears t.0 refl refl in (
-          counts.1,
-          record { call = rw hears refl; asks = λ st. rw hears refl; parts = rw hears refl },
-          (record { sender = sender.0; message = Prepare p.view.0 p.number.0 p.digest }, hears, counts.0),
-        )
+        let counts = prepares_count c (me_of r) r.orderer.log past runs.holds.of_desk.point sender.0 p.view.0 p.number.0 p.digest bytes vote runs.holds.of_log.fits hears t.0 refl refl in record {
+          takes = counts.1;
+          none = prepare_none r bytes c sender.0 p.view.0 p.number.0 p.digest hears;
+          counts = (record { sender = sender.0; message = Prepare p.view.0 p.number.0 p.digest }, hears, counts.0);
+          changes = changes_kept r one c past runs bytes (with_prepare r.orderer.log p.number.0 vote) (same_rows r.orderer.log (with_prepare r.orderer.log p.number.0 vote).rows) refl
+              (λ passes. votes_keep r bytes c past (prepare_none r bytes c sender.0 p.view.0 p.number.0 p.digest hears) (rw hears tt));
+        }
 
 pub commit_taken : (r : ReplicaData) (sender : ReplicaId) (p : WireCommit) (new : OrdererData) → AreOne r.orderer r.desk → TakesCommit r.orderer sender p new true
     → TakesMessage sender (Commit p.view.0 p.number.0 p.digest) r (touched.Row p.number) (record r { orderer = new }) []
 commit_taken r sender p new one t bytes h =
     subst (λ (o : OrdererData). TakesBytes bytes r (touched.Row p.number) (record r { orderer = o }) []) (sym t.1)
-    (takes_row r one bytes p.number (with_commit r.orderer.log p.number.0 vote) (same_rows r.orderer.log (with_commit r.orderer.log p.number.0 vote).rows)
+    (takes_row r one bytes p.number (with_commit r.orderer.log p.number.0 vote) r.orderer.claims (same_rows r.orderer.log (with_commit r.orderer.log p.number.0 vote).rows)
     (λ i ne. (due_prepare_elsewhere r.orderer.log i p.number.0 _ inside ne, due_commit_elsewhere r.orderer.log i p.number.0 _ inside ne)) takes)
   where
     vote : Vote
@@ -207,15 +274,16 @@ commit_taken r sender p new one t bytes h =
     inside = (fitting r.orderer.log _ p.view.0 p.number.0 (no_fault _ (fault_beside (logs.commit_of r.orderer.log p.number.0 sender.0) p.digest) t.0)).within
 
     takes : (c : Configuration) (past : List Entry) (runs : Runs c r past) → members c ≡ r.desk.membership
-        → Takes c (me_of r) (heard (members c) (me_of r) bytes) r.orderer.log (with_commit r.orderer.log p.number.0 vote) × IsNoCall c (heard (members c) (me_of r) bytes)
-        × IsTaken c (me_of r) (event_of c r past runs bytes)
+        → TakesOne r c past runs bytes (with_commit r.orderer.log p.number.0 vote) r.orderer.claims
     takes c past runs known =
         let hears = heard_by r one c bytes _ known h in
-        let counts = commits_count c (me_of r) r.orderer.log past runs.holds.of_desk.point sender.0 p.view.0 p.number.0 p.digest bytes vote runs.holds.of_log.fits hears t.0 refl refl in (
-          counts.1,
-          record { call = rw hears refl; asks = λ st. rw hears refl; parts = rw hears refl },
-          (record { sender = sender.0; message = Commit p.view.0 p.number.0 p.digest }, hears, counts.0),
-        )
+        let counts = commits_count c (me_of r) r.orderer.log past runs.holds.of_desk.point sender.0 p.view.0 p.number.0 p.digest bytes vote runs.holds.of_log.fits hears t.0 refl refl in record {
+          takes = counts.1;
+          none = commit_none r bytes c sender.0 p.view.0 p.number.0 p.digest hears;
+          counts = (record { sender = sender.0; message = Commit p.view.0 p.number.0 p.digest }, hears, counts.0);
+          changes = changes_kept r one c past runs bytes (with_commit r.orderer.log p.number.0 vote) (same_rows r.orderer.log (with_commit r.orderer.log p.number.0 vote).rows) refl
+              (λ passes. votes_keep r bytes c past (commit_none r bytes c sender.0 p.view.0 p.number.0 p.digest hears) (rw hears tt));
+        }
 
 -- ---- what it has a fault for
 
@@ -234,7 +302,7 @@ prepare_dropped r sender p new one t bytes h =
         let hears = heard_by r one c bytes _ known h in
         let fault = some_fault _ t.0 in (
           prepares_drop c (me_of r) r.orderer.log past sender.0 p.view.0 p.number.0 p.digest bytes fault.0 runs.holds.of_log.fits hears fault.1,
-          record { call = rw hears refl; asks = λ st. rw hears refl; parts = rw hears refl },
+          prepare_none r bytes c sender.0 p.view.0 p.number.0 p.digest hears,
         )
 
 pub commit_dropped : (r : ReplicaData) (sender : ReplicaId) (p : WireCommit) (new : OrdererData) → AreOne r.orderer r.desk → TakesCommit r.orderer sender p new false
@@ -248,7 +316,7 @@ commit_dropped r sender p new one t bytes h =
         let hears = heard_by r one c bytes _ known h in
         let fault = some_fault _ t.0 in (
           commits_drop c (me_of r) r.orderer.log past sender.0 p.view.0 p.number.0 p.digest bytes fault.0 runs.holds.of_log.fits hears fault.1,
-          record { call = rw hears refl; asks = λ st. rw hears refl; parts = rw hears refl },
+          commit_none r bytes c sender.0 p.view.0 p.number.0 p.digest hears,
         )
 
 pub batch_dropped : (r : ReplicaData) (sender : ReplicaId) (p : WirePrePrepare) (new : OrdererData) → AreOne r.orderer r.desk → TakesBatch r.orderer sender p new false
@@ -267,39 +335,62 @@ batch_dropped r sender p new one t bytes h =
     none c past runs known =
         let hears = heard_by r one c bytes _ known h in (
           batches_drop c (me_of r) r.orderer.log past sender.0 p.view.0 p.number.0 p.batch.text.items bytes runs.holds.of_log.fits hears (why c known t.0),
-          record { call = rw hears refl; asks = λ st. rw hears refl; parts = rw hears refl },
+          batch_none r bytes c sender.0 p.view.0 p.number.0 p.batch.text.items hears,
         )
 
 -- ---- a batch
 
+no_fault_later : {A : Type 0} (first later : Option A) → or_else first later ≡ None → later ≡ None
+no_fault_later None later h = h
+no_fault_later (Some x) later h = absurd cc
+
+no_digest : (first : Option (List ℕ)) (digest : List ℕ) → fault_beside first digest ≡ None → first ≡ None
+no_digest None digest h = refl
+no_digest (Some x) digest h = absurd cc
+
+mapped_none : {A B : Type 0} (f : A → B) (o : Option A) → option_map f o ≡ None → o ≡ None
+mapped_none f None h = refl
+mapped_none f (Some x) h = absurd cc
+
+-- a number of which the log has no digest has no batch
+no_batch : (log : LogData) (i : ℕ) → is_in_marks log i ≡ true → logs.logged_digest log i ≡ None → logged_batch log i ≡ None
+no_batch log i within h = ap (λ (b : Bool). cond b (logs.row_of log i).batch None) within ∙ mapped_none sha256 (logs.row_of log i).batch (sym (ap (λ (b : Bool). cond b (logs.digest_of (logs.row_of log i)) None) within) ∙ h)
+
 pub batch_taken : (r : ReplicaData) (sender : ReplicaId) (p : WirePrePrepare) (new : OrdererData) → AreOne r.orderer r.desk → TakesBatch r.orderer sender p new true
     → TakesMessage sender (PrePrepare p.view.0 p.number.0 p.batch.text.items) r (touched.Row p.number) (record r { orderer = new }) []
-batch_taken r sender p new one t bytes h =
-    subst (λ (o : OrdererData). TakesBytes bytes r (touched.Row p.number) (record r { orderer = o }) []) (sym t.2)
-    (takes_row r one bytes p.number (with_batch r.orderer.log p.number.0 p.batch.text.items) (same_rows r.orderer.log (with_batch r.orderer.log p.number.0 p.batch.text.items).rows)
+batch_taken r sender p new one (free, were_heard, (claims, adds, is)) bytes h =
+    subst (λ (o : OrdererData). TakesBytes bytes r (touched.Row p.number) (record r { orderer = o }) []) (sym is)
+    (takes_row r one bytes p.number (with_batch r.orderer.log p.number.0 p.batch.text.items) claims (same_rows r.orderer.log (with_batch r.orderer.log p.number.0 p.batch.text.items).rows)
     (λ i ne. (due_prepare_elsewhere r.orderer.log i p.number.0 _ fits.within ne, due_commit_elsewhere r.orderer.log i p.number.0 _ fits.within ne)) takes)
   where
+    beside : Option Dropped
+    beside = fault_beside (logs.logged_digest r.orderer.log p.number.0) (sha256 p.batch.text.items)
+
     fits : Fitting r.orderer.log (sender.0 == logs.primary r.orderer.log p.view.0) p.view.0 p.number.0
-    fits = fitting r.orderer.log _ p.view.0 p.number.0 (no_fault _ (fault_beside (logs.logged_digest r.orderer.log p.number.0) (sha256 p.batch.text.items)) t.0)
+    fits = fitting r.orderer.log _ p.view.0 p.number.0 (no_fault _ beside free)
 
     takes : (c : Configuration) (past : List Entry) (runs : Runs c r past) → members c ≡ r.desk.membership
-        → Takes c (me_of r) (heard (members c) (me_of r) bytes) r.orderer.log (with_batch r.orderer.log p.number.0 p.batch.text.items) × IsNoCall c (heard (members c) (me_of r) bytes)
-        × IsTaken c (me_of r) (event_of c r past runs bytes)
+        → TakesOne r c past runs bytes (with_batch r.orderer.log p.number.0 p.batch.text.items) claims
     takes c past runs known =
         let hears = heard_by r one c bytes _ known h in
-        let genuine = ap (λ (m : Membership). are_heard m (me_of r) (requests_of p.batch.text.items)) (known ∙ one.1) ∙ t.1 in
-        let counts = batches_count c (me_of r) r.orderer.log past runs.holds.of_desk.point sender.0 p.view.0 p.number.0 p.batch.text.items bytes runs.holds.of_log.fits hears t.0 genuine in (
-          counts.1,
-          record { call = rw hears refl; asks = λ st. rw hears refl; parts = rw hears refl },
-          (record { sender = sender.0; message = PrePrepare p.view.0 p.number.0 p.batch.text.items }, hears, counts.0),
-        )
+        let genuine = ap (λ (m : Membership). are_heard m (me_of r) (requests_of p.batch.text.items)) (known ∙ one.1) ∙ were_heard in
+        let counts = batches_count c (me_of r) r.orderer.log past runs.holds.of_desk.point sender.0 p.view.0 p.number.0 p.batch.text.items bytes runs.holds.of_log.fits hears free genuine in
+        record {
+          takes = counts.1;
+          none = batch_none r bytes c sender.0 p.view.0 p.number.0 p.batch.text.items hears;
+          counts = (record { sender = sender.0; message = PrePrepare p.view.0 p.number.0 p.batch.text.items }, hears, counts.0);
+          changes = λ passes. batches_are_claimed c (me_of r) past (Got (me_of r) bytes) r.orderer.log (changes_of r.orderer) claims sender.0 p.number.0 p.batch.text.items passes fits.within
+              (no_batch r.orderer.log p.number.0 fits.within (no_digest (logs.logged_digest r.orderer.log p.number.0) (sha256 p.batch.text.items) (no_fault_later _ beside free)))
+              (hears ∙ ap (λ (v : ℕ). Some (record { sender = sender.0; message = PrePrepare v p.number.0 p.batch.text.items })) fits.view) adds runs.changes;
+        }
 
 -- ---- what no rule takes here
 
--- no message of the three phases, no checkpoint, and no fetch
+-- no message of the three phases, no checkpoint, no fetch, no view change and no new view
 abbrev pub IsOther : WireMessage → Type 0
 IsOther m = ((x : WirePrePrepare) → m ≡ messages.PrePrepare x → ⊥) × ((x : WirePrepare) → m ≡ messages.Prepare x → ⊥) × ((x : WireCommit) → m ≡ messages.Commit x → ⊥)
     × ((x : WireCheckpoint) → m ≡ messages.Checkpoint x → ⊥) × ((x : WireFetch) → m ≡ messages.Fetch x → ⊥)
+    × ((x : WireViewChange) → m ≡ messages.ViewChange x → ⊥) × ((x : WireNewView) → m ≡ messages.NewView x → ⊥)
 
 other_beside : (s : ℕ) (m : WireMessage) → IsOther m → IsBesideLog (Some (record { sender = s; message = message_data m }))
 other_beside s (messages.Request x) h = tt
@@ -337,22 +428,24 @@ none_asked st s t modes.Ordered below = go (nat_le 256 s) refl
     go false e = refl
     go true e = let l = leb-true 256 s e in absurd (omega (arith, l, below))
 
-other_no_call : (c : Configuration) (s : ℕ) (m : WireMessage) → s < 256 → ((x : WireFetch) → m ≡ messages.Fetch x → ⊥) → IsNoCall c (Some (record { sender = s; message = message_data m }))
+other_no_call : (c : Configuration) (s : ℕ) (m : WireMessage) → s < 256 → IsOther m → IsNoCall c (Some (record { sender = s; message = message_data m }))
 other_no_call c s (messages.Request x) below other = record {
   call = no_call c s x.mode x.timestamp.0 (operation_of x.op) below;
   asks = λ st. none_asked st s x.timestamp.0 x.mode below;
   parts = refl;
+  views = refl;
+  changes = tt;
 }
-other_no_call c s (messages.PrePrepare x) below other = record { call = refl; asks = λ st. refl; parts = refl }
-other_no_call c s (messages.Prepare x) below other = record { call = refl; asks = λ st. refl; parts = refl }
-other_no_call c s (messages.Commit x) below other = record { call = refl; asks = λ st. refl; parts = refl }
-other_no_call c s (messages.Checkpoint x) below other = record { call = refl; asks = λ st. refl; parts = refl }
-other_no_call c s (messages.ViewChange x) below other = record { call = refl; asks = λ st. refl; parts = refl }
-other_no_call c s (messages.NewView x) below other = record { call = refl; asks = λ st. refl; parts = refl }
-other_no_call c s (messages.Reply x) below other = record { call = refl; asks = λ st. refl; parts = refl }
-other_no_call c s (messages.Fetch x) below other = absurd (other x refl)
-other_no_call c s (messages.Meta x) below other = record { call = refl; asks = λ st. refl; parts = refl }
-other_no_call c s (messages.Page x) below other = record { call = refl; asks = λ st. refl; parts = refl }
+other_no_call c s (messages.PrePrepare x) below other = record { call = refl; asks = λ st. refl; parts = refl; views = refl; changes = tt }
+other_no_call c s (messages.Prepare x) below other = record { call = refl; asks = λ st. refl; parts = refl; views = refl; changes = tt }
+other_no_call c s (messages.Commit x) below other = record { call = refl; asks = λ st. refl; parts = refl; views = refl; changes = tt }
+other_no_call c s (messages.Checkpoint x) below other = record { call = refl; asks = λ st. refl; parts = refl; views = refl; changes = tt }
+other_no_call c s (messages.ViewChange x) below other = absurd (other.5 x refl)
+other_no_call c s (messages.NewView x) below other = absurd (other.6 x refl)
+other_no_call c s (messages.Reply x) below other = record { call = refl; asks = λ st. refl; parts = refl; views = refl; changes = tt }
+other_no_call c s (messages.Fetch x) below other = absurd (other.4 x refl)
+other_no_call c s (messages.Meta x) below other = record { call = refl; asks = λ st. refl; parts = refl; views = refl; changes = tt }
+other_no_call c s (messages.Page x) below other = record { call = refl; asks = λ st. refl; parts = refl; views = refl; changes = tt }
 
 -- What is heard and has no part in the three phases is dropped.
 drops_heard : (r : ReplicaData) (bytes : List ℕ) (body : Body) → AreOne r.orderer r.desk → IsBesideLog (Some body) → ((c : Configuration) → IsNoCall c (Some body))
@@ -361,20 +454,20 @@ drops_heard r bytes body one beside none h = drops r one bytes (λ c past runs k
     (others_drop c (me_of r) r.orderer.log past bytes runs.holds.of_log.fits (rw hears beside), rw hears (none c)))
 
 pub other_dropped : (r : ReplicaData) (sender : ReplicaId) (m : WireMessage) → AreOne r.orderer r.desk → sender.0 < 256 → IsOther m → TakesMessage sender (message_data m) r touched.Nothing r []
-other_dropped r sender m one below other bytes h = drops_heard r bytes _ one (other_beside sender.0 m other) (λ c. other_no_call c sender.0 m below other.4) h
+other_dropped r sender m one below other bytes h = drops_heard r bytes _ one (other_beside sender.0 m other) (λ c. other_no_call c sender.0 m below other) h
 
 -- ---- nothing, and what clients send beside ordered requests
 
 pub silence_dropped : (r : ReplicaData) (bytes : List ℕ) → AreOne r.orderer r.desk → heard r.desk.membership r.desk.me bytes ≡ None → TakesBytes bytes r touched.Nothing r []
 silence_dropped r bytes one h = drops r one bytes (λ c past runs known. let silent = heard_by_none c known in
-    (others_drop c (me_of r) r.orderer.log past bytes runs.holds.of_log.fits (rw silent tt), record { call = rw silent refl; asks = λ st. rw silent refl; parts = rw silent refl }))
+    (others_drop c (me_of r) r.orderer.log past bytes runs.holds.of_log.fits (rw silent tt), subst (IsNoCall c) (sym silent) (record { call = refl; asks = λ st. refl; parts = refl; views = refl; changes = tt })))
   where
     heard_by_none : (c : Configuration) → members c ≡ r.desk.membership → heard (members c) (me_of r) bytes ≡ None
     heard_by_none c known = ap (λ m. heard m (me_of r) bytes) known ∙ ap (λ (x : ℕ). heard r.desk.membership x bytes) (sym one.0) ∙ h
 
 pub read_dropped : (r : ReplicaData) (s t : ℕ) (op : Operation) (bytes : List ℕ) → AreOne r.orderer r.desk
     → heard r.desk.membership r.desk.me bytes ≡ Some (record { sender = s; message = Request t modes.ReadOnly op }) → TakesBytes bytes r touched.Nothing r []
-read_dropped r s t op bytes one h = drops_heard r bytes _ one tt (λ c. record { call = refl; asks = λ st. refl; parts = refl }) h
+read_dropped r s t op bytes one h = drops_heard r bytes _ one tt (λ c. record { call = refl; asks = λ st. refl; parts = refl; views = refl; changes = tt }) h
 
 -- clients send nothing but requests
 pub client_dropped : (r : ReplicaData) (k : ℕ) (m : WireMessage) (bytes : List ℕ) → AreOne r.orderer r.desk → ((x : WireRequest) → m ≡ messages.Request x → ⊥)

@@ -1,13 +1,18 @@
 -- An event that begins with a message which orders nothing and is no request.
-use Rattle.std.proofs.Common.{◌≡◌, ℕ, inl, List, [], Some, None, refl, sym, ap, ◌∙◌, subst}
+use Rattle.std.proofs.Common.{◌≡◌, ◌∷◌, ℕ, inl, List, [], Some, None, refl, sym, ap, ◌∙◌, subst}
 use Rattle.std.specs.Option.{option_and_then}
-use Rattle.wire.specs.Messages.{BodyData as Body}
+use Rattle.wire.specs.Messages.{BodyData as Body, MessageData as Message}
 use Rattle.signing.specs.Heard.{heard}
 use Rattle.protocol.specs.System.Configuration.{Configuration, members}
 use Rattle.protocol.specs.System.Trace.{Entry}
 use Rattle.protocol.specs.System.Trace.Entry.{Got}
-use Rattle.protocol.specs.Replica.Certificates.{taken}
+use Rattle.protocol.specs.Replica.Certificates.{taken, new_view_from}
 use Rattle.protocol.specs.Replica.State.{State, call_in}
+use Rattle.replica_histories.specs.Desk.{Desk}
+use Rattle.replica_histories.specs.Events as histories
+use Rattle.replica_histories.specs.Changes.{FitsChanges, IsNoChange}
+use Rattle.replica_histories.proofs.ChangesPassing.{inputs_enter}
+use Rattle.replica_histories.proofs.ChangesKept.{got_keep, others_bring_none}
 use Rattle.replica_histories.specs.Inputs.{IsBesideLog, asked, asked_by}
 use Rattle.replica_histories.proofs.Counting.{others_drop}
 use Rattle.replica_histories.proofs.Entering.{inputs_fit}
@@ -15,18 +20,20 @@ use Rattle.replica_histories.proofs.TransfersAnswering.{others_owe_none}
 use Rattle.protocol.specs.Replica.Owed.{place_from}
 use Rattle.replica.specs.declared.taking.Touched.TheVariants as touched
 use Rattle.replica.specs.State.{ReplicaData, AreOne}
-use Rattle.replica.specs.Desks.{FitsEvent}
+use Rattle.replica.specs.Desks.{FitsEvent, changes_of}
 use Rattle.replica.specs.Entering.{event_of, TakesBytes}
 use Rattle.replica.specs.Fits.{Runs, me_of}
-use Rattle.replica.proofs.Beginning.{rests}
-use Rattle.replica.proofs.Parties.{same_party}
+use Rattle.replica.proofs.Beginning.{rests, changes_kept, none_taken}
+use Rattle.replica.proofs.Parties.{one_self, same_log}
 use Rattle.replica.proofs.Staying.{numbers_beside, said_on}
 
--- it orders nothing, is no request, and asks for no reply
+-- it orders nothing, is no request, no view change and no new view, and asks for no reply
 pub record IsBeside (c : Configuration) (body : Body) : Type 0 where
   pub log : IsBesideLog (Some body)
   pub call : call_in c body ≡ None
   pub asks : (st : State) → asked_by st body ≡ []
+  pub views : new_view_from c body ≡ None
+  pub changes : IsNoChange (Some body)
 
 module _ (r : ReplicaData) (one : AreOne r.orderer r.desk) (c : Configuration) (past : List Entry) (runs : Runs c r past) (bytes : List ℕ) (body : Body)
     (known : members c ≡ r.desk.membership) (hears : heard r.desk.membership r.desk.me bytes ≡ Some body) where
@@ -34,34 +41,51 @@ module _ (r : ReplicaData) (one : AreOne r.orderer r.desk) (c : Configuration) (
   pub heard_so : heard (members c) (me_of r) bytes ≡ Some body
   heard_so = ap (λ m. heard m (me_of r) bytes) known ∙ ap (λ (x : ℕ). heard r.desk.membership x bytes) (sym one.0) ∙ hears
 
+  -- no new view is taken
+  pub takes_none : new_view_from c body ≡ None → taken c past (Got (me_of r) bytes) ≡ None
+  takes_none none = none_taken c past (Got (me_of r) bytes) (ap (option_and_then (new_view_from c)) heard_so ∙ none)
+
+  -- What is held for changes fits, where the log stays, whatever the desk does.
+  pub changes_beside : (later : Desk) (due : List Message) → new_view_from c body ≡ None → IsNoChange (Some body) → histories.Fits c (me_of r) (event_of c r past runs bytes) later r.orderer.log due []
+      → FitsChanges c (me_of r) r.orderer.log (changes_of r.orderer) (Got (me_of r) bytes ∷ past)
+  changes_beside later due none silent enters =
+      changes_kept r one c past runs bytes r.orderer.log (same_log r.orderer.log) refl
+      (λ passes. got_keep c (me_of r) past bytes r.orderer.log r.orderer.log passes (record { view = refl; active = refl }) (takes_none none) (λ i within. refl)
+      (λ s other. others_bring_none c (me_of r) s past bytes (subst IsNoChange (sym heard_so) silent) other))
+      (inputs_enter c (me_of r) runs.desk later r.orderer.log r.orderer.log due past (Got (me_of r) bytes) runs.holds enters)
+
   -- such a message changes nothing of itself
-  pub begins : taken c past (Got (me_of r) bytes) ≡ None → IsBeside c body → FitsEvent c (me_of r) (event_of c r past runs bytes) r.orderer runs.desk r.desk.waiting.numbered [] []
-  begins free beside = record {
-    fits = inputs_fit c (me_of r) runs.desk runs.desk r.orderer.log r.orderer.log [] past bytes runs.holds free (record {
-      takes = others_drop c (me_of r) r.orderer.log past bytes runs.holds.of_log.fits (subst IsBesideLog (sym heard_so) beside.log);
-      state = refl;
-      snapshots = refl;
-      waiting = rw (ap (option_and_then (call_in c)) heard_so ∙ beside.call) refl;
-      transfer = refl;
-      frames = λ frame h. inl h;
-      due_is = sym (ap (asked runs.desk.state) heard_so ∙ beside.asks runs.desk.state);
-    });
-    numbers = numbers_beside c (me_of r) r.desk.waiting.numbered r.orderer runs.desk past (Got (me_of r) bytes) runs.holds.of_log.fits.faults runs.holds.of_log.fits.own
-        (record { here = refl; none = free; sends = refl }) runs.numbers;
+  pub begins : IsBeside c body → FitsEvent c (me_of r) (event_of c r past runs bytes) r.orderer runs.desk r.desk.waiting [] []
+  begins beside = record {
+    fits = enters;
+    numbers = numbers_beside c (me_of r) r.desk.waiting r.orderer runs.desk past (Got (me_of r) bytes) runs.holds.of_log.fits.faults runs.holds.of_log.fits.own
+        (record { here = refl; none = takes_none beside.views; sends = refl }) runs.numbers;
     said = said_on (me_of r) r.orderer.last_checkpoint past (Got (me_of r) bytes) runs.said;
+    changes = changes_beside runs.desk [] beside.views beside.changes enters;
   }
+    where
+      enters : histories.Fits c (me_of r) (event_of c r past runs bytes) runs.desk r.orderer.log [] []
+      enters = inputs_fit c (me_of r) runs.desk runs.desk r.orderer.log r.orderer.log [] past bytes runs.holds (takes_none beside.views) (record {
+        takes = others_drop c (me_of r) r.orderer.log past bytes runs.holds.of_log.fits (subst IsBesideLog (sym heard_so) beside.log);
+        state = refl;
+        snapshots = refl;
+        waiting = rw (ap (option_and_then (call_in c)) heard_so ∙ beside.call) refl;
+        transfer = refl;
+        frames = λ frame h. inl h;
+        due_is = sym (ap (asked runs.desk.state) heard_so ∙ beside.asks runs.desk.state);
+      })
 
 -- What is dropped so changes nothing.
 module _ (r : ReplicaData) (one : AreOne r.orderer r.desk) (bytes : List ℕ) (body : Body) (hears : heard r.desk.membership r.desk.me bytes ≡ Some body) where
   pub drops_beside : ((c : Configuration) → IsBeside c body) → place_from body ≡ None → TakesBytes bytes r touched.Nothing r []
   drops_beside beside none = record {
-    party = same_party r;
-    begins = λ c past runs known free. (
+    party = one_self r;
+    begins = λ c past runs known. (
       record {
         desk = runs.desk;
         is = runs.is_desk;
-        fits = subst (λ (m : ℕ). FitsEvent c m (event_of c r past runs bytes) r.orderer runs.desk r.desk.waiting.numbered [] []) (sym one.0)
-            (begins r one c past runs bytes body known hears free (beside c));
+        fits = subst (λ (m : ℕ). FitsEvent c m (event_of c r past runs bytes) r.orderer runs.desk r.desk.waiting [] []) (sym one.0)
+            (begins r one c past runs bytes body known hears (beside c));
       },
       (
         rests c r past runs,

@@ -20,24 +20,29 @@ use Rattle.protocol.specs.System.Trace.{Entry}
 use Rattle.protocol.specs.System.Trace.Entry.{Got}
 use Rattle.protocol.specs.Replica.Certificates.{taken}
 use Rattle.replica_histories.specs.Desk.{Desk, desk_from, kept_from}
+use Rattle.replica_histories.specs.Events as histories
+use Rattle.replica_histories.specs.Changes.{CutsClaims, FitsChanges, IsNoBatch, KeepsChanges}
 use Rattle.replica_histories.specs.Inputs.{fetch_due}
 use Rattle.replica_histories.specs.Marks.{checked_log}
 use Rattle.replica_histories.specs.Transfers.{open_number}
+use Rattle.replica_histories.proofs.ChangesKept.{heard_keep, others_bring_none}
+use Rattle.replica_histories.proofs.ChangesPassing.{changes_stay, claims_are_above, inputs_enter}
 use Rattle.replica_histories.proofs.Counting.{checkpoints_count, checkpoints_drop, early_checkpoints_drop}
 use Rattle.replica_histories.proofs.Entering.{checkpoints_enter}
 use Rattle.replica_histories.proofs.Giving.{kept_are_above}
 use Rattle.replica_histories.proofs.TransfersAnswering.{others_owe_none}
 use Rattle.replica.specs.declared.taking.Touched.TheVariants as touched
+use Rattle.view_change.specs.ClaimsView.{ClaimsData}
 use Rattle.replica.specs.State.{OrdererData, DeskData, ReplicaData, AreOne}
 use Rattle.replica.specs.Checkpoints.{Follows, Settles, TakesCheckpoint, counting, said_entry}
-use Rattle.replica.specs.Desks.{given, FitsEvent, Stands}
+use Rattle.replica.specs.Desks.{given, FitsEvent, Stands, changes_of}
 use Rattle.replica.specs.Entering.{event_of, IsTakenBeside, Leaves, TakesBytes, TakesMessage}
 use Rattle.replica.specs.Fetching.{aimed_at, aiming}
 use Rattle.replica.specs.Fits.{Runs, me_of}
-use Rattle.replica.specs.Going.{CommitsNoMore, IsExecuted, IsSameLog, IsSameOrderer, IsSameParty, IsVotedAll, Rests}
+use Rattle.replica.specs.Going.{CommitsNoMore, IsExecuted, IsOneParty, IsSameLog, IsVotedAll, Rests}
 use Rattle.replica.specs.Saying.{Says}
-use Rattle.replica.proofs.Beginning.{IsNoCall, drops, heard_by, rests}
-use Rattle.replica.proofs.DueCheckpoints.{cut_commits, cut_voted, either, same_cut, settled_desk, settled_orderer, settled_snapshots, settled_stopped}
+use Rattle.replica.proofs.Beginning.{IsNoCall, drops, heard_by, none_taken, rests}
+use Rattle.replica.proofs.DueCheckpoints.{cut_commits, cut_voted, either, same_cut, settled_claims, settled_desk, settled_orderer, settled_snapshots, settled_stopped}
 use Rattle.replica_histories.proofs.Counting.{checkpoint_free}
 use Rattle.replica.proofs.Following.{aim_of, aimed_is, aims, aims_desk}
 use Rattle.replica.proofs.Staying.{numbers_alike, numbers_beside, said_on, same_but_checkpoints}
@@ -100,31 +105,26 @@ module _ (r : ReplicaData) (one : AreOne r.orderer r.desk) (s : ℕ) (entry : Ch
   hears c known = heard_by r one c bytes body known h
 
   no_call : (c : Configuration) → members c ≡ r.desk.membership → IsNoCall c (heard (members c) (me_of r) bytes)
-  no_call c known = subst (IsNoCall c) (sym (hears c known)) (record { call = refl; asks = λ st. refl; parts = refl })
+  no_call c known = subst (IsNoCall c) (sym (hears c known)) (record { call = refl; asks = λ st. refl; parts = refl; views = refl; changes = tt })
 
   -- it is dropped
   faulty_dropped : (fault : Dropped) → checkpoint_fault r.orderer.log s entry.number entry.digest ≡ Some fault → TakesBytes bytes r touched.Nothing r []
   faulty_dropped fault is =
       drops r one bytes (λ c past runs known. (checkpoints_drop c (me_of r) r.orderer.log past s entry bytes fault runs.holds.of_log.fits (hears c known) is, no_call c known))
 
-  counted_party : IsSameParty r (record r { orderer = counting r.orderer s entry })
-  counted_party = record {
-    orderer = record { endpoint = refl; log = same_but_checkpoints r.orderer.log (logs.with_checkpoint_of r.orderer.log s entry).checkpoints };
-    me = refl;
-    membership = refl;
-    stopped = refl;
-  }
+  counted_party : IsOneParty r (record r { orderer = counting r.orderer s entry })
+  counted_party = record { endpoint = refl; me = refl; membership = refl; stopped = refl }
 
   early_dropped : says_checkpoint entry (logs.checkpoints_of (logs.with_checkpoint_of r.orderer.log s entry) s) ≡ false
       → TakesBytes bytes r touched.Nothing (record r { orderer = counting r.orderer s entry }) []
   early_dropped early = record {
     party = counted_party;
-    begins = λ c past runs known free.
+    begins = λ c past runs known.
         subst (λ (log : LogData). let o : OrdererData = record r.orderer { log = log } in Stands c (event_of c r past runs bytes) o r.desk [] []
         × Leaves c (event_of c r past runs bytes) touched.Nothing (record r { orderer = o }) [])
         (sym (early_checkpoints_drop c (me_of r) r.orderer.log past s entry bytes runs.holds.of_log.fits (hears c known) early).0)
         ((drops r one bytes (λ d before held same.
-        ((early_checkpoints_drop d (me_of r) r.orderer.log before s entry bytes held.holds.of_log.fits (hears d same) early).1, no_call d same))).begins c past runs known free);
+        ((early_checkpoints_drop d (me_of r) r.orderer.log before s entry bytes held.holds.of_log.fits (hears d same) early).1, no_call d same))).begins c past runs known);
   }
 
   -- or it is counted
@@ -135,8 +135,11 @@ module _ (r : ReplicaData) (one : AreOne r.orderer r.desk) (s : ℕ) (entry : Ch
     abbrev with_it : ReplicaData
     with_it = record r { orderer = counting r.orderer s entry }
 
-    abbrev checked : OrdererData
-    checked = record r.orderer { log = checked_log r.orderer.log s entry }
+    abbrev after : LogData
+    after = checked_log r.orderer.log s entry
+
+    abbrev checked : ClaimsData → OrdererData
+    checked claims = record r.orderer { log = after; claims = claims }
 
     -- a rule takes it
     counts : (c : Configuration) (past : List Entry) (runs : Runs c r past) → members c ≡ r.desk.membership → IsTakenBeside c (me_of r) (event_of c r past runs bytes)
@@ -145,15 +148,35 @@ module _ (r : ReplicaData) (one : AreOne r.orderer r.desk) (s : ℕ) (entry : Ch
       (no_call c known).parts,
     )
 
-    enters : (c : Configuration) (past : List Entry) (runs : Runs c r past) → members c ≡ r.desk.membership → taken c past (Got (me_of r) bytes) ≡ None
-        → FitsEvent c (me_of r) (event_of c r past runs bytes) checked (desk_from checked.log.low runs.desk) r.desk.waiting.numbered (fetch_due runs.desk counted entry) []
-    enters c past runs known free = record {
-      fits = checkpoints_enter c (me_of r) runs.desk r.orderer.log past s entry bytes runs.holds (hears c known) none;
-      numbers = numbers_alike c (me_of r) r.desk.waiting.numbered r.orderer checked runs.desk (Got (me_of r) bytes ∷ past) (same_counted r.orderer.log s entry) refl
-          (numbers_beside c (me_of r) r.desk.waiting.numbered r.orderer runs.desk past (Got (me_of r) bytes) runs.holds.of_log.fits.faults runs.holds.of_log.fits.own
-          (record { here = refl; none = free; sends = refl }) runs.numbers);
-      said = said_on (me_of r) r.orderer.last_checkpoint past (Got (me_of r) bytes) runs.said;
-    }
+    module _ (c : Configuration) (past : List Entry) (runs : Runs c r past) (known : members c ≡ r.desk.membership) (claims : ClaimsData)
+        (cuts : CutsClaims r.orderer.log.low r.orderer.claims r.orderer.claims → CutsClaims after.low r.orderer.claims claims) where
+      abbrev e : Entry
+      e = Got (me_of r) bytes
+
+      free : taken c past e ≡ None
+      free = none_taken c past e (no_call c known).views
+
+      fitting : histories.Fits c (me_of r) (event_of c r past runs bytes) (desk_from after.low runs.desk) after (fetch_due runs.desk counted entry) []
+      fitting = checkpoints_enter c (me_of r) runs.desk r.orderer.log past s entry bytes runs.holds (hears c known) none
+
+      keeps : KeepsChanges c (me_of r) past e
+      keeps = heard_keep c (me_of r) past bytes free (subst IsNoBatch (sym (hears c known)) tt) (λ other ne. others_bring_none c (me_of r) other past bytes (no_call c known).changes ne)
+
+      changing : FitsChanges c (me_of r) after (changes_of (checked claims)) (e ∷ past)
+      changing = changes_stay c (me_of r) past e r.orderer.log after (changes_of r.orderer) claims
+          (inputs_enter c (me_of r) runs.desk (desk_from after.low runs.desk) r.orderer.log after (fetch_due runs.desk counted entry) past e runs.holds fitting)
+          (let same = same_counted r.orderer.log s entry in record { view = same.view; active = same.active }) keeps
+          (cuts (claims_are_above c (me_of r) r.orderer.log past r.orderer.claims runs.holds.of_log.fits runs.changes.claims)) runs.changes
+
+      enters : FitsEvent c (me_of r) (event_of c r past runs bytes) (checked claims) (desk_from after.low runs.desk) r.desk.waiting (fetch_due runs.desk counted entry) []
+      enters = record {
+        fits = fitting;
+        numbers = numbers_alike c (me_of r) r.desk.waiting r.orderer (checked claims) runs.desk (e ∷ past) (same_counted r.orderer.log s entry) refl
+            (numbers_beside c (me_of r) r.desk.waiting r.orderer runs.desk past e runs.holds.of_log.fits.faults runs.holds.of_log.fits.own
+            (record { here = refl; none = free; sends = refl }) runs.numbers);
+        said = said_on (me_of r) r.orderer.last_checkpoint past e runs.said;
+        changes = changing;
+      }
 
     -- the kept states are those from the low mark on
     kept : (c : Configuration) (past : List Entry) (runs : Runs c r past) → kept_from r.orderer.log.low r.desk.snapshots ≡ r.desk.snapshots
@@ -162,36 +185,36 @@ module _ (r : ReplicaData) (one : AreOne r.orderer r.desk) (s : ℕ) (entry : Ch
         ap (kept_from r.orderer.log.low) (sym runs.is_desk.snapshots) ∙ ap (λ (d : Desk). d.snapshots) above ∙ runs.is_desk.snapshots
 
     module _ (n : ReplicaData) (b : Bool) (settles : Settles entry with_it n b) where
-      orderer_is : n.orderer ≡ checked
+      orderer_is : n.orderer ≡ checked n.orderer.claims
       orderer_is = settled_orderer entry with_it n b settles
 
       desk_is : n.desk ≡ record r.desk { snapshots = n.desk.snapshots }
       desk_is = settled_desk entry with_it n b settles
 
-      stands : (c : Configuration) (past : List Entry) (runs : Runs c r past) → members c ≡ r.desk.membership → taken c past (Got (me_of r) bytes) ≡ None
+      stands : (c : Configuration) (past : List Entry) (runs : Runs c r past) → members c ≡ r.desk.membership
           → Stands c (event_of c r past runs bytes) n.orderer n.desk (fetch_due runs.desk counted entry) []
-      stands c past runs known free =
+      stands c past runs known =
           subst (λ (k : OrdererData). Stands c (event_of c r past runs bytes) k n.desk (fetch_due runs.desk counted entry) []) (sym orderer_is)
-          (subst (λ (k : DeskData). Stands c (event_of c r past runs bytes) checked k (fetch_due runs.desk counted entry) []) (sym desk_is) (record {
-            desk = desk_from checked.log.low runs.desk;
+          (subst (λ (k : DeskData). Stands c (event_of c r past runs bytes) (checked n.orderer.claims) k (fetch_due runs.desk counted entry) []) (sym desk_is) (record {
+            desk = desk_from after.low runs.desk;
             is = record {
               members_are = runs.is_desk.members_are;
               period_is = runs.is_desk.period_is;
               state = runs.is_desk.state;
-              snapshots = ap (kept_from checked.log.low) runs.is_desk.snapshots ∙ settled_snapshots entry with_it n b settles (kept c past runs);
+              snapshots = ap (kept_from after.low) runs.is_desk.snapshots ∙ settled_snapshots entry with_it n b settles (kept c past runs);
               transfer = runs.is_desk.transfer;
               rests = runs.is_desk.rests;
               frames = runs.is_desk.frames;
               waiting = runs.is_desk.waiting;
               differ = runs.is_desk.differ;
             };
-            fits = subst (λ (m : ℕ). FitsEvent c m (event_of c r past runs bytes) checked (desk_from checked.log.low runs.desk) r.desk.waiting.numbered (fetch_due runs.desk counted entry) []) (sym one.0)
-                (enters c past runs known free);
+            fits = subst (λ (m : ℕ). FitsEvent c m (event_of c r past runs bytes) (checked n.orderer.claims) (desk_from after.low runs.desk) r.desk.waiting (fetch_due runs.desk counted entry) []) (sym one.0)
+                (enters c past runs known n.orderer.claims (settled_claims entry with_it n b settles));
           }))
 
-      party : IsSameParty r n
+      party : IsOneParty r n
       party = record {
-        orderer = subst (λ (k : OrdererData). IsSameOrderer r.orderer k) (sym orderer_is) (record { endpoint = refl; log = same_counted r.orderer.log s entry });
+        endpoint = ap (λ (k : OrdererData). k.endpoint) orderer_is;
         me = ap (λ (d : DeskData). d.me) desk_is;
         membership = ap (λ (d : DeskData). d.membership) desk_is;
         stopped = settled_stopped entry with_it n b settles;
@@ -203,8 +226,8 @@ module _ (r : ReplicaData) (one : AreOne r.orderer r.desk) (s : ℕ) (entry : Ch
           let is_log = counted_is_log r.orderer.log s entry runs.holds.of_log.fits.is_log in (
             subst (λ (k : OrdererData). IsVotedAll k.log) (sym orderer_is) (either IsVotedAll counted entry before.0 (cut_voted counted entry.number is_log before.0)),
             subst (λ (k : OrdererData). IsExecuted k.log n.desk) (sym orderer_is)
-                (subst (λ (k : DeskData). IsExecuted checked.log k) (sym desk_is)
-                (none_more r.orderer.log checked.log (suc r.desk.executed.state.number)
+                (subst (λ (k : DeskData). IsExecuted after k) (sym desk_is)
+                (none_more r.orderer.log after (suc r.desk.executed.state.number)
                 (either (CommitsNoMore r.orderer.log) counted entry (λ i text is. is) (cut_commits counted entry.number is_log)) before.1)),
           )
 
@@ -212,8 +235,8 @@ module _ (r : ReplicaData) (one : AreOne r.orderer r.desk) (s : ℕ) (entry : Ch
     settled : (n : ReplicaData) → Settles entry with_it n true → TakesBytes bytes r touched.Waiting n []
     settled n settles = record {
       party = party n true settles;
-      begins = λ c past runs known free. (
-        subst (λ (due : List Message). Stands c (event_of c r past runs bytes) n.orderer n.desk due []) (none_for_stable runs.desk counted entry settles.0) (stands n true settles c past runs known free),
+      begins = λ c past runs known. (
+        subst (λ (due : List Message). Stands c (event_of c r past runs bytes) n.orderer n.desk due []) (none_for_stable runs.desk counted entry settles.0) (stands n true settles c past runs known),
         (rests_on n true settles c past runs, subst (λ (k : OrdererData). IsTakenBeside c k.endpoint.me (event_of c r past runs bytes)) (sym (orderer_is n true settles)) (counts c past runs known)),
       );
     }
@@ -223,8 +246,8 @@ module _ (r : ReplicaData) (one : AreOne r.orderer r.desk) (s : ℕ) (entry : Ch
       waits : (nat_le (2 * counted.faults + 1) (logs.count_checkpoints counted entry) ≡ false) ⊎ (entry.number ≤ aimed_at r.desk) → TakesBytes bytes r touched.Nothing with_it []
       waits why = record {
         party = counted_party;
-        begins = λ c past runs known free. (
-          subst (λ (due : List Message). Stands c (event_of c r past runs bytes) with_it.orderer r.desk due []) (none_now c past runs why) (stands with_it false (unstable, refl) c past runs known free),
+        begins = λ c past runs known. (
+          subst (λ (due : List Message). Stands c (event_of c r past runs bytes) with_it.orderer r.desk due []) (none_now c past runs why) (stands with_it false (unstable, refl) c past runs known),
           (rests c r past runs, runs.all, others_owe_none c (me_of r) past (Got (me_of r) bytes) [] runs.holds.of_desk.point (no_call c known).parts, inl refl),
         );
       }
@@ -237,9 +260,9 @@ module _ (r : ReplicaData) (one : AreOne r.orderer r.desk) (s : ℕ) (entry : Ch
       fetches : (outs : List Output) → nat_le (2 * counted.faults + 1) (logs.count_checkpoints counted entry) ≡ true → aimed_at r.desk < entry.number
           → Says with_it.orderer (Fetch entry.number levels.Root 0) [] outs → TakesBytes bytes r touched.Nothing (record with_it { desk = aiming entry r.desk }) outs
       fetches outs quorum ahead says = record {
-        party = record { orderer = counted_party.orderer; me = refl; membership = refl; stopped = refl };
-        begins = λ c past runs known free. (
-          asked c past runs known free,
+        party = record { endpoint = refl; me = refl; membership = refl; stopped = refl };
+        begins = λ c past runs known. (
+          asked c past runs known,
           (rests c r past runs, runs.all, others_owe_none c (me_of r) past (Got (me_of r) bytes) (given (me_of r) outs) runs.holds.of_desk.point (no_call c known).parts, inr (counts c past runs known).0),
         );
       }
@@ -247,19 +270,19 @@ module _ (r : ReplicaData) (one : AreOne r.orderer r.desk) (s : ℕ) (entry : Ch
           over : r.orderer.log.low < entry.number
           over = (checkpoint_free r.orderer.log s entry.number entry.digest none).above
 
-          asked : (c : Configuration) (past : List Entry) (runs : Runs c r past) → members c ≡ r.desk.membership → taken c past (Got (me_of r) bytes) ≡ None
+          asked : (c : Configuration) (past : List Entry) (runs : Runs c r past) → members c ≡ r.desk.membership
               → Stands c (event_of c r past runs bytes) with_it.orderer (aiming entry r.desk) [] outs
-          asked c past runs known free =
+          asked c past runs known =
               let due = one_ahead runs.desk counted entry unstable quorum (subst (λ (k : ℕ). k < entry.number) (sym (aimed_is c r.desk runs.desk runs.is_desk)) ahead) in
-              let st = subst (λ (due : List Message). Stands c (event_of c r past runs bytes) with_it.orderer r.desk due []) due (stands with_it false (unstable, refl) c past runs known free) in
+              let st = subst (λ (due : List Message). Stands c (event_of c r past runs bytes) with_it.orderer r.desk due []) due (stands with_it false (unstable, refl) c past runs known) in
               record {
                 desk = record st.desk { transfer = Some (aim_of entry r.desk).transfer };
-                is = aims_desk c (event_of c r past runs bytes) with_it.orderer r.desk st.desk r.desk.waiting.numbered entry [] outs st.is;
+                is = aims_desk c (event_of c r past runs bytes) with_it.orderer r.desk st.desk r.desk.waiting entry [] outs st.is;
                 fits = subst (λ (m : ℕ). FitsEvent c m (event_of c r past runs bytes) with_it.orderer
-                    (record st.desk { transfer = Some (aim_of entry r.desk).transfer }) r.desk.waiting.numbered [] outs) (sym one.0)
-                    (aims c (event_of c r past runs bytes) with_it.orderer r.desk st.desk r.desk.waiting.numbered entry [] outs st.is [] (known ∙ one.1)
+                    (record st.desk { transfer = Some (aim_of entry r.desk).transfer }) r.desk.waiting [] outs) (sym one.0)
+                    (aims c (event_of c r past runs bytes) with_it.orderer r.desk st.desk r.desk.waiting entry [] outs st.is [] (known ∙ one.1)
                     (leb-true (2 * counted.faults + 1) (logs.count_checkpoints counted entry) quorum) over ahead says
-                    (subst (λ (m : ℕ). FitsEvent c m (event_of c r past runs bytes) with_it.orderer st.desk r.desk.waiting.numbered (Fetch entry.number levels.Root 0 ∷ []) []) one.0 st.fits));
+                    (subst (λ (m : ℕ). FitsEvent c m (event_of c r past runs bytes) with_it.orderer st.desk r.desk.waiting (Fetch entry.number levels.Root 0 ∷ []) []) one.0 st.fits));
               }
 
       followed : (n : ReplicaData) (outs : List Output) → Follows entry with_it [] n outs → TakesBytes bytes r touched.Nothing n outs

@@ -1,7 +1,6 @@
 -- What a desk gives fits.
-use Rattle.std.proofs.Common.{◌≡◌, ◌≢◌, ℕ, zero, suc, ◌+◌, Bool, true, false, cond, List, [], ◌∷◌, ◌++◌, length, map, filter, count_by, take, Some, refl, sym, ap, ◌∙◌, subst, nat_lt, eq-eqb, arith}
+use Rattle.std.proofs.Common.{◌≡◌, ◌≢◌, ℕ, suc, ◌+◌, Bool, true, false, cond, List, [], ◌∷◌, ◌++◌, map, filter, Some, refl, sym, ap, ◌∙◌, subst, nat_lt, eq-eqb, arith}
 use Rattle.std.proofs.lemmas.List.Kept.{AllPairs-filter}
-use Rattle.std.proofs.lemmas.List.Sums.{length-filter}
 use Rattle.terms.specs.declared.parties.ClientId.{ClientId}
 use Rattle.wire.specs.Messages.{MessageData as Message}
 use Rattle.wire.specs.Words.{requests_of}
@@ -21,21 +20,23 @@ use Rattle.replica_histories.specs.Desk.{Desk, snapshot_of}
 use Rattle.replica_histories.specs.Events as events
 use Rattle.replica_histories.specs.Events.{Start, behind}
 use Rattle.replica_histories.specs.Inputs.{again_for}
-use Rattle.replica_histories.specs.Numbers.{FitsNumbers}
 use Rattle.replica_histories.specs.Outputs.{checkpoint_due, executed_desk, replies_to, snapshots_behind}
 use Rattle.replica_histories.specs.Transfers.{still_open}
 use Rattle.replica_histories.proofs.Giving.{replies_fit}
 use Rattle.replica_histories.proofs.Executing.{executes_fit}
-use Rattle.replica_histories.proofs.NumbersWaiting.{executions_raise, states_fit}
+use Rattle.replica_histories.proofs.NumbersWaiting.{executions_raise}
+use Rattle.replica_histories.proofs.ChangesKept.{sent_keep, silent_keep}
 use Rattle.replica.specs.declared.waiting.WaitingRequest.{WaitingRequest}
 use Rattle.replica.specs.State.{OrdererData, DeskData, IsDesk}
 use Rattle.replica.specs.Waiting.{WaitingData, frames_of, is_new, forgotten}
-use Rattle.replica.specs.Desks.{AreCallsOf, FitsCount, FitsEvent, IsDeskOf, given, Stands}
+use Rattle.replica.specs.Flags.{FitsFlags}
+use Rattle.replica.specs.Desks.{AreCallsOf, FitsWaiting, FitsEvent, IsDeskOf, given, Stands}
 use Rattle.replica.specs.Desking.{Pays, RunsBatch, SaysReply, above_number, is_due, keeping_due, keeping_state, replies_for, reply_for, snapshots_with}
 use Rattle.replica.specs.Fetching.{closing_reached}
 use Rattle.replica.proofs.Given.{given_one}
 use Rattle.replica.proofs.Parties.{same_log}
-use Rattle.replica.proofs.Staying.{executed_beside, fits_behind, fits_on, numbers_beside, sent_beside}
+use Rattle.replica.proofs.Flags.{flags_forgotten}
+use Rattle.replica.proofs.Staying.{changes_still, executed_beside, fits_behind, fits_on, numbers_beside, sent_beside}
 use Rattle.replica.proofs.Closing.{above_same, rests_above}
 
 -- ---- replies
@@ -45,10 +46,10 @@ pub pays_one : (d : DeskData) (client : ClientId) (kept : Kept) (before after : 
 pays_one d client kept before after r rest c s o known st = record {
   desk = st.desk;
   is = st.is;
-  fits = fits_on c d.me s o o st.desk d.waiting.numbered (reply ∷ rest) rest before after (Sent d.me r.posts.bytes)
+  fits = fits_on c d.me s o o st.desk d.waiting (reply ∷ rest) rest before after (Sent d.me r.posts.bytes)
       (given_one d.me before after r.output r.given_is ∙ ap (λ e. e ∷ given d.me before) r.posts.sends)
       (sent_beside c d.me reply ((256 + client.number) ∷ []) r.posts.bytes (behind s (given d.me before)) tt (r.posts.posted c known))
-      (same_log o.log) refl refl st.fits
+      (sent_keep c d.me (behind s (given d.me before)) reply r.posts.bytes (r.posts.posted c known).says tt) (same_log o.log) refl refl refl refl st.fits
       (replies_fit c d.me s st.desk o.log rest (given d.me before) client.number kept r.posts.bytes (r.posts.posted c known) st.fits.fits);
 }
   where
@@ -96,24 +97,6 @@ calls_kept c st (r ∷ rs) (x ∷ calls) h = go (is_new st r) (nat_lt (last_time
     go false false e rest = rest
     go true false e rest = absurd cc
     go false true e rest = absurd cc
-
-calls_taken : (c : Configuration) (n : ℕ) (rs : List WaitingRequest) (calls : List Call) → AreCallsOf c rs calls → AreCallsOf c (take n rs) (take n calls)
-calls_taken c zero rs calls h = tt
-calls_taken c (suc n) [] [] h = tt
-calls_taken c (suc n) [] (x ∷ calls) h = absurd h
-calls_taken c (suc n) (r ∷ rs) [] h = absurd h
-calls_taken c (suc n) (r ∷ rs) (x ∷ calls) h = (h.0, calls_taken c n rs calls h.1)
-
-as_many_calls : (c : Configuration) (rs : List WaitingRequest) (calls : List Call) → AreCallsOf c rs calls → length calls ≡ length rs
-as_many_calls c [] [] h = refl
-as_many_calls c [] (x ∷ calls) h = absurd h
-as_many_calls c (r ∷ rs) [] h = absurd h
-as_many_calls c (r ∷ rs) (x ∷ calls) h = ap suc (as_many_calls c rs calls h.1)
-
--- of the first ones as many calls as requests are newer
-pub calls_counted : (c : Configuration) (st : State) (n : ℕ) (rs : List WaitingRequest) (calls : List Call) → AreCallsOf c rs calls → length (still_waiting st (take n calls)) ≡ count_by (is_new st) (take n rs)
-calls_counted c st n rs calls h =
-    as_many_calls c (filter (is_new st) (take n rs)) (still_waiting st (take n calls)) (calls_kept c st (take n rs) (take n calls) (calls_taken c n rs calls h)) ∙ length-filter (is_new st) (take n rs)
 
 frames_kept : (p : WaitingRequest → Bool) (rs : List WaitingRequest) (frame : List ℕ) → Has (λ x. x ≡ frame) (map (λ r. r.frame.items) (filter p rs)) → Has (λ x. x ≡ frame) (map (λ r. r.frame.items) rs)
 frames_kept p rs frame h =
@@ -190,11 +173,10 @@ module _ (c : Configuration) (d : DeskData) (text : List ℕ) (ran : List Ran) (
   }
 
   -- which of those that wait have numbers
-  run_counts : (o : OrdererData) (history : List Entry) → FitsCount c d.me o d.waiting.numbered was history → FitsCount c d.me o (forgotten executed.state d.waiting).numbered run_desk history
-  run_counts o history f own =
-      subst (λ (n : ℕ). FitsNumbers c d.me o.log.view o.used n (execute c was.state text) (still_waiting (execute c was.state text) was.waiting) history)
-      (calls_counted c (execute c was.state text) d.waiting.numbered d.waiting.requests was.waiting r.is.waiting ∙ ap (λ (x : State). count_by (is_new x) (take d.waiting.numbered d.waiting.requests)) run_state)
-      (states_fit c d.me o.log.view o.used d.waiting.numbered was.state (execute c was.state text) was.waiting history (executions_raise c was.state text) (f own))
+  run_numbers : (o : OrdererData) (history : List Entry) → FitsWaiting c d.me o d.waiting was history → FitsWaiting c d.me o (forgotten executed.state d.waiting) run_desk history
+  run_numbers o history f own =
+      subst (λ (x : State). FitsFlags c d.me o.log.view o.used (forgotten x d.waiting) (execute c was.state text) (still_waiting (execute c was.state text) was.waiting) history) run_state
+      (flags_forgotten c d.me o.log.view o.used d.waiting was.state (execute c was.state text) was.waiting history r.is.waiting (executions_raise c was.state text) (f own))
 
   run_due : replies_to (ran_in c (suc was.state.number) was.state (requests_of text)) ++ checkpoint_due c (execute c was.state text) ≡ replies_for ran ++ checkpoint_due c executed.state
   run_due =
@@ -202,18 +184,24 @@ module _ (c : Configuration) (d : DeskData) (text : List ℕ) (ran : List Ran) (
       ∙ ap (λ (ms : List Message). ms ++ checkpoint_due c (execute c was.state text)) (replies_same ran (ran_in c (suc d.executed.state.number) d.executed.state (requests_of text)) r.ex.ran)
       ∙ ap (λ (x : State). replies_for ran ++ checkpoint_due c x) run_state
 
-  run_fits : (s : Start) (o : OrdererData) (before after : List Output) → given d.me after ≡ Executed d.me (suc was.state.number) text ∷ given d.me before → logs.committed_batch o.log (suc was.state.number) ≡ Some text
-      → FitsEvent c d.me s o was d.waiting.numbered [] before
-      → FitsEvent c d.me s o run_desk (forgotten executed.state d.waiting).numbered (replies_for ran ++ checkpoint_due c executed.state) after
-  run_fits s o before after is committed f =
-      fits_behind c d.me s o o was run_desk d.waiting.numbered (forgotten executed.state d.waiting).numbered [] (replies_for ran ++ checkpoint_due c executed.state) before after e is refl f
-      (subst (λ (ms : List Message). events.Fits c d.me s run_desk o.log ms (e ∷ given d.me before)) run_due
-      (executes_fit c d.me s was o.log (given d.me before) text (frames_of (forgotten executed.state d.waiting)) committed (frames_behind executed.state d was.frames r.is.frames) f.fits))
-      (run_counts o (e ∷ behind s (given d.me before))
-      (numbers_beside c d.me d.waiting.numbered o was (behind s (given d.me before)) e f.fits.of_log.faults f.fits.of_log.own (executed_beside c d.me (suc was.state.number) text (behind s (given d.me before))) f.numbers))
-    where
-      e : Entry
-      e = Executed d.me (suc was.state.number) text
+  module _ (s : Start) (o : OrdererData) (before after : List Output) (gives : given d.me after ≡ Executed d.me (suc was.state.number) text ∷ given d.me before)
+      (committed : logs.committed_batch o.log (suc was.state.number) ≡ Some text) (f : FitsEvent c d.me s o was d.waiting [] before) where
+    abbrev e : Entry
+    e = Executed d.me (suc was.state.number) text
+
+    abbrev past : List Entry
+    past = behind s (given d.me before)
+
+    run_on : events.Fits c d.me s run_desk o.log (replies_for ran ++ checkpoint_due c executed.state) (e ∷ given d.me before)
+    run_on = subst (λ (ms : List Message). events.Fits c d.me s run_desk o.log ms (e ∷ given d.me before)) run_due
+        (executes_fit c d.me s was o.log (given d.me before) text (frames_of (forgotten executed.state d.waiting)) committed (frames_behind executed.state d was.frames r.is.frames) f.fits)
+
+    run_fits : FitsEvent c d.me s o run_desk (forgotten executed.state d.waiting) (replies_for ran ++ checkpoint_due c executed.state) after
+    run_fits =
+        fits_behind c d.me s o o was run_desk d.waiting (forgotten executed.state d.waiting) [] (replies_for ran ++ checkpoint_due c executed.state) before after e gives refl f run_on
+        (run_numbers o (e ∷ past) (numbers_beside c d.me d.waiting o was past e f.fits.of_log.faults f.fits.of_log.own (executed_beside c d.me (suc was.state.number) text past) f.numbers))
+        (changes_still c d.me s o o was run_desk [] (replies_for ran ++ checkpoint_due c executed.state) (given d.me before) e f.fits run_on
+        (silent_keep c d.me past e tt) (same_log o.log) refl refl f.changes)
 
 run_stands : (d : DeskData) (executed : ExecutedData) (text : List ℕ) (ran : List Ran) (output : Output) (before after : List Output) (c : Configuration) (s : Start) (o : OrdererData) → IsAfter c d.executed text (map told ran) executed
     → executed.state.number ≡ suc d.executed.state.number → entry_of d.me output ≡ Executed d.me (suc d.executed.state.number) text → after ≡ before ++ output ∷ []

@@ -17,20 +17,25 @@ use Rattle.protocol.proofs.Words.Options.{some_injective}
 use Rattle.replica_histories.specs.Desk.{Desk, desk_from, kept_from, snapshot_of}
 use Rattle.replica_histories.specs.Events as events
 use Rattle.replica_histories.specs.Events.{Start, behind}
+use Rattle.replica_histories.specs.Changes.{CutsClaims, FitsChanges, KeepsChanges}
 use Rattle.replica_histories.specs.Marks.{cut_if_stable, checked_log}
 use Rattle.replica_histories.specs.Outputs.{checkpoint_due}
 use Rattle.replica_histories.proofs.Words.{passed, gated}
 use Rattle.replica_histories.proofs.Asking.{cuts_ask_no_more}
 use Rattle.replica_histories.proofs.Cutting.{cut_same}
+use Rattle.replica_histories.proofs.ChangesKept.{sent_keep}
+use Rattle.replica_histories.proofs.ChangesPassing.{claims_are_above}
 use Rattle.replica_histories.proofs.Giving.{checkpoints_fit, kept_are_above}
+use Rattle.view_change.specs.ClaimsView.{ClaimsData}
 use Rattle.replica.specs.State.{OrdererData, DeskData, ReplicaData, AreOne}
-use Rattle.replica.specs.Desks.{given, FitsCount, FitsEvent, Stands}
+use Rattle.replica.specs.Waiting.{WaitingData}
+use Rattle.replica.specs.Desks.{given, FitsWaiting, FitsEvent, Stands, changes_of}
 use Rattle.replica.specs.Going.{CommitsNoMore, IsSameLog, IsSameOrderer, IsVotedAll}
 use Rattle.replica.specs.Desking.{RunsWhole, due_entry, is_due, newest_entry}
 use Rattle.replica.specs.Checkpoints.{IsDueKept, SaysCheckpoint, SaysDueCheckpoint, Settles}
 use Rattle.replica.specs.Saying.{Says}
 use Rattle.replica.proofs.Parties.{same_party}
-use Rattle.replica.proofs.Staying.{numbers_alike, numbers_beside, sent_beside}
+use Rattle.replica.proofs.Staying.{changes_cut, numbers_alike, numbers_beside, sent_beside}
 use Rattle.replica.proofs.Voting.{SaidIn, said_in}
 
 -- ---- what is due
@@ -105,16 +110,17 @@ either P log entry whole cut = go (logs.is_stable log entry)
 -- ---- the orderer says it
 
 -- the checkpoint is counted, and the log cut where it is stable
-abbrev checking : OrdererData → CheckpointEntry → OrdererData
-checking o entry = record o { log = checked_log o.log o.log.me entry; last_checkpoint = Some entry }
+abbrev checking : OrdererData → CheckpointEntry → ClaimsData → OrdererData
+checking o entry claims = record o { log = checked_log o.log o.log.me entry; claims = claims; last_checkpoint = Some entry }
 
 same_checked : (log : LogData) (entry : CheckpointEntry) → IsSameLog log (checked_log log log.me entry)
 same_checked log entry =
     either (λ (m : LogData). IsSameLog log m) (logs.with_checkpoint_of log log.me entry) entry (record { me = refl; faults = refl; span = refl; view = refl; active = refl; low = omega arith })
     (let s = same_cut (logs.with_checkpoint_of log log.me entry) entry.number in record { me = s.me; faults = s.faults; span = s.span; view = s.view; active = s.active; low = s.low })
 
-module _ (c : Configuration) (s : Start) (o : OrdererData) (desk : Desk) (count : ℕ) (entry : CheckpointEntry) (before after : List Output) (known : members c ≡ o.endpoint.membership)
-    (says : Says o (Checkpoint entry.number entry.digest) before after) (voted : IsVotedAll o.log) (f : FitsEvent c o.endpoint.me s o desk count (Checkpoint entry.number entry.digest ∷ []) before) where
+module _ (c : Configuration) (s : Start) (o : OrdererData) (desk : Desk) (w : WaitingData) (entry : CheckpointEntry) (claims : ClaimsData) (before after : List Output) (known : members c ≡ o.endpoint.membership)
+    (says : Says o (Checkpoint entry.number entry.digest) before after) (voted : IsVotedAll o.log) (f : FitsEvent c o.endpoint.me s o desk w (Checkpoint entry.number entry.digest ∷ []) before)
+    (cuts : CutsClaims o.log.low o.claims o.claims → CutsClaims (checked_log o.log o.log.me entry).low o.claims claims) where
   abbrev me : ℕ
   me = o.endpoint.me
 
@@ -122,50 +128,70 @@ module _ (c : Configuration) (s : Start) (o : OrdererData) (desk : Desk) (count 
   past = behind s (given me before)
 
   abbrev later : Desk
-  later = desk_from (checking o entry).log.low desk
+  later = desk_from (checking o entry claims).log.low desk
 
   said : SaidIn c o (Checkpoint entry.number entry.digest) before after
   said = said_in c o (Checkpoint entry.number entry.digest) before after known says
 
-  fitting : events.Fits c me s later (checking o entry).log [] (Sent me said.bytes ∷ given me before)
+  fitting : events.Fits c me s later (checking o entry claims).log [] (Sent me said.bytes ∷ given me before)
   fitting = subst (λ (m : ℕ). events.Fits c me s (desk_from (checked_log o.log m entry).low desk) (checked_log o.log m entry) [] (Sent me said.bytes ∷ given me before)) (sym f.fits.of_log.own)
       (checkpoints_fit c me s desk o.log [] (given me before) entry said.bytes (λ i. (voted i).0) (λ i. (voted i).1) said.posted f.fits)
 
-  numbering : FitsCount c me (checking o entry) count later (Sent me said.bytes ∷ past)
-  numbering = numbers_alike c me count o (checking o entry) desk (Sent me said.bytes ∷ past) (same_checked o.log entry) refl
-      (numbers_beside c me count o desk past (Sent me said.bytes) f.fits.of_log.faults f.fits.of_log.own
+  numbering : FitsWaiting c me (checking o entry claims) w later (Sent me said.bytes ∷ past)
+  numbering = numbers_alike c me w o (checking o entry claims) desk (Sent me said.bytes ∷ past) (same_checked o.log entry) refl
+      (numbers_beside c me w o desk past (Sent me said.bytes) f.fits.of_log.faults f.fits.of_log.own
       (sent_beside c me (Checkpoint entry.number entry.digest) (others c me) said.bytes past tt said.posted) f.numbers)
 
-  says_due : FitsEvent c me s (checking o entry) later count [] after
+  keeps : KeepsChanges c me past (Sent me said.bytes)
+  keeps = sent_keep c me past (Checkpoint entry.number entry.digest) said.bytes said.posted.says tt
+
+  changing : FitsChanges c me (checking o entry claims).log (changes_of (checking o entry claims)) (Sent me said.bytes ∷ past)
+  changing = changes_cut c me s o (checking o entry claims) desk later (Checkpoint entry.number entry.digest ∷ []) [] (given me before) (Sent me said.bytes) f.fits fitting keeps (same_checked o.log entry)
+      (cuts (claims_are_above c me o.log past o.claims f.fits.of_log f.changes.claims)) refl f.changes
+
+  says_due : FitsEvent c me s (checking o entry claims) later w [] after
   says_due = record {
-    fits = subst (λ (es : List Entry). events.Fits c me s later (checking o entry).log [] es) (sym said.is) fitting;
-    numbers = subst (λ (es : List Entry). FitsCount c me (checking o entry) count later (behind s es)) (sym said.is) numbering;
+    fits = subst (λ (es : List Entry). events.Fits c me s later (checking o entry claims).log [] es) (sym said.is) fitting;
+    numbers = subst (λ (es : List Entry). FitsWaiting c me (checking o entry claims) w later (behind s es)) (sym said.is) numbering;
     said = λ other is. subst (λ (es : List Entry). Once (λ earlier e. IsSaying me (Checkpoint other.number other.digest) e) (behind s es)) (sym said.is)
         (inl (subst (λ (z : CheckpointEntry). IsSaying me (Checkpoint z.number z.digest) (Sent me said.bytes)) (some_injective entry other is) said.posted.says));
+    changes = subst (λ (es : List Entry). FitsChanges c me (checking o entry claims).log (changes_of (checking o entry claims)) (behind s es)) (sym said.is) changing;
   }
 
 -- ---- both parts
 
-pub settled_orderer : (entry : CheckpointEntry) (m n : ReplicaData) (b : Bool) → Settles entry m n b → n.orderer ≡ record m.orderer { log = cut_if_stable m.orderer.log entry }
-settled_orderer entry m n true (stable, moves) =
-    ap (λ (r : ReplicaData). r.orderer) moves
-    ∙ ap (λ (b : Bool). record m.orderer { log = cond b (logs.cut_to m.orderer.log entry.number) m.orderer.log }) (sym stable)
+pub settled_orderer : (entry : CheckpointEntry) (m n : ReplicaData) (b : Bool) → Settles entry m n b
+    → n.orderer ≡ record m.orderer { log = cut_if_stable m.orderer.log entry; claims = n.orderer.claims }
+settled_orderer entry m n true (stable, (o, (claims, cuts, o_is), moves)) =
+    subst (λ (r : ReplicaData). r.orderer ≡ record m.orderer { log = cut_if_stable m.orderer.log entry; claims = r.orderer.claims }) (sym moves)
+    (subst (λ (k : OrdererData). k ≡ record m.orderer { log = cut_if_stable m.orderer.log entry; claims = k.claims }) (sym o_is)
+    (ap (λ (b : Bool). let k : OrdererData = record m.orderer { log = cond b (logs.cut_to m.orderer.log entry.number) m.orderer.log; claims = claims } in k) (sym stable)))
 settled_orderer entry m n false (stable, same) =
-    ap (λ (r : ReplicaData). r.orderer) same
-    ∙ ap (λ (b : Bool). record m.orderer { log = cond b (logs.cut_to m.orderer.log entry.number) m.orderer.log }) (sym stable)
+    subst (λ (r : ReplicaData). r.orderer ≡ record m.orderer { log = cut_if_stable m.orderer.log entry; claims = r.orderer.claims }) (sym same)
+    (ap (λ (b : Bool). let k : OrdererData = record m.orderer { log = cond b (logs.cut_to m.orderer.log entry.number) m.orderer.log } in k) (sym stable))
+
+-- the claims up to the low mark go
+pub settled_claims : (entry : CheckpointEntry) (m n : ReplicaData) (b : Bool) → Settles entry m n b → CutsClaims m.orderer.log.low m.orderer.claims m.orderer.claims
+    → CutsClaims (cut_if_stable m.orderer.log entry).low m.orderer.claims n.orderer.claims
+settled_claims entry m n true (stable, (o, (claims, cuts, o_is), moves)) above =
+    subst (λ (b : Bool). CutsClaims (cond b (logs.cut_to m.orderer.log entry.number) m.orderer.log).low m.orderer.claims n.orderer.claims) (sym stable)
+    (subst (λ (x : ClaimsData). CutsClaims (logs.cut_to m.orderer.log entry.number).low m.orderer.claims x) (sym (ap (λ (r : ReplicaData). r.orderer.claims) moves ∙ ap (λ (k : OrdererData). k.claims) o_is)) cuts)
+settled_claims entry m n false (stable, same) above =
+    subst (λ (b : Bool). CutsClaims (cond b (logs.cut_to m.orderer.log entry.number) m.orderer.log).low m.orderer.claims n.orderer.claims) (sym stable)
+    (subst (λ (r : ReplicaData). CutsClaims m.orderer.log.low m.orderer.claims r.orderer.claims) (sym same) above)
 
 pub settled_desk : (entry : CheckpointEntry) (m n : ReplicaData) (b : Bool) → Settles entry m n b → n.desk ≡ record m.desk { snapshots = n.desk.snapshots }
-settled_desk entry m n true (stable, moves) = subst (λ (r : ReplicaData). r.desk ≡ record m.desk { snapshots = r.desk.snapshots }) (sym moves) refl
+settled_desk entry m n true (stable, (o, cuts, moves)) = subst (λ (r : ReplicaData). r.desk ≡ record m.desk { snapshots = r.desk.snapshots }) (sym moves) refl
 settled_desk entry m n false (stable, same) = subst (λ (r : ReplicaData). r.desk ≡ record m.desk { snapshots = r.desk.snapshots }) (sym same) refl
 
 pub settled_stopped : (entry : CheckpointEntry) (m n : ReplicaData) (b : Bool) → Settles entry m n b → n.stopped ≡ m.stopped
-settled_stopped entry m n true (stable, moves) = ap (λ (r : ReplicaData). r.stopped) moves
+settled_stopped entry m n true (stable, (o, cuts, moves)) = ap (λ (r : ReplicaData). r.stopped) moves
 settled_stopped entry m n false (stable, same) = ap (λ (r : ReplicaData). r.stopped) same
 
 -- the kept states are those from the mark on
 pub settled_snapshots : (entry : CheckpointEntry) (m n : ReplicaData) (b : Bool) → Settles entry m n b → kept_from m.orderer.log.low m.desk.snapshots ≡ m.desk.snapshots
     → kept_from (cut_if_stable m.orderer.log entry).low m.desk.snapshots ≡ n.desk.snapshots
-settled_snapshots entry m n true (stable, moves) kept =
+settled_snapshots entry m n true (stable, (o, cuts, moves)) kept =
     ap (λ (b : Bool). kept_from (cond b (logs.cut_to m.orderer.log entry.number) m.orderer.log).low m.desk.snapshots) stable
     ∙ sym (ap (λ (r : ReplicaData). r.desk.snapshots) moves)
 settled_snapshots entry m n false (stable, same) kept =
@@ -177,17 +203,22 @@ module _ (a : ReplicaData) (o : OrdererData) (n : ReplicaData) (entry : Checkpoi
   abbrev counted : LogData
   counted = logs.with_checkpoint_of a.orderer.log a.orderer.log.me entry
 
-  orderer_is : n.orderer ≡ checking a.orderer entry
+  orderer_is : n.orderer ≡ checking a.orderer entry n.orderer.claims
   orderer_is = settled_orderer entry (record a { orderer = o }) n b settles
-      ∙ ap (λ (k : OrdererData). record k { log = cut_if_stable k.log entry }) says.new_is
+      ∙ ap (λ (k : OrdererData). let x : OrdererData = record k { log = cut_if_stable k.log entry; claims = n.orderer.claims } in x) says.new_is
 
   desk_is : n.desk ≡ record a.desk { snapshots = n.desk.snapshots }
   desk_is = settled_desk entry (record a { orderer = o }) n b settles
 
-  snapshots_are : kept_from a.orderer.log.low a.desk.snapshots ≡ a.desk.snapshots → kept_from (checking a.orderer entry).log.low a.desk.snapshots ≡ n.desk.snapshots
+  snapshots_are : kept_from a.orderer.log.low a.desk.snapshots ≡ a.desk.snapshots → kept_from (checking a.orderer entry n.orderer.claims).log.low a.desk.snapshots ≡ n.desk.snapshots
   snapshots_are kept =
       ap (λ (k : OrdererData). kept_from (cut_if_stable k.log entry).low a.desk.snapshots) (sym says.new_is)
       ∙ settled_snapshots entry (record a { orderer = o }) n b settles (ap (λ (k : OrdererData). kept_from k.log.low a.desk.snapshots) says.new_is ∙ kept)
+
+  claims_are : CutsClaims a.orderer.log.low a.orderer.claims a.orderer.claims → CutsClaims (checked_log a.orderer.log a.orderer.log.me entry).low a.orderer.claims n.orderer.claims
+  claims_are above =
+      subst (λ (k : OrdererData). CutsClaims (cut_if_stable k.log entry).low k.claims n.orderer.claims) says.new_is
+      (settled_claims entry (record a { orderer = o }) n b settles (subst (λ (k : OrdererData). CutsClaims k.log.low k.claims k.claims) (sym says.new_is) above))
 
   counted_is_log : IsLog counted
   counted_is_log = subst (λ (k : OrdererData). IsLog k.log) says.new_is is_log
@@ -196,26 +227,26 @@ module _ (a : ReplicaData) (o : OrdererData) (n : ReplicaData) (entry : Checkpoi
       → Stands c s a.orderer a.desk (checkpoint_due c a.desk.executed.state) x → Stands c s n.orderer n.desk [] y
   due_stands c s known voted st =
       subst (λ (k : OrdererData). Stands c s k n.desk [] y) (sym orderer_is)
-      (subst (λ (k : DeskData). Stands c s (checking a.orderer entry) k [] y) (sym desk_is) (record {
-        desk = desk_from (checking a.orderer entry).log.low st.desk;
+      (subst (λ (k : DeskData). Stands c s (checking a.orderer entry n.orderer.claims) k [] y) (sym desk_is) (record {
+        desk = desk_from (checking a.orderer entry n.orderer.claims).log.low st.desk;
         is = record {
           members_are = st.is.members_are;
           period_is = st.is.period_is;
           state = st.is.state;
-          snapshots = ap (kept_from (checking a.orderer entry).log.low) st.is.snapshots ∙ snapshots_are kept;
+          snapshots = ap (kept_from (checking a.orderer entry n.orderer.claims).log.low) st.is.snapshots ∙ snapshots_are kept;
           transfer = st.is.transfer;
           rests = st.is.rests;
           frames = st.is.frames;
           waiting = st.is.waiting;
           differ = st.is.differ;
         };
-        fits = subst (λ (m : ℕ). FitsEvent c m s (checking a.orderer entry) (desk_from (checking a.orderer entry).log.low st.desk) a.desk.waiting.numbered [] y) (sym one.0)
-            (says_due c s a.orderer st.desk a.desk.waiting.numbered entry x y (known ∙ one.1) says.says voted
-            (subst (λ (m : ℕ). FitsEvent c m s a.orderer st.desk a.desk.waiting.numbered (Checkpoint entry.number entry.digest ∷ []) x) one.0 fits));
+        fits = subst (λ (m : ℕ). FitsEvent c m s (checking a.orderer entry n.orderer.claims) (desk_from (checking a.orderer entry n.orderer.claims).log.low st.desk) a.desk.waiting [] y) (sym one.0)
+            (says_due c s a.orderer st.desk a.desk.waiting entry n.orderer.claims x y (known ∙ one.1) says.says voted
+            (subst (λ (m : ℕ). FitsEvent c m s a.orderer st.desk a.desk.waiting (Checkpoint entry.number entry.digest ∷ []) x) one.0 fits) claims_are);
       }))
     where
-      fits : FitsEvent c a.desk.me s a.orderer st.desk a.desk.waiting.numbered (Checkpoint entry.number entry.digest ∷ []) x
-      fits = subst (λ (ms : List Message). FitsEvent c a.desk.me s a.orderer st.desk a.desk.waiting.numbered ms x)
+      fits : FitsEvent c a.desk.me s a.orderer st.desk a.desk.waiting (Checkpoint entry.number entry.digest ∷ []) x
+      fits = subst (λ (ms : List Message). FitsEvent c a.desk.me s a.orderer st.desk a.desk.waiting ms x)
           (due_when c a.desk true st.is.period_is due.due ∙ ap (λ (e : CheckpointEntry). Checkpoint e.number e.digest ∷ []) (sym due.is)) st.fits
 
       above : desk_from a.orderer.log.low st.desk ≡ st.desk
@@ -246,7 +277,7 @@ says_none a x kept none = record {
   stands = λ c s known voted st. record {
     desk = st.desk;
     is = st.is;
-    fits = subst (λ (ms : List Message). FitsEvent c a.desk.me s a.orderer st.desk a.desk.waiting.numbered ms x) (due_when c a.desk false st.is.period_is (none_due a.desk kept none)) st.fits;
+    fits = subst (λ (ms : List Message). FitsEvent c a.desk.me s a.orderer st.desk a.desk.waiting ms x) (due_when c a.desk false st.is.period_is (none_due a.desk kept none)) st.fits;
   };
   party = same_party a;
   used = refl;

@@ -1,13 +1,12 @@
 -- What is committed is executed.
-use Rattle.std.proofs.Common.{◌≡◌, ℕ, zero, suc, ◌+◌, ◌≤◌, ◌<◌, ◌^◌, ◌⊎◌, inl, inr, Bool, true, false, cond, ◌&&◌, List, [], ◌∷◌, length, filter, count_by, take, drop, Option, Some, None, refl, sym, ap, ◌∙◌, subst, arith, nat_lt, nat_le}
-use Rattle.std.proofs.lemmas.List.Sums.{length-filter}
+use Rattle.std.proofs.Common.{◌≡◌, ℕ, suc, ◌+◌, ◌≤◌, ◌<◌, ◌^◌, ◌⊎◌, inl, inr, Bool, true, false, cond, not, ◌&&◌, List, [], ◌∷◌, length, filter, Option, Some, None, refl, sym, ap, ◌∙◌, subst, arith, nat_lt, nat_le}
 use Rattle.std.proofs.lemmas.Bool.{and_parts, ltb-true}
 use Rattle.events.specs.declared.output.Output.{Output}
 use Rattle.ordering.specs.Log.{LogData, is_in_marks, replicas, committed_batch, row_decided, row_of}
 use Rattle.replica_histories.proofs.Words.{passed, given_not}
 use Rattle.replica.specs.declared.waiting.WaitingRequest.{WaitingRequest}
 use Rattle.replica.specs.State.{ReplicaData, DeskData}
-use Rattle.replica.specs.Waiting.{WaitingData, count_unnumbered, keeping, is_new}
+use Rattle.replica.specs.Waiting.{WaitingData, all_unnumbered, count_unnumbered, keeping, is_new}
 use Rattle.replica.specs.Going.{Proceeds, CommitsNoMore, ExecutesAll, ExecutesNext, IsExecuted, IsSameParty, IsVotedAll}
 use Rattle.replica.specs.Desking.{RunsWhole}
 use Rattle.replica.specs.Checkpoints.{SaysDueCheckpoint}
@@ -47,30 +46,27 @@ none_more old new i more none = go (committed_batch new i) refl
 
 -- ---- what waits
 
-fewer_kept : (p : WaitingRequest → Bool) (xs : List WaitingRequest) → length (filter p xs) ≤ length xs
-fewer_kept p [] = omega arith
-fewer_kept p (x ∷ xs) = go (p x) (fewer_kept p xs)
+fewer_left : (p : WaitingRequest → Bool) (xs : List WaitingRequest) → length (all_unnumbered (filter p xs)) ≤ length (all_unnumbered xs)
+fewer_left p [] = omega arith
+fewer_left p (x ∷ xs) = go (p x) (fewer_left p xs)
   where
-    go : (b : Bool) → length (filter p xs) ≤ length xs → length (cond b (x ∷ filter p xs) (filter p xs)) ≤ suc (length xs)
-    go true l = omega (arith, l)
-    go false l = omega (arith, l)
+    same : (n : Bool) → length (all_unnumbered (filter p xs)) ≤ length (all_unnumbered xs)
+        → length (cond n (x ∷ all_unnumbered (filter p xs)) (all_unnumbered (filter p xs))) ≤ length (cond n (x ∷ all_unnumbered xs) (all_unnumbered xs))
+    same true l = omega (arith, l)
+    same false l = l
 
-fewer_long : (p : WaitingRequest → Bool) (n : ℕ) (xs : List WaitingRequest) → length (drop (length (filter p (take n xs))) (filter p xs)) ≤ length (drop n xs)
-fewer_long p zero xs = fewer_kept p xs
-fewer_long p (suc n) [] = omega arith
-fewer_long p (suc n) (x ∷ xs) = go (p x) (fewer_long p n xs)
-  where
-    go : (b : Bool) → length (drop (length (filter p (take n xs))) (filter p xs)) ≤ length (drop n xs)
-        → length (drop (length (cond b (x ∷ filter p (take n xs)) (filter p (take n xs)))) (cond b (x ∷ filter p xs) (filter p xs))) ≤ length (drop n xs)
-    go true l = l
-    go false l = l
+    more : (n : Bool) → length (all_unnumbered (filter p xs)) ≤ length (all_unnumbered xs) → length (all_unnumbered (filter p xs)) ≤ length (cond n (x ∷ all_unnumbered xs) (all_unnumbered xs))
+    more true l = omega (arith, l)
+    more false l = l
 
-fewer_left : (p : WaitingRequest → Bool) (n : ℕ) (xs : List WaitingRequest) → length (drop (count_by p (take n xs)) (filter p xs)) ≤ length (drop n xs)
-fewer_left p n xs = subst (λ (k : ℕ). length (drop k (filter p xs)) ≤ length (drop n xs)) (length-filter p (take n xs)) (fewer_long p n xs)
+    go : (b : Bool) → length (all_unnumbered (filter p xs)) ≤ length (all_unnumbered xs)
+        → length (all_unnumbered (cond b (x ∷ filter p xs) (filter p xs))) ≤ length (cond (not x.numbered) (x ∷ all_unnumbered xs) (all_unnumbered xs))
+    go true l = same (not x.numbered) l
+    go false l = more (not x.numbered) l
 
 -- no more are left without a number
 forgets_no_more : (p : WaitingRequest → Bool) (w : WaitingData) → count_unnumbered (keeping p w) ≤ count_unnumbered w
-forgets_no_more p w = fewer_left p w.numbered w.requests
+forgets_no_more p w = fewer_left p w.requests
 
 -- ---- one batch
 

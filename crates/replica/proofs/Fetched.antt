@@ -1,5 +1,5 @@
 -- A part that comes: the open transfer goes on with what differs.
-use Rattle.std.proofs.Common.{◌≡◌, ℕ, inl, inr, List, [], Option, Some, None, refl, sym, ap, ◌∙◌, subst, option_map, length, arith}
+use Rattle.std.proofs.Common.{◌≡◌, inl, inr, List, [], Option, Some, None, refl, sym, ap, ◌∙◌, subst, option_map, length, arith}
 use Rattle.events.specs.declared.output.Output.{Output}
 use Rattle.state_transfer.specs.declared.place.Place.{Place}
 use Rattle.state_transfer.specs.Transfer.{TransferData}
@@ -14,14 +14,15 @@ use Rattle.replica_histories.proofs.Fetching.{transfers_change}
 use Rattle.replica_histories.proofs.Transfers.{open_may_ask, pages_rested}
 use Rattle.replica_histories.proofs.TransfersInstalling.{rested_rests}
 use Rattle.replica.specs.State.{OrdererData, DeskData, OpenData}
+use Rattle.replica.specs.Waiting.{WaitingData}
 use Rattle.replica.specs.Desks.{given, FitsEvent, IsDeskOf, RestsAt}
 use Rattle.replica.specs.Fetching.{fetch_of, with_transfer}
 use Rattle.replica.specs.Saying.{Says}
 use Rattle.replica.specs.Transferring.{IsRestedAt, AsksPlace}
 use Rattle.replica.proofs.Asking.{asks}
 
-module _ (c : Configuration) (s : Start) (o : OrdererData) (d : DeskData) (desk : Desk) (count : ℕ) (n : OpenData) (outs : List Output)
-    (there : d.transfer ≡ Some n) (is : IsDeskOf c d desk) (f : FitsEvent c o.endpoint.me s o desk count [] outs) where
+module _ (c : Configuration) (s : Start) (o : OrdererData) (d : DeskData) (desk : Desk) (w : WaitingData) (n : OpenData) (outs : List Output)
+    (there : d.transfer ≡ Some n) (is : IsDeskOf c d desk) (f : FitsEvent c o.endpoint.me s o desk w [] outs) where
   abbrev past : List Entry
   past = behind s (given o.endpoint.me outs)
 
@@ -63,22 +64,22 @@ module _ (c : Configuration) (s : Start) (o : OrdererData) (d : DeskData) (desk 
 
   -- the next place is asked for
   pub asks_next : (m : OpenData) (place : Place) (after : List Output) → members c ≡ o.endpoint.membership → AsksPlace d.executed.state n m (Some place) → Says o (fetch_of m.transfer) outs after
-      → IsDeskOf c (with_transfer m d) (record desk { transfer = Some m.transfer }) × FitsEvent c o.endpoint.me s o (record desk { transfer = Some m.transfer }) count [] after
+      → IsDeskOf c (with_transfer m d) (record desk { transfer = Some m.transfer }) × FitsEvent c o.endpoint.me s o (record desk { transfer = Some m.transfer }) w [] after
   asks_next m place after known (rested, rests, next, m_is, all) says =
       let at = ap (λ (x : OpenData). x.rests_at) m_is ∙ rested_at rested rests in
       let may = open_may_ask c o.endpoint.me rested.transfer (Some place) desk.state.number past (rested_open rested all.1 rests) in (
         desk_with m at (subst (λ (x : OpenData). RestsOn x.transfer d.executed.state) (sym m_is) (rested_on rested rests)),
-        asks c s o desk count outs after m.transfer known says [] (subst (λ (x : OpenData). MayAsk c o.endpoint.me x.transfer desk.state.number past) (sym m_is) may) f,
+        asks c s o desk w outs after m.transfer known says [] (subst (λ (x : OpenData). MayAsk c o.endpoint.me x.transfer desk.state.number past) (sym m_is) may) f,
       )
 
   -- nothing differs any more: it rests on the state
   pub rests_now : (m : OpenData) → AsksPlace d.executed.state n m None
-      → IsDeskOf c (with_transfer m d) (record desk { transfer = Some m.transfer }) × FitsEvent c o.endpoint.me s o (record desk { transfer = Some m.transfer }) count [] outs × RestsOn m.transfer d.executed.state
+      → IsDeskOf c (with_transfer m d) (record desk { transfer = Some m.transfer }) × FitsEvent c o.endpoint.me s o (record desk { transfer = Some m.transfer }) w [] outs × RestsOn m.transfer d.executed.state
   rests_now m (rested, rests, next, m_is, all) =
       let at = ap (λ (x : OpenData). x.rests_at) m_is ∙ rested_at rested rests in
       let on = subst (λ (x : OpenData). RestsOn x.transfer d.executed.state) (sym m_is) (rested_on rested rests) in
       let fits = subst (λ (x : OpenData). FitsOpen c o.endpoint.me (Some x.transfer) desk.state.number past) (sym m_is) (rested_open rested all.1 rests) in (
         desk_with m at on,
-        record { fits = transfers_change c o.endpoint.me s desk o.log [] (given o.endpoint.me outs) (Some m.transfer) fits f.fits; numbers = f.numbers; said = f.said },
+        record { fits = transfers_change c o.endpoint.me s desk o.log [] (given o.endpoint.me outs) (Some m.transfer) fits f.fits; numbers = f.numbers; said = f.said; changes = f.changes },
         on,
       )

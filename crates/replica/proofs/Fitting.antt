@@ -3,15 +3,13 @@ use Rattle.std.proofs.Common.{◌≡◌, ℕ, ◌+◌, ◌*◌, ◌<◌, ◌≤�
 use Rattle.ordering.specs.Log.{new_log}
 use Rattle.protocol.specs.System.Configuration.{Configuration, IsConfiguration, span}
 use Rattle.protocol.specs.System.Trace.{Entry, party_of}
-use Rattle.protocol.specs.Replica.Certificates.{target}
 use Rattle.protocol.specs.System.Trace.Entry.{Got, Tick}
 use Rattle.posting.specs.Endpoint.{EndpointState}
 use Rattle.protocol.specs.Replica.State.{opening}
 use Rattle.protocol.specs.Replica.Owed.{IsInput}
 use Rattle.replica_histories.specs.Owing.{IsOrderingReplica}
 use Rattle.replica_histories.specs.Events as histories
-use Rattle.replica_histories.specs.Numbers.{FitsNumbers}
-use Rattle.replica_histories.proofs.Numbers.{first_numbers_fit}
+use Rattle.replica_histories.proofs.ChangesPassing.{changes_begin}
 use Rattle.replica_histories.specs.Histories.{first_desk}
 use Rattle.replica_histories.proofs.Starting.{first_hold}
 use Rattle.replica.specs.declared.replica.Event.{Event}
@@ -19,6 +17,7 @@ use Rattle.replica.specs.declared.replica.Event.TheVariants as events
 use Rattle.replica.specs.State.{OrdererData, ReplicaData}
 use Rattle.replica.specs.Taking.{IsNewOrderer}
 use Rattle.replica.specs.Desking.{IsNewDesk}
+use Rattle.replica.proofs.Flags.{flags_first}
 use Rattle.replica.specs.Fits.{Fits, Runs, EventLeads, me_of}
 
 none_some : {A : Type 0} (x : A) → None ≡ Some x → ⊥
@@ -32,14 +31,10 @@ module _ (c : Configuration) (me : ℕ) (valid : IsConfiguration c) (mine : me <
   first : histories.Holds c me first_desk (new_log me c.faults (span c)) []
   first = first_hold c me valid.some_faults valid.most mine few
 
-  numbers_first : FitsNumbers c me 0 0 0 opening [] []
-  numbers_first = first_numbers_fit c me 0 opening
-
   pub fits_new : (r : ReplicaData) → IsNewOrderer c me r.orderer → IsNewDesk c me r.desk → Fits c r []
   fits_new r orders desks = record {
-    members_are = sym (ap (λ (o : OrdererData). o.endpoint.membership) orders);
+    members_are = sym (ap (λ (o : OrdererData). o.endpoint.membership) orders.0);
     right = tt;
-    unchanged = refl;
     running = λ e. record {
       desk = first_desk;
       is_desk = rw desks (record {
@@ -53,12 +48,11 @@ module _ (c : Configuration) (me : ℕ) (valid : IsConfiguration c) (mine : me <
         waiting = tt;
         differ = λ i j d l m. absurd (omega (arith, m));
       });
-      holds = rw orders first;
-      numbers = rw (orders, desks) (λ own. numbers_first);
-      said = rw orders (λ entry is. absurd (none_some entry is));
-      all = rw (orders, desks) (λ next. omega arith);
-      first = rw orders refl;
-      active = rw orders refl;
+      holds = rw orders.0 first;
+      numbers = rw (orders.0, desks) (λ own. flags_first c me 0 opening);
+      said = rw orders.0 (λ entry is. absurd (none_some entry is));
+      changes = rw orders.0 (changes_begin c me);
+      all = rw (orders.0, desks) (λ next. refl);
     };
   }
 
@@ -75,15 +69,14 @@ module _ (old new : ReplicaData) (endpoint : new.orderer.endpoint ≡ old.ordere
   stops_right c history input own is f =
       subst (λ (e : EndpointState). IsOrderingReplica c e.me (input ∷ history)) (sym endpoint) (inr (own, is, f.right))
 
-  stops : (c : Configuration) (history : List Entry) (input : Entry) → party_of input ≡ me_of old → IsInput input → target (input ∷ history) ≡ target history → Fits c old history
+  stops : (c : Configuration) (history : List Entry) (input : Entry) → party_of input ≡ me_of old → IsInput input → Fits c old history
       → Fits c new (input ∷ history)
-  stops c history input own is sends f = record {
+  stops c history input own is f = record {
     members_are = f.members_are ∙ sym (ap (λ (e : EndpointState). e.membership) endpoint);
     right = stops_right c history input own is f;
-    unchanged = sends ∙ f.unchanged;
     running = λ e. true_not new.stopped stopped e (Runs c new (input ∷ history));
   }
 
   pub leads_none : (event : Event) → EventLeads old event [] new
-  leads_none (events.Got bytes) c history f free = stops c history (Got (me_of old) bytes.now) refl tt (omega arith) f
-  leads_none events.Timeout c history f free = stops c history (Tick (me_of old)) refl tt (omega arith) f
+  leads_none (events.Got bytes) c history f = stops c history (Got (me_of old) bytes.now) refl tt f
+  leads_none events.Timeout c history f = stops c history (Tick (me_of old)) refl tt f

@@ -15,6 +15,7 @@ use Rattle.replica_histories.specs.Transfers.{MayAsk, open_number, transfer_to}
 use Rattle.replica_histories.proofs.Fetching.{quorums_may_ask}
 use Rattle.replica_histories.proofs.TransfersInstalling.{started_rests}
 use Rattle.replica.specs.State.{OrdererData, OpenData, DeskData}
+use Rattle.replica.specs.Waiting.{WaitingData}
 use Rattle.replica.specs.Desks.{given, FitsEvent, IsDeskOf, RestsAt}
 use Rattle.replica.specs.Fetching.{aimed_at, aiming, fetch_of, opened}
 use Rattle.replica.specs.Saying.{Says}
@@ -54,7 +55,7 @@ aimed_is c d desk is =
 
 -- ---- in an event
 
-module _ (c : Configuration) (s : Start) (o : OrdererData) (d : DeskData) (desk : Desk) (count : ℕ) (entry : CheckpointEntry) (before after : List Output) (is : IsDeskOf c d desk) where
+module _ (c : Configuration) (s : Start) (o : OrdererData) (d : DeskData) (desk : Desk) (w : WaitingData) (entry : CheckpointEntry) (before after : List Output) (is : IsDeskOf c d desk) where
   pub aims_desk : IsDeskOf c (aiming entry d) (record desk { transfer = Some (aim_of entry d).transfer })
   aims_desk = record {
     members_are = is.members_are;
@@ -68,7 +69,7 @@ module _ (c : Configuration) (s : Start) (o : OrdererData) (d : DeskData) (desk 
     differ = is.differ;
   }
 
-  may_ask : (due : List Message) → 2 * o.log.faults + 1 ≤ logs.count_checkpoints o.log entry → o.log.low < entry.number → aimed_at d < entry.number → FitsEvent c o.endpoint.me s o desk count due before
+  may_ask : (due : List Message) → 2 * o.log.faults + 1 ≤ logs.count_checkpoints o.log entry → o.log.low < entry.number → aimed_at d < entry.number → FitsEvent c o.endpoint.me s o desk w due before
       → MayAsk c o.endpoint.me (aim_of entry d).transfer desk.state.number (behind s (given o.endpoint.me before))
   may_ask due enough over ahead f =
       subst (λ (t : TransferData). MayAsk c o.endpoint.me t desk.state.number (behind s (given o.endpoint.me before)))
@@ -78,10 +79,10 @@ module _ (c : Configuration) (s : Start) (o : OrdererData) (d : DeskData) (desk 
 
   -- The fetch that is due is said, and the transfer is open behind it.
   pub aims : (rest : List Message) → members c ≡ o.endpoint.membership → 2 * o.log.faults + 1 ≤ logs.count_checkpoints o.log entry → o.log.low < entry.number → aimed_at d < entry.number
-      → Says o (Fetch entry.number levels.Root 0) before after → FitsEvent c o.endpoint.me s o desk count (Fetch entry.number levels.Root 0 ∷ rest) before
-      → FitsEvent c o.endpoint.me s o (record desk { transfer = Some (aim_of entry d).transfer }) count rest after
+      → Says o (Fetch entry.number levels.Root 0) before after → FitsEvent c o.endpoint.me s o desk w (Fetch entry.number levels.Root 0 ∷ rest) before
+      → FitsEvent c o.endpoint.me s o (record desk { transfer = Some (aim_of entry d).transfer }) w rest after
   aims rest known enough over ahead says f =
       let root = sym (asks_root d.executed.state d.transfer entry) in
-      asks_due c s o desk count before after (aim_of entry d).transfer known (subst (λ (m : Message). Says o m before after) root says) rest
+      asks_due c s o desk w before after (aim_of entry d).transfer known (subst (λ (m : Message). Says o m before after) root says) rest
       (may_ask (Fetch entry.number levels.Root 0 ∷ rest) enough over ahead f)
-      (subst (λ (m : Message). FitsEvent c o.endpoint.me s o desk count (m ∷ rest) before) root f)
+      (subst (λ (m : Message). FitsEvent c o.endpoint.me s o desk w (m ∷ rest) before) root f)

@@ -14,8 +14,8 @@ pub said_stands : (a : ReplicaData) (o : OrdererData) (x y : List Output) → Ar
 said_stands a o x y one goes c s known st = record {
   desk = st.desk;
   is = st.is;
-  fits = subst (λ (m : ℕ). FitsEvent c m s o st.desk a.desk.waiting.numbered [] y) (sym one.0)
-      (goes c s st.desk a.desk.waiting.numbered [] (known ∙ one.1) (subst (λ (m : ℕ). FitsEvent c m s a.orderer st.desk a.desk.waiting.numbered [] x) one.0 st.fits));
+  fits = subst (λ (m : ℕ). FitsEvent c m s o st.desk a.desk.waiting [] y) (sym one.0)
+      (goes c s st.desk a.desk.waiting [] (known ∙ one.1) (subst (λ (m : ℕ). FitsEvent c m s a.orderer st.desk a.desk.waiting [] x) one.0 st.fits));
 }
 
 -- where it asks for votes of one number alone, and these are said, it asks for none

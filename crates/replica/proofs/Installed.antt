@@ -15,36 +15,37 @@ use Rattle.protocol.proofs.Words.Options.{some_injective}
 use Rattle.protocol.specs.System.Trace.{Entry}
 use Rattle.protocol.specs.System.Trace.Entry.{Installed}
 use Rattle.protocol.specs.Replica.State.{State}
-use Rattle.protocol.specs.Replica.RightReplica.{still_waiting}
 use Rattle.replica_histories.specs.Desk.{Desk, Snapshot, snapshot_of, kept_from}
 use Rattle.replica_histories.specs.Events as events
 use Rattle.replica_histories.specs.Events.{Start, behind}
-use Rattle.replica_histories.specs.Numbers.{FitsNumbers}
+use Rattle.replica_histories.specs.Changes.{CutsClaims}
 use Rattle.replica_histories.specs.Outputs.{installed_desk}
 use Rattle.replica_histories.specs.Transfers.{FitsOpen, RestsOn}
 use Rattle.replica_histories.proofs.Cutting.{cut_low}
 use Rattle.replica_histories.proofs.Installing.{installations_fit}
-use Rattle.replica_histories.proofs.NumbersWaiting.{states_fit}
+use Rattle.replica_histories.proofs.ChangesKept.{silent_keep}
 use Rattle.replica.specs.declared.waiting.WaitingRequest.{WaitingRequest}
-use Rattle.replica.specs.State.{OpenData, DeskData, ReplicaData, AreOne}
+use Rattle.view_change.specs.ClaimsView.{ClaimsData}
+use Rattle.replica.specs.State.{OrdererData, OpenData, DeskData, ReplicaData, AreOne}
 use Rattle.replica.specs.Waiting.{forgotten, frames_of, is_new}
-use Rattle.replica.specs.Desks.{given, FitsCount, FitsEvent, IsDeskOf, Stands}
+use Rattle.replica.specs.Desks.{given, FitsWaiting, FitsEvent, IsDeskOf, Stands}
 use Rattle.replica.specs.Desking.{desk_above}
 use Rattle.replica.specs.Fetching.{Installs, InstallsFetched}
 use Rattle.replica.specs.Going.{IsSameParty, IsVotedAll}
 use Rattle.replica.specs.Marking.{MovesMarks}
 use Rattle.replica.specs.Fits.{me_of}
-use Rattle.replica.proofs.Desking.{calls_behind, calls_counted, frames_behind}
+use Rattle.replica.proofs.Desking.{calls_behind, frames_behind}
 use Rattle.replica.proofs.DueCheckpoints.{same_cut, cut_voted}
 use Rattle.replica.proofs.Given.{given_one}
 use Rattle.replica_histories.proofs.Reaching.{reached_open}
-use Rattle.replica.proofs.Staying.{fits_behind, installed_beside, numbers_alike, numbers_beside}
+use Rattle.replica.proofs.Flags.{flags_forgotten}
+use Rattle.replica.proofs.Staying.{changes_cut, fits_behind, installed_beside, numbers_alike, numbers_beside}
 
 -- All that the open transfer holds has the root that is wanted, and it rests on the executed state.
 pub record IsFetched (c : Configuration) (s : Start) (a : ReplicaData) (desk : Desk) (m : OpenData) (before : List Output) : Type 0 where
   pub is_open : a.desk.transfer ≡ Some m
   pub is : IsDeskOf c a.desk desk
-  pub fits : FitsEvent c (me_of a) s a.orderer desk a.desk.waiting.numbered [] before
+  pub fits : FitsEvent c (me_of a) s a.orderer desk a.desk.waiting [] before
   pub rests : RestsOn m.transfer a.desk.executed.state
   pub root : root_of_pages m.transfer.held ≡ m.transfer.root
 
@@ -62,18 +63,25 @@ none_some x P e = absurd cc
 
 -- ---- what an installation leaves
 
+-- the orderer with its log cut, and these claims
+abbrev cut_orderer : ℕ → ClaimsData → OrdererData → OrdererData
+cut_orderer number claims o = record o { log = logs.cut_to o.log number; claims = claims }
+
 record IsInstalled (a : ReplicaData) (m : OpenData) (number : Number) (root : List ℕ) (st : State) (b : ReplicaData) : Type 0 where
   has : HasPagesAt m.transfer.number m.transfer.held st
   falls : NoneFalls a.desk.executed.state st
   number_is : number.0 ≡ m.transfer.number
   root_is : root ≡ m.transfer.root
+  claims : ClaimsData
+  cuts : CutsClaims (logs.cut_to a.orderer.log m.transfer.number).low a.orderer.claims claims
   new_is : b ≡ record a {
-    orderer = record a.orderer { log = logs.cut_to a.orderer.log m.transfer.number };
+    orderer = cut_orderer m.transfer.number claims a.orderer;
     desk = with_state st (logs.cut_to a.orderer.log m.transfer.number).low a.desk;
   }
 
 module _ (c : Configuration) (s : Start) (a : ReplicaData) (desk : Desk) (m : OpenData) (before after : List Output) (st : State)
     (g : IsFetched c s a desk m before) (has : HasPagesAt m.transfer.number m.transfer.held st) (falls : NoneFalls a.desk.executed.state st) (voted : IsVotedAll a.orderer.log)
+    (claims : ClaimsData) (cuts : CutsClaims (logs.cut_to a.orderer.log m.transfer.number).low a.orderer.claims claims)
     (gives : given (me_of a) after ≡ Installed (me_of a) m.transfer.number m.transfer.root ∷ given (me_of a) before) where
   abbrev me : ℕ
   me = a.orderer.endpoint.me
@@ -115,16 +123,18 @@ module _ (c : Configuration) (s : Start) (a : ReplicaData) (desk : Desk) (m : Op
   fitting = installations_fit c me s desk a.orderer.log (given me before) m.transfer st frames known_open rests_here g.root has.state has.number has.pages small
       (λ i. (voted i).0) (λ i. (voted i).1) (frames_behind st a.desk desk.frames g.is.frames) g.fits.fits
 
-  numbering : FitsCount c me (record a.orderer { log = cut }) (forgotten st a.desk.waiting).numbered later (e ∷ past)
-  numbering = numbers_alike c me (forgotten st a.desk.waiting).numbered a.orderer (record a.orderer { log = cut }) later (e ∷ past) (same_cut a.orderer.log m.transfer.number) refl
-      (λ own. subst (λ (n : ℕ). FitsNumbers c me a.orderer.log.view a.orderer.used n st (still_waiting st desk.waiting) (e ∷ past))
-      (calls_counted c st a.desk.waiting.numbered a.desk.waiting.requests desk.waiting g.is.waiting)
-      (states_fit c me a.orderer.log.view a.orderer.used a.desk.waiting.numbered desk.state st desk.waiting (e ∷ past) falls_here
-      (numbers_beside c me a.desk.waiting.numbered a.orderer desk past e g.fits.fits.of_log.faults g.fits.fits.of_log.own
-      (installed_beside c me m.transfer.number m.transfer.root past) g.fits.numbers own)))
+  abbrev new : OrdererData
+  new = cut_orderer m.transfer.number claims a.orderer
 
-  installed_fits : FitsEvent c me s (record a.orderer { log = cut }) later (forgotten st a.desk.waiting).numbered [] after
-  installed_fits = fits_behind c me s a.orderer (record a.orderer { log = cut }) desk later a.desk.waiting.numbered (forgotten st a.desk.waiting).numbered [] [] before after e gives refl g.fits fitting numbering
+  numbering : FitsWaiting c me new (forgotten st a.desk.waiting) later (e ∷ past)
+  numbering = numbers_alike c me (forgotten st a.desk.waiting) a.orderer new later (e ∷ past) (same_cut a.orderer.log m.transfer.number) refl
+      (λ own. flags_forgotten c me a.orderer.log.view a.orderer.used a.desk.waiting desk.state st desk.waiting (e ∷ past) g.is.waiting falls_here
+      (numbers_beside c me a.desk.waiting a.orderer desk past e g.fits.fits.of_log.faults g.fits.fits.of_log.own
+      (installed_beside c me m.transfer.number m.transfer.root past) g.fits.numbers own))
+
+  installed_fits : FitsEvent c me s new later (forgotten st a.desk.waiting) [] after
+  installed_fits = fits_behind c me s a.orderer new desk later a.desk.waiting (forgotten st a.desk.waiting) [] [] before after e gives refl g.fits fitting numbering
+      (changes_cut c me s a.orderer new desk later [] [] (given me before) e g.fits.fits fitting (silent_keep c me past e tt) (same_cut a.orderer.log m.transfer.number) cuts refl g.fits.changes)
 
   installed_is : IsDeskOf c (with_state st cut.low a.desk) later
   installed_is = record {
@@ -149,14 +159,17 @@ same_open x y e = some_injective x y e
 
 installs_so : (a b : ReplicaData) (d : DeskData) (m : OpenData) (number : Number) (root : List ℕ) → a.desk.transfer ≡ Some m → Installs a.desk d (Some (entry_for number root)) → MovesMarks number.0 (record a { desk = d }) b
     → IsInstalled a m number root d.executed.state b
-installs_so a b d m number root there (o, is_open, entry_is, has, falls, d_is) moves = record {
-  has = subst (λ (x : OpenData). HasPagesAt x.transfer.number x.transfer.held d.executed.state) same has;
+installs_so a b d m number root there (o, is_open, entry_is, has, falls, d_is) (x, (claims, cuts, x_is), moves) = record {
+  has = subst (λ (y : OpenData). HasPagesAt y.transfer.number y.transfer.held d.executed.state) same has;
   falls = falls;
   number_is = at;
-  root_is = ap (λ (x : CheckpointEntry). x.digest) entry_is ∙ ap (λ (x : OpenData). x.transfer.root) same;
+  root_is = ap (λ (y : CheckpointEntry). y.digest) entry_is ∙ ap (λ (y : OpenData). y.transfer.root) same;
+  claims = claims;
+  cuts = subst (λ (n : ℕ). CutsClaims (logs.cut_to a.orderer.log n).low a.orderer.claims claims) at cuts;
   new_is = moves
-      ∙ ap (λ (n : ℕ). let new : ReplicaData = record a { orderer = record a.orderer { log = logs.cut_to a.orderer.log n }; desk = desk_above (logs.cut_to a.orderer.log n).low d } in new) at
-      ∙ ap (λ (x : DeskData). let new : ReplicaData = record a { orderer = record a.orderer { log = logs.cut_to a.orderer.log m.transfer.number }; desk = desk_above (logs.cut_to a.orderer.log m.transfer.number).low x } in new) d_is;
+      ∙ ap (λ (k : OrdererData). let new : ReplicaData = record a { orderer = k; desk = desk_above (logs.cut_to a.orderer.log number.0).low d } in new) x_is
+      ∙ ap (λ (n : ℕ). let new : ReplicaData = record a { orderer = cut_orderer n claims a.orderer; desk = desk_above (logs.cut_to a.orderer.log n).low d } in new) at
+      ∙ ap (λ (y : DeskData). let new : ReplicaData = record a { orderer = cut_orderer m.transfer.number claims a.orderer; desk = desk_above (logs.cut_to a.orderer.log m.transfer.number).low y } in new) d_is;
 }
   where
     same : o ≡ m
@@ -165,14 +178,14 @@ installs_so a b d m number root there (o, is_open, entry_is, has, falls, d_is) m
     at : number.0 ≡ m.transfer.number
     at = ap (λ (x : CheckpointEntry). x.number) entry_is ∙ ap (λ (x : OpenData). x.transfer.number) same
 
-installed_party : (a : ReplicaData) (n : ℕ) (st : State) (low : ℕ) → IsSameParty a (record a { orderer = record a.orderer { log = logs.cut_to a.orderer.log n }; desk = with_state st low a.desk })
-installed_party a n st low = record { orderer = record { endpoint = refl; log = same_cut a.orderer.log n }; me = refl; membership = refl; stopped = refl }
+installed_party : (a : ReplicaData) (n : ℕ) (claims : ClaimsData) (st : State) (low : ℕ) → IsSameParty a (record a { orderer = cut_orderer n claims a.orderer; desk = with_state st low a.desk })
+installed_party a n claims st low = record { orderer = record { endpoint = refl; log = same_cut a.orderer.log n }; me = refl; membership = refl; stopped = refl }
 
 -- The party is the same.
 pub moved_party : (a b : ReplicaData) (m : OpenData) (before after : List Output) → a.desk.transfer ≡ Some m → InstallsFetched a before b after true → IsSameParty a b
 moved_party a b m before after there (d, number, root, installs, gives, moves) =
     let i = installs_so a b d m number root there installs moves in
-    subst (λ (r : ReplicaData). IsSameParty a r) (sym i.new_is) (installed_party a m.transfer.number d.executed.state (logs.cut_to a.orderer.log m.transfer.number).low)
+    subst (λ (r : ReplicaData). IsSameParty a r) (sym i.new_is) (installed_party a m.transfer.number i.claims d.executed.state (logs.cut_to a.orderer.log m.transfer.number).low)
 
 -- What was fetched is installed.
 pub installs_fetched : (c : Configuration) (s : Start) (a b : ReplicaData) (desk : Desk) (m : OpenData) (before after : List Output) → AreOne a.orderer a.desk → IsFetched c s a desk m before → IsVotedAll a.orderer.log
@@ -185,9 +198,9 @@ installs_fetched c s a b desk m before after one g voted (d, number, root, insta
     subst (λ (r : ReplicaData). Stands c s r.orderer r.desk [] after × IsVotedAll r.orderer.log) (sym i.new_is) (
       record {
         desk = installed_desk desk st (frames_of (forgotten st a.desk.waiting));
-        is = installed_is c s a desk m before after st g i.has i.falls voted is;
-        fits = subst (λ (k : ℕ). FitsEvent c k s (record a.orderer { log = logs.cut_to a.orderer.log m.transfer.number }) (installed_desk desk st (frames_of (forgotten st a.desk.waiting))) (forgotten st a.desk.waiting).numbered [] after)
-            (sym one.0) (installed_fits c s a desk m before after st g i.has i.falls voted is);
+        is = installed_is c s a desk m before after st g i.has i.falls voted i.claims i.cuts is;
+        fits = subst (λ (k : ℕ). FitsEvent c k s (cut_orderer m.transfer.number i.claims a.orderer) (installed_desk desk st (frames_of (forgotten st a.desk.waiting))) (forgotten st a.desk.waiting) [] after)
+            (sym one.0) (installed_fits c s a desk m before after st g i.has i.falls voted i.claims i.cuts is);
       },
       cut_voted a.orderer.log m.transfer.number g.fits.fits.of_log.is_log voted,
     )

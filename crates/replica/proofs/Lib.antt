@@ -4,6 +4,7 @@ pub mod Given
 pub mod Parties
 pub mod Staying
 pub mod Rows
+pub mod Logging
 pub mod Voting
 pub mod Again
 pub mod Checkpointing
@@ -11,9 +12,11 @@ pub mod KeptStates
 pub mod Closing
 pub mod Desking
 pub mod WaitingKept
+pub mod Flags
 pub mod Executions
 pub mod NumbersGiven
 pub mod GoingOn
+pub mod Marking
 pub mod DueCheckpoints
 pub mod Carrying
 pub mod Fitting
@@ -32,3 +35,13 @@ pub mod PartsEnd
 pub mod Answering
 pub mod Reacting
 pub mod Ticking
+pub mod ChangingViews
+pub mod JoiningOthers
+pub mod ChangesCome
+pub mod EnteringViews
+pub mod NewViews
+pub mod StartsFetched
+pub mod ViewsEntered
+pub mod NewViewsCome
+pub mod BegunViews
+pub mod OwnViews

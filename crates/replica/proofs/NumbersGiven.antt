@@ -1,6 +1,6 @@
 -- The oldest requests without a number get the next one.
-use Rattle.std.proofs.Common.{◌≡◌, ℕ, zero, suc, ◌+◌, ◌≤◌, ◌<◌, true, List, [], ◌∷◌, ◌++◌, length, map, take, drop, Some, refl, sym, ap, ◌∙◌, subst, arith, AllPairs}
-use Rattle.std.proofs.lemmas.List.{take-append-drop, length-drop, length-map}
+use Rattle.std.proofs.Common.{◌≡◌, ◌≢◌, ℕ, zero, suc, ◌+◌, ◌≤◌, ◌<◌, inl, inr, Bool, true, false, cond, not, List, [], ◌∷◌, length, map, filter, take, drop, refl, sym, ap, ◌∙◌, subst, arith, AllPairs}
+use Rattle.std.proofs.lemmas.List.{take-append-drop, length-take, length-map}
 use Rattle.wire.specs.Lists.{Each}
 use Rattle.wire.specs.Spelling.{pieces_spelling}
 use Rattle.wire.specs.Words.{requests_of}
@@ -9,101 +9,148 @@ use Rattle.events.specs.declared.output.Output.{Output}
 use Rattle.ordering.specs.Log as logs
 use Rattle.ordering.specs.Log.{LogData}
 use Rattle.protocol.specs.System.Configuration.{Configuration, members}
-use Rattle.protocol.specs.System.Trace.{Entry, Has}
-use Rattle.protocol.specs.Replica.State.{Call, call_of}
+use Rattle.protocol.specs.System.Trace.{Entry, Has, either}
+use Rattle.protocol.specs.Replica.State.{Call}
 use Rattle.protocol.specs.Replica.Owed.{IsNumbered, AreDifferent}
-use Rattle.protocol.proofs.Words.Elements.{has_some, has_map, has_mapped, each_has}
+use Rattle.protocol.proofs.Words.Elements.{has_map, has_mapped}
 use Rattle.replica_histories.specs.Desk.{Desk}
 use Rattle.replica_histories.specs.Logs.{FitsLog}
 use Rattle.replica_histories.specs.Events.{Start, behind}
-use Rattle.replica_histories.specs.Numbers.{AreCalls, FitsNumbers, HasNone}
+use Rattle.replica_histories.specs.Numbers as numbers
+use Rattle.replica_histories.specs.Numbers.{AreCalls, Waiting, HasNumber, HasNone, IsRightly}
 use Rattle.replica_histories.specs.Outputs.{MayNumber}
-use Rattle.replica_histories.proofs.NumbersLists.{each_front, each_where, has_taken, has_dropped, Pairs, pairs_of, all_pairs, pairs_dropped, pairs_front, IsAt, Spells, spelled_at, Differ, frames_differ}
+use Rattle.replica_histories.proofs.NumbersLists.{each_where, has_taken, Pairs, pairs_of, all_pairs, pairs_kept, pairs_mapped, pairs_unmapped, pairs_front, IsAt, Spells, spelled_at, Differ, frames_differ}
 use Rattle.replica.specs.declared.waiting.WaitingRequest.{WaitingRequest}
-use Rattle.replica.specs.State.{OrdererData, DeskData, ReplicaData, AreOne}
-use Rattle.replica.specs.Waiting.{WaitingData, texts, frames_of, unnumbered, count_unnumbered}
-use Rattle.replica.specs.Desks.{AreCallsOf, given, FitsEvent, Stands}
-use Rattle.replica.specs.Going.{GoesOnWith, IsSameOrderer, IsSameParty, IsVoted, IsVotedBut, IsVotedAll, Proceeds, Rests}
+use Rattle.replica.specs.State.{DeskData, ReplicaData, AreOne}
+use Rattle.replica.specs.Waiting.{WaitingData, texts, frames_of, all_unnumbered, unnumbered, count_unnumbered, all_numbered, with_numbered}
+use Rattle.replica.specs.Flags.{FitsFlags, flagged}
+use Rattle.replica.specs.Desks.{AreCallsOf, AreOfDifferentClients, given, FitsEvent, Stands}
+use Rattle.replica.specs.Going.{GoesOnWith, IsSameLog, IsSameOrderer, IsSameParty, IsVoted, IsVotedBut, IsVotedAll, Proceeds, Rests}
 use Rattle.replica.specs.Numbering.{IsAllNumbered}
 use Rattle.replica.specs.NumbersNext.{NumbersNext, GivesNumber, NumbersWaiting}
 use Rattle.replica.proofs.WaitingKept.{few_unnumbered}
+use Rattle.replica.proofs.Flags.{calls_unnumbered, calls_taken, are_calls}
 use Rattle.replica.proofs.Parties.{same_party, orderers_twice, parties_twice}
 use Rattle.replica.proofs.Rows.{due_prepare_elsewhere, due_commit_elsewhere}
 
--- ---- the calls of what waits
+-- ---- what waits
 
-calls_of : (c : Configuration) (rs : List WaitingRequest) (calls : List Call) → AreCallsOf c rs calls → AreCalls c (texts rs) calls
-calls_of c [] [] h = refl
-calls_of c [] (x ∷ calls) h = absurd h
-calls_of c (r ∷ rs) [] h = absurd h
-calls_of c (r ∷ rs) (x ∷ calls) h =
-    ap (λ o. o ∷ map (call_of c) (texts rs)) h.0.0 ∙ ap (λ os. Some x ∷ os) (calls_of c rs calls h.1)
-
-calls_taken : (c : Configuration) (n : ℕ) (rs : List WaitingRequest) (calls : List Call) → AreCallsOf c rs calls → AreCallsOf c (take n rs) (take n calls)
-calls_taken c zero rs calls h = tt
-calls_taken c (suc n) [] [] h = tt
-calls_taken c (suc n) [] (x ∷ calls) h = absurd h
-calls_taken c (suc n) (r ∷ rs) [] h = absurd h
-calls_taken c (suc n) (r ∷ rs) (x ∷ calls) h = (h.0, calls_taken c n rs calls h.1)
-
-calls_dropped : (c : Configuration) (n : ℕ) (rs : List WaitingRequest) (calls : List Call) → AreCallsOf c rs calls → AreCallsOf c (drop n rs) (drop n calls)
-calls_dropped c zero rs calls h = h
-calls_dropped c (suc n) [] [] h = tt
-calls_dropped c (suc n) [] (x ∷ calls) h = absurd h
-calls_dropped c (suc n) (r ∷ rs) [] h = absurd h
-calls_dropped c (suc n) (r ∷ rs) (x ∷ calls) h = calls_dropped c n rs calls h.1
-
-as_long : (c : Configuration) (rs : List WaitingRequest) (calls : List Call) → AreCallsOf c rs calls → length rs ≡ length calls
-as_long c [] [] h = refl
-as_long c [] (x ∷ calls) h = absurd h
-as_long c (r ∷ rs) [] h = absurd h
-as_long c (r ∷ rs) (x ∷ calls) h = ap suc (as_long c rs calls h.1)
+-- what is kept was there
+has_kept : {A : Type 0} (P : A → Type 0) (p : A → Bool) (xs : List A) → Has P (filter p xs) → Has P xs
+has_kept P p [] h = h
+has_kept {A} P p (x ∷ xs) h = go (p x) (has_kept P p xs) h
+  where
+    go : (b : Bool) → (Has P (filter p xs) → Has P xs) → Has P (cond b (x ∷ filter p xs) (filter p xs)) → Has P (x ∷ xs)
+    go true rest (inl k) = inl k
+    go true rest (inr k) = inr (rest k)
+    go false rest k = inr (rest k)
 
 -- what is among the oldest ones without a number, waits
 frame_waits : (frame : List ℕ) (w : WaitingData) → Has (λ x. x ≡ frame) (texts (unnumbered w)) → Has (λ x. x ≡ frame) (frames_of w)
 frame_waits frame w h =
     let at = has_map (λ x. x ≡ frame) (λ (r : WaitingRequest). r.frame.items) (unnumbered w) h in
     has_mapped (λ x. x ≡ frame) (λ (r : WaitingRequest). r.frame.items) w.requests
-    (has_dropped (λ (r : WaitingRequest). r.frame.items ≡ frame) w.numbered w.requests
-    (has_taken (λ (r : WaitingRequest). r.frame.items ≡ frame) 16 (drop w.numbered w.requests) at))
+    (has_kept (λ (r : WaitingRequest). r.frame.items ≡ frame) (λ (r : WaitingRequest). not r.numbered) w.requests
+    (has_taken (λ (r : WaitingRequest). r.frame.items ≡ frame) 16 (all_unnumbered w.requests) at))
+
+-- what is flagged rightly as without a number, has none
+none_numbered : (c : Configuration) (me v : ℕ) (history : List Entry) (client timestamp : ℕ) (es : List Waiting) → Each (IsRightly c me v history) es
+    → Has (λ (e : Waiting). IsAt client timestamp e.call) (numbers.unnumbered es) → IsNumbered c me history v client timestamp → ⊥
+none_numbered c me v history client timestamp [] r h n = h
+none_numbered c me v history client timestamp (e ∷ es) r h n = go e.numbered r.0 (none_numbered c me v history client timestamp es r.1) h
+  where
+    go : (b : Bool) → either b (HasNumber c me v history e.call) (HasNone c me v history e.call)
+        → (Has (λ (x : Waiting). IsAt client timestamp x.call) (numbers.unnumbered es) → IsNumbered c me history v client timestamp → ⊥)
+        → Has (λ (x : Waiting). IsAt client timestamp x.call) (cond (not b) (e ∷ numbers.unnumbered es) (numbers.unnumbered es)) → ⊥
+    go true k rest at = rest at n
+    go false k rest (inl at) =
+        k (subst (λ (i : ℕ). IsNumbered c me history v i e.call.timestamp) (sym at.0) (subst (λ (t : ℕ). IsNumbered c me history v client t) (sym at.1) n))
+    go false k rest (inr at) = rest at n
+
+-- ---- with numbers
+
+-- what isn't the flag stays
+same_numbered : {A : Type 0} (f : WaitingRequest → A) → ((r : WaitingRequest) → f (record r { numbered = true }) ≡ f r) → (n : ℕ) (rs : List WaitingRequest) → map f (all_numbered n rs) ≡ map f rs
+same_numbered f same n [] = refl
+same_numbered f same zero (r ∷ rs) = refl
+same_numbered {A} f same (suc n) (r ∷ rs) = go r.numbered (same_numbered f same (suc n) rs) (same_numbered f same n rs)
+  where
+    go : (b : Bool) → map f (all_numbered (suc n) rs) ≡ map f rs → map f (all_numbered n rs) ≡ map f rs
+        → map f (cond b (r ∷ all_numbered (suc n) rs) (record r { numbered = true } ∷ all_numbered n rs)) ≡ f r ∷ map f rs
+    go true many fewer = ap (λ (ts : List A). f r ∷ ts) many
+    go false many fewer = ap (λ (ts : List A). f (record r { numbered = true }) ∷ ts) fewer ∙ ap (λ (t : A). t ∷ map f rs) (same r)
+
+calls_numbered : (c : Configuration) (n : ℕ) (rs : List WaitingRequest) (calls : List Call) → AreCallsOf c rs calls → AreCallsOf c (all_numbered n rs) calls
+calls_numbered c n [] [] h = h
+calls_numbered c n [] (x ∷ calls) h = absurd h
+calls_numbered c n (r ∷ rs) [] h = absurd h
+calls_numbered c zero (r ∷ rs) (x ∷ calls) h = h
+calls_numbered c (suc n) (r ∷ rs) (x ∷ calls) h = go r.numbered (calls_numbered c (suc n) rs calls h.1) (calls_numbered c n rs calls h.1)
+  where
+    go : (b : Bool) → AreCallsOf c (all_numbered (suc n) rs) calls → AreCallsOf c (all_numbered n rs) calls
+        → AreCallsOf c (cond b (r ∷ all_numbered (suc n) rs) (record r { numbered = true } ∷ all_numbered n rs)) (x ∷ calls)
+    go true many fewer = (h.0, many)
+    go false many fewer = (h.0, fewer)
+
+clients_differ : (n : ℕ) (rs : List WaitingRequest) → AreOfDifferentClients rs → AreOfDifferentClients (all_numbered n rs)
+clients_differ n rs h =
+    all_pairs (λ (r : WaitingRequest) (t : WaitingRequest). r.client.number ≢ t.client.number) (all_numbered n rs)
+    (pairs_unmapped (λ (i : ℕ) (j : ℕ). i ≢ j) (λ (r : WaitingRequest). r.client.number) (all_numbered n rs)
+    (subst (Pairs (λ (i : ℕ) (j : ℕ). i ≢ j)) (sym (same_numbered (λ (r : WaitingRequest). r.client.number) (λ r. refl) n rs))
+    (pairs_mapped (λ (i : ℕ) (j : ℕ). i ≢ j) (λ (r : WaitingRequest). r.client.number) rs
+    (pairs_of (λ (r : WaitingRequest) (t : WaitingRequest). r.client.number ≢ t.client.number) rs h))))
+
+-- how many are left
+left_numbered : (n : ℕ) (rs : List WaitingRequest) → n ≤ length (all_unnumbered rs) → length (all_unnumbered (all_numbered n rs)) + n ≡ length (all_unnumbered rs)
+left_numbered n [] h = omega (arith, h)
+left_numbered zero (r ∷ rs) h = omega arith
+left_numbered (suc n) (r ∷ rs) h = go r.numbered refl (left_numbered (suc n) rs) (left_numbered n rs) h
+  where
+    go : (b : Bool) → r.numbered ≡ b
+        → (suc n ≤ length (all_unnumbered rs) → length (all_unnumbered (all_numbered (suc n) rs)) + suc n ≡ length (all_unnumbered rs))
+        → (n ≤ length (all_unnumbered rs) → length (all_unnumbered (all_numbered n rs)) + n ≡ length (all_unnumbered rs))
+        → suc n ≤ length (cond (not b) (r ∷ all_unnumbered rs) (all_unnumbered rs))
+        → length (all_unnumbered (cond b (r ∷ all_numbered (suc n) rs) (record r { numbered = true } ∷ all_numbered n rs))) + suc n ≡ length (cond (not b) (r ∷ all_unnumbered rs) (all_unnumbered rs))
+    go true e many fewer k =
+        ap (λ (t : Bool). length (cond (not t) (r ∷ all_unnumbered (all_numbered (suc n) rs)) (all_unnumbered (all_numbered (suc n) rs))) + suc n) e ∙ many k
+    go false e many fewer k = let rest = fewer (omega (arith, k)) in omega (arith, rest)
 
 -- ---- one batch
 
 module _ (c : Configuration) (me number used : ℕ) (log : LogData) (text : List ℕ) (w : WaitingData) (desk : Desk) (history : List Entry) (inside : logs.is_in_marks log number ≡ true)
     (active : log.active ≡ true) (primary : logs.primary log log.view ≡ log.me) (above : used < number) (reads : requests_of text ≡ texts (unnumbered w)) (frames : desk.frames ≡ frames_of w)
-    (calls : AreCallsOf c w.requests desk.waiting) (of_log : FitsLog c me log history) (f : FitsNumbers c me log.view used w.numbered desk.state desk.waiting history) where
+    (calls : AreCallsOf c w.requests desk.waiting) (of_log : FitsLog c me log history) (f : FitsFlags c me log.view used w desk.state desk.waiting history) where
+  abbrev entries : List Waiting
+  entries = flagged w.requests desk.waiting
+
+  abbrev first_ones : List Waiting
+  first_ones = take 16 (numbers.unnumbered entries)
+
   abbrev oldest : List Call
-  oldest = take 16 (drop w.numbered desk.waiting)
-
-  abbrev later : List Call
-  later = drop 16 (drop w.numbered desk.waiting)
-
-  parts : drop w.numbered desk.waiting ≡ oldest ++ later
-  parts = sym (take-append-drop 16 (drop w.numbered desk.waiting))
+  oldest = numbers.calls_of first_ones
 
   these : AreCallsOf c (unnumbered w) oldest
-  these = calls_taken c 16 (drop w.numbered w.requests) (drop w.numbered desk.waiting) (calls_dropped c w.numbered w.requests desk.waiting calls)
-
-  pub as_many : length (unnumbered w) ≡ length oldest
-  as_many = as_long c (unnumbered w) oldest these
+  these = calls_taken c 16 (all_unnumbered w.requests) (numbers.unnumbered entries) (calls_unnumbered c w.requests desk.waiting calls)
 
   spells : AreCalls c (texts (unnumbered w)) oldest
-  spells = calls_of c (unnumbered w) oldest these
+  spells = are_calls c (unnumbered w) oldest these
 
-  pub batch_calls : AreCalls c (requests_of text) oldest
-  batch_calls = subst (λ (xs : List (List ℕ)). AreCalls c xs oldest) (sym reads) spells
-
-  none_here : Each (HasNone c me log.view history) oldest
-  none_here = each_front (HasNone c me log.view history) oldest later (subst (Each (HasNone c me log.view history)) parts f.unnumbered)
+  abbrev CallsDiffer : Waiting → Waiting → Type 0
+  CallsDiffer = λ x y. Differ c x.call y.call
 
   differ_here : Pairs (Differ c) oldest
-  differ_here = pairs_front (Differ c) oldest later (subst (Pairs (Differ c)) parts (pairs_dropped (Differ c) w.numbered desk.waiting (pairs_of (Differ c) desk.waiting f.differ)))
+  differ_here =
+      pairs_mapped (Differ c) (λ (e : Waiting). e.call) first_ones
+      (pairs_front CallsDiffer first_ones (drop 16 (numbers.unnumbered entries))
+      (subst (Pairs CallsDiffer) (sym (take-append-drop 16 (numbers.unnumbered entries)))
+      (pairs_kept CallsDiffer (λ (e : Waiting). not e.numbered) entries
+      (pairs_unmapped (Differ c) (λ (e : Waiting). e.call) entries
+      (subst (Pairs (Differ c)) (sym f.calls) (pairs_of (Differ c) desk.waiting f.differ))))))
 
   fresh : (client timestamp : ℕ) → Has (IsAt client timestamp) oldest → IsNumbered c me history log.view client timestamp → ⊥
   fresh client timestamp h numbered =
-      let x = has_some (IsAt client timestamp) oldest h in
-      each_has (HasNone c me log.view history) oldest x.0 none_here x.1
-      (subst (λ (k : ℕ). IsNumbered c me history log.view k x.0.timestamp) (sym x.2.0) (subst (λ (t : ℕ). IsNumbered c me history log.view client t) (sym x.2.1) numbered))
+      none_numbered c me log.view history client timestamp entries f.rightly
+      (has_taken (λ (e : Waiting). IsAt client timestamp e.call) 16 (numbers.unnumbered entries) (has_map (IsAt client timestamp) (λ (e : Waiting). e.call) first_ones h)) numbered
 
   held : (frame : List ℕ) → Has (λ x. x ≡ frame) (texts (unnumbered w)) → Has (λ x. x ≡ frame) desk.frames
   held frame h = subst (Has (λ x. x ≡ frame)) (sym frames) (frame_waits frame w h)
@@ -127,6 +174,9 @@ module _ (number : ℕ) (a b : ReplicaData) (x y : List Output) (one : AreOne a.
   abbrev w : WaitingData
   w = a.desk.waiting
 
+  abbrev more : WaitingData
+  more = with_numbered (length (unnumbered w)) w
+
   abbrev text : List ℕ
   text = pieces_spelling (texts (unnumbered w))
 
@@ -143,17 +193,13 @@ module _ (number : ℕ) (a b : ReplicaData) (x y : List Output) (one : AreOne a.
     abbrev past : List Entry
     past = behind s (given me x)
 
-    fits : FitsEvent c me s a.orderer st.desk w.numbered [] x
-    fits = subst (λ (m : ℕ). FitsEvent c m s a.orderer st.desk w.numbered [] x) one.0 st.fits
+    fits : FitsEvent c me s a.orderer st.desk w [] x
+    fits = subst (λ (m : ℕ). FitsEvent c m s a.orderer st.desk w [] x) one.0 st.fits
 
-    numbered_fits : FitsEvent c me s b.orderer st.desk (w.numbered + length (unnumbered w)) [] y
+    numbered_fits : FitsEvent c me s b.orderer st.desk more [] y
     numbered_fits =
-        let f = fits.numbers primary in
-        subst (λ (k : ℕ). FitsEvent c me s b.orderer st.desk (w.numbered + k) [] y)
-        (sym (as_many c me number a.orderer.used a.orderer.log text w st.desk past inside active primary above reads st.is.frames st.is.waiting fits.fits.of_log f))
-        (n.says.goes c s st.desk w.numbered 16 [] (known ∙ one.1) above
-        (may_number c me number a.orderer.used a.orderer.log text w st.desk past inside active primary above reads st.is.frames st.is.waiting fits.fits.of_log f)
-        (batch_calls c me number a.orderer.used a.orderer.log text w st.desk past inside active primary above reads st.is.frames st.is.waiting fits.fits.of_log f) fits)
+        n.says.goes c s st.desk w [] (known ∙ one.1) above st.is.waiting reads
+        (may_number c me number a.orderer.used a.orderer.log text w st.desk past inside active primary above reads st.is.frames st.is.waiting fits.fits.of_log (fits.numbers primary)) fits
 
     next_stands : Stands c s b.orderer b.desk [] y
     next_stands = subst (λ (d : DeskData). Stands c s b.orderer d [] y) (sym n.waits) (record {
@@ -165,27 +211,28 @@ module _ (number : ℕ) (a b : ReplicaData) (x y : List Output) (one : AreOne a.
         snapshots = st.is.snapshots;
         transfer = st.is.transfer;
         rests = st.is.rests;
-        frames = st.is.frames;
-        waiting = st.is.waiting;
-        differ = st.is.differ;
+        frames = st.is.frames ∙ sym (same_numbered (λ (r : WaitingRequest). r.frame.items) (λ r. refl) (length (unnumbered w)) w.requests);
+        waiting = calls_numbered c (length (unnumbered w)) w.requests st.desk.waiting st.is.waiting;
+        differ = clients_differ (length (unnumbered w)) w.requests st.is.differ;
       };
-      fits = subst (λ (m : ℕ). FitsEvent c m s b.orderer st.desk (w.numbered + length (unnumbered w)) [] y) (sym one.0) numbered_fits;
+      fits = subst (λ (m : ℕ). FitsEvent c m s b.orderer st.desk more [] y) (sym one.0) numbered_fits;
     })
 
   same_orderer : IsSameOrderer a.orderer b.orderer
-  same_orderer = subst (IsSameOrderer a.orderer) (sym n.says.new_is)
-      (record { endpoint = refl; log = record { me = refl; faults = refl; span = refl; view = refl; active = refl; low = omega arith } })
+  same_orderer = record {
+    endpoint = n.says.endpoint;
+    log = subst (IsSameLog a.orderer.log) (sym n.says.log) (record { me = refl; faults = refl; span = refl; view = refl; active = refl; low = omega arith });
+  }
 
   voted_but : IsVotedAll a.orderer.log → IsVotedBut number b.orderer.log
-  voted_but voted i ne = subst (λ (o : OrdererData). IsVoted o.log i) (sym n.says.new_is)
+  voted_but voted i ne = subst (λ (l : LogData). IsVoted l i) (sym n.says.log)
       (due_prepare_elsewhere a.orderer.log i number _ inside ne ∙ (voted i).0, due_commit_elsewhere a.orderer.log i number _ inside ne ∙ (voted i).1)
 
   fewer : count_unnumbered b.desk.waiting < count_unnumbered w
   fewer = subst (λ (d : DeskData). count_unnumbered d.waiting < count_unnumbered w) (sym n.waits)
-      (let left = length-drop (w.numbered + length (unnumbered w)) w.requests in
-      let before = length-drop w.numbered w.requests in
-      let there = n.there in
-      omega (arith, left, before, there, some))
+      (let most = length-take 16 (all_unnumbered w.requests) in
+      let left = left_numbered (length (unnumbered w)) w.requests (omega (arith, most)) in
+      omega (arith, left, some))
 
   -- the number is given, and what it asks for is done
   pub gives_number : (d : ReplicaData) (z : List Output) → GoesOnWith number b y d z → GivesNumber a x d z
@@ -233,5 +280,5 @@ numbers_end count a b x y whole f = record {
   proceeds = f.proceeds;
   party = f.party;
   rests = f.rests;
-  all = λ free. let few = f.fewer in let left = length-drop b.desk.waiting.numbered b.desk.waiting.requests in omega (arith, few, left, whole);
+  all = λ free. let few = f.fewer in omega (arith, few, whole);
 }

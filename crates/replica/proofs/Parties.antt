@@ -1,7 +1,7 @@
 -- The party of a replica, from one step to the next.
 use Rattle.std.proofs.Common.{refl, ◌∙◌, arith}
 use Rattle.replica.specs.State.{OrdererData, ReplicaData}
-use Rattle.replica.specs.Going.{IsSameLog, IsSameOrderer, IsSameParty}
+use Rattle.replica.specs.Going.{IsSameLog, IsSameOrderer, IsSameParty, IsOneParty}
 use Rattle.ordering.specs.Log.{LogData}
 
 pub same_log : (log : LogData) → IsSameLog log log
@@ -29,6 +29,22 @@ orderers_twice a b d first then = record { endpoint = then.endpoint ∙ first.en
 pub parties_twice : (a b d : ReplicaData) → IsSameParty a b → IsSameParty b d → IsSameParty a d
 parties_twice a b d first then = record {
   orderer = orderers_twice a.orderer b.orderer d.orderer first.orderer then.orderer;
+  me = then.me ∙ first.me;
+  membership = then.membership ∙ first.membership;
+  stopped = then.stopped ∙ first.stopped;
+}
+
+-- ---- whatever its view
+
+pub one_self : (r : ReplicaData) → IsOneParty r r
+one_self r = record { endpoint = refl; me = refl; membership = refl; stopped = refl }
+
+pub one_of_same : (a b : ReplicaData) → IsSameParty a b → IsOneParty a b
+one_of_same a b p = record { endpoint = p.orderer.endpoint; me = p.me; membership = p.membership; stopped = p.stopped }
+
+pub ones_twice : (a b d : ReplicaData) → IsOneParty a b → IsOneParty b d → IsOneParty a d
+ones_twice a b d first then = record {
+  endpoint = then.endpoint ∙ first.endpoint;
   me = then.me ∙ first.me;
   membership = then.membership ∙ first.membership;
   stopped = then.stopped ∙ first.stopped;

@@ -12,10 +12,11 @@ use Rattle.state_transfer.specs.Transfer.{TransferData, wanted, with_digests, wi
 use Rattle.protocol.specs.System.Configuration.{Configuration, members}
 use Rattle.protocol.specs.System.Trace.{Entry}
 use Rattle.protocol.specs.System.Trace.Entry.{Got}
-use Rattle.protocol.specs.Replica.Certificates.{taken}
+use Rattle.protocol.specs.Replica.Certificates.{new_view_from}
 use Rattle.protocol.specs.Replica.Owed.{Counts, place_from}
 use Rattle.protocol.proofs.Words.Options.{some_injective}
 use Rattle.replica_histories.specs.Events as histories
+use Rattle.replica_histories.specs.Changes.{IsNoChange}
 use Rattle.replica_histories.specs.Transfers.{RestsOn}
 use Rattle.replica_histories.proofs.Fetching.{digests_enter, pages_enter, asked_digests_count, asked_pages_count}
 use Rattle.replica_histories.proofs.TransfersAnswering.{others_owe_none}
@@ -30,19 +31,18 @@ use Rattle.replica.specs.Fits.{Runs, me_of}
 use Rattle.replica.specs.Saying.{Says}
 use Rattle.replica.specs.Transferring.{TakesDigestsOf, TakesPageOf, AsksPlace}
 use Rattle.replica.proofs.Beginning.{rests}
-use Rattle.replica.proofs.Beside.{IsBeside, heard_so, drops_beside}
+use Rattle.replica.proofs.Beside.{IsBeside, changes_beside, heard_so, drops_beside, takes_none}
 use Rattle.replica.proofs.Fetched.{asks_next}
-use Rattle.replica.proofs.Parties.{same_orderer}
 use Rattle.replica.proofs.Staying.{numbers_beside, said_on}
 
 -- In the event that begins with the bytes, the open transfer is this one, and nothing else changed.
 pub record Comes (c : Configuration) (r : ReplicaData) (past : List Entry) (runs : Runs c r past) (bytes : List ℕ) (n : OpenData) : Type 0 where
   pub is : IsDeskOf c (with_transfer n r.desk) (record runs.desk { transfer = Some n.transfer })
-  pub fits : FitsEvent c (me_of r) (event_of c r past runs bytes) r.orderer (record runs.desk { transfer = Some n.transfer }) r.desk.waiting.numbered [] []
+  pub fits : FitsEvent c (me_of r) (event_of c r past runs bytes) r.orderer (record runs.desk { transfer = Some n.transfer }) r.desk.waiting [] []
   pub taken : IsTakenBeside c (me_of r) (event_of c r past runs bytes)
 
 module _ (r : ReplicaData) (one : AreOne r.orderer r.desk) (bytes : List ℕ) (sender : ℕ) (o n : OpenData) (there : r.desk.transfer ≡ Some o) (c : Configuration) (past : List Entry)
-    (runs : Runs c r past) (known : members c ≡ r.desk.membership) (free : taken c past (Got (me_of r) bytes) ≡ None) where
+    (runs : Runs c r past) (known : members c ≡ r.desk.membership) where
   abbrev me : ℕ
   me = me_of r
 
@@ -54,9 +54,9 @@ module _ (r : ReplicaData) (one : AreOne r.orderer r.desk) (bytes : List ℕ) (s
     abbrev body : Body
     body = record { sender = sender; message = message }
 
-    comes : place_from body ≡ None → (RestsOn o.transfer r.desk.executed.state → RestsOn t r.desk.executed.state) → Counts c me past runs.holds.of_desk.point bytes sender message
+    comes : place_from body ≡ None → new_view_from c body ≡ None → IsNoChange (Some body) → (RestsOn o.transfer r.desk.executed.state → RestsOn t r.desk.executed.state) → Counts c me past runs.holds.of_desk.point bytes sender message
         → histories.Fits c me (event_of c r past runs bytes) (record runs.desk { transfer = Some t }) r.orderer.log [] [] → Comes c r past runs bytes n
-    comes none rests counts fits = subst (Comes c r past runs bytes) (sym n_is) (record {
+    comes none views changes rests counts fits = subst (Comes c r past runs bytes) (sym n_is) (record {
       is = record {
         members_are = runs.is_desk.members_are;
         period_is = runs.is_desk.period_is;
@@ -70,9 +70,10 @@ module _ (r : ReplicaData) (one : AreOne r.orderer r.desk) (bytes : List ℕ) (s
       };
       fits = record {
         fits = fits;
-        numbers = numbers_beside c me r.desk.waiting.numbered r.orderer runs.desk past (Got me bytes) runs.holds.of_log.fits.faults runs.holds.of_log.fits.own
-            (record { here = refl; none = free; sends = refl }) runs.numbers;
+        numbers = numbers_beside c me r.desk.waiting r.orderer runs.desk past (Got me bytes) runs.holds.of_log.fits.faults runs.holds.of_log.fits.own
+            (record { here = refl; none = takes_none r one c past runs bytes body known hears views; sends = refl }) runs.numbers;
         said = said_on me r.orderer.last_checkpoint past (Got me bytes) runs.said;
+        changes = changes_beside r one c past runs bytes body known hears (record runs.desk { transfer = Some t }) [] views changes fits;
       };
       taken = ((body, heard_so r one c past runs bytes body known hears, counts), ap (option_and_then place_from) (heard_so r one c past runs bytes body known hears) ∙ none);
     })
@@ -87,7 +88,7 @@ module _ (r : ReplicaData) (one : AreOne r.orderer r.desk) (bytes : List ℕ) (s
       let heard_it = subst (λ (k : ℕ). heard r.desk.membership r.desk.me bytes ≡ Some (record { sender = sender; message = MetaMessage k meta.level meta.index digests })) number hears in
       let message = MetaMessage o.transfer.number meta.level meta.index digests in
       comes message (with_digests o.transfer place digests)
-      (n_is ∙ ap (λ (p : Place). record o { transfer = with_digests o.transfer p digests }) asked) heard_it refl (digests_rest o.transfer r.desk.executed.state place digests)
+      (n_is ∙ ap (λ (p : Place). record o { transfer = with_digests o.transfer p digests }) asked) heard_it refl refl tt (digests_rest o.transfer r.desk.executed.state place digests)
       (asked_digests_count c me runs.desk r.orderer.log past o.transfer sender place digests bytes runs.holds open_there asked right)
       (digests_enter c me runs.desk r.orderer.log past o.transfer sender place digests bytes runs.holds open_there (heard_so r one c past runs bytes (record { sender = sender; message = message }) known heard_it) right)
 
@@ -98,25 +99,25 @@ module _ (r : ReplicaData) (one : AreOne r.orderer r.desk) (bytes : List ℕ) (s
       let text = page.text.items in
       let heard_it = subst (λ (k : ℕ). heard r.desk.membership r.desk.me bytes ≡ Some (record { sender = sender; message = PageMessage k page.index text })) number hears in
       let message = PageMessage o.transfer.number page.index text in
-      comes message (with_page o.transfer page.index text) n_is heard_it refl (pages_rest o.transfer r.desk.executed.state page.index text all.1 below)
+      comes message (with_page o.transfer page.index text) n_is heard_it refl refl tt (pages_rest o.transfer r.desk.executed.state page.index text all.1 below)
       (asked_pages_count c me runs.desk r.orderer.log past o.transfer sender page.index text bytes runs.holds open_there asked wants)
       (pages_enter c me runs.desk r.orderer.log past o.transfer sender page.index text bytes runs.holds open_there (heard_so r one c past runs bytes (record { sender = sender; message = message }) known heard_it) all.0)
 
 -- Where more is to be fetched then, the event asks for it.
 module _ (r : ReplicaData) (one : AreOne r.orderer r.desk) (bytes : List ℕ) (n : OpenData)
-    (comes : (c : Configuration) (past : List Entry) (runs : Runs c r past) → members c ≡ r.desk.membership → taken c past (Got (me_of r) bytes) ≡ None → Comes c r past runs bytes n) where
+    (comes : (c : Configuration) (past : List Entry) (runs : Runs c r past) → members c ≡ r.desk.membership → Comes c r past runs bytes n) where
   asks_for : (m : OpenData) (place : Place) (outs : List Output) → AsksPlace r.desk.executed.state n m (Some place) → Says r.orderer (fetch_of m.transfer) [] outs
       → TakesBytes bytes r touched.Nothing (record r { desk = with_transfer m r.desk }) outs
   asks_for m place outs asks says = record {
-    party = record { orderer = same_orderer r.orderer; me = refl; membership = refl; stopped = refl };
-    begins = λ c past runs known free.
-        let came = comes c past runs known free in
-        let asked = asks_next c (event_of c r past runs bytes) r.orderer (with_transfer n r.desk) (record runs.desk { transfer = Some n.transfer }) r.desk.waiting.numbered n [] refl came.is came.fits m place outs
+    party = record { endpoint = refl; me = refl; membership = refl; stopped = refl };
+    begins = λ c past runs known.
+        let came = comes c past runs known in
+        let asked = asks_next c (event_of c r past runs bytes) r.orderer (with_transfer n r.desk) (record runs.desk { transfer = Some n.transfer }) r.desk.waiting n [] refl came.is came.fits m place outs
         (known ∙ one.1) asks says in (
           record {
             desk = record runs.desk { transfer = Some m.transfer };
             is = asked.0;
-            fits = subst (λ (x : ℕ). FitsEvent c x (event_of c r past runs bytes) r.orderer (record runs.desk { transfer = Some m.transfer }) r.desk.waiting.numbered [] outs) (sym one.0) asked.1;
+            fits = subst (λ (x : ℕ). FitsEvent c x (event_of c r past runs bytes) r.orderer (record runs.desk { transfer = Some m.transfer }) r.desk.waiting [] outs) (sym one.0) asked.1;
           },
           (rests c r past runs, runs.all, others_owe_none c (me_of r) past (Got (me_of r) bytes) (given (me_of r) outs) runs.holds.of_desk.point came.taken.1, inr came.taken.0),
         );
@@ -146,23 +147,23 @@ module _ (r : ReplicaData) (one : AreOne r.orderer r.desk) (bytes : List ℕ) (s
   pub digests_dropped : (meta : Meta) → heard r.desk.membership r.desk.me bytes ≡ Some (record { sender = sender; message = MetaMessage meta.number.0 meta.level meta.index meta.digests.items })
       → TakesDigests r.desk meta desk false → outs ≡ [] → TakesBytes bytes r touched.Nothing (record r { desk = desk }) outs
   digests_dropped meta hears same silent =
-      dropped (MetaMessage meta.number.0 meta.level meta.index meta.digests.items) hears (λ c. record { log = tt; call = refl; asks = λ st. refl }) refl same silent
+      dropped (MetaMessage meta.number.0 meta.level meta.index meta.digests.items) hears (λ c. record { log = tt; call = refl; asks = λ st. refl; views = refl; changes = tt }) refl same silent
 
   pub page_dropped : (page : Page) → heard r.desk.membership r.desk.me bytes ≡ Some (record { sender = sender; message = PageMessage page.number.0 page.index page.text.items })
       → TakesPage r.desk page desk None → outs ≡ [] → TakesBytes bytes r touched.Nothing (record r { desk = desk }) outs
   page_dropped page hears same silent =
-      dropped (PageMessage page.number.0 page.index page.text.items) hears (λ c. record { log = tt; call = refl; asks = λ st. refl }) refl same silent
+      dropped (PageMessage page.number.0 page.index page.text.items) hears (λ c. record { log = tt; call = refl; asks = λ st. refl; views = refl; changes = tt }) refl same silent
 
   module _ (before : List Output) (first : before ≡ []) (new : ReplicaData) (asks : AsksOn (record r { desk = desk }) before new outs true) where
     -- what is taken, behind which more is asked for
     asked : (n : OpenData) → desk ≡ with_transfer n r.desk
-        → ((c : Configuration) (past : List Entry) (runs : Runs c r past) → members c ≡ r.desk.membership → taken c past (Got (me_of r) bytes) ≡ None → Comes c r past runs bytes n) → TakesBytes bytes r touched.Nothing new outs
+        → ((c : Configuration) (past : List Entry) (runs : Runs c r past) → members c ≡ r.desk.membership → Comes c r past runs bytes n) → TakesBytes bytes r touched.Nothing new outs
     asked n desk_is comes = asks_on r one bytes n comes new outs (subst (λ (d : DeskData). AsksOn (record r { desk = d }) [] new outs true) desk_is (subst (λ (os : List Output). AsksOn (record r { desk = desk }) os new outs true) first asks))
 
     pub digests_asked : (meta : Meta) → heard r.desk.membership r.desk.me bytes ≡ Some (record { sender = sender; message = MetaMessage meta.number.0 meta.level meta.index meta.digests.items })
         → TakesDigests r.desk meta desk true → TakesBytes bytes r touched.Nothing new outs
-    digests_asked meta hears (o, n, there, desk_is, takes) = asked n desk_is (λ c past runs known free. digests_come r one bytes sender o n there c past runs known free meta hears takes)
+    digests_asked meta hears (o, n, there, desk_is, takes) = asked n desk_is (λ c past runs known. digests_come r one bytes sender o n there c past runs known meta hears takes)
 
     pub page_asked : (page : Page) (replaced : Taken) → heard r.desk.membership r.desk.me bytes ≡ Some (record { sender = sender; message = PageMessage page.number.0 page.index page.text.items })
         → TakesPage r.desk page desk (Some replaced) → TakesBytes bytes r touched.Nothing new outs
-    page_asked page replaced hears (o, n, there, desk_is, takes) = asked n desk_is (λ c past runs known free. page_comes r one bytes sender o n there c past runs known free page replaced hears takes)
+    page_asked page replaced hears (o, n, there, desk_is, takes) = asked n desk_is (λ c past runs known. page_comes r one bytes sender o n there c past runs known page replaced hears takes)

@@ -12,7 +12,6 @@ use Rattle.state_transfer.specs.Transfer.{TransferData, given_back, with_page}
 use Rattle.protocol.specs.System.Configuration.{Configuration, members}
 use Rattle.protocol.specs.System.Trace.{Entry}
 use Rattle.protocol.specs.System.Trace.Entry.{Got}
-use Rattle.protocol.specs.Replica.Certificates.{taken}
 use Rattle.protocol.specs.Replica.State.{State}
 use Rattle.replica_histories.proofs.Transfers.{pages_give_back}
 use Rattle.replica_histories.proofs.TransfersAnswering.{others_owe_none}
@@ -23,13 +22,13 @@ use Rattle.replica.specs.Desks.{FitsEvent}
 use Rattle.replica.specs.Entering.{event_of, IsTakenBeside, TakesBytes, TakesMessage}
 use Rattle.replica.specs.Fetching.{AsksOn, GivesBack, InstallsFetched, TakesDigests, TakesPage, with_transfer}
 use Rattle.replica.specs.Fits.{Runs, me_of}
-use Rattle.replica.specs.Going.{IsSameParty}
+use Rattle.replica.specs.Going.{IsOneParty, IsSameParty}
 use Rattle.replica.specs.Transferring.{AsksPlace, IsRestedAt, TakesPageOf}
 use Rattle.replica.proofs.Beginning.{rests}
 use Rattle.replica.proofs.Beside.{drops_beside}
 use Rattle.replica.proofs.Fetched.{rests_now}
 use Rattle.replica.proofs.Installed.{IsFetched, installs_fetched, moved_party, same_open}
-use Rattle.replica.proofs.Parties.{parties_twice, same_orderer}
+use Rattle.replica.proofs.Parties.{one_of_same, parties_twice, same_orderer}
 use Rattle.replica.proofs.Parts.{Comes, digests_come, page_comes}
 
 some_none : (x : OpenData) (P : Type 0) → Some x ≡ None → P
@@ -62,49 +61,49 @@ rested_so r n a outs (desk, inr (o, m, there, desk_is, asks, root), new_is, give
 )
 
 module _ (r : ReplicaData) (one : AreOne r.orderer r.desk) (bytes : List ℕ) (n m : OpenData)
-    (comes : (c : Configuration) (past : List Entry) (runs : Runs c r past) → members c ≡ r.desk.membership → taken c past (Got (me_of r) bytes) ≡ None → Comes c r past runs bytes n)
+    (comes : (c : Configuration) (past : List Entry) (runs : Runs c r past) → members c ≡ r.desk.membership → Comes c r past runs bytes n)
     (a b : ReplicaData) (mid outs : List Output) (f : Rested r n m a mid) where
-  fetched : (c : Configuration) (past : List Entry) (runs : Runs c r past) → members c ≡ r.desk.membership → taken c past (Got (me_of r) bytes) ≡ None
+  fetched : (c : Configuration) (past : List Entry) (runs : Runs c r past) → members c ≡ r.desk.membership
       → IsFetched c (event_of c r past runs bytes) (holding m r) (record runs.desk { transfer = Some m.transfer }) m []
-  fetched c past runs known free =
-      let k = comes c past runs known free in
-      let now = rests_now c (event_of c r past runs bytes) r.orderer (with_transfer n r.desk) (record runs.desk { transfer = Some n.transfer }) r.desk.waiting.numbered n [] refl k.is k.fits m f.asks in
+  fetched c past runs known =
+      let k = comes c past runs known in
+      let now = rests_now c (event_of c r past runs bytes) r.orderer (with_transfer n r.desk) (record runs.desk { transfer = Some n.transfer }) r.desk.waiting n [] refl k.is k.fits m f.asks in
       record { is_open = refl; is = now.0; fits = now.1; rests = now.2; root = f.root }
 
   -- it is a state, which is installed
   pub state_comes : InstallsFetched a mid b outs true → TakesBytes bytes r touched.State b outs
   state_comes installs = record {
     party = party;
-    begins = λ c past runs known free.
-        let stands = installs_fetched c (event_of c r past runs bytes) (holding m r) b (record runs.desk { transfer = Some m.transfer }) m [] outs one (fetched c past runs known free) (rests c r past runs).0 here in (
+    begins = λ c past runs known.
+        let stands = installs_fetched c (event_of c r past runs bytes) (holding m r) b (record runs.desk { transfer = Some m.transfer }) m [] outs one (fetched c past runs known) (rests c r past runs).0 here in (
           stands.0,
-          (stands.1, subst (λ (k : ℕ). IsTakenBeside c k (event_of c r past runs bytes)) (sym (ap (λ e. e.me) party.orderer.endpoint)) (comes c past runs known free).taken),
+          (stands.1, subst (λ (k : ℕ). IsTakenBeside c k (event_of c r past runs bytes)) (sym (ap (λ e. e.me) party.endpoint)) (comes c past runs known).taken),
         );
   }
     where
       here : InstallsFetched (holding m r) [] b outs true
       here = subst (λ (x : ReplicaData). InstallsFetched x [] b outs true) f.new_is (subst (λ (os : List Output). InstallsFetched a os b outs true) f.outs_are installs)
 
-      party : IsSameParty r b
-      party = parties_twice r (holding m r) b (same_holding r m) (moved_party (holding m r) b m [] outs refl here)
+      party : IsOneParty r b
+      party = one_of_same r b (parties_twice r (holding m r) b (same_holding r m) (moved_party (holding m r) b m [] outs refl here))
 
   -- it is none, and what is open stays so
   pub none_comes : InstallsFetched a mid b outs false → TakesBytes bytes r touched.Nothing b outs
   none_comes (same, none) =
       subst (λ (x : ReplicaData). TakesBytes bytes r touched.Nothing x outs) (sym (same ∙ f.new_is))
       (subst (λ (os : List Output). TakesBytes bytes r touched.Nothing (holding m r) os) (sym (none ∙ f.outs_are)) (record {
-        party = same_holding r m;
-        begins = λ c past runs known free.
-            let g = fetched c past runs known free in (
+        party = one_of_same r (holding m r) (same_holding r m);
+        begins = λ c past runs known.
+            let g = fetched c past runs known in (
               record {
                 desk = record runs.desk { transfer = Some m.transfer };
                 is = g.is;
-                fits = subst (λ (k : ℕ). FitsEvent c k (event_of c r past runs bytes) r.orderer (record runs.desk { transfer = Some m.transfer }) r.desk.waiting.numbered [] []) (sym one.0) g.fits;
+                fits = subst (λ (k : ℕ). FitsEvent c k (event_of c r past runs bytes) r.orderer (record runs.desk { transfer = Some m.transfer }) r.desk.waiting [] []) (sym one.0) g.fits;
               },
               (
                 rests c r past runs,
                 runs.all,
-                others_owe_none c (me_of r) past (Got (me_of r) bytes) [] runs.holds.of_desk.point (comes c past runs known free).taken.1,
+                others_owe_none c (me_of r) past (Got (me_of r) bytes) [] runs.holds.of_desk.point (comes c past runs known).taken.1,
                 inl refl,
               ),
             );
@@ -154,7 +153,7 @@ pub page_back : (r : ReplicaData) (one : AreOne r.orderer r.desk) (sender : Repl
 page_back r one sender page bytes o n m back a b d mid outs hears there takes f (same, none) gives =
     subst (λ (x : ReplicaData). TakesBytes bytes r touched.Nothing x outs) (sym r_is)
     (subst (λ (os : List Output). TakesBytes bytes r touched.Nothing r os) (sym (none ∙ f.outs_are))
-    (drops_beside r one bytes (record { sender = sender.0; message = PageMessage page.number.0 page.index page.text.items }) hears (λ c. record { log = tt; call = refl; asks = λ st. refl }) refl))
+    (drops_beside r one bytes (record { sender = sender.0; message = PageMessage page.number.0 page.index page.text.items }) hears (λ c. record { log = tt; call = refl; asks = λ st. refl; views = refl; changes = tt }) refl))
   where
     b_is : b ≡ holding m r
     b_is = same ∙ f.new_is
@@ -172,14 +171,14 @@ module _ (r : ReplicaData) (one : AreOne r.orderer r.desk) (sender : ReplicaId) 
     (asks : AsksOn (record r { desk = d }) [] a mid false) where
   digests_so : (bytes : List ℕ) → heard r.desk.membership r.desk.me bytes ≡ Some (record { sender = sender.0; message = MetaMessage meta.number.0 meta.level meta.index meta.digests.items })
       → (n : OpenData) × (m : OpenData) × Rested r n m a mid
-      × ((c : Configuration) (past : List Entry) (runs : Runs c r past) → members c ≡ r.desk.membership → taken c past (Got (me_of r) bytes) ≡ None → Comes c r past runs bytes n)
+      × ((c : Configuration) (past : List Entry) (runs : Runs c r past) → members c ≡ r.desk.membership → Comes c r past runs bytes n)
   digests_so bytes hears =
       let there = takes.2 in
       let now = rested_so r takes.1 a mid (subst (λ (x : DeskData). AsksOn (record r { desk = x }) [] a mid false) takes.3 asks) in (
         takes.1,
         now.0,
         now.1,
-        λ c past runs known free. digests_come r one bytes sender.0 takes.0 takes.1 there c past runs known free meta hears takes.4,
+        λ c past runs known. digests_come r one bytes sender.0 takes.0 takes.1 there c past runs known meta hears takes.4,
       )
 
   pub digests_install : InstallsFetched a mid b outs true → TakesMessage sender (MetaMessage meta.number.0 meta.level meta.index meta.digests.items) r touched.State b outs
@@ -197,7 +196,7 @@ module _ (r : ReplicaData) (one : AreOne r.orderer r.desk) (sender : ReplicaId) 
 
   pub page_installs : InstallsFetched a mid b outs true → TakesMessage sender (PageMessage page.number.0 page.index page.text.items) r touched.State b outs
   page_installs installs bytes hears =
-      state_comes r one bytes takes.1 page_so.0 (λ c past runs known free. page_comes r one bytes sender.0 takes.0 takes.1 takes.2 c past runs known free page back hears takes.4) a b mid outs page_so.1 installs
+      state_comes r one bytes takes.1 page_so.0 (λ c past runs known. page_comes r one bytes sender.0 takes.0 takes.1 takes.2 c past runs known page back hears takes.4) a b mid outs page_so.1 installs
 
   pub page_ends : (e : DeskData) → InstallsFetched a mid b outs false → GivesBack b.desk back e → TakesMessage sender (PageMessage page.number.0 page.index page.text.items) r touched.Nothing (record b { desk = e }) outs
   page_ends e installs gives bytes hears = page_back r one sender page bytes takes.0 takes.1 page_so.0 back a b e mid outs hears takes.2 takes.4 page_so.1 installs gives

@@ -1,5 +1,5 @@
 -- What a client's ordered request does to what a replica holds.
-use Rattle.std.proofs.Common.{◌≡◌, ℕ, ◌+◌, ◌-◌, ◌<◌, ◌≤◌, ◌⊎◌, inl, inr, Bool, true, false, cond, not, ◌==◌, List, [], ◌∷◌, ◌++◌, filter, length, take, Option, Some, None, is_some, refl, sym, ap, ◌∙◌, subst, arith}
+use Rattle.std.proofs.Common.{◌≡◌, ℕ, ◌+◌, ◌-◌, ◌<◌, ◌≤◌, ◌⊎◌, inl, inr, Bool, true, false, cond, not, ◌==◌, List, [], ◌∷◌, ◌++◌, filter, Option, Some, None, is_some, refl, sym, ap, ◌∙◌, subst, arith}
 use Rattle.std.specs.Prelude.{nat_le, option_and_then}
 use Rattle.std.specs.Option.{option_map_or}
 use Rattle.std.proofs.lemmas.Bool.{le-leb}
@@ -18,7 +18,7 @@ use Rattle.ordering.specs.Log.{LogData}
 use Rattle.protocol.specs.System.Configuration.{Configuration, is_client, members}
 use Rattle.protocol.specs.System.Trace.{Entry, Has}
 use Rattle.protocol.specs.System.Trace.Entry.{Got}
-use Rattle.protocol.specs.Replica.Certificates.{taken}
+use Rattle.protocol.specs.Replica.Certificates.{taken, new_view_from}
 use Rattle.protocol.specs.Replica.State.{State, Call, call_in, call_of, kept_of, last_time}
 use Rattle.protocol.specs.Replica.RightReplica.{with_waiting}
 use Rattle.protocol.specs.Replica.Owed.{IsNoOlder, place_from}
@@ -27,27 +27,30 @@ use Rattle.replica_histories.specs.Logs.{FitsLog}
 use Rattle.replica_histories.specs.Events as histories
 use Rattle.replica_histories.specs.Events.{Start, IsTaken}
 use Rattle.replica_histories.specs.Inputs.{Enters, IsBesideLog, again_for, asked}
-use Rattle.replica_histories.specs.Numbers.{FitsNumbers, count_with}
 use Rattle.replica_histories.specs.TransfersAnswers.{place_heard}
 use Rattle.replica_histories.proofs.Counting.{requests_count, others_drop}
 use Rattle.replica_histories.proofs.Entering.{inputs_fit}
-use Rattle.replica_histories.proofs.NumbersWaiting.{requests_fit}
+use Rattle.replica_histories.specs.Changes.{FitsChanges, Passes, IsNoBatch, IsNoChange}
+use Rattle.replica_histories.proofs.ChangesPassing.{inputs_enter}
+use Rattle.replica_histories.proofs.ChangesKept.{heard_keep, others_bring_none}
 use Rattle.replica_histories.proofs.TransfersAnswering.{others_owe_none}
 use Rattle.replica.specs.declared.waiting.WaitingRequest.{WaitingRequest}
 use Rattle.replica.specs.declared.taking.Touched.TheVariants as touched
 use Rattle.replica.specs.State.{OrdererData, DeskData, ReplicaData, AreOne}
-use Rattle.replica.specs.Waiting.{frames_of, is_of, request_of, with_request, without}
-use Rattle.replica.specs.Desks.{IsDeskOf, FitsCount, FitsEvent, Stands, given}
+use Rattle.replica.specs.Waiting.{WaitingData, frames_of, is_begun, is_of, request_of, with_request, without}
+use Rattle.replica.specs.Desks.{IsDeskOf, FitsWaiting, FitsEvent, Stands, given, changes_of}
 use Rattle.replica.specs.Desking.{HasReply, PaysAgain, Waits}
 use Rattle.replica.specs.Arriving.{IsBehind, IsPast, IsWaitingAlready, IsNewer}
-use Rattle.replica.specs.Saying.{SaysAgain}
+use Rattle.replica.specs.Going.{GoesOn}
+use Rattle.replica.specs.Saying.{AllAgain}
 use Rattle.replica.specs.Fits.{Runs, me_of}
 use Rattle.replica.specs.Entering.{event_of, Leaves, TakesBytes, TakesRequest}
-use Rattle.replica.proofs.Beginning.{rests}
+use Rattle.replica.proofs.Beginning.{rests, none_taken, changes_kept}
 use Rattle.replica.proofs.GoingOn.{said_stands}
-use Rattle.replica.proofs.Parties.{same_orderer, same_party}
+use Rattle.replica.proofs.Parties.{one_self, same_log}
+use Rattle.replica.proofs.Flags.{flags_waiting}
 use Rattle.replica.proofs.Staying.{numbers_beside, said_on}
-use Rattle.replica.proofs.WaitingOn.{AreOlder, older, no_older, no_older_same, is_latest, seen_before, waits_before, latest, calls_replaced, calls_counted, differ_replaced, frames_replaced}
+use Rattle.replica.proofs.WaitingOn.{AreOlder, older, no_older, no_older_same, is_latest, seen_before, waits_before, latest, calls_replaced, differ_replaced, frames_replaced}
 
 -- ---- what is heard
 
@@ -128,7 +131,7 @@ module _ (old : ReplicaData) (client : ClientId) (timestamp : Timestamp) (bytes 
   abbrev due : List Message
   due = again_for k t (kept_of old.desk.executed.state k)
 
-  module _ (c : Configuration) (past : List Entry) (runs : Runs c old past) (known : members c ≡ old.desk.membership) (free : taken c past (Got (me_of old) bytes) ≡ None) where
+  module _ (c : Configuration) (past : List Entry) (runs : Runs c old past) (known : members c ≡ old.desk.membership) where
     abbrev start : Start
     start = event_of c old past runs bytes
 
@@ -141,27 +144,38 @@ module _ (old : ReplicaData) (client : ClientId) (timestamp : Timestamp) (bytes 
     state_is : runs.desk.state ≡ old.desk.executed.state
     state_is = runs.is_desk.state
 
-    -- what has a number of what waits then
-    numbers : FitsCount c (me_of old) old.orderer (count_with runs.desk.state runs.desk.waiting old.desk.waiting.numbered (call_for k t op))
-        (record runs.desk { waiting = with_waiting runs.desk.state runs.desk.waiting (call_for k t op) }) (input ∷ past)
-    numbers own = requests_fit c (me_of old) old.orderer.log.view old.orderer.used old.desk.waiting.numbered runs.desk.state runs.desk.waiting (input ∷ past) (call_for k t op)
-        (numbers_beside c (me_of old) old.desk.waiting.numbered old.orderer runs.desk past input runs.holds.of_log.fits.faults runs.holds.of_log.fits.own (record { here = refl; none = free; sends = refl }) runs.numbers own)
+    -- it brings no new view
+    free : taken c past input ≡ None
+    free = none_taken c past input (ap (option_and_then (new_view_from c)) h)
+
+    -- what has a number behind it
+    numbers : FitsWaiting c (me_of old) old.orderer old.desk.waiting runs.desk (input ∷ past)
+    numbers = numbers_beside c (me_of old) old.desk.waiting old.orderer runs.desk past input runs.holds.of_log.fits.faults runs.holds.of_log.fits.own
+        (record { here = refl; none = free; sends = refl }) runs.numbers
+
+    -- what is held for changes of the view stays
+    changes : Passes c (me_of old) past input old.orderer.log old.orderer.log → FitsChanges c (me_of old) old.orderer.log (changes_of old.orderer) (input ∷ past)
+    changes = changes_kept old one c past runs bytes old.orderer.log (same_log old.orderer.log) refl
+        (λ passes. heard_keep c (me_of old) past bytes free (subst IsNoBatch (sym h) tt) (λ s other. others_bring_none c (me_of old) s past bytes (subst IsNoChange (sym h) tt) other))
 
     -- what is due is the reply that is kept
     stands : (desk : Desk) (d : DeskData) → d.me ≡ old.desk.me → IsDeskOf c d desk
         → Enters c (me_of old) bytes runs.desk desk old.orderer.log old.orderer.log (again_for k t (kept_of runs.desk.state k))
-        → FitsCount c (me_of old) old.orderer d.waiting.numbered desk (input ∷ past)
+        → FitsWaiting c (me_of old) old.orderer d.waiting desk (input ∷ past)
         → Stands c start old.orderer d due []
     stands desk d me is e counted = record {
       desk = desk;
       is = is;
-      fits = subst (λ (n : ℕ). FitsEvent c n start old.orderer desk d.waiting.numbered due []) (sym (me ∙ one.0)) (record {
-        fits = subst (λ (st : State). histories.Fits c (me_of old) start desk old.orderer.log (again_for k t (kept_of st k)) []) state_is
-            (inputs_fit c (me_of old) runs.desk desk old.orderer.log old.orderer.log (again_for k t (kept_of runs.desk.state k)) past bytes runs.holds free e);
+      fits = subst (λ (n : ℕ). FitsEvent c n start old.orderer desk d.waiting due []) (sym (me ∙ one.0)) (record {
+        fits = subst (λ (st : State). histories.Fits c (me_of old) start desk old.orderer.log (again_for k t (kept_of st k)) []) state_is entered;
         numbers = counted;
         said = said_on (me_of old) old.orderer.last_checkpoint past input runs.said;
+        changes = changes (inputs_enter c (me_of old) runs.desk desk old.orderer.log old.orderer.log (again_for k t (kept_of runs.desk.state k)) past input runs.holds entered);
       });
     }
+      where
+        entered : histories.Fits c (me_of old) start desk old.orderer.log (again_for k t (kept_of runs.desk.state k)) []
+        entered = inputs_fit c (me_of old) runs.desk desk old.orderer.log old.orderer.log (again_for k t (kept_of runs.desk.state k)) past bytes runs.holds free e
 
     -- nothing else changes, where it doesn't wait
     stands_same : is_latest runs.desk.state runs.desk.waiting (call_for k t op) ≡ false → Stands c start old.orderer old.desk due []
@@ -169,8 +183,7 @@ module _ (old : ReplicaData) (client : ClientId) (timestamp : Timestamp) (bytes 
         stands runs.desk old.desk refl runs.is_desk
         (enters c (me_of old) bytes k t op h old.orderer.log past runs.desk runs.desk runs.holds.of_log.fits refl refl refl
         (sym (ap (λ (b : Bool). cond b (filter (λ other. not (other.client == k)) runs.desk.waiting ++ call_for k t op ∷ []) runs.desk.waiting) early)) (λ frame x. inl x))
-        (numbers_beside c (me_of old) old.desk.waiting.numbered old.orderer runs.desk past input runs.holds.of_log.fits.faults runs.holds.of_log.fits.own
-        (record { here = refl; none = free; sends = refl }) runs.numbers)
+        numbers
 
     stands_seen : t ≤ last_time old.desk.executed.state k → Stands c start old.orderer old.desk due []
     stands_seen le = stands_same (seen_before runs.desk.state runs.desk.waiting k t op (subst (λ (st : State). t ≤ last_time st k) (sym state_is) le))
@@ -215,54 +228,51 @@ module _ (old : ReplicaData) (client : ClientId) (timestamp : Timestamp) (bytes 
   -- the kept reply goes again
   takes_kept : (outs : List Output) → PaysAgain old.desk client timestamp [] outs → HasReply old.desk client timestamp true → TakesBytes bytes old touched.Nothing old outs
   takes_kept outs pays (kept, has, same) = record {
-    party = same_party old;
-    begins = λ c past runs known free. (
-      pays c (start c past runs known free) old.orderer known (stands_seen c past runs known free (seen_of_kept old.desk.executed.state k t kept has same)),
-      leaves c past runs known free outs (inr (counts c past runs known free (inl (kept, ap (λ (st : State). kept_of st k) (state_is c past runs known free) ∙ has, same)))),
+    party = one_self old;
+    begins = λ c past runs known. (
+      pays c (start c past runs known) old.orderer known (stands_seen c past runs known (seen_of_kept old.desk.executed.state k t kept has same)),
+      leaves c past runs known outs (inr (counts c past runs known (inl (kept, ap (λ (st : State). kept_of st k) (state_is c past runs known) ∙ has, same)))),
     );
   }
 
   -- what is past is dropped
   takes_past : (outs : List Output) → due ≡ [] → outs ≡ [] → IsPast old.desk k t bytes → TakesBytes bytes old touched.Nothing old outs
   takes_past outs none silent is = record {
-    party = same_party old;
-    begins = λ c past runs known free. (
-      subst (λ (xs : List Output). Stands c (start c past runs known free) old.orderer old.desk [] xs) (sym silent)
-          (due_none old.desk c (start c past runs known free) old.orderer [] none (stands_past c past runs known free is)),
-      leaves c past runs known free outs (inl silent),
+    party = one_self old;
+    begins = λ c past runs known. (
+      subst (λ (xs : List Output). Stands c (start c past runs known) old.orderer old.desk [] xs) (sym silent)
+          (due_none old.desk c (start c past runs known) old.orderer [] none (stands_past c past runs known is)),
+      leaves c past runs known outs (inl silent),
     );
   }
 
   -- what waits already makes the replica say again what it said
-  takes_again : (outs : List Output) → due ≡ [] → IsWaitingAlready old.desk k t bytes → SaysAgain old.orderer [] old.orderer outs → TakesBytes bytes old touched.Nothing old outs
+  takes_again : (outs : List Output) → due ≡ [] → IsWaitingAlready old.desk k t bytes → GoesOn old.orderer [] old.orderer outs → TakesBytes bytes old touched.Nothing old outs
   takes_again outs none (lt, r, found, same, says) again = record {
-    party = same_party old;
-    begins = λ c past runs known free. (
-      said_stands old old.orderer [] outs one (again.goes (runs.first, runs.active)) c (start c past runs known free) known
-          (due_none old.desk c (start c past runs known free) old.orderer [] none (stands_waiting c past runs known free r found (omega (arith, same)))),
-      leaves c past runs known free outs (inr (counts c past runs known free (inr (
-        unseen c past runs known free lt,
+    party = one_self old;
+    begins = λ c past runs known. (
+      said_stands old old.orderer [] outs one again c (start c past runs known) known
+          (due_none old.desk c (start c past runs known) old.orderer [] none (stands_waiting c past runs known r found (omega (arith, same)))),
+      leaves c past runs known outs (inr (counts c past runs known (inr (
+        unseen c past runs known lt,
         no_older_same c k t op old.desk.waiting.requests runs.desk.waiting r runs.is_desk.waiting runs.is_desk.differ found
-            (ap (option_and_then (call_in c)) says ∙ call_of_bytes c (me_of old) bytes k t op (h c past runs known free)),
+            (ap (option_and_then (call_in c)) says ∙ call_of_bytes c (me_of old) bytes k t op (h c past runs known)),
       )))),
     );
   }
 
   -- what is newer waits
   module _ (outs : List Output) (desk : DeskData) (none : due ≡ []) (silent : outs ≡ []) (newer : IsNewer old.desk k t) (waits : Waits client timestamp bytes old.desk desk) where
+    abbrev more : WaitingData
+    more = with_request client timestamp waits.0 (without k old.desk.waiting)
+
     abbrev r : WaitingRequest
-    r = waits.0
+    r = record { client = client; timestamp = timestamp; frame = waits.0; numbered = is_begun old.desk.waiting.begun k t }
 
     abbrev waiting_desk : DeskData
-    waiting_desk = record old.desk { waiting = with_request r (without k old.desk.waiting) }
+    waiting_desk = record old.desk { waiting = more }
 
-    of_client : r.client.number ≡ k
-    of_client = ap (λ (x : ClientId). x.number) waits.1
-
-    of_time : r.timestamp.0 ≡ t
-    of_time = ap (λ (x : Timestamp). x.0) waits.2
-
-    module _ (c : Configuration) (past : List Entry) (runs : Runs c old past) (known : members c ≡ old.desk.membership) (free : taken c past (Got (me_of old) bytes) ≡ None) where
+    module _ (c : Configuration) (past : List Entry) (runs : Runs c old past) (known : members c ≡ old.desk.membership) where
       are_older : AreOlder k t old.desk.waiting.requests
       are_older = older k t old.desk.waiting.requests runs.is_desk.differ newer.1
 
@@ -274,7 +284,7 @@ module _ (old : ReplicaData) (client : ClientId) (timestamp : Timestamp) (bytes 
         state = runs.desk.state;
         snapshots = runs.desk.snapshots;
         waiting = new_calls;
-        frames = frames_of (with_request r (without k old.desk.waiting));
+        frames = frames_of more;
         transfer = runs.desk.transfer;
       }
 
@@ -282,14 +292,14 @@ module _ (old : ReplicaData) (client : ClientId) (timestamp : Timestamp) (bytes 
       is_new = record {
         members_are = runs.is_desk.members_are;
         period_is = runs.is_desk.period_is;
-        state = state_is c past runs known free;
+        state = state_is c past runs known;
         snapshots = runs.is_desk.snapshots;
         transfer = runs.is_desk.transfer;
         rests = runs.is_desk.rests;
         frames = refl;
         waiting = calls_replaced c k old.desk.waiting.requests runs.desk.waiting r (call_for k t op) runs.is_desk.waiting
-            (ap (call_of c) waits.3 ∙ call_of_bytes c (me_of old) bytes k t op (h c past runs known free), sym of_client, sym of_time);
-        differ = differ_replaced k old.desk.waiting.requests r of_client runs.is_desk.differ;
+            (ap (call_of c) waits.1 ∙ call_of_bytes c (me_of old) bytes k t op (h c past runs known), refl, refl);
+        differ = differ_replaced k old.desk.waiting.requests r refl runs.is_desk.differ;
       }
 
       frames_are : (frame : List ℕ) → Has (λ x. x ≡ frame) new_desk.frames → Has (λ x. x ≡ frame) runs.desk.frames ⊎ (frame ≡ bytes)
@@ -297,65 +307,50 @@ module _ (old : ReplicaData) (client : ClientId) (timestamp : Timestamp) (bytes 
         where
           go : Has (λ x. x ≡ frame) (frames_of old.desk.waiting) ⊎ (frame ≡ r.frame.items) → Has (λ x. x ≡ frame) runs.desk.frames ⊎ (frame ≡ bytes)
           go (inl y) = inl (subst (λ (fs : List (List ℕ)). Has (λ x. x ≡ frame) fs) (sym runs.is_desk.frames) y)
-          go (inr y) = inr (y ∙ waits.3)
+          go (inr y) = inr (y ∙ waits.1)
 
       is_first : is_latest runs.desk.state runs.desk.waiting (call_for k t op) ≡ true
-      is_first = latest c runs.desk.state k t op old.desk.waiting.requests runs.desk.waiting runs.is_desk.waiting (unseen c past runs known free newer.0) are_older
+      is_first = latest c runs.desk.state k t op old.desk.waiting.requests runs.desk.waiting runs.is_desk.waiting (unseen c past runs known newer.0) are_older
 
       waiting_is : with_waiting runs.desk.state runs.desk.waiting (call_for k t op) ≡ new_calls
       waiting_is = ap (λ (b : Bool). cond b new_calls runs.desk.waiting) is_first
 
-      -- where the one that it replaces had a number, one fewer has
-      count_is : count_with runs.desk.state runs.desk.waiting old.desk.waiting.numbered (call_for k t op) ≡ waiting_desk.waiting.numbered
-      count_is =
-          ap (λ (b : Bool). cond b (length (filter (λ x. not (x.client == k)) (take old.desk.waiting.numbered runs.desk.waiting))) old.desk.waiting.numbered) is_first
-          ∙ calls_counted c k old.desk.waiting.numbered old.desk.waiting.requests runs.desk.waiting runs.is_desk.waiting
+      new_numbers : FitsWaiting c (me_of old) old.orderer more new_desk (Got (me_of old) bytes ∷ past)
+      new_numbers own = flags_waiting c (me_of old) old.orderer.log.view old.orderer.used old.desk.waiting runs.desk.state runs.desk.waiting (Got (me_of old) bytes ∷ past) client timestamp waits.0
+          (call_for k t op) runs.is_desk.waiting refl refl is_first (numbers c past runs known own)
 
-      new_numbers : FitsCount c (me_of old) old.orderer waiting_desk.waiting.numbered new_desk (Got (me_of old) bytes ∷ past)
-      new_numbers own =
-          subst (λ (n : ℕ). FitsNumbers c (me_of old) old.orderer.log.view old.orderer.used n runs.desk.state new_calls (Got (me_of old) bytes ∷ past)) count_is
-          (subst (λ (calls : List Call). FitsNumbers c (me_of old) old.orderer.log.view old.orderer.used (count_with runs.desk.state runs.desk.waiting old.desk.waiting.numbered (call_for k t op))
-          runs.desk.state calls (Got (me_of old) bytes ∷ past)) waiting_is (numbers c past runs known free own))
-
-      stands_new : Stands c (start c past runs known free) old.orderer waiting_desk due []
-      stands_new = stands c past runs known free new_desk waiting_desk refl is_new
-          (enters c (me_of old) bytes k t op (h c past runs known free) old.orderer.log past runs.desk new_desk runs.holds.of_log.fits refl refl refl (sym waiting_is) frames_are)
+      stands_new : Stands c (start c past runs known) old.orderer waiting_desk due []
+      stands_new = stands c past runs known new_desk waiting_desk refl is_new
+          (enters c (me_of old) bytes k t op (h c past runs known) old.orderer.log past runs.desk new_desk runs.holds.of_log.fits refl refl refl (sym waiting_is) frames_are)
           new_numbers
 
     takes_new_so : TakesBytes bytes old touched.Waiting (record old { desk = waiting_desk }) outs
     takes_new_so = record {
-      party = record { orderer = same_orderer old.orderer; me = refl; membership = refl; stopped = refl };
-      begins = λ c past runs known free. (
-        subst (λ (xs : List Output). Stands c (start c past runs known free) old.orderer waiting_desk [] xs) (sym silent)
-            (due_none waiting_desk c (start c past runs known free) old.orderer [] none (stands_new c past runs known free)),
+      party = record { endpoint = refl; me = refl; membership = refl; stopped = refl };
+      begins = λ c past runs known. (
+        subst (λ (xs : List Output). Stands c (start c past runs known) old.orderer waiting_desk [] xs) (sym silent)
+            (due_none waiting_desk c (start c past runs known) old.orderer [] none (stands_new c past runs known)),
         (
           rests c old past runs,
           (
-            counts c past runs known free (inr (
-              unseen c past runs known free newer.0,
-              no_older c k t op old.desk.waiting.requests runs.desk.waiting runs.is_desk.waiting (are_older c past runs known free),
+            counts c past runs known (inr (
+              unseen c past runs known newer.0,
+              no_older c k t op old.desk.waiting.requests runs.desk.waiting runs.is_desk.waiting (are_older c past runs known),
             )),
-            no_part c past runs known free,
+            no_part c past runs known,
           ),
         ),
       );
     }
 
     takes_new : TakesBytes bytes old touched.Waiting (record old { desk = desk }) outs
-    takes_new = subst (λ (d : DeskData). TakesBytes bytes old touched.Waiting (record old { desk = d }) outs) (sym waits.4) takes_new_so
+    takes_new = subst (λ (d : DeskData). TakesBytes bytes old touched.Waiting (record old { desk = d }) outs) (sym waits.2) takes_new_so
 
 -- ---- what a request does
 
--- replicas of the same parts
-pub same_parts : (a b : ReplicaData) → a.orderer ≡ b.orderer → a.desk ≡ b.desk → a.stopped ≡ b.stopped → a ≡ b
-same_parts a b orderer desk stopped =
-    ap (λ (o : OrdererData). record a { orderer = o }) orderer ∙ ap (λ (d : DeskData). record b { desk = d; stopped = a.stopped }) desk ∙ ap (λ (x : Bool). record b { stopped = x }) stopped
-
 -- what was said again by the same orderer
-pub said_again : (before new o : OrdererData) (x y z : List Output) → SaysAgain before x new y → before ≡ o → x ≡ [] → z ≡ y → SaysAgain o [] o z
-said_again before new o x y z says same first last =
-    subst (λ (zs : List Output). SaysAgain o [] o zs) (sym last) (subst (λ (xs : List Output). SaysAgain o xs o y) first
-    (subst (λ (p : OrdererData). SaysAgain p x p y) same (subst (λ (p : OrdererData). SaysAgain before x p y) says.same says)))
+pub all_again : (before new : ReplicaData) (x y : List Output) → AllAgain before x new y → x ≡ [] → GoesOn before.orderer [] before.orderer y
+all_again before new x y says first = subst (λ (xs : List Output). GoesOn before.orderer xs before.orderer y) first says.1
 
 abbrev Silent : ReplicaData → ClientId → Timestamp → Type 0
 Silent old client timestamp = again_for client.number timestamp.0 (kept_of old.desk.executed.state client.number) ≡ []
@@ -371,7 +366,7 @@ request_past old client timestamp bytes new outs one same none silent is op hear
     subst (λ (r : ReplicaData). TakesBytes bytes old touched.Nothing r outs) (sym same) (takes_past old client timestamp bytes one op hears outs none silent is)
 
 pub request_again : (old : ReplicaData) (client : ClientId) (timestamp : Timestamp) (bytes : List ℕ) (new : ReplicaData) (outs : List Output) → AreOne old.orderer old.desk → new ≡ old
-    → Silent old client timestamp → IsWaitingAlready old.desk client.number timestamp.0 bytes → SaysAgain old.orderer [] old.orderer outs → TakesRequest client timestamp bytes old touched.Nothing new outs
+    → Silent old client timestamp → IsWaitingAlready old.desk client.number timestamp.0 bytes → GoesOn old.orderer [] old.orderer outs → TakesRequest client timestamp bytes old touched.Nothing new outs
 request_again old client timestamp bytes new outs one same none is says op hears =
     subst (λ (r : ReplicaData). TakesBytes bytes old touched.Nothing r outs) (sym same) (takes_again old client timestamp bytes one op hears outs none is says)
 

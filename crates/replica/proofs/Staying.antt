@@ -1,4 +1,5 @@
--- What an output that is no pre-prepare leaves: which requests have numbers, and that the last checkpoint was said.
+-- What an output that is no pre-prepare leaves: which requests have numbers, that the last checkpoint was said, and what is
+-- held for changes of the view.
 use Rattle.std.proofs.Common.{◌≡◌, ℕ, false, List, ◌∷◌, Option, None, inr, refl, sym, ap, ◌∙◌, subst, arith}
 use Rattle.std.specs.Prelude.{option_and_then, ⊤}
 use Rattle.std.specs.Option.{option_map_or}
@@ -15,12 +16,17 @@ use Rattle.protocol.specs.Replica.Certificates.{view, target, is_later, new_view
 use Rattle.replica_histories.specs.Desk.{Desk}
 use Rattle.replica_histories.specs.Events as events
 use Rattle.replica_histories.specs.Events.{Start, behind}
-use Rattle.replica_histories.specs.Numbers.{FitsNumbers, KeepsNumbers, is_pre_prepare, sends_pre_prepare}
-use Rattle.replica_histories.proofs.NumbersKept.{numbers_stay, others_keep_numbers}
+use Rattle.replica_histories.specs.Numbers.{KeepsNumbers, is_pre_prepare, sends_pre_prepare}
+use Rattle.replica_histories.specs.Changes.{Changes, CutsClaims, FitsChanges, KeepsChanges}
+use Rattle.replica_histories.proofs.NumbersKept.{others_keep_numbers}
 use Rattle.replica_histories.proofs.Words.{primary_same}
 use Rattle.replica.specs.State.{OrdererData}
-use Rattle.replica.specs.Desks.{given, FitsCount, WasSaid, FitsEvent}
+use Rattle.replica.specs.Waiting.{WaitingData}
+use Rattle.replica.specs.Flags.{FitsFlags}
+use Rattle.replica.specs.Desks.{given, FitsWaiting, WasSaid, FitsEvent, changes_of}
 use Rattle.replica.specs.Going.{IsSameLog}
+use Rattle.replica.proofs.Flags.{flags_stay}
+use Rattle.replica_histories.proofs.ChangesPassing.{changes_stay, claims_are_above, outputs_pass}
 
 -- ---- entries that give no number
 
@@ -89,44 +95,80 @@ pub keeps_beside : (c : Configuration) (me : ℕ) (log : LogData) (past : List E
 keeps_beside c me log past e faults is own beside =
     others_keep_numbers c me log.view past e (sym (primary_same c log log.view faults) ∙ own ∙ is) beside.here beside.none beside.sends
 
-pub numbers_beside : (c : Configuration) (me count : ℕ) (o : OrdererData) (desk : Desk) (past : List Entry) (e : Entry) → o.log.faults ≡ c.faults → o.log.me ≡ me → IsBeside c me past e
-    → FitsCount c me o count desk past → FitsCount c me o count desk (e ∷ past)
-numbers_beside c me count o desk past e faults is beside f own =
-    numbers_stay c me o.log.view o.used count desk.state desk.waiting past e (keeps_beside c me o.log past e faults is own beside) (f own)
+pub numbers_beside : (c : Configuration) (me : ℕ) (w : WaitingData) (o : OrdererData) (desk : Desk) (past : List Entry) (e : Entry) → o.log.faults ≡ c.faults → o.log.me ≡ me → IsBeside c me past e
+    → FitsWaiting c me o w desk past → FitsWaiting c me o w desk (e ∷ past)
+numbers_beside c me w o desk past e faults is beside f own =
+    flags_stay c me o.log.view o.used w desk.state desk.waiting past e (keeps_beside c me o.log past e faults is own beside) (f own)
 
 -- and with a log of the same view
-pub numbers_alike : (c : Configuration) (me count : ℕ) (old new : OrdererData) (desk : Desk) (history : List Entry) → IsSameLog old.log new.log → new.used ≡ old.used
-    → FitsCount c me old count desk history → FitsCount c me new count desk history
-numbers_alike c me count old new desk history same used f own =
+pub numbers_alike : (c : Configuration) (me : ℕ) (w : WaitingData) (old new : OrdererData) (desk : Desk) (history : List Entry) → IsSameLog old.log new.log → new.used ≡ old.used
+    → FitsWaiting c me old w desk history → FitsWaiting c me new w desk history
+numbers_alike c me w old new desk history same used f own =
     let was : logs.primary old.log old.log.view ≡ old.log.me = rw (← same.view, ← same.faults, ← same.me) own in
-    subst (λ (v : ℕ). FitsNumbers c me v new.used count desk.state desk.waiting history) (sym same.view)
-    (subst (λ (u : ℕ). FitsNumbers c me old.log.view u count desk.state desk.waiting history) (sym used) (f was))
+    subst (λ (v : ℕ). FitsFlags c me v new.used w desk.state desk.waiting history) (sym same.view)
+    (subst (λ (u : ℕ). FitsFlags c me old.log.view u w desk.state desk.waiting history) (sym used) (f was))
 
 -- what was said behind any entry
 pub said_on : (me : ℕ) (last : Option CheckpointEntry) (past : List Entry) (e : Entry) → WasSaid me last past → WasSaid me last (e ∷ past)
 said_on me last past e h entry is = inr (h entry is)
 
+-- ---- what is held for changes of the view
+
+-- Where the low mark moves, the claims up to it go.
+pub changes_cut : (c : Configuration) (me : ℕ) (s : Start) (old new : OrdererData) (desk later : Desk) (due rest : List Message) (outputs : List Entry) (e : Entry)
+    → events.Fits c me s desk old.log due outputs → events.Fits c me s later new.log rest (e ∷ outputs) → KeepsChanges c me (behind s outputs) e → IsSameLog old.log new.log
+    → CutsClaims new.log.low old.claims new.claims → changes_of new ≡ record (changes_of old) { claims = new.claims }
+    → FitsChanges c me old.log (changes_of old) (behind s outputs) → FitsChanges c me new.log (changes_of new) (e ∷ behind s outputs)
+changes_cut c me s old new desk later due rest outputs e f on keeps same cuts held x =
+    subst (λ (y : Changes). FitsChanges c me new.log y (e ∷ behind s outputs)) (sym held)
+    (changes_stay c me (behind s outputs) e old.log new.log (changes_of old) new.claims (outputs_pass c me s desk later old.log new.log due rest outputs e f on)
+    (record { view = same.view; active = same.active }) keeps cuts x)
+
+-- Where it stays, nothing changes.
+pub changes_still : (c : Configuration) (me : ℕ) (s : Start) (old new : OrdererData) (desk later : Desk) (due rest : List Message) (outputs : List Entry) (e : Entry)
+    → events.Fits c me s desk old.log due outputs → events.Fits c me s later new.log rest (e ∷ outputs) → KeepsChanges c me (behind s outputs) e → IsSameLog old.log new.log
+    → new.log.low ≡ old.log.low → changes_of new ≡ changes_of old
+    → FitsChanges c me old.log (changes_of old) (behind s outputs) → FitsChanges c me new.log (changes_of new) (e ∷ behind s outputs)
+changes_still c me s old new desk later due rest outputs e f on keeps same low held x =
+    subst (λ (y : Changes). FitsChanges c me new.log y (e ∷ behind s outputs)) (sym held)
+    (changes_stay c me (behind s outputs) e old.log new.log (changes_of old) old.claims (outputs_pass c me s desk later old.log new.log due rest outputs e f on)
+    (record { view = same.view; active = same.active }) keeps
+    (subst (λ (n : ℕ). CutsClaims n old.claims old.claims) (sym low) (claims_are_above c me old.log (behind s outputs) old.claims f.of_log x.claims)) x)
+
 -- ---- in an event
 
--- Where desk and log fit the history behind one output more, and so do the numbers, all fits it.
-pub fits_behind : (c : Configuration) (me : ℕ) (s : Start) (old new : OrdererData) (desk later : Desk) (count more : ℕ) (due rest : List Message) (before after : List Output) (e : Entry)
-    → given me after ≡ e ∷ given me before → new.last_checkpoint ≡ old.last_checkpoint → FitsEvent c me s old desk count due before
-    → events.Fits c me s later new.log rest (e ∷ given me before) → FitsCount c me new more later (e ∷ behind s (given me before))
+-- Where desk and log fit the history behind one output more, and so do the numbers and what is held, all fits it.
+pub fits_behind : (c : Configuration) (me : ℕ) (s : Start) (old new : OrdererData) (desk later : Desk) (w more : WaitingData) (due rest : List Message) (before after : List Output) (e : Entry)
+    → given me after ≡ e ∷ given me before → new.last_checkpoint ≡ old.last_checkpoint → FitsEvent c me s old desk w due before
+    → events.Fits c me s later new.log rest (e ∷ given me before) → FitsWaiting c me new more later (e ∷ behind s (given me before))
+    → FitsChanges c me new.log (changes_of new) (e ∷ behind s (given me before))
     → FitsEvent c me s new later more rest after
-fits_behind c me s old new desk later count more due rest before after e is last f on numbers = record {
+fits_behind c me s old new desk later w more due rest before after e is last f on numbers changes = record {
   fits = subst (λ (es : List Entry). events.Fits c me s later new.log rest es) (sym is) on;
-  numbers = subst (λ (es : List Entry). FitsCount c me new more later (behind s es)) (sym is) numbers;
+  numbers = subst (λ (es : List Entry). FitsWaiting c me new more later (behind s es)) (sym is) numbers;
   said = subst (λ (es : List Entry). WasSaid me new.last_checkpoint (behind s es)) (sym is)
       (subst (λ (x : Option CheckpointEntry). WasSaid me x (e ∷ behind s (given me before))) (sym last) (said_on me old.last_checkpoint (behind s (given me before)) e f.said));
+  changes = subst (λ (es : List Entry). FitsChanges c me new.log (changes_of new) (behind s es)) (sym is) changes;
 }
 
 -- So it is behind an entry that gives no number, where the log stays in its view.
-pub fits_on : (c : Configuration) (me : ℕ) (s : Start) (old new : OrdererData) (desk : Desk) (count : ℕ) (due rest : List Message) (before after : List Output) (e : Entry)
+pub fits_with : (c : Configuration) (me : ℕ) (s : Start) (old new : OrdererData) (desk : Desk) (w : WaitingData) (due rest : List Message) (before after : List Output) (e : Entry)
     → given me after ≡ e ∷ given me before → IsBeside c me (behind s (given me before)) e
     → IsSameLog old.log new.log → new.used ≡ old.used → new.last_checkpoint ≡ old.last_checkpoint
-    → FitsEvent c me s old desk count due before → events.Fits c me s desk new.log rest (e ∷ given me before)
-    → FitsEvent c me s new desk count rest after
-fits_on c me s old new desk count due rest before after e is beside same used last f on =
-    fits_behind c me s old new desk desk count count due rest before after e is last f on
-    (numbers_alike c me count old new desk (e ∷ behind s (given me before)) same used
-    (numbers_beside c me count old desk (behind s (given me before)) e f.fits.of_log.faults f.fits.of_log.own beside f.numbers))
+    → FitsChanges c me new.log (changes_of new) (e ∷ behind s (given me before))
+    → FitsEvent c me s old desk w due before → events.Fits c me s desk new.log rest (e ∷ given me before)
+    → FitsEvent c me s new desk w rest after
+fits_with c me s old new desk w due rest before after e is beside same used last changes f on =
+    fits_behind c me s old new desk desk w w due rest before after e is last f on
+    (numbers_alike c me w old new desk (e ∷ behind s (given me before)) same used
+    (numbers_beside c me w old desk (behind s (given me before)) e f.fits.of_log.faults f.fits.of_log.own beside f.numbers)) changes
+
+-- And so where it brings nothing about, and the low mark stays.
+pub fits_on : (c : Configuration) (me : ℕ) (s : Start) (old new : OrdererData) (desk : Desk) (w : WaitingData) (due rest : List Message) (before after : List Output) (e : Entry)
+    → given me after ≡ e ∷ given me before → IsBeside c me (behind s (given me before)) e → KeepsChanges c me (behind s (given me before)) e
+    → IsSameLog old.log new.log → new.log.low ≡ old.log.low → new.used ≡ old.used → new.last_checkpoint ≡ old.last_checkpoint → changes_of new ≡ changes_of old
+    → FitsEvent c me s old desk w due before → events.Fits c me s desk new.log rest (e ∷ given me before)
+    → FitsEvent c me s new desk w rest after
+fits_on c me s old new desk w due rest before after e is beside keeps same low used last held f on =
+    fits_with c me s old new desk w due rest before after e is beside same used last
+    (changes_still c me s old new desk desk due rest (given me before) e f.fits on keeps same low held f.changes) f on

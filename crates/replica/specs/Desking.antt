@@ -1,5 +1,6 @@
 -- What a desk does within an event.
-use Rattle.std.specs.Prelude.{◌≡◌, ℕ, suc, ◌%◌, ◌==◌, Bool, true, false, if◌then◌else◌, List, [], ◌∷◌, ◌++◌, map, Option, Some, None, option_and_then, nat_lt}
+use Rattle.std.specs.Prelude.{◌≡◌, ℕ, suc, ◌%◌, ◌==◌, Bool, true, false, if◌then◌else◌, List, [], ◌∷◌, ◌++◌, map, Option, Some, None, option_and_then, nat_lt, Vec}
+use Rattle.std.specs.declared.alloc.Global.{Global}
 use Rattle.std.specs.Bool.{then_some}
 use Rattle.terms.specs.declared.parties.ClientId.{ClientId}
 use Rattle.terms.specs.declared.parties.Party.TheVariants as parties
@@ -20,7 +21,6 @@ use Rattle.replica_histories.specs.Events.{Start}
 use Rattle.replica_histories.specs.Inputs.{again_for}
 use Rattle.replica_histories.specs.Outputs.{checkpoint_due}
 use Rattle.replica.specs.State.{OrdererData, OpenData, DeskData}
-use Rattle.replica.specs.declared.waiting.WaitingRequest.{WaitingRequest}
 use Rattle.replica.specs.Waiting.{none_waiting, forgotten, with_request, without}
 use Rattle.replica.specs.Desks.{Stands}
 
@@ -39,8 +39,8 @@ IsNewDesk c me d = d ≡ record {
 -- The client's request in this frame waits behind all others, and no other one of the client.
 abbrev pub Waits : ClientId → Timestamp → List ℕ → DeskData → DeskData → Type 0
 Waits client timestamp frame old new =
-    (r : WaitingRequest) × (r.client ≡ client) × (r.timestamp ≡ timestamp) × (r.frame.items ≡ frame)
-    × (new ≡ record old { waiting = with_request r (without client.number old.waiting) })
+    (text : Vec ℕ Global) × (text.items ≡ frame)
+    × (new ≡ record old { waiting = with_request client timestamp text (without client.number old.waiting) })
 
 -- ---- what is due
 

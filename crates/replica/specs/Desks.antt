@@ -12,11 +12,12 @@ use Rattle.protocol.specs.Replica.Owed.{IsSaying}
 use Rattle.replica_histories.specs.Desk.{Desk}
 use Rattle.replica_histories.specs.Events as events
 use Rattle.replica_histories.specs.Events.{Start, behind}
-use Rattle.replica_histories.specs.Numbers.{FitsNumbers}
+use Rattle.replica_histories.specs.Changes.{Changes, FitsChanges}
 use Rattle.replica_histories.specs.Transfers.{RestsOn}
 use Rattle.replica.specs.declared.waiting.WaitingRequest.{WaitingRequest}
 use Rattle.replica.specs.State.{OrdererData, OpenData, DeskData}
-use Rattle.replica.specs.Waiting.{frames_of}
+use Rattle.replica.specs.Waiting.{WaitingData, frames_of}
+use Rattle.replica.specs.Flags.{FitsFlags}
 
 -- ---- the desk
 
@@ -57,10 +58,20 @@ pub record IsDeskOf (c : Configuration) (d : DeskData) (desk : Desk) : Type 0 wh
 abbrev pub given : ℕ → List Output → List Entry
 given me outs = reverse (map (entry_of me) outs)
 
--- at the primary, the first of the requests that wait, so many as are counted, have the numbers that were given
-abbrev pub FitsCount : Configuration → ℕ → OrdererData → ℕ → Desk → List Entry → Type 0
-FitsCount c me o count desk history = logs.primary o.log o.log.view ≡ o.log.me
-    → FitsNumbers c me o.log.view o.used count desk.state desk.waiting history
+-- at the primary of its view, those of the requests that wait have numbers that are flagged so
+abbrev pub FitsWaiting : Configuration → ℕ → OrdererData → WaitingData → Desk → List Entry → Type 0
+FitsWaiting c me o w desk history = logs.primary o.log o.log.view ≡ o.log.me
+    → FitsFlags c me o.log.view o.used w desk.state desk.waiting history
+
+-- what is held for changes of the view
+abbrev pub changes_of : OrdererData → Changes
+changes_of o = record {
+  target = o.target;
+  begun = o.begun;
+  new_view = o.new_view;
+  claims = o.claims;
+  held = o.received.held;
+}
 
 -- the last checkpoint was said
 abbrev pub WasSaid : ℕ → Option CheckpointEntry → List Entry → Type 0
@@ -70,14 +81,15 @@ WasSaid me last history =
 -- ---- an event
 
 -- Desk and orderer fit the history behind what the event gave so far, with these messages due.
-pub record FitsEvent (c : Configuration) (me : ℕ) (s : Start) (o : OrdererData) (desk : Desk) (count : ℕ)
-    (due : List Message) (outs : List Output) : Type 0 where
+pub record FitsEvent (c : Configuration) (me : ℕ) (s : Start) (o : OrdererData) (desk : Desk)
+    (w : WaitingData) (due : List Message) (outs : List Output) : Type 0 where
   pub fits : events.Fits c me s desk o.log due (given me outs)
-  pub numbers : FitsCount c me o count desk (behind s (given me outs))
+  pub numbers : FitsWaiting c me o w desk (behind s (given me outs))
   pub said : WasSaid me o.last_checkpoint (behind s (given me outs))
+  pub changes : FitsChanges c me o.log (changes_of o) (behind s (given me outs))
 
 pub record Stands (c : Configuration) (s : Start) (o : OrdererData) (d : DeskData) (due : List Message)
     (outs : List Output) : Type 0 where
   pub desk : Desk
   pub is : IsDeskOf c d desk
-  pub fits : FitsEvent c d.me s o desk d.waiting.numbered due outs
+  pub fits : FitsEvent c d.me s o desk d.waiting due outs

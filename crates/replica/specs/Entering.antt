@@ -10,8 +10,7 @@ use Rattle.signing.specs.Heard.{heard}
 use Rattle.events.specs.declared.output.Output.{Output}
 use Rattle.protocol.specs.System.Configuration.{Configuration, members}
 use Rattle.protocol.specs.System.Trace.{Entry}
-use Rattle.protocol.specs.System.Trace.Entry.{Got}
-use Rattle.protocol.specs.Replica.Certificates.{taken}
+use Rattle.protocol.specs.System.Trace.Entry.{Got, Tick}
 use Rattle.replica_histories.specs.Events as histories
 use Rattle.replica_histories.specs.Events.{Start, IsTaken}
 use Rattle.replica_histories.specs.TransfersAnswers.{AnswersFetches, place_heard}
@@ -19,21 +18,24 @@ use Rattle.replica.specs.declared.taking.Touched.{Touched}
 use Rattle.replica.specs.declared.taking.Touched.TheVariants as touched
 use Rattle.replica.specs.State.{ReplicaData}
 use Rattle.replica.specs.Desks.{given, Stands}
-use Rattle.replica.specs.Going.{IsVotedBut, IsVotedAll, IsSameParty, Rests}
+use Rattle.replica.specs.Going.{IsVotedBut, IsVotedAll, IsOneParty, Rests}
 use Rattle.replica.specs.Numbering.{IsAllNumbered}
 use Rattle.replica.specs.Fits.{Runs, me_of}
 
--- the event in which a replica that runs gets the bytes
+-- the event in which a replica that runs has this input
+abbrev pub event_with : (c : Configuration) (r : ReplicaData) (past : List Entry) → Runs c r past → Entry → Start
+event_with c r past runs input = histories.start_at c (me_of r) runs.desk r.orderer.log past runs.holds input
+
+-- in which it gets the bytes
 abbrev pub event_of : (c : Configuration) (r : ReplicaData) (past : List Entry) → Runs c r past → List ℕ → Start
-event_of c r past runs bytes =
-    histories.start_at c (me_of r) runs.desk r.orderer.log past runs.holds (Got (me_of r) bytes)
+event_of c r past runs bytes = event_with c r past runs (Got (me_of r) bytes)
 
 -- a rule takes the input, which asks for no part of a state
 abbrev pub IsTakenBeside : Configuration → ℕ → Start → Type 0
 IsTakenBeside c me s = IsTaken c me s × (place_heard c me s.input ≡ None)
 
 -- What is left to do, by what was touched: nothing, and what was asked for is given; numbers for what waits; votes for
--- one number, and what follows; or to execute what is committed behind a state that was installed. What touches
+-- one number, and what follows; or to execute what is committed, behind a state that was installed or a view that began. What touches
 -- anything, or gives an output, is taken.
 abbrev pub Leaves : Configuration → Start → Touched → ReplicaData → List Output → Type 0
 Leaves c s touched.Nothing r outs = Rests r × IsAllNumbered r
@@ -42,15 +44,22 @@ Leaves c s touched.Nothing r outs = Rests r × IsAllNumbered r
 Leaves c s touched.Waiting r outs = Rests r × IsTakenBeside c (me_of r) s
 Leaves c s (touched.Row number) r outs = IsVotedBut number.0 r.orderer.log × IsTakenBeside c (me_of r) s
 Leaves c s touched.State r outs = IsVotedAll r.orderer.log × IsTakenBeside c (me_of r) s
+Leaves c s touched.View r outs = IsVotedAll r.orderer.log × IsTakenBeside c (me_of r) s
 
--- In an event that begins with these bytes, what holds of the past fits the event, with these outputs.
-pub record TakesBytes (bytes : List ℕ) (old : ReplicaData) (touched : Touched) (new : ReplicaData)
+-- In an event with this input, what holds of the past fits the event, with these outputs.
+pub record TakesInput (input : Entry) (old : ReplicaData) (touched : Touched) (new : ReplicaData)
     (outs : List Output) : Type 0 where
-  pub party : IsSameParty old new
+  pub party : IsOneParty old new
   pub begins : (c : Configuration) (past : List Entry) (runs : Runs c old past) → members c ≡ old.desk.membership
-      → taken c past (Got (me_of old) bytes) ≡ None
-      → Stands c (event_of c old past runs bytes) new.orderer new.desk [] outs
-      × Leaves c (event_of c old past runs bytes) touched new outs
+      → Stands c (event_with c old past runs input) new.orderer new.desk [] outs
+      × Leaves c (event_with c old past runs input) touched new outs
+
+-- So it is where bytes are got, or time goes by.
+abbrev pub TakesBytes : List ℕ → ReplicaData → Touched → ReplicaData → List Output → Type 0
+TakesBytes bytes old touched new outs = TakesInput (Got (me_of old) bytes) old touched new outs
+
+abbrev pub TakesTick : ReplicaData → Touched → ReplicaData → List Output → Type 0
+TakesTick old touched new outs = TakesInput (Tick (me_of old)) old touched new outs
 
 -- So it is where the bytes are the client's ordered request.
 abbrev pub TakesRequest :

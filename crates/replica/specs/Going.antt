@@ -8,15 +8,15 @@ use Rattle.protocol.specs.System.Configuration.{Configuration, members}
 use Rattle.replica_histories.specs.Desk.{Desk}
 use Rattle.replica_histories.specs.Events.{Start}
 use Rattle.replica.specs.State.{OrdererData, DeskData, ReplicaData}
-use Rattle.replica.specs.Waiting.{count_unnumbered}
+use Rattle.replica.specs.Waiting.{WaitingData, count_unnumbered}
 use Rattle.replica.specs.Desks.{FitsEvent, Stands}
 
 -- What fits what the event gave before, with the orderer as it was then, fits what it gave since, with it as it is.
 abbrev pub GoesOn : OrdererData → List Output → OrdererData → List Output → Type 0
 GoesOn old before new after =
-    (c : Configuration) (s : Start) (desk : Desk) (count : ℕ) (due : List Message)
+    (c : Configuration) (s : Start) (desk : Desk) (w : WaitingData) (due : List Message)
     → members c ≡ old.endpoint.membership
-    → FitsEvent c old.endpoint.me s old desk count due before → FitsEvent c old.endpoint.me s new desk count due after
+    → FitsEvent c old.endpoint.me s old desk w due before → FitsEvent c old.endpoint.me s new desk w due after
 
 -- the log asks for no vote for the number
 abbrev pub IsVoted : LogData → ℕ → Type 0
@@ -49,7 +49,14 @@ pub record IsSameOrderer (old new : OrdererData) : Type 0 where
 
 -- ---- both parts
 
--- the party is the same, in the same view
+-- the party is the same
+pub record IsOneParty (old new : ReplicaData) : Type 0 where
+  pub endpoint : new.orderer.endpoint ≡ old.orderer.endpoint
+  pub me : new.desk.me ≡ old.desk.me
+  pub membership : new.desk.membership ≡ old.desk.membership
+  pub stopped : new.stopped ≡ old.stopped
+
+-- and in the same view
 pub record IsSameParty (old new : ReplicaData) : Type 0 where
   pub orderer : IsSameOrderer old.orderer new.orderer
   pub me : new.desk.me ≡ old.desk.me

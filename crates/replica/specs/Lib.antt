@@ -1,9 +1,11 @@
 pub mod Waiting
+pub mod Flags
 pub mod State
 pub mod OrdererView
 pub mod DeskView
 pub mod OpenTransferView
 pub mod SnapshotsView
+pub mod Claiming
 pub mod Taking
 pub mod Desks
 pub mod Numbering
@@ -17,5 +19,10 @@ pub mod Checkpoints
 pub mod Fits
 pub mod ReplicaView
 pub mod NumbersNext
+pub mod FollowingUp
 pub mod Entering
 pub mod Arriving
+pub mod Changing
+pub mod Receiving
+pub mod EnteringViews
+pub mod Beginning

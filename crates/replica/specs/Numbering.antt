@@ -1,7 +1,8 @@
 -- Which number a primary gives next.
-use Rattle.std.specs.Prelude.{◌≡◌, ℕ, suc, ◌+◌, ◌≤◌, true, max, length}
+use Rattle.std.specs.Prelude.{◌≡◌, ℕ, suc, ◌+◌, ◌≤◌, true, max}
 use Rattle.ordering.specs.Log as logs
 use Rattle.replica.specs.State.{OrdererData, ReplicaData}
+use Rattle.replica.specs.Waiting.{count_unnumbered}
 
 -- the one above the low mark and all that were given
 abbrev pub next_number : OrdererData → ℕ
@@ -16,4 +17,4 @@ IsNextFree r =
 
 -- where it may, no request waits for a number
 abbrev pub IsAllNumbered : ReplicaData → Type 0
-IsAllNumbered r = IsNextFree r → length r.desk.waiting.requests ≤ r.desk.waiting.numbered
+IsAllNumbered r = IsNextFree r → count_unnumbered r.desk.waiting ≡ 0

@@ -1,5 +1,5 @@
 -- What giving numbers does.
-use Rattle.std.specs.Prelude.{◌≡◌, ℕ, ◌+◌, ◌≤◌, ◌<◌, Bool, true, false, List, length}
+use Rattle.std.specs.Prelude.{◌≡◌, ℕ, ◌<◌, Bool, true, false, List, length}
 use Rattle.wire.specs.Lists.{Each}
 use Rattle.wire.specs.Spelling.{IsCarried, is_ordered_request, pieces_spelling}
 use Rattle.events.specs.declared.output.Output.{Output}
@@ -19,7 +19,6 @@ pub record NumbersNext (number : ℕ) (old : ReplicaData) (before : List Output)
   }
   pub stopped : new.stopped ≡ old.stopped
   pub carried : Each (IsCarried is_ordered_request) (texts (unnumbered old.desk.waiting))
-  pub there : old.desk.waiting.numbered + length (unnumbered old.desk.waiting) ≤ length old.desk.waiting.requests
 
 -- The next number is given, and what it asks for is done: fewer requests are left without one.
 pub record GivesNumber (old : ReplicaData) (before : List Output) (new : ReplicaData) (after : List Output) : Type 0

@@ -4,10 +4,16 @@ use Rattle.wire.specs.Views.{checkpoint_entry_data}
 use Rattle.replica.specs.declared.orderer.Orderer.TheInside.{Inside}
 use Rattle.replica.specs.State.{OrdererData}
 
+-- how many keys are spent is left out
 abbrev pub orderer_data : Inside → OrdererData
 orderer_data o = record {
-  endpoint = o.endpoint;
+  endpoint = record o.endpoint { used = 0 };
   log = o.log;
   used = o.used.0;
+  begun = o.begun.0;
+  target = o.target.0;
+  new_view = option_map (λ frame. frame.items) o.new_view;
+  claims = o.claims;
+  received = o.received;
   last_checkpoint = option_map checkpoint_entry_data o.last_checkpoint;
 }

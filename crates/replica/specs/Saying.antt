@@ -1,5 +1,5 @@
 -- What an orderer says to the other replicas.
-use Rattle.std.specs.Prelude.{◌≡◌, ◌≢◌, ℕ, ◌+◌, ◌<◌, true, List, [], ◌∷◌, ◌++◌, length, take, drop, None}
+use Rattle.std.specs.Prelude.{◌≡◌, ◌≢◌, ℕ, ◌<◌, Bool, List, [], ◌∷◌, ◌++◌, length, None}
 use Rattle.wire.specs.Messages.{MessageData as Message}
 use Rattle.wire.specs.Words.{requests_of}
 use Rattle.events.specs.declared.output.Output.{Output}
@@ -10,10 +10,10 @@ use Rattle.ordering.specs.declared.votes.Vote.{Vote}
 use Rattle.protocol.specs.System.Configuration.{Configuration, members}
 use Rattle.replica_histories.specs.Desk.{Desk}
 use Rattle.replica_histories.specs.Events.{Start, behind}
-use Rattle.replica_histories.specs.Numbers.{AreCalls}
 use Rattle.replica_histories.specs.Outputs.{MayNumber}
-use Rattle.replica.specs.State.{OrdererData}
-use Rattle.replica.specs.Desks.{given, FitsEvent}
+use Rattle.replica.specs.State.{OrdererData, ReplicaData}
+use Rattle.replica.specs.Waiting.{WaitingData, texts, unnumbered, with_numbered}
+use Rattle.replica.specs.Desks.{AreCallsOf, given, FitsEvent}
 use Rattle.replica.specs.Going.{GoesOn, IsVoted, IsSameOrderer}
 
 -- the message is posted to the other replicas behind what was given
@@ -62,23 +62,26 @@ pub record SaysVotes (number : ℕ) (old : OrdererData) (before : List Output) (
   pub says : SaysVote number old before new after
   pub said : IsVoted new.log number
 
--- the replica is active in the first view
-abbrev pub IsFirst : OrdererData → Type 0
-IsFirst o = (o.log.view ≡ 0) × (o.log.active ≡ true)
-
--- There what was said is said again, and nothing changes.
-pub record SaysAgain (old : OrdererData) (before : List Output) (new : OrdererData) (after : List Output) : Type 0 where
-  pub goes : IsFirst old → GoesOn old before new after
+-- What was said is said again while the replica is active, or while it isn't, and nothing changes.
+pub record SaysAgain (active : Bool) (old : OrdererData) (before : List Output) (new : OrdererData)
+    (after : List Output) : Type 0 where
+  pub goes : old.log.active ≡ active → GoesOn old before new after
   pub same : new ≡ old
 
+-- All that is to be said again by a replica that waits for a request: the parts go on where it is the orderer's alone.
+abbrev pub AllAgain : ReplicaData → List Output → ReplicaData → List Output → Type 0
+AllAgain old before new after =
+    (new ≡ old) × GoesOn old.orderer before old.orderer after
+
 -- The primary's own batch of this text is said. Where it may be numbered, and is of the oldest requests without a number,
--- up to so many, these have it then.
+-- these have it then.
 pub record SaysBatch (number : ℕ) (text : List ℕ) (old : OrdererData) (before : List Output) (new : OrdererData)
     (after : List Output) : Type 0 where
-  pub new_is : new ≡ record old { log = with_batch old.log number text; used = number }
-  pub goes : (c : Configuration) (s : Start) (desk : Desk) (count most : ℕ) (due : List Message)
-      → members c ≡ old.endpoint.membership → old.used < number
+  pub endpoint : new.endpoint ≡ old.endpoint
+  pub log : new.log ≡ with_batch old.log number text
+  pub goes : (c : Configuration) (s : Start) (desk : Desk) (w : WaitingData) (due : List Message)
+      → members c ≡ old.endpoint.membership → old.used < number → AreCallsOf c w.requests desk.waiting
+      → requests_of text ≡ texts (unnumbered w)
       → MayNumber c old.endpoint.me desk old.log (behind s (given old.endpoint.me before)) number text
-      → AreCalls c (requests_of text) (take most (drop count desk.waiting))
-      → FitsEvent c old.endpoint.me s old desk count due before
-      → FitsEvent c old.endpoint.me s new desk (count + length (take most (drop count desk.waiting))) due after
+      → FitsEvent c old.endpoint.me s old desk w due before
+      → FitsEvent c old.endpoint.me s new desk (with_numbered (length (unnumbered w)) w) due after

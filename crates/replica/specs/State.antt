@@ -5,16 +5,25 @@ use Rattle.wire.specs.Messages.{CheckpointEntryData as CheckpointEntry}
 use Rattle.posting.specs.Endpoint.{EndpointState}
 use Rattle.ordering.specs.Log.{LogData}
 use Rattle.execution.specs.Executed.{ExecutedData}
+use Rattle.view_change.specs.ClaimsView.{ClaimsData}
+use Rattle.view_change.specs.ReceivedView.{ReceivedState}
 use Rattle.state_transfer.specs.Transfer.{TransferData}
 use Rattle.replica_histories.specs.Desk.{Snapshot}
 use Rattle.replica.specs.Waiting.{WaitingData}
 
--- what orders; used is the greatest number that the replica gave to a batch as the primary, 0 before the first; and the
--- last checkpoint that it said
+-- What orders: the endpoint, without how many keys it has spent; the log; the greatest number that has a batch by the new
+-- view with which the view began, or by the replica as its primary; the greatest number that the new view gave; the
+-- greatest view that a view change was said for; the frame of the new view, where it is the own one; what was claimed,
+-- and the view changes that are held; and the last checkpoint that it said.
 pub record OrdererData : Type 0 where
   pub endpoint : EndpointState
   pub log : LogData
   pub used : ℕ
+  pub begun : ℕ
+  pub target : ℕ
+  pub new_view : Option (List ℕ)
+  pub claims : ClaimsData
+  pub received : ReceivedState
   pub last_checkpoint : Option CheckpointEntry
 
 -- an open transfer, and the number of the executed state whose pages stand where none were fetched
@@ -40,14 +49,16 @@ pub record ReplicaData : Type 0 where
 
 -- ---- what each keeps
 
--- the log is the replica's own, of as many faults
+-- The log is the replica's own, of as many faults; the keys by which view changes are judged are the members', and they
+-- are as many.
 abbrev pub IsOrderer : OrdererData → Type 0
 IsOrderer o = (o.log.me ≡ o.endpoint.me) × (o.log.faults ≡ o.endpoint.membership.faults)
+    × (o.received.seed ≡ o.endpoint.membership.seed) × (o.received.sizes.faults ≡ o.endpoint.membership.faults)
 
 -- the state is one of as many clients, the replica may seal for them, and there are checkpoints
 abbrev pub IsDesk : DeskData → Type 0
 IsDesk d = (d.executed.clients ≡ d.membership.clients) × (d.me < 10) × (1 ≤ d.period)
 
--- both are of one replica
+-- both are of one replica, with checkpoints as often
 abbrev pub AreOne : OrdererData → DeskData → Type 0
-AreOne o d = (d.me ≡ o.endpoint.me) × (d.membership ≡ o.endpoint.membership)
+AreOne o d = (d.me ≡ o.endpoint.me) × (d.membership ≡ o.endpoint.membership) × (o.received.sizes.period ≡ d.period)

@@ -1,31 +1,42 @@
 -- What an orderer does with what it hears.
-use Rattle.std.specs.Prelude.{◌≡◌, ◌⊎◌, ℕ, Bool, true, false, None, is_none}
+use Rattle.std.specs.Prelude.{◌≡◌, ◌⊎◌, ℕ, Bool, true, false, None, is_none, replicate}
 use Rattle.terms.specs.declared.parties.ReplicaId.{ReplicaId}
 use Rattle.wire.specs.declared.messages.PrePrepare.{PrePrepare}
 use Rattle.wire.specs.declared.messages.Prepare.{Prepare}
 use Rattle.wire.specs.declared.messages.Commit.{Commit}
 use Rattle.wire.specs.Words.{requests_of}
-use Rattle.ordering.specs.Log.{new_log, with_batch, with_prepare, with_commit}
+use Rattle.ordering.specs.Log.{new_log, with_prepare, with_commit}
 use Rattle.ordering.specs.Messages.{preprepare_fault_of, prepare_fault_of, commit_fault_of}
 use Rattle.posting.specs.Endpoint.{are_heard}
-use Rattle.protocol.specs.System.Configuration.{Configuration, members, span}
+use Rattle.protocol.specs.System.Configuration.{Configuration, members, replicas, span}
+use Rattle.view_change.specs.ClaimsView.{no_claims}
 use Rattle.replica.specs.State.{OrdererData}
+use Rattle.replica.specs.Claiming.{LogsBatch}
 
 -- nothing was taken yet
 abbrev pub IsNewOrderer : Configuration → ℕ → OrdererData → Type 0
-IsNewOrderer c me o = o ≡ record {
+IsNewOrderer c me o = (o ≡ record {
   endpoint = record { membership = members c; me = me; used = 0 };
   log = new_log me c.faults (span c);
   used = 0;
+  begun = 0;
+  target = 0;
+  new_view = None;
+  claims = no_claims;
+  received = record {
+    seed = c.seed;
+    sizes = o.received.sizes;
+    held = replicate (replicas c) None;
+  };
   last_checkpoint = None;
-}
+}) × (o.received.sizes.faults ≡ c.faults) × (o.received.sizes.period ≡ c.period)
 
 -- A batch is taken where the log has no fault for it and its requests are genuine. What isn't taken changes nothing.
 abbrev pub TakesBatch : OrdererData → ReplicaId → PrePrepare → OrdererData → Bool → Type 0
 TakesBatch old sender p new true =
     (preprepare_fault_of old.log sender p ≡ None)
     × (are_heard old.endpoint.membership old.endpoint.me (requests_of p.batch.text.items) ≡ true)
-    × (new ≡ record old { log = with_batch old.log p.number.0 p.batch.text.items })
+    × LogsBatch p.number.0 p.batch.text.items old new
 TakesBatch old sender p new false =
     ((is_none (preprepare_fault_of old.log sender p) ≡ false)
     ⊎ (are_heard old.endpoint.membership old.endpoint.me (requests_of p.batch.text.items) ≡ false))

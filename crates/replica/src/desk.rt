@@ -7,12 +7,13 @@ ghost use Rattle.protocol.specs.System.Configuration.{IsConfiguration};
 ghost use Rattle.wire.specs.Lists.{Each};
 ghost use Rattle.wire.specs.Spelling.{IsCarried, is_ordered_request};
 ghost use Rattle.wire.specs.Views.{texts_of};
+ghost use Rattle.replica.specs.State.{IsDesk};
 ghost use Rattle.replica.specs.Waiting.{count_unnumbered, texts, unnumbered, with_numbered};
 ghost use Rattle.replica.specs.Desking.{IsNewDesk, HasReply, PaysAgain, PaysAll, RunsBatch, RunsWhole, SaysReply, Waits, replies_for};
 
 use crate::open_transfer::OpenTransfer;
 use crate::snapshots::Snapshots;
-use crate::waiting::{Waiting, WaitingRequest};
+use crate::waiting::Waiting;
 use authenticator::Ring;
 use events::{Config, Output, Outputs, Stop, give};
 use execution::{Executed, Ran};
@@ -72,6 +73,13 @@ impl Desk {
         })
     }
 
+    // Tells a proof what each desk keeps.
+    pub(crate) fn keeps(&self)
+        ensures { IsDesk self.now }
+    {
+        let _period = self.period;
+    }
+
     /// Executes the batch of this text, which is the next one, and answers each of its requests that ran.
     pub(crate) fn execute(
         &mut self,
@@ -83,6 +91,7 @@ impl Desk {
         ensures ok { OnOk result (RunsWhole self.old text.now outputs.old.items self.new outputs.new.items) }
         ensures me { self.new.me ≡ self.old.me }
         ensures membership { self.new.membership ≡ self.old.membership }
+        ensures period { self.new.period ≡ self.old.period }
     {
         let ran = self.run(alloc, text, outputs)?;
         self.reply_to_all(alloc, ran, outputs)
@@ -96,6 +105,7 @@ impl Desk {
             self.new (replies_for ran.items) outputs.new.items) }
         ensures me { self.new.me ≡ self.old.me }
         ensures membership { self.new.membership ≡ self.old.membership }
+        ensures period { self.new.period ≡ self.old.period }
     {
         let ran = self.executed.execute(text)?;
         self.keep_due()?;
@@ -141,14 +151,11 @@ impl Desk {
         ensures ok { OnOk result (Waits client timestamp frame.now self.old self.new) }
         ensures me { self.new.me ≡ self.old.me }
         ensures membership { self.new.membership ≡ self.old.membership }
+        ensures period { self.new.period ≡ self.old.period }
     {
         let frame = Vec::from_slice(alloc, frame)?;
         self.waiting.remove(client);
-        self.waiting.push(WaitingRequest {
-            client,
-            timestamp,
-            frame,
-        })?;
+        self.waiting.push(client, timestamp, frame)?;
         Ok(())
     }
 
@@ -162,8 +169,7 @@ impl Desk {
     /// Whether a request that waits has no number yet.
     pub(crate) fn has_unnumbered(&self) -> bool
         ensures some { IsTrue result → 1 ≤ length (unnumbered self.now.waiting) }
-        ensures none { IsFalse result
-            → length self.now.waiting.requests ≤ self.now.waiting.numbered }
+        ensures none { IsFalse result → count_unnumbered self.now.waiting ≡ 0 }
     {
         self.waiting.has_unnumbered()
     }
@@ -173,15 +179,12 @@ impl Desk {
         ensures value { IfOk result (λ frames. texts_of frames.items ≡ texts (unnumbered self.now.waiting)) }
         ensures each { Each (IsCarried is_ordered_request) (texts (unnumbered self.now.waiting)) }
         ensures most { length (unnumbered self.now.waiting) ≤ 16 }
-        ensures rest { self.now.waiting.numbered + length (unnumbered self.now.waiting)
-            ≤ length self.now.waiting.requests }
     {
         self.waiting.unnumbered_frames(alloc)
     }
 
     /// So many more requests have a number.
     pub(crate) fn note_numbered(&mut self, count: usize)
-        requires { self.old.waiting.numbered + count ≤ length self.old.waiting.requests }
         ensures { self.new ≡ record self.old { waiting = with_numbered count self.old.waiting } }
     {
         self.waiting.note_numbered(count);

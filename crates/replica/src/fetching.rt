@@ -83,6 +83,7 @@ impl Desk {
         ensures ok { IfOk result (AimsAt (checkpoint_entry_data entry.now) self.old self.new) }
         ensures me { self.new.me ≡ self.old.me }
         ensures membership { self.new.membership ≡ self.old.membership }
+        ensures period { self.new.period ≡ self.old.period }
     {
         if entry.number.0 <= self.aimed_at().0 {
             return Ok(false);
@@ -121,6 +122,7 @@ impl Desk {
         ensures ok { IfOk result (TakesPage self.old page.now self.new) }
         ensures me { self.new.me ≡ self.old.me }
         ensures membership { self.new.membership ≡ self.old.membership }
+        ensures period { self.new.period ≡ self.old.period }
     {
         match &mut self.transfer {
             Some(open) => open.take_page(page),
@@ -133,6 +135,7 @@ impl Desk {
         ensures ok { IfOk result (AsksPart self.old self.new) }
         ensures me { self.new.me ≡ self.old.me }
         ensures membership { self.new.membership ≡ self.old.membership }
+        ensures period { self.new.period ≡ self.old.period }
     {
         let Some(open) = &mut self.transfer else {
             return Ok(false);
@@ -150,6 +153,7 @@ impl Desk {
         ensures ok { IfOk result (λ entry. Installs self.old self.new (option_map checkpoint_entry_data entry)) }
         ensures me { self.new.me ≡ self.old.me }
         ensures membership { self.new.membership ≡ self.old.membership }
+        ensures period { self.new.period ≡ self.old.period }
     {
         let Some(open) = &self.transfer else {
             return Ok(None);

@@ -1,18 +1,23 @@
-//! A replica of the replicated space in its first view, over frames (Castro and Liskov, Practical Byzantine fault
-//! tolerance and proactive recovery, TOCS 2002, on normal-case operation). It numbers requests as the primary, or takes
-//! the primary's batches, goes through the three phases, executes what is committed and answers clients.
+//! A replica of the replicated space, over frames (Castro and Liskov, Practical Byzantine fault tolerance and proactive
+//! recovery, TOCS 2002, on normal-case operation and view changes). It numbers requests as the primary, or takes the
+//! primary's batches, goes through the three phases, executes what is committed and answers clients.
 //!
 //! Behind each period it keeps its state and says its root in a checkpoint; where a quorum says the same, the marks
 //! move up to it. Where the quorum is ahead of it, it fetches that state part by part and installs it.
 //!
-//! It knows one view: messages of view changes, and reads, are dropped.
+//! Where time goes by while a request waits, it signs a view change for the next view and is inactive until a new view
+//! comes; it joins f + 1 others that move to a later one. As the primary of the view that it moves to it makes the new
+//! view, as soon as the view changes that it has allow it. Reads are dropped.
 //!
 //! # What it keeps
 //!
 //! What strangers can make it keep is bounded: the latest request of each client; for each number within the marks, 32
 //! at the most, one batch and a prepare and a commit of each replica; of each replica the three checkpoints of the
 //! largest numbers; the states at its own checkpoints from the low mark on, three at the most; and one transfer, by the
-//! pages of one state and 33 times 1,024 bytes of digests. States share the pages that are the same in them.
+//! pages of one state and 33 times 1,024 bytes of digests. States share the pages that are the same in them. Of view
+//! changes it keeps of each replica the latest, with its frame; its own claims, which few views can make many
+//! (`view_change::Claims`); the frame of its own new view; the calls of the new view with which its view began, 512 at
+//! the most; and for each number within the marks the batch that was committed in an earlier view.
 //!
 //! # What it costs
 //!
@@ -24,26 +29,32 @@
 //!
 //! # What is proved
 //!
-//! Whatever history fits a replica, the longer one behind an event fits it afterwards, if the event brings no new view:
-//! [`Replica::new`] fits the empty history, and [`Replica::step`] hands it on by what it gives, also where it stops. A
-//! history that fits is that of a replica that orders requests and transfers states (`IsOrderingReplica`): safe, with
-//! all that is owed but reads: of numbers, prepares, commits, executions, replies and checkpoints, of states that are
-//! fetched and parts that are asked for, of what goes again and of what is dropped. It has no view change. Where memory
-//! runs out the replica has stopped: it gives nothing, then and later.
+//! Whatever history fits a replica, the longer one behind an event fits it afterwards: [`Replica::new`] fits the empty
+//! history, and [`Replica::step`] hands it on by what it gives, also where it stops. A history that fits is that of a
+//! replica that orders requests, transfers states and changes its view (`IsOrderingReplica`): safe, with all that is
+//! owed but reads: of numbers, prepares, commits, executions, replies and checkpoints, in each view, of states that are
+//! fetched and parts that are asked for, of what goes again and of what is dropped. Where memory runs out the replica
+//! has stopped: it gives nothing, then and later.
 #![tactic(auto)]
 
 mod arriving;
+mod changing;
 mod checkpoints;
+mod claiming;
 mod desk;
+mod entering_views;
 mod executing;
 mod fetching;
+mod joining;
 mod keeping;
 mod marks;
+mod new_views;
 mod numbering;
 mod open_transfer;
 mod orderer;
 mod replica;
 mod saying;
+mod signing_frames;
 mod snapshots;
 mod taking;
 mod transfers;

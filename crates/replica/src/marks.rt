@@ -1,9 +1,10 @@
 //! What the orderer knows of checkpoints, and its marks.
 
-ghost use Rattle.std.specs.Prelude.{◌≡◌, ◌*◌, ◌+◌, ◌^◌, ◌<◌, Some, OnOk, nat_le, option_map};
+ghost use Rattle.std.specs.Prelude.{◌≡◌, ◌*◌, ◌+◌, ◌^◌, ◌<◌, Some, OnOk, nat_le, option_map, true};
 ghost use Rattle.wire.specs.Messages.{checkpoint};
 ghost use Rattle.wire.specs.Views.{checkpoint_entry_data};
-ghost use Rattle.ordering.specs.Log.{count_checkpoints, cut_to};
+ghost use Rattle.ordering.specs.Log.{count_checkpoints};
+ghost use Rattle.replica.specs.Claiming.{CutsLog};
 ghost use Rattle.replica.specs.Checkpoints.{SaysCheckpoint, TakesCheckpoint, said_entry};
 ghost use Rattle.replica.specs.Saying.{Says, SaysAgain};
 
@@ -20,6 +21,7 @@ impl Orderer {
     pub(crate) fn take_checkpoint(&mut self, sender: ReplicaId, checkpoint: &Checkpoint) -> bool
         ensures takes { TakesCheckpoint self.old sender checkpoint.now self.new result }
         ensures endpoint { self.new.endpoint ≡ self.old.endpoint }
+        ensures received { self.new.received ≡ self.old.received }
     {
         if self.log.on_checkpoint(sender, checkpoint).is_err() {
             return false;
@@ -38,6 +40,7 @@ impl Orderer {
         ensures ok { OnOk result (SaysCheckpoint (checkpoint_entry_data entry) self.old outputs.old.items self.new
             outputs.new.items) }
         ensures endpoint { self.new.endpoint ≡ self.old.endpoint }
+        ensures received { self.new.received ≡ self.old.received }
     {
         self.keeps();
         self.post_checkpoint(alloc, entry, outputs)?;
@@ -54,7 +57,7 @@ impl Orderer {
         outputs: &mut Outputs,
     ) -> Result<(), Stop>
         ensures ok { OnOk result
-            (SaysAgain self.old outputs.old.items self.new outputs.new.items) }
+            (SaysAgain true self.old outputs.old.items self.new outputs.new.items) }
         ensures same { self.new ≡ self.old }
     {
         match self.last_checkpoint {
@@ -88,9 +91,10 @@ impl Orderer {
     /// Moves the low mark up to this number, and drops the rows up to it.
     pub(crate) fn cut(&mut self, low: Number)
         requires { low.0 < 2 ^ 48 }
-        ensures { self.new ≡ record self.old { log = cut_to self.old.log low.0 } }
+        ensures { CutsLog low.0 self.old self.new }
     {
         self.log.cut(low);
+        self.claims.cut(self.log.low());
     }
 }
 

@@ -5,6 +5,7 @@ ghost use Rattle.wire.specs.Spelling.{IsCarried, is_ordered_request};
 ghost use Rattle.ordering.specs.Log.{is_in_marks};
 ghost use Rattle.replica.specs.Waiting.{unnumbered};
 ghost use Rattle.replica.specs.Entering.{TakesRequest};
+ghost use Rattle.replica.specs.Saying.{AllAgain};
 ghost use Rattle.replica.specs.Numbering.{IsNextFree, next_number};
 ghost use Rattle.replica.specs.NumbersNext.{NumbersNext, NumbersTurn, NumbersWaiting};
 
@@ -41,8 +42,7 @@ impl Replica {
         match self.desk.arrival_of(client, timestamp, frame) {
             Arrival::Past => Ok(Touched::Nothing),
             Arrival::Waiting => {
-                let executed = self.desk.executed.number();
-                self.orderer.say_again(alloc, executed, outputs)?;
+                self.say_all_again(alloc, outputs)?;
                 Ok(Touched::Nothing)
             }
             Arrival::New => {
@@ -50,6 +50,18 @@ impl Replica {
                 Ok(Touched::Waiting)
             }
         }
+    }
+
+    // Says again, while active, what was said of numbers that aren't executed, and else the own view change.
+    fn say_all_again(&mut self, alloc: Global, outputs: &mut Outputs) -> Result<(), Stop>
+        ensures ok { OnOk result (AllAgain self.old outputs.old.items self.new outputs.new.items) }
+        ensures same { self.new ≡ self.old }
+    {
+        if !self.orderer.log.is_active() {
+            return self.orderer.say_change_again(alloc, outputs);
+        }
+        let executed = self.desk.executed.number();
+        self.orderer.say_again(alloc, executed, outputs)
     }
 
     /// Gives the free numbers to requests that wait, if the replica is the primary. Each turn leaves fewer requests
@@ -116,10 +128,10 @@ impl Replica {
     {
         let log = &self.orderer.log;
         let number = Number(self.orderer.used.0.max(log.low().0).checked_add(1)?);
-        if log.me().0 == log.primary(log.view()).0
+        if log.is_active()
+            && log.me().0 == log.primary(log.view()).0
             && log.is_in_marks(number)
             && number.0 <= self.desk.executed.number().0 + AHEAD
-            && log.is_active()
         {
             Some(number)
         } else {

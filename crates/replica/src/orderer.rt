@@ -1,4 +1,5 @@
-//! What orders: the log of the three phases, and the keys that frames are heard and posted with.
+//! What orders: the log of the three phases, what is kept for changes of the view, and the keys that frames are heard and
+//! posted with.
 
 ghost use Rattle.std.specs.Prelude.{◌≡◌, ◌+◌, ◌*◌, ◌<◌, IfOk};
 ghost use Rattle.posting.specs.Endpoint.{Hears};
@@ -12,7 +13,8 @@ use signing::{PublicKeys, Signer};
 use std::alloc::Global;
 use std::marker::Model;
 use std::sync::Arc;
-use terms::{NoMemory, Number, Party, ReplicaId};
+use terms::{NoMemory, Number, Party, ReplicaId, View};
+use view_change::{Claims, Received, Sizes};
 use wire::{Body, CheckpointEntry, Commit, PrePrepare, Prepare};
 
 /// What orders.
@@ -20,8 +22,19 @@ use wire::{Body, CheckpointEntry, Commit, PrePrepare, Prepare};
 pub(crate) struct Orderer {
     pub(crate) endpoint: Endpoint,
     pub(crate) log: Log,
-    /// The greatest number that the replica gave to a batch as the primary, 0 before the first.
+    /// The greatest number that has a batch by the new view with which the view began, or by the replica as its
+    /// primary, 0 before the first.
     pub(crate) used: Number,
+    /// The number up to which the new view with which the view began has batches, 0 in the first view.
+    pub(crate) begun: Number,
+    /// The greatest view that a view change was said for, 0 before the first.
+    pub(crate) target: View,
+    /// The frame of the new view with which the view began, where the replica made it.
+    pub(crate) new_view: Option<Vec<u8>>,
+    /// What it logged and prepared, for its own view changes.
+    pub(crate) claims: Claims,
+    /// The latest view change of each replica.
+    pub(crate) received: Received,
     /// The last checkpoint that the replica said.
     pub(crate) last_checkpoint: Option<CheckpointEntry>,
 }
@@ -51,11 +64,21 @@ impl Orderer {
         let seed = config.seed();
         let faults = config.faults();
         let ring = Ring::new(alloc, seed, faults, config.clients());
+        let sizes = Sizes {
+            faults,
+            period: config.period(),
+        };
+        let received = Received::new(alloc, publics.share()?, sizes)?;
         let signer = Signer::from_seed(&signing_seed(seed, Party::Replica(me)));
         Ok(Orderer {
             endpoint: Endpoint::new(me, faults, ring, publics, signer),
             log: Log::new(alloc, me, faults, 2 * u64::from(config.period()))?,
             used: Number(0),
+            begun: Number(0),
+            target: View(0),
+            new_view: None,
+            claims: Claims::new(alloc),
+            received,
             last_checkpoint: None,
         })
     }
@@ -77,6 +100,8 @@ impl Orderer {
     ) -> Result<bool, Stop>
         ensures takes { IfOk result (TakesBatch self.old sender message self.new) }
         ensures endpoint { self.new.endpoint ≡ self.old.endpoint }
+        ensures sizes { self.new.received.sizes ≡ self.old.received.sizes }
+        ensures received { self.new.received ≡ self.old.received }
     {
         if self.log.preprepare_fault(sender, &message).is_some() {
             return Ok(false);
@@ -86,7 +111,7 @@ impl Orderer {
         }
         let PrePrepare { number, batch, .. } = message;
         let batch = Arc::new(alloc, HashedBatch::new(batch))?;
-        self.log.put_batch(number, batch);
+        self.log_batch(number, batch)?;
         Ok(true)
     }
 

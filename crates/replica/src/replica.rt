@@ -1,9 +1,11 @@
 //! A replica.
 
-ghost use Rattle.std.specs.Prelude.{◌≡◌, ◌↔◌, ◌+◌, ◌*◌, ◌<◌, true, false, [], Err, IfOk, OnErr};
+ghost use Rattle.std.specs.Prelude.{◌≡◌, ◌↔◌, ◌+◌, ◌*◌, ◌<◌, true, false, [], Err, IfOk, OnErr, OnOk};
 ghost use Rattle.events.specs.declared.output.Stop.TheVariants as Stop;
 ghost use Rattle.replica.specs.State.{AreOne};
-ghost use Rattle.replica.specs.Fits.{Fits, EventLeads, me_of};
+ghost use Rattle.replica.specs.Entering.{TakesInput};
+ghost use Rattle.replica.specs.FollowingUp.{ExecutesAndNumbers, FollowsUp};
+ghost use Rattle.replica.specs.Fits.{Fits, EventLeads, input_of, me_of};
 
 use crate::desk::Desk;
 use crate::orderer::Orderer;
@@ -113,7 +115,7 @@ impl Replica {
     }
 
     // What is given for an event: first what the message itself asks for, then what the log asks for, and last the
-    // numbers that are free for waiting requests. For time that goes by a part that is asked for is asked for again.
+    // numbers that are free for waiting requests.
     fn react(&mut self, alloc: Global, event: Event<'_>) -> Result<Outputs, Stop>
         requires { self.old.stopped ≡ false }
         ensures leads { IfOk result (λ outs. EventLeads self.old event.entry outs.items self.new) }
@@ -122,21 +124,57 @@ impl Replica {
     {
         self.are_one();
         let mut outputs = Vec::new(alloc);
-        match event {
-            Event::Timeout => self.say_fetch(alloc, &mut outputs)?,
-            Event::Got(bytes) => match self.take(alloc, bytes, &mut outputs)? {
-                Touched::Nothing => {}
-                Touched::Waiting => self.number_waiting(alloc, &mut outputs)?,
-                Touched::Row(number) => {
-                    self.go_on(alloc, number, &mut outputs)?;
-                    self.number_waiting(alloc, &mut outputs)?;
-                }
-                Touched::State => {
-                    self.execute_committed(alloc, &mut outputs)?;
-                    self.number_waiting(alloc, &mut outputs)?;
-                }
-            },
-        }
+        let touched = self.begin(alloc, event, &mut outputs)?;
+        self.follow_up(alloc, touched, &mut outputs)?;
         Ok(outputs)
+    }
+
+    // What the event itself asks for. Returns what it touched.
+    fn begin(
+        &mut self,
+        alloc: Global,
+        event: Event<'_>,
+        outputs: &mut Outputs,
+    ) -> Result<Touched, Stop>
+        requires first { outputs.old.items ≡ [] }
+        ensures ok { IfOk result (λ touched. TakesInput (input_of (me_of self.old) event.entry) self.old
+            touched self.new outputs.new.items) }
+        ensures endpoint { self.new.orderer.endpoint ≡ self.old.orderer.endpoint }
+    {
+        match event {
+            Event::Timeout => self.on_timeout(alloc, outputs),
+            Event::Got(bytes) => self.take(alloc, bytes, outputs),
+        }
+    }
+
+    // What is asked for next, once an event touched this.
+    fn follow_up(
+        &mut self,
+        alloc: Global,
+        touched: Touched,
+        outputs: &mut Outputs,
+    ) -> Result<(), Stop>
+        ensures ok { OnOk result (FollowsUp touched self.old outputs.old.items self.new outputs.new.items) }
+        ensures endpoint { self.new.orderer.endpoint ≡ self.old.orderer.endpoint }
+    {
+        match touched {
+            Touched::Nothing => Ok(()),
+            Touched::Waiting => self.number_waiting(alloc, outputs),
+            Touched::Row(number) => {
+                self.go_on(alloc, number, outputs)?;
+                self.number_waiting(alloc, outputs)
+            }
+            Touched::State | Touched::View => self.execute_and_number(alloc, outputs),
+        }
+    }
+
+    // Executes what is committed, and then gives numbers to what waits.
+    fn execute_and_number(&mut self, alloc: Global, outputs: &mut Outputs) -> Result<(), Stop>
+        ensures ok { OnOk result
+            (ExecutesAndNumbers self.old outputs.old.items self.new outputs.new.items) }
+        ensures endpoint { self.new.orderer.endpoint ≡ self.old.orderer.endpoint }
+    {
+        self.execute_committed(alloc, outputs)?;
+        self.number_waiting(alloc, outputs)
     }
 }

@@ -36,11 +36,12 @@ impl Orderer {
         ensures ok { OnOk result (SaysBatch number.0 (pieces_spelling (texts_of frames.now))
             self.old outputs.old.items self.new outputs.new.items) }
         ensures endpoint { self.new.endpoint ≡ self.old.endpoint }
+        ensures sizes { self.new.received.sizes ≡ self.old.received.sizes }
     {
         self.keeps();
         let batch = Arc::new(alloc, HashedBatch::new(Batch::of(alloc, frames)?))?;
         self.say_pre_prepare(alloc, number, batch.text(), outputs)?;
-        self.log.put_batch(number, batch);
+        self.log_batch(number, batch)?;
         self.used = number;
         Ok(())
     }
@@ -55,9 +56,10 @@ impl Orderer {
     ) -> Result<(), Stop>
         requires { executed.0 < 2 ^ 48 }
         ensures ok { OnOk result
-            (SaysAgain self.old outputs.old.items self.new outputs.new.items) }
+            (SaysAgain true self.old outputs.old.items self.new outputs.new.items) }
         ensures same { self.new ≡ self.old }
     {
+        self.say_new_view_again(alloc, outputs)?;
         let last = self.log.low().0 + self.log.span();
         for number in executed.0 + 1..last + 1 {
             self.say_row_again(alloc, Number(number), outputs)?;
@@ -73,7 +75,7 @@ impl Orderer {
         outputs: &mut Outputs,
     ) -> Result<(), Stop>
         ensures ok { OnOk result
-            (SaysAgain self.old outputs.old.items self.new outputs.new.items) }
+            (SaysAgain true self.old outputs.old.items self.new outputs.new.items) }
         ensures same { self.new ≡ self.old }
     {
         self.say_batch_again(alloc, number, outputs)?;
@@ -88,11 +90,12 @@ impl Orderer {
         outputs: &mut Outputs,
     ) -> Result<(), Stop>
         ensures ok { OnOk result
-            (SaysAgain self.old outputs.old.items self.new outputs.new.items) }
+            (SaysAgain true self.old outputs.old.items self.new outputs.new.items) }
         ensures same { self.new ≡ self.old }
     {
         self.keeps();
-        if !self.is_primary() {
+        // Up to this number the new view has said it.
+        if !self.is_primary() || number.0 <= self.begun.0 {
             return Ok(());
         }
         let Some(batch) = self.log.logged_batch(number) else {
@@ -113,7 +116,7 @@ impl Orderer {
         outputs: &mut Outputs,
     ) -> Result<(), Stop>
         ensures ok { OnOk result
-            (SaysAgain self.old outputs.old.items self.new outputs.new.items) }
+            (SaysAgain true self.old outputs.old.items self.new outputs.new.items) }
         ensures same { self.new ≡ self.old }
     {
         self.keeps();
@@ -131,7 +134,7 @@ impl Orderer {
         outputs: &mut Outputs,
     ) -> Result<(), Stop>
         ensures ok { OnOk result
-            (SaysAgain self.old outputs.old.items self.new outputs.new.items) }
+            (SaysAgain true self.old outputs.old.items self.new outputs.new.items) }
         ensures same { self.new ≡ self.old }
     {
         self.keeps();

@@ -1,10 +1,11 @@
 //! The states that are kept for those that fetch them.
 
-ghost use Rattle.std.specs.Prelude.{◌≡◌, ◌≢◌, ◌∷◌, [], IfNone, IfSome, OnErr, OnOk, option_map};
+ghost use Rattle.std.specs.Prelude.{◌≡◌, ◌≢◌, ◌∷◌, [], IfNone, IfOk, IfSome, OnErr, OnOk, option_map};
 ghost use Rattle.wire.specs.Lists.{Each};
-ghost use Rattle.wire.specs.Views.{checkpoint_entry_data};
+ghost use Rattle.wire.specs.Views.{checkpoint_entries_data, checkpoint_entry_data};
 ghost use Rattle.protocol.specs.System.Trace.{Has};
 ghost use Rattle.replica_histories.specs.Desk.{kept_from};
+ghost use Rattle.replica_histories.specs.Views.{entries_of};
 ghost use Rattle.replica.specs.Desking.{newest_entry};
 
 use partition_tree::Snapshot;
@@ -82,6 +83,21 @@ impl Snapshots {
             }),
             [] => None,
         }
+    }
+
+    /// The numbers and roots of all, ascending. The error is want of memory.
+    pub(crate) fn entries(&self, alloc: Global) -> Result<Vec<CheckpointEntry>, NoMemory>
+        ensures { IfOk result (λ entries. checkpoint_entries_data entries ≡ entries_of self.now) }
+    {
+        let mut entries = Vec::new(alloc);
+        for state in &self.kept {
+            let entry = CheckpointEntry {
+                number: state.number,
+                digest: state.pages.root(),
+            };
+            entries.insert(0, entry)?;
+        }
+        Ok(entries)
     }
 
     /// Drops those below the low mark.

@@ -23,6 +23,8 @@ pub(crate) enum Touched {
     Row(Number),
     /// The executed state: another one was installed.
     State,
+    /// The view: a later one is entered.
+    View,
 }
 
 impl Replica {
@@ -39,12 +41,17 @@ impl Replica {
         ensures endpoint { self.new.orderer.endpoint ≡ self.old.orderer.endpoint }
     {
         self.are_one();
+        // A view change that is held isn't verified again.
+        if self.orderer.received.has_frame(bytes) {
+            self.orderer.judges();
+            return Ok(Touched::Nothing);
+        }
         let Some(Body { sender, message }) = self.orderer.hear(alloc, bytes)? else {
             return Ok(Touched::Nothing);
         };
         match sender {
             Party::Client(client) => self.on_client(alloc, client, message, bytes, outputs),
-            Party::Replica(sender) => self.on_replica(alloc, sender, message, outputs),
+            Party::Replica(sender) => self.on_replica(alloc, sender, message, bytes, outputs),
         }
     }
 
@@ -79,17 +86,20 @@ impl Replica {
         }
     }
 
-    // Another replica's message.
+    // Another replica's message, which came in this frame.
     fn on_replica(
         &mut self,
         alloc: Global,
         sender: ReplicaId,
         message: Message,
+        frame: &[u8],
         outputs: &mut Outputs,
     ) -> Result<Touched, Stop>
         requires first { outputs.old.items ≡ [] }
-        ensures ok { IfOk result (λ touched. TakesMessage sender (message_data message)
-            self.old touched self.new outputs.new.items) }
+        requires heard { heard self.old.desk.membership self.old.desk.me frame.now
+            ≡ Some (record { sender = sender.0; message = message_data message }) }
+        ensures ok { IfOk result (λ touched. TakesBytes frame.now self.old
+            touched self.new outputs.new.items) }
         ensures endpoint { self.new.orderer.endpoint ≡ self.old.orderer.endpoint }
     {
         self.are_one();
@@ -101,6 +111,10 @@ impl Replica {
             Message::Fetch(message) => self.on_fetch(alloc, sender, &message, outputs),
             Message::Meta(message) => self.on_meta(alloc, sender, &message, outputs),
             Message::Page(message) => self.on_page(alloc, sender, &message, outputs),
+            Message::ViewChange(message) => {
+                self.on_view_change(alloc, sender, message, frame, outputs)
+            }
+            Message::NewView(message) => self.on_new_view(alloc, sender, message, outputs),
             _ => {
                 note_replica(sender);
                 Ok(Touched::Nothing)

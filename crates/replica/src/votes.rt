@@ -40,6 +40,7 @@ impl Orderer {
         ensures ok { OnOk result
             (SaysVotes number.0 self.old outputs.old.items self.new outputs.new.items) }
         ensures endpoint { self.new.endpoint ≡ self.old.endpoint }
+        ensures sizes { self.new.received.sizes ≡ self.old.received.sizes }
     {
         self.say_due_prepare(alloc, number, outputs)?;
         self.say_due_commit(alloc, number, outputs)
@@ -54,6 +55,7 @@ impl Orderer {
         ensures ok { OnOk result
             (SaysPrepare number.0 self.old outputs.old.items self.new outputs.new.items) }
         ensures endpoint { self.new.endpoint ≡ self.old.endpoint }
+        ensures sizes { self.new.received.sizes ≡ self.old.received.sizes }
     {
         self.keeps();
         let Some(digest) = self.log.due_prepare(number) else {
@@ -73,11 +75,13 @@ impl Orderer {
         ensures ok { OnOk result
             (SaysCommit number.0 self.old outputs.old.items self.new outputs.new.items) }
         ensures endpoint { self.new.endpoint ≡ self.old.endpoint }
+        ensures sizes { self.new.received.sizes ≡ self.old.received.sizes }
     {
         self.keeps();
         let Some(digest) = self.log.due_commit(number) else {
             return Ok(());
         };
+        self.note_prepared(number)?;
         self.say_commit(alloc, number, digest, outputs)?;
         self.add_commit(number, digest);
         Ok(())

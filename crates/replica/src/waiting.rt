@@ -1,10 +1,10 @@
 //! Requests that wait to be executed.
 
-ghost use Rattle.std.specs.Prelude.{◌≡◌, ◌≤◌, ◌+◌, ◌++◌, ◌∷◌, [], not, length, take, count_by, filter, IfOk, IfSome, IsFalse, IsTrue, OnOk};
+ghost use Rattle.std.specs.Prelude.{◌≡◌, ◌≤◌, ◌++◌, ◌∷◌, [], not, length, map, filter, ◌↔◌, IfOk, IfSome, IsFalse, IsTrue, OnErr, OnOk};
 ghost use Rattle.wire.specs.Lists.{Each};
 ghost use Rattle.wire.specs.Spelling.{IsCarried, is_ordered_request};
 ghost use Rattle.wire.specs.Views.{texts_of};
-ghost use Rattle.replica.specs.Waiting.{IsRequest, count_unnumbered, none_waiting, lent, request_of, texts, unnumbered, is_of, is_new, with_request, with_numbered, without, forgotten};
+ghost use Rattle.replica.specs.Waiting.{IsRequest, count_unnumbered, none_waiting, lent, request_of, texts, unnumbered, is_of, is_new, is_begun, all_numbered, renumbered, with_request, with_numbered, with_view, without, forgotten};
 
 use events::Stop;
 use execution::Executed;
@@ -19,14 +19,23 @@ pub(crate) struct WaitingRequest {
     pub(crate) client: ClientId,
     pub(crate) timestamp: Timestamp,
     pub(crate) frame: Vec<u8>,
+    // Whether it has a number in the view.
+    numbered: bool,
 }
 
-/// The requests that wait, in order of arrival: of each client the latest, so at most 256 frames.
+/// A call that stands in the new view with which the view began, and so has a number in it.
+#[derive(Clone, Copy, Drop)]
+pub(crate) struct BegunCall {
+    pub(crate) client: ClientId,
+    pub(crate) timestamp: Timestamp,
+}
+
+/// The requests that wait, in order of arrival: of each client the latest, so at most 256 frames; and the calls in the
+/// new view with which the view began, 32 times 16 at the most.
 #[derive(Drop)]
 pub(crate) struct Waiting {
     requests: Vec<WaitingRequest>,
-    // So many of them, the first ones, have a number in the view.
-    numbered: usize,
+    begun: Vec<BegunCall>,
 }
 
 impl Model for Waiting {
@@ -34,9 +43,9 @@ impl Model for Waiting {
 
     ghost Value = { WaitingData };
 
-    ghost view = { λ w. record { requests = w.requests.items; numbered = w.numbered } };
+    ghost view = { λ w. record { requests = w.requests.items; begun = w.begun.items } };
 
-    ghost invariant = { λ w. IsWaiting (record { requests = w.requests.items; numbered = w.numbered }) };
+    ghost invariant = { λ w. IsWaiting (record { requests = w.requests.items; begun = w.begun.items }) };
 }
 
 impl Waiting {
@@ -45,7 +54,7 @@ impl Waiting {
     {
         Waiting {
             requests: Vec::new(alloc),
-            numbered: 0,
+            begun: Vec::new(alloc),
         }
     }
 
@@ -59,31 +68,29 @@ impl Waiting {
             .find(|request| request.client.number == client.number)
     }
 
+    /// Whether no request waits.
+    pub(crate) fn is_empty(&self) -> bool
+        ensures { IsTrue result ↔ (self.now.requests ≡ []) }
+    {
+        self.requests.is_empty()
+    }
+
     /// How many requests have no number yet.
     pub(crate) fn count_unnumbered(&self) -> usize
         ensures { result ≡ count_unnumbered self.now }
     {
-        self.requests.len() - self.numbered
+        self.requests
+            .iter()
+            .filter(|request| !request.numbered)
+            .count()
     }
 
     /// Whether a request has no number yet.
     pub(crate) fn has_unnumbered(&self) -> bool
         ensures some { IsTrue result → 1 ≤ length (unnumbered self.now) }
-        ensures none { IsFalse result → length self.now.requests ≤ self.now.numbered }
+        ensures none { IsFalse result → count_unnumbered self.now ≡ 0 }
     {
-        !self.unnumbered().is_empty()
-    }
-
-    // Up to 16 requests that have no number yet, the oldest first.
-    #[tactic(auto, using(crate::proofs::WaitingKept::each_unnumbered, crate::proofs::WaitingKept::few_unnumbered))]
-    fn unnumbered(&self) -> &[WaitingRequest]
-        ensures value { result.now ≡ unnumbered self.now }
-        ensures each { Each IsRequest result.now }
-        ensures most { length result.now ≤ 16 }
-        ensures rest { self.now.numbered + length result.now ≤ length self.now.requests }
-    {
-        let rest = &self.requests[self.numbered..];
-        &rest[..rest.len().min(MAX_REQUESTS)]
+        self.requests.iter().any(|request| !request.numbered)
     }
 
     /// Copies of the frames of up to 16 requests that have no number yet, the oldest first.
@@ -91,33 +98,51 @@ impl Waiting {
         ensures value { IfOk result (λ frames. texts_of frames.items ≡ texts (unnumbered self.now)) }
         ensures each { Each (IsCarried is_ordered_request) (texts (unnumbered self.now)) }
         ensures most { length (unnumbered self.now) ≤ 16 }
-        ensures rest { self.now.numbered + length (unnumbered self.now) ≤ length self.now.requests }
     {
-        copies(alloc, self.unnumbered())
+        copy_unnumbered(alloc, &self.requests)
     }
 
-    /// Puts a request behind all others.
-    pub(crate) fn push(&mut self, request: WaitingRequest) -> Result<(), AllocError>
-        requires { IsRequest request }
-        ensures ok { OnOk result (self.new ≡ with_request request self.old) }
+    /// Puts a client's request in this frame behind all others. It has a number in the view where the view began with
+    /// it.
+    pub(crate) fn push(
+        &mut self,
+        client: ClientId,
+        timestamp: Timestamp,
+        frame: Vec<u8>,
+    ) -> Result<(), AllocError>
+        requires { IsCarried is_ordered_request frame.items }
+        ensures ok { OnOk result (self.new ≡ with_request client timestamp frame self.old) }
+        ensures err { OnErr result (self.new ≡ self.old) }
     {
-        self.requests.push(request)?;
+        let numbered = is_call_in(client, timestamp, &self.begun);
+        self.requests.push(WaitingRequest {
+            client,
+            timestamp,
+            frame,
+            numbered,
+        })?;
         Ok(())
     }
 
-    /// So many more requests have a number.
+    /// The first so many of the requests that had no number have one.
     pub(crate) fn note_numbered(&mut self, count: usize)
-        requires { self.old.numbered + count ≤ length self.old.requests }
         ensures { self.new ≡ with_numbered count self.old }
     {
-        self.numbered += count;
+        number_first(count, &mut self.requests);
+    }
+
+    /// A view begins by a new view with these calls: they have a number in it, and no others.
+    pub(crate) fn begin_view(&mut self, calls: Vec<BegunCall>)
+        ensures { self.new ≡ with_view calls.items self.old }
+    {
+        renumber(&calls, &mut self.requests);
+        self.begun = calls;
     }
 
     /// Takes the client's request away, if one waits.
     pub(crate) fn remove(&mut self, client: ClientId)
         ensures { self.new ≡ without client.number self.old }
     {
-        self.numbered = count_others(client, &self.requests[..self.numbered]);
         keep_others(client, &mut self.requests);
     }
 
@@ -125,18 +150,35 @@ impl Waiting {
     pub(crate) fn forget(&mut self, executed: &Executed)
         ensures { self.new ≡ forgotten executed.now.state self.old }
     {
-        self.numbered = count_new(executed, &self.requests[..self.numbered]);
         keep_new(executed, &mut self.requests);
     }
 }
 
-fn count_others(client: ClientId, requests: &[WaitingRequest]) -> usize
-    ensures { result ≡ count_by (λ r. not (is_of client.number r)) requests.now }
+// Whether the call is one of these.
+fn is_call_in(client: ClientId, timestamp: Timestamp, calls: &[BegunCall]) -> bool
+    ensures { result ≡ is_begun calls.now client.number timestamp.0 }
 {
-    requests
-        .iter()
-        .filter(|request| request.client.number != client.number)
-        .count()
+    calls.iter().any(|call| call.client.number == client.number && call.timestamp.0 == timestamp.0)
+}
+
+fn number_first(count: usize, requests: &mut Vec<WaitingRequest>)
+    ensures { requests.new.items ≡ all_numbered count requests.old.items }
+{
+    let mut left = count;
+    for request in requests.iter_mut() {
+        if left > 0 && !request.numbered {
+            request.numbered = true;
+            left -= 1;
+        }
+    }
+}
+
+fn renumber(calls: &[BegunCall], requests: &mut Vec<WaitingRequest>)
+    ensures { requests.new.items ≡ map (renumbered calls.now) requests.old.items }
+{
+    for request in requests.iter_mut() {
+        request.numbered = is_call_in(request.client, request.timestamp, calls);
+    }
 }
 
 fn keep_others(client: ClientId, requests: &mut Vec<WaitingRequest>)
@@ -145,28 +187,21 @@ fn keep_others(client: ClientId, requests: &mut Vec<WaitingRequest>)
     requests.retain(|request| request.client.number != client.number);
 }
 
-fn count_new(executed: &Executed, requests: &[WaitingRequest]) -> usize
-    ensures { result ≡ count_by (is_new executed.now.state) requests.now }
-{
-    requests
-        .iter()
-        .filter(|request| executed.seen(request.client).0 < request.timestamp.0)
-        .count()
-}
-
 fn keep_new(executed: &Executed, requests: &mut Vec<WaitingRequest>)
     ensures { requests.new.items ≡ filter (is_new executed.now.state) requests.old.items }
 {
     requests.retain(|request| executed.seen(request.client).0 < request.timestamp.0);
 }
 
-// Copies of the requests' frames.
-fn copies(alloc: Global, requests: &[WaitingRequest]) -> Result<Vec<Vec<u8>>, Stop>
-    ensures { IfOk result (λ frames. texts_of frames.items ≡ texts requests.now) }
+// Copies of the frames of up to 16 requests without a number.
+fn copy_unnumbered(alloc: Global, requests: &[WaitingRequest]) -> Result<Vec<Vec<u8>>, Stop>
+    ensures { IfOk result (λ frames. texts_of frames.items ≡ texts (unnumbered (record none_waiting { requests = requests.now }))) }
 {
-    let mut frames = Vec::with_capacity(alloc, requests.len())?;
+    let mut frames = Vec::new(alloc);
     for request in requests {
-        add_copy(&mut frames, alloc, &request.frame)?;
+        if !request.numbered && frames.len() < MAX_REQUESTS {
+            add_copy(&mut frames, alloc, &request.frame)?;
+        }
     }
     Ok(frames)
 }

@@ -52,14 +52,14 @@ cut_none : (log : LogData) (h : ℕ) → h ≤ log.low → logs.cut_to log h ≡
 cut_none log h l = rw (le-leb h log.low l) refl
 
 -- so a cut is at the larger one
-cut_at : (log : LogData) (h : ℕ) → logs.cut_to log (max log.low h) ≡ logs.cut_to log h
+pub cut_at : (log : LogData) (h : ℕ) → logs.cut_to log (max log.low h) ≡ logs.cut_to log h
 cut_at log h = go (nat_lt log.low h) refl
   where
     go : (b : Bool) → nat_lt log.low h ≡ b → logs.cut_to log (max log.low h) ≡ logs.cut_to log h
     go true e = let l = ltb-true log.low h e in let most : max log.low h ≡ h = omega arith in ap (logs.cut_to log) most
     go false e = let l = ltb-false log.low h e in cut_none log (max log.low h) (omega arith) ∙ sym (cut_none log h l)
 
-cut_is_log : (log : LogData) (h : ℕ) → IsLog log → h < 2 ^ 48 → IsLog (logs.cut_to log h)
+pub cut_is_log : (log : LogData) (h : ℕ) → IsLog log → h < 2 ^ 48 → IsLog (logs.cut_to log h)
 cut_is_log log h is small = go (nat_le h log.low)
   where
     size : length (logs.cut_rows (min (h - log.low) log.span) log.rows) ≡ log.span

@@ -83,7 +83,7 @@ module _ (c : Configuration) (me : ℕ) (past : List Entry) (bytes : List ℕ) (
 -- ---- the event begins
 
 -- points of one state and the same waiting requests
-same_point : (snapshots : List State) (st other : State) (waiting calls : List Call) → st ≡ other → waiting ≡ calls
+pub same_point : (snapshots : List State) (st other : State) (waiting calls : List Call) → st ≡ other → waiting ≡ calls
     → ◌≡◌ {A = Point} (record { state = st; snapshots = snapshots; ran = []; waiting = waiting }) (record { state = other; snapshots = snapshots; ran = []; waiting = calls })
 same_point snapshots st other waiting calls e f = rw (e, f) refl
 

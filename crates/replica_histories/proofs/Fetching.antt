@@ -18,6 +18,7 @@ use Rattle.protocol.specs.Replica.State.{State, Call, call_in}
 use Rattle.protocol.specs.Replica.RightReplica.{Point, kept_states, others, with_waiting}
 use Rattle.protocol.specs.Replica.Owed.{IsSaying}
 use Rattle.state_transfer.specs.Transfer.{TransferData, with_digests, with_page}
+use Rattle.protocol.proofs.Words.Posting.{may_send}
 use Rattle.replica_histories.specs.Desk.{Desk, snapshot_of, point_of}
 use Rattle.replica_histories.specs.Logs.{FitsLog}
 use Rattle.replica_histories.specs.Transfers.{HasQuorum, MayAsk, FitsOpen, open_number}
@@ -45,7 +46,8 @@ fetch_goes : (c : Configuration) (me : ℕ) (s : Start) (desk : Desk) (log : Log
     → IsPosted c me (fetch_of t) (others c me) bytes → ((x : Message) → Has (λ y. y ≡ x) due → Has (λ y. y ≡ x) rest ⊎ IsSaying me x (Sent me bytes)) → ((x : Message) → Has (λ y. y ≡ x) rest → Has (λ y. y ≡ x) due)
     → Fits c me s desk log due outputs → Fits c me s (record desk { transfer = Some t }) log rest (Sent me bytes ∷ outputs)
 fetch_goes c me s desk log due rest outputs t bytes m posted paid fewer f =
-    sent_goes c me s desk log log due rest outputs bytes (others c me) (fetch_of t) desk.snapshots (Some t) f posted refl tt (transfers_may_fetch c me t past (point_of desk f.of_desk.states f.of_desk.ran) m) fits
+    sent_goes c me s desk log log due rest outputs bytes desk.snapshots (Some t) f
+    (may_send c me past (point_of desk f.of_desk.states f.of_desk.ran) (Sent me bytes) bytes (others c me) (fetch_of t) posted refl tt (transfers_may_fetch c me t past (point_of desk f.of_desk.states f.of_desk.ran) m)) fits
     (ap (λ (h : ℕ). map snapshot_of (kept_states h f.of_desk.states)) (sym f.of_log.low) ∙ f.of_desk.kept)
     (reached_sent c me desk.state.number due rest log log past bytes (others c me) (fetch_of t) posted tt placed refl paid f.low)
     (transfers_ask c me t desk.state.number past bytes posted.says m) (no_root c past bytes me (fetch_of t) desk.state.number posted.says refl) paid fewer (no_proposal c me past bytes (fetch_of t) posted.says tt)

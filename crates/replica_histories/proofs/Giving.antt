@@ -5,9 +5,11 @@ use Rattle.std.specs.Prelude.{◌==◌, nat_le, ⊤, AllPairs}
 use Rattle.std.proofs.lemmas.Bool.{and_parts, eqb-false, ne_eqb, not-true, leb-true, leb-false}
 use Rattle.sha2.specs.Sha256.{sha256}
 use Rattle.terms.specs.declared.order.Mode.TheVariants as modes
-use Rattle.wire.specs.Messages.{BodyData as Body, MessageData as Message, request as Request, pre_prepare as PrePrepare, prepare as Prepare, commit as Commit, checkpoint as Checkpoint, view_change as ViewChange, new_view as NewView, reply as Reply, fetch as Fetch, meta as Meta, page as Page}
+use Rattle.wire.specs.Messages.{BodyData as Body, MessageData as Message, AuthenticatorData as Authenticator, macs, signature, request as Request, pre_prepare as PrePrepare, prepare as Prepare, commit as Commit, checkpoint as Checkpoint, view_change as ViewChange, new_view as NewView, reply as Reply, fetch as Fetch, meta as Meta, page as Page}
+use Rattle.wire.specs.Spelling.{is_signed, authenticator_is_signed}
 use Rattle.wire.specs.Words.{carried, requests_of, said}
 use Rattle.wire.specs.Lists.{Each}
+use Rattle.wire.proofs.Saying.{reads_frames, reads_said}
 use Rattle.signing.specs.Heard.{heard}
 use Rattle.ordering.specs.Log as logs
 use Rattle.ordering.specs.Log.{LogData}
@@ -17,7 +19,7 @@ use Rattle.protocol.specs.System.Trace.{Entry, Once, Has}
 use Rattle.protocol.specs.System.Trace.Entry.{Sent}
 use Rattle.protocol.specs.Replica.Certificates.{are_genuine, logged, batch_from}
 use Rattle.protocol.specs.Replica.State.{State, root_of}
-use Rattle.protocol.specs.Replica.RightReplica.{Point, Executes, kept_states, others, reply_of, IsFor, HasSeen, MaySay, MaySend, MayCheckpoint}
+use Rattle.protocol.specs.Replica.RightReplica.{Point, Executes, kept_states, others, reply_of, IsFor, IsAddressed, HasSeen, MaySay, MaySend, MayCheckpoint}
 use Rattle.protocol.specs.Replica.Owed.{place_from, IsSaying, HasRequest, IsNumbered, AreDifferent, NumbersOnce}
 use Rattle.protocol.proofs.Words.Options.{some_injective, then_some_gives, or_else_second}
 use Rattle.protocol.proofs.Words.Elements.{has_weaker, all_of_each, each_weaker}
@@ -67,11 +69,28 @@ due_stays c past e point (Fetch k level index) h = (h.0, (h.1.0, root_later c k 
 due_stays c past e point (Meta k level index digests) h = absurd h
 due_stays c past e point (Page k index text) h = absurd h
 
+-- a signed frame of the own that says what may be said may be sent, as it is for all
+signed_addressed : (c : Configuration) (me : ℕ) (past : List Entry) (message : Message) (a : Authenticator) → authenticator_is_signed a ≡ true → IsAddressed c me past message a
+signed_addressed c me past message (macs entries) h = absurd cc
+signed_addressed c me past message (signature s) h = tt
+
+pub signed_may_send : (c : Configuration) (me : ℕ) (past : List Entry) (point : Point) (e : Entry) (bytes : List ℕ) (message : Message) → is_signed message ≡ true → IsPosted c me message [] bytes
+    → Each (λ frame. Once (HasSeen frame) past) (carried message) → MaySay c me past point e bytes message → MaySend c me past point e bytes
+signed_may_send c me past point e bytes message signed posted seen say = record {
+  body = record { sender = me; message = message };
+  says = posted.says;
+  own = refl;
+  seen = seen;
+  say = say;
+  is_sealed = λ frame is.
+      let spells = (reads_frames bytes frame).0 is in
+      let same : ◌≡◌ {A = Body} frame.body (record { sender = me; message = message }) = some_injective _ _ (sym (reads_said bytes frame spells) ∙ posted.says) in
+      ((posted.is_sealed frame is).0, signed_addressed c me past message frame.authenticator (spells.valid.proved ∙ ap (λ (b : Body). is_signed b.message) same ∙ signed));
+}
+
 -- A frame that is sent: the log changes, of the snapshots these stay, this transfer is open, and what was due may be paid.
-pub sent_goes : (c : Configuration) (me : ℕ) (s : Start) (desk : Desk) (log after : LogData) (due rest : List Message) (outputs : List Entry) (bytes receivers : List ℕ) (message : Message) (snapshots : List Snapshot) (transfer : Option TransferData)
-    (f : Fits c me s desk log due outputs) → IsPosted c me message receivers bytes → IsFor c me (behind s outputs) message receivers
-    → Each (λ frame. Once (HasSeen frame) (behind s outputs)) (carried message)
-    → MaySay c me (behind s outputs) (point_of desk f.of_desk.states f.of_desk.ran) (Sent me bytes) bytes message
+pub sent_goes : (c : Configuration) (me : ℕ) (s : Start) (desk : Desk) (log after : LogData) (due rest : List Message) (outputs : List Entry) (bytes : List ℕ) (snapshots : List Snapshot) (transfer : Option TransferData)
+    (f : Fits c me s desk log due outputs) → MaySend c me (behind s outputs) (point_of desk f.of_desk.states f.of_desk.ran) (Sent me bytes) bytes
     → FitsLog c me after (Sent me bytes ∷ behind s outputs) → map snapshot_of (kept_states after.low f.of_desk.states) ≡ snapshots
     → IsReached c me after.low desk.state.number rest (Sent me bytes ∷ behind s outputs)
     → FitsOpen c me transfer desk.state.number (Sent me bytes ∷ behind s outputs)
@@ -80,7 +99,7 @@ pub sent_goes : (c : Configuration) (me : ℕ) (s : Start) (desk : Desk) (log af
     → ((x : Message) → Has (λ y. y ≡ x) rest → Has (λ y. y ≡ x) due)
     → NumbersOnce c me (behind s outputs) (Sent me bytes)
     → Fits c me s (record desk { snapshots = snapshots; transfer = transfer }) after rest (Sent me bytes ∷ outputs)
-sent_goes c me s desk log after due rest outputs bytes receivers message snapshots transfer f posted for seen say fits kept reached opened roots paid fewer once = record {
+sent_goes c me s desk log after due rest outputs bytes snapshots transfer f may fits kept reached opened roots paid fewer once = record {
   of_desk = record {
     states = f.of_desk.states;
     ran = f.of_desk.ran;
@@ -102,9 +121,6 @@ sent_goes c me s desk log after due rest outputs bytes receivers message snapsho
   where
     past : List Entry
     past = behind s outputs
-
-    may : MaySend c me past (point_of desk f.of_desk.states f.of_desk.ran) (Sent me bytes) bytes
-    may = may_send c me past (point_of desk f.of_desk.states f.of_desk.ran) (Sent me bytes) bytes receivers message posted for seen say
 
     checkpoints : (k : ℕ) → Executes k [] (Sent me bytes) ⊎ Has (λ e. Executes k [] e) outputs → k % c.period ≡ 0
         → Has (λ st. (st.number ≡ k) × IsOnItsWay me rest (Sent me bytes ∷ outputs) (Checkpoint k (root_of st))) f.of_desk.states
@@ -140,7 +156,8 @@ pub sent_fits : (c : Configuration) (me : ℕ) (s : Start) (desk : Desk) (log af
     → NumbersOnce c me (behind s outputs) (Sent me bytes)
     → Fits c me s desk after rest (Sent me bytes ∷ outputs)
 sent_fits c me s desk log after due rest outputs bytes receivers message f posted for seen say keeps takes place none roots paid fewer once =
-    sent_goes c me s desk log after due rest outputs bytes receivers message desk.snapshots desk.transfer f posted for seen say
+    sent_goes c me s desk log after due rest outputs bytes desk.snapshots desk.transfer f
+    (may_send c me (behind s outputs) (point_of desk f.of_desk.states f.of_desk.ran) (Sent me bytes) bytes receivers message posted for seen say)
     (log_sent c me log after (behind s outputs) bytes receivers message f.of_log posted keeps takes place)
     (ap (λ (h : ℕ). map snapshot_of (kept_states h f.of_desk.states)) (takes.stays.low ∙ sym f.of_log.low) ∙ f.of_desk.kept)
     (reached_sent c me desk.state.number due rest log after (behind s outputs) bytes receivers message posted keeps place takes.stays.low paid f.low)
@@ -361,8 +378,8 @@ kept_are_above c me desk log states history fits kept =
 
 pub checkpoints_fit : CheckpointsFit
 checkpoints_fit c me s desk log rest outputs entry bytes prepares commits posted f =
-    sent_goes c me s desk log (checked_log log me entry) (Checkpoint entry.number entry.digest ∷ rest) rest outputs bytes (others c me) (Checkpoint entry.number entry.digest) (kept_from (checked_log log me entry).low desk.snapshots) desk.transfer
-    f posted refl tt may.0 fits
+    sent_goes c me s desk log (checked_log log me entry) (Checkpoint entry.number entry.digest ∷ rest) rest outputs bytes (kept_from (checked_log log me entry).low desk.snapshots) desk.transfer f
+    (may_send c me past (point_of desk f.of_desk.states f.of_desk.ran) (Sent me bytes) bytes (others c me) (Checkpoint entry.number entry.digest) posted refl tt may.0) fits
     (kept_on log.low (checked_log log me entry).low f.of_desk.states desk.snapshots up (ap (λ (h : ℕ). map snapshot_of (kept_states h f.of_desk.states)) (sym f.of_log.low) ∙ f.of_desk.kept))
     (checked_reached c me log past (Sent me bytes) me entry f.of_log brings known desk.state.number (Checkpoint entry.number entry.digest ∷ rest) rest paid f.low (λ stable. executed))
     (open_stays c me desk.transfer desk.state.number past (Sent me bytes) (asks_none bytes me (Checkpoint entry.number entry.digest) posted.says refl) f.of_desk.opened)

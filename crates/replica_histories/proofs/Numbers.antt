@@ -1,17 +1,17 @@
 -- Where a history begins, and where nothing is left without a number.
-use Rattle.std.proofs.Common.{◌≡◌, ℕ, ◌+◌, ◌^◌, ◌≤◌, ◌<◌, ◌⊎◌, inl, inr, Bool, true, false, ◌&&◌, List, [], length, drop, nat_lt, nat_le, refl, ap, subst, arith, Some}
+use Rattle.std.proofs.Common.{◌≡◌, ℕ, ◌+◌, ◌^◌, ◌≤◌, ◌<◌, ◌⊎◌, inl, inr, Bool, true, false, ◌&&◌, List, [], length, nat_lt, nat_le, refl, ap, subst, arith, Some}
 use Rattle.std.proofs.lemmas.Bool.{and_parts, and_from, lt-ltb, ltb-true, ltb-false, le-leb, leb-true}
-use Rattle.std.proofs.lemmas.List.{take_all, length-drop}
+use Rattle.std.proofs.lemmas.List.{length-drop}
 use Rattle.wire.specs.Lists.{Each}
 use Rattle.protocol.specs.System.Configuration.{Configuration, span}
 use Rattle.protocol.specs.System.Trace.{Entry}
 use Rattle.protocol.specs.Replica.Certificates.{low, is_in_marks, logged}
 use Rattle.protocol.specs.Replica.State.{State}
 use Rattle.protocol.specs.Replica.Owed.{IsFree, IsNumbered}
-use Rattle.protocol.proofs.Words.Elements.{each_has}
-use Rattle.replica_histories.specs.Numbers.{HasNumber, FirstNumbersFit, next_number, IsNextFree, NumbersAreGiven, NumbersLeaveFewer}
+use Rattle.protocol.proofs.Words.Elements.{each_has, each_mapped}
+use Rattle.replica_histories.specs.Numbers.{unnumbered, HasNumber, HasNone, FirstNumbersFit, next_number, IsNextFree, NumbersAreGiven, NumbersLeaveFewer}
 use Rattle.replica_histories.proofs.Words.{given_not}
-use Rattle.replica_histories.proofs.NumbersLists.{more_dropped}
+use Rattle.replica_histories.proofs.NumbersFlags.{left_unnumbered, all_numbered}
 
 -- ---- where it begins
 
@@ -23,10 +23,11 @@ nothing_numbered c me v client timestamp (batch, inr begun, has) = begun
 pub first_numbers_fit : FirstNumbersFit
 unfolding logged
 first_numbers_fit c me v st = record {
+  calls = refl;
   free = λ j above. refl;
-  top = inl refl;
+  top = inl (omega arith);
+  rightly = tt;
   numbered = tt;
-  unnumbered = tt;
   known = λ client timestamp h. absurd (nothing_numbered c me v client timestamp h);
   differ = λ i j d below within. absurd (omega (arith, within));
 }
@@ -50,8 +51,8 @@ above_low c h j e =
     ltb-true h j (and_parts (nat_lt h j) (nat_le j (h + span c)) p.0).0
 
 -- where a number is free, all that were used are below it
-used_below : (c : Configuration) (me v used : ℕ) (st : State) (history : List Entry) (i : ℕ) → (used ≡ 0) ⊎ ((batch : List ℕ) × (logged c me history v used ≡ Some batch)) → IsFree c me history st.number v i → used < i
-used_below c me v used st history i (inl none) free = let above = above_low c (low c me history) i free.0 in omega (arith, none, above)
+used_below : (c : Configuration) (me v used : ℕ) (st : State) (history : List Entry) (i : ℕ) → (used ≤ low c me history) ⊎ ((batch : List ℕ) × (logged c me history v used ≡ Some batch)) → IsFree c me history st.number v i → used < i
+used_below c me v used st history i (inl below) free = let above = above_low c (low c me history) i free.0 in omega (arith, below, above)
 used_below c me v used st history i (inr (batch, there)) free = go (nat_lt used i) refl
   where
     go : (b : Bool) → nat_lt used i ≡ b → used < i
@@ -68,15 +69,15 @@ next_free c me v used st history i below free =
 -- ---- all that waits has a number
 
 pub numbers_are_given : NumbersAreGiven
-numbers_are_given c me v used count st waiting history f all i call has free =
-    let few = all (next_free c me v used st history i (used_below c me v used st history i f.top free) free) in
-    each_has (HasNumber c me v history) waiting call (subst (Each (HasNumber c me v history)) (take_all count waiting few) f.numbered) has
+numbers_are_given c me v used begun entries st waiting history f all i call has free =
+    let none = all (next_free c me v used st history i (used_below c me v used st history i f.top free) free) in
+    let each = each_mapped (HasNumber c me v history) (λ w. w.call) entries (all_numbered (HasNumber c me v history) (HasNone c me v history) entries none f.rightly) in
+    each_has (HasNumber c me v history) waiting call (subst (Each (HasNumber c me v history)) f.calls each) has
 
 -- ---- turns
 
 pub numbers_leave_fewer : NumbersLeaveFewer
-numbers_leave_fewer count most waiting some there =
-    let same = ap length (more_dropped count most waiting) in
-    let left = length-drop most (drop count waiting) in
-    let before = length-drop count waiting in
-    omega (arith, some, there, same, left, before)
+numbers_leave_fewer most entries some there =
+    let same = ap length (left_unnumbered most entries) in
+    let left = length-drop most (unnumbered entries) in
+    omega (arith, some, there, same, left)

@@ -1,5 +1,5 @@
 -- The oldest requests without a number get the next one.
-use Rattle.std.proofs.Common.{◌≡◌, ◌≢◌, ℕ, ◌+◌, ◌≤◌, ◌<◌, ◌⊎◌, inl, inr, Bool, true, false, List, ◌∷◌, ◌++◌, length, take, drop, refl, sym, ap, ◌∙◌, subst, arith, Some, None, eqb-true, eq-eqb, AllPairs}
+use Rattle.std.proofs.Common.{◌≡◌, ◌≢◌, ℕ, ◌<◌, ◌⊎◌, inl, inr, Bool, true, false, not, List, ◌∷◌, ◌++◌, take, drop, refl, sym, ap, ◌∙◌, subst, arith, Some, None, eqb-true, eq-eqb, AllPairs}
 use Rattle.std.specs.Prelude.{◌==◌, option_and_then}
 use Rattle.std.proofs.lemmas.Bool.{eqb-false}
 use Rattle.std.proofs.lemmas.List.{take-append-drop}
@@ -13,10 +13,11 @@ use Rattle.protocol.specs.Replica.Certificates.{taken, low, is_in_marks, are_gen
 use Rattle.protocol.specs.Replica.State.{State, Call}
 use Rattle.protocol.specs.Replica.Owed.{IsNumbered, HasRequest, AreDifferent, NumbersOnce}
 use Rattle.protocol.proofs.Words.Options.{some_injective, or_else_second}
-use Rattle.protocol.proofs.Words.Elements.{has_some, has_weaker, each_has, each_weaker, each_append}
-use Rattle.replica_histories.specs.Numbers.{IsKnown, HasNumber, HasNone, FitsNumbers, AreCalls, NumbersFit}
+use Rattle.protocol.proofs.Words.Elements.{has_some, has_weaker, has_filter, has_map, has_mapped, each_has, each_weaker}
+use Rattle.replica_histories.specs.Numbers.{Waiting, BegunCall, calls_of, unnumbered, with_numbered, IsKnown, IsBegun, HasNumber, HasNone, IsRightly, FitsNumbers, AreCalls, NumbersFit}
 use Rattle.replica_histories.proofs.Words.{gated, given_not}
-use Rattle.replica_histories.proofs.NumbersLists.{each_front, each_back, each_where, has_taken, has_dropped, more_taken, more_dropped, Pairs, pairs_of, all_pairs, pairs_dropped, pairs_front, pairs_across, IsAt, spelled_at, call_spelled, Differ, frames_differ}
+use Rattle.replica_histories.proofs.NumbersFlags.{flag_has, has_flag, lacks_flag, rightly_none, calls_numbered, each_numbered}
+use Rattle.replica_histories.proofs.NumbersLists.{each_front, each_back, has_taken, Pairs, pairs_of, all_pairs, pairs_kept, pairs_mapped, pairs_unmapped, pairs_front, pairs_across, IsAt, Covers, spelled_at, call_spelled, Differ, frames_differ}
 use Rattle.replica_histories.proofs.NumbersKept.{numbered_stays, same_proposal, proposal_takes_none, logged_elsewhere}
 
 -- what the own pre-prepare logs for a number that is free
@@ -35,29 +36,36 @@ logged_here c me v i batch bytes past own genuine says free =
     proposed : batch_from c me v i (record { sender = me; message = PrePrepare v i batch }) ≡ Some batch
     proposed = rw (eq-eqb v v refl, eq-eqb i i refl, eq-eqb me (primary c v) (sym own), genuine) refl
 
-module _ (c : Configuration) (me v used count i most : ℕ) (st : State) (waiting : List Call) (batch bytes : List ℕ) (past : List Entry)
-    (own : primary c v ≡ me) (above : used < i) (genuine : are_genuine c me batch ≡ true) (spells : AreCalls c (requests_of batch) (take most (drop count waiting)))
-    (says : said bytes ≡ Some (record { sender = me; message = PrePrepare v i batch })) (f : FitsNumbers c me v used count st waiting past) where
-  abbrev calls : List Call
-  calls = take most (drop count waiting)
+module _ (c : Configuration) (me v used i most : ℕ) (begun : List BegunCall) (entries : List Waiting) (st : State) (waiting : List Call) (batch bytes : List ℕ) (past : List Entry)
+    (own : primary c v ≡ me) (above : used < i) (genuine : are_genuine c me batch ≡ true) (spells : AreCalls c (requests_of batch) (calls_of (take most (unnumbered entries))))
+    (says : said bytes ≡ Some (record { sender = me; message = PrePrepare v i batch })) (f : FitsNumbers c me v used begun entries st waiting past) where
+  abbrev oldest : List Waiting
+  oldest = take most (unnumbered entries)
 
-  abbrev later : List Call
-  later = drop most (drop count waiting)
+  abbrev later : List Waiting
+  later = drop most (unnumbered entries)
+
+  abbrev calls : List Call
+  calls = calls_of oldest
 
   abbrev now : List Entry
   now = Sent me bytes ∷ past
 
-  parts : drop count waiting ≡ calls ++ later
-  parts = sym (take-append-drop most (drop count waiting))
+  abbrev HadNone : Waiting → Type 0
+  HadNone = λ w. HasNone c me v past w.call
 
-  none_here : Each (HasNone c me v past) calls
-  none_here = each_front (HasNone c me v past) calls later (subst (Each (HasNone c me v past)) parts f.unnumbered)
+  abbrev Apart : Waiting → Waiting → Type 0
+  Apart = λ w x. Differ c w.call x.call
 
-  none_later : Each (HasNone c me v past) later
-  none_later = each_back (HasNone c me v past) calls later (subst (Each (HasNone c me v past)) parts f.unnumbered)
+  parts : unnumbered entries ≡ oldest ++ later
+  parts = sym (take-append-drop most (unnumbered entries))
 
-  differ_here : Pairs (Differ c) (calls ++ later)
-  differ_here = subst (Pairs (Differ c)) parts (pairs_dropped (Differ c) count waiting (pairs_of (Differ c) waiting f.differ))
+  none_had : Each HadNone (oldest ++ later)
+  none_had = subst (Each HadNone) parts (rightly_none c me v past entries f.rightly)
+
+  apart : Pairs Apart (oldest ++ later)
+  apart = subst (Pairs Apart) parts (pairs_kept Apart (λ w. not w.numbered) entries
+      (pairs_unmapped (Differ c) (λ w. w.call) entries (subst (Pairs (Differ c)) (sym f.calls) (pairs_of (Differ c) waiting f.differ))))
 
   -- ---- the history
 
@@ -83,56 +91,68 @@ module _ (c : Configuration) (me v used count i most : ℕ) (st : State) (waitin
 
   fresh : (client timestamp : ℕ) → Has (IsAt client timestamp) calls → IsNumbered c me past v client timestamp → ⊥
   fresh client timestamp h numbered =
-      let x = has_some (IsAt client timestamp) calls h in
-      each_has (HasNone c me v past) calls x.0 none_here x.1
-      (subst (λ (k : ℕ). IsNumbered c me past v k x.0.timestamp) (sym x.2.0) (subst (λ (t : ℕ). IsNumbered c me past v client t) (sym x.2.1) numbered))
+      let x = has_some (λ (w : Waiting). IsAt client timestamp w.call) oldest (has_map (IsAt client timestamp) (λ (w : Waiting). w.call) oldest h) in
+      each_has HadNone oldest x.0 (each_front HadNone oldest later none_had) x.1
+      (subst (λ (k : ℕ). IsNumbered c me past v k x.0.call.timestamp) (sym x.2.0) (subst (λ (t : ℕ). IsNumbered c me past v client t) (sym x.2.1) numbered))
 
   once : NumbersOnce c me past (Sent me bytes)
   once w k b says_it free =
       let s = same_proposal me v w i k batch b bytes says says_it in
       subst (λ (x : ℕ). AllPairs (AreDifferent c) (requests_of b) × ((client timestamp : ℕ) → HasRequest c client timestamp b → IsNumbered c me past x client timestamp → ⊥)) s.0
       (subst (λ (x : List ℕ). AllPairs (AreDifferent c) (requests_of x) × ((client timestamp : ℕ) → HasRequest c client timestamp x → IsNumbered c me past v client timestamp → ⊥)) s.2 (
-        all_pairs (AreDifferent c) (requests_of batch) (frames_differ c (requests_of batch) calls spells (pairs_front (Differ c) calls later differ_here)),
+        all_pairs (AreDifferent c) (requests_of batch) (frames_differ c (requests_of batch) calls spells (pairs_mapped (Differ c) (λ w. w.call) oldest (pairs_front Apart oldest later apart))),
         λ client timestamp has. fresh client timestamp (spelled_at c client timestamp (requests_of batch) calls spells has),
       ))
 
   -- ---- the longer history
 
-  has_number : (call : Call) → Has (λ x. x ≡ call) calls → HasNumber c me v now call
-  has_number call has = (batch, inl (i, there), call_spelled c call (requests_of batch) calls spells has)
+  stays : (client timestamp : ℕ) → IsNumbered c me past v client timestamp → IsNumbered c me now v client timestamp
+  stays client timestamp = numbered_stays c me v client timestamp past (Sent me bytes)
 
-  has_none : (call : Call) → Has (λ x. x ≡ call) later → HasNone c me v now call
-  has_none call has numbered = go (numbered_back call.client call.timestamp numbered)
+  has_number : (w : Waiting) → Has (λ x. x ≡ w) oldest → HasNumber c me v now w.call
+  has_number w has = (
+    batch,
+    inl (i, there),
+    call_spelled c w.call (requests_of batch) calls spells
+        (has_mapped (λ x. x ≡ w.call) (λ (x : Waiting). x.call) oldest (has_weaker (λ x. x ≡ w) (λ (x : Waiting). x.call ≡ w.call) (λ x. ap (λ (y : Waiting). y.call)) oldest has)),
+  )
+
+  has_none : (w : Waiting) → Has (λ x. x ≡ w) later → HasNone c me v now w.call
+  has_none w has numbered = go (numbered_back w.call.client w.call.timestamp numbered)
     where
-      go : Has (IsAt call.client call.timestamp) calls ⊎ IsNumbered c me past v call.client call.timestamp → ⊥
-      go (inr was) = each_has (HasNone c me v past) later call none_later has was
+      go : Has (IsAt w.call.client w.call.timestamp) calls ⊎ IsNumbered c me past v w.call.client w.call.timestamp → ⊥
+      go (inr was) = each_has HadNone later w (each_back HadNone oldest later none_had) has was
       go (inl new) =
-          let x = has_some (IsAt call.client call.timestamp) calls new in
-          each_has (Differ c x.0) later call
-          (each_has (λ (y : Call). Each (Differ c y) later) calls x.0 (pairs_across (Differ c) calls later differ_here) x.1) has x.2.0
+          let x = has_some (λ (y : Waiting). IsAt w.call.client w.call.timestamp y.call) oldest (has_map (IsAt w.call.client w.call.timestamp) (λ (y : Waiting). y.call) oldest new) in
+          each_has (Apart x.0) later w (each_has (λ (y : Waiting). Each (Apart y) later) oldest x.0 (pairs_across Apart oldest later apart) x.1) has x.2.0
 
-  known : (client timestamp : ℕ) → Has (IsAt client timestamp) calls ⊎ IsNumbered c me past v client timestamp → IsKnown st waiting client timestamp
+  rightly : Each (IsRightly c me v now) (with_numbered most entries)
+  rightly = each_numbered (IsRightly c me v past) (IsRightly c me v now) old most entries has_number
+      (λ w e has was. lacks_flag c me v now w e (has_none w has)) f.rightly
+    where
+      old : (w : Waiting) → w.numbered ≡ true → IsRightly c me v past w → IsRightly c me v now w
+      old w e was = has_flag c me v now w e (stays w.call.client w.call.timestamp (flag_has c me v past w e was))
+
+  known : (client timestamp : ℕ) → Has (IsAt client timestamp) calls ⊎ IsNumbered c me past v client timestamp → IsKnown st waiting client timestamp ⊎ IsBegun begun client timestamp
   known client timestamp (inr was) = f.known client timestamp was
-  known client timestamp (inl new) =
-      inr (has_dropped (λ (x : Call). (x.client ≡ client) × (timestamp ≤ x.timestamp)) count waiting
-      (has_taken (λ (x : Call). (x.client ≡ client) × (timestamp ≤ x.timestamp)) most (drop count waiting)
-      (has_weaker (IsAt client timestamp) (λ (x : Call). (x.client ≡ client) × (timestamp ≤ x.timestamp)) (λ x at. (at.0, let same = at.1 in omega (arith, same))) calls new)))
+  known client timestamp (inl new) = inl (inr (subst (Has (Covers client timestamp)) f.calls (has_mapped (Covers client timestamp) (λ (w : Waiting). w.call) entries
+      (has_filter (λ (w : Waiting). Covers client timestamp w.call) (λ w. not w.numbered) entries (has_taken (λ (w : Waiting). Covers client timestamp w.call) most (unnumbered entries)
+      (has_weaker (λ (w : Waiting). IsAt client timestamp w.call) (λ w. Covers client timestamp w.call) (λ w at. (at.0, let same = at.1 in omega (arith, same))) oldest
+      (has_map (IsAt client timestamp) (λ (w : Waiting). w.call) oldest new)))))))
 
-  pub given : NumbersOnce c me past (Sent me bytes) × FitsNumbers c me v i (count + length calls) st waiting now
+  pub given : NumbersOnce c me past (Sent me bytes) × FitsNumbers c me v i begun (with_numbered most entries) st waiting now
   given = (
     once,
     record {
+      calls = calls_numbered most entries ∙ f.calls;
       free = λ j higher. elsewhere j (λ e. absurd (omega (arith, e, higher))) ∙ f.free j (omega (arith, above, higher));
       top = inr (batch, there);
-      numbered = subst (Each (HasNumber c me v now)) (sym (more_taken count most waiting))
-          (each_append (HasNumber c me v now) (take count waiting) calls
-          (each_weaker (HasNumber c me v past) (HasNumber c me v now) (λ x h. numbered_stays c me v x.client x.timestamp past (Sent me bytes) h) (take count waiting) f.numbered)
-          (each_where (HasNumber c me v now) calls has_number));
-      unnumbered = subst (Each (HasNone c me v now)) (sym (more_dropped count most waiting)) (each_where (HasNone c me v now) later has_none);
+      rightly = rightly;
+      numbered = each_weaker (λ b. IsNumbered c me past v b.client b.timestamp) (λ b. IsNumbered c me now v b.client b.timestamp) (λ b. stays b.client b.timestamp) begun f.numbered;
       known = λ client timestamp h. known client timestamp (numbered_back client timestamp h);
       differ = f.differ;
     },
   )
 
 pub numbers_fit : NumbersFit
-numbers_fit c me v used count i most st waiting batch bytes past own above genuine spells says f = given c me v used count i most st waiting batch bytes past own above genuine spells says f
+numbers_fit c me v used i most begun entries st waiting batch bytes past own above genuine spells says f = given c me v used i most begun entries st waiting batch bytes past own above genuine spells says f

@@ -1,5 +1,5 @@
 -- Entries that give no number.
-use Rattle.std.proofs.Common.{◌≡◌, ◌≢◌, ℕ, ◌⊎◌, inl, inr, true, false, ◌&&◌, List, [], ◌∷◌, take, drop, refl, sym, ap, ◌∙◌, subst, Option, Some, None, eqb-true}
+use Rattle.std.proofs.Common.{◌≡◌, ◌≢◌, ℕ, ◌≤◌, ◌⊎◌, inl, inr, true, false, ◌&&◌, List, [], ◌∷◌, refl, sym, arith, ap, ◌∙◌, subst, Option, Some, None, eqb-true}
 use Rattle.std.specs.Prelude.{◌==◌, option_and_then}
 use Rattle.std.specs.Option.{option_map_or}
 use Rattle.std.proofs.lemmas.Bool.{and_parts}
@@ -14,10 +14,12 @@ use Rattle.protocol.specs.Replica.Owed.{IsNumbered}
 use Rattle.protocol.proofs.Words.Options.{and_then_some, then_some_gives, some_injective, or_else_second}
 use Rattle.protocol.proofs.Words.Plain.{said_plain, taken_none}
 use Rattle.protocol.proofs.Words.Elements.{each_weaker}
+use Rattle.protocol.proofs.Agreement.Marks.{low_grows}
 use Rattle.protocol.proofs.Agreement.Voting.{logged_stays}
-use Rattle.replica_histories.specs.Numbers.{HasNumber, HasNone, KeepsNumbers, NumbersStay, is_pre_prepare, sends_pre_prepare, OthersKeepNumbers, BatchesKeepNumbers}
+use Rattle.replica_histories.specs.Numbers.{IsRightly, KeepsNumbers, NumbersStay, is_pre_prepare, sends_pre_prepare, OthersKeepNumbers, BatchesKeepNumbers}
 use Rattle.replica_histories.proofs.Words.{passed, gated, given_not}
 use Rattle.replica_histories.proofs.Speaking.{heard_other}
+use Rattle.replica_histories.proofs.NumbersFlags.{either_weaker}
 
 -- ---- what an entry logs
 
@@ -72,17 +74,19 @@ keeps c me v past e none same = record { batches = same; numbered = λ client ti
     back client timestamp (batch, inr (inr before), has) = (batch, inr before, has)
 
 pub numbers_stay : NumbersStay
-numbers_stay c me v used count st waiting past e k f = record {
+numbers_stay c me v used begun entries st waiting past e k f = record {
+  calls = f.calls;
   free = λ j above. k.batches j ∙ f.free j above;
   top = top f.top;
-  numbered = each_weaker (HasNumber c me v past) (HasNumber c me v (e ∷ past)) (λ x h. (k.numbered x.client x.timestamp).1 h) (take count waiting) f.numbered;
-  unnumbered = each_weaker (HasNone c me v past) (HasNone c me v (e ∷ past)) (λ x none h. none ((k.numbered x.client x.timestamp).0 h)) (drop count waiting) f.unnumbered;
+  rightly = each_weaker (IsRightly c me v past) (IsRightly c me v (e ∷ past))
+      (λ w. either_weaker w.numbered (k.numbered w.call.client w.call.timestamp).1 (λ none h. none ((k.numbered w.call.client w.call.timestamp).0 h))) entries f.rightly;
+  numbered = each_weaker (λ b. IsNumbered c me past v b.client b.timestamp) (λ b. IsNumbered c me (e ∷ past) v b.client b.timestamp) (λ b. (k.numbered b.client b.timestamp).1) begun f.numbered;
   known = λ client timestamp h. f.known client timestamp ((k.numbered client timestamp).0 h);
   differ = f.differ;
 }
   where
-    top : (used ≡ 0) ⊎ ((batch : List ℕ) × (logged c me past v used ≡ Some batch)) → (used ≡ 0) ⊎ ((batch : List ℕ) × (logged c me (e ∷ past) v used ≡ Some batch))
-    top (inl none) = inl none
+    top : (used ≤ low c me past) ⊎ ((batch : List ℕ) × (logged c me past v used ≡ Some batch)) → (used ≤ low c me (e ∷ past)) ⊎ ((batch : List ℕ) × (logged c me (e ∷ past) v used ≡ Some batch))
+    top (inl below) = let more = low_grows c me e past in inl (omega (arith, below, more))
     top (inr (batch, there)) = inr (batch, k.batches used ∙ there)
 
 -- ---- what is no pre-prepare that is sent
@@ -110,10 +114,10 @@ others_keep_numbers c me v past e own here none sends = keeps c me v past e none
 
 -- ---- a pre-prepare
 
-abbrev number_of : Message → ℕ
+abbrev pub number_of : Message → ℕ
 number_of message = elim message [ PrePrepare v i batch ↦ i | _ ↦ 0 ]
 
-abbrev view_of : Message → ℕ
+abbrev pub view_of : Message → ℕ
 view_of message = elim message [ PrePrepare v i batch ↦ v | _ ↦ 0 ]
 
 abbrev batch_of : Message → List ℕ

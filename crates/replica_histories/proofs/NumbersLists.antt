@@ -1,15 +1,13 @@
 -- Laws of lists that numbering stands on: parts of a list, what is kept of them, and frames beside their calls.
-use Rattle.std.proofs.Common.{◌≡◌, ◌≢◌, ℕ, zero, suc, ◌+◌, inl, inr, Bool, List, [], ◌∷◌, ◌++◌, length, map, take, drop, filter, Some, refl, sym, ap, ◌∙◌, arith, All, AllPairs}
-use Rattle.std.proofs.Math.Seq.{take-add}
-use Rattle.std.proofs.lemmas.List.{take_at, drop_at, take-append-drop, drop-drop, append_assoc}
-use Rattle.std.proofs.lemmas.List.Elements.{filter-append}
-use Rattle.std.proofs.lemmas.List.Kept.{AllPairs-cons}
+use Rattle.std.proofs.Common.{◌≡◌, ◌≢◌, ℕ, zero, suc, ◌≤◌, inl, inr, Bool, true, false, cond, List, [], ◌∷◌, ◌++◌, map, take, drop, filter, Some, refl, sym, ap, ◌∙◌, arith, All, AllPairs}
+use Rattle.std.proofs.lemmas.List.Kept.{AllPairs-cons, AllPairs-filter}
 use Rattle.wire.specs.Lists.{Each}
 use Rattle.protocol.specs.System.Configuration.{Configuration}
 use Rattle.protocol.specs.System.Trace.{Has}
 use Rattle.protocol.specs.Replica.State.{Call, call_of}
 use Rattle.protocol.specs.Replica.Owed.{AreDifferent}
 use Rattle.protocol.proofs.Words.Options.{some_injective}
+use Rattle.protocol.proofs.Words.Elements.{each_mapped}
 use Rattle.replica_histories.specs.Numbers.{AreCalls}
 
 -- ---- elements of parts
@@ -37,37 +35,20 @@ has_dropped P zero xs h = h
 has_dropped P (suc n) [] h = absurd h
 has_dropped P (suc n) (x ∷ xs) h = inr (has_dropped P n xs h)
 
--- ---- the first ones, with some more of the rest
+-- ---- what is kept of a list, and what is said of its elements
 
--- as many as there are of the first ones, and what lies behind them
-front_of : {A : Type 0} (n : ℕ) (xs : List A) → take (length (take n xs)) xs ≡ take n xs
-front_of n xs = ap (take (length (take n xs))) (sym (take-append-drop n xs)) ∙ take_at (take n xs) (drop n xs) (length (take n xs)) refl
+pub mapped_kept : {A B : Type 0} (f : A → B) (test : B → Bool) (xs : List A) → map f (filter (λ x. test (f x)) xs) ≡ filter test (map f xs)
+mapped_kept f test [] = refl
+mapped_kept f test (x ∷ xs) = go (test (f x)) (mapped_kept f test xs)
+  where
+    go : (b : Bool) → map f (filter (λ y. test (f y)) xs) ≡ filter test (map f xs)
+        → map f (cond b (x ∷ filter (λ y. test (f y)) xs) (filter (λ y. test (f y)) xs)) ≡ cond b (f x ∷ filter test (map f xs)) (filter test (map f xs))
+    go true h = ap (λ ys. f x ∷ ys) h
+    go false h = h
 
-back_of : {A : Type 0} (n : ℕ) (xs : List A) → drop (length (take n xs)) xs ≡ drop n xs
-back_of n xs = ap (drop (length (take n xs))) (sym (take-append-drop n xs)) ∙ drop_at (take n xs) (drop n xs) (length (take n xs)) refl
-
-pub more_taken : {A : Type 0} (m n : ℕ) (xs : List A) → take (m + length (take n (drop m xs))) xs ≡ take m xs ++ take n (drop m xs)
-more_taken m n xs = take-add m (length (take n (drop m xs))) xs ∙ ap (λ ys. take m xs ++ ys) (front_of n (drop m xs))
-
-pub more_dropped : {A : Type 0} (m n : ℕ) (xs : List A) → drop (m + length (take n (drop m xs))) xs ≡ drop n (drop m xs)
-more_dropped m n xs = sym (drop-drop (length (take n (drop m xs))) m xs) ∙ back_of n (drop m xs)
-
--- ---- the first ones, of those that are kept
-
-kept_parts : {A : Type 0} (test : A → Bool) (n : ℕ) (xs ys : List A) → filter test xs ++ ys ≡ filter test (take n xs) ++ (filter test (drop n xs) ++ ys)
-kept_parts test n xs ys =
-    ap (λ zs. filter test zs ++ ys) (sym (take-append-drop n xs)) ∙ ap (λ zs. zs ++ ys) (filter-append test (take n xs) (drop n xs))
-    ∙ append_assoc (filter test (take n xs)) (filter test (drop n xs)) ys
-
-pub kept_taken : {A : Type 0} (test : A → Bool) (n : ℕ) (xs ys : List A) → take (length (filter test (take n xs))) (filter test xs ++ ys) ≡ filter test (take n xs)
-kept_taken test n xs ys =
-    ap (take (length (filter test (take n xs)))) (kept_parts test n xs ys)
-    ∙ take_at (filter test (take n xs)) (filter test (drop n xs) ++ ys) (length (filter test (take n xs))) refl
-
-pub kept_dropped : {A : Type 0} (test : A → Bool) (n : ℕ) (xs ys : List A) → drop (length (filter test (take n xs))) (filter test xs ++ ys) ≡ filter test (drop n xs) ++ ys
-kept_dropped test n xs ys =
-    ap (drop (length (filter test (take n xs)))) (kept_parts test n xs ys)
-    ∙ drop_at (filter test (take n xs)) (filter test (drop n xs) ++ ys) (length (filter test (take n xs))) refl
+pub each_unmapped : {A B : Type 0} (P : B → Type 0) (f : A → B) (xs : List A) → Each P (map f xs) → Each (λ x. P (f x)) xs
+each_unmapped P f [] h = tt
+each_unmapped P f (x ∷ xs) h = (h.0, each_unmapped P f xs h.1)
 
 -- ---- each two
 
@@ -93,10 +74,16 @@ pub all_pairs : {A : Type 0} (R : A → A → Type 0) (xs : List A) → Pairs R 
 all_pairs R [] h = λ i j d l m. absurd (omega (arith, m))
 all_pairs R (x ∷ xs) h = AllPairs-cons R x xs (all_of (R x) xs h.0) (all_pairs R xs h.1)
 
-pub pairs_dropped : {A : Type 0} (R : A → A → Type 0) (n : ℕ) (xs : List A) → Pairs R xs → Pairs R (drop n xs)
-pairs_dropped R zero xs h = h
-pairs_dropped R (suc n) [] h = tt
-pairs_dropped R (suc n) (x ∷ xs) h = pairs_dropped R n xs h.1
+pub pairs_kept : {A : Type 0} (R : A → A → Type 0) (test : A → Bool) (xs : List A) → Pairs R xs → Pairs R (filter test xs)
+pairs_kept R test xs h = pairs_of R (filter test xs) (AllPairs-filter R test xs (all_pairs R xs h))
+
+pub pairs_mapped : {A B : Type 0} (R : B → B → Type 0) (f : A → B) (xs : List A) → Pairs (λ x y. R (f x) (f y)) xs → Pairs R (map f xs)
+pairs_mapped R f [] h = tt
+pairs_mapped R f (x ∷ xs) h = (each_mapped (R (f x)) f xs h.0, pairs_mapped R f xs h.1)
+
+pub pairs_unmapped : {A B : Type 0} (R : B → B → Type 0) (f : A → B) (xs : List A) → Pairs R (map f xs) → Pairs (λ x y. R (f x) (f y)) xs
+pairs_unmapped R f [] h = tt
+pairs_unmapped R f (x ∷ xs) h = (each_unmapped (R (f x)) f xs h.0, pairs_unmapped R f xs h.1)
 
 pub pairs_front : {A : Type 0} (R : A → A → Type 0) (xs ys : List A) → Pairs R (xs ++ ys) → Pairs R xs
 pairs_front R [] ys h = tt
@@ -128,6 +115,10 @@ IsAt client timestamp call = (call.client ≡ client) × (call.timestamp ≡ tim
 
 abbrev pub Spells : Configuration → ℕ → ℕ → List ℕ → Type 0
 Spells c client timestamp frame = (call : Call) × (call_of c frame ≡ Some call) × (call.client ≡ client) × (call.timestamp ≡ timestamp)
+
+-- it is of this client, and no older than the timestamp
+abbrev pub Covers : ℕ → ℕ → Call → Type 0
+Covers client timestamp call = (call.client ≡ client) × (timestamp ≤ call.timestamp)
 
 module _ (c : Configuration) where
   pub spelled_at : (client timestamp : ℕ) (frames : List (List ℕ)) (calls : List Call) → AreCalls c frames calls → Has (Spells c client timestamp) frames → Has (IsAt client timestamp) calls

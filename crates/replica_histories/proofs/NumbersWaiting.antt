@@ -1,104 +1,131 @@
 -- What waits changes: a newer request comes, or a state that has run some.
-use Rattle.std.proofs.Common.{◌≡◌, ◌≢◌, ℕ, suc, ◌≤◌, ◌<◌, ◌⊎◌, inl, inr, Bool, true, false, cond, not, ◌&&◌, ◌||◌, ◌==◌, List, [], ◌∷◌, ◌++◌, length, take, drop, filter, fold, refl, sym, ap, ◌∙◌, subst, arith, Option, Some, None, eqb-true, eq-eqb}
+use Rattle.std.proofs.Common.{◌≡◌, ◌≢◌, ℕ, suc, ◌≤◌, ◌<◌, ◌⊎◌, inl, inr, Bool, true, false, cond, not, ◌&&◌, ◌||◌, ◌==◌, List, [], ◌∷◌, ◌++◌, filter, fold, refl, sym, ap, ◌∙◌, subst, arith, Option, Some, None, eqb-true, eq-eqb}
 use Rattle.std.specs.Prelude.{nat_lt, option_and_then}
 use Rattle.std.specs.List.{list_all}
 use Rattle.std.specs.Option.{option_map_or}
 use Rattle.std.proofs.lemmas.Bool.{and_parts, eqb-false, not-true, ltb-true, ltb-false}
-use Rattle.std.proofs.lemmas.List.{append-nil}
-use Rattle.std.proofs.lemmas.List.Filters.{length-filter_both}
+use Rattle.std.proofs.lemmas.List.{map-append}
 use Rattle.std.proofs.lemmas.List.Kept.{AllPairs-filter}
 use Rattle.wire.specs.Words.{requests_of}
-use Rattle.wire.specs.Lists.{Each}
 use Rattle.signing.specs.Heard.{heard}
 use Rattle.reply_cache.specs.Replies.{Kept, last_of, with_reply}
 use Rattle.protocol.specs.System.Configuration.{Configuration, members}
-use Rattle.protocol.specs.System.Trace.{Entry, Has}
+use Rattle.protocol.specs.System.Trace.{Entry, Has, either}
 use Rattle.protocol.specs.Replica.State.{State, Call, call_in, call_of, runs, kept_by, ran_call, run_call, run_frame, execute, last_time}
 use Rattle.protocol.specs.Replica.RightReplica.{is_newer, with_waiting, still_waiting}
 use Rattle.protocol.proofs.Words.Leaving.{last_put}
 use Rattle.protocol.proofs.Words.Elements.{has_some, has_weaker, has_left, has_right, has_filtered, each_has, each_with, each_filtered, each_of_all}
-use Rattle.replica_histories.specs.Numbers.{IsKnown, HasNumber, HasNone, FitsNumbers, count_with, RequestsFit, InputsKeepNumbers, NoneFalls, StatesFit, ExecutionsRaise, StatesLeaveNoMore}
-use Rattle.replica_histories.proofs.NumbersLists.{each_where, kept_taken, kept_dropped, pairs_of, all_pairs, pairs_with, Differ}
+use Rattle.replica_histories.specs.Numbers.{Waiting, BegunCall, calls_of, is_begun, arrived, IsKnown, IsBegun, HasNumber, HasNone, IsRightly, FitsNumbers, entries_with, RequestsFit, InputsKeepNumbers, NoneFalls, StatesFit, ExecutionsRaise, StatesLeaveNoMore}
+use Rattle.replica_histories.proofs.Words.{apart}
+use Rattle.replica_histories.proofs.NumbersFlags.{begun_is, is_begun_where, begun_numbered, fewer_unnumbered}
+use Rattle.replica_histories.proofs.NumbersLists.{mapped_kept, each_where, pairs_of, all_pairs, pairs_with, Differ, Covers}
+
+-- what is known otherwise stays known where this does
+either_known : {A B C : Type 0} → A ⊎ C → (A → B) → B ⊎ C
+either_known (inl h) f = inl (f h)
+either_known (inr h) f = inr h
 
 -- ---- a newer request
 
-module _ (c : Configuration) (me v used count : ℕ) (st : State) (waiting : List Call) (history : List Entry) (call : Call) (f : FitsNumbers c me v used count st waiting history)
-    (unseen : last_time st call.client < call.timestamp) (newer : list_all (is_newer call) waiting ≡ true) where
+module _ (c : Configuration) (me v used : ℕ) (begun : List BegunCall) (entries : List Waiting) (st : State) (history : List Entry) (call : Call)
+    (f : FitsNumbers c me v used begun entries st (calls_of entries) history)
+    (unseen : last_time st call.client < call.timestamp) (newer : list_all (is_newer call) (calls_of entries) ≡ true) where
+  abbrev all_calls : List Call
+  all_calls = calls_of entries
+
   abbrev is_other : Call → Bool
   is_other = λ other. not (other.client == call.client)
 
   -- a request of its client that waits is older
-  older : (other : Call) → Has (λ x. x ≡ other) waiting → other.client ≡ call.client → other.timestamp < call.timestamp
-  older other has same = each_has (λ (x : Call). x.client ≡ call.client → x.timestamp < call.timestamp) waiting other
-      (each_of_all (λ (x : Call). x.client ≡ call.client → x.timestamp < call.timestamp) (is_newer call) below waiting newer) has same
+  older : (other : Call) → Has (λ x. x ≡ other) all_calls → other.client ≡ call.client → other.timestamp < call.timestamp
+  older other has same = each_has (λ (x : Call). x.client ≡ call.client → x.timestamp < call.timestamp) all_calls other
+      (each_of_all (λ (x : Call). x.client ≡ call.client → x.timestamp < call.timestamp) (is_newer call) below all_calls newer) has same
     where
       below : (x : Call) → is_newer call x ≡ true → x.client ≡ call.client → x.timestamp < call.timestamp
       below x e of_client =
           let tests : (not true || nat_lt x.timestamp call.timestamp) ≡ true = ap (λ (b : Bool). not b || nat_lt x.timestamp call.timestamp) (sym (eq-eqb x.client call.client of_client)) ∙ e in
           ltb-true x.timestamp call.timestamp tests
 
-  -- so it has no number
-  unknown : IsKnown st waiting call.client call.timestamp → ⊥
+  -- so it has a number only where a new view gave it
+  unknown : IsKnown st all_calls call.client call.timestamp → ⊥
   unknown (inl ran) = omega (arith, unseen, ran)
   unknown (inr waits) =
-      let x = has_some (λ (y : Call). (y.client ≡ call.client) × (call.timestamp ≤ y.timestamp)) waiting waits in
+      let x = has_some (λ (y : Call). (y.client ≡ call.client) × (call.timestamp ≤ y.timestamp)) all_calls waits in
       let below = older x.0 x.1 x.2.0 in
       let above = x.2.1 in
       omega (arith, below, above)
 
-  abbrev Covers : ℕ → ℕ → Call → Type 0
-  Covers client timestamp = λ x. (x.client ≡ client) × (timestamp ≤ x.timestamp)
+  fresh : HasNumber c me v history call → is_begun begun call ≡ true
+  fresh h = go (f.known call.client call.timestamp h)
+    where
+      go : IsKnown st all_calls call.client call.timestamp ⊎ IsBegun begun call.client call.timestamp → is_begun begun call ≡ true
+      go (inl k) = absurd (unknown k)
+      go (inr b) = is_begun_where begun call b
+
+  rightly : IsRightly c me v history (arrived begun call)
+  rightly = go (is_begun begun call) refl
+    where
+      go : (b : Bool) → is_begun begun call ≡ b → either b (HasNumber c me v history call) (HasNone c me v history call)
+      go true e = begun_numbered c me v call.client call.timestamp history begun f.numbered (begun_is begun call e)
+      go false e = λ h. apart (is_begun begun call) (fresh h) e
 
   -- what is known stays so
-  known_on : (client timestamp : ℕ) → IsKnown st waiting client timestamp → IsKnown st (filter is_other waiting ++ call ∷ []) client timestamp
+  known_on : (client timestamp : ℕ) → IsKnown st all_calls client timestamp → IsKnown st (filter is_other all_calls ++ call ∷ []) client timestamp
   known_on client timestamp (inl ran) = inl ran
   known_on client timestamp (inr waits) = inr (go (client == call.client) refl)
     where
-      go : (b : Bool) → (client == call.client) ≡ b → Has (Covers client timestamp) (filter is_other waiting ++ call ∷ [])
+      go : (b : Bool) → (client == call.client) ≡ b → Has (Covers client timestamp) (filter is_other all_calls ++ call ∷ [])
       go true e =
           let same : client ≡ call.client = eqb-true client call.client e in
-          let x = has_some (Covers client timestamp) waiting waits in
+          let x = has_some (Covers client timestamp) all_calls waits in
           let below = older x.0 x.1 (x.2.0 ∙ same) in
           let above = x.2.1 in
-          has_right (Covers client timestamp) (filter is_other waiting) (call ∷ []) (inl (sym same, omega (arith, below, above)))
-      go false e = has_left (Covers client timestamp) (filter is_other waiting) (call ∷ [])
-          (has_filtered (Covers client timestamp) is_other (λ x at. ap (λ (k : ℕ). not (k == call.client)) at.0 ∙ ap not e) waiting waits)
+          has_right (Covers client timestamp) (filter is_other all_calls) (call ∷ []) (inl (sym same, omega (arith, below, above)))
+      go false e = has_left (Covers client timestamp) (filter is_other all_calls) (call ∷ [])
+          (has_filtered (Covers client timestamp) is_other (λ x at. ap (λ (k : ℕ). not (k == call.client)) at.0 ∙ ap not e) all_calls waits)
 
-  pub request_waits : FitsNumbers c me v used (length (filter is_other (take count waiting))) st (filter is_other waiting ++ call ∷ []) history
+  pub request_waits : FitsNumbers c me v used begun (filter (λ w. is_other w.call) entries ++ arrived begun call ∷ []) st (filter is_other all_calls ++ call ∷ []) history
   request_waits = record {
+    calls = map-append (λ (w : Waiting). w.call) (filter (λ w. is_other w.call) entries) (arrived begun call ∷ [])
+        ∙ ap (λ (calls : List Call). calls ++ call ∷ []) (mapped_kept (λ (w : Waiting). w.call) is_other entries);
     free = f.free;
     top = f.top;
-    numbered = subst (Each (HasNumber c me v history)) (sym (kept_taken is_other count waiting (call ∷ [])))
-        (each_filtered (HasNumber c me v history) (HasNumber c me v history) is_other (λ x e h. h) (take count waiting) f.numbered);
-    unnumbered = subst (Each (HasNone c me v history)) (sym (kept_dropped is_other count waiting (call ∷ [])))
-        (each_with (HasNone c me v history) (filter is_other (drop count waiting)) call
-        (each_filtered (HasNone c me v history) (HasNone c me v history) is_other (λ x e h. h) (drop count waiting) f.unnumbered)
-        (λ h. unknown (f.known call.client call.timestamp h)));
-    known = λ client timestamp h. known_on client timestamp (f.known client timestamp h);
-    differ = all_pairs (Differ c) (filter is_other waiting ++ call ∷ [])
-        (pairs_with (Differ c) (filter is_other waiting) call
-        (pairs_of (Differ c) (filter is_other waiting) (AllPairs-filter (Differ c) is_other waiting f.differ))
+    rightly = each_with (IsRightly c me v history) (filter (λ w. is_other w.call) entries) (arrived begun call)
+        (each_filtered (IsRightly c me v history) (IsRightly c me v history) (λ w. is_other w.call) (λ w e h. h) entries f.rightly) rightly;
+    numbered = f.numbered;
+    known = λ client timestamp h. either_known (f.known client timestamp h) (known_on client timestamp);
+    differ = all_pairs (Differ c) (filter is_other all_calls ++ call ∷ [])
+        (pairs_with (Differ c) (filter is_other all_calls) call
+        (pairs_of (Differ c) (filter is_other all_calls) (AllPairs-filter (Differ c) is_other all_calls f.differ))
         (each_filtered (λ (x : Call). x ≡ x) (λ (x : Call). x.client ≢ call.client) is_other
-        (λ x e h. eqb-false x.client call.client (not-true (x.client == call.client) e)) waiting (each_where (λ (x : Call). x ≡ x) waiting (λ x has. refl))));
+        (λ x e h. eqb-false x.client call.client (not-true (x.client == call.client) e)) all_calls (each_where (λ (x : Call). x ≡ x) all_calls (λ x has. refl))));
   }
 
-pub requests_fit : RequestsFit
-requests_fit c me v used count st waiting history call f = go (nat_lt (last_time st call.client) call.timestamp && list_all (is_newer call) waiting) refl
+-- where the calls stand for what waits
+arrives : (c : Configuration) (me v used : ℕ) (begun : List BegunCall) (entries : List Waiting) (st : State) (history : List Entry) (call : Call)
+    → FitsNumbers c me v used begun entries st (calls_of entries) history
+    → FitsNumbers c me v used begun (entries_with begun st entries call) st (with_waiting st (calls_of entries) call) history
+arrives c me v used begun entries st history call f = go (nat_lt (last_time st call.client) call.timestamp && list_all (is_newer call) (calls_of entries)) refl
   where
-    go : (b : Bool) → (nat_lt (last_time st call.client) call.timestamp && list_all (is_newer call) waiting) ≡ b
-        → FitsNumbers c me v used (cond b (length (filter (λ other. not (other.client == call.client)) (take count waiting))) count) st
-        (cond b (filter (λ other. not (other.client == call.client)) waiting ++ call ∷ []) waiting) history
+    go : (b : Bool) → (nat_lt (last_time st call.client) call.timestamp && list_all (is_newer call) (calls_of entries)) ≡ b
+        → FitsNumbers c me v used begun (cond b (filter (λ w. not (w.call.client == call.client)) entries ++ arrived begun call ∷ []) entries) st
+        (cond b (filter (λ other. not (other.client == call.client)) (calls_of entries) ++ call ∷ []) (calls_of entries)) history
     go true e =
-        let p = and_parts (nat_lt (last_time st call.client) call.timestamp) (list_all (is_newer call) waiting) e in
-        request_waits c me v used count st waiting history call f (ltb-true (last_time st call.client) call.timestamp p.0) p.1
+        let p = and_parts (nat_lt (last_time st call.client) call.timestamp) (list_all (is_newer call) (calls_of entries)) e in
+        request_waits c me v used begun entries st history call f (ltb-true (last_time st call.client) call.timestamp p.0) p.1
     go false e = f
 
+pub requests_fit : RequestsFit
+requests_fit c me v used begun entries st waiting history call f =
+    subst (λ (calls : List Call). FitsNumbers c me v used begun entries st calls history → FitsNumbers c me v used begun (entries_with begun st entries call) st (with_waiting st calls call) history) f.calls
+    (arrives c me v used begun entries st history call) f
+
 pub inputs_keep_numbers : InputsKeepNumbers
-inputs_keep_numbers c me v used count point history bytes f = go (option_and_then (call_in c) (heard (members c) me bytes))
+inputs_keep_numbers c me v used begun entries point history bytes f = go (option_and_then (call_in c) (heard (members c) me bytes))
   where
-    go : (o : Option Call) → FitsNumbers c me v used (option_map_or (count_with point.state point.waiting count) o count) point.state (option_map_or (with_waiting point.state point.waiting) o point.waiting) history
+    go : (o : Option Call) → FitsNumbers c me v used begun (option_map_or (entries_with begun point.state entries) o entries) point.state (option_map_or (with_waiting point.state point.waiting) o point.waiting) history
     go None = f
-    go (Some call) = requests_fit c me v used count point.state point.waiting history call f
+    go (Some call) = requests_fit c me v used begun entries point.state point.waiting history call f
 
 -- ---- another state
 
@@ -121,32 +148,19 @@ known_behind old new waiting client timestamp grows (inr waits) =
         let here : call.timestamp ≤ last_time new client = subst (λ (k : ℕ). call.timestamp ≤ last_time new k) own past in
         inl (omega (arith, late, here))
 
-taken_still : (new : State) (count : ℕ) (waiting : List Call) → take (length (still_waiting new (take count waiting))) (still_waiting new waiting) ≡ still_waiting new (take count waiting)
-taken_still new count waiting =
-    ap (take (length (filter (waits_on new) (take count waiting)))) (sym (append-nil (filter (waits_on new) waiting))) ∙ kept_taken (waits_on new) count waiting []
-
-dropped_still : (new : State) (count : ℕ) (waiting : List Call) → drop (length (still_waiting new (take count waiting))) (still_waiting new waiting) ≡ still_waiting new (drop count waiting)
-dropped_still new count waiting =
-    ap (drop (length (filter (waits_on new) (take count waiting)))) (sym (append-nil (filter (waits_on new) waiting))) ∙ kept_dropped (waits_on new) count waiting []
-    ∙ append-nil (filter (waits_on new) (drop count waiting))
-
 pub states_fit : StatesFit
-states_fit c me v used count old new waiting history grows f = record {
+states_fit c me v used begun entries old new waiting history grows f = record {
+  calls = mapped_kept (λ (w : Waiting). w.call) (waits_on new) entries ∙ ap (still_waiting new) f.calls;
   free = f.free;
   top = f.top;
-  numbered = subst (Each (HasNumber c me v history)) (sym (taken_still new count waiting))
-      (each_filtered (HasNumber c me v history) (HasNumber c me v history) (waits_on new) (λ x e h. h) (take count waiting) f.numbered);
-  unnumbered = subst (Each (HasNone c me v history)) (sym (dropped_still new count waiting))
-      (each_filtered (HasNone c me v history) (HasNone c me v history) (waits_on new) (λ x e h. h) (drop count waiting) f.unnumbered);
-  known = λ client timestamp h. known_behind old new waiting client timestamp grows (f.known client timestamp h);
+  rightly = each_filtered (IsRightly c me v history) (IsRightly c me v history) (λ w. waits_on new w.call) (λ w e h. h) entries f.rightly;
+  numbered = f.numbered;
+  known = λ client timestamp h. either_known (f.known client timestamp h) (known_behind old new waiting client timestamp grows);
   differ = AllPairs-filter (Differ c) (waits_on new) waiting f.differ;
 }
 
 pub states_leave_no_more : StatesLeaveNoMore
-states_leave_no_more count new waiting =
-    let same = ap length (dropped_still new count waiting) in
-    let fewer = length-filter_both (waits_on new) (λ call. not (waits_on new call)) (λ call. refl) (drop count waiting) in
-    omega (arith, same, fewer)
+states_leave_no_more new entries = fewer_unnumbered (λ w. waits_on new w.call) entries
 
 -- ---- executions
 

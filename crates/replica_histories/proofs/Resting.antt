@@ -27,7 +27,7 @@ use Rattle.replica_histories.proofs.TransfersAnswering.{others_owe_none}
 -- ---- what an event leaves
 
 -- nothing is next, and no waiting request is without a number
-record Rests (c : Configuration) (me : ℕ) (now : List Entry) (new : Point) : Type 0 where
+pub record Rests (c : Configuration) (me : ℕ) (now : List Entry) (new : Point) : Type 0 where
   pub executes : (v : ℕ) (batch : List ℕ) → Committed c me now v (suc new.state.number) batch → ⊥
   pub numbers : (v i : ℕ) (call : Call) → is_active_in c now v ≡ true → primary c v ≡ me → Has (λ x. x ≡ call) new.waiting
       → IsFree c me now new.state.number v i → IsNumbered c me now v call.client call.timestamp
@@ -54,7 +54,7 @@ rests_first c me point is = record {
   numbers = λ v i call active own waits free. absurd (subst (λ (p : Point). Has (λ x. x ≡ call) p.waiting) is waits);
 }
 
-rests : (c : Configuration) (me : ℕ) (xs : List Entry) (point : Point) → ProceedsOrdering c me xs [] point point → Rests c me xs point
+pub rests : (c : Configuration) (me : ℕ) (xs : List Entry) (point : Point) → ProceedsOrdering c me xs [] point point → Rests c me xs point
 rests c me [] point h = rests_first c me point h.0
 rests c me (e ∷ past) point h =
     one_of (is_output e) (ProceedsOrdering c me past (e ∷ []) point h.0) (OwesOrdering c me past e [] (e ∷ past) h.0 point × ProceedsOrdering c me past [] h.0 h.0) (Rests c me (e ∷ past) point) h.2

@@ -28,7 +28,7 @@ module _ (c : Configuration) (me : ℕ) (log : LogData) (past : List Entry) (f :
       let v = voted (log.active && not (log.me == logs.primary log log.view)) (logs.prepare_of log i log.me) (logs.logged_digest log i) (sha256 batch) none (and_from log.active (not (log.me == logs.primary log log.view)) is (ap not other)) (digest_read log i batch k h) in
       (v.0, f.prepares i me k ∙ ap (logs.prepare_of log i) (sym f.own) ∙ v.1)
 
-  own_commit : log.active ≡ true → logs.due_commit log i ≡ None → PreparedIn log i batch → (d : List ℕ) × (commit_of c me past log.view i me ≡ Some d)
+  pub own_commit : log.active ≡ true → logs.due_commit log i ≡ None → PreparedIn log i batch → (d : List ℕ) × (commit_of c me past log.view i me ≡ Some d)
   own_commit is none p =
       let batch_is : logs.logged_batch log i ≡ Some batch = rw (p.within) p.row in
       let v = voted (log.active && logs.is_prepared log i) (logs.commit_of log i log.me) (logs.logged_digest log i) (sha256 batch) none (and_from log.active (logs.is_prepared log i) is (prepared_is log i batch p)) (digest_read log i batch p.within batch_is) in

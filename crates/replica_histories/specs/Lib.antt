@@ -14,3 +14,6 @@ pub mod Answering
 pub mod Numbers
 pub mod Histories
 pub mod Views
+pub mod Claims
+pub mod Received
+pub mod Changes

@@ -1,20 +1,68 @@
 -- Which of the requests that wait have a number in the view of their primary (Castro and Liskov, TOCS 2002, on
--- normal-case operation and garbage collection). All is said of the history, which forgets nothing: a request that
--- still waits where its row is cut keeps its number.
-use Rattle.std.specs.Prelude.{◌≡◌, ◌≢◌, ◌↔◌, ℕ, suc, ◌+◌, ◌≤◌, ◌<◌, ◌⊎◌, Bool, true, false, ◌&&◌, not, List, [], ◌∷◌, length, map, take, drop, filter, max, nat_lt, ◌==◌, if◌then◌else◌, Some, None, option_and_then, AllPairs}
-use Rattle.std.specs.List.{list_all}
+-- normal-case operation, garbage collection and view changes). All is said of the history, which forgets nothing: a
+-- request that still waits where its row is cut keeps its number.
+use Rattle.std.specs.Prelude.{◌≡◌, ◌≢◌, ◌↔◌, ℕ, zero, suc, ◌+◌, ◌≤◌, ◌<◌, ◌⊎◌, Bool, true, false, ◌&&◌, not, List, [], ◌∷◌, ◌++◌, length, map, take, filter, max, nat_lt, ◌==◌, if◌then◌else◌, Some, None, option_and_then, AllPairs}
+use Rattle.std.specs.List.{list_all, list_any, filter_map, flat_map}
 use Rattle.std.specs.Option.{option_map_or}
-use Rattle.wire.specs.Messages.{MessageData as Message, pre_prepare as PrePrepare}
+use Rattle.wire.specs.Messages.{MessageData as Message, NewViewData, pre_prepare as PrePrepare}
 use Rattle.wire.specs.Words.{requests_of, said}
 use Rattle.wire.specs.Lists.{Each}
 use Rattle.signing.specs.Heard.{heard}
+use Rattle.ordering.specs.Log.{LogData}
 use Rattle.protocol.specs.System.Configuration.{Configuration, primary, members}
-use Rattle.protocol.specs.System.Trace.{Entry, party_of, Has}
+use Rattle.protocol.specs.System.Trace.{Entry, party_of, Once, Has, either}
 use Rattle.protocol.specs.System.Trace.Entry.{Sent}
-use Rattle.protocol.specs.Replica.Certificates.{taken, low, is_in_marks, are_genuine, logged}
+use Rattle.protocol.specs.Replica.Certificates.{view, taken, low, is_in_marks, are_genuine, logged}
 use Rattle.protocol.specs.Replica.State.{State, Call, call_in, call_of, last_time, execute}
 use Rattle.protocol.specs.Replica.RightReplica.{Point, is_newer, with_waiting, waiting_after, still_waiting}
-use Rattle.protocol.specs.Replica.Owed.{IsNumbered, IsFree, NumbersOnce}
+use Rattle.protocol.specs.Replica.Owed.{BeginsViewWith, IsNumbered, IsFree, NumbersOnce}
+use Rattle.replica_histories.specs.Logs.{FitsLog}
+
+-- ---- what waits
+
+-- a request that waits, and whether it has a number in the view
+pub record Waiting : Type 0 where
+  pub call : Call
+  pub numbered : Bool
+
+abbrev pub calls_of : List Waiting → List Call
+calls_of entries = map (λ w. w.call) entries
+
+-- those without a number, and how many they are
+abbrev pub unnumbered : List Waiting → List Waiting
+unnumbered entries = filter (λ w. not w.numbered) entries
+
+abbrev pub count_unnumbered : List Waiting → ℕ
+count_unnumbered entries = length (unnumbered entries)
+
+-- the first so many of those without a number have one
+abbrev pub with_numbered : ℕ → List Waiting → List Waiting
+with_numbered count [] = []
+with_numbered zero entries = entries
+with_numbered (suc count) (w ∷ entries) =
+    if w.numbered then w ∷ with_numbered (suc count) entries else
+    record w { numbered = true } ∷ with_numbered count entries
+
+-- ---- what a new view numbers
+
+-- a request that stands in the new view with which a view began
+pub record BegunCall : Type 0 where
+  pub client : ℕ
+  pub timestamp : ℕ
+
+-- those in its batches
+abbrev pub begun_in : Configuration → List (List ℕ) → List BegunCall
+begun_in c batches =
+    map (λ call. record { client = call.client; timestamp = call.timestamp })
+    (filter_map (call_of c) (flat_map requests_of batches))
+
+-- the call is one of them
+abbrev pub is_begun : List BegunCall → Call → Bool
+is_begun begun call = list_any (λ b. (b.client == call.client) && (b.timestamp == call.timestamp)) begun
+
+-- so a call waits that the view has given no number but by them
+abbrev pub arrived : List BegunCall → Call → Waiting
+arrived begun call = record { call = call; numbered = is_begun begun call }
 
 -- ---- what fits
 
@@ -23,6 +71,10 @@ abbrev pub IsKnown : State → List Call → ℕ → ℕ → Type 0
 IsKnown st waiting client timestamp =
     (timestamp ≤ last_time st client) ⊎ Has (λ call. (call.client ≡ client) × (timestamp ≤ call.timestamp)) waiting
 
+-- the call of this client and timestamp is begun
+abbrev pub IsBegun : List BegunCall → ℕ → ℕ → Type 0
+IsBegun begun client timestamp = Has (λ b. (b.client ≡ client) × (b.timestamp ≡ timestamp)) begun
+
 -- the call has a number in the view v, or has none
 abbrev pub HasNumber : Configuration → ℕ → ℕ → List Entry → Call → Type 0
 HasNumber c me v history call = IsNumbered c me history v call.client call.timestamp
@@ -30,21 +82,56 @@ HasNumber c me v history call = IsNumbered c me history v call.client call.times
 abbrev pub HasNone : Configuration → ℕ → ℕ → List Entry → Call → Type 0
 HasNone c me v history call = HasNumber c me v history call → ⊥
 
--- In the view v nothing is logged above the number that was used last, 0 where none was; of the requests that wait,
--- each of another client, the first ones, so many as are counted, have numbers and the others none; and each request
--- that has a number is known, so that a newer one has none.
-pub record FitsNumbers (c : Configuration) (me v used count : ℕ) (st : State) (waiting : List Call)
-    (history : List Entry) : Type 0 where
+-- the request has a number exactly where it is said to
+abbrev pub IsRightly : Configuration → ℕ → ℕ → List Entry → Waiting → Type 0
+IsRightly c me v history w = either w.numbered (HasNumber c me v history w.call) (HasNone c me v history w.call)
+
+-- In the view v nothing is logged above the number that was used last, which is not above the low mark, or has a batch.
+-- Of the requests that wait, each of another client, each is flagged rightly. Those that began the view have numbers;
+-- and any other that has one is known, so that a newer one has none.
+pub record FitsNumbers (c : Configuration) (me v used : ℕ) (begun : List BegunCall) (entries : List Waiting)
+    (st : State) (waiting : List Call) (history : List Entry) : Type 0 where
+  pub calls : calls_of entries ≡ waiting
   pub free : (j : ℕ) → used < j → logged c me history v j ≡ None
-  pub top : (used ≡ 0) ⊎ ((batch : List ℕ) × (logged c me history v used ≡ Some batch))
-  pub numbered : Each (HasNumber c me v history) (take count waiting)
-  pub unnumbered : Each (HasNone c me v history) (drop count waiting)
-  pub known : (client timestamp : ℕ) → IsNumbered c me history v client timestamp → IsKnown st waiting client timestamp
+  pub top : (used ≤ low c me history) ⊎ ((batch : List ℕ) × (logged c me history v used ≡ Some batch))
+  pub rightly : Each (IsRightly c me v history) entries
+  pub numbered : Each (λ b. IsNumbered c me history v b.client b.timestamp) begun
+  pub known : (client timestamp : ℕ) → IsNumbered c me history v client timestamp
+      → IsKnown st waiting client timestamp ⊎ IsBegun begun client timestamp
   pub differ : AllPairs (λ call twin. call.client ≢ twin.client) waiting
 
 -- Before anything was got nothing has a number.
 abbrev pub FirstNumbersFit : Type 0
-FirstNumbersFit = (c : Configuration) (me v : ℕ) (st : State) → FitsNumbers c me v 0 0 st [] []
+FirstNumbersFit = (c : Configuration) (me v : ℕ) (st : State) → FitsNumbers c me v 0 [] [] st [] []
+
+-- ---- a view begins
+
+-- No batch is logged in a view above the own one, and no new view with a batch began one.
+pub record AreOfNoLaterView (c : Configuration) (me : ℕ) (history : List Entry) : Type 0 where
+  pub logged : (v i : ℕ) (batch : List ℕ) → logged c me history v i ≡ Some batch → v ≤ view c history
+  pub begun : (v : ℕ) (batch : List ℕ) → Once (BeginsViewWith c v batch) history → v ≤ view c history
+
+-- So it is where a log fits.
+abbrev pub LogsAreOfNoLaterView : Type 0
+LogsAreOfNoLaterView =
+    (c : Configuration) (me : ℕ) (log : LogData) (history : List Entry) → FitsLog c me log history
+    → AreOfNoLaterView c me history
+
+-- In such a view nothing has a number.
+abbrev pub LaterNumberNothing : Type 0
+LaterNumberNothing =
+    (c : Configuration) (me v client timestamp : ℕ) (history : List Entry) → AreOfNoLaterView c me history
+    → view c history < v → IsNumbered c me history v client timestamp → ⊥
+
+-- Where a new view is taken, or sent, the requests in its batches have numbers in its view, and no others. Its numbers
+-- are used up to its last batch, also those below the low mark.
+abbrev pub ViewsBegin : Type 0
+ViewsBegin =
+    (c : Configuration) (me : ℕ) (st : State) (waiting : List Call) (past : List Entry) (e : Entry) (new : NewViewData)
+    → taken c past e ≡ Some new → AreOfNoLaterView c me past
+    → AllPairs (λ call twin. call.client ≢ twin.client) waiting
+    → FitsNumbers c me new.view (new.start + length new.batches) (begun_in c new.batches)
+    (map (arrived (begun_in c new.batches)) waiting) st waiting (e ∷ past)
 
 -- ---- entries that give no number
 
@@ -57,9 +144,10 @@ pub record KeepsNumbers (c : Configuration) (me v : ℕ) (past : List Entry) (e 
 -- What fits stays so behind such an entry.
 abbrev pub NumbersStay : Type 0
 NumbersStay =
-    (c : Configuration) (me v used count : ℕ) (st : State) (waiting : List Call) (past : List Entry) (e : Entry)
-    → KeepsNumbers c me v past e → FitsNumbers c me v used count st waiting past
-    → FitsNumbers c me v used count st waiting (e ∷ past)
+    (c : Configuration) (me v used : ℕ) (begun : List BegunCall) (entries : List Waiting) (st : State)
+    (waiting : List Call) (past : List Entry) (e : Entry)
+    → KeepsNumbers c me v past e → FitsNumbers c me v used begun entries st waiting past
+    → FitsNumbers c me v used begun entries st waiting (e ∷ past)
 
 -- a pre-prepare is sent here
 abbrev pub is_pre_prepare : Message → Bool
@@ -93,52 +181,59 @@ AreCalls c frames calls = map (call_of c) frames ≡ map Some calls
 -- The oldest requests without a number, up to so many as are asked for, get one above all that were used.
 abbrev pub NumbersFit : Type 0
 NumbersFit =
-    (c : Configuration) (me v used count i most : ℕ) (st : State) (waiting : List Call) (batch bytes : List ℕ)
-    (past : List Entry)
+    (c : Configuration) (me v used i most : ℕ) (begun : List BegunCall) (entries : List Waiting) (st : State)
+    (waiting : List Call) (batch bytes : List ℕ) (past : List Entry)
     → primary c v ≡ me → used < i → are_genuine c me batch ≡ true
-    → AreCalls c (requests_of batch) (take most (drop count waiting))
+    → AreCalls c (requests_of batch) (calls_of (take most (unnumbered entries)))
     → said bytes ≡ Some (record { sender = me; message = PrePrepare v i batch })
-    → FitsNumbers c me v used count st waiting past
+    → FitsNumbers c me v used begun entries st waiting past
     → NumbersOnce c me past (Sent me bytes)
-    × FitsNumbers c me v i (count + length (take most (drop count waiting))) st waiting (Sent me bytes ∷ past)
+    × FitsNumbers c me v i begun (with_numbered most entries) st waiting (Sent me bytes ∷ past)
 
 -- ---- what waits changes
 
--- how many of the first ones have a number once the call waits, which replaces its client's
-abbrev pub count_with : State → List Call → ℕ → Call → ℕ
-count_with st waiting count call =
-    if nat_lt (last_time st call.client) call.timestamp && list_all (is_newer call) waiting
-    then length (filter (λ other. not (other.client == call.client)) (take count waiting)) else count
+-- what waits once the call is got, which replaces its client's
+abbrev pub entries_with : List BegunCall → State → List Waiting → Call → List Waiting
+entries_with begun st entries call =
+    if nat_lt (last_time st call.client) call.timestamp && list_all (is_newer call) (calls_of entries)
+    then filter (λ w. not (w.call.client == call.client)) entries ++ arrived begun call ∷ [] else entries
 
 -- A request that is got waits, if it is newer.
 abbrev pub RequestsFit : Type 0
 RequestsFit =
-    (c : Configuration) (me v used count : ℕ) (st : State) (waiting : List Call) (history : List Entry) (call : Call)
-    → FitsNumbers c me v used count st waiting history
-    → FitsNumbers c me v used (count_with st waiting count call) st (with_waiting st waiting call) history
+    (c : Configuration) (me v used : ℕ) (begun : List BegunCall) (entries : List Waiting) (st : State)
+    (waiting : List Call) (history : List Entry) (call : Call)
+    → FitsNumbers c me v used begun entries st waiting history
+    → FitsNumbers c me v used begun (entries_with begun st entries call) st (with_waiting st waiting call) history
 
 -- and so with bytes that are got, which may say a request
-abbrev pub count_after : Configuration → ℕ → Point → ℕ → List ℕ → ℕ
-count_after c me point count bytes =
-    option_map_or (count_with point.state point.waiting count)
-    (option_and_then (call_in c) (heard (members c) me bytes)) count
+abbrev pub entries_after : Configuration → ℕ → List BegunCall → State → List Waiting → List ℕ → List Waiting
+entries_after c me begun st entries bytes =
+    option_map_or (entries_with begun st entries) (option_and_then (call_in c) (heard (members c) me bytes)) entries
 
 abbrev pub InputsKeepNumbers : Type 0
 InputsKeepNumbers =
-    (c : Configuration) (me v used count : ℕ) (point : Point) (history : List Entry) (bytes : List ℕ)
-    → FitsNumbers c me v used count point.state point.waiting history
-    → FitsNumbers c me v used (count_after c me point count bytes) point.state (waiting_after c me point bytes) history
+    (c : Configuration) (me v used : ℕ) (begun : List BegunCall) (entries : List Waiting) (point : Point)
+    (history : List Entry) (bytes : List ℕ)
+    → FitsNumbers c me v used begun entries point.state point.waiting history
+    → FitsNumbers c me v used begun (entries_after c me begun point.state entries bytes) point.state
+    (waiting_after c me point bytes) history
 
 -- of no client the last timestamp falls
 abbrev pub NoneFalls : State → State → Type 0
 NoneFalls old new = (client : ℕ) → last_time old client ≤ last_time new client
 
+-- those that are newer than what their clients ran last
+abbrev pub still_entries : State → List Waiting → List Waiting
+still_entries st entries = filter (λ w. nat_lt (last_time st w.call.client) w.call.timestamp) entries
+
 -- Another state comes in the place of the executed one: what it has run waits no more.
 abbrev pub StatesFit : Type 0
 StatesFit =
-    (c : Configuration) (me v used count : ℕ) (old new : State) (waiting : List Call) (history : List Entry)
-    → NoneFalls old new → FitsNumbers c me v used count old waiting history
-    → FitsNumbers c me v used (length (still_waiting new (take count waiting))) new (still_waiting new waiting) history
+    (c : Configuration) (me v used : ℕ) (begun : List BegunCall) (entries : List Waiting) (old new : State)
+    (waiting : List Call) (history : List Entry)
+    → NoneFalls old new → FitsNumbers c me v used begun entries old waiting history
+    → FitsNumbers c me v used begun (still_entries new entries) new (still_waiting new waiting) history
 
 -- A batch that is executed is such a change.
 abbrev pub ExecutionsRaise : Type 0
@@ -146,22 +241,17 @@ ExecutionsRaise = (c : Configuration) (st : State) (batch : List ℕ) → NoneFa
 
 -- ---- nothing is left without a number
 
--- how many wait without a number
-abbrev pub count_unnumbered : ℕ → List Call → ℕ
-count_unnumbered count waiting = length (drop count waiting)
-
 -- Each number that is given leaves fewer without one, and another state no more, so that as many numbers as requests
 -- wait are enough.
 abbrev pub NumbersLeaveFewer : Type 0
 NumbersLeaveFewer =
-    (count most : ℕ) (waiting : List Call) → 1 ≤ most → count < length waiting
-    → count_unnumbered (count + length (take most (drop count waiting))) waiting < count_unnumbered count waiting
+    (most : ℕ) (entries : List Waiting) → 1 ≤ most → 1 ≤ count_unnumbered entries
+    → count_unnumbered (with_numbered most entries) < count_unnumbered entries
 
 abbrev pub StatesLeaveNoMore : Type 0
 StatesLeaveNoMore =
-    (count : ℕ) (new : State) (waiting : List Call)
-    → count_unnumbered (length (still_waiting new (take count waiting))) (still_waiting new waiting)
-    ≤ count_unnumbered count waiting
+    (new : State) (entries : List Waiting)
+    → count_unnumbered (still_entries new entries) ≤ count_unnumbered entries
 
 -- the number that is next, above the low mark and all that were used
 abbrev pub next_number : Configuration → ℕ → List Entry → ℕ → ℕ
@@ -176,8 +266,9 @@ IsNextFree c me history used executed =
 -- Where the next number may not be given, or all that waits has one, what is owed of numbers holds.
 abbrev pub NumbersAreGiven : Type 0
 NumbersAreGiven =
-    (c : Configuration) (me v used count : ℕ) (st : State) (waiting : List Call) (history : List Entry)
-    → FitsNumbers c me v used count st waiting history
-    → (IsNextFree c me history used st.number → length waiting ≤ count)
+    (c : Configuration) (me v used : ℕ) (begun : List BegunCall) (entries : List Waiting) (st : State)
+    (waiting : List Call) (history : List Entry)
+    → FitsNumbers c me v used begun entries st waiting history
+    → (IsNextFree c me history used st.number → count_unnumbered entries ≡ 0)
     → (i : ℕ) (call : Call) → Has (λ x. x ≡ call) waiting → IsFree c me history st.number v i
     → IsNumbered c me history v call.client call.timestamp

@@ -1,9 +1,10 @@
--- How a replica moves from view to view: it leaves its view by a view change, and a new view that it takes or sends begins
--- a later one (Castro and Liskov, TOCS 2002, on view changes).
-use Rattle.std.specs.Prelude.{◌≡◌, ℕ, suc, ◌≤◌, ◌<◌, true, List, [], ◌∷◌, ◌++◌, map, reverse, nat_lt, if◌then◌else◌, Some, None}
+-- How a replica moves from view to view: it leaves its view by a view change, and a new view that it takes or sends
+-- begins a later one (Castro and Liskov, TOCS 2002, on view changes).
+use Rattle.std.specs.Prelude.{◌≡◌, ℕ, suc, ◌<◌, true, List, [], ◌∷◌, map, reverse, nat_lt, if◌then◌else◌, Some, None}
 use Rattle.terms.specs.declared.state.Level.TheVariants as levels
 use Rattle.partition_tree.specs.Digests.{root_of as root_of_pages}
 use Rattle.wire.specs.Messages.{MessageData as Message, ViewChangeData, NewViewData, CheckpointEntryData as CheckpointEntry, view_change as ViewChange, new_view as NewView, fetch as Fetch}
+use Rattle.wire.specs.Words.{carried}
 use Rattle.wire.specs.Lists.{Each}
 use Rattle.signing.specs.Heard.{heard}
 use Rattle.ordering.specs.Log as logs
@@ -13,8 +14,8 @@ use Rattle.protocol.specs.System.Frames.{IsPosted}
 use Rattle.protocol.specs.System.Trace.{Entry, Once}
 use Rattle.protocol.specs.System.Trace.Entry.{Got, Sent}
 use Rattle.protocol.specs.Replica.Selection.{is_within}
-use Rattle.protocol.specs.Replica.Certificates.{view, target, taken}
-use Rattle.protocol.specs.Replica.RightReplica.{Point, HasSeen, SentBefore, IsPreparedList, IsPrePreparedList, others}
+use Rattle.protocol.specs.Replica.Certificates.{target, taken}
+use Rattle.protocol.specs.Replica.RightReplica.{Point, HasSeen, SentBefore, IsPreparedList, IsPrePreparedList}
 use Rattle.protocol.specs.Replica.Owed.{Counts, latest_change}
 use Rattle.replica_histories.specs.Desk.{Desk, Snapshot, desk_from}
 use Rattle.replica_histories.specs.Logs.{FitsLog}
@@ -48,7 +49,7 @@ ViewChangesFit =
     (vc : ViewChangeData) (bytes : List ℕ)
     → ((i : ℕ) → logs.due_commit log i ≡ None)
     → IsChange c me desk log (behind s outputs) vc
-    → IsPosted c me (ViewChange vc) (others c me) bytes
+    → IsPosted c me (ViewChange vc) [] bytes
     → Fits c me s desk log due outputs → Fits c me s desk (logs.left log) due (Sent me bytes ∷ outputs)
 
 -- The last one goes again while the replica is active no more.
@@ -58,7 +59,7 @@ ViewChangesGoAgain =
     (vc : ViewChangeData) (bytes : List ℕ)
     → log.view < target (behind s outputs) → vc.view ≡ target (behind s outputs)
     → SentBefore bytes (behind s outputs)
-    → IsPosted c me (ViewChange vc) (others c me) bytes
+    → IsPosted c me (ViewChange vc) [] bytes
     → Fits c me s desk log due outputs → Fits c me s desk log due (Sent me bytes ∷ outputs)
 
 -- ---- beginning a view
@@ -88,8 +89,8 @@ NewViewsEnter =
     → Fits c me (start_at c me desk log past held (Got me bytes)) (desk_from (begun_log log new).low desk)
     (begun_log log new) (start_due desk new) []
 
--- The primary of a view sends one where, got, it would be taken, over view changes that it has seen, where nothing is
--- due, the log asks for no commit, and no batch is committed for the next number.
+-- The primary of a view sends one where, got, it would be taken, over view changes and requests that it has seen, where
+-- nothing is due, the log asks for no commit, and no batch is committed for the next number.
 abbrev pub NewViewsFit : Type 0
 NewViewsFit =
     (c : Configuration) (me : ℕ) (s : Start) (desk : Desk) (log : LogData) (outputs : List Entry) (new : NewViewData)
@@ -97,8 +98,8 @@ NewViewsFit =
     → ((i : ℕ) → logs.due_commit log i ≡ None) → logs.committed_batch log (suc desk.state.number) ≡ None
     → primary c new.view ≡ me
     → taken c (behind s outputs) (Sent me bytes) ≡ Some new
-    → Each (λ frame. Once (HasSeen frame) (behind s outputs)) new.changes
-    → IsPosted c me (NewView new) (others c me) bytes
+    → Each (λ frame. Once (HasSeen frame) (behind s outputs)) (carried (NewView new))
+    → IsPosted c me (NewView new) [] bytes
     → Fits c me s desk log [] outputs
     → Fits c me s (desk_from (begun_log log new).low desk) (begun_log log new) (start_due desk new)
     (Sent me bytes ∷ outputs)
@@ -110,8 +111,7 @@ NewViewsGoAgain =
     (new : NewViewData) (bytes : List ℕ)
     → log.active ≡ true → new.view ≡ log.view → primary c new.view ≡ me
     → SentBefore bytes (behind s outputs)
-    → Each (λ frame. Once (HasSeen frame) (behind s outputs)) new.changes
-    → IsPosted c me (NewView new) (others c me) bytes
+    → IsPosted c me (NewView new) [] bytes
     → Fits c me s desk log due outputs → Fits c me s desk log due (Sent me bytes ∷ outputs)
 
 -- The start's state may be fetched then, by a new transfer or the open one, moved.

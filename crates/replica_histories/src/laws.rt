@@ -11,7 +11,7 @@ ghost use Rattle.replica_histories.specs.TransfersAnswers.{KeptAreOne, Snapshots
 ghost use Rattle.replica_histories.specs.TransfersQuorums.{QuorumsGrow, CountsStay, UnchangedBringNone, QuorumsFirst, QuorumsStay, QuorumsBegin, QuorumsGoOn, QuorumsEnd};
 ghost use Rattle.replica_histories.specs.Fetching.{FetchesFit, DueFetchesFit, QuorumsMayAsk, HeldOweNoFetch, DigestsEnter, PagesEnter, AskedDigestsCount, AskedPagesCount, TransfersChange};
 ghost use Rattle.replica_histories.specs.Answering.{PartsFit, KeptFetchesCount, PartsSuffice, OtherNumbersOweNone};
-ghost use Rattle.replica_histories.specs.Numbers.{FirstNumbersFit, NumbersStay, OthersKeepNumbers, BatchesKeepNumbers, NumbersFit, RequestsFit, InputsKeepNumbers, StatesFit, ExecutionsRaise, NumbersAreGiven, NumbersLeaveFewer, StatesLeaveNoMore};
+ghost use Rattle.replica_histories.specs.Numbers.{FirstNumbersFit, LogsAreOfNoLaterView, LaterNumberNothing, ViewsBegin, NumbersStay, OthersKeepNumbers, BatchesKeepNumbers, NumbersFit, RequestsFit, InputsKeepNumbers, StatesFit, ExecutionsRaise, NumbersAreGiven, NumbersLeaveFewer, StatesLeaveNoMore};
 
 /// Where desk and log fit the history behind an event's outputs, nothing is due, nothing is left owed and a fetch was
 /// answered, they hold of that history, and so on at the next event. Between events nothing is left owed.
@@ -224,10 +224,15 @@ pub fn parts_fit()
     ensures none { OtherNumbersOweNone }
 {}
 
-/// Which of the requests that wait have a number is known from the start, and stays so behind each entry at the view's
-/// primary that gives no number: all but a pre-prepare of a number that is free, as long as no new view is taken.
+/// Which of the requests that wait have a number is known from the start, and from each new view on that begins a view:
+/// the requests in its batches have one. It stays so behind each entry at the view's primary that gives no number: all
+/// but a pre-prepare of a number that is free, as long as no new view is taken. In views above the own one nothing has a
+/// number (Castro and Liskov, TOCS 2002, on normal-case operation and view changes).
 pub fn numbers_stay()
     ensures first { FirstNumbersFit }
+    ensures known { LogsAreOfNoLaterView }
+    ensures later { LaterNumberNothing }
+    ensures begin { ViewsBegin }
     ensures stay { NumbersStay }
     ensures others { OthersKeepNumbers }
     ensures batches { BatchesKeepNumbers }

@@ -24,11 +24,23 @@
 //! gets it ([`parts_fit`], [`kept_are_one`], [`fetches_are_answered`]).
 //!
 //! What such a replica owes is all but one part of what the crate `protocol` asks of a correct replica
-//! ([`owed_in_parts`]): reads are the other. View changes are beyond these laws.
+//! ([`owed_in_parts`]): reads are the other.
+//!
+//! A replica leaves its view by a view change that says what the history says ([`views_change`]), and enters a later
+//! one by a new view that it takes, or sends as the primary ([`views_begin`]): the log then has the new view's batches,
+//! and of earlier views what was committed. What it keeps for its own view changes are the batches that it logged and
+//! those that it committed ([`claims_are_kept`]), and of each other replica it holds the latest view change that
+//! counted ([`changes_are_held`]). All that it holds for changes of its view goes from entry to entry
+//! ([`entries_pass`]): it stays where an entry brings nothing about ([`entries_keep_changes`]), claims what is logged and committed
+//! ([`changes_stay`]), and has the view changes that are sent and taken, and the new view that begins the view
+//! ([`changes_are_made`]). That a replica moves on where it has to is beyond these laws.
 #![tactic(auto)]
 
+mod changes;
 mod laws;
+mod views;
 
+pub use changes::{changes_are_made, changes_stay, entries_keep_changes, entries_pass};
 pub use laws::{
     events_end, fetches_are_answered, fetches_fit, histories_are_replicas, inputs_fit, inputs_pass,
     kept_are_one, marks_move, messages_count, messages_drop, numbers_are_given, numbers_stay,
@@ -36,3 +48,4 @@ pub use laws::{
     quorums_are_fetched, transfers_ask, transfers_begin, transfers_install, transfers_stay,
     waiting_keeps_numbers,
 };
+pub use views::{changes_are_held, claims_are_kept, views_begin, views_change};

@@ -15,6 +15,10 @@ pub enum Sent {
     /// A request of client 0 that asks for reads alone.
     Read,
     PrePrepare(u8),
+    /// The pre-prepare of this view and number, and in that view a prepare and a commit, by their senders.
+    PrePrepareIn(u8, u8),
+    PrepareIn(u8, u8, u8),
+    CommitIn(u8, u8, u8),
     /// A pre-prepare whose request has a wrong MAC for replica 1.
     Forged,
     Prepare(u8, u8),
@@ -37,9 +41,6 @@ const CLIENT: u16 = 256;
 // `rdp (*)`.
 const READ: &[u8] = b"\x22\x01\x10";
 
-// The view.
-const ZERO: [u8; 8] = [0; 8];
-
 /// A number in eight bytes.
 pub fn eight(number: u8) -> [u8; 8] {
     u64::from(number).to_be_bytes()
@@ -54,8 +55,8 @@ pub fn joined(alloc: Global, parts: &[&[u8]]) -> Result<Vec<u8>, AllocError> {
     Ok(all)
 }
 
-// Bytes behind their length.
-fn piece(alloc: Global, bytes: &[u8]) -> Result<Vec<u8>, AllocError> {
+/// Bytes behind their length.
+pub fn piece(alloc: Global, bytes: &[u8]) -> Result<Vec<u8>, AllocError> {
     let len = (bytes.len() & 0xff_ffff) as u32;
     joined(alloc, &[&len.to_be_bytes(), bytes])
 }
@@ -64,8 +65,13 @@ fn client_of(number: u8) -> u16 {
     CLIENT.wrapping_add(u16::from(number)).wrapping_sub(1)
 }
 
-// A MAC behind its receiver, under the key from the sender to it.
-fn mac_for(alloc: Global, sender: u16, receiver: u16, body: &[u8]) -> Result<Vec<u8>, AllocError> {
+/// A MAC behind its receiver, under the key from the sender to it.
+pub fn mac_for(
+    alloc: Global,
+    sender: u16,
+    receiver: u16,
+    body: &[u8],
+) -> Result<Vec<u8>, AllocError> {
     let [from_high, from_low] = sender.to_be_bytes();
     let [to_high, to_low] = receiver.to_be_bytes();
     let key = hmac(&SEED, &[0x4d, from_high, from_low, to_high, to_low]);
@@ -120,18 +126,29 @@ fn forged_batch(alloc: Global) -> Result<Vec<u8>, AllocError> {
     batch_of(alloc, &request)
 }
 
-fn pre_prepare(alloc: Global, number: u8, batch: &[u8]) -> Result<Vec<u8>, AllocError> {
-    let body = joined(alloc, &[&[0x42, 0, 0], &ZERO, &eight(number), batch])?;
-    sealed(alloc, Sent::PrePrepare(number), 0, &body)
+// The primary of a view.
+fn primary_of(view: u8) -> u8 {
+    view & 3
+}
+
+fn pre_prepare(alloc: Global, view: u8, number: u8, batch: &[u8]) -> Result<Vec<u8>, AllocError> {
+    let primary = primary_of(view);
+    let front = joined(alloc, &[&[0x42, 0, primary], &eight(view), &eight(number)])?;
+    let body = joined(alloc, &[&front, batch])?;
+    let sent = Sent::PrePrepareIn(view, number);
+    sealed(alloc, sent, u16::from(primary), &body)
+}
+
+/// The digest of the run's batch of the number.
+pub fn digest(alloc: Global, number: u8) -> Result<[u8; 32], AllocError> {
+    Ok(Sha256::digest(batch(alloc, number)?.as_slice()))
 }
 
 // A prepare or a commit.
-fn vote(alloc: Global, kind: u8, number: u8, replica: u8) -> Result<Vec<u8>, AllocError> {
-    let digest: [u8; 32] = Sha256::digest(batch(alloc, number)?.as_slice());
-    let body = joined(
-        alloc,
-        &[&[kind, 0, replica], &ZERO, &eight(number), &digest],
-    )?;
+fn vote(alloc: Global, kind: u8, view: u8, number: u8, replica: u8) -> Result<Vec<u8>, AllocError> {
+    let digest = digest(alloc, number)?;
+    let front = joined(alloc, &[&[kind, 0, replica], &eight(view), &eight(number)])?;
+    let body = joined(alloc, &[&front, &digest])?;
     sealed(
         alloc,
         Sent::Prepare(number, replica),
@@ -194,10 +211,15 @@ pub fn frame_of(alloc: Global, sent: Sent) -> Result<Vec<u8>, AllocError> {
     match sent {
         Sent::Request(number) => out_request(alloc, number),
         Sent::Read => request(alloc, 1, 1, READ),
-        Sent::PrePrepare(number) => pre_prepare(alloc, number, &batch(alloc, number)?),
-        Sent::Forged => pre_prepare(alloc, 1, &forged_batch(alloc)?),
-        Sent::Prepare(number, replica) => vote(alloc, 0x43, number, replica),
-        Sent::Commit(number, replica) => vote(alloc, 0x44, number, replica),
+        Sent::PrePrepare(number) => pre_prepare(alloc, 0, number, &batch(alloc, number)?),
+        Sent::PrePrepareIn(view, number) => {
+            pre_prepare(alloc, view, number, &batch(alloc, number)?)
+        }
+        Sent::Forged => pre_prepare(alloc, 0, 1, &forged_batch(alloc)?),
+        Sent::Prepare(number, replica) => vote(alloc, 0x43, 0, number, replica),
+        Sent::PrepareIn(view, number, replica) => vote(alloc, 0x43, view, number, replica),
+        Sent::Commit(number, replica) => vote(alloc, 0x44, 0, number, replica),
+        Sent::CommitIn(view, number, replica) => vote(alloc, 0x44, view, number, replica),
         Sent::Reply(number, replica) => reply(alloc, number, replica),
         Sent::Checkpoint(number, state, replica) => checkpoint(alloc, number, state, replica),
         Sent::Fetch(number, at, replica) => fetch(alloc, number, at, replica),
@@ -213,8 +235,11 @@ pub fn is_for(sent: Sent, party: u16) -> bool {
     match sent {
         Sent::Request(_) | Sent::Read => party < 4,
         Sent::PrePrepare(_) | Sent::Forged => party > 0 && party < 4,
+        Sent::PrePrepareIn(view, _) => party < 4 && party != u16::from(primary_of(view)),
         Sent::Prepare(_, replica)
         | Sent::Commit(_, replica)
+        | Sent::PrepareIn(_, _, replica)
+        | Sent::CommitIn(_, _, replica)
         | Sent::Checkpoint(_, _, replica)
         | Sent::Fetch(_, _, replica) => party < 4 && party != u16::from(replica),
         Sent::Reply(number, _) => party == client_of(number),

@@ -1,10 +1,12 @@
 //! Tests of a replica (`replica`), one of four over real frames: a request that is numbered, prepared, committed,
-//! executed and answered, what comes again, what is dropped, checkpoints, marks that move, states that are fetched, and
-//! memory refused in each kind of event.
+//! executed and answered, what comes again, what is dropped, checkpoints, marks that move, states that are fetched, views
+//! that change, and memory refused in each kind of event.
 #![tactic(auto)]
 
 #[cfg(test)]
 mod checkpoints;
+#[cfg(test)]
+mod claims;
 #[cfg(test)]
 mod dropped;
 #[cfg(test)]
@@ -16,6 +18,10 @@ mod refused;
 #[cfg(test)]
 mod replicas;
 #[cfg(test)]
+mod signed;
+#[cfg(test)]
 mod states;
 #[cfg(test)]
 mod transfers;
+#[cfg(test)]
+mod views;

@@ -1,7 +1,7 @@
 //! A request that goes through the three phases.
 
 use crate::frames::Sent;
-use crate::replicas::{Given, Row, config, gives_all, gives_for, gives_in_time, new_replica};
+use crate::replicas::{Given, Row, config, gives_all, new_replica};
 use std::alloc::Global;
 use std::test::Fail;
 
@@ -115,22 +115,5 @@ fn a_request_is_ordered(rt: HostRuntime) -> Result<(), Fail> {
 fn a_waiting_request_comes_again(rt: HostRuntime) -> Result<(), Fail> {
     assert!(rt; orders(rt.alloc(), 0, &AGAIN_AT_PRIMARY)?);
     assert!(rt; orders(rt.alloc(), 1, &AGAIN_AT_BACKUP)?);
-    Ok(())
-}
-
-// In its first view a replica does nothing when time goes by, whether a request waits or not.
-fn takes_time(alloc: Global) -> Result<bool, Fail> {
-    let config = config(alloc)?;
-    let mut replica = new_replica(alloc, &config, 1)?;
-    Ok(
-        gives_in_time(&mut replica, alloc, &[])?
-            && gives_for(&mut replica, alloc, Sent::Request(1), &[])?
-            && gives_in_time(&mut replica, alloc, &[])?,
-    )
-}
-
-#[test]
-fn time_goes_by(rt: HostRuntime) -> Result<(), Fail> {
-    assert!(rt; takes_time(rt.alloc())?);
     Ok(())
 }

@@ -5,9 +5,12 @@ use crate::checkpoints::{BECOMES_STABLE, FREES_NUMBERS};
 use crate::frames::frame_of;
 use crate::phases::{AGAIN_AT_BACKUP, AGAIN_AT_PRIMARY, AT_BACKUP, AT_PRIMARY};
 use crate::replicas::{Row, are_given, config_of_period, new_replica};
+use crate::signed::{change_frame, key_trees};
 use crate::transfers::{INSTALLS, NO_STATE};
+use crate::views::nothing_in;
 use events::{Config, Outputs, Stop};
 use replica::{Event, Replica};
+use signing::KeyTree;
 use std::alloc::{AllocError, Global};
 use std::test::Fail;
 use terms::NoMemory;
@@ -98,5 +101,68 @@ fn refused_memory_at_checkpoints(rt: HostRuntime) -> Result<(), Fail> {
 fn refused_memory_where_states_are_fetched(rt: HostRuntime) -> Result<(), Fail> {
     assert!(rt; orders_or_stops(rt.alloc(), 3, 1, &INSTALLS)?);
     assert!(rt; orders_or_stops(rt.alloc(), 3, 1, &NO_STATE)?);
+    Ok(())
+}
+
+fn trees(alloc: Global) -> Result<Vec<KeyTree>, AllocError> {
+    match key_trees(alloc) {
+        Ok(trees) => Ok(trees),
+        Err(_) => key_trees(alloc),
+    }
+}
+
+// The view change of a replica for view 2.
+fn change_of(alloc: Global, trees: &[KeyTree], replica: u8) -> Result<Vec<u8>, AllocError> {
+    match change_frame(alloc, trees, replica, 0, nothing_in(2)) {
+        Ok(frame) => Ok(frame),
+        Err(_) => change_frame(alloc, trees, replica, 0, nothing_in(2)),
+    }
+}
+
+// Whether the event gives so many outputs, and the replica goes on; none, where it stops in it.
+fn counts_or_stops(
+    replica: &mut Replica,
+    alloc: Global,
+    event: Event<'_>,
+    count: usize,
+) -> Option<bool> {
+    match replica.step(alloc, event) {
+        Ok(outputs) => Some(outputs.len() == count && !replica.is_stopped()),
+        Err(stop) => {
+            if has_stopped(replica, alloc, stop) {
+                None
+            } else {
+                Some(false)
+            }
+        }
+    }
+}
+
+// Replica 2 joins replicas 1 and 3 in view 2, and begins it. It numbers a request there, and moves to view 3 in time.
+fn moves_or_stops(alloc: Global) -> Result<bool, Fail> {
+    let trees = trees(alloc)?;
+    let request = bytes_of(alloc, AT_PRIMARY[0])?;
+    let of_1 = change_of(alloc, &trees, 1)?;
+    let of_3 = change_of(alloc, &trees, 3)?;
+    let config = config_of_period(alloc, 16)?;
+    let mut replica = made(alloc, &config, 2)?;
+    for (event, count) in [
+        (Event::Got(of_1.as_slice()), 0),
+        (Event::Got(of_3.as_slice()), 2),
+        (Event::Got(request.as_slice()), 1),
+        (Event::Timeout, 1),
+    ] {
+        match counts_or_stops(&mut replica, alloc, event, count) {
+            Some(true) => {}
+            Some(false) => return Ok(false),
+            None => return Ok(true),
+        }
+    }
+    Ok(true)
+}
+
+#[test]
+fn refused_memory_where_views_change(rt: HostRuntime) -> Result<(), Fail> {
+    assert!(rt; moves_or_stops(rt.alloc())?);
     Ok(())
 }

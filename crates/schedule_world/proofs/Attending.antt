@@ -1,16 +1,13 @@
 -- An event of one party leaves each party fitting its history.
 use Rattle.std.proofs.Common.{◌≡◌, ◌≢◌, ℕ, suc, ◌+◌, ◌<◌, ◌≤◌, Bool, true, false, not, ◌==◌, List, [], ◌∷◌, length, get_or, set, Option, Some, None, refl, sym, ap, ◌∙◌, subst, arith, eqb-true}
 use Rattle.std.specs.Prelude.{map, is_some}
-use Rattle.std.proofs.lemmas.List.{length-set, get_or-set_same, get_or-set_other}
+use Rattle.std.proofs.lemmas.List.{get_or-set_same, get_or-set_other}
 use Rattle.std.proofs.lemmas.Bool.{and_parts, ltb-true, eq-eqb}
 use Rattle.tuple_codec.specs.Operations.{Operation}
 use Rattle.protocol.specs.System.Configuration.{Configuration, IsConfiguration, replicas, is_replica, is_faulty_replica, is_correct_replica, is_correct_client}
-use Rattle.protocol.specs.System.Trace.{Entry, party_of, is_output, history_of, Unforged}
-use Rattle.protocol.specs.System.Trace.Entry.{Invoke, Got, Tick}
+use Rattle.protocol.specs.System.Trace.{Entry, party_of, is_output, history_of}
+use Rattle.protocol.specs.System.Trace.Entry.{Invoke}
 use Rattle.protocol.specs.Client.RightClient.{last_call, open_call}
-use Rattle.protocol.specs.Replica.Owed.{IsInput}
-use Rattle.protocol.specs.Replica.Certificates.{taken}
-use Rattle.replica_histories.proofs.Parting.{ordering_is_safe}
 use Rattle.replica_histories.specs.Owing.{IsOrderingReplica}
 use Rattle.events.specs.declared.output.Output.{Output}
 use Rattle.events.specs.declared.output.Output.TheVariants as outputs
@@ -27,7 +24,6 @@ use Rattle.schedule_world.specs.declared.stage.Seat.{Seat}
 use Rattle.schedule_world.specs.Stages.{Attend, FitsSeat}
 use Rattle.schedule_world.specs.Moving.{AreOf, Moves, MovesClient, Calls}
 use Rattle.schedule_world.proofs.Projecting.{own_entry, other_entry, own_entries, other_entries}
-use Rattle.schedule_world.proofs.FirstView.{AreQuiet, no_view}
 
 differ : (b : Bool) → b ≡ false → b ≡ true → ⊥
 differ true f t = cc
@@ -41,38 +37,30 @@ apart_from p q e same = differ (q == p) e (eq-eqb q p same)
 pub replica_below : (c : Configuration) (p : ℕ) → is_correct_replica c p ≡ true → p < replicas c
 replica_below c p correct = ltb-true p (replicas c) (and_parts (is_replica c p) (not (is_faulty_replica c p)) correct).0
 
-pub unforged_before : (c : Configuration) (entries trace : List Entry) → Unforged c (behind entries trace) → Unforged c trace
-unforged_before c [] trace h = h
-unforged_before c (e ∷ entries) trace h = (unforged_before c entries (e ∷ trace) h).1
-
 -- an input of a replica
 abbrev pub IsInputAt : ℕ → Entry → Type 0
-IsInputAt p e = (party_of e ≡ p) × (is_output e ≡ false) × IsInput e
+IsInputAt p e = (party_of e ≡ p) × (is_output e ≡ false)
 
 pub replica_input : (p : ℕ) (event : ReplicaEvent) → IsInputAt p (replica_fits.input_of p event)
-replica_input p (replica_events.Got bytes) = (refl, refl, tt)
-replica_input p replica_events.Timeout = (refl, refl, tt)
+replica_input p (replica_events.Got bytes) = (refl, refl)
+replica_input p replica_events.Timeout = (refl, refl)
 
 -- each replica has its number
 abbrev pub AreNumbered : Configuration → List ReplicaData → Type 0
 AreNumbered c rs = (length rs ≡ replicas c) × ((p : ℕ) (d : ReplicaData) → p < length rs → replica_fits.me_of (get_or rs p d) ≡ p)
 
-pub are_ordering : (c : Configuration) (trace : List Entry) (rs : List ReplicaData) (seats : List Seat) (d : ReplicaData) → AreNumbered c rs → Attend c trace rs seats → Unforged c trace
+pub are_ordering : (c : Configuration) (trace : List Entry) (rs : List ReplicaData) (seats : List Seat) (d : ReplicaData) → AreNumbered c rs → Attend c trace rs seats
     → (q : ℕ) → is_correct_replica c q ≡ true → IsOrderingReplica c q (history_of q trace)
-are_ordering c trace rs seats d numbered attend unforged q correct =
+are_ordering c trace rs seats d numbered attend q correct =
     let below = replica_below c q correct in
-    subst (λ n. IsOrderingReplica c n (history_of q trace)) (numbered.1 q d (omega (arith, numbered.0, below))) (attend.replicas unforged q d correct).right
-
-are_quiet : (c : Configuration) (trace : List Entry) (rs : List ReplicaData) (seats : List Seat) (d : ReplicaData) → AreNumbered c rs → Attend c trace rs seats → Unforged c trace → AreQuiet c trace
-are_quiet c trace rs seats d numbered attend unforged q correct =
-    (ordering_is_safe c q (history_of q trace) (are_ordering c trace rs seats d numbered attend unforged q correct), (attend.replicas unforged q d correct).unchanged)
+    subst (λ n. IsOrderingReplica c n (history_of q trace)) (numbered.1 q d (omega (arith, numbered.0, below))) (attend.replicas q d correct).right
 
 pub attend_replica : (c : Configuration) (trace : List Entry) (rs new : List ReplicaData) (seats : List Seat) (p : ℕ) (event : ReplicaEvent) (outs : List Output)
     → IsConfiguration c → AreNumbered c rs → Attend c trace rs seats → is_correct_replica c p ≡ true → Moves rs p event outs new → AreOf p (map (entry_of p) outs)
     → Attend c (behind (map (entry_of p) outs) (replica_fits.input_of p event ∷ trace)) new seats
 attend_replica c trace rs new seats p event outs valid numbered attend correct m of =
     record {
-      replicas = λ unforged q e h. fits unforged q e h (q == p) refl;
+      replicas = λ q e h. fits q e h (q == p) refl;
       clients = λ k d h. subst (FitsSeat c (get_or seats k d)) (sym (others (256 + k) (λ e. omega (arith, e, below, most)))) (attend.clients k d h);
     }
   where
@@ -106,22 +94,19 @@ attend_replica c trace rs new seats p event outs valid numbered attend correct m
     others : (q : ℕ) → p ≢ q → history_of q after ≡ history_of q trace
     others q apart = other_entries p q entries (input ∷ trace) apart of ∙ other_entry q input trace (λ e. apart (sym is.0 ∙ e))
 
-    fits : Unforged c after → (q : ℕ) (e : ReplicaData) → is_correct_replica c q ≡ true → (b : Bool) → (q == p) ≡ b → replica_fits.Fits c (get_or new q e) (history_of q after)
-    fits unforged q e h true same =
-        let begun : Unforged c (input ∷ trace) = unforged_before c entries (input ∷ trace) unforged in
-        let quiet = are_quiet c trace rs seats m.before numbered attend begun.1 in
-        let none : taken c (history_of p trace) input ≡ None = no_view c trace p input valid begun quiet is.0 is.2 correct in
-        let fit : replica_fits.Fits c m.before (history_of p trace) = subst (λ r. replica_fits.Fits c r (history_of p trace)) (m.was m.before) (attend.replicas begun.1 p m.before correct) in
+    fits : (q : ℕ) (e : ReplicaData) → is_correct_replica c q ≡ true → (b : Bool) → (q == p) ≡ b → replica_fits.Fits c (get_or new q e) (history_of q after)
+    fits q e h true same =
+        let fit : replica_fits.Fits c m.before (history_of p trace) = subst (λ r. replica_fits.Fits c r (history_of p trace)) (m.was m.before) (attend.replicas p m.before correct) in
         let leads : replica_fits.Leads m.before input outs m.after = subst (λ n. replica_fits.Leads m.before (replica_fits.input_of n event) outs m.after) number m.leads in
         let led : replica_fits.Fits c m.after (behind entries (input ∷ history_of p trace)) =
-        subst (λ n. replica_fits.Fits c m.after (after_event n input outs (history_of p trace))) number (leads c (history_of p trace) fit none) in
+        subst (λ n. replica_fits.Fits c m.after (after_event n input outs (history_of p trace))) number (leads c (history_of p trace) fit) in
         let got : get_or new p e ≡ m.after = ap (λ xs. get_or xs p e) m.becomes ∙ get_or-set_same rs p m.after e within in
         let there : replica_fits.Fits c (get_or new p e) (history_of p after) = rw (got, mine) led in
         subst (λ n. replica_fits.Fits c (get_or new n e) (history_of n after)) (sym (eqb-true q p same)) there
-    fits unforged q e h false same =
+    fits q e h false same =
         let apart : q ≢ p = apart_from p q same in
         let kept : get_or new q e ≡ get_or rs q e = ap (λ xs. get_or xs q e) m.becomes ∙ get_or-set_other rs p q m.after e apart in
-        rw (kept, others q (λ z. apart (sym z))) (attend.replicas (unforged_before c entries (input ∷ trace) unforged).1 q e h)
+        rw (kept, others q (λ z. apart (sym z))) (attend.replicas q e h)
 
 -- ---- clients
 
@@ -146,10 +131,10 @@ attend_seat : (c : Configuration) (trace : List Entry) (rs : List ReplicaData) (
     → FitsSeat c after (behind entries (input ∷ history_of (256 + k) trace)) → Attend c (behind entries (input ∷ trace)) rs new
 attend_seat c trace rs seats new k input entries after valid attend within becomes at of fit =
     record {
-      replicas = λ unforged q e h.
+      replicas = λ q e h.
           let below = replica_below c q h in
           let most = valid.most in
-          subst (replica_fits.Fits c (get_or rs q e)) (sym (others q (λ z. omega (arith, z, below, most)))) (attend.replicas (unforged_before c entries (input ∷ trace) unforged).1 q e h);
+          subst (replica_fits.Fits c (get_or rs q e)) (sym (others q (λ z. omega (arith, z, below, most)))) (attend.replicas q e h);
       clients = λ j d h. fits j d h (j == k) refl;
     }
   where

@@ -1,11 +1,8 @@
 -- How the world begins.
 use Rattle.std.proofs.Common.{◌≡◌, ℕ, ◌+◌, ◌<◌, Bool, true, false, ◌==◌, List, [], ◌∷◌, ◌++◌, length, get_or, refl, sym, ap, ◌∙◌, subst, arith, eqb-true}
 use Rattle.std.proofs.lemmas.List.{length-append, get_or_push, get_or_append_left}
-use Rattle.std.proofs.lemmas.Bool.{eq-eqb}
 use Rattle.protocol.specs.System.Configuration.{Configuration, IsConfiguration}
 use Rattle.protocol.specs.System.Schedule.{new_world}
-use Rattle.replica.specs.State.{ReplicaData}
-use Rattle.schedule_world.specs.declared.stage.Seat.{Seat}
 use Rattle.schedule_world.specs.declared.stage.Stage.{Stage}
 use Rattle.schedule_world.specs.Opening.{AreNewReplicas, AreNewSeats}
 use Rattle.schedule_world.specs.Stages.{IsSeated, At}
@@ -57,7 +54,7 @@ at_first c s rs seats pool trace accepted = record {
   stands = record {
     shows = record { past = rw trace refl; frames = rw pool (pool_new c); accepted = rw accepted refl };
     attend = record {
-      replicas = λ unforged p d h. let below = replica_below c p h in (rs.each p d (omega (arith, below, rs.count))).fits;
+      replicas = λ p d h. let below = replica_below c p h in (rs.each p d (omega (arith, below, rs.count))).fits;
       clients = λ k d h. let below = client_below c k h in (seats.each k d (omega (arith, below, seats.count))).fits;
     };
     orderly = record { parties = tt; events = tt };

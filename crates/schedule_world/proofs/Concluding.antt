@@ -1,17 +1,14 @@
 -- What stands is a run's trace, and what is reached is fed.
-use Rattle.std.proofs.Common.{◌≡◌, ℕ, ◌+◌, ◌-◌, ◌<◌, ◌≤◌, true, not, List, [], ◌∷◌, ◌++◌, length, get_or, refl, sym, ap, ◌∙◌, subst, arith}
+use Rattle.std.proofs.Common.{◌≡◌, ℕ, ◌+◌, ◌<◌, ◌≤◌, true, List, [], ◌∷◌, ◌++◌, length, sym, ap, ◌∙◌, subst, arith}
 use Rattle.std.specs.Prelude.{map, take, reverse, slice_get, Some}
 use Rattle.std.proofs.lemmas.List.{take_all, take_more, map-append}
 use Rattle.std.proofs.lemmas.Option.{slice_get_within, get_or_from_slice_get}
 use Rattle.protocol.specs.System.Configuration.{Configuration, is_correct_replica, is_correct_client}
-use Rattle.protocol.specs.System.Trace.{Entry, history_of, Unforged}
-use Rattle.protocol.specs.System.Texts.{NoCollision}
-use Rattle.protocol.specs.System.Schedule.{World, Feeds}
+use Rattle.protocol.specs.System.Trace.{history_of}
+use Rattle.protocol.specs.System.Schedule.{World, IsAllowed}
 use Rattle.protocol.specs.Client.RightClient.{IsWeakClient}
-use Rattle.protocol.specs.Laws.Histories.{IsOneSpace}
 use Rattle.protocol.proofs.Words.Reacting.{is_weak_right}
 use Rattle.protocol.proofs.Points.Weakly.{weak_is_one_space}
-use Rattle.protocol.proofs.Evidence.Presuming.{correct_are_both}
 use Rattle.replica_histories.specs.Owing.{IsOrderingReplica}
 use Rattle.replica_histories.proofs.Parting.{ordering_is_safe}
 use Rattle.schedule_text.specs.declared.step.Step.{Step}
@@ -20,7 +17,6 @@ use Rattle.schedule_world.specs.declared.report.Report.{Report}
 use Rattle.schedule_world.specs.declared.stage.Seat.{Seat}
 use Rattle.schedule_world.specs.declared.stage.Stage.{Stage}
 use Rattle.schedule_world.specs.Stages.{IsSeated, Stands, At, acceptance_of}
-use Rattle.schedule_world.specs.Moving.{MayCome}
 use Rattle.schedule_world.specs.Reports.{IsOrderingRun, Tells, StopsHere}
 use Rattle.schedule_world.proofs.Attending.{are_ordering, replica_below}
 use Rattle.schedule_world.proofs.Standing.{client_within, client_of}
@@ -39,11 +35,11 @@ module _ (c : Configuration) (s : Stage) (seated : IsSeated c s) (w : World) (st
       let k = client_of c p h in
       subst (λ q. IsWeakClient c q (history_of q w.past)) (sym k.1) (weak k.0 k.2)
 
-  replicas : Unforged c w.past → (p : ℕ) → is_correct_replica c p ≡ true → IsOrderingReplica c p (history_of p w.past)
-  replicas unforged p h =
+  replicas : (p : ℕ) → is_correct_replica c p ≡ true → IsOrderingReplica c p (history_of p w.past)
+  replicas p h =
       let below = replica_below c p h in
       let d = one_of_them s.replicas.items p (omega (arith, below, seated.replicas)) in
-      are_ordering c w.past s.replicas.items s.seats.items d (seated.replicas, seated.numbers) st.attend unforged p h
+      are_ordering c w.past s.replicas.items s.seats.items d (seated.replicas, seated.numbers) st.attend p h
 
   pub is_ordering_run : IsOrderingRun c w.past
   is_ordering_run = record {
@@ -51,7 +47,7 @@ module _ (c : Configuration) (s : Stage) (seated : IsSeated c s) (w : World) (st
     replicas = replicas;
     orderly = st.orderly;
     one_space = λ unforged apart. weak_is_one_space c seated.valid w.past
-        (λ p h. ordering_is_safe c p (history_of p w.past) (replicas unforged p h)) (λ p h. is_weak_right c p (history_of p w.past) (clients p h)) st.orderly.parties unforged apart;
+        (λ p h. ordering_is_safe c p (history_of p w.past) (replicas p h)) (λ p h. is_weak_right c p (history_of p w.past) (clients p h)) st.orderly.parties unforged apart;
   }
 
 pub tells : (c : Configuration) (steps : List Step) (s : Stage) (report : Report) → IsSeated c s → At c (map step_of steps) [] s → report.trace ≡ s.trace → report.accepted ≡ s.accepted → report.points.items ≡ [] → Tells c steps report
@@ -65,7 +61,7 @@ tells c steps s report seated at trace accepted points =
     }
 
 pub stops_here : (c : Configuration) (steps : List Step) (n : ℕ) (s : Stage) (step : Step) → IsSeated c s → At c (map step_of (take n steps)) [] s → slice_get steps n ≡ Some step
-    → ((w : World) → Stands c w s → MayCome c w (step_of step) → ⊥) → StopsHere c steps n
+    → ((w : World) → Stands c w s → IsAllowed c w (step_of step) → ⊥) → StopsHere c steps n
 stops_here c steps n s step seated at is refused = record {
   trace = at.world.past;
   run = is_ordering_run c s seated at.world at.stands;

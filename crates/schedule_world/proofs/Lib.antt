@@ -4,7 +4,6 @@ pub mod Serving
 pub mod Projecting
 pub mod Reached
 pub mod Moved
-pub mod FirstView
 pub mod Attending
 pub mod Showing
 pub mod Standing

@@ -1,5 +1,5 @@
 -- What a step does to the list of the parties.
-use Rattle.std.proofs.Common.{◌≡◌, ℕ, suc, ◌<◌, false, List, length, get_or, set, refl, sym, ap, ◌∙◌}
+use Rattle.std.proofs.Common.{◌≡◌, ℕ, suc, ◌<◌, false, List, length, get_or, set, sym, ap, ◌∙◌}
 use Rattle.std.specs.Prelude.{is_some}
 use Rattle.std.proofs.lemmas.List.{get_or_default}
 use Rattle.tuple_codec.specs.Operations.{Operation}
@@ -8,7 +8,6 @@ use Rattle.events.specs.declared.output.Output.{Output}
 use Rattle.replica.specs.State.{ReplicaData}
 use Rattle.replica.specs.Fits as replica_fits
 use Rattle.replica.specs.declared.replica.Event.{Event as ReplicaEvent}
-use Rattle.client_cert.specs.State.{ClientState}
 use Rattle.client_cert.specs.Steps as client_steps
 use Rattle.client_cert.specs.declared.client.Event.{Event as ClientEvent}
 use Rattle.schedule_world.specs.declared.stage.Seat.{Seat}

@@ -3,7 +3,6 @@ use Rattle.std.proofs.Common.{◌≡◌, ◌≢◌, ℕ, Bool, true, false, cond
 use Rattle.std.proofs.lemmas.Bool.{eq-eqb, eqb-true, false_from_ne_true}
 use Rattle.protocol.specs.System.Configuration.{Configuration, is_correct}
 use Rattle.protocol.specs.System.Trace.{Entry, party_of, is_output, history_of, Always}
-use Rattle.wire.specs.Lists.{Each}
 use Rattle.protocol.specs.System.Run.{Follows}
 use Rattle.events.specs.Outputs.{behind}
 use Rattle.schedule_world.specs.Moving.{AreOf}

@@ -1,18 +1,15 @@
 -- An event leaves the program's world one of the definition.
-use Rattle.std.proofs.Common.{◌≡◌, ℕ, ◌+◌, ◌<◌, ◌≤◌, ◌-◌, ◌⊎◌, inl, inr, Bool, true, false, not, ◌&&◌, List, [], ◌∷◌, ◌++◌, length, get_or, set, refl, sym, ap, ◌∙◌, subst, arith, eqb-true}
-use Rattle.std.specs.Prelude.{map, filter, reverse, ◌==◌, ◌||◌, nat_le, nat_lt, slice_set}
+use Rattle.std.proofs.Common.{◌≡◌, ℕ, ◌+◌, ◌<◌, ◌≤◌, ◌-◌, ◌⊎◌, inl, inr, Bool, true, false, not, List, [], ◌∷◌, length, get_or, set, refl, sym, ap, ◌∙◌, subst, arith, eqb-true}
+use Rattle.std.specs.Prelude.{map, filter, reverse, ◌==◌, ◌||◌, nat_le, nat_lt}
 use Rattle.std.proofs.lemmas.List.{length-set, get_or-set_same, get_or-set_other}
 use Rattle.std.proofs.lemmas.Bool.{and_parts, ltb-true, leb-true}
-use Rattle.terms.specs.Parties.{party_number}
 use Rattle.tuple_codec.specs.Operations.{Operation}
-use Rattle.authenticator.specs.Membership.{is_client as is_member_client}
 use Rattle.quorum.specs.Quorum.{member}
-use Rattle.protocol.specs.System.Configuration.{Configuration, IsConfiguration, replicas, members, is_client, is_correct_replica, is_correct_client, is_correct}
-use Rattle.protocol.specs.System.Trace.{Entry, party_of, is_output, history_of, Always, AreOutputs}
-use Rattle.protocol.specs.System.Trace.Entry.{Invoke, Got, Tick}
+use Rattle.protocol.specs.System.Configuration.{Configuration, IsConfiguration, is_client, is_correct_replica, is_correct_client, is_correct}
+use Rattle.protocol.specs.System.Trace.{Entry, party_of, is_output, Always, AreOutputs}
+use Rattle.protocol.specs.System.Trace.Entry.{Invoke}
 use Rattle.protocol.specs.System.Run.{Follows}
-use Rattle.protocol.specs.System.Schedule.{World, with_entry, with_frame, IsAllowed}
-use Rattle.protocol.specs.System.Schedule.Step.{calls}
+use Rattle.protocol.specs.System.Schedule.{World, with_entry, with_frame}
 use Rattle.protocol.proofs.Evidence.Presuming.{correct_are_both}
 use Rattle.events.specs.declared.output.Output.{Output}
 use Rattle.events.specs.Outputs.{entry_of, behind}
@@ -23,7 +20,7 @@ use Rattle.client_cert.specs.Steps as client_steps
 use Rattle.client_cert.specs.declared.client.Event.{Event as ClientEvent}
 use Rattle.schedule_world.specs.declared.stage.Seat.{Seat}
 use Rattle.schedule_world.specs.declared.stage.Stage.{Stage}
-use Rattle.schedule_world.specs.Stages.{IsSeated, IsOrderly, Shows, Attend, Stands, with_entries, acceptance_of}
+use Rattle.schedule_world.specs.Stages.{IsSeated, Attend, Stands, with_entries, acceptance_of}
 use Rattle.schedule_world.specs.Pooled.{added}
 use Rattle.schedule_world.specs.Pooling.{IsPool}
 use Rattle.schedule_world.specs.Moving.{Adds, AddsAll, AreOf, KeepsParties, KeepsRecords, Moves, MovesClient, Calls, Behind, Comes, CallComes, Frames}

@@ -1,20 +1,20 @@
 -- Which steps may come, and what each leads to.
-use Rattle.std.proofs.Common.{◌≡◌, ℕ, ◌+◌, ◌<◌, inl, inr, Bool, true, false, List, [], ◌∷◌, ◌++◌, length, get_or, Option, Some, None, refl, sym, ap, ◌∙◌, subst, arith}
+use Rattle.std.proofs.Common.{◌≡◌, ℕ, ◌+◌, ◌<◌, Bool, true, false, List, [], ◌∷◌, ◌++◌, length, get_or, Option, Some, None, refl, sym, ◌∙◌, subst, arith}
 use Rattle.std.specs.Prelude.{is_some}
 use Rattle.std.proofs.lemmas.Option.{slice_get_within}
 use Rattle.tuple_codec.specs.Operations.{Operation, IsOperation}
 use Rattle.protocol.specs.System.Configuration.{Configuration, is_correct, is_correct_client}
-use Rattle.protocol.specs.System.Trace.{Entry, history_of}
+use Rattle.protocol.specs.System.Trace.{history_of}
 use Rattle.protocol.specs.System.Trace.Entry.{Invoke, Got, Tick}
-use Rattle.protocol.specs.System.Schedule.{Step, World, with_entry, with_frame, sealed_bytes, IsAllowed}
-use Rattle.protocol.specs.System.Schedule.Step.{calls, deliver, feed, seal, sign, ticks, flush}
+use Rattle.protocol.specs.System.Schedule.{World, with_entry, with_frame, sealed_bytes, signed_bytes, IsAllowed}
+use Rattle.protocol.specs.System.Schedule.Step.{calls, deliver, feed, seal, sign, ticks}
 use Rattle.protocol.specs.Client.RightClient.{open_call}
 use Rattle.schedule_world.specs.declared.stage.Seat.{Seat}
 use Rattle.schedule_world.specs.declared.stage.Stage.{Stage}
-use Rattle.schedule_world.specs.Stages.{IsSeated, Stands, At, FitsSeat}
-use Rattle.schedule_world.specs.Moving.{Behind, Comes, CallComes, Delivers, Frames, LeadsBy, MayCome}
+use Rattle.schedule_world.specs.Stages.{IsSeated, Stands}
+use Rattle.schedule_world.specs.Moving.{Comes, CallComes, Delivers, Frames, LeadsBy}
 use Rattle.schedule_world.proofs.Pools.{pool_length}
-use Rattle.schedule_world.proofs.Reached.{within_call, within_delivery, within_bytes, within_tick, reaches_sealed}
+use Rattle.schedule_world.proofs.Reached.{within_call, within_delivery, within_bytes, within_tick, reaches_sealed, reaches_signed}
 use Rattle.schedule_world.proofs.Standing.{client_within}
 use Rattle.schedule_world.proofs.Flushed.{at_behind}
 
@@ -38,6 +38,14 @@ leads_seal c old new sender receivers body bytes allowed are frames done at = re
   world = with_frame at.world (sealed_bytes c sender receivers body) receivers;
   stands = subst (λ b. Stands c (with_frame at.world b receivers) new) are (frames at.world at.stands);
   reaches = reaches_sealed c done at.world at.reaches sender receivers body (allowed at.world);
+}
+
+pub leads_sign : (c : Configuration) (old new : Stage) (replica leaf : ℕ) (receivers body bytes : List ℕ) → ((w : World) → IsAllowed c w (sign replica leaf receivers body)) → bytes ≡ signed_bytes c replica leaf body
+    → Frames c bytes receivers old new → LeadsBy c (sign replica leaf receivers body) old new
+leads_sign c old new replica leaf receivers body bytes allowed are frames done at = record {
+  world = with_frame at.world (signed_bytes c replica leaf body) receivers;
+  stands = subst (λ b. Stands c (with_frame at.world b receivers) new) are (frames at.world at.stands);
+  reaches = reaches_signed c done at.world at.reaches replica leaf receivers body (allowed at.world);
 }
 
 -- ---- calls
@@ -65,7 +73,7 @@ pub call_may : (c : Configuration) (s : Stage) (k : ℕ) (op : Operation) → Is
 call_may c s k op seated correct closed right w st = (correct, is_none (open_call (history_of (256 + k) w.past)) (open_is c s w k seated correct false closed st), right)
 
 pub call_may_not : (c : Configuration) (s : Stage) (k : ℕ) (op : Operation) → IsSeated c s → is_correct_client c (256 + k) ≡ true → ((d : Seat) → true ≡ is_some (get_or s.seats.items k d).client.call)
-    → (w : World) → Stands c w s → MayCome c w (calls k op) → ⊥
+    → (w : World) → Stands c w s → IsAllowed c w (calls k op) → ⊥
 call_may_not c s k op seated correct closed w st may = is_open (open_call (history_of (256 + k) w.past)) (open_is c s w k seated correct true closed st) may.1
 
 pub leads_call : (c : Configuration) (old new : Stage) (k : ℕ) (op : Operation) → ((w : World) → Stands c w old → IsAllowed c w (calls k op)) → CallComes c k op old new → LeadsBy c (calls k op) old new
@@ -80,7 +88,7 @@ pub differ : (b : Bool) → b ≡ false → b ≡ true → ⊥
 differ true f t = cc
 differ false f t = cc
 
-pub client_may_not : (c : Configuration) (k : ℕ) (op : Operation) → is_correct_client c (256 + k) ≡ false → (w : World) → MayCome c w (calls k op) → ⊥
+pub client_may_not : (c : Configuration) (k : ℕ) (op : Operation) → is_correct_client c (256 + k) ≡ false → (w : World) → IsAllowed c w (calls k op) → ⊥
 client_may_not c k op wrong w may = differ (is_correct_client c (256 + k)) wrong may.0
 
 pub party_may_not : (c : Configuration) (p : ℕ) → is_correct c p ≡ false → is_correct c p ≡ true → ⊥

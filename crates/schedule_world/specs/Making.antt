@@ -2,12 +2,23 @@
 use Rattle.std.specs.Prelude.{ℕ, List, map, ◌++◌}
 use Rattle.terms.specs.Parties.{party_number}
 use Rattle.terms.specs.declared.parties.Party.{Party}
-use Rattle.wire.specs.Messages.{macs}
+use Rattle.wire.specs.Messages.{macs, signature}
 use Rattle.wire.specs.Spelling.{piece, authenticator_spelling}
+use Rattle.authenticator.specs.Keys.{signing_seed}
 use Rattle.authenticator.specs.Sealing.{entry_for}
+use Rattle.signing.specs.Signatures.{signature_of}
 
 -- the bytes of a frame with MACs under the keys that the sender has of this seed
 abbrev pub sealed_text : List ℕ → Party → List Party → List ℕ → List ℕ
 sealed_text seed sender receivers body =
     piece body
     ++ authenticator_spelling (macs (map (entry_for seed (party_number sender) body) (map party_number receivers)))
+
+-- the seed of the keys by which a replica signs
+abbrev pub seed_of : List ℕ → Party → List ℕ
+seed_of seed signer = signing_seed seed (party_number signer)
+
+-- the bytes of a frame that is signed with a leaf of the keys that the replica has of this seed
+abbrev pub signed_text : List ℕ → Party → ℕ → List ℕ → List ℕ
+signed_text seed signer leaf body =
+    piece body ++ authenticator_spelling (signature (signature_of (seed_of seed signer) leaf body))

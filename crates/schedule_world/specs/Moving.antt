@@ -1,5 +1,5 @@
 -- What functions of the world do to it.
-use Rattle.std.specs.Prelude.{◌≡◌, ℕ, suc, ◌+◌, Bool, true, false, List, [], ◌∷◌, ◌++◌, map, is_some, slice_index_or, slice_set, slice_get, Some, ⊤, Vec}
+use Rattle.std.specs.Prelude.{◌≡◌, ℕ, suc, Bool, true, false, List, [], ◌∷◌, ◌++◌, map, is_some, slice_index_or, slice_set, slice_get, Some, ⊤, Vec}
 use Rattle.std.specs.declared.alloc.Global.{Global}
 use Rattle.terms.specs.Parties.{party_number}
 use Rattle.terms.specs.declared.order.Timestamp.{Timestamp}
@@ -10,9 +10,9 @@ use Rattle.tuple_codec.specs.OperationView.{outcome_of}
 use Rattle.tuple_codec.specs.Operations.{Operation}
 use Rattle.protocol.specs.System.Configuration.{Configuration}
 use Rattle.protocol.specs.System.Trace.{Entry, party_of, is_output, AreOutputs}
-use Rattle.protocol.specs.System.Trace.Entry.{Invoke, Got, Tick, Executed, Installed, Sent, Accepted}
+use Rattle.protocol.specs.System.Trace.Entry.{Invoke, Got, Sent, Accepted}
 use Rattle.protocol.specs.System.Schedule.{Step, Made, World, with_entry, with_frame, IsAllowed}
-use Rattle.protocol.specs.System.Schedule.Step.{calls, deliver, feed, seal, sign, ticks, flush}
+use Rattle.protocol.specs.System.Schedule.Step.{calls, seal, sign}
 use Rattle.events.specs.declared.output.Output.{Output}
 use Rattle.events.specs.Outputs.{entry_of}
 use Rattle.replica.specs.State.{ReplicaData}
@@ -159,14 +159,12 @@ FramesFor c bytes receivers old new = Frames c bytes (map party_number receivers
 
 -- ---- steps
 
--- The step may come. Frames that faulty replicas sign aren't made yet.
-abbrev pub MayCome : Configuration → World → Step → Type 0
-MayCome c w (sign replica leaf receivers body) = ⊥
-MayCome c w step = IsAllowed c w step
-
--- the step in which a frame of a faulty party is made
+-- the steps in which a frame of a faulty party is made, with MACs, or signed
 abbrev pub seal_of : Party → List Party → List ℕ → Step
 seal_of sender receivers body = seal (party_number sender) (map party_number receivers) body
+
+abbrev pub sign_of : Party → ℕ → List Party → List ℕ → Step
+sign_of signer leaf receivers body = sign (party_number signer) leaf (map party_number receivers) body
 
 -- the step leads from the one to the other
 abbrev pub LeadsBy : Configuration → Step → Stage → Stage → Type 0
@@ -175,4 +173,4 @@ LeadsBy c step old new = (done : List Step) → At c done [] old → At c (done 
 -- the step was taken, or it may not come and nothing happened
 abbrev pub Takes : Configuration → Step → Stage → Stage → Bool → Type 0
 Takes c step old new true = LeadsBy c step old new
-Takes c step old new false = (new ≡ old) × ((w : World) → Stands c w old → MayCome c w step → ⊥)
+Takes c step old new false = (new ≡ old) × ((w : World) → Stands c w old → IsAllowed c w step → ⊥)

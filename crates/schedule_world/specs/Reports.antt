@@ -3,7 +3,7 @@ use Rattle.std.specs.Prelude.{◌≡◌, ℕ, true, List, [], map, take, reverse
 use Rattle.protocol.specs.System.Configuration.{Configuration, is_correct_replica, is_correct_client}
 use Rattle.protocol.specs.System.Trace.{Entry, history_of, Unforged}
 use Rattle.protocol.specs.System.Texts.{NoCollision}
-use Rattle.protocol.specs.System.Schedule.{World, Goes, Feeds, new_world, acceptances}
+use Rattle.protocol.specs.System.Schedule.{World, Goes, Feeds, IsAllowed, new_world, acceptances}
 use Rattle.protocol.specs.Client.RightClient.{IsWeakClient}
 use Rattle.protocol.specs.Laws.Histories.{IsOneSpace}
 use Rattle.replica_histories.specs.Owing.{IsOrderingReplica}
@@ -13,14 +13,12 @@ use Rattle.schedule_world.specs.declared.report.Report.{Report}
 use Rattle.schedule_world.specs.declared.running.RunFault.{RunFault}
 use Rattle.schedule_world.specs.declared.running.RunFault.TheVariants as faults
 use Rattle.schedule_world.specs.Stages.{IsOrderly, acceptance_of}
-use Rattle.schedule_world.specs.Moving.{MayCome}
 
--- A trace of correct clients and of replicas that order requests and transfer states. Those stay in the first view
--- where the trace is unforged, and the trace is then that of one space.
+-- A trace of correct clients and of replicas that order requests, transfer states and change views. Where it is
+-- unforged, and its texts do not collide, it is that of one space.
 pub record IsOrderingRun (c : Configuration) (trace : List Entry) : Type 0 where
   pub clients : (p : ℕ) → is_correct_client c p ≡ true → IsWeakClient c p (history_of p trace)
-  pub replicas : Unforged c trace → (p : ℕ) → is_correct_replica c p ≡ true
-      → IsOrderingReplica c p (history_of p trace)
+  pub replicas : (p : ℕ) → is_correct_replica c p ≡ true → IsOrderingReplica c p (history_of p trace)
   pub orderly : IsOrderly c trace
   pub one_space : Unforged c trace → NoCollision c trace → IsOneSpace c trace
 
@@ -44,7 +42,7 @@ pub record StopsHere (c : Configuration) (steps : List Step) (n : ℕ) : Type 0 
   pub goes : Goes c new_world (map step_of (take n steps)) (reverse trace) world
   pub step : Step
   pub is_step : slice_get steps n ≡ Some step
-  pub refused : MayCome c world (step_of step) → ⊥
+  pub refused : IsAllowed c world (step_of step) → ⊥
 
 abbrev pub TellsFault : Configuration → List Step → RunFault → Type 0
 TellsFault c steps (faults.BadSchedule n) = StopsHere c steps n

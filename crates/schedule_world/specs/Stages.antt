@@ -1,10 +1,8 @@
 -- The world of the program beside that of the definition, and what holds of both between events.
-use Rattle.std.specs.Prelude.{◌≡◌, ℕ, ◌+◌, ◌<◌, true, List, [], ◌∷◌, ◌++◌, map, length, reverse, is_some, slice_index_or, Bool}
-use Rattle.std.specs.Option.{option_map_or}
+use Rattle.std.specs.Prelude.{◌≡◌, ℕ, ◌+◌, ◌<◌, true, List, [], ◌∷◌, map, length, reverse, is_some, slice_index_or, Bool}
 use Rattle.tuple_codec.specs.OperationView.{outcome_of}
-use Rattle.wire.specs.Words.{frame_of}
 use Rattle.protocol.specs.System.Configuration.{Configuration, IsConfiguration, replicas, is_correct, is_correct_replica, is_correct_client}
-use Rattle.protocol.specs.System.Trace.{Entry, party_of, history_of, Always, AreOutputs, Unforged}
+use Rattle.protocol.specs.System.Trace.{Entry, party_of, history_of, Always}
 use Rattle.protocol.specs.System.Run.{Follows}
 use Rattle.protocol.specs.System.Schedule as schedules
 use Rattle.protocol.specs.System.Schedule.{Step, World, with_entry, acceptances, meant_for}
@@ -60,10 +58,10 @@ with_entries c w (e ∷ entries) = with_entries c (with_entry c w e) entries
 abbrev pub FitsSeat : Configuration → Seat → List Entry → Type 0
 FitsSeat c seat history = client_fits.Fits c seat.client history × (last_call history ≡ seat.calls)
 
--- Each correct client fits its history of the trace, and where the trace is unforged, so does each correct replica.
+-- Each correct replica and each correct client fits its history of the trace.
 pub record Attend (c : Configuration) (trace : List Entry) (rs : List ReplicaData)
     (seats : List Seat) : Type 0 where
-  pub replicas : Unforged c trace → (p : ℕ) (d : ReplicaData) → is_correct_replica c p ≡ true
+  pub replicas : (p : ℕ) (d : ReplicaData) → is_correct_replica c p ≡ true
       → replica_fits.Fits c (slice_index_or rs p d) (history_of p trace)
   pub clients : (k : ℕ) (d : Seat) → is_correct_client c (256 + k) ≡ true
       → FitsSeat c (slice_index_or seats k d) (history_of (256 + k) trace)

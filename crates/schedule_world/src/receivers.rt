@@ -8,7 +8,7 @@ ghost use Rattle.wire.specs.Lists.{ascends};
 ghost use Rattle.wire.specs.Messages.{signature};
 ghost use Rattle.wire.specs.Views.{macs_of};
 ghost use Rattle.wire.specs.Words.{receivers_of};
-ghost use Rattle.protocol.specs.System.Configuration.{is_correct};
+ghost use Rattle.protocol.specs.System.Configuration.{is_correct, is_replica};
 ghost use Rattle.protocol.specs.System.Schedule.{is_party, AreReceivers, meant_for};
 ghost use Rattle.schedule_world.specs.Receiving.{receivers_in, AreCorrectOf, AddsCorrect};
 
@@ -24,6 +24,13 @@ pub(crate) fn is_party(config: &Config, party: Party) -> bool
     let number = party.number();
     number < u16::from(config.replicas())
         || number >= FIRST_CLIENT && number < FIRST_CLIENT + config.clients()
+}
+
+/// Whether the party is a replica of the configuration.
+pub(crate) fn is_replica(config: &Config, party: Party) -> bool
+    ensures { result ≡ is_replica config.now (party_number party) }
+{
+    party.number() < u16::from(config.replicas())
 }
 
 /// Whether the configuration has the party and doesn't name it as faulty.

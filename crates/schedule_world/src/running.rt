@@ -8,16 +8,17 @@ ghost use Rattle.tuple_tree.specs.Values.{IsTuple, IsTemplate};
 ghost use Rattle.protocol.specs.System.Schedule.Step.{calls, ticks};
 ghost use Rattle.protocol.specs.System.Schedule.Step.{deliver as deliver_step, feed as feed_step};
 ghost use Rattle.schedule_text.specs.StepView.{step_of};
-ghost use Rattle.schedule_world.specs.Moving.{Takes, seal_of};
+ghost use Rattle.schedule_world.specs.Moving.{Takes, seal_of, sign_of};
 ghost use Rattle.schedule_world.specs.Reports.{Tells, TellsFault};
 ghost use Rattle.schedule_world.specs.Stages.{IsSeated, IsStanding};
 
-use crate::making::seal_bytes;
-use crate::receivers::{is_correct, is_party, may_receive};
+use crate::making::{ReplicaKeys, seal_bytes, sign_bytes};
+use crate::receivers::{is_correct, is_party, is_replica, may_receive};
 use crate::report::Report;
 use crate::stage::Stage;
 use events::Config;
 use schedule_text::Step;
+use signing::LEAVES;
 use std::alloc::Global;
 use terms::{ClientId, NoMemory, Party};
 use thiserror::Error;
@@ -55,8 +56,9 @@ pub fn run(alloc: Global, config: &Config, steps: &[Step]) -> Result<Report, Run
     ensures stops { IfErr result (TellsFault config.now steps.now) }
 {
     let mut stage = Stage::new(alloc, config)?;
+    let mut keys = Vec::new(alloc);
     for (i, step) in steps.iter().enumerate() {
-        if !take_step(&mut stage, alloc, config, step)? {
+        if !take_step(&mut stage, alloc, config, &mut keys, step)? {
             return Err(RunFault::BadSchedule(i));
         }
     }
@@ -72,11 +74,12 @@ pub fn run(alloc: Global, config: &Config, steps: &[Step]) -> Result<Report, Run
     })
 }
 
-// Plays a step, and answers whether it may come; one that may not changes nothing.
+// Plays a step, and answers whether it may come; one that may not changes nothing. By the keys faulty replicas sign.
 fn take_step(
     stage: &mut Stage,
     alloc: Global,
     config: &Config,
+    keys: &mut Vec<ReplicaKeys>,
     step: &Step,
 ) -> Result<bool, NoMemory>
     requires seated { IsSeated config.now stage.old }
@@ -100,8 +103,21 @@ fn take_step(
             receivers.as_slice(),
             body.as_slice(),
         ),
-        // Replicas take no signed frames yet.
-        Step::Sign { .. } => Ok(false),
+        Step::Sign {
+            signer,
+            leaf,
+            receivers,
+            body,
+        } => sign(
+            stage,
+            alloc,
+            config,
+            keys,
+            *signer,
+            *leaf,
+            receivers.as_slice(),
+            body.as_slice(),
+        ),
         Step::Tick { party } => tick(stage, alloc, config, *party),
         Step::Flush => {
             stage.flush(alloc, config)?;
@@ -184,6 +200,31 @@ fn seal(
         return Ok(false);
     }
     let bytes = seal_bytes(alloc, config.seed(), sender, receivers, body)?;
+    stage.add_made(alloc, config, bytes, receivers)?;
+    Ok(true)
+}
+
+fn sign(
+    stage: &mut Stage,
+    alloc: Global,
+    config: &Config,
+    keys: &mut Vec<ReplicaKeys>,
+    signer: Party,
+    leaf: u64,
+    receivers: &[Party],
+    body: &[u8],
+) -> Result<bool, NoMemory>
+    requires seated { IsSeated config.now stage.old }
+    ensures seated { OnOk result (IsSeated config.now stage.new) }
+    ensures takes { IfOk result (Takes config.now (sign_of signer leaf receivers.now body.now) stage.old stage.new) }
+{
+    if !is_replica(config, signer) || is_correct(config, signer) {
+        return Ok(false);
+    }
+    if leaf >= u64::from(LEAVES) || !may_receive(config, receivers) {
+        return Ok(false);
+    }
+    let bytes = sign_bytes(alloc, keys, config.seed(), signer, leaf as u8, body)?;
     stage.add_made(alloc, config, bytes, receivers)?;
     Ok(true)
 }

@@ -1,7 +1,7 @@
 //! Checkpoints, marks that move, and a replica that fetches the state of the others.
 
 use crate::frames::{out_op, sealed_request};
-use crate::reports::{Row, accepts, execute, kind_of, sent};
+use crate::reports::{Row, accepts, count_of, execute, kind_of, sent};
 use crate::worlds::{put_steps, report_of, world_of_period};
 use events::EntryKind;
 use schedule_text::Step;
@@ -15,17 +15,6 @@ const REPLICAS: [u8; 4] = [0, 1, 2, 3];
 const PRE_PREPARE: u8 = 0x42;
 
 const FETCH: u8 = 0x49;
-
-// How many frames of this type are sent.
-fn count_of(report: &Report, kind: u8) -> usize {
-    report
-        .trace
-        .as_slice()
-        .iter()
-        .filter_map(sent)
-        .filter(|(_, frame)| kind_of(frame) == Some(kind))
-        .count()
-}
 
 fn report_of_period(alloc: Global, clients: u16, period: u8, lines: &[&str]) -> Option<Report> {
     let config = world_of_period(alloc, clients, period, &[], &[])?;

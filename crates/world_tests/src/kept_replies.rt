@@ -22,8 +22,7 @@ fn put_to_replicas(frames: Range<u64>, steps: &mut Vec<Step>) -> Result<(), NoMe
     Ok(())
 }
 
-fn put_to_client(frames: &[u64], client: u8, steps: &mut Vec<Step>) -> Result<(), NoMemory> {
-    let number = u16::from(client);
+fn put_to_client(frames: &[u64], number: u16, steps: &mut Vec<Step>) -> Result<(), NoMemory> {
     for frame in frames {
         let party = Party::Client(ClientId { number });
         steps.push(Step::Deliver {

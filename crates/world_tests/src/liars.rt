@@ -2,27 +2,13 @@
 
 use crate::frames::{READ_ALL, out_op, request_frame, sealed_batch, sealed_request};
 use crate::reports::{Row, accepts, execute, replies_to, sent};
-use crate::worlds::{put_steps, report_of, world};
-use events::Config;
+use crate::worlds::{put_steps, report_of_put, world};
 use schedule_text::Step;
 use schedule_world::Report;
 use std::alloc::Global;
 use terms::NoMemory;
 
 const OTHERS: [u8; 3] = [1, 2, 3];
-
-// What comes of steps that were put together, if they were.
-fn report_of_put(
-    alloc: Global,
-    config: &Config,
-    put: Result<bool, NoMemory>,
-    steps: &[Step],
-) -> Option<Report> {
-    match put {
-        Ok(true) => report_of(alloc, config, steps),
-        _ => None,
-    }
-}
 
 // Client 1 makes two requests of timestamp 5 for these replicas.
 fn put_two_of_five(

@@ -1,5 +1,6 @@
 //! Tests of the world of schedules (`schedule_world`): worked runs of correct parties and of faulty ones, replies
-//! that are kept, checkpoints, states that are fetched, and steps that may not come.
+//! that are kept, checkpoints, states that are fetched, frames that faulty replicas sign, views that change, and steps
+//! that may not come.
 #![tactic(auto)]
 
 #[cfg(test)]
@@ -18,5 +19,9 @@ mod liars;
 mod refusals;
 #[cfg(test)]
 mod reports;
+#[cfg(test)]
+mod signatures;
+#[cfg(test)]
+mod views;
 #[cfg(test)]
 mod worlds;

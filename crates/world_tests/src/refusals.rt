@@ -13,7 +13,7 @@ fn config(alloc: Global) -> Option<Config> {
 }
 
 // Schedules whose last step is the first that may not come.
-const REFUSED: [&[&str]; 29] = [
+const REFUSED: [&[&str]; 39] = [
     &["invoke 1 out (1)"],
     &["invoke 2 out (1)"],
     &["invoke 65279 out (1)"],
@@ -38,7 +38,17 @@ const REFUSED: [&[&str]; 29] = [
     &["seal c1 c0,r0 00"],
     &["seal c1 c2 00"],
     &["seal r3 r0,c0,c2 00"],
-    &["sign r3 0 r1 00"],
+    &["sign r0 0 r1 00"],
+    &["sign r4 0 r1 00"],
+    &["sign c1 0 r1 00"],
+    &["sign r3 64 r1 00"],
+    &["sign r3 0 r4 00"],
+    &["sign r3 0 r2,r1 00"],
+    &["sign r3 18446744073709551615 r1 00"],
+    &["sign c0 0 r1 00"],
+    &["sign r3 256 r1 00"],
+    &["sign r3 0 r1,r1 00"],
+    &["sign r3 0 r1 00", "deliver 1 r1"],
     &["tick r3"],
     &["tick r4"],
     &["tick c1"],
@@ -46,7 +56,7 @@ const REFUSED: [&[&str]; 29] = [
 ];
 
 // Schedules of steps that may come.
-const TAKEN: [&[&str]; 6] = [
+const TAKEN: [&[&str]; 7] = [
     &[],
     &["flush"],
     &[
@@ -58,6 +68,13 @@ const TAKEN: [&[&str]; 6] = [
     &[
         "seal r3 r3 00",
         "seal c1 c0,c1 ffff",
+        "deliver 1 c0",
+        "deliver 0 r0",
+        "flush",
+    ],
+    &[
+        "sign r3 63 r0,r3,c0 00",
+        "sign r3 63 r0 ffff",
         "deliver 1 c0",
         "deliver 0 r0",
         "flush",

@@ -95,6 +95,28 @@ pub fn kind_of(frame: &[u8]) -> Option<u8> {
     frame.get(4).copied()
 }
 
+/// How many frames of this type are sent.
+pub fn count_of(report: &Report, kind: u8) -> usize {
+    report
+        .trace
+        .as_slice()
+        .iter()
+        .filter_map(sent)
+        .filter(|(_, frame)| kind_of(frame) == Some(kind))
+        .count()
+}
+
+/// How many of them this replica sends.
+pub fn count_from(report: &Report, replica: u16, kind: u8) -> usize {
+    report
+        .trace
+        .as_slice()
+        .iter()
+        .filter_map(sent)
+        .filter(|(party, frame)| party.number() == replica && kind_of(frame) == Some(kind))
+        .count()
+}
+
 // The lowest byte of the timestamp of a reply, whose body has in front of it its type, its sender and its client.
 fn timestamp_of(frame: &[u8]) -> Option<u8> {
     frame.get(16).copied()

@@ -4,7 +4,8 @@ use events::Config;
 use schedule_text::{Step, read_step};
 use schedule_world::{Report, run};
 use std::alloc::Global;
-use terms::NoMemory;
+use std::ops::Range;
+use terms::{NoMemory, Party, ReplicaId};
 
 pub const SEED: [u8; 32] = [7; 32];
 
@@ -51,9 +52,46 @@ pub fn put_steps(alloc: Global, lines: &[&str], steps: &mut Vec<Step>) -> Result
     Ok(true)
 }
 
+/// Each of these replicas gets each of these frames.
+pub fn put_deliveries(
+    frames: Range<u64>,
+    replicas: &[u8],
+    steps: &mut Vec<Step>,
+) -> Result<(), NoMemory> {
+    for frame in frames {
+        for replica in replicas {
+            let party = Party::Replica(ReplicaId(*replica));
+            steps.push(Step::Deliver { frame, party })?;
+        }
+    }
+    Ok(())
+}
+
+/// Time goes by at each of these replicas.
+pub fn put_ticks(replicas: &[u8], steps: &mut Vec<Step>) -> Result<(), NoMemory> {
+    for replica in replicas {
+        let party = Party::Replica(ReplicaId(*replica));
+        steps.push(Step::Tick { party })?;
+    }
+    Ok(())
+}
+
 /// What the steps come to.
 pub fn report_of(alloc: Global, config: &Config, steps: &[Step]) -> Option<Report> {
     run(alloc, config, steps).ok()
+}
+
+/// What comes of steps that were put together, if they were.
+pub fn report_of_put(
+    alloc: Global,
+    config: &Config,
+    put: Result<bool, NoMemory>,
+    steps: &[Step],
+) -> Option<Report> {
+    match put {
+        Ok(true) => report_of(alloc, config, steps),
+        _ => None,
+    }
 }
 
 /// What the lines come to where so many clients and all others are correct.

@@ -2,7 +2,8 @@ use Rattle.std.proofs.Common.{List, map, refl, subst}
 use Rattle.terms.specs.declared.parties.Party.{Party}
 use Rattle.terms.specs.Parties.{party_number}
 use Rattle.wire.specs.Views.{message_data}
-use Rattle.posting.specs.Frames.{SpellsSealed, says}
+use Rattle.posting.specs.Endpoint.{says}
+use Rattle.posting.specs.Frames.{SpellsSealed}
 use Rattle.posting.proofs.Posting.{sealed_posts}
 use Rattle.posting.proofs.sealing.seal_for.Goals as goal
 

@@ -20,4 +20,5 @@ returns c =
       );
       me = ap (λ (d : DeskData). d.me) c.self.view_is;
       membership = ap (λ (d : DeskData). d.membership) c.self.view_is;
+      period = ap (λ (d : DeskData). d.period) c.self.view_is;
     }

@@ -1,4 +1,4 @@
-use Rattle.std.proofs.Common.{rules, ◌≡◌, true, Some, sym, ◌∙◌, ap, eqb-true}
+use Rattle.std.proofs.Common.{rules, ◌≡◌, ◌<◌, true, Some, sym, ◌∙◌, ap, eqb-true}
 use Rattle.ordering.specs.Log as logs
 use Rattle.ordering.specs.RowView.{batch_lent}
 use Rattle.replica.specs.State.{OrdererData}
@@ -9,9 +9,11 @@ use Rattle.replica.proofs.orderer.Orderer.say_batch_again.Goals as goal
 pub returns-clause-ok : goal.returns-clause-ok
 returns-clause-ok c =
     let primary : c.is_primary.result ≡ true = search rules in
+    let above : c.args.self.now.begun < c.args.number.0 = search rules in
     on_ok c.say_pre_prepare.result
     (λ k. batch_again c.args.number.0 c.text-2.result.now c.args.self.now c.say_pre_prepare.new.self c.args.outputs.now.items c.say_pre_prepare.new.outputs.items c.keeps.ensures.own
     (eqb-true c.args.self.now.log.me (logs.primary c.args.self.now.log c.args.self.now.log.view) (sym c.is_primary.ensures ∙ primary))
+    above
     (ap (λ (o : OrdererData). logs.logged_batch o.log c.args.number.0) (sym c.self.view_is) ∙ sym c.logged_batch.ensures ∙ ap batch_lent c.in-Some.is
     ∙ ap Some (sym (c.text-2.ensures ∙ c.deref-2.ensures ∙ c.in_ok-batch.ensures)))
     k c.say_pre_prepare.ensures.same)

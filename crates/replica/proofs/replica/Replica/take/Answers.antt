@@ -1,8 +1,11 @@
-use Rattle.std.proofs.Common.{rules, ℕ, ap, ◌∙◌, option_map}
+use Rattle.std.proofs.Common.{rules, ℕ, ap, ◌∙◌, option_map, subst}
 use Rattle.wire.specs.Views.{body_data}
 use Rattle.signing.specs.Heard.{heard}
+use Rattle.view_change.specs.ReceivedView.{IsHeldIn}
+use Rattle.replica.specs.declared.replica.Replica.TheInside.{Inside}
 use Rattle.replica.specs.ReplicaView.{replica_data}
 use Rattle.replica.proofs.Beginning.{silence_dropped}
+use Rattle.replica.proofs.ChangesCome.{change_held}
 use Rattle.replica.proofs.replica.Replica.take.Goals as goal
 
 pub returns-in_default : goal.returns-in_default
@@ -14,3 +17,10 @@ returns-in_default c = record {
       ∙ c.in_ok-sender.ensures.heard ∙ ap (option_map body_data) c.in_default.is));
   endpoint = search rules;
 }
+
+pub returns-then-has_frame-clause-ok : goal.returns-then-has_frame-clause-ok
+returns-then-has_frame-clause-ok c =
+    let h = c.has_frame.ensures.held c.if-has_frame.true in
+    rw (c.requires.first, ← c.self.view_is)
+    (change_held (replica_data c.self.inside) c.args.bytes.now h.0 c.self.invariant c.judges.ensures.alike c.judges.ensures.changes
+    (subst (λ (x : Inside). IsHeldIn x.orderer.received c.args.bytes.now h.0) c.self-inside.view_is h.1))

@@ -5,5 +5,4 @@ use Rattle.replica.proofs.waiting.Waiting.remove.Goals as goal
 
 pub invariant_of-self : goal.invariant_of-self
 invariant_of-self c =
-    rw (c.keep_others.ensures, c.count_others-self-inside.ensures, c.deref.ensures.value)
-    (kept_waits (λ r. not (is_of c.args.client.number r)) (record { requests = c.self.inside.requests.items; numbered = c.self.inside.numbered }) c.self.invariant)
+    rw (c.keep_others.ensures) (kept_waits (λ r. not (is_of c.args.client.number r)) (record { requests = c.self.inside.requests.items; begun = c.self.inside.begun.items }) c.self.invariant)

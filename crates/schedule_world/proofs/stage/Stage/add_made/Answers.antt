@@ -1,4 +1,4 @@
-use Rattle.std.proofs.Common.{map, refl, sym, ap, ◌∙◌}
+use Rattle.std.proofs.Common.{map, refl}
 use Rattle.terms.specs.Parties.{party_number}
 use Rattle.schedule_world.proofs.Standing.{stands_frame}
 use Rattle.schedule_world.proofs.stage.Stage.add_made.Goals as goal

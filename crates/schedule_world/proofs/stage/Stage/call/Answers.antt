@@ -1,4 +1,4 @@
-use Rattle.std.proofs.Common.{map, sym, ap, ◌∙◌, subst}
+use Rattle.std.proofs.Common.{subst}
 use Rattle.tuple_codec.specs.OperationView.{operation_of}
 use Rattle.protocol.specs.System.Trace.Entry.{Invoke}
 use Rattle.schedule_world.specs.Moving.{Adds}

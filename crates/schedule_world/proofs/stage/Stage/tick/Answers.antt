@@ -1,4 +1,4 @@
-use Rattle.std.proofs.Common.{◌≡◌, ◌<◌, ◌+◌, true, sym, ap, ◌∙◌, subst, arith}
+use Rattle.std.proofs.Common.{◌≡◌, ◌<◌, true, sym, ap, ◌∙◌, subst, arith}
 use Rattle.terms.specs.Parties.{party_number}
 use Rattle.protocol.specs.System.Configuration.{is_correct}
 use Rattle.protocol.specs.System.Trace.Entry.{Tick}

@@ -1,0 +1,14 @@
+use Rattle.std.proofs.Common.{◌+◌, ◌*◌, ℕ, List, ap, ◌∙◌}
+use Rattle.protocol.specs.System.Trace.Entry.{Sent}
+use Rattle.posting.specs.Endpoint.{others_below}
+use Rattle.posting.proofs.endpoint.Endpoint.post_frame.Goals as goal
+
+pub returns-clause-posts : goal.returns-clause-posts
+returns-clause-posts c =
+    rw (← c.self.view_is)
+    (λ message own. record {
+      bytes = c.args.frame.now;
+      sends = ap (λ (bytes : List ℕ). Sent c.self.inside.me.0 bytes) c.in_ok-frame.ensures.items;
+      goes = c.in_ok-receivers.ensures ∙ ap (λ (f : ℕ). others_below (3 * f + 1) c.self.inside.me.0) c.self.invariant.0;
+      posted = own;
+    })

@@ -1,0 +1,13 @@
+use Rattle.wire.specs.Views.{message_data}
+use Rattle.posting.proofs.Posting.{may_say, signs_own}
+use Rattle.posting.proofs.endpoint.Endpoint.sign.Goals as goal
+
+pub sign_message-requires-clause-said : goal.sign_message-requires-clause-said
+sign_message-requires-clause-said c =
+    may_say c.self.inside.me.0 c.self.inside.faults (message_data c.args.message) c.self.invariant.3 c.self.invariant.2 c.requires.said
+
+pub returns-clause-frame : goal.returns-clause-frame
+returns-clause-frame c =
+    rw (← c.self.view_is)
+    (signs_own c.sign_message.result c.self.inside.ring c.self.inside.signer.seed c.self.inside.me.0 (message_data c.args.message)
+    c.sign_message.ensures.spells c.self.invariant.5)

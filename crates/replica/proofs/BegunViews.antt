@@ -1,0 +1,312 @@
+-- A view begins by a new view that is taken or sent: what stood stands, with its batches.
+use Rattle.std.proofs.Common.{◌≡◌, ◌≢◌, ℕ, zero, suc, ◌+◌, ◌-◌, ◌^◌, ◌<◌, ◌≤◌, ◌⊎◌, inl, inr, Bool, true, false, cond, ◌&&◌, not, ◌==◌, is_none, nat_lt, nat_le, List, [], ◌∷◌, length, Option, Some, None, slice_get, option_map, refl, sym, ap, ◌∙◌, subst, arith}
+use Rattle.std.specs.Prelude.{AllPairs}
+use Rattle.std.proofs.lemmas.Bool.{le-ltb, lt-ltb, leb-true, leb-false}
+use Rattle.sha2.specs.Sha256.{sha256}
+use Rattle.terms.specs.declared.state.Level.TheVariants as levels
+use Rattle.wire.specs.Lists.{Each}
+use Rattle.wire.specs.Messages.{MessageData as Message, NewViewData, CheckpointEntryData as CheckpointEntry, fetch as Fetch}
+use Rattle.ordering.specs.Log as logs
+use Rattle.ordering.specs.Log.{LogData}
+use Rattle.ordering.specs.Keeping.{IsLog}
+use Rattle.ordering.proofs.Reading.{above_low}
+use Rattle.events.specs.declared.output.Output.{Output}
+use Rattle.protocol.specs.System.Configuration.{Configuration, members}
+use Rattle.protocol.specs.System.Trace.{Once}
+use Rattle.protocol.specs.Replica.Certificates.{taken}
+use Rattle.protocol.specs.Replica.State.{Call}
+use Rattle.protocol.proofs.Words.Options.{some_injective}
+use Rattle.view_change.specs.ClaimsView.{ClaimsData}
+use Rattle.replica_histories.specs.Changes.{AddsBatches, BeginsClaims}
+use Rattle.replica_histories.specs.Desk.{Desk, desk_from}
+use Rattle.replica_histories.specs.Events.{Start, behind}
+use Rattle.replica_histories.specs.Transfers.{open_number}
+use Rattle.replica_histories.specs.Views.{begun_log, start_due, with_batches}
+use Rattle.replica_histories.proofs.Batches.{stays, begun_batch, begun_low}
+use Rattle.replica_histories.proofs.Cutting.{cut_same}
+use Rattle.replica.specs.declared.waiting.BegunCall.{BegunCall}
+use Rattle.replica.specs.declared.waiting.WaitingRequest.{WaitingRequest}
+use Rattle.replica.specs.State.{OrdererData, DeskData, OpenData, ReplicaData}
+use Rattle.replica.specs.Waiting.{with_view}
+use Rattle.replica.specs.Desking.{desk_above}
+use Rattle.replica.specs.Desks.{given, IsCallOf, AreCallsOf, AreOfDifferentClients, IsDeskOf, FitsEvent, Stands}
+use Rattle.replica.specs.EnteringViews.{AreBegun, Enters, FetchesStart, SaysVotesOf, entering}
+use Rattle.replica.specs.Fetching.{SaysFetch, aimed_at, aiming, fetch_of}
+use Rattle.replica.specs.Going.{GoesOn, IsOneParty, IsVoted, IsVotedAll}
+use Rattle.replica.specs.Saying.{Says}
+use Rattle.replica.proofs.EnteringViews.{begun_desk}
+use Rattle.replica.proofs.Following.{aim_of, aimed_is, aims_desk}
+use Rattle.replica.proofs.Lists.{Pairs, pairs_of, all_pairs}
+use Rattle.replica.proofs.StartsFetched.{start_aims}
+
+-- ---- the calls that wait are of different clients
+
+abbrev Differ : WaitingRequest → WaitingRequest → Type 0
+Differ r t = r.client.number ≢ t.client.number
+
+abbrev pub CallsDiffer : Call → Call → Type 0
+CallsDiffer x y = x.client ≢ y.client
+
+differs_from : (c : Configuration) (r : WaitingRequest) (x : Call) (rs : List WaitingRequest) (calls : List Call) → IsCallOf c r x → AreCallsOf c rs calls → Each (Differ r) rs → Each (CallsDiffer x) calls
+differs_from c r x [] [] is h e = tt
+differs_from c r x [] (y ∷ calls) is h e = absurd h
+differs_from c r x (t ∷ rs) [] is h e = absurd h
+differs_from c r x (t ∷ rs) (y ∷ calls) is h e = (λ same. e.0 (sym is.1 ∙ same ∙ h.0.1), differs_from c r x rs calls is h.1 e.1)
+
+pairs_differ : (c : Configuration) (rs : List WaitingRequest) (calls : List Call) → AreCallsOf c rs calls → Pairs Differ rs → Pairs CallsDiffer calls
+pairs_differ c [] [] h p = tt
+pairs_differ c [] (y ∷ calls) h p = absurd h
+pairs_differ c (r ∷ rs) [] h p = absurd h
+pairs_differ c (r ∷ rs) (x ∷ calls) h p = (differs_from c r x rs calls h.0 h.1 p.0, pairs_differ c rs calls h.1 p.1)
+
+pub calls_differ : (c : Configuration) (rs : List WaitingRequest) (calls : List Call) → AreCallsOf c rs calls → AreOfDifferentClients rs → AllPairs CallsDiffer calls
+calls_differ c rs calls h d = all_pairs CallsDiffer calls (pairs_differ c rs calls h (pairs_of Differ rs d))
+
+-- ---- what its log asks for
+
+-- of a number without a batch nothing
+digest_of_batch : (m : LogData) (i : ℕ) → logs.logged_digest m i ≡ option_map sha256 (logs.logged_batch m i)
+digest_of_batch m i = go (logs.is_in_marks m i)
+  where
+    go : (b : Bool) → cond b (logs.digest_of (logs.row_of m i)) None ≡ option_map sha256 (cond b (logs.row_of m i).batch None)
+    go true = refl
+    go false = refl
+
+stopped : (b : Bool) (o : Option (List ℕ)) → o ≡ None → cond b o None ≡ None
+stopped true o e = e
+stopped false o e = refl
+
+pub none_asked : (m : LogData) (i : ℕ) → logs.logged_batch m i ≡ None → IsVoted m i
+none_asked m i h = (
+  stopped (m.active && not (m.me == logs.primary m m.view) && is_none (logs.prepare_of m i m.me)) (logs.logged_digest m i) none,
+  stopped (m.active && logs.is_prepared m i && is_none (logs.commit_of m i m.me)) (logs.logged_digest m i) none,
+)
+  where
+    none : logs.logged_digest m i ≡ None
+    none = digest_of_batch m i ∙ ap (option_map sha256) h
+
+past_end : (xs : List (List ℕ)) (k : ℕ) → length xs ≤ k → slice_get xs k ≡ None
+past_end [] zero l = refl
+past_end [] (suc k) l = refl
+past_end (x ∷ xs) zero l = absurd (omega (arith, l))
+past_end (x ∷ xs) (suc k) l = past_end xs k (omega (arith, l))
+
+-- where a view begins, it may ask for votes of the new view's numbers alone
+pub asks_there : (log : LogData) (new : NewViewData) → IsLog log → new.start < 2 ^ 48 → (i : ℕ) → ((new.start < i) × (i ≤ new.start + length new.batches)) ⊎ IsVoted (begun_log log new) i
+asks_there log new is small i = go (logs.is_in_marks (begun_log log new) i) refl
+  where
+    inside : new.start < i → logs.is_in_marks (begun_log log new) i ≡ true → (b : Bool) → nat_le i (new.start + length new.batches) ≡ b
+        → ((new.start < i) × (i ≤ new.start + length new.batches)) ⊎ IsVoted (begun_log log new) i
+    inside above w true l = inl (above, leb-true i (new.start + length new.batches) l)
+    inside above w false l =
+        let over = leb-false i (new.start + length new.batches) l in
+        inr (none_asked (begun_log log new) i (begun_batch log new is small i w above ∙ past_end new.batches (i - suc new.start) (omega (arith, over, above))))
+
+    go : (b : Bool) → logs.is_in_marks (begun_log log new) i ≡ b → ((new.start < i) × (i ≤ new.start + length new.batches)) ⊎ IsVoted (begun_log log new) i
+    go true w =
+        let over = above_low (begun_log log new) i w in
+        let low = begun_low log new is small in
+        inside (omega (arith, over, low)) w (nat_le i (new.start + length new.batches)) refl
+    go false w = inr (none_asked (begun_log log new) i (ap (λ (b : Bool). cond b (logs.row_of (begun_log log new) i).batch None) w))
+
+-- ---- all parts of it
+
+abbrev pub begun_orderer : OrdererData → NewViewData → Option (List ℕ) → ClaimsData → OrdererData
+begun_orderer o new own claims = record o {
+  log = begun_log o.log new;
+  used = new.start + length new.batches;
+  begun = new.start + length new.batches;
+  new_view = own;
+  claims = claims;
+}
+
+abbrev pub begun_data : ℕ → List BegunCall → DeskData → DeskData
+begun_data low calls d = desk_above low (record d { waiting = with_view calls d.waiting })
+
+abbrev pub start_of : NewViewData → CheckpointEntry
+start_of new = record { number = new.start; digest = new.root }
+
+-- The replica has begun the view by the new view, and says what that asks for.
+pub record Begins (new : NewViewData) (own : Option (List ℕ)) (r : ReplicaData) (before : List Output) (n : ReplicaData) (after : List Output) : Type 0 where
+  pub claims : ClaimsData
+  pub kept : BeginsClaims r.orderer.log new r.orderer.claims claims
+  pub calls : List BegunCall
+  pub are : AreBegun r.desk.executed.clients new.batches calls
+  pub fetched : ReplicaData
+  pub said : List Output
+  pub fetches : FetchesStart (start_of new) (record r { orderer = begun_orderer r.orderer new own claims; desk = begun_data (begun_log r.orderer.log new).low calls r.desk }) before fetched said
+  pub orderer : OrdererData
+  pub votes : SaysVotesOf new.start (new.start + length new.batches) fetched.orderer said orderer after
+  pub new_is : n ≡ record fetched { orderer = orderer }
+
+module _ (new : NewViewData) (own : Option (List ℕ)) (r : ReplicaData) (before : List Output) (n : ReplicaData) (after : List Output) (is : IsLog r.orderer.log) (small : new.start < 2 ^ 48)
+    (k : Enters new.view (start_of new) new.batches own r before n after) where
+  abbrev last : ℕ
+  last = new.start + length new.batches
+
+  abbrev entered : OrdererData
+  entered = entering new.view last own r.orderer
+
+  abbrev at : LogData
+  at = logs.cut_to (logs.entered r.orderer.log new.view) new.start
+
+  abbrev claims : ClaimsData
+  claims = k.cuts.1.0
+
+  abbrev cut_orderer : OrdererData
+  cut_orderer = record entered { log = at; claims = claims }
+
+  cut_is : k.cut.orderer ≡ cut_orderer
+  cut_is = ap (λ (x : ReplicaData). x.orderer) k.cuts.2 ∙ k.cuts.1.2
+
+  view_is : at.view ≡ new.view
+  view_is = cut_same (λ m. m.view) (λ m h rows. refl) (logs.entered r.orderer.log new.view) new.start
+
+  adds : AddsBatches at new.view (suc new.start) new.batches claims k.logs.0
+  adds =
+      subst (λ (v : ℕ). AddsBatches at v (suc new.start) new.batches claims k.logs.0) view_is
+      (subst (λ (x : OrdererData). AddsBatches x.log x.log.view (suc new.start) new.batches x.claims k.logs.0) cut_is k.logs.1)
+
+  logged_is : k.logged ≡ begun_orderer r.orderer new own k.logs.0
+  logged_is = k.logs.2 ∙ ap (λ (x : OrdererData). let y : OrdererData = record x { log = with_batches x.log (suc new.start) new.batches; claims = k.logs.0 } in y) cut_is
+
+  low_is : at.low ≡ (begun_log r.orderer.log new).low
+  low_is = sym (stays r.orderer.log new is small).low
+
+  mid_is : ◌≡◌ {A = ReplicaData} (record k.cut { orderer = k.logged })
+      (record r { orderer = begun_orderer r.orderer new own k.logs.0; desk = begun_data (begun_log r.orderer.log new).low k.noted.calls r.desk })
+  mid_is =
+      ap (λ (x : ReplicaData). let y : ReplicaData = record x { orderer = k.logged } in y) k.cuts.2
+      ∙ ap (λ (x : OrdererData). let y : ReplicaData = record r { orderer = x; desk = desk_above at.low k.desk } in y) logged_is
+      ∙ ap (λ (d : DeskData). let y : ReplicaData = record r { orderer = begun_orderer r.orderer new own k.logs.0; desk = desk_above at.low d } in y) k.noted.new_is
+      ∙ ap (λ (l : ℕ). let y : ReplicaData = record r { orderer = begun_orderer r.orderer new own k.logs.0; desk = begun_data l k.noted.calls r.desk } in y) low_is
+
+  pub begins : Begins new own r before n after
+  begins = record {
+    claims = k.logs.0;
+    kept = record { mid = claims; cuts = k.cuts.1.1; adds = adds };
+    calls = k.noted.calls;
+    are = k.noted.are;
+    fetched = k.fetched;
+    said = k.said;
+    fetches = subst (λ (x : ReplicaData). FetchesStart (start_of new) x before k.fetched k.said) mid_is k.fetches;
+    orderer = k.orderer;
+    votes = k.votes;
+    new_is = k.new_is;
+  }
+
+-- ---- what the fetch leaves
+
+pub record IsFetchedFrom (m fetched : ReplicaData) : Type 0 where
+  pub orderer : fetched.orderer ≡ m.orderer
+  pub me : fetched.desk.me ≡ m.desk.me
+  pub membership : fetched.desk.membership ≡ m.desk.membership
+  pub stopped : fetched.stopped ≡ m.stopped
+
+fetched_from : (entry : CheckpointEntry) (m fetched : ReplicaData) (before said : List Output) → FetchesStart entry m before fetched said → IsFetchedFrom m fetched
+fetched_from entry m fetched before said (inl h) = subst (IsFetchedFrom m) (sym h.2) (record {
+  orderer = refl;
+  me = ap (λ (d : DeskData). d.me) h.1.1;
+  membership = ap (λ (d : DeskData). d.membership) h.1.1;
+  stopped = refl;
+})
+fetched_from entry m fetched before said (inr h) = subst (IsFetchedFrom m) (sym h.1) (record { orderer = refl; me = refl; membership = refl; stopped = refl })
+
+module _ (new : NewViewData) (own : Option (List ℕ)) (r : ReplicaData) (before : List Output) (n : ReplicaData) (after : List Output) (k : Begins new own r before n after) where
+  abbrev me : ℕ
+  me = r.orderer.endpoint.me
+
+  abbrev pub the_orderer : OrdererData
+  the_orderer = begun_orderer r.orderer new own k.claims
+
+  abbrev the_low : ℕ
+  the_low = (begun_log r.orderer.log new).low
+
+  abbrev the_desk : DeskData
+  the_desk = begun_data the_low k.calls r.desk
+
+  abbrev mid : ReplicaData
+  mid = record r { orderer = the_orderer; desk = the_desk }
+
+  from : IsFetchedFrom mid k.fetched
+  from = fetched_from (start_of new) mid k.fetched before k.said k.fetches
+
+  pub one_party : IsOneParty r n
+  one_party = subst (IsOneParty r) (sym k.new_is) (record {
+    endpoint = k.votes.same.endpoint ∙ ap (λ (o : OrdererData). o.endpoint) from.orderer;
+    me = from.me;
+    membership = from.membership;
+    stopped = from.stopped;
+  })
+
+  pub all_voted : IsLog r.orderer.log → new.start < 2 ^ 48 → IsVotedAll n.orderer.log
+  all_voted is small i =
+      subst (λ (x : ReplicaData). IsVoted x.orderer.log i) (sym k.new_is)
+      (k.votes.voted i (subst (λ (x : OrdererData). ((new.start < i) × (i ≤ new.start + length new.batches)) ⊎ IsVoted x.log i) (sym from.orderer) (asks_there r.orderer.log new is small i)))
+
+  -- What fits once the view has begun, stands in the end.
+  module _ (c : Configuration) (s : Start) (desk : Desk) (known : members c ≡ r.orderer.endpoint.membership) (own_me : r.desk.me ≡ me) (is : IsDeskOf c r.desk desk)
+      (once : Once (λ past e. taken c past e ≡ Some new) (behind s (given me before)))
+      (f : FitsEvent c me s the_orderer (desk_from the_low desk) (with_view k.calls r.desk.waiting) (start_due desk new) before) where
+    abbrev later : Desk
+    later = desk_from the_low desk
+
+    later_is : IsDeskOf c the_desk later
+    later_is = begun_desk c r.desk desk k.calls the_low is
+
+    number_is : open_number desk.state.number desk.transfer ≡ aimed_at r.desk
+    number_is = aimed_is c r.desk desk is
+
+    due_is : (b : Bool) → nat_lt (aimed_at r.desk) new.start ≡ b → start_due desk new ≡ cond b (Fetch new.start levels.Root 0 ∷ []) []
+    due_is b e = ap (λ (t : Bool). cond t (Fetch new.start levels.Root 0 ∷ []) []) (ap (λ (m : ℕ). nat_lt m new.start) number_is ∙ e)
+
+    with_due : (b : Bool) → nat_lt (aimed_at r.desk) new.start ≡ b
+        → FitsEvent c me s the_orderer later (with_view k.calls r.desk.waiting) (cond b (Fetch new.start levels.Root 0 ∷ []) []) before
+    with_due b e = subst (λ (due : List Message). FitsEvent c me s the_orderer later (with_view k.calls r.desk.waiting) due before) (due_is b e) f
+
+    -- the fetch is said
+    aimed : (said : List Output) → aimed_at r.desk < new.start → Says the_orderer (fetch_of (aim_of (start_of new) the_desk).transfer) before said → Stands c s the_orderer (aiming (start_of new) the_desk) [] said
+    aimed said ahead says = record {
+      desk = record later { transfer = Some (aim_of (start_of new) the_desk).transfer };
+      is = aims_desk c s the_orderer the_desk later (with_view k.calls r.desk.waiting) (start_of new) before said later_is;
+      fits = subst (λ (m : ℕ). FitsEvent c m s the_orderer (record later { transfer = Some (aim_of (start_of new) the_desk).transfer }) (with_view k.calls r.desk.waiting) [] said) (sym own_me)
+          (start_aims c s the_orderer the_desk later (with_view k.calls r.desk.waiting) new before said later_is [] known once ahead says (with_due true (lt-ltb (aimed_at r.desk) new.start ahead)));
+    }
+
+    -- or there is none
+    unaimed : new.start ≤ aimed_at r.desk → Stands c s the_orderer the_desk [] before
+    unaimed least = record {
+      desk = later;
+      is = later_is;
+      fits = subst (λ (m : ℕ). FitsEvent c m s the_orderer later (with_view k.calls r.desk.waiting) [] before) (sym own_me) (with_due false (le-ltb (aimed_at r.desk) new.start least));
+    }
+
+    says_it : (said : List Output) → aimed_at r.desk < new.start → SaysFetch (record mid { desk = aiming (start_of new) the_desk }) before said → Stands c s the_orderer (aiming (start_of new) the_desk) [] said
+    says_it said ahead (inl h) = absurd (let bad : Some (aim_of (start_of new) the_desk) ≡ None = h.0 in cc)
+    says_it said ahead (inr h) =
+        aimed said ahead (subst (λ (o : OpenData). Says the_orderer (fetch_of o.transfer) before said) (sym (some_injective (aim_of (start_of new) the_desk) h.0 h.1)) h.2)
+
+    at_start : (fetched : ReplicaData) (said : List Output) → FetchesStart (start_of new) mid before fetched said → Stands c s the_orderer fetched.desk [] said
+    at_start fetched said (inl h) =
+        let same : fetched ≡ record mid { desk = aiming (start_of new) the_desk } = h.2 ∙ ap (λ (d : DeskData). let y : ReplicaData = record mid { desk = d } in y) h.1.1 in
+        subst (λ (x : ReplicaData). Stands c s the_orderer x.desk [] said) (sym same) (says_it said h.1.0 (subst (λ (x : ReplicaData). SaysFetch x before said) same h.3))
+    at_start fetched said (inr h) =
+        subst (λ (x : ReplicaData). Stands c s the_orderer x.desk [] said) (sym h.1) (subst (λ (outs : List Output). Stands c s the_orderer the_desk [] outs) (sym h.2) (unaimed h.0))
+
+    pub begun_stands : Stands c s n.orderer n.desk [] after
+    begun_stands = subst (λ (x : ReplicaData). Stands c s x.orderer x.desk [] after) (sym k.new_is) (record {
+      desk = st.desk;
+      is = st.is;
+      fits = subst (λ (m : ℕ). FitsEvent c m s k.orderer st.desk k.fetched.desk.waiting [] after) (sym named)
+          (goes c s st.desk k.fetched.desk.waiting [] known
+          (subst (λ (m : ℕ). FitsEvent c m s the_orderer st.desk k.fetched.desk.waiting [] k.said) named st.fits));
+    })
+      where
+        st : Stands c s the_orderer k.fetched.desk [] k.said
+        st = at_start k.fetched k.said k.fetches
+
+        named : k.fetched.desk.me ≡ me
+        named = from.me ∙ own_me
+
+        goes : GoesOn the_orderer k.said k.orderer after
+        goes = subst (λ (x : OrdererData). GoesOn x k.said k.orderer after) from.orderer k.votes.goes

@@ -1,0 +1,248 @@
+-- The replica's own view changes.
+use Rattle.std.proofs.Common.{◌≡◌, ℕ, zero, suc, ◌<◌, ◌≤◌, ◌+◌, true, false, IsTrue, List, [], ◌∷◌, Option, Some, length, map, drop, get_or, option_map, IfSome, refl, sym, ap, ap₂, ◌∙◌, subst, arith}
+use Rattle.std.proofs.lemmas.Bool.{leb-false}
+use mathlib.Core.List.{reverse_aux}
+use Rattle.wire.specs.declared.messages.CheckpointEntry.{CheckpointEntry as WireEntry}
+use Rattle.wire.specs.Messages.{MessageData as Message, ViewChangeData, CheckpointEntryData as CheckpointEntry, view_change as ViewChange}
+use Rattle.wire.specs.Lists.{ascends}
+use Rattle.wire.specs.Spelling.{checkpoint_entry_before}
+use Rattle.wire.specs.Views.{checkpoint_entry_data, view_change_data}
+use Rattle.ordering.specs.Log.{left}
+use Rattle.ordering.specs.Keeping.{IsLog}
+use Rattle.events.specs.declared.output.Output.{Output}
+use Rattle.posting.specs.Endpoint.{IsOwnSigned}
+use Rattle.protocol.specs.System.Configuration.{Configuration, members, replicas}
+use Rattle.protocol.specs.System.Frames.{IsPosted}
+use Rattle.protocol.specs.System.Trace.{Entry}
+use Rattle.protocol.specs.System.Trace.Entry.{Sent}
+use Rattle.protocol.specs.Replica.Certificates.{target}
+use Rattle.protocol.specs.Replica.RightReplica.{SentBefore, IsPreparedList, IsPrePreparedList}
+use Rattle.protocol.specs.Replica.Selection.{signed_change}
+use Rattle.protocol.proofs.Words.Options.{some_injective}
+use Rattle.view_change.specs.declared.changes.Change.{Change}
+use Rattle.view_change.specs.ClaimsView.{ClaimsData}
+use Rattle.view_change.specs.Sets.{change_pair}
+use Rattle.view_change.specs.ReceivedData.{HeldData, held_of, with_held}
+use Rattle.view_change.specs.ReceivedView.{configuration_of, held_as}
+use Rattle.replica_histories.specs.Desk.{Desk, point_of}
+use Rattle.replica_histories.specs.Events as events
+use Rattle.replica_histories.specs.Events.{Start, behind}
+use Rattle.replica_histories.specs.Changes.{FitsChanges, Passes}
+use Rattle.replica_histories.specs.Views.{IsChange, entry_of, entries_of}
+use Rattle.replica_histories.proofs.ChangesKept.{sent_keep, own_are_signed}
+use Rattle.replica_histories.proofs.ChangesMade.{changes_are_sent}
+use Rattle.replica_histories.proofs.ChangesPassing.{outputs_pass}
+use Rattle.replica_histories.proofs.Changing.{view_changes_fit, view_changes_go_again}
+use Rattle.replica_histories.proofs.Claims.{claims_are_lists}
+use Rattle.replica_histories.proofs.Ending.{steps_leave}
+use Rattle.replica.specs.declared.snapshots.KeptState.{KeptState}
+use Rattle.replica.specs.SnapshotsView.{kept_data}
+use Rattle.replica.specs.State.{OrdererData, ReplicaData, IsOrderer, AreOne}
+use Rattle.replica.specs.Waiting.{WaitingData}
+use Rattle.replica.specs.Desks.{given, changes_of, FitsEvent}
+use Rattle.replica.specs.Going.{IsVotedAll}
+use Rattle.replica.specs.Saying.{SaysAgain}
+use Rattle.replica.specs.Claiming.{SaysFrame}
+use Rattle.replica.specs.Receiving.{Receives}
+use Rattle.replica.specs.Changing.{IsNextView, LeavesView, SignsChange}
+use Rattle.replica.proofs.Given.{given_one}
+use Rattle.replica.proofs.Parties.{same_log}
+use Rattle.replica.proofs.Staying.{fits_behind, fits_on, numbers_beside, sent_beside}
+
+-- ---- what a view change lists
+
+pub few_ascend : (entries : List WireEntry) → length entries < 2 → IsTrue (ascends checkpoint_entry_before (map checkpoint_entry_data entries))
+few_ascend [] few = refl
+few_ascend (x ∷ []) few = refl
+few_ascend (x ∷ y ∷ ys) few = absurd (omega (arith, few))
+
+abbrev pub listed : KeptState → CheckpointEntry
+listed state = entry_of (kept_data state)
+
+listed_mapped : (xs : List KeptState) → map listed xs ≡ map entry_of (map kept_data xs)
+listed_mapped [] = refl
+listed_mapped (x ∷ xs) = ap (λ (ys : List CheckpointEntry). listed x ∷ ys) (listed_mapped xs)
+
+pub none_listed : (xs : List KeptState) → reverse_aux (map listed (drop 0 xs)) [] ≡ entries_of (map kept_data xs)
+none_listed [] = refl
+none_listed (x ∷ xs) = ap (λ (ys : List CheckpointEntry). reverse_aux ys []) (listed_mapped (x ∷ xs))
+
+-- one more stands before those that are listed
+one_listed : (xs : List KeptState) (i : ℕ) (x : KeptState) (entries all : List CheckpointEntry) → i < length xs → x ≡ get_or xs i x → reverse_aux (map listed (drop i xs)) entries ≡ all
+    → reverse_aux (map listed (drop (suc i) xs)) (listed x ∷ entries) ≡ all
+one_listed [] i x entries all l at h = absurd (omega (arith, l))
+one_listed (y ∷ ys) zero x entries all l at h = subst (λ (z : KeptState). reverse_aux (map listed ys) (listed z ∷ entries) ≡ all) (sym at) h
+one_listed (y ∷ ys) (suc i) x entries all l at h = one_listed ys i x entries all (omega (arith, l)) at h
+
+pub next_listed : (xs : List KeptState) (i : ℕ) (x : KeptState) (entries all : List CheckpointEntry) → i < length xs → x ≡ get_or xs i x → reverse_aux (map listed (drop i xs)) entries ≡ all
+    → reverse_aux (map listed (drop (i + 1) xs)) (listed x ∷ entries) ≡ all
+next_listed xs i x entries all l at h =
+    let is : suc i ≡ i + 1 = omega arith in
+    subst (λ (n : ℕ). reverse_aux (map listed (drop n xs)) (listed x ∷ entries) ≡ all) is (one_listed xs i x entries all l at h)
+
+pub all_listed : (xs : List KeptState) (i : ℕ) (entries all : List CheckpointEntry) → length xs ≤ i → reverse_aux (map listed (drop i xs)) entries ≡ all → entries ≡ all
+all_listed [] zero entries all l h = h
+all_listed [] (suc i) entries all l h = h
+all_listed (y ∷ ys) zero entries all l h = absurd (omega (arith, l))
+all_listed (y ∷ ys) (suc i) entries all l h = all_listed ys i entries all (omega (arith, l)) h
+
+-- ---- the own one is signed
+
+-- the rules by which view changes are judged find it signed by the replica
+pub own_is_signed : (o : OrdererData) (x : Change) (frame : List ℕ) → IsOrderer o → IsLog o.log → x.sender.0 ≡ o.log.me → IsOwnSigned o.endpoint (ViewChange (view_change_data x.change)) frame
+    → signed_change (configuration_of o.received) frame ≡ Some (x.sender.0, view_change_data x.change)
+own_is_signed o x frame own is sender signed =
+    own_are_signed (configuration_of o.received) o.endpoint.me (view_change_data x.change) frame known (record { says = posted.says; is_sealed = posted.is_sealed })
+    ∙ ap (λ (m : ℕ). Some (m, view_change_data x.change)) (sym (sender ∙ own.0))
+  where
+    -- of these members, with the seed of the keys
+    c : Configuration
+    c = record (configuration_of o.received) { faults = o.endpoint.membership.faults; clients = o.endpoint.membership.clients }
+
+    posted : IsPosted c o.endpoint.me (ViewChange (view_change_data x.change)) [] frame
+    posted = signed c (ap (λ (seed : List ℕ). record o.endpoint.membership { seed = seed }) own.2)
+
+    known : o.endpoint.me < replicas (configuration_of o.received)
+    known = let me = own.0 in let faults = own.1 in let sizes = own.3 in let few = is.me in omega (arith, me, faults, sizes, few)
+
+pub signs_change : (view low : ℕ) (checkpoints : List CheckpointEntry) (claims : ClaimsData) (old new : OrdererData) (x : Change) (frame : List ℕ) → x.sender.0 ≡ old.log.me
+    → view_change_data x.change ≡ record { view = view; low = low; checkpoints = checkpoints; prepared = claims.prepared; pre_prepared = claims.logged } → low ≡ old.log.low → claims ≡ old.claims
+    → IsOwnSigned old.endpoint (ViewChange (view_change_data x.change)) frame → Receives (held_as x frame) old new true → SignsChange view checkpoints old new frame
+signs_change view low checkpoints claims old new x frame sender made at same signed receives = record {
+  own = held_as x frame;
+  sender = sender;
+  frame_is = refl;
+  change = made ∙ ap₂ (λ (l : ℕ) (cs : ClaimsData). record { view = view; low = l; checkpoints = checkpoints; prepared = cs.prepared; pre_prepared = cs.logged }) at same;
+  signed = signed;
+  new_is = receives.1;
+}
+
+-- what holds of the frame that there is
+pub of_some : {A : Type 0} (P : A → Type 0) (o : Option A) (x : A) → o ≡ Some x → IfSome o P → P x
+of_some P o x is h = subst (λ y. IfSome y P) is h
+
+-- what is signed says what the copy does
+pub signs_copy : (o : OrdererData) (said x : Change) (message : Message) (frame : List ℕ) → change_pair said ≡ change_pair x → message ≡ ViewChange (view_change_data said.change) → IsOwnSigned o.endpoint message frame
+    → IsOwnSigned o.endpoint (ViewChange (view_change_data x.change)) frame
+signs_copy o said x message frame copy is signed = subst (λ (m : Message). IsOwnSigned o.endpoint m frame) (is ∙ ap (λ (p : ℕ × ViewChangeData). ViewChange p.1) copy) signed
+
+-- ---- the view is left
+
+module _ (view : ℕ) (old : ReplicaData) (signed : OrdererData) (frame : List ℕ) (one : AreOne old.orderer old.desk) (next : IsNextView old.orderer view)
+    (k : SignsChange view (entries_of old.desk.snapshots) old.orderer signed frame) where
+  abbrev o : OrdererData
+  o = old.orderer
+
+  abbrev me : ℕ
+  me = old.orderer.endpoint.me
+
+  abbrev gone : OrdererData → OrdererData
+  gone x = record x { log = left x.log; target = view }
+
+  abbrev new : OrdererData
+  new = gone (record old.orderer { received = record old.orderer.received { held = with_held k.own old.orderer.received.held } })
+
+  module _ (c : Configuration) (s : Start) (desk : Desk) (before after : List Output) (known : members c ≡ old.desk.membership) (voted : IsVotedAll old.orderer.log)
+      (kept : desk.snapshots ≡ old.desk.snapshots) (f : FitsEvent c me s o desk old.desk.waiting [] before) where
+    abbrev past : List Entry
+    past = behind s (given me before)
+
+    posted : IsPosted c me (ViewChange k.own.change) [] frame
+    posted = k.signed c (known ∙ one.1)
+
+    is_view : k.own.change.view ≡ view
+    is_view = ap (λ x. x.view) k.change
+
+    newer : target past < view
+    newer = let is = f.changes.target in let above = next.0 in omega (arith, is, above)
+
+    change : IsChange c me desk o.log past k.own.change
+    change = subst (IsChange c me desk o.log past) (sym k.change) (record {
+      above = let above = next.0 in omega (arith, above);
+      newer = newer;
+      is_view = next.1;
+      low = refl;
+      checkpoints = ap entries_of (sym kept);
+      prepared = lists.0;
+      pre_prepared = lists.1;
+    })
+      where
+        lists : IsPreparedList c me past o.claims.prepared × IsPrePreparedList c me past o.claims.logged
+        lists =
+            claims_are_lists c me o.log past (point_of desk f.fits.of_desk.states f.fits.of_desk.ran) o.claims f.fits.of_log
+            (steps_leave c me s (given me before) (point_of desk f.fits.of_desk.states f.fits.of_desk.ran) f.fits.of_desk.leaves f.fits.of_desk.steps) (λ i. (voted i).1) f.changes.claims
+
+    on : events.Fits c me s desk (left o.log) [] (Sent me frame ∷ given me before)
+    on = view_changes_fit c me s desk o.log [] (given me before) k.own.change frame (λ i. (voted i).1) change posted f.fits
+
+    place : me < replicas c
+    place = let is = f.fits.of_log.is_log.me in let own = f.fits.of_log.own in let faults = f.fits.of_log.faults in omega (arith, is, own, faults)
+
+    held : FitsChanges c me (left o.log) (changes_of new) (Sent me frame ∷ past)
+    held =
+        subst (λ (v : ℕ). FitsChanges c me (left o.log) (record (changes_of new) { target = v }) (Sent me frame ∷ past)) is_view
+        (subst (λ (b : List ℕ). FitsChanges c me (left o.log) (record (changes_of new) { target = k.own.change.view }) (Sent me b ∷ past)) k.frame_is
+        (changes_are_sent c me past o.log (changes_of o) k.own
+        (subst (λ (b : List ℕ). Passes c me past (Sent me b) o.log (left o.log)) (sym k.frame_is) (outputs_pass c me s desk desk o.log (left o.log) [] [] (given me before) (Sent me frame) f.fits on))
+        place (k.sender ∙ f.fits.of_log.own) (subst (λ (b : List ℕ). IsPosted c me (ViewChange k.own.change) [] b) (sym k.frame_is) posted)
+        (subst (λ (v : ℕ). target past < v) (sym is_view) newer) f.changes))
+
+    goes : SaysFrame new frame before after → FitsEvent c me s new desk old.desk.waiting [] after
+    goes says =
+        fits_behind c me s o new desk desk old.desk.waiting old.desk.waiting [] [] before after (Sent me frame)
+        (given_one me before after says.output says.given_is ∙ ap (λ (e : Entry). e ∷ given me before) says.sends.sends) refl f on
+        (numbers_beside c me old.desk.waiting o desk past (Sent me frame) f.fits.of_log.faults f.fits.of_log.own (sent_beside c me (ViewChange k.own.change) [] frame past tt posted) f.numbers) held
+
+  pub leaves_view : (before after : List Output) → SaysFrame (gone signed) frame before after → LeavesView old before (record old { orderer = gone signed }) after
+  leaves_view before after says =
+      subst (λ (x : OrdererData). SaysFrame (gone x) frame before after → LeavesView old before (record old { orderer = gone x }) after) (sym k.new_is) leaves says
+    where
+      leaves : SaysFrame new frame before after → LeavesView old before (record old { orderer = new }) after
+      leaves says = record {
+        stands = λ c s known voted st. record {
+          desk = st.desk;
+          is = st.is;
+          fits = subst (λ (m : ℕ). FitsEvent c m s new st.desk old.desk.waiting [] after) (sym one.0)
+              (goes c s st.desk before after known voted st.is.snapshots (subst (λ (m : ℕ). FitsEvent c m s o st.desk old.desk.waiting [] before) one.0 st.fits) says);
+        };
+        party = record { endpoint = refl; me = refl; membership = refl; stopped = refl };
+        inactive = refl;
+        voted = λ i. (refl, refl);
+        executed = λ h. h;
+      }
+
+pub leaves_as : (view : ℕ) (old : ReplicaData) (signed later : OrdererData) (frame said : List ℕ) (before after : List Output) → AreOne old.orderer old.desk → IsNextView old.orderer view
+    → SignsChange view (entries_of old.desk.snapshots) old.orderer signed frame → later ≡ record signed { log = left signed.log; target = view } → said ≡ frame → SaysFrame later said before after
+    → LeavesView old before (record old { orderer = later }) after
+leaves_as view old signed later frame said before after one next k is same says =
+    subst (λ (x : OrdererData). LeavesView old before (record old { orderer = x }) after) (sym is)
+    (leaves_view view old signed frame one next k before after (subst (λ (b : List ℕ). SaysFrame (record signed { log = left signed.log; target = view }) b before after) same
+    (subst (λ (x : OrdererData). SaysFrame x said before after) is says)))
+
+-- ---- it is said again
+
+pub no_change_again : (o : OrdererData) (outs : List Output) → SaysAgain false o outs o outs
+no_change_again o outs = record { goes = λ inactive c s desk w due known f. f; same = refl }
+
+pub change_again : (o : OrdererData) (frame : List ℕ) (before after : List Output) → IsOrderer o → option_map (λ h. h.frame) (held_of o.received.held o.log.me) ≡ Some frame → SaysFrame o frame before after
+    → SaysAgain false o before o after
+change_again o frame before after own has says = record {
+  goes = λ inactive c s desk w due known f. goes c s desk w due inactive f;
+  same = refl;
+}
+  where
+    goes : (c : Configuration) (s : Start) (desk : Desk) (w : WaitingData) (due : List Message) → o.log.active ≡ false → FitsEvent c o.endpoint.me s o desk w due before → FitsEvent c o.endpoint.me s o desk w due after
+    goes c s desk w due inactive f =
+        let h = f.changes.own_change inactive in
+        let me = o.endpoint.me in
+        let past = behind s (given me before) in
+        let there : Some h.own.frame ≡ Some frame =
+        ap (option_map (λ (x : HeldData). x.frame)) (sym h.held) ∙ ap (λ (m : ℕ). option_map (λ (x : HeldData). x.frame) (held_of o.received.held m)) (sym own.0) ∙ has in
+        let is = some_injective h.own.frame frame there in
+        let posted : IsPosted c me (ViewChange h.own.change) [] frame = subst (IsPosted c me (ViewChange h.own.change) []) is h.posted in
+        let left : o.log.view < target past = leb-false (target past) o.log.view (f.fits.of_log.active ∙ inactive) in
+        let last : h.own.change.view ≡ target past = h.view ∙ sym f.changes.target in
+        fits_on c me s o o desk w due due before after (Sent me frame) (given_one me before after says.output says.given_is ∙ ap (λ (e : Entry). e ∷ given me before) says.sends.sends)
+        (sent_beside c me (ViewChange h.own.change) [] frame past tt posted) (sent_keep c me past (ViewChange h.own.change) frame posted.says (omega (arith, last)))
+        (same_log o.log) refl refl refl refl f
+        (view_changes_go_again c me s desk o.log due (given me before) h.own.change frame left last (subst (λ (b : List ℕ). SentBefore b past) is h.sent) posted f.fits)

@@ -1,0 +1,132 @@
+-- New views that are said again, and texts that are batches.
+use Rattle.std.proofs.Common.{◌≡◌, ℕ, Bool, true, false, not, ◌==◌, List, [], ◌∷◌, ◌++◌, length, map, Bor, Vec, Option, Some, None, Result, Ok, Err, IfOk, IfSome, MatchOption, refl, sym, ap, ◌∙◌, subst, append_assoc, arith}
+use Rattle.std.specs.Arc.{arc_value}
+use Rattle.std.specs.Option.{option_map_or}
+use Rattle.std.specs.declared.alloc.Global.{Global}
+use Rattle.std.specs.declared.sync.Arc.{Arc}
+use Rattle.std.proofs.lemmas.List.{append-nil, map-append}
+use Rattle.tuple_tree.specs.Values.{AreBytes}
+use Rattle.wire.specs.Spelling.{IsBatch}
+use Rattle.wire.specs.Views.{batch_text}
+use Rattle.wire.specs.declared.messages.Batch.{Batch}
+use Rattle.wire.specs.Words.{requests_of}
+use Rattle.wire.specs.Messages.{BodyData as Body, MessageData as Message, NewViewData, ViewChangeData, new_view as NewView}
+use Rattle.events.specs.declared.output.Output.{Output}
+use Rattle.posting.specs.Endpoint.{IsOwnSigned}
+use Rattle.ordering.specs.Log as logs
+use Rattle.view_change.specs.declared.changes.Selection.{Selection}
+use Rattle.view_change.specs.declared.changes.Sizes.{Sizes}
+use Rattle.view_change.specs.ReceivedData.{pairs_for}
+use Rattle.view_change.specs.ReceivedView.{configuration_of}
+use Rattle.view_change.specs.Selecting.{Selects}
+use Rattle.view_change.specs.Sets.{sized, texts_of}
+use Rattle.protocol.specs.System.Configuration.{Configuration}
+use Rattle.protocol.specs.System.Trace.{Entry}
+use Rattle.protocol.specs.System.Trace.Entry.{Sent}
+use Rattle.protocol.specs.Replica.Certificates.{view}
+use Rattle.protocol.specs.Replica.Selection.{may_select}
+use Rattle.replica_histories.specs.Events.{behind}
+use Rattle.replica_histories.specs.Numbers.{is_pre_prepare}
+use Rattle.replica_histories.specs.Changes.{KeepsChanges, IsOwnView}
+use Rattle.replica_histories.proofs.Changing.{new_views_go_again}
+use Rattle.replica_histories.proofs.ChangesKept.{sent_keep}
+use Rattle.replica.specs.State.{OrdererData}
+use Rattle.replica.specs.Claiming.{SaysFrame}
+use Rattle.replica.specs.Desks.{given}
+use Rattle.replica.specs.EnteringViews.{IsSelection, SignsView, new_view_of}
+use Rattle.replica.specs.Saying.{SaysAgain}
+use Rattle.replica.proofs.Again.{is_batch}
+use Rattle.replica.proofs.Given.{given_one}
+use Rattle.replica.proofs.Parties.{same_log}
+use Rattle.replica.proofs.Staying.{IsBeside, fits_on}
+
+pub no_view_again : (o : OrdererData) (outs : List Output) → SaysAgain true o outs o outs
+no_view_again o outs = record { goes = λ active c s desk w due known f. f; same = refl }
+
+-- a new view of the own view is taken no more
+module _ (c : Configuration) (me v : ℕ) (past : List Entry) (frame : List ℕ) (own : IsOwnView c me v past frame) (here : view c past ≡ v) where
+  keeps_all : KeepsChanges c me past (Sent me frame)
+  keeps_all = sent_keep c me past (NewView own.new) frame own.posted.says (let a = own.view in let b = here in omega (arith, a, b))
+
+  is_beside : IsBeside c me past (Sent me frame)
+  is_beside = record {
+    here = refl;
+    none = keeps_all.none;
+    sends = ap (λ (o : Option Body). option_map_or (λ (b : Body). is_pre_prepare b.message) o false) own.posted.says;
+  }
+
+pub view_again : (frame : List ℕ) (o : OrdererData) (before after : List Output) → o.new_view ≡ Some frame → SaysFrame o frame before after → SaysAgain true o before o after
+view_again frame o before after there says = record {
+  goes = λ active c s desk w due known f.
+      let me : ℕ = o.endpoint.me in
+      let past : List Entry = behind s (given me before) in
+      let own : IsOwnView c me o.log.view past frame = f.changes.own_view frame there in
+      let is : given me after ≡ Sent me frame ∷ given me before = given_one me before after says.output says.given_is ∙ ap (λ (e : Entry). e ∷ given me before) says.sends.sends in
+      fits_on c me s o o desk w due due before after (Sent me frame) is
+      (is_beside c me o.log.view past frame own f.fits.of_log.view) (keeps_all c me o.log.view past frame own f.fits.of_log.view)
+      (same_log o.log) refl refl refl refl f
+      (new_views_go_again c me s desk o.log due (given me before) own.new frame active own.view own.primary own.sent own.posted f.fits);
+  same = refl;
+}
+
+-- ---- texts of batches
+
+pub some_batch : (text : List ℕ) (frames : List (Bor (List ℕ))) (empty : Bool) → AreBytes text → map (λ f. f.now) frames ≡ requests_of text → empty ≡ (length frames == 0) → not empty ≡ true → IsBatch 0 text
+some_batch text frames empty bytes read e h =
+    let b : IsBatch 1 text = is_batch text frames empty bytes read e h in
+    record { requests = b.requests; whole = b.whole; enough = omega arith; few = b.few; each = b.each }
+
+-- one more is hashed
+pub batch_hashed : (old new : List (Arc (List ℕ) Global)) (a : Arc (List ℕ) Global) (items rest : List Batch) (b : Batch) (whole : List (List ℕ)) → new ≡ old ++ a ∷ [] → arc_value a ≡ batch_text b → items ≡ b ∷ rest
+    → texts_of old ++ map batch_text items ≡ whole → texts_of new ++ map batch_text rest ≡ whole
+batch_hashed old new a items rest b whole is value are left =
+    ap (λ xs. texts_of xs ++ map batch_text rest) is
+    ∙ ap (λ ts. ts ++ map batch_text rest) (map-append arc_value old (a ∷ []))
+    ∙ append_assoc (texts_of old) (arc_value a ∷ []) (map batch_text rest)
+    ∙ ap (λ (t : List ℕ). texts_of old ++ (t ∷ map batch_text rest)) value
+    ∙ ap (λ (xs : List Batch). texts_of old ++ map batch_text xs) (sym are)
+    ∙ left
+
+-- ---- a selection
+
+abbrev SelectsSome : (N : Type 0) → Sizes → ℕ → List (ℕ × ViewChangeData) → List (List ℕ) → Option Selection → Type 0
+SelectsSome N sizes view set texts x = MatchOption x N (λ s. Selects (sized sizes) view set texts s.start.0 s.root (texts_of s.batches.items))
+
+is_selection : {E : Type 0} (N : Type 0) (o : OrdererData) (r : Result (Option Selection) E) → o.log.active ≡ false → logs.primary o.log o.target ≡ o.log.me
+    → IfOk r (SelectsSome N o.received.sizes o.target (pairs_for o.target o.received.held) o.claims.texts)
+    → IfOk r (λ x. IfSome x (λ s. IsSelection o s.start.0 s.root (texts_of s.batches.items)))
+is_selection N o (Err e) inactive primary h = h
+is_selection N o (Ok None) inactive primary h = tt
+is_selection N o (Ok (Some s)) inactive primary h = record { inactive = inactive; primary = primary; meets = h.meets; from = h.from }
+
+-- over what is held
+pub held_selects : {E : Type 0} (N : Type 0) (o : OrdererData) (r : Result (Option Selection) E) (sizes : Sizes) (set : List (ℕ × ViewChangeData)) (texts : List (List ℕ)) → o.log.active ≡ false → logs.primary o.log o.target ≡ o.log.me
+    → sizes ≡ o.received.sizes → set ≡ pairs_for o.target o.received.held → texts ≡ o.claims.texts → IfOk r (SelectsSome N sizes o.target set texts)
+    → IfOk r (λ x. IfSome x (λ s. IsSelection o s.start.0 s.root (texts_of s.batches.items)))
+held_selects N o r sizes set texts inactive primary size_is set_is texts_are h =
+    is_selection N o r inactive primary
+    (subst (λ (ts : List (List ℕ)). IfOk r (SelectsSome N o.received.sizes o.target (pairs_for o.target o.received.held) ts)) texts_are
+    (subst (λ (xs : List (ℕ × ViewChangeData)). IfOk r (SelectsSome N o.received.sizes o.target xs texts)) set_is
+    (subst (λ (x : Sizes). IfOk r (SelectsSome N x o.target set texts)) size_is h)))
+
+-- ---- all are hashed
+
+none_left : (items : List Batch) → length items ≡ 0 → items ≡ []
+none_left [] h = refl
+none_left (x ∷ xs) h = absurd (omega (arith, h))
+
+pub all_hashed : (old : List (Arc (List ℕ) Global)) (items first batches : List Batch) → length items ≡ 0 → first ≡ batches → texts_of old ++ map batch_text items ≡ map batch_text first → texts_of old ≡ map batch_text batches
+all_hashed old items first batches none is left =
+    sym (append-nil (texts_of old)) ∙ ap (λ (xs : List Batch). texts_of old ++ map batch_text xs) (sym (none_left items none)) ∙ left ∙ ap (map batch_text) is
+
+-- ---- a selection is signed
+
+pub signs_view : {E : Type 0} (o : OrdererData) (start : ℕ) (root : List ℕ) (texts : List (List ℕ)) (message : Message) (made : NewViewData) (r : Result (Option (Vec ℕ Global)) E) → made ≡ new_view_of o start root texts
+    → may_select (configuration_of o.received) made ≡ true → message ≡ NewView made → IfOk r (λ x. IfSome x (λ frame. IsOwnSigned o.endpoint message frame.items))
+    → IfOk r (λ x. IfSome x (λ frame. SignsView o (new_view_of o start root texts) frame.items))
+signs_view o start root texts message made (Err e) is right says h = h
+signs_view o start root texts message made (Ok None) is right says h = tt
+signs_view o start root texts message made (Ok (Some frame)) is right says h = record {
+  signed = subst (λ (m : Message). IsOwnSigned o.endpoint m frame.items) (says ∙ ap NewView is) h;
+  right = subst (λ (n : NewViewData). may_select (configuration_of o.received) n ≡ true) is right;
+}

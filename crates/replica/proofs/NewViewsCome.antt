@@ -1,0 +1,208 @@
+-- A new view that comes: it is refused, and nothing changes, or the replica enters its view.
+use Rattle.std.proofs.Common.{◌≡◌, ◌≢◌, ℕ, ◌≤◌, ◌<◌, ◌^◌, inl, Bool, true, false, ◌&&◌, ◌==◌, List, [], length, Option, Some, None, refl, sym, ap, ◌∙◌, subst, arith}
+use Rattle.std.specs.Prelude.{option_and_then}
+use Rattle.std.specs.Bool.{then_some}
+use Rattle.std.specs.Option.{option_map_or}
+use Rattle.std.proofs.lemmas.Bool.{and_parts}
+use Rattle.terms.specs.declared.parties.ReplicaId.{ReplicaId}
+use Rattle.wire.specs.Messages.{BodyData as Body, NewViewData, new_view as NewView}
+use Rattle.signing.specs.Heard.{heard}
+use Rattle.events.specs.declared.output.Output.{Output}
+use Rattle.authenticator.specs.Membership.{Membership}
+use Rattle.posting.specs.Endpoint.{EndpointState}
+use Rattle.view_change.specs.Checking.{refusal}
+use Rattle.view_change.specs.Laws.{AreAlike, NewViewsAreJudged, SizesDecide}
+use Rattle.view_change.specs.ReceivedView.{ReceivedState, configuration_of}
+use Rattle.protocol.specs.System.Configuration.{Configuration, members, primary}
+use Rattle.protocol.specs.System.Trace.{Entry}
+use Rattle.protocol.specs.System.Trace.Entry.{Got}
+use Rattle.protocol.specs.Replica.Selection.{may_select}
+use Rattle.protocol.specs.Replica.Certificates.{is_later, new_view_from, taken, target, view}
+use Rattle.protocol.specs.Replica.Owed.{place_from}
+use Rattle.protocol.specs.Replica.RightReplica.{with_waiting}
+use Rattle.protocol.specs.Replica.State.{call_in}
+use Rattle.protocol.proofs.Agreement.Marks.{few_batches}
+use Rattle.replica_histories.specs.Changes.{IsNoChange, Passes}
+use Rattle.replica_histories.specs.Desk.{desk_from}
+use Rattle.replica_histories.specs.Events as histories
+use Rattle.replica_histories.specs.Inputs.{IsBesideLog, asked}
+use Rattle.replica_histories.specs.Views.{begun_log, start_due}
+use Rattle.replica_histories.proofs.Beginning.{start_small}
+use Rattle.replica_histories.proofs.ChangesKept.{got_keep, others_bring_none}
+use Rattle.replica_histories.proofs.ChangesPassing.{inputs_enter}
+use Rattle.replica_histories.proofs.Counting.{others_drop}
+use Rattle.replica_histories.proofs.Entering.{inputs_fit}
+use Rattle.replica_histories.proofs.NewViews.{new_views_enter}
+use Rattle.replica_histories.proofs.TransfersAnswering.{others_owe_none}
+use Rattle.replica.specs.declared.taking.Touched.TheVariants as touched
+use Rattle.replica.specs.State.{ReplicaData, AreOne, IsOrderer}
+use Rattle.replica.specs.Desks.{FitsEvent, Stands}
+use Rattle.replica.specs.Entering.{event_of, IsTakenBeside, TakesBytes, TakesMessage}
+use Rattle.replica.specs.Fits.{Runs, me_of}
+use Rattle.replica.proofs.Beginning.{changes_kept, heard_by, rests}
+use Rattle.replica.specs.EnteringViews.{Enters}
+use Rattle.replica.proofs.Parties.{one_self, same_log}
+use Rattle.replica.proofs.Staying.{numbers_beside, said_on}
+use Rattle.replica.proofs.ViewsEntered.{Entered, entered, entered_party, entered_stands, entered_votes, start_in}
+
+-- ---- which new views are taken
+
+-- what is not refused starts at a number, with few batches
+pub right_views_are_small : NewViewsAreJudged → (r : ReceivedState) (v t sender : ℕ) (new : NewViewData) → refusal (configuration_of r) v t sender new ≡ None → (new.start < 2 ^ 48) × (length new.batches ≤ 32)
+right_views_are_small judge r v t sender new h =
+    let selected = (and_parts (sender == primary (configuration_of r) new.view) (may_select (configuration_of r) new) ((judge (configuration_of r) v t sender new).0 h).0).1 in
+    let few = (few_batches (configuration_of r) new selected).0 in
+    let short = r.sizes.short in
+    (start_small (configuration_of r) new selected, omega (arith, few, short))
+
+-- of what is heard, what is taken is what is not refused
+module _ (judge : NewViewsAreJudged) (c : Configuration) (me sender : ℕ) (past : List Entry) (new : NewViewData) (bytes : List ℕ) (hears : heard (members c) me bytes ≡ Some (record { sender = sender; message = NewView new })) where
+  abbrev Later : NewViewData → Bool
+  Later x = is_later (view c past) (target past) x
+
+  taken_is : taken c past (Got me bytes) ≡ option_and_then (λ x. then_some (Later x) x) (then_some ((sender == primary c new.view) && may_select c new) new)
+  taken_is = ap (λ (o : Option Body). option_and_then (λ x. then_some (Later x) x) (option_and_then (new_view_from c) o)) hears
+
+  right_taken : refusal c (view c past) (target past) sender new ≡ None → taken c past (Got me bytes) ≡ Some new
+  right_taken h =
+      let j = (judge c (view c past) (target past) sender new).0 h in
+      taken_is ∙ ap (λ (b : Bool). option_and_then (λ x. then_some (Later x) x) (then_some b new)) j.0 ∙ ap (λ (b : Bool). then_some b new) j.1
+
+  refused_untaken : refusal c (view c past) (target past) sender new ≢ None → taken c past (Got me bytes) ≡ None
+  refused_untaken refused = taken_is ∙ go ((sender == primary c new.view) && may_select c new) (Later new) refl refl
+    where
+      go : (a b : Bool) → ((sender == primary c new.view) && may_select c new) ≡ a → Later new ≡ b → option_and_then (λ x. then_some (Later x) x) (then_some a new) ≡ None
+      go false b p q = refl
+      go true false p q = ap (λ (b : Bool). then_some b new) q
+      go true true p q = absurd (refused ((judge c (view c past) (target past) sender new).1 (p, q)))
+
+-- ---- it comes
+
+module _ (judge : NewViewsAreJudged) (decide : SizesDecide) (r : ReplicaData) (one : AreOne r.orderer r.desk) (own : IsOrderer r.orderer) (sender : ℕ) (new : NewViewData) (bytes : List ℕ)
+    (h : heard r.desk.membership r.desk.me bytes ≡ Some (record { sender = sender; message = NewView new })) where
+  abbrev me : ℕ
+  me = r.orderer.endpoint.me
+
+  abbrev body : Body
+  body = record { sender = sender; message = NewView new }
+
+  abbrev e : Entry
+  e = Got me bytes
+
+  hears : (c : Configuration) → members c ≡ r.desk.membership → heard (members c) me bytes ≡ Some body
+  hears c known = heard_by r one c bytes body known h
+
+  -- it is judged as the history's configuration judges it
+  judged : (c : Configuration) (past : List Entry) → Runs c r past → members c ≡ r.desk.membership
+      → refusal c (view c past) (target past) sender new ≡ refusal (configuration_of r.orderer.received) r.orderer.log.view r.orderer.target sender new
+  judged c past runs known =
+      ap (λ (v : ℕ). refusal c v (target past) sender new) runs.holds.of_log.fits.view
+      ∙ ap (λ (t : ℕ). refusal c r.orderer.log.view t sender new) runs.changes.target
+      ∙ (decide c (configuration_of r.orderer.received) alike).refused r.orderer.log.view r.orderer.target sender new
+    where
+      alike : AreAlike c (configuration_of r.orderer.received)
+      alike = record {
+        seed = ap (λ (m : Membership). m.seed) (known ∙ one.1) ∙ sym own.2;
+        faults = ap (λ (m : Membership). m.faults) (known ∙ one.1) ∙ sym own.3;
+        period = runs.is_desk.period_is ∙ sym one.2;
+      }
+
+  -- nothing of a state is asked for
+  asks_no_part : (c : Configuration) → members c ≡ r.desk.membership → option_and_then place_from (heard (members c) me bytes) ≡ None
+  asks_no_part c known = ap (option_and_then place_from) (hears c known)
+
+  -- ---- it is refused
+
+  module _ (c : Configuration) (past : List Entry) (runs : Runs c r past) (known : members c ≡ r.desk.membership) (free : taken c past e ≡ None) where
+    enters : histories.Fits c me (event_of c r past runs bytes) runs.desk r.orderer.log [] []
+    enters = inputs_fit c me runs.desk runs.desk r.orderer.log r.orderer.log [] past bytes runs.holds free (record {
+      takes = others_drop c me r.orderer.log past bytes runs.holds.of_log.fits (subst IsBesideLog (sym (hears c known)) tt);
+      state = refl;
+      snapshots = refl;
+      waiting = ap (λ (o : Option Body). option_map_or (with_waiting runs.desk.state runs.desk.waiting) (option_and_then (call_in c) o) runs.desk.waiting) (sym (hears c known));
+      transfer = refl;
+      frames = λ frame k. inl k;
+      due_is = ap (asked runs.desk.state) (sym (hears c known));
+    })
+
+    event : FitsEvent c me (event_of c r past runs bytes) r.orderer runs.desk r.desk.waiting [] []
+    event = record {
+      fits = enters;
+      numbers = numbers_beside c me r.desk.waiting r.orderer runs.desk past e runs.holds.of_log.fits.faults runs.holds.of_log.fits.own (record { here = refl; none = free; sends = refl }) runs.numbers;
+      said = said_on me r.orderer.last_checkpoint past e runs.said;
+      changes = changes_kept r one c past runs bytes r.orderer.log (same_log r.orderer.log) refl
+          (λ passes. got_keep c me past bytes r.orderer.log r.orderer.log passes (record { view = refl; active = refl }) free (λ i within. refl)
+          (λ s other. others_bring_none c me s past bytes (subst IsNoChange (sym (hears c known)) tt) other))
+          (inputs_enter c me runs.desk runs.desk r.orderer.log r.orderer.log [] past e runs.holds enters);
+    }
+
+    untaken_stands : Stands c (event_of c r past runs bytes) r.orderer r.desk [] []
+    untaken_stands = record {
+      desk = runs.desk;
+      is = runs.is_desk;
+      fits = subst (λ (m : ℕ). FitsEvent c m (event_of c r past runs bytes) r.orderer runs.desk r.desk.waiting [] []) (sym one.0) event;
+    }
+
+  refused_dropped : refusal (configuration_of r.orderer.received) r.orderer.log.view r.orderer.target sender new ≢ None → TakesBytes bytes r touched.Nothing r []
+  refused_dropped refused = record {
+    party = one_self r;
+    begins = λ c past runs known. (
+      untaken_stands c past runs known (refused_untaken judge c me sender past new bytes (hears c known) (λ none. refused (sym (judged c past runs known) ∙ none))),
+      (rests c r past runs, runs.all, others_owe_none c me past e [] runs.holds.of_desk.point (asks_no_part c known), inl refl),
+    );
+  }
+
+  -- ---- it is taken
+
+  module _ (clients : r.desk.executed.clients ≡ r.desk.membership.clients) (n : ReplicaData) (outs : List Output) (x : Entered new None r [] n outs) (c : Configuration) (past : List Entry) (runs : Runs c r past)
+      (known : members c ≡ r.desk.membership) (t : taken c past e ≡ Some new) where
+    begins_it : histories.Fits c me (event_of c r past runs bytes) (desk_from (begun_log r.orderer.log new).low runs.desk) (begun_log r.orderer.log new) (start_due runs.desk new) []
+    begins_it = new_views_enter c me runs.desk r.orderer.log past sender new bytes runs.holds (hears c known) t
+
+    passes : Passes c me past e r.orderer.log (begun_log r.orderer.log new)
+    passes = inputs_enter c me runs.desk (desk_from (begun_log r.orderer.log new).low runs.desk) r.orderer.log (begun_log r.orderer.log new) (start_due runs.desk new) past e runs.holds begins_it
+
+    taken_stands : Stands c (event_of c r past runs bytes) n.orderer n.desk [] outs
+    taken_stands = entered_stands c (event_of c r past runs bytes) r runs.desk new None [] past e sender one clients runs.is_desk refl begins_it passes t (hears c known) tt runs.said runs.changes n outs x
+
+    taken_beside : IsTakenBeside c (me_of n) (event_of c r past runs bytes)
+    taken_beside =
+        subst (λ (k : EndpointState). IsTakenBeside c k.me (event_of c r past runs bytes)) (sym (entered_party new None r [] n outs x).endpoint) ((body, hears c known, t), asks_no_part c known)
+
+  right_entered : r.desk.executed.clients ≡ r.desk.membership.clients → (n : ReplicaData) (outs : List Output) → refusal (configuration_of r.orderer.received) r.orderer.log.view r.orderer.target sender new ≡ None
+      → Enters new.view (start_in new) new.batches None r [] n outs → TakesBytes bytes r touched.View n outs
+  right_entered clients n outs right enters = record {
+    party = entered_party new None r [] n outs x;
+    begins = λ c past runs known.
+        let t = right_taken judge c me sender past new bytes (hears c known) (judged c past runs known ∙ right) in (
+          taken_stands clients n outs x c past runs known t,
+          (
+            entered_votes c (event_of c r past runs bytes) r runs.desk new None [] past e sender one clients runs.is_desk refl (begins_it clients n outs x c past runs known t) (passes clients n outs x c past runs known t) t (hears c known) tt
+                runs.said runs.changes n outs x,
+            taken_beside clients n outs x c past runs known t,
+          ),
+        );
+  }
+    where
+      x : Entered new None r [] n outs
+      x = entered new None r [] n outs enters
+
+-- ---- the function's own words
+
+-- what is entered by the selection in the new view
+pub enters_with : (new : NewViewData) (start : ℕ) (root : List ℕ) (texts : List (List ℕ)) (r n : ReplicaData) (before after : List Output) → start ≡ new.start → root ≡ new.root → texts ≡ new.batches → before ≡ []
+    → Enters new.view (record { number = start; digest = root }) texts None r before n after → Enters new.view (start_in new) new.batches None r [] n after
+enters_with new start root texts r n before after start_is root_is texts_are none x =
+    subst (λ (k : ℕ). Enters new.view (record { number = k; digest = new.root }) new.batches None r [] n after) start_is
+    (subst (λ (d : List ℕ). Enters new.view (record { number = start; digest = d }) new.batches None r [] n after) root_is
+    (subst (λ (ts : List (List ℕ)). Enters new.view (record { number = start; digest = root }) ts None r [] n after) texts_are
+    (subst (λ (outs : List Output). Enters new.view (record { number = start; digest = root }) texts None r outs n after) none x)))
+
+pub new_view_dropped : NewViewsAreJudged → SizesDecide → (r : ReplicaData) (sender : ReplicaId) (new : NewViewData) → AreOne r.orderer r.desk → IsOrderer r.orderer
+    → refusal (configuration_of r.orderer.received) r.orderer.log.view r.orderer.target sender.0 new ≢ None → TakesMessage sender (NewView new) r touched.Nothing r []
+new_view_dropped judge decide r sender new one own refused bytes h = refused_dropped judge decide r one own sender.0 new bytes h refused
+
+pub new_view_entered : NewViewsAreJudged → SizesDecide → (r : ReplicaData) (sender : ReplicaId) (new : NewViewData) (n : ReplicaData) (outs : List Output) → AreOne r.orderer r.desk → IsOrderer r.orderer → r.desk.executed.clients ≡ r.desk.membership.clients
+    → refusal (configuration_of r.orderer.received) r.orderer.log.view r.orderer.target sender.0 new ≡ None → Enters new.view (start_in new) new.batches None r [] n outs
+    → TakesMessage sender (NewView new) r touched.View n outs
+new_view_entered judge decide r sender new n outs one own clients right enters bytes h = right_entered judge decide r one own sender.0 new bytes h clients n outs right enters

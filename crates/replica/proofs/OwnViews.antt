@@ -1,0 +1,250 @@
+-- The replica begins a view by a new view of its own.
+use Rattle.std.proofs.Common.{◌≡◌, ℕ, zero, suc, ◌+◌, ◌^◌, ◌<◌, ◌≤◌, inl, inr, Bool, true, false, cond, ◌&&◌, ◌==◌, nat_lt, nat_le, List, [], ◌∷◌, length, map, Option, Some, None, refl, sym, ap, ◌∙◌, subst, arith, eqb-true, eq-eqb}
+use Rattle.std.specs.Prelude.{option_and_then}
+use Rattle.std.specs.Arc.{arc_value}
+use Rattle.std.specs.Bool.{then_some}
+use Rattle.std.specs.declared.alloc.Global.{Global}
+use Rattle.std.specs.declared.sync.Arc.{Arc}
+use Rattle.std.proofs.lemmas.Bool.{and_from, and_parts, lt-ltb, le-leb, leb-false}
+use Rattle.std.proofs.lemmas.List.{length-map}
+use Rattle.wire.specs.Lists.{Each}
+use Rattle.wire.specs.Messages.{NewViewData, ViewChangeData, new_view as NewView}
+use Rattle.wire.specs.Words.{requests_of, requests_of_all, carried}
+use Rattle.wire.proofs.Telling.{reads_requests}
+use Rattle.ordering.specs.Log as logs
+use Rattle.ordering.specs.Keeping.{IsLog}
+use Rattle.events.specs.declared.output.Output.{Output}
+use Rattle.protocol.specs.System.Configuration.{Configuration, members, primary, span}
+use Rattle.protocol.specs.System.Frames.{IsPosted}
+use Rattle.protocol.specs.System.Trace.{Entry, Once, Has}
+use Rattle.protocol.specs.System.Trace.Entry.{Sent}
+use Rattle.protocol.specs.Replica.Certificates.{view, target, is_later, new_view_from, new_view_in, taken}
+use Rattle.protocol.specs.Replica.RightReplica.{HasSeen}
+use Rattle.protocol.specs.Replica.Selection.{is_start, may_all_stand, may_select, null_batch}
+use Rattle.protocol.specs.Replica.State.{State}
+use Rattle.protocol.proofs.Agreement.Marks.{largest_of-le}
+use Rattle.protocol.proofs.Words.Elements.{each_append, each_has}
+use Rattle.view_change.specs.Laws.{AreAlike, SizesDecide}
+use Rattle.view_change.specs.ReceivedData.{HeldData, held_of, held_for, frames_for, pairs_for}
+use Rattle.view_change.specs.ReceivedView.{configuration_of}
+use Rattle.view_change.specs.Selecting.{AreFrom, how_many_from, meets}
+use Rattle.view_change.specs.Sets.{sized, texts_of}
+use Rattle.replica_histories.specs.Changes.{FitsChanges}
+use Rattle.replica_histories.specs.Claims.{WasLogged}
+use Rattle.replica_histories.specs.Desk.{Desk, desk_from}
+use Rattle.replica_histories.specs.Events as events
+use Rattle.replica_histories.specs.Events.{Start, behind}
+use Rattle.replica_histories.specs.Views.{begun_log, start_due}
+use Rattle.replica_histories.proofs.Batches.{begun_view}
+use Rattle.replica_histories.proofs.Beginning.{start_small}
+use Rattle.replica_histories.proofs.ChangesMade.{views_are_begun}
+use Rattle.replica_histories.proofs.ChangesPassing.{outputs_pass}
+use Rattle.replica_histories.proofs.NewViews.{new_views_fit}
+use Rattle.replica_histories.proofs.NumbersBegun.{logs_are_of_no_later_view}
+use Rattle.replica_histories.proofs.Seeing.{logged_are_seen}
+use Rattle.replica_histories.proofs.Words.{primary_same}
+use Rattle.replica.specs.State.{OrdererData, ReplicaData, IsOrderer, AreOne}
+use Rattle.replica.specs.Waiting.{with_view}
+use Rattle.replica.specs.Beginning.{BeginsView}
+use Rattle.replica.specs.Claiming.{SaysFrame}
+use Rattle.replica.specs.Desks.{given, changes_of, IsDeskOf, FitsEvent, FitsWaiting, Stands}
+use Rattle.replica.specs.EnteringViews.{Enters, IsSelection, SignsView, new_view_of}
+use Rattle.replica.specs.Flags.{FitsFlags}
+use Rattle.replica.specs.Going.{Rests}
+use Rattle.replica.proofs.BegunViews.{Begins, begins, begun_orderer, begun_stands, calls_differ, all_voted, one_party, start_of}
+use Rattle.replica.proofs.Flags.{flags_begun}
+use Rattle.replica.proofs.Given.{given_one}
+use Rattle.replica.proofs.Staying.{fits_behind}
+
+-- ---- how much it has
+
+pub few_batches : (c : Configuration) (view : ℕ) (set : List (ℕ × ViewChangeData)) (start : ℕ) (root : List ℕ) (batches : List (List ℕ)) → meets c view set start root batches ≡ true → c.period ≤ 16 → length batches ≤ 32
+few_batches c view set start root batches fit short =
+    let p = and_parts (is_start c set start root && (length batches == how_many_from c set start)) (may_all_stand c view set (suc start) batches) fit in
+    let q = and_parts (is_start c set start root) (length batches == how_many_from c set start) p.0 in
+    let long = eqb-true (length batches) (how_many_from c set start) q.1 in
+    let most = largest_of-le (start + span c) set in
+    omega (arith, long, most, short)
+
+-- what is selected has as few batches
+pub selects_few : (o : OrdererData) (start : ℕ) (root : List ℕ) (batches : List (Arc (List ℕ) Global)) → IsSelection o start root (texts_of batches) → length batches ≤ 32
+selects_few o start root batches sel =
+    let few = few_batches (sized o.received.sizes) o.target (pairs_for o.target o.received.held) start root (texts_of batches) sel.meets o.received.sizes.short in
+    let same = length-map batches arc_value in
+    omega (arith, few, same)
+
+pub starts_small : (o : OrdererData) (start : ℕ) (root frame : List ℕ) (texts : List (List ℕ)) → SignsView o (new_view_of o start root texts) frame → start < 2 ^ 48
+starts_small o start root frame texts signs = start_small (configuration_of o.received) (new_view_of o start root texts) signs.right
+
+-- ---- what it carries was seen
+
+-- the view changes that are held
+frames_are : (P : List ℕ → Type 0) (v : ℕ) (held : List (Option HeldData)) → ((s : ℕ) (h : HeldData) → held_of held s ≡ Some h → P h.frame) → Each P (frames_for v held)
+frames_are P v [] f = tt
+frames_are P v (None ∷ held) f = frames_are P v held (λ s h is. f (suc s) h is)
+frames_are P v (Some x ∷ held) f = go (x.change.view == v) (frames_are P v held (λ s h is. f (suc s) h is))
+  where
+    go : (b : Bool) → Each P (frames_for v held) → Each P (map (λ (h : HeldData). h.frame) (cond b (x ∷ held_for v held) (held_for v held)))
+    go true e = (f zero x refl, e)
+    go false e = e
+
+-- the requests of batches that are claimed
+requests_are : (P : List ℕ → Type 0) (texts batches : List (List ℕ)) → ((text : List ℕ) → Has (λ t. t ≡ text) texts → Each P (requests_of text)) → AreFrom texts batches → Each P (requests_of_all batches)
+requests_are P texts [] f from = tt
+requests_are P texts (batch ∷ batches) f from = each_append P (requests_of batch) (requests_of_all batches) (go from.0) (requests_are P texts batches f from.1)
+  where
+    none : requests_of null_batch ≡ []
+    none = reads_requests [] (omega arith) tt
+
+    go : Has (λ t. t ≡ batch) (null_batch ∷ texts) → Each P (requests_of batch)
+    go (inl same) = subst (λ (b : List ℕ). Each P (requests_of b)) same (subst (Each P) (sym none) tt)
+    go (inr has) = f batch has
+
+-- ---- it is taken
+
+module _ (decide : SizesDecide) (o : OrdererData) (start : ℕ) (root frame : List ℕ) (texts : List (List ℕ)) (own : IsOrderer o) (sel : IsSelection o start root texts) (signs : SignsView o (new_view_of o start root texts) frame) where
+  abbrev new : NewViewData
+  new = new_view_of o start root texts
+
+  abbrev me : ℕ
+  me = o.endpoint.me
+
+  module _ (c : Configuration) (past : List Entry) (known : members c ≡ o.endpoint.membership) (period : c.period ≡ o.received.sizes.period)
+      (faults : o.log.faults ≡ c.faults) (is_me : o.log.me ≡ me) (is_view : view c past ≡ o.log.view) (is_active : nat_le (target past) o.log.view ≡ o.log.active) (is_target : target past ≡ o.target) where
+    pub posted : IsPosted c me (NewView new) [] frame
+    posted = signs.signed c known
+
+    alike : AreAlike c (configuration_of o.received)
+    alike = record { seed = ap (λ m. m.seed) known ∙ sym own.2; faults = ap (λ m. m.faults) known ∙ sym own.3; period = period }
+
+    right : may_select c new ≡ true
+    right = (decide c (configuration_of o.received) alike).selected new ∙ signs.right
+
+    pub is_primary : primary c new.view ≡ me
+    is_primary = sym (primary_same c o.log new.view faults) ∙ sel.primary ∙ is_me
+
+    later : is_later (view c past) (target past) new ≡ true
+    later =
+        let above = leb-false (target past) o.log.view (is_active ∙ sel.inactive) in
+        and_from (nat_lt (view c past) o.target) (nat_le (target past) o.target)
+        (lt-ltb (view c past) o.target (omega (arith, above, is_view, is_target))) (le-leb (target past) o.target (omega (arith, is_target)))
+
+    brings : new_view_in c (Sent me frame) ≡ Some new
+    brings =
+        ap (option_and_then (new_view_from c)) posted.says
+        ∙ ap (λ (b : Bool). then_some b new) (and_from (me == primary c new.view) (may_select c new) (eq-eqb me (primary c new.view) (sym is_primary)) right)
+
+    pub is_taken : taken c past (Sent me frame) ≡ Some new
+    is_taken =
+        ap (option_and_then (λ (x : NewViewData). then_some (is_later (view c past) (target past) x) x)) brings
+        ∙ ap (λ (b : Bool). then_some b new) later
+
+    pub is_seen : FitsChanges c me o.log (changes_of o) past → Each (λ bytes. Once (HasSeen bytes) past) (carried (NewView new))
+    is_seen x =
+        each_append (λ bytes. Once (HasSeen bytes) past) (frames_for o.target o.received.held) (requests_of_all texts)
+        (frames_are (λ bytes. Once (HasSeen bytes) past) o.target o.received.held x.received.seen)
+        (requests_are (λ bytes. Once (HasSeen bytes) past) o.claims.texts texts
+        (λ text has. let was : WasLogged c me past text = each_has (WasLogged c me past) o.claims.texts text x.claims.texts has in logged_are_seen c me was.0 was.1 text past was.2) sel.from)
+
+-- ---- all stands behind it
+
+module _ (decide : SizesDecide) (r : ReplicaData) (start : ℕ) (root frame : List ℕ) (texts : List (List ℕ)) (before said after : List Output) (n : ReplicaData)
+    (one : AreOne r.orderer r.desk) (own : IsOrderer r.orderer) (is_log : IsLog r.orderer.log) (clients : r.desk.executed.clients ≡ r.desk.membership.clients)
+    (sel : IsSelection r.orderer start root texts) (signs : SignsView r.orderer (new_view_of r.orderer start root texts) frame) (says : SaysFrame r.orderer frame before said)
+    (enters : Enters r.orderer.target (start_of (new_view_of r.orderer start root texts)) texts (Some frame) r said n after) where
+  abbrev o : OrdererData
+  o = r.orderer
+
+  abbrev its : NewViewData
+  its = new_view_of r.orderer start root texts
+
+  abbrev mine : ℕ
+  mine = r.orderer.endpoint.me
+
+  small : start < 2 ^ 48
+  small = starts_small r.orderer start root frame texts signs
+
+  k : Begins its (Some frame) r said n after
+  k = begins its (Some frame) r said n after is_log small enters
+
+  abbrev begun : OrdererData
+  begun = begun_orderer o its (Some frame) k.claims
+
+  abbrev low : ℕ
+  low = (begun_log o.log its).low
+
+  module _ (c : Configuration) (s : Start) (desk : Desk) (known : members c ≡ r.desk.membership) (rests : Rests r) (is : IsDeskOf c r.desk desk) (f : FitsEvent c mine s o desk r.desk.waiting [] before) where
+    abbrev past : List Entry
+    past = behind s (given mine before)
+
+    abbrev e : Entry
+    e = Sent mine frame
+
+    to : members c ≡ o.endpoint.membership
+    to = known ∙ one.1
+
+    period : c.period ≡ o.received.sizes.period
+    period = is.period_is ∙ sym one.2
+
+    signed : IsPosted c mine (NewView its) [] frame
+    signed = posted decide o start root frame texts own sel signs c past to period f.fits.of_log.faults own.0 f.fits.of_log.view f.fits.of_log.active f.changes.target
+
+    leads : primary c its.view ≡ mine
+    leads = is_primary decide o start root frame texts own sel signs c past to period f.fits.of_log.faults own.0 f.fits.of_log.view f.fits.of_log.active f.changes.target
+
+    takes : taken c past e ≡ Some its
+    takes = is_taken decide o start root frame texts own sel signs c past to period f.fits.of_log.faults own.0 f.fits.of_log.view f.fits.of_log.active f.changes.target
+
+    seen : Each (λ bytes. Once (HasSeen bytes) past) (carried (NewView its))
+    seen = is_seen decide o start root frame texts own sel signs c past to period f.fits.of_log.faults own.0 f.fits.of_log.view f.fits.of_log.active f.changes.target f.changes
+
+    on : events.Fits c mine s (desk_from low desk) (begun_log o.log its) (start_due desk its) (e ∷ given mine before)
+    on =
+        new_views_fit c mine s desk o.log (given mine before) its frame (λ i. (rests.0 i).1)
+        (subst (λ (st : State). logs.committed_batch o.log (suc st.number) ≡ None) (sym is.state) rests.1) leads takes seen signed f.fits
+
+    changes : FitsChanges c mine (begun_log o.log its) (changes_of begun) (e ∷ past)
+    changes =
+        views_are_begun c mine past e o.log (changes_of o) its (Some frame) k.claims mine
+        (outputs_pass c mine s desk (desk_from low desk) o.log (begun_log o.log its) [] (start_due desk its) (given mine before) e f.fits on)
+        takes signed.says k.kept (refl, leads, signed) f.changes
+
+    numbers : FitsWaiting c mine begun (with_view k.calls r.desk.waiting) (desk_from low desk) (e ∷ past)
+    numbers own =
+        subst (λ (v : ℕ). FitsFlags c mine v begun.used (with_view k.calls r.desk.waiting) desk.state desk.waiting (e ∷ past)) (sym (begun_view o.log its is_log small))
+        (flags_begun c mine r.desk.waiting k.calls desk.state desk.waiting past e its is.waiting takes (logs_are_of_no_later_view c mine o.log past f.fits.of_log)
+        (calls_differ c r.desk.waiting.requests desk.waiting is.waiting is.differ) (k.are c (ap (λ m. m.clients) known ∙ sym clients)))
+
+    gives : given mine said ≡ e ∷ given mine before
+    gives = given_one mine before said says.output says.given_is ∙ ap (λ (x : Entry). x ∷ given mine before) says.sends.sends
+
+    fits : FitsEvent c mine s begun (desk_from low desk) (with_view k.calls r.desk.waiting) (start_due desk its) said
+    fits =
+        fits_behind c mine s o begun desk (desk_from low desk) r.desk.waiting (with_view k.calls r.desk.waiting) [] (start_due desk its) before said e gives refl f on numbers changes
+
+    once : Once (λ earlier x. taken c earlier x ≡ Some its) (behind s (given mine said))
+    once = subst (λ (es : List Entry). Once (λ earlier x. taken c earlier x ≡ Some its) (behind s es)) (sym gives) (inl takes)
+
+    stands : Stands c s n.orderer n.desk [] after
+    stands = begun_stands its (Some frame) r said n after k c s desk to one.0 is once fits
+
+  pub own_view_begins : BeginsView r before n after
+  own_view_begins = record {
+    stands = λ c s known rests st. stands c s st.desk known rests st.is (subst (λ (m : ℕ). FitsEvent c m s o st.desk r.desk.waiting [] before) one.0 st.fits);
+    party = one_party its (Some frame) r said n after k;
+    voted = λ rests. all_voted its (Some frame) r said n after k is_log small;
+  }
+
+-- by equal parts
+pub begins_so : (decide : SizesDecide) (r : ReplicaData) (start : ℕ) (root frame : List ℕ) (texts : List (List ℕ)) (before said after : List Output) (n : ReplicaData)
+    (view : ℕ) (bytes : List ℕ) (signed : OrdererData) (mid : ReplicaData)
+    → AreOne r.orderer r.desk → IsOrderer r.orderer → IsLog r.orderer.log → r.desk.executed.clients ≡ r.desk.membership.clients
+    → IsSelection r.orderer start root texts → SignsView r.orderer (new_view_of r.orderer start root texts) frame
+    → signed ≡ r.orderer → bytes ≡ frame → SaysFrame signed bytes before said
+    → view ≡ r.orderer.target → mid ≡ r → Enters view (start_of (new_view_of r.orderer start root texts)) texts (Some frame) mid said n after
+    → BeginsView r before n after
+begins_so decide r start root frame texts before said after n view bytes signed mid one own is_log clients sel signs same_orderer same_bytes says same_view same enters =
+    own_view_begins decide r start root frame texts before said after n one own is_log clients sel signs
+    (subst (λ (o : OrdererData). SaysFrame o frame before said) same_orderer (subst (λ (b : List ℕ). SaysFrame signed b before said) same_bytes says))
+    (subst (λ (v : ℕ). Enters v (start_of (new_view_of r.orderer start root texts)) texts (Some frame) r said n after) same_view
+    (subst (λ (m : ReplicaData). Enters view (start_of (new_view_of r.orderer start root texts)) texts (Some frame) m said n after) same enters))

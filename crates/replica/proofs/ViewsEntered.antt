@@ -1,0 +1,345 @@
+-- The replica enters a view by a new view that was taken, or sent: what stands behind it, with all that it asks for.
+use Rattle.std.proofs.Common.{◌≡◌, ◌≢◌, ℕ, suc, ◌+◌, ◌-◌, ◌≤◌, ◌<◌, ◌^◌, ◌⊎◌, inl, inr, Bool, true, false, cond, not, ◌&&◌, ◌==◌, List, [], ◌∷◌, length, Option, Some, None, refl, sym, ap, ◌∙◌, subst, arith, nat_lt, nat_le}
+use Rattle.std.specs.Prelude.{AllPairs, is_none, option_map}
+use Rattle.std.proofs.lemmas.Bool.{leb-true, leb-false, ltb-true, ltb-false, le-ltb, lt-ltb}
+use Rattle.std.proofs.lemmas.Option.{slice_get_past}
+use Rattle.sha2.specs.Sha256.{sha256}
+use Rattle.terms.specs.declared.state.Level.TheVariants as levels
+use Rattle.wire.specs.Lists.{Each}
+use Rattle.wire.specs.Messages.{MessageData as Message, CheckpointEntryData as CheckpointEntry, NewViewData, new_view as NewView, fetch as Fetch}
+use Rattle.events.specs.declared.output.Output.{Output}
+use Rattle.ordering.specs.Log as logs
+use Rattle.ordering.specs.Log.{LogData}
+use Rattle.ordering.specs.Keeping.{IsLog}
+use Rattle.ordering.proofs.Reading.{above_low}
+use Rattle.authenticator.specs.Membership.{Membership}
+use Rattle.view_change.specs.ClaimsView.{ClaimsData}
+use Rattle.protocol.specs.System.Configuration.{Configuration, members}
+use Rattle.protocol.specs.System.Trace.{Entry, Once}
+use Rattle.protocol.specs.Replica.Certificates.{brought, taken}
+use Rattle.protocol.specs.Replica.State.{Call}
+use Rattle.protocol.proofs.Words.Options.{some_injective}
+use Rattle.protocol.proofs.Agreement.Marks.{takes, selected_in}
+use Rattle.replica_histories.specs.Desk.{Desk, desk_from}
+use Rattle.replica_histories.specs.Events as histories
+use Rattle.replica_histories.specs.Events.{Start, behind}
+use Rattle.replica_histories.specs.Transfers.{open_number}
+use Rattle.replica_histories.specs.Views.{begun_log, start_due, with_batches}
+use Rattle.replica_histories.specs.Changes.{AddsBatches, BeginsClaims, FitsChanges, IsOwnFrame, Passes}
+use Rattle.replica_histories.proofs.Batches.{begun_batch, begun_low, begun_view, stays}
+use Rattle.replica_histories.proofs.Beginning.{start_small}
+use Rattle.replica_histories.proofs.ChangesMade.{views_are_begun}
+use Rattle.replica_histories.proofs.Cutting.{cut_same}
+use Rattle.replica_histories.proofs.NumbersBegun.{logs_are_of_no_later_view}
+use Rattle.replica_histories.proofs.Words.{gated, given_not}
+use Rattle.replica.specs.declared.waiting.BegunCall.{BegunCall}
+use Rattle.replica.specs.declared.waiting.WaitingRequest.{WaitingRequest}
+use Rattle.replica.specs.State.{OrdererData, OpenData, DeskData, ReplicaData, AreOne}
+use Rattle.replica.specs.Waiting.{WaitingData, with_view}
+use Rattle.replica.specs.Flags.{FitsFlags}
+use Rattle.replica.specs.Desks.{AreCallsOf, AreOfDifferentClients, FitsEvent, FitsWaiting, IsDeskOf, Stands, WasSaid, changes_of, given}
+use Rattle.replica.specs.Desking.{desk_above}
+use Rattle.replica.specs.Fetching.{SaysFetch, aimed_at, aiming, fetch_of}
+use Rattle.replica.specs.Going.{IsOneParty, IsVoted, IsVotedAll}
+use Rattle.replica.specs.Saying.{Says}
+use Rattle.replica.specs.EnteringViews.{AreBegun, Enters, FetchesStart, SaysVotesOf, entering}
+use Rattle.replica.proofs.EnteringViews.{begun_desk}
+use Rattle.replica.proofs.Flags.{flags_begun}
+use Rattle.replica.proofs.Following.{aim_of, aimed_is, aims_desk}
+use Rattle.replica.proofs.Lists.{Pairs, pairs_of, all_pairs}
+use Rattle.replica.proofs.StartsFetched.{start_aims}
+use Rattle.replica.proofs.Staying.{said_on}
+
+-- ---- what the parts are then
+
+abbrev pub start_in : NewViewData → CheckpointEntry
+start_in new = record { number = new.start; digest = new.root }
+
+-- the orderer behind the batches
+abbrev pub begun_orderer : NewViewData → Option (List ℕ) → ClaimsData → OrdererData → OrdererData
+begun_orderer new own claims o = record o {
+  log = begun_log o.log new;
+  used = new.start + length new.batches;
+  begun = new.start + length new.batches;
+  new_view = own;
+  claims = claims;
+}
+
+-- and the desk, whose calls alone have numbers
+abbrev pub begun_parts : NewViewData → Option (List ℕ) → ClaimsData → List BegunCall → ReplicaData → ReplicaData
+begun_parts new own claims calls r = record r {
+  orderer = begun_orderer new own claims r.orderer;
+  desk = desk_above (logs.cut_to (logs.entered r.orderer.log new.view) new.start).low (record r.desk { waiting = with_view calls r.desk.waiting });
+}
+
+-- what was entered: the parts, and then what is fetched and voted
+pub record Entered (new : NewViewData) (own : Option (List ℕ)) (r : ReplicaData) (before : List Output) (n : ReplicaData) (after : List Output) : Type 0 where
+  pub calls : List BegunCall
+  pub are : AreBegun r.desk.executed.clients new.batches calls
+  pub claims : ClaimsData
+  pub begins : BeginsClaims r.orderer.log new r.orderer.claims claims
+  pub fetched : ReplicaData
+  pub said : List Output
+  pub fetches : FetchesStart (start_in new) (begun_parts new own claims calls r) before fetched said
+  pub orderer : OrdererData
+  pub votes : SaysVotesOf new.start (new.start + length new.batches) fetched.orderer said orderer after
+  pub new_is : n ≡ record fetched { orderer = orderer }
+
+pub entered : (new : NewViewData) (own : Option (List ℕ)) (r : ReplicaData) (before : List Output) (n : ReplicaData) (after : List Output) → Enters new.view (start_in new) new.batches own r before n after → Entered new own r before n after
+entered new own r before n after x = record {
+  calls = x.noted.calls;
+  are = x.noted.are;
+  claims = x.logs.0;
+  begins = record { mid = x.cuts.1.0; cuts = x.cuts.1.1; adds = adds };
+  fetched = x.fetched;
+  said = x.said;
+  fetches = subst (λ (y : ReplicaData). FetchesStart (start_in new) y before x.fetched x.said) whole x.fetches;
+  orderer = x.orderer;
+  votes = x.votes;
+  new_is = x.new_is;
+}
+  where
+    in_view : LogData
+    in_view = logs.entered r.orderer.log new.view
+
+    cut_orderer : OrdererData
+    cut_orderer = record (entering new.view (new.start + length new.batches) own r.orderer) { log = logs.cut_to in_view new.start; claims = x.cuts.1.0 }
+
+    cut_is : x.cut.orderer ≡ cut_orderer
+    cut_is = ap (λ (y : ReplicaData). y.orderer) x.cuts.2 ∙ x.cuts.1.2
+
+    adds : AddsBatches (logs.cut_to in_view new.start) new.view (suc new.start) new.batches x.cuts.1.0 x.logs.0
+    adds =
+        subst (λ (v : ℕ). AddsBatches (logs.cut_to in_view new.start) v (suc new.start) new.batches x.cuts.1.0 x.logs.0) (cut_same (λ m. m.view) (λ m h rows. refl) in_view new.start)
+        (subst (λ (o : OrdererData). AddsBatches o.log o.log.view (suc new.start) new.batches o.claims x.logs.0) cut_is x.logs.1)
+
+    logged_is : x.logged ≡ begun_orderer new own x.logs.0 r.orderer
+    logged_is = x.logs.2 ∙ ap (λ (o : OrdererData). let k : OrdererData = record o { log = with_batches o.log (suc new.start) new.batches; claims = x.logs.0 } in k) cut_is
+
+    whole : record x.cut { orderer = x.logged } ≡ begun_parts new own x.logs.0 x.noted.calls r
+    whole =
+        ap (λ (o : OrdererData). let k : ReplicaData = record x.cut { orderer = o } in k) logged_is
+        ∙ ap (λ (y : ReplicaData). let k : ReplicaData = record y { orderer = begun_orderer new own x.logs.0 r.orderer } in k) x.cuts.2
+        ∙ ap (λ (d : DeskData). let k : ReplicaData = record r { orderer = begun_orderer new own x.logs.0 r.orderer; desk = desk_above (logs.cut_to in_view new.start).low d } in k) x.noted.new_is
+
+-- ---- the party, and what is fetched
+
+-- the orderer stays, and so does the party
+pub record FetchedSo (r n : ReplicaData) : Type 0 where
+  pub orderer : n.orderer ≡ r.orderer
+  pub me : n.desk.me ≡ r.desk.me
+  pub membership : n.desk.membership ≡ r.desk.membership
+  pub stopped : n.stopped ≡ r.stopped
+
+fetched_so : (entry : CheckpointEntry) (r n : ReplicaData) (before after : List Output) → FetchesStart entry r before n after → FetchedSo r n
+fetched_so entry r n before after (inl (d, aims, same, says)) = record {
+  orderer = ap (λ (y : ReplicaData). y.orderer) same;
+  me = ap (λ (y : ReplicaData). y.desk.me) same ∙ ap (λ (k : DeskData). k.me) aims.1;
+  membership = ap (λ (y : ReplicaData). y.desk.membership) same ∙ ap (λ (k : DeskData). k.membership) aims.1;
+  stopped = ap (λ (y : ReplicaData). y.stopped) same;
+}
+fetched_so entry r n before after (inr (behind_it, same, none)) = record {
+  orderer = ap (λ (y : ReplicaData). y.orderer) same;
+  me = ap (λ (y : ReplicaData). y.desk.me) same;
+  membership = ap (λ (y : ReplicaData). y.desk.membership) same;
+  stopped = ap (λ (y : ReplicaData). y.stopped) same;
+}
+
+pub entered_party : (new : NewViewData) (own : Option (List ℕ)) (r : ReplicaData) (before : List Output) (n : ReplicaData) (after : List Output) → Entered new own r before n after → IsOneParty r n
+entered_party new own r before n after x = record {
+  endpoint = ap (λ (y : ReplicaData). y.orderer.endpoint) x.new_is ∙ x.votes.same.endpoint ∙ ap (λ (o : OrdererData). o.endpoint) so.orderer;
+  me = ap (λ (y : ReplicaData). y.desk.me) x.new_is ∙ so.me;
+  membership = ap (λ (y : ReplicaData). y.desk.membership) x.new_is ∙ so.membership;
+  stopped = ap (λ (y : ReplicaData). y.stopped) x.new_is ∙ so.stopped;
+}
+  where
+    so : FetchedSo (begun_parts new own x.claims x.calls r) x.fetched
+    so = fetched_so (start_in new) (begun_parts new own x.claims x.calls r) x.fetched before x.said x.fetches
+
+module _ (c : Configuration) (s : Start) (r n : ReplicaData) (later : Desk) (new : NewViewData) (before after : List Output) (known : members c ≡ r.orderer.endpoint.membership) (mine : r.desk.me ≡ r.orderer.endpoint.me)
+    (is : IsDeskOf c r.desk later) (once : Once (λ past e. taken c past e ≡ Some new) (behind s (given r.orderer.endpoint.me before)))
+    (f : FitsEvent c r.orderer.endpoint.me s r.orderer later r.desk.waiting (start_due later new) before) where
+  due_ahead : aimed_at r.desk < new.start → start_due later new ≡ Fetch new.start levels.Root 0 ∷ []
+  due_ahead ahead =
+      ap (λ (b : Bool). cond b (Fetch new.start levels.Root 0 ∷ []) [])
+      (lt-ltb (open_number later.state.number later.transfer) new.start (subst (λ (k : ℕ). k < new.start) (sym (aimed_is c r.desk later is)) ahead))
+
+  none_behind : new.start ≤ aimed_at r.desk → start_due later new ≡ []
+  none_behind behind_it =
+      ap (λ (b : Bool). cond b (Fetch new.start levels.Root 0 ∷ []) [])
+      (le-ltb (open_number later.state.number later.transfer) new.start (subst (λ (k : ℕ). new.start ≤ k) (sym (aimed_is c r.desk later is)) behind_it))
+
+  abbrev aimed : ReplicaData
+  aimed = record r { desk = aiming (start_in new) r.desk }
+
+  aimed_stands : aimed_at r.desk < new.start → SaysFetch aimed before after → Stands c s r.orderer (aiming (start_in new) r.desk) [] after
+  aimed_stands ahead (inl (none, unsaid)) = absurd (given_not (Some (aim_of (start_in new) r.desk)) (aim_of (start_in new) r.desk) refl none)
+  aimed_stands ahead (inr (o, there, says)) = record {
+    desk = record later { transfer = Some (aim_of (start_in new) r.desk).transfer };
+    is = aims_desk c s r.orderer r.desk later r.desk.waiting (start_in new) before after is;
+    fits = subst (λ (m : ℕ). FitsEvent c m s r.orderer (record later { transfer = Some (aim_of (start_in new) r.desk).transfer }) r.desk.waiting [] after) (sym mine)
+        (start_aims c s r.orderer r.desk later r.desk.waiting new before after is [] known once ahead
+        (subst (λ (k : OpenData). Says r.orderer (fetch_of k.transfer) before after) (sym (some_injective (aim_of (start_in new) r.desk) o there)) says)
+        (subst (λ (due : List Message). FitsEvent c r.orderer.endpoint.me s r.orderer later r.desk.waiting due before) (due_ahead ahead) f));
+  }
+
+  pub fetched_stands : FetchesStart (start_in new) r before n after → Stands c s n.orderer n.desk [] after
+  fetched_stands (inl (d, aims, same, says)) =
+      subst (λ (y : ReplicaData). Stands c s y.orderer y.desk [] after) (sym at) (aimed_stands aims.0 (subst (λ (y : ReplicaData). SaysFetch y before after) at says))
+    where
+      at : n ≡ aimed
+      at = same ∙ ap (λ (k : DeskData). let y : ReplicaData = record r { desk = k } in y) aims.1
+  fetched_stands (inr (behind_it, same, none)) =
+      subst (λ (y : ReplicaData). Stands c s y.orderer y.desk [] after) (sym same)
+      (subst (λ (outs : List Output). Stands c s r.orderer r.desk [] outs) (sym none) (record {
+        desk = later;
+        is = is;
+        fits = subst (λ (m : ℕ). FitsEvent c m s r.orderer later r.desk.waiting [] before) (sym mine)
+            (subst (λ (due : List Message). FitsEvent c r.orderer.endpoint.me s r.orderer later r.desk.waiting due before) (none_behind behind_it) f);
+      }))
+
+-- ---- no vote is left
+
+-- the log asks for no vote of a number that has no batch
+unlogged_voted : (m : LogData) (i : ℕ) → logs.logged_batch m i ≡ None → IsVoted m i
+unlogged_voted m i none = (
+  gated (m.active && not (m.me == logs.primary m m.view) && is_none (logs.prepare_of m i m.me)) (logs.logged_digest m i) digest,
+  gated (m.active && logs.is_prepared m i && is_none (logs.commit_of m i m.me)) (logs.logged_digest m i) digest,
+)
+  where
+    go : (b : Bool) → cond b (logs.row_of m i).batch None ≡ None → cond b (logs.digest_of (logs.row_of m i)) None ≡ None
+    go true h = ap (option_map sha256) h
+    go false h = refl
+
+    digest : logs.logged_digest m i ≡ None
+    digest = go (logs.is_in_marks m i) none
+
+-- where a view begins, it asks for those of the new view's numbers alone
+begun_votes : (log : LogData) (new : NewViewData) (i : ℕ) → IsLog log → new.start < 2 ^ 48 → ((new.start < i) × (i ≤ new.start + length new.batches)) ⊎ IsVoted (begun_log log new) i
+begun_votes log new i is small = go (nat_lt new.start i) (nat_le i (new.start + length new.batches)) refl refl
+  where
+    nothing : (new.start < i → new.start + length new.batches < i) → (b : Bool) → logs.is_in_marks (begun_log log new) i ≡ b → logs.logged_batch (begun_log log new) i ≡ None
+    nothing out false w = ap (λ (t : Bool). cond t (logs.row_of (begun_log log new) i).batch None) w
+    nothing out true w =
+        let low = begun_low log new is small in
+        let over = above_low (begun_log log new) i w in
+        let above : new.start < i = omega (arith, low, over) in
+        let past = out above in
+        begun_batch log new is small i w above ∙ slice_get_past new.batches (i - suc new.start) (omega (arith, past, above))
+
+    none : (new.start < i → new.start + length new.batches < i) → IsVoted (begun_log log new) i
+    none out = unlogged_voted (begun_log log new) i (nothing out (logs.is_in_marks (begun_log log new) i) refl)
+
+    go : (a b : Bool) → nat_lt new.start i ≡ a → nat_le i (new.start + length new.batches) ≡ b → ((new.start < i) × (i ≤ new.start + length new.batches)) ⊎ IsVoted (begun_log log new) i
+    go true true h k = inl (ltb-true new.start i h, leb-true i (new.start + length new.batches) k)
+    go true false h k = inr (none (λ above. leb-false i (new.start + length new.batches) k))
+    go false b h k = inr (none (λ above. let under = ltb-false new.start i h in absurd (omega (arith, above, under))))
+
+pub entered_voted : (new : NewViewData) (own : Option (List ℕ)) (r : ReplicaData) (before : List Output) (n : ReplicaData) (after : List Output) → IsLog r.orderer.log → new.start < 2 ^ 48 → Entered new own r before n after → IsVotedAll n.orderer.log
+entered_voted new own r before n after is small x i = subst (λ (y : ReplicaData). IsVoted y.orderer.log i) (sym x.new_is) (x.votes.voted i (pick (begun_votes r.orderer.log new i is small)))
+  where
+    pick : ((new.start < i) × (i ≤ new.start + length new.batches)) ⊎ IsVoted (begun_log r.orderer.log new) i → ((new.start < i) × (i ≤ new.start + length new.batches)) ⊎ IsVoted x.fetched.orderer.log i
+    pick (inl within) = inl within
+    pick (inr voted) =
+        inr (subst (λ (o : OrdererData). IsVoted o.log i)
+        (sym (fetched_so (start_in new) (begun_parts new own x.claims x.calls r) x.fetched before x.said x.fetches).orderer) voted)
+
+-- ---- the view begins
+
+-- the calls of requests of different clients are of different clients
+abbrev CallsDiffer : Call → Call → Type 0
+CallsDiffer = λ call twin. call.client ≢ twin.client
+
+abbrev RequestsDiffer : WaitingRequest → WaitingRequest → Type 0
+RequestsDiffer = λ r t. r.client.number ≢ t.client.number
+
+each_other : (c : Configuration) (r : WaitingRequest) (x : Call) (rs : List WaitingRequest) (calls : List Call) → x.client ≡ r.client.number → AreCallsOf c rs calls → Each (RequestsDiffer r) rs → Each (CallsDiffer x) calls
+each_other c r x [] [] same h d = tt
+each_other c r x [] (y ∷ calls) same h d = absurd h
+each_other c r x (t ∷ rs) [] same h d = absurd h
+each_other c r x (t ∷ rs) (y ∷ calls) same h d = (λ e. d.0 (sym same ∙ e ∙ h.0.1), each_other c r x rs calls same h.1 d.1)
+
+pairs_called : (c : Configuration) (rs : List WaitingRequest) (calls : List Call) → AreCallsOf c rs calls → Pairs RequestsDiffer rs → Pairs CallsDiffer calls
+pairs_called c [] [] h d = tt
+pairs_called c [] (y ∷ calls) h d = absurd h
+pairs_called c (t ∷ rs) [] h d = absurd h
+pairs_called c (t ∷ rs) (y ∷ calls) h d = (each_other c t y rs calls h.0.1 h.1 d.0, pairs_called c rs calls h.1 d.1)
+
+calls_differ : (c : Configuration) (rs : List WaitingRequest) (calls : List Call) → AreCallsOf c rs calls → AreOfDifferentClients rs → AllPairs CallsDiffer calls
+calls_differ c rs calls h d = all_pairs CallsDiffer calls (pairs_called c rs calls h (pairs_of RequestsDiffer rs d))
+
+-- What fits behind the new view, before anything is fetched: the numbers are those of its calls, and its batches are
+-- claimed.
+module _ (c : Configuration) (s : Start) (r : ReplicaData) (desk : Desk) (new : NewViewData) (own : Option (List ℕ)) (before : List Output) (past : List Entry) (e : Entry) (sender : ℕ)
+    (one : AreOne r.orderer r.desk) (clients : r.desk.executed.clients ≡ r.desk.membership.clients) (is : IsDeskOf c r.desk desk)
+    (at : behind s (given r.orderer.endpoint.me before) ≡ e ∷ past)
+    (fits : histories.Fits c r.orderer.endpoint.me s (desk_from (begun_log r.orderer.log new).low desk) (begun_log r.orderer.log new) (start_due desk new) (given r.orderer.endpoint.me before))
+    (passes : Passes c r.orderer.endpoint.me past e r.orderer.log (begun_log r.orderer.log new)) (t : taken c past e ≡ Some new) (brings : brought c e ≡ Some (record { sender = sender; message = NewView new }))
+    (frame : IsOwnFrame c r.orderer.endpoint.me e new own) (was_said : WasSaid r.orderer.endpoint.me r.orderer.last_checkpoint past)
+    (changes : FitsChanges c r.orderer.endpoint.me r.orderer.log (changes_of r.orderer) past) where
+  abbrev me : ℕ
+  me = r.orderer.endpoint.me
+
+  abbrev log : LogData
+  log = r.orderer.log
+
+  abbrev later : Desk
+  later = desk_from (begun_log log new).low desk
+
+  small : new.start < 2 ^ 48
+  small = start_small c new (selected_in c e new (takes c me past e new t).brought)
+
+  module _ (n : ReplicaData) (after : List Output) (x : Entered new own r before n after) where
+    abbrev o : OrdererData
+    o = begun_orderer new own x.claims r.orderer
+
+    abbrev w : WaitingData
+    w = with_view x.calls r.desk.waiting
+
+    numbers : FitsWaiting c me o w later (e ∷ past)
+    numbers mine =
+        subst (λ (v : ℕ). FitsFlags c me v o.used w later.state later.waiting (e ∷ past)) (sym (begun_view log new passes.fits.is_log small))
+        (flags_begun c me r.desk.waiting x.calls desk.state desk.waiting past e new is.waiting t (logs_are_of_no_later_view c me log past passes.fits)
+        (calls_differ c r.desk.waiting.requests desk.waiting is.waiting is.differ) (x.are c (ap (λ (m : Membership). m.clients) is.members_are ∙ sym clients)))
+
+    fits_event : FitsEvent c me s o later w (start_due later new) before
+    fits_event = record {
+      fits = fits;
+      numbers = subst (FitsWaiting c me o w later) (sym at) numbers;
+      said = subst (WasSaid me o.last_checkpoint) (sym at) (said_on me r.orderer.last_checkpoint past e was_said);
+      changes = subst (FitsChanges c me o.log (changes_of o)) (sym at)
+          (views_are_begun c me past e log (changes_of r.orderer) new own x.claims sender passes t brings x.begins frame changes);
+    }
+
+    abbrev begun : ReplicaData
+    begun = begun_parts new own x.claims x.calls r
+
+    is_later : IsDeskOf c begun.desk later
+    is_later =
+        subst (λ (h : ℕ). IsDeskOf c begun.desk (desk_from h desk)) (sym (stays log new passes.fits.is_log small).low)
+        (begun_desk c r.desk desk x.calls (logs.cut_to (logs.entered log new.view) new.start).low is)
+
+    fetched : Stands c s x.fetched.orderer x.fetched.desk [] x.said
+    fetched =
+        fetched_stands c s begun x.fetched later new before x.said (is.members_are ∙ one.1) one.0 is_later (subst (Once (λ past e. taken c past e ≡ Some new)) (sym at) (inl t))
+        fits_event x.fetches
+
+    same : FetchedSo begun x.fetched
+    same = fetched_so (start_in new) begun x.fetched before x.said x.fetches
+
+    mine : x.fetched.desk.me ≡ x.fetched.orderer.endpoint.me
+    mine = same.me ∙ one.0 ∙ ap (λ (k : OrdererData). k.endpoint.me) (sym same.orderer)
+
+    known : members c ≡ x.fetched.orderer.endpoint.membership
+    known = is.members_are ∙ one.1 ∙ ap (λ (k : OrdererData). k.endpoint.membership) (sym same.orderer)
+
+    pub entered_stands : Stands c s n.orderer n.desk [] after
+    entered_stands = subst (λ (y : ReplicaData). Stands c s y.orderer y.desk [] after) (sym x.new_is) (record {
+      desk = fetched.desk;
+      is = fetched.is;
+      fits = subst (λ (m : ℕ). FitsEvent c m s x.orderer fetched.desk x.fetched.desk.waiting [] after) (sym mine)
+          (x.votes.goes c s fetched.desk x.fetched.desk.waiting [] known (subst (λ (m : ℕ). FitsEvent c m s x.fetched.orderer fetched.desk x.fetched.desk.waiting [] x.said) mine fetched.fits));
+    })
+
+    pub entered_votes : IsVotedAll n.orderer.log
+    entered_votes = entered_voted new own r before n after passes.fits.is_log small x

@@ -1,0 +1,15 @@
+use Rattle.std.proofs.Common.{rules, ◌≡◌, ap}
+use Rattle.std.specs.Arc.{arc_value}
+use Rattle.ordering.specs.Log.{LogData}
+use Rattle.replica.specs.State.{OrdererData}
+use Rattle.replica.specs.OrdererView.{orderer_data}
+use Rattle.replica.proofs.Logging.{logs_batch}
+use Rattle.replica.proofs.orderer.Orderer.log_batch.Goals as goal
+
+pub returns-clause-ok : goal.returns-clause-ok
+returns-clause-ok c =
+    let view : c.view-view.result.0 ≡ c.self.inside.log.view = search rules in
+    let text : arc_value c.in_ok-noted.noted ≡ arc_value c.args.batch = search rules in
+    logs_batch c.args.number.0 c.view-view.result.0 (arc_value c.args.batch) (arc_value c.in_ok-noted.noted) (orderer_data c.self.inside) c.args.self.now _ c.note_logged.new.self c.self.view_is view text
+    c.in_ok-note_logged.ensures.prepared c.in_ok-note_logged.ensures.logged c.in_ok-note_logged.ensures.texts
+    (ap (λ (l : LogData). let o : OrdererData = record (orderer_data c.self.inside) { log = l; claims = c.note_logged.new.self } in o) c.put_batch.ensures)

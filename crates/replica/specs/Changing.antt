@@ -1,0 +1,56 @@
+-- The replica's own view changes (Castro and Liskov, TOCS 2002, on view changes).
+use Rattle.std.specs.Prelude.{◌≡◌, ℕ, ◌<◌, Bool, true, false, List, [], Option, Some, None, Vec, max}
+use Rattle.std.specs.declared.alloc.Global.{Global}
+use Rattle.wire.specs.Messages.{CheckpointEntryData as CheckpointEntry, view_change as ViewChange}
+use Rattle.events.specs.declared.output.Output.{Output}
+use Rattle.posting.specs.Endpoint.{IsOwnSigned}
+use Rattle.protocol.specs.System.Configuration.{Configuration, is_number, members}
+use Rattle.replica_histories.specs.Events.{Start}
+use Rattle.view_change.specs.ReceivedData.{HeldData, with_held}
+use Rattle.replica.specs.State.{OrdererData, ReplicaData}
+use Rattle.replica.specs.Desks.{Stands}
+use Rattle.replica.specs.Going.{IsExecuted, IsOneParty, IsVotedAll}
+
+-- the greater of the own view and the last that a view change was said for
+abbrev pub aimed_view : OrdererData → ℕ
+aimed_view o = max o.log.view o.target
+
+-- a view that the replica may move to, above that
+abbrev pub IsNextView : OrdererData → ℕ → Type 0
+IsNextView o view = (aimed_view o < view) × (is_number view ≡ true)
+
+-- the view change for the view, with these checkpoints and all claims, is signed in this frame, and held
+pub record SignsChange (view : ℕ) (checkpoints : List CheckpointEntry) (old new : OrdererData)
+    (frame : List ℕ) : Type 0 where
+  pub own : HeldData
+  pub sender : own.sender ≡ old.log.me
+  pub frame_is : own.frame ≡ frame
+  pub change : own.change ≡ record {
+    view = view;
+    low = old.log.low;
+    checkpoints = checkpoints;
+    prepared = old.claims.prepared;
+    pre_prepared = old.claims.logged;
+  }
+  pub signed : IsOwnSigned old.endpoint (ViewChange own.change) frame
+  pub new_is : new ≡ record old { received = record old.received { held = with_held own old.received.held } }
+
+-- So it is where there is a frame; else nothing changes.
+abbrev pub MaySignChange : ℕ → List CheckpointEntry → OrdererData → OrdererData → Option (Vec ℕ Global) → Type 0
+MaySignChange view checkpoints old new None = new ≡ old
+MaySignChange view checkpoints old new (Some frame) = SignsChange view checkpoints old new frame.items
+
+-- The replica leaves its view by a view change that is said: what stood stands, and the log asks for nothing more.
+pub record LeavesView (old : ReplicaData) (before : List Output) (new : ReplicaData) (after : List Output) : Type 0
+  where
+    pub stands : (c : Configuration) (s : Start) → members c ≡ old.desk.membership → IsVotedAll old.orderer.log
+        → Stands c s old.orderer old.desk [] before → Stands c s new.orderer new.desk [] after
+    pub party : IsOneParty old new
+    pub inactive : new.orderer.log.active ≡ false
+    pub voted : IsVotedAll new.orderer.log
+    pub executed : IsExecuted old.orderer.log old.desk → IsExecuted new.orderer.log new.desk
+
+-- So it does, or nothing changes.
+abbrev pub ChangesView : ReplicaData → List Output → ReplicaData → List Output → Bool → Type 0
+ChangesView old before new after true = LeavesView old before new after
+ChangesView old before new after false = (new ≡ old) × (after ≡ before)

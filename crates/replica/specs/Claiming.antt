@@ -1,0 +1,39 @@
+-- What is kept for view changes to come, and frames that are signed (Castro and Liskov, TOCS 2002, on the sets P and Q of
+-- view changes).
+use Rattle.std.specs.Prelude.{◌≡◌, ℕ, List, [], ◌∷◌, ◌++◌, Some, None}
+use Rattle.events.specs.declared.output.Output.{Output}
+use Rattle.posting.specs.Endpoint.{SendsToOthers}
+use Rattle.ordering.specs.Log as logs
+use Rattle.view_change.specs.ClaimsView.{ClaimsData, claim_of}
+use Rattle.view_change.specs.Recording.{with_prepared}
+use Rattle.replica_histories.specs.Changes.{AddsLogged, CutsClaims}
+use Rattle.replica.specs.State.{OrdererData}
+
+-- a batch is logged in the view, and claimed
+abbrev pub LogsBatch : ℕ → List ℕ → OrdererData → OrdererData → Type 0
+LogsBatch number text old new = (claims : ClaimsData) × AddsLogged number old.log.view text old.claims claims
+    × (new ≡ record old { log = logs.with_batch old.log number text; claims = claims })
+
+-- what is prepared in the view is claimed
+abbrev pub claiming : ℕ → List ℕ → OrdererData → OrdererData
+claiming number text o = record o {
+  claims = record o.claims { prepared = with_prepared (claim_of number o.log.view text) o.claims.prepared };
+}
+
+-- so it is with what is logged for the number, if anything is
+abbrev pub ClaimsLogged : ℕ → OrdererData → OrdererData → Type 0
+ClaimsLogged number old new = elim (logs.logged_batch old.log number) [
+  | Some text ↦ new ≡ claiming number text old
+  | None ↦ new ≡ old
+]
+
+-- the bytes go to the other replicas behind what was given
+pub record SaysFrame (o : OrdererData) (bytes : List ℕ) (before after : List Output) : Type 0 where
+  pub output : Output
+  pub sends : SendsToOthers o.endpoint bytes output
+  pub given_is : after ≡ before ++ output ∷ []
+
+-- the log is cut, and the claims up to its low mark go
+abbrev pub CutsLog : ℕ → OrdererData → OrdererData → Type 0
+CutsLog low old new = (claims : ClaimsData) × CutsClaims (logs.cut_to old.log low).low old.claims claims
+    × (new ≡ record old { log = logs.cut_to old.log low; claims = claims })

@@ -1,0 +1,126 @@
+-- What begins with a new view, part by part (Castro and Liskov, TOCS 2002, on new views).
+use Rattle.std.specs.Prelude.{◌≡◌, ◌⊎◌, true, false, ℕ, suc, ◌+◌, ◌≤◌, ◌<◌, Option}
+use Rattle.std.specs.Prelude.{List, ◌++◌, map, filter_map, length}
+use Rattle.wire.specs.Messages.{CheckpointEntryData as CheckpointEntry, NewViewData, new_view as NewView}
+use Rattle.events.specs.declared.output.Output.{Output}
+use Rattle.posting.specs.Endpoint.{IsOwnSigned}
+use Rattle.ordering.specs.Log as logs
+use Rattle.view_change.specs.ClaimsView.{ClaimsData}
+use Rattle.view_change.specs.ReceivedData.{pairs_for, frames_for}
+use Rattle.view_change.specs.ReceivedView.{configuration_of}
+use Rattle.view_change.specs.Selecting.{meets, AreFrom}
+use Rattle.view_change.specs.Sets.{sized}
+use Rattle.protocol.specs.System.Configuration.{Configuration}
+use Rattle.protocol.specs.Replica.Selection.{may_select}
+use Rattle.protocol.specs.Replica.State.{call_of}
+use Rattle.replica_histories.specs.Numbers.{BegunCall as HistoryCall, begun_in}
+use Rattle.replica_histories.specs.Changes.{AddsBatches}
+use Rattle.replica_histories.specs.Views.{with_batches}
+use Rattle.replica.specs.declared.waiting.BegunCall.{BegunCall}
+use Rattle.replica.specs.State.{OrdererData, DeskData, ReplicaData}
+use Rattle.replica.specs.Waiting.{with_view}
+use Rattle.replica.specs.Flags.{begun_of}
+use Rattle.replica.specs.Going.{GoesOn, IsVoted, IsSameOrderer}
+use Rattle.replica.specs.Fetching.{AimsAt, SaysFetch, aimed_at}
+use Rattle.replica.specs.Marking.{MovesMarks}
+
+-- ---- the calls that have numbers in the view
+
+-- the calls of these frames
+abbrev pub calls_in : Configuration → List (List ℕ) → List HistoryCall
+calls_in c frames =
+    map (λ call. record { client = call.client; timestamp = call.timestamp }) (filter_map (call_of c) frames)
+
+-- Those of the frames are put behind the others, in each configuration of so many clients.
+abbrev pub AddsCalls : ℕ → List (List ℕ) → List BegunCall → List BegunCall → Type 0
+AddsCalls clients frames old new =
+    (c : Configuration) → c.clients ≡ clients → begun_of new ≡ begun_of old ++ calls_in c frames
+
+-- They are those in batches of these texts.
+abbrev pub AreBegun : ℕ → List (List ℕ) → List BegunCall → Type 0
+AreBegun clients texts calls =
+    (c : Configuration) → c.clients ≡ clients → begun_of calls ≡ begun_in c texts
+
+-- Of what waits they alone have numbers then.
+pub record NotesBegun (texts : List (List ℕ)) (old new : DeskData) : Type 0 where
+  pub calls : List BegunCall
+  pub are : AreBegun old.executed.clients texts calls
+  pub new_is : new ≡ record old { waiting = with_view calls old.waiting }
+
+-- ---- the orderer
+
+-- It is in the view, in which the numbers up to the last have their batches.
+abbrev pub entering : ℕ → ℕ → Option (List ℕ) → OrdererData → OrdererData
+entering view last own o = record o {
+  log = logs.entered o.log view;
+  used = last;
+  begun = last;
+  new_view = own;
+}
+
+-- The batches from a number on are logged, as far as they are within the marks, and claimed.
+abbrev pub LogsBatches : ℕ → List (List ℕ) → OrdererData → OrdererData → Type 0
+LogsBatches first texts old new = (claims : ClaimsData)
+    × AddsBatches old.log old.log.view first texts old.claims claims
+    × (new ≡ record old { log = with_batches old.log first texts; claims = claims })
+
+-- All goes on, and the log asks for no more votes but for those of the numbers behind the start, up to the last, for
+-- which it asks no more.
+pub record SaysVotesOf (start last : ℕ) (old : OrdererData) (before : List Output) (new : OrdererData)
+    (after : List Output) : Type 0 where
+  pub goes : GoesOn old before new after
+  pub same : IsSameOrderer old new
+  pub low : new.log.low ≡ old.log.low
+  pub used : new.used ≡ old.used
+  pub voted : (i : ℕ) → ((start < i) × (i ≤ last)) ⊎ IsVoted old.log i → IsVoted new.log i
+
+-- ---- the replica
+
+-- A transfer is aimed at the start, where that is ahead, and the fetch of what it asks for is said.
+abbrev pub FetchesStart : CheckpointEntry → ReplicaData → List Output → ReplicaData → List Output → Type 0
+FetchesStart entry old before new after =
+    ((desk : DeskData) × AimsAt entry old.desk desk true × (new ≡ record old { desk = desk })
+    × SaysFetch new before after)
+    ⊎ ((entry.number ≤ aimed_at old.desk) × (new ≡ old) × (after ≡ before))
+
+-- The replica enters the view by a new view with this start and these batches, step by step.
+pub record Enters (view : ℕ) (start : CheckpointEntry) (texts : List (List ℕ)) (own : Option (List ℕ))
+    (old : ReplicaData) (before : List Output) (new : ReplicaData) (after : List Output) : Type 0 where
+  pub desk : DeskData
+  pub noted : NotesBegun texts old.desk desk
+  pub cut : ReplicaData
+  pub cuts : MovesMarks start.number
+      (record old { orderer = entering view (start.number + length texts) own old.orderer; desk = desk }) cut
+  pub logged : OrdererData
+  pub logs : LogsBatches (suc start.number) texts cut.orderer logged
+  pub fetched : ReplicaData
+  pub said : List Output
+  pub fetches : FetchesStart start (record cut { orderer = logged }) before fetched said
+  pub orderer : OrdererData
+  pub votes : SaysVotesOf start.number (start.number + length texts) fetched.orderer said orderer after
+  pub new_is : new ≡ record fetched { orderer = orderer }
+
+-- ---- own new views
+
+-- The replica has moved to a view of which it is the primary; over the view changes that it has for it the start and
+-- these batches, which it has claimed, meet the rules.
+pub record IsSelection (o : OrdererData) (start : ℕ) (root : List ℕ) (texts : List (List ℕ)) : Type 0 where
+  pub inactive : o.log.active ≡ false
+  pub primary : logs.primary o.log o.target ≡ o.log.me
+  pub meets : meets (sized o.received.sizes) o.target (pairs_for o.target o.received.held) start root texts ≡ true
+  pub from : AreFrom o.claims.texts texts
+
+-- the new view with that start and these batches
+abbrev pub new_view_of : OrdererData → ℕ → List ℕ → List (List ℕ) → NewViewData
+new_view_of o start root texts = record {
+  view = o.target;
+  changes = frames_for o.target o.received.held;
+  start = start;
+  root = root;
+  batches = texts;
+}
+
+-- It is signed in this frame, and meets the rules.
+pub record SignsView (o : OrdererData) (new : NewViewData) (frame : List ℕ) : Type 0 where
+  pub signed : IsOwnSigned o.endpoint (NewView new) frame
+  pub right : may_select (configuration_of o.received) new ≡ true

@@ -1,0 +1,24 @@
+-- Which of the requests that wait have numbers, by their flags and by the history.
+use Rattle.std.specs.Prelude.{ℕ, List, [], ◌∷◌, map}
+use Rattle.protocol.specs.System.Configuration.{Configuration}
+use Rattle.protocol.specs.System.Trace.{Entry}
+use Rattle.protocol.specs.Replica.State.{State, Call}
+use Rattle.replica_histories.specs.Numbers.{FitsNumbers, Waiting, BegunCall as HistoryCall}
+use Rattle.replica.specs.declared.waiting.WaitingRequest.{WaitingRequest}
+use Rattle.replica.specs.declared.waiting.BegunCall.{BegunCall}
+use Rattle.replica.specs.Waiting.{WaitingData}
+
+-- the calls in the new view with which the view began
+abbrev pub begun_of : List BegunCall → List HistoryCall
+begun_of begun = map (λ b. record { client = b.client.number; timestamp = b.timestamp.0 }) begun
+
+-- the calls of the requests, in order, with their flags
+abbrev pub flagged : List WaitingRequest → List Call → List Waiting
+flagged [] calls = []
+flagged (r ∷ rs) [] = []
+flagged (r ∷ rs) (call ∷ calls) = record { call = call; numbered = r.numbered } ∷ flagged rs calls
+
+-- In the view v, whose last number is the one that is used, the flags of what waits are those of the history.
+abbrev pub FitsFlags : Configuration → ℕ → ℕ → ℕ → WaitingData → State → List Call → List Entry → Type 0
+FitsFlags c me v used w st calls history =
+    FitsNumbers c me v used (begun_of w.begun) (flagged w.requests calls) st calls history

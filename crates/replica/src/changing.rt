@@ -1,0 +1,185 @@
+//! The replica's own view changes.
+
+ghost use Rattle.std.specs.Prelude.{◌≡◌, ◌≤◌, [], false, length, map, IfOk, IfSome, IsTrue, OnOk};
+ghost use Rattle.wire.specs.Lists.{ascends};
+ghost use Rattle.wire.specs.Spelling.{checkpoint_entry_before};
+ghost use Rattle.wire.specs.Views.{checkpoint_entries_data, checkpoint_entry_data};
+ghost use Rattle.ordering.specs.Log.{left};
+ghost use Rattle.replica_histories.specs.Views.{entries_of};
+ghost use Rattle.replica.specs.Changing.{ChangesView, IsNextView, MaySignChange, aimed_view};
+ghost use Rattle.replica.specs.Entering.{TakesTick};
+ghost use Rattle.replica.specs.Saying.{SaysAgain};
+
+use crate::desk::Desk;
+use crate::orderer::Orderer;
+use crate::replica::Replica;
+use crate::taking::Touched;
+use events::{Outputs, Stop};
+use posting::view_change_message;
+use std::alloc::Global;
+use terms::{NoMemory, View};
+use view_change::{Change, copy_change, make};
+use wire::CheckpointEntry;
+
+/// Views end below this.
+pub(crate) const VIEWS_END: u64 = 1 << 48;
+
+impl Replica {
+    /// Time went by: a part that is asked for is asked for again; and where a request waits or the replica is inactive,
+    /// it moves to the next view.
+    pub(crate) fn on_timeout(
+        &mut self,
+        alloc: Global,
+        outputs: &mut Outputs,
+    ) -> Result<Touched, Stop>
+        requires first { outputs.old.items ≡ [] }
+        ensures ok { IfOk result (λ touched. TakesTick self.old touched self.new outputs.new.items) }
+        ensures endpoint { self.new.orderer.endpoint ≡ self.old.orderer.endpoint }
+    {
+        self.are_one();
+        self.say_fetch(alloc, outputs)?;
+        let Some(view) = self.due_view() else {
+            return Ok(Touched::Nothing);
+        };
+        if !self.change_view(alloc, view, outputs)? {
+            return Ok(Touched::Nothing);
+        }
+        self.begin_view(alloc, outputs)
+    }
+
+    // The view that time going by moves the replica to, if any.
+    fn due_view(&self) -> Option<View>
+        ensures { IfSome result (λ view. IsNextView self.now.orderer view.0) }
+    {
+        if self.orderer.log.is_active() && self.desk.waiting.is_empty() {
+            return None;
+        }
+        self.orderer.next_view()
+    }
+
+    /// Moves to a later view, and says the view change for it; nothing, where the keys are spent or its frame would be
+    /// too long. Returns whether.
+    pub(crate) fn change_view(
+        &mut self,
+        alloc: Global,
+        view: View,
+        outputs: &mut Outputs,
+    ) -> Result<bool, Stop>
+        requires { IsNextView self.old.orderer view.0 }
+        ensures ok { IfOk result (ChangesView self.old outputs.old.items self.new outputs.new.items) }
+        ensures endpoint { self.new.orderer.endpoint ≡ self.old.orderer.endpoint }
+    {
+        let checkpoints = self.desk.entries(alloc)?;
+        let Some(frame) = self.orderer.sign_change(alloc, view, checkpoints)? else {
+            return Ok(false);
+        };
+        self.orderer.leave_for(view);
+        self.orderer.say_frame(alloc, &frame, outputs)?;
+        Ok(true)
+    }
+}
+
+impl Desk {
+    // What a view change lists of the kept states.
+    fn entries(&self, alloc: Global) -> Result<Vec<CheckpointEntry>, NoMemory>
+        ensures { IfOk result (λ entries. checkpoint_entries_data entries ≡ entries_of self.now.snapshots) }
+    {
+        self.snapshots.entries(alloc)
+    }
+}
+
+impl Orderer {
+    /// The greater of the own view and the last that a view change was said for.
+    pub(crate) fn aimed_view(&self) -> View
+        ensures { result.0 ≡ aimed_view self.now }
+    {
+        View(self.log.view().0.max(self.target.0))
+    }
+
+    // The view above that, where there is one.
+    fn next_view(&self) -> Option<View>
+        ensures { IfSome result (λ view. IsNextView self.now view.0) }
+    {
+        let next = self.aimed_view().0.checked_add(1)?;
+        if next < VIEWS_END {
+            Some(View(next))
+        } else {
+            None
+        }
+    }
+
+    // Signs the view change for the view, with these checkpoints, and holds it beside those of the others. Its frame;
+    // none, where it can't be signed.
+    fn sign_change(
+        &mut self,
+        alloc: Global,
+        view: View,
+        checkpoints: Vec<CheckpointEntry>,
+    ) -> Result<Option<Vec<u8>>, Stop>
+        ensures ok { IfOk result (MaySignChange view.0 (checkpoint_entries_data checkpoints) self.old self.new) }
+        ensures endpoint { self.new.endpoint ≡ self.old.endpoint }
+        ensures sizes { self.new.received.sizes ≡ self.old.received.sizes }
+    {
+        self.keeps();
+        // A replica keeps three states at the most, in order; the proof is told so by a look at them.
+        if !are_listable(&checkpoints) {
+            return Ok(None);
+        }
+        let low = self.log.low();
+        let Some(change) = make(alloc, view, low, checkpoints, &self.claims)? else {
+            return Ok(None);
+        };
+        let held = Change {
+            sender: self.log.me(),
+            change,
+        };
+        let said = copy_change(alloc, &held)?;
+        let Some(frame) = self.sign(alloc, view_change_message(said.change))? else {
+            return Ok(None);
+        };
+        if !self.receive(alloc, held, &frame)? {
+            return Ok(None);
+        }
+        Ok(Some(frame))
+    }
+
+    // Leaves the view for a later one, in which the replica isn't active yet.
+    fn leave_for(&mut self, view: View)
+        ensures { self.new ≡ record self.old { log = left self.old.log; target = view.0 } }
+    {
+        self.log.leave();
+        self.target = view;
+    }
+
+    /// Says the own view change again.
+    pub(crate) fn say_change_again(
+        &mut self,
+        alloc: Global,
+        outputs: &mut Outputs,
+    ) -> Result<(), Stop>
+        ensures ok { OnOk result
+            (SaysAgain false self.old outputs.old.items self.new outputs.new.items) }
+        ensures same { self.new ≡ self.old }
+    {
+        let this = &*self;
+        match this.received.frame_of(this.log.me()) {
+            Some(frame) => this.say_frame(alloc, frame, outputs),
+            None => Ok(()),
+        }
+    }
+}
+
+// Whether a view change may list these.
+fn are_listable(checkpoints: &[CheckpointEntry]) -> bool
+    ensures few { IsTrue result → length checkpoints.now ≤ 3 }
+    ensures order { IsTrue result → IsTrue (ascends checkpoint_entry_before (map checkpoint_entry_data checkpoints.now)) }
+{
+    match checkpoints {
+        [] | [_] => true,
+        [first, second] => first.number.0 < second.number.0,
+        [first, second, third] => {
+            first.number.0 < second.number.0 && second.number.0 < third.number.0
+        }
+        _ => false,
+    }
+}

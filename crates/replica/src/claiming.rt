@@ -1,0 +1,44 @@
+//! What the replica keeps for its own view changes: what it logged and what it prepared.
+
+ghost use Rattle.std.specs.Prelude.{◌≡◌, true, OnOk};
+ghost use Rattle.std.specs.Arc.{arc_value};
+ghost use Rattle.ordering.specs.Log.{is_in_marks};
+ghost use Rattle.replica.specs.Claiming.{ClaimsLogged, LogsBatch};
+
+use crate::orderer::Orderer;
+use events::Stop;
+use ordering::HashedBatch;
+use std::sync::Arc;
+use terms::Number;
+
+impl Orderer {
+    /// Logs a batch, and notes it for view changes to come.
+    pub(crate) fn log_batch(&mut self, number: Number, batch: Arc<HashedBatch>) -> Result<(), Stop>
+        requires { is_in_marks self.old.log number.0 ≡ true }
+        ensures ok { OnOk result (LogsBatch number.0 (arc_value batch) self.old self.new) }
+        ensures endpoint { self.new.endpoint ≡ self.old.endpoint }
+        ensures sizes { self.new.received.sizes ≡ self.old.received.sizes }
+        ensures received { self.new.received ≡ self.old.received }
+    {
+        let view = self.log.view();
+        let noted = Arc::try_clone(&batch)?;
+        self.claims.note_logged(number, view, noted)?;
+        self.log.put_batch(number, batch);
+        Ok(())
+    }
+
+    /// Notes that what is logged for a number is prepared.
+    pub(crate) fn note_prepared(&mut self, number: Number) -> Result<(), Stop>
+        ensures ok { OnOk result (ClaimsLogged number.0 self.old self.new) }
+        ensures endpoint { self.new.endpoint ≡ self.old.endpoint }
+        ensures sizes { self.new.received.sizes ≡ self.old.received.sizes }
+    {
+        let view = self.log.view();
+        let Some(batch) = self.log.logged_batch(number) else {
+            return Ok(());
+        };
+        let batch = Arc::try_clone(batch)?;
+        self.claims.note_prepared(number, view, batch)?;
+        Ok(())
+    }
+}

@@ -1,0 +1,153 @@
+//! What begins with a new view.
+
+ghost use Rattle.std.specs.Prelude.{◌≡◌, ◌+◌, ◌^◌, ◌<◌, ◌≤◌, suc, length, map, option_map, OnOk};
+ghost use Rattle.wire.specs.Views.{checkpoint_entry_data};
+ghost use Rattle.wire.specs.Words.{requests_of};
+ghost use Rattle.view_change.specs.Sets.{texts_of};
+ghost use Rattle.replica.specs.EnteringViews.{AddsCalls, Enters, FetchesStart, LogsBatches};
+ghost use Rattle.replica.specs.EnteringViews.{NotesBegun, SaysVotesOf, entering};
+
+use crate::desk::Desk;
+use crate::orderer::Orderer;
+use crate::replica::Replica;
+use crate::waiting::BegunCall;
+use events::{Outputs, Stop};
+use execution::read_call;
+use ordering::HashedBatch;
+use std::alloc::Global;
+use std::sync::Arc;
+use terms::{Number, View};
+use view_change::Selection;
+use wire::{CheckpointEntry, requests};
+
+impl Replica {
+    /// Enters the view, which begins with this selection, by an own new view in this frame or by another's; and says
+    /// what that asks for.
+    pub(crate) fn enter(
+        &mut self,
+        alloc: Global,
+        view: View,
+        selection: Selection,
+        own: Option<Vec<u8>>,
+        outputs: &mut Outputs,
+    ) -> Result<(), Stop>
+        requires start { selection.start.0 < 2 ^ 48 }
+        requires few { length selection.batches.items ≤ 32 }
+        ensures ok { OnOk result (Enters view.0 (record { number = selection.start.0; digest = selection.root })
+            (texts_of selection.batches.items) (option_map (λ frame. frame.items) own)
+            self.old outputs.old.items self.new outputs.new.items) }
+        ensures endpoint { self.new.orderer.endpoint ≡ self.old.orderer.endpoint }
+    {
+        let start = CheckpointEntry {
+            number: selection.start,
+            digest: selection.root,
+        };
+        let last = Number(start.number.0 + selection.batches.len() as u64);
+        self.desk.note_begun(alloc, &selection.batches)?;
+        self.orderer.enter(view, last, own);
+        self.move_marks(start.number);
+        self.orderer.log_begun(start.number, selection.batches)?;
+        self.fetch_start(alloc, &start, outputs)?;
+        self.orderer
+            .say_all_votes(alloc, start.number, last, outputs)
+    }
+
+    // Fetches the state of the start, where it is ahead of the executed one and of the one that is fetched.
+    fn fetch_start(
+        &mut self,
+        alloc: Global,
+        start: &CheckpointEntry,
+        outputs: &mut Outputs,
+    ) -> Result<(), Stop>
+        ensures ok { OnOk result (FetchesStart (checkpoint_entry_data start.now) self.old outputs.old.items
+            self.new outputs.new.items) }
+        ensures orderer { self.new.orderer ≡ self.old.orderer }
+    {
+        if !self.desk.aim(alloc, start)? {
+            return Ok(());
+        }
+        self.say_fetch(alloc, outputs)
+    }
+}
+
+impl Orderer {
+    // Enters the view, in which the numbers up to the last have their batches.
+    fn enter(&mut self, view: View, last: Number, own: Option<Vec<u8>>)
+        ensures { self.new ≡ entering view.0 last.0 (option_map (λ frame. frame.items) own) self.old }
+    {
+        self.log.enter(view);
+        self.used = last;
+        self.begun = last;
+        self.new_view = own;
+    }
+
+    // Logs the batches behind the start that are within the marks.
+    fn log_begun(&mut self, start: Number, batches: Vec<Arc<HashedBatch>>) -> Result<(), Stop>
+        requires { start.0 + length batches.items < 2 ^ 64 }
+        ensures ok { OnOk result (LogsBatches (suc start.0) (texts_of batches.items) self.old self.new) }
+        ensures endpoint { self.new.endpoint ≡ self.old.endpoint }
+        ensures sizes { self.new.received.sizes ≡ self.old.received.sizes }
+    {
+        let mut number = start;
+        for batch in batches {
+            number = Number(number.0 + 1);
+            if self.log.is_in_marks(number) {
+                self.log_batch(number, batch)?;
+            }
+        }
+        Ok(())
+    }
+
+    // Says what the log asks for of the numbers behind the start, up to the last.
+    fn say_all_votes(
+        &mut self,
+        alloc: Global,
+        start: Number,
+        last: Number,
+        outputs: &mut Outputs,
+    ) -> Result<(), Stop>
+        requires { start.0 ≤ last.0 }
+        ensures ok { OnOk result (SaysVotesOf start.0 last.0 self.old outputs.old.items self.new outputs.new.items) }
+        ensures endpoint { self.new.endpoint ≡ self.old.endpoint }
+        ensures sizes { self.new.received.sizes ≡ self.old.received.sizes }
+    {
+        for number in start.0..last.0 {
+            self.say_votes(alloc, Number(number + 1), outputs)?;
+        }
+        Ok(())
+    }
+}
+
+impl Desk {
+    // The calls in these batches have a number in the view that begins, and no others.
+    fn note_begun(&mut self, alloc: Global, batches: &[Arc<HashedBatch>]) -> Result<(), Stop>
+        ensures ok { OnOk result (NotesBegun (texts_of batches.now) self.old self.new) }
+        ensures me { self.new.me ≡ self.old.me }
+        ensures membership { self.new.membership ≡ self.old.membership }
+        ensures period { self.new.period ≡ self.old.period }
+    {
+        let mut calls = Vec::new(alloc);
+        for batch in batches {
+            self.add_calls(alloc, batch.text(), &mut calls)?;
+        }
+        self.waiting.begin_view(calls);
+        Ok(())
+    }
+
+    // Puts the calls of this batch behind the others.
+    fn add_calls(&self, alloc: Global, text: &[u8], calls: &mut Vec<BegunCall>) -> Result<(), Stop>
+        ensures { OnOk result
+            (AddsCalls self.now.executed.clients (requests_of text.now) calls.old.items calls.new.items) }
+    {
+        let frames = requests(text);
+        for frame in frames.as_slice() {
+            if let Some(call) = read_call(alloc, frame, self.executed.clients())? {
+                calls.push(BegunCall {
+                    client: call.client,
+                    timestamp: call.timestamp,
+                })?;
+            }
+        }
+        Ok(())
+    }
+}

@@ -1,0 +1,98 @@
+//! View changes that come.
+
+ghost use Rattle.std.specs.Prelude.{◌≡◌, ◌<◌, [], Some, IfOk, IfSome};
+ghost use Rattle.wire.specs.Messages.{view_change};
+ghost use Rattle.wire.specs.Views.{view_change_data};
+ghost use Rattle.protocol.specs.Replica.Selection.{signed_change};
+ghost use Rattle.view_change.specs.Laws.{ChangesAreJudged};
+ghost use Rattle.view_change.specs.ReceivedView.{configuration_of, held_as};
+ghost use Rattle.view_change.specs.Sets.{change_pair};
+ghost use Rattle.replica.specs.Changing.{IsNextView};
+ghost use Rattle.replica.specs.Entering.{TakesBytes};
+ghost use Rattle.replica.specs.Receiving.{JudgesAlike, Receives};
+ghost use Rattle.signing.specs.Heard.{heard};
+
+use crate::changing::VIEWS_END;
+use crate::orderer::Orderer;
+use crate::replica::Replica;
+use crate::taking::Touched;
+use events::{Outputs, Stop};
+use std::alloc::Global;
+use terms::{ReplicaId, View};
+use view_change::{Change, ChangeFault, refusals_decide, sizes_decide};
+use wire::ViewChange;
+
+impl Replica {
+    /// Takes a view change that came in this frame. Where those of f + 1 others are for views above the own target, the
+    /// replica moves to the least of them; and where it is the primary of the view that it moves to, it begins the view
+    /// as soon as it can.
+    pub(crate) fn on_view_change(
+        &mut self,
+        alloc: Global,
+        sender: ReplicaId,
+        message: ViewChange,
+        frame: &[u8],
+        outputs: &mut Outputs,
+    ) -> Result<Touched, Stop>
+        requires first { outputs.old.items ≡ [] }
+        requires heard { heard self.old.desk.membership self.old.desk.me frame.now
+            ≡ Some (record { sender = sender.0; message = view_change (view_change_data message) }) }
+        ensures ok { IfOk result (λ touched. TakesBytes frame.now self.old
+            touched self.new outputs.new.items) }
+        ensures endpoint { self.new.orderer.endpoint ≡ self.old.orderer.endpoint }
+    {
+        self.orderer.judges();
+        let change = Change {
+            sender,
+            change: message,
+        };
+        if !self.orderer.receive(alloc, change, frame)? {
+            return Ok(Touched::Nothing);
+        }
+        if let Some(view) = self.orderer.joined_view() {
+            self.change_view(alloc, view, outputs)?;
+        }
+        self.begin_view(alloc, outputs)
+    }
+}
+
+impl Orderer {
+    // Tells a proof by what view changes are judged.
+    pub(crate) fn judges(&self)
+        ensures alike { JudgesAlike self.now }
+        ensures changes { ChangesAreJudged }
+    {
+        self.keeps();
+        sizes_decide();
+        refusals_decide();
+    }
+
+    /// Takes a view change that was heard in this frame, or signed, unless there is a fault in it. Returns whether.
+    pub(crate) fn receive(
+        &mut self,
+        alloc: Global,
+        change: Change,
+        frame: &[u8],
+    ) -> Result<bool, Stop>
+        requires { signed_change (configuration_of self.old.received) frame.now ≡ Some (change_pair change) }
+        ensures ok { IfOk result (Receives (held_as change frame.now) self.old self.new) }
+        ensures endpoint { self.new.endpoint ≡ self.old.endpoint }
+        ensures sizes { self.new.received.sizes ≡ self.old.received.sizes }
+    {
+        let view = self.log.view();
+        match self.received.add_signed(alloc, view, change, frame) {
+            Ok(()) => Ok(true),
+            Err(ChangeFault::NoMemory) => Err(Stop::NoMemory),
+            Err(_) => Ok(false),
+        }
+    }
+
+    // The view that f + 1 others move the replica to, if they are that many.
+    fn joined_view(&self) -> Option<View>
+        ensures { IfSome result (λ view. IsNextView self.now view.0) }
+    {
+        let view = self.received.joined_view(self.log.me(), self.aimed_view())?;
+        // View changes that are held are for views below the end; the proof is told so by a look.
+        if view.0 < VIEWS_END { Some(view) } else { None }
+    }
+}

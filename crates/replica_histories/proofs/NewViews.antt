@@ -1,0 +1,258 @@
+-- A new view begins: what is held behind it fits.
+use Rattle.std.proofs.Common.{◌≡◌, ℕ, suc, ◌+◌, ◌≤◌, ◌<◌, ◌%◌, ◌⊎◌, inl, inr, Bool, true, false, cond, List, [], ◌∷◌, max, map, Option, Some, None, refl, sym, ap, ◌∙◌, subst, arith}
+use Rattle.std.specs.Prelude.{nat_le, nat_lt, option_and_then, ⊤}
+use Rattle.std.specs.Bool.{then_some}
+use Rattle.std.specs.Option.{option_map_or}
+use Rattle.std.proofs.lemmas.Bool.{and_parts, leb-true, leb-false, ltb-true, ltb-false}
+use Rattle.terms.specs.declared.order.Mode.TheVariants as modes
+use Rattle.terms.specs.declared.state.Level.TheVariants as levels
+use Rattle.wire.specs.Messages.{BodyData as Body, MessageData as Message, NewViewData, request as Request, checkpoint as Checkpoint, new_view as NewView, fetch as Fetch}
+use Rattle.signing.specs.Heard.{heard}
+use Rattle.reply_cache.specs.Replies.{Kept}
+use Rattle.ordering.specs.Log as logs
+use Rattle.ordering.specs.Log.{LogData}
+use Rattle.protocol.specs.System.Configuration.{Configuration, members}
+use Rattle.protocol.specs.System.Trace.{Entry, Has}
+use Rattle.protocol.specs.System.Trace.Entry.{Got, Sent}
+use Rattle.protocol.specs.Replica.Certificates.{view, target, taken, is_later, new_view_in, change_sent, change_from, checkpoint_in, commit_of, Committed}
+use Rattle.protocol.specs.Replica.State.{State, call_in, root_of}
+use Rattle.protocol.specs.Replica.RightReplica.{Point, MaySend, Executes, kept_states, reply_of, with_waiting, waiting_after, StartsAt, IsRootWanted}
+use Rattle.protocol.proofs.Words.Options.{some_injective, and_then_some, then_some_gives}
+use Rattle.protocol.proofs.Words.Elements.{has_weaker}
+use Rattle.protocol.proofs.Words.Temporal.{once_weaker}
+use Rattle.state_transfer.specs.Transfer.{TransferData}
+use Rattle.replica_histories.specs.Desk.{Desk, snapshot_of, point_of}
+use Rattle.replica_histories.specs.Logs.{FitsLog}
+use Rattle.replica_histories.specs.Transfers.{FitsOpen, MayAsk, transfer_to, open_number}
+use Rattle.replica_histories.specs.Events.{behind, IsOnItsWay, IsAsked, MaySayDue, IsReached, IsFetched}
+use Rattle.replica_histories.specs.Views.{begun_log, start_due, NewViewsEnter, NewViewsFit, StartsMayAsk}
+use Rattle.replica_histories.proofs.Words.{given_not}
+use Rattle.replica_histories.proofs.Certified.{committed_there}
+use Rattle.replica_histories.proofs.Parting.{ordering_leaves}
+use Rattle.replica_histories.proofs.Giving.{kept_on, on_way, no_proposal, signed_may_send}
+use Rattle.replica_histories.proofs.Entering.{same_point}
+use Rattle.replica_histories.proofs.Resting.{rests}
+use Rattle.replica_histories.proofs.Transfers.{open_stays, open_above, lower_are_fetched, asks_none, transfers_start, transfers_move}
+use Rattle.replica_histories.proofs.TransfersQuorums.{quorums_begin, quorums_go_on, no_root}
+use Rattle.replica_histories.proofs.Batches.{begun_low}
+use Rattle.replica_histories.proofs.Beginning.{Still, still_brings, still_commit, still_committed, new_above, new_small, begun_high, logged_before, begun_fits}
+
+-- what is taken is not below the target
+targets_at_most : (c : Configuration) (past : List Entry) (e : Entry) (new : NewViewData) → taken c past e ≡ Some new → target past ≤ new.view
+targets_at_most c past e new t =
+    let r = and_then_some (λ (x : NewViewData). then_some (is_later (view c past) (target past) x) x) (new_view_in c e) new t in
+    let g = then_some_gives (is_later (view c past) (target past) r.0) r.0 new r.2 in
+    subst (λ (x : NewViewData). target past ≤ x.view) g.1 (leb-true (target past) r.0.view (and_parts (nat_lt (view c past) r.0.view) (nat_le (target past) r.0.view) g.0).1)
+
+-- ---- what is committed, fetched and due
+
+module _ (c : Configuration) (me : ℕ) (log : LogData) (past : List Entry) (e : Entry) (new : NewViewData) (f : FitsLog c me log past) (q : Still c me past e) (t : taken c past e ≡ Some new) where
+  -- what is committed behind it was so before
+  committed_before : (v i : ℕ) (batch : List ℕ) → Committed c me (e ∷ past) v i batch → Committed c me past v i batch
+  committed_before v i batch k = go (nat_lt log.view v) refl
+    where
+      go : (b : Bool) → nat_lt log.view v ≡ b → Committed c me past v i batch
+      go true l = absurd (given_not (commit_of c me past v i me) _ (sym (still_commit c me past e q v i me) ∙ k.own) (f.views.later v i me (ltb-true log.view v l)).1)
+      go false l =
+          let most = ltb-false log.view v l in
+          let above = new_above c me log past e new f q t in
+          still_committed c me past e q v i batch (logged_before c me log past e new f q t v i batch (omega arith) k.prepared.logged) k
+
+  module _ (desk : Desk) (opened : FitsOpen c me desk.transfer desk.state.number past) where
+    is_ahead : Bool
+    is_ahead = nat_lt (open_number desk.state.number desk.transfer) new.start
+
+    -- a start above the executed number is fetched, or due
+    start_fetched : desk.state.number < new.start → IsFetched new.start (start_due desk new) (e ∷ past)
+    start_fetched above = go (nat_lt (open_number desk.state.number desk.transfer) new.start) refl
+      where
+        go : (b : Bool) → nat_lt (open_number desk.state.number desk.transfer) new.start ≡ b → IsFetched new.start (cond b (Fetch new.start levels.Root 0 ∷ []) []) (e ∷ past)
+        go true l = inr (inl refl)
+        go false l =
+            let least = lower_are_fetched c me desk.transfer desk.state.number new.start past above (ltb-false (open_number desk.state.number desk.transfer) new.start l) opened in
+            inl (omega arith)
+
+    -- the low mark is reached where it was, and nothing is committed for the next number
+    begun_reached : IsReached c me log.low desk.state.number [] past → (log.low ≤ desk.state.number → (v : ℕ) (batch : List ℕ) → Committed c me past v (suc desk.state.number) batch → ⊥)
+        → IsReached c me (begun_log log new).low desk.state.number (start_due desk new) (e ∷ past)
+    begun_reached was next = go (nat_le (begun_log log new).low desk.state.number) refl
+      where
+        low_is : (begun_log log new).low ≡ max log.low new.start
+        low_is = begun_low log new f.is_log (new_small c me log past e new f q t)
+
+        none : IsReached c me log.low desk.state.number [] past → (v : ℕ) (batch : List ℕ) → Committed c me (e ∷ past) v (suc desk.state.number) batch → ⊥
+        none (inl l) v batch k = next l v batch (committed_before v (suc desk.state.number) batch k)
+        none (inr h) v batch k = h.1 v batch (committed_before v (suc desk.state.number) batch k)
+
+        old : desk.state.number < log.low → IsReached c me log.low desk.state.number [] past → IsFetched log.low (start_due desk new) (e ∷ past)
+        old above (inl l) = absurd (omega arith)
+        old above (inr h) = at h.0
+          where
+            at : IsFetched log.low [] past → IsFetched log.low (start_due desk new) (e ∷ past)
+            at (inl l) = inl (omega arith)
+            at (inr d) = absurd d
+
+        fetched : desk.state.number < (begun_log log new).low → (b : Bool) → nat_lt log.low new.start ≡ b → IsFetched (begun_log log new).low (start_due desk new) (e ∷ past)
+        fetched above true l =
+            let over = ltb-true log.low new.start l in
+            let is = low_is in
+            let same : new.start ≡ (begun_log log new).low = omega arith in
+            subst (λ (n : ℕ). IsFetched n (start_due desk new) (e ∷ past)) same (start_fetched (omega arith))
+        fetched above false l =
+            let under = ltb-false log.low new.start l in
+            let is = low_is in
+            let same : log.low ≡ (begun_log log new).low = omega arith in
+            subst (λ (n : ℕ). IsFetched n (start_due desk new) (e ∷ past)) same (old (omega arith) was)
+
+        go : (b : Bool) → nat_le (begun_log log new).low desk.state.number ≡ b → IsReached c me (begun_log log new).low desk.state.number (start_due desk new) (e ∷ past)
+        go true l = inl (leb-true (begun_log log new).low desk.state.number l)
+        go false l = inr (fetched (leb-false (begun_log log new).low desk.state.number l) (nat_lt log.low new.start) refl, none was)
+
+    -- the fetch that is due may be said
+    start_rightly : (states : List State) (point : Point) → point.state ≡ desk.state → (message : Message) → Has (λ x. x ≡ message) (start_due desk new) → MaySayDue c (e ∷ past) point message
+    start_rightly states point same message h = go (nat_lt (open_number desk.state.number desk.transfer) new.start) refl h
+      where
+        go : (b : Bool) → nat_lt (open_number desk.state.number desk.transfer) new.start ≡ b → Has (λ x. x ≡ message) (cond b (Fetch new.start levels.Root 0 ∷ []) []) → MaySayDue c (e ∷ past) point message
+        go false l k = absurd k
+        go true l (inr k) = absurd k
+        go true l (inl k) =
+            let least = open_above c me desk.transfer desk.state.number past opened in
+            let over = ltb-true (open_number desk.state.number desk.transfer) new.start l in
+            let number = ap (λ (st : State). st.number) same in
+            subst (λ (x : Message). MaySayDue c (e ∷ past) point x) k (new.root, (omega arith, inr (inl (new, t, refl, refl))))
+
+-- ---- a new view is got
+
+abbrev IsNewView : Message → Type 0
+IsNewView message = elim message [ NewView new ↦ ⊤ | _ ↦ ⊥ ]
+
+pub new_views_enter : NewViewsEnter
+new_views_enter c me desk log past s new bytes held h t = record {
+  of_desk = record {
+    states = old.snapshots;
+    ran = [];
+    leaves = ordering_leaves c me past [] old old held.of_desk.proceeds;
+    steps = record {
+      own = refl;
+      may = tt;
+      moves = same_point old.snapshots desk.state old.state desk.waiting (waiting_after c me old bytes) (sym (ap (λ (p : Point). p.state) held.of_desk.is)) (sym (ap (λ (p : Point). p.waiting) held.of_desk.is) ∙ sym waits);
+    };
+    kept = ap (λ (x : ℕ). map snapshot_of (kept_states x old.snapshots)) fits.low
+        ∙ kept_on log.low (begun_log log new).low old.snapshots desk.snapshots (begun_high c me log past e new f q t) (ap (λ (x : ℕ). map snapshot_of (kept_states x old.snapshots)) (sym f.low) ∙ held.of_desk.kept);
+    frames = λ frame k. let g = held.of_desk.frames frame k in (inr g.0, g.1);
+    replies = λ r k. absurd k;
+    asked = λ k kept a. absurd (asks_nothing k kept a);
+    checkpoints = λ k x multiple. absurd x;
+    opened = open_stays c me desk.transfer desk.state.number past e refl held.of_desk.opened;
+    fetches = quorums_begin c me (record { before = past; input = e; old = old }) desk.state.number (start_due desk new) held.of_desk.fetches
+        (λ k root b quorum above. absurd (given_not (checkpoint_in c e) _ b.brings q.checkpoint));
+    rightly = λ message k. start_rightly c me log past e new f q t desk held.of_desk.opened old.snapshots (point_of desk old.snapshots []) refl message k;
+  };
+  of_log = fits;
+  low = begun_reached c me log past e new f q t desk held.of_desk.opened held.low (λ l. next);
+  once = tt;
+}
+  where
+    e : Entry
+    e = Got me bytes
+
+    old : Point
+    old = held.of_desk.point
+
+    f : FitsLog c me log past
+    f = held.of_log.fits
+
+    q : Still c me past e
+    q = still_brings c me past e s (NewView new) tt h
+
+    fits : FitsLog c me (begun_log log new) (e ∷ past)
+    fits = begun_fits c me log past e new f q t (let most = targets_at_most c past e new t in omega arith) held.of_log.commits
+
+    waits : waiting_after c me old bytes ≡ old.waiting
+    waits = ap (λ (o : Option Body). option_map_or (with_waiting old.state old.waiting) (option_and_then (call_in c) o) old.waiting) h
+
+    asks_nothing : (k : ℕ) (kept : Kept) → IsAsked c me (record { before = past; input = e; old = old }) k kept → ⊥
+    asks_nothing k kept a =
+        let hears : heard (members c) me bytes ≡ Some (record { sender = 256 + k; message = Request a.0 modes.Ordered a.1 }) = a.2 in
+        let same : ◌≡◌ {A = Body} (record { sender = s; message = NewView new }) (record { sender = 256 + k; message = Request a.0 modes.Ordered a.1 }) = some_injective _ _ (sym h ∙ hears) in
+        subst IsNewView (ap (λ (b : Body). b.message) same) tt
+
+    -- the last event left nothing that is committed next
+    next : (v : ℕ) (batch : List ℕ) → Committed c me past v (suc desk.state.number) batch → ⊥
+    next v batch k =
+        (rests c me past held.of_desk.point held.of_desk.proceeds).executes v batch
+        (subst (λ (st : State). Committed c me past v (suc st.number) batch) (sym (ap (λ (p : Point). p.state) held.of_desk.is)) k)
+
+-- ---- a new view is sent
+
+pub new_views_fit : NewViewsFit
+new_views_fit c me s desk log outputs new bytes none_due none_next primary_is t seen posted f = record {
+  of_desk = record {
+    states = f.of_desk.states;
+    ran = f.of_desk.ran;
+    leaves = f.of_desk.leaves;
+    steps = (point, f.of_desk.steps, record { own = refl; may = may; moves = refl }, refl);
+    kept = ap (λ (h : ℕ). map snapshot_of (kept_states h f.of_desk.states)) fits.low
+        ∙ kept_on log.low (begun_log log new).low f.of_desk.states desk.snapshots (begun_high c me log past e new f.of_log q t) (ap (λ (h : ℕ). map snapshot_of (kept_states h f.of_desk.states)) (sym f.of_log.low) ∙ f.of_desk.kept);
+    frames = λ frame h. let k = f.of_desk.frames frame h in (inr k.0, k.1);
+    replies = λ r h. on_way me [] (start_due desk new) outputs e (λ x k. absurd k) (reply_of r.call.client r.kept) (f.of_desk.replies r h);
+    asked = λ k kept h. on_way me [] (start_due desk new) outputs e (λ x k. absurd k) (reply_of k kept) (f.of_desk.asked k kept h);
+    checkpoints = λ k h multiple. checkpoints k h multiple;
+    opened = open_stays c me desk.transfer desk.state.number past e (asks_none bytes me (NewView new) posted.says refl) f.of_desk.opened;
+    fetches = quorums_go_on c me s desk.state.number desk.state.number [] (start_due desk new) outputs e (omega arith) (no_root c past bytes me (NewView new) desk.state.number posted.says refl) (λ x k. absurd k) f.of_desk.fetches;
+    rightly = λ message k. start_rightly c me log past e new f.of_log q t desk f.of_desk.opened f.of_desk.states point refl message k;
+  };
+  of_log = fits;
+  low = begun_reached c me log past e new f.of_log q t desk f.of_desk.opened f.low next;
+  once = (no_proposal c me past bytes (NewView new) posted.says tt, f.once);
+}
+  where
+    past : List Entry
+    past = behind s outputs
+
+    e : Entry
+    e = Sent me bytes
+
+    point : Point
+    point = point_of desk f.of_desk.states f.of_desk.ran
+
+    q : Still c me past e
+    q = still_brings c me past e me (NewView new) tt posted.says
+
+    fits : FitsLog c me (begun_log log new) (e ∷ past)
+    fits =
+        begun_fits c me log past e new f.of_log q t
+        (let says : change_sent e ≡ 0 = ap (λ (o : Option Body). option_map_or change_from o 0) posted.says in let most = targets_at_most c past e new t in omega arith) none_due
+
+    may : MaySend c me past point e bytes
+    may = signed_may_send c me past point e bytes (NewView new) refl posted seen (primary_is, inl t)
+
+    next : log.low ≤ desk.state.number → (v : ℕ) (batch : List ℕ) → Committed c me past v (suc desk.state.number) batch → ⊥
+    next l v batch k =
+        let known = committed_there c me log past v (suc desk.state.number) batch f.of_log (omega arith) k in
+        given_not (logs.committed_batch log (suc desk.state.number)) known.0 known.1 none_next
+
+    checkpoints : (k : ℕ) → Executes k [] e ⊎ Has (λ x. Executes k [] x) outputs → k % c.period ≡ 0
+        → Has (λ st. (st.number ≡ k) × IsOnItsWay me (start_due desk new) (e ∷ outputs) (Checkpoint k (root_of st))) f.of_desk.states
+    checkpoints k (inl h) multiple = absurd h
+    checkpoints k (inr h) multiple =
+        has_weaker (λ st. (st.number ≡ k) × IsOnItsWay me [] outputs (Checkpoint k (root_of st))) (λ st. (st.number ≡ k) × IsOnItsWay me (start_due desk new) (e ∷ outputs) (Checkpoint k (root_of st)))
+        (λ st w. (w.0, on_way me [] (start_due desk new) outputs e (λ x d. absurd d) (Checkpoint k (root_of st)) w.1)) f.of_desk.states (f.of_desk.checkpoints k h multiple)
+
+-- ---- the start's state is fetched
+
+pub starts_may_ask : StartsMayAsk
+starts_may_ask c me s desk log due outputs new pages once above f = go desk.transfer above f.of_desk.opened
+  where
+    history : List Entry
+    history = behind s outputs
+
+    wanted : IsRootWanted c history new.start new.root
+    wanted = inr (once_weaker (λ past e. taken c past e ≡ Some new) (StartsAt c new.start new.root) (λ past e h. (new, h, refl, refl)) history once)
+
+    go : (o : Option TransferData) → open_number desk.state.number o < new.start → FitsOpen c me o desk.state.number history → MayAsk c me (transfer_to o new.start new.root pages) desk.state.number history
+    go None l o = (transfers_start c me new.start new.root pages history wanted, omega arith, l)
+    go (Some t) l o =
+        let newest = o.0.newest in
+        let own = o.1 in
+        (transfers_move c me new.start new.root t history wanted o.0.aims, omega arith, omega arith)

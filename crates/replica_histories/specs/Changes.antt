@@ -1,0 +1,304 @@
+-- What a replica holds for changes of its view, and how entries change it (Castro and Liskov, TOCS 2002, on view
+-- changes).
+use Rattle.std.specs.Prelude.{◌≡◌, ◌≢◌, ℕ, suc, ◌+◌, ◌≤◌, ◌<◌, ◌⊎◌, true, false, List, [], ◌∷◌, length, replicate, if◌then◌else◌, Option, Some, None, ⊤}
+use Rattle.std.specs.Option.{ForSome}
+use Rattle.wire.specs.Messages.{BodyData as Body, MessageData as Message, BatchEntryData as Claim, ViewChangeData, NewViewData, pre_prepare as PrePrepare, commit as Commit, view_change as ViewChange, new_view as NewView}
+use Rattle.wire.specs.Words.{said}
+use Rattle.wire.specs.Lists.{Each}
+use Rattle.signing.specs.Heard.{heard}
+use Rattle.ordering.specs.Log as logs
+use Rattle.ordering.specs.Log.{LogData}
+use Rattle.protocol.specs.System.Configuration.{Configuration, primary, replicas, members, span}
+use Rattle.protocol.specs.System.Frames.{IsPosted}
+use Rattle.protocol.specs.System.Trace.{Entry, Once}
+use Rattle.protocol.specs.System.Trace.Entry.{Got, Sent, Executed, Installed, Tick}
+use Rattle.protocol.specs.Replica.Selection.{signed_change}
+use Rattle.protocol.specs.Replica.Certificates.{brought, view, target, taken, logged, commit_of}
+use Rattle.protocol.specs.Replica.RightReplica.{Point, Leaves, SentBefore}
+use Rattle.protocol.specs.Replica.Owed.{latest_change}
+use Rattle.view_change.specs.ClaimsView.{ClaimsData, no_claims, claim_of, IsAmong}
+use Rattle.view_change.specs.Recording.{with_prepared, with_logged, with_all, above_mark}
+use Rattle.view_change.specs.ReceivedData.{HeldData, held_of, refusal_of, with_held}
+use Rattle.replica_histories.specs.Desk.{Desk}
+use Rattle.replica_histories.specs.Logs.{FitsLog}
+use Rattle.replica_histories.specs.Events.{Start, behind, Fits, Holds, start_at}
+use Rattle.replica_histories.specs.Claims.{FitsClaims}
+use Rattle.replica_histories.specs.Received.{FitsReceived}
+use Rattle.replica_histories.specs.Views.{begun_log}
+
+-- the greatest view that a view change was sent for; the number up to which the new view of the own view has batches;
+-- the frame of that new view, where it is the replica's own; what it claims; and the view changes that it has, one
+-- place for each replica
+pub record Changes : Type 0 where
+  pub target : ℕ
+  pub begun : ℕ
+  pub new_view : Option (List ℕ)
+  pub claims : ClaimsData
+  pub held : List (Option HeldData)
+
+abbrev pub first_changes : Configuration → Changes
+first_changes c =
+    record { target = 0; begun = 0; new_view = None; claims = no_claims; held = replicate (replicas c) None }
+
+-- ---- what fits
+
+-- the own view change is held, was sent in its frame, and is for the target
+pub record HasOwnChange (c : Configuration) (me : ℕ) (x : Changes) (history : List Entry) : Type 0 where
+  pub own : HeldData
+  pub held : held_of x.held me ≡ Some own
+  pub view : own.change.view ≡ x.target
+  pub sent : SentBefore own.frame history
+  pub posted : IsPosted c me (ViewChange own.change) [] own.frame
+
+-- the frame of the own new view of the view was sent
+pub record IsOwnView (c : Configuration) (me v : ℕ) (history : List Entry) (frame : List ℕ) : Type 0 where
+  pub new : NewViewData
+  pub view : new.view ≡ v
+  pub primary : primary c new.view ≡ me
+  pub sent : SentBefore frame history
+  pub posted : IsPosted c me (NewView new) [] frame
+
+-- What is held is what the history says: the target; the claims; the view changes of others; how far the new view of
+-- the log's view goes; where the replica is active no more, its own view change; and its own new view.
+pub record FitsChanges (c : Configuration) (me : ℕ) (log : LogData) (x : Changes) (history : List Entry) : Type 0 where
+  pub target : target history ≡ x.target
+  pub claims : FitsClaims c me history x.claims
+  pub received : FitsReceived c me history x.held
+  pub places : length x.held ≡ replicas c
+  pub begun : (new : NewViewData) → Once (λ past e. taken c past e ≡ Some new) history → new.view ≡ log.view
+      → new.start + length new.batches ≤ x.begun
+  pub own_change : log.active ≡ false → HasOwnChange c me x history
+  pub own_view : ForSome x.new_view (IsOwnView c me log.view history)
+
+-- ---- one entry more
+
+-- The logs fit the histories before the entry and behind it, and the replica came to both.
+pub record Passes (c : Configuration) (me : ℕ) (past : List Entry) (e : Entry) (log after : LogData) : Type 0 where
+  pub old : Point
+  pub new : Point
+  pub leaves : Leaves c me past old
+  pub goes : Leaves c me (e ∷ past) new
+  pub fits : FitsLog c me log past
+  pub fits_behind : FitsLog c me after (e ∷ past)
+
+-- So it is at each output of an event, and at its input.
+abbrev pub OutputsPass : Type 0
+OutputsPass =
+    (c : Configuration) (me : ℕ) (s : Start) (desk later : Desk) (log after : LogData) (due rest : List Message)
+    (outputs : List Entry) (e : Entry)
+    → Fits c me s desk log due outputs → Fits c me s later after rest (e ∷ outputs)
+    → Passes c me (behind s outputs) e log after
+
+abbrev pub InputsEnter : Type 0
+InputsEnter =
+    (c : Configuration) (me : ℕ) (desk later : Desk) (log after : LogData) (due : List Message) (past : List Entry)
+    (input : Entry) (held : Holds c me desk log past)
+    → Fits c me (start_at c me desk log past held input) later after due [] → Passes c me past input log after
+
+-- the log is in the same view, and as active
+pub record IsSameView (old new : LogData) : Type 0 where
+  pub view : new.view ≡ old.view
+  pub active : new.active ≡ old.active
+
+-- ---- entries that bring nothing about
+
+-- It takes no view and sends no later view change, logs nothing, is no new own commit, and brings no view change of
+-- others that is newer.
+pub record KeepsChanges (c : Configuration) (me : ℕ) (past : List Entry) (e : Entry) : Type 0 where
+  pub none : taken c past e ≡ None
+  pub target : target (e ∷ past) ≡ target past
+  pub logged : (v i : ℕ) → logged c me (e ∷ past) v i ≡ logged c me past v i
+  pub commits : (v i : ℕ) → commit_of c me (e ∷ past) v i me ≡ commit_of c me past v i me
+  pub changes : (s : ℕ) → s ≢ me → latest_change c (e ∷ past) s ≡ latest_change c past s
+
+-- what is said brings nothing about that it hadn't before
+abbrev pub IsNoNews : Configuration → ℕ → List Entry → Message → Type 0
+IsNoNews c me past message = elim message [
+  | PrePrepare v i batch ↦ (text : List ℕ) × (logged c me past v i ≡ Some text)
+  | Commit v i digest ↦ (other : List ℕ) × (commit_of c me past v i me ≡ Some other)
+  | ViewChange vc ↦ vc.view ≤ target past
+  | NewView new ↦ new.view ≤ view c past
+  | _ ↦ ⊤
+]
+
+abbrev pub SentKeep : Type 0
+SentKeep =
+    (c : Configuration) (me : ℕ) (past : List Entry) (message : Message) (bytes : List ℕ)
+    → said bytes ≡ Some (record { sender = me; message = message }) → IsNoNews c me past message
+    → KeepsChanges c me past (Sent me bytes)
+
+-- an execution, an installation and time that goes by
+abbrev pub IsSilent : Entry → Type 0
+IsSilent e = elim e [ Executed p k batch ↦ ⊤ | Installed p k root ↦ ⊤ | Tick p ↦ ⊤ | _ ↦ ⊥ ]
+
+abbrev pub SilentKeep : Type 0
+SilentKeep = (c : Configuration) (me : ℕ) (past : List Entry) (e : Entry) → IsSilent e → KeepsChanges c me past e
+
+-- Bytes that are got, of which the log takes no batch, and which bring no view change.
+abbrev pub GotKeep : Type 0
+GotKeep =
+    (c : Configuration) (me : ℕ) (past : List Entry) (bytes : List ℕ) (log after : LogData)
+    → Passes c me past (Got me bytes) log after → IsSameView log after → taken c past (Got me bytes) ≡ None
+    → ((i : ℕ) → logs.is_in_marks log i ≡ true → logs.logged_batch after i ≡ logs.logged_batch log i)
+    → ((s : ℕ) → s ≢ me → latest_change c (Got me bytes ∷ past) s ≡ latest_change c past s)
+    → KeepsChanges c me past (Got me bytes)
+
+-- So do bytes that are heard as no pre-prepare, wherever the marks move.
+abbrev pub IsNoBatch : Option Body → Type 0
+IsNoBatch None = ⊤
+IsNoBatch (Some body) = elim body.message [ PrePrepare v i batch ↦ ⊥ | _ ↦ ⊤ ]
+
+abbrev pub HeardKeep : Type 0
+HeardKeep =
+    (c : Configuration) (me : ℕ) (past : List Entry) (bytes : List ℕ)
+    → taken c past (Got me bytes) ≡ None → IsNoBatch (heard (members c) me bytes)
+    → ((s : ℕ) → s ≢ me → latest_change c (Got me bytes ∷ past) s ≡ latest_change c past s)
+    → KeepsChanges c me past (Got me bytes)
+
+-- What is heard as no view change brings none.
+abbrev pub IsNoChange : Option Body → Type 0
+IsNoChange None = ⊤
+IsNoChange (Some body) = elim body.message [ ViewChange vc ↦ ⊥ | _ ↦ ⊤ ]
+
+abbrev pub OthersBringNone : Type 0
+OthersBringNone =
+    (c : Configuration) (me s : ℕ) (past : List Entry) (bytes : List ℕ)
+    → IsNoChange (heard (members c) me bytes) → s ≢ me
+    → latest_change c (Got me bytes ∷ past) s ≡ latest_change c past s
+
+-- A view change that is heard is signed by its sender, who is another replica; and so is one of the own.
+abbrev pub HeardAreSigned : Type 0
+HeardAreSigned =
+    (c : Configuration) (me s : ℕ) (vc : ViewChangeData) (bytes : List ℕ)
+    → heard (members c) me bytes ≡ Some (record { sender = s; message = ViewChange vc })
+    → (signed_change c bytes ≡ Some (s, vc)) × (s ≢ me) × (s < replicas c)
+
+abbrev pub OwnAreSigned : Type 0
+OwnAreSigned =
+    (c : Configuration) (me : ℕ) (vc : ViewChangeData) (bytes : List ℕ)
+    → me < replicas c → IsPosted c me (ViewChange vc) [] bytes → signed_change c bytes ≡ Some (me, vc)
+
+-- ---- claims
+
+-- those above the low mark
+pub record CutsClaims (low : ℕ) (old new : ClaimsData) : Type 0 where
+  pub prepared : new.prepared ≡ above_mark low old.prepared
+  pub logged : new.logged ≡ above_mark low old.logged
+  pub texts : Each (IsAmong old.texts) new.texts
+
+-- one more batch that is logged
+pub record AddsLogged (number view : ℕ) (text : List ℕ) (old new : ClaimsData) : Type 0 where
+  pub prepared : new.prepared ≡ old.prepared
+  pub logged : new.logged ≡ with_logged (claim_of number view text) old.logged
+  pub texts : Each (IsAmong (text ∷ old.texts)) new.texts
+
+-- the claims of batches from a number on, as far as they are within the log's marks
+abbrev pub claims_from : LogData → ℕ → ℕ → List (List ℕ) → List Claim
+claims_from log view i [] = []
+claims_from log view i (batch ∷ batches) =
+    if logs.is_in_marks log i then claim_of i view batch ∷ claims_from log view (suc i) batches else
+    claims_from log view (suc i) batches
+
+-- and their texts
+abbrev pub texts_from : LogData → ℕ → List (List ℕ) → List (List ℕ)
+texts_from log i [] = []
+texts_from log i (batch ∷ batches) =
+    if logs.is_in_marks log i then batch ∷ texts_from log (suc i) batches else texts_from log (suc i) batches
+
+-- with these batches
+pub record AddsBatches (log : LogData) (view first : ℕ) (batches : List (List ℕ)) (old new : ClaimsData) : Type 0 where
+  pub prepared : new.prepared ≡ old.prepared
+  pub logged : new.logged ≡ with_all with_logged (claims_from log view first batches) old.logged
+  pub texts : Each (λ text. IsAmong old.texts text ⊎ IsAmong (texts_from log first batches) text) new.texts
+
+-- where a new view begins: those above the low mark then, with its batches
+pub record BeginsClaims (log : LogData) (new : NewViewData) (old after : ClaimsData) : Type 0 where
+  pub mid : ClaimsData
+  pub cuts : CutsClaims (logs.cut_to (logs.entered log new.view) new.start).low old mid
+  pub adds : AddsBatches (logs.cut_to (logs.entered log new.view) new.start) new.view (suc new.start) new.batches mid
+      after
+
+-- Claims that fit are all above the low mark.
+abbrev pub ClaimsAreAbove : Type 0
+ClaimsAreAbove =
+    (c : Configuration) (me : ℕ) (log : LogData) (history : List Entry) (claims : ClaimsData)
+    → FitsLog c me log history → FitsClaims c me history claims → CutsClaims log.low claims claims
+
+-- ---- laws
+
+abbrev pub ChangesBegin : Type 0
+ChangesBegin =
+    (c : Configuration) (me : ℕ) → FitsChanges c me (logs.new_log me c.faults (span c)) (first_changes c) []
+
+-- What brings nothing about leaves all as it is; where the low mark moves, the claims up to it go.
+abbrev pub ChangesStay : Type 0
+ChangesStay =
+    (c : Configuration) (me : ℕ) (past : List Entry) (e : Entry) (log after : LogData) (x : Changes)
+    (claims : ClaimsData)
+    → Passes c me past e log after → IsSameView log after → KeepsChanges c me past e
+    → CutsClaims after.low x.claims claims → FitsChanges c me log x past
+    → FitsChanges c me after (record x { claims = claims }) (e ∷ past)
+
+-- The commit that the log asks for is claimed.
+abbrev pub CommitsAreClaimed : Type 0
+CommitsAreClaimed =
+    (c : Configuration) (me : ℕ) (past : List Entry) (log after : LogData) (x : Changes) (i : ℕ) (digest bytes : List ℕ)
+    → Passes c me past (Sent me bytes) log after → IsSameView log after → after.low ≡ log.low
+    → logs.due_commit log i ≡ Some digest
+    → said bytes ≡ Some (record { sender = me; message = Commit log.view i digest })
+    → FitsChanges c me log x past
+    → FitsChanges c me after (record x {
+      claims = record x.claims {
+        prepared = with_prepared (record { number = i; digest = digest; view = log.view }) x.claims.prepared;
+      };
+    }) (Sent me bytes ∷ past)
+
+-- A pre-prepare that is sent or taken is claimed.
+abbrev pub BatchesAreClaimed : Type 0
+BatchesAreClaimed =
+    (c : Configuration) (me : ℕ) (past : List Entry) (e : Entry) (log : LogData) (x : Changes) (claims : ClaimsData)
+    (s i : ℕ) (text : List ℕ)
+    → Passes c me past e log (logs.with_batch log i text) → logs.is_in_marks log i ≡ true
+    → logs.logged_batch log i ≡ None
+    → brought c e ≡ Some (record { sender = s; message = PrePrepare log.view i text })
+    → AddsLogged i log.view text x.claims claims → FitsChanges c me log x past
+    → FitsChanges c me (logs.with_batch log i text) (record x { claims = claims }) (e ∷ past)
+
+-- The own view change is held once it is sent.
+abbrev pub ChangesAreSent : Type 0
+ChangesAreSent =
+    (c : Configuration) (me : ℕ) (past : List Entry) (log : LogData) (x : Changes) (own : HeldData)
+    → Passes c me past (Sent me own.frame) log (logs.left log) → me < replicas c → own.sender ≡ me
+    → IsPosted c me (ViewChange own.change) [] own.frame → target past < own.change.view
+    → FitsChanges c me log x past
+    → FitsChanges c me (logs.left log) (record x { target = own.change.view; held = with_held own x.held })
+    (Sent me own.frame ∷ past)
+
+-- So is another's that is taken.
+abbrev pub ChangesAreTaken : Type 0
+ChangesAreTaken =
+    (c : Configuration) (me : ℕ) (past : List Entry) (log : LogData) (x : Changes) (s : ℕ) (vc : ViewChangeData)
+    (bytes : List ℕ)
+    → Passes c me past (Got me bytes) log log
+    → heard (members c) me bytes ≡ Some (record { sender = s; message = ViewChange vc })
+    → refusal_of c log.view x.held (s, vc) ≡ None → FitsChanges c me log x past
+    → FitsChanges c me log (record x {
+      held = with_held (record { sender = s; change = vc; frame = bytes }) x.held;
+    }) (Got me bytes ∷ past)
+
+-- whether the frame of the new view is kept, which is the replica's own where it is
+abbrev pub IsOwnFrame : Configuration → ℕ → Entry → NewViewData → Option (List ℕ) → Type 0
+IsOwnFrame c me e new None = ⊤
+IsOwnFrame c me e new (Some frame) =
+    (e ≡ Sent me frame) × (primary c new.view ≡ me) × IsPosted c me (NewView new) [] frame
+
+-- A new view that is taken or sent begins its view.
+abbrev pub ViewsAreBegun : Type 0
+ViewsAreBegun =
+    (c : Configuration) (me : ℕ) (past : List Entry) (e : Entry) (log : LogData) (x : Changes) (new : NewViewData)
+    (frame : Option (List ℕ)) (claims : ClaimsData) (s : ℕ)
+    → Passes c me past e log (begun_log log new) → taken c past e ≡ Some new
+    → brought c e ≡ Some (record { sender = s; message = NewView new })
+    → BeginsClaims log new x.claims claims → IsOwnFrame c me e new frame → FitsChanges c me log x past
+    → FitsChanges c me (begun_log log new)
+    (record x { begun = new.start + length new.batches; new_view = frame; claims = claims }) (e ∷ past)

@@ -1,0 +1,101 @@
+-- What a replica keeps for its view changes, in the history's words: what it logged, and what it committed. Whoever has
+-- no commit left to say has committed what is prepared (Castro and Liskov, TOCS 2002, on the sets P and Q of view
+-- changes).
+use Rattle.std.specs.Prelude.{◌≡◌, ◌≢◌, ℕ, ◌⊎◌, true, List, [], ◌∷◌, Some, None}
+use Rattle.wire.specs.Messages.{BatchEntryData as Claim}
+use Rattle.wire.specs.Words.{requests_of}
+use Rattle.wire.specs.Lists.{Each}
+use Rattle.ordering.specs.Log as logs
+use Rattle.ordering.specs.Log.{LogData}
+use Rattle.protocol.specs.System.Configuration.{Configuration}
+use Rattle.protocol.specs.System.Trace.{Entry, Once, Has}
+use Rattle.protocol.specs.Replica.Certificates.{low, is_in_marks, logged, commit_of}
+use Rattle.protocol.specs.Replica.RightReplica.{Point, Leaves, HasSeen, IsPreparedList, IsPrePreparedList}
+use Rattle.view_change.specs.ClaimsView.{ClaimsData, no_claims, claim_of}
+use Rattle.view_change.specs.Recording.{with_prepared, with_logged, with_all, above_mark, IsLoggedAs, Adds, IsLatest, RecordsLogged}
+use Rattle.replica_histories.specs.Logs.{FitsLog}
+
+-- the own commit in the view, at the number, is of this digest
+abbrev pub SaidCommit : Configuration → ℕ → List Entry → ℕ → ℕ → List ℕ → Type 0
+SaidCommit c me history v i digest = commit_of c me history v i me ≡ Some digest
+
+-- the text was logged
+abbrev pub WasLogged : Configuration → ℕ → List Entry → List ℕ → Type 0
+WasLogged c me history text = (v : ℕ) × (i : ℕ) × (logged c me history v i ≡ Some text)
+
+-- Of each number within the marks the latest own commit is claimed, and each batch that was logged, with its latest
+-- view; and the texts that are held were logged.
+pub record FitsClaims (c : Configuration) (me : ℕ) (history : List Entry) (claims : ClaimsData) : Type 0 where
+  pub prepared : IsLatest (SaidCommit c me history) (is_in_marks c (low c me history)) claims.prepared
+  pub logged : RecordsLogged c me history claims.logged
+  pub texts : Each (WasLogged c me history) claims.texts
+
+-- Claims that an entry leaves: those above the low mark behind it, with what it adds, in order.
+pub record Grows (claims after : ClaimsData) (low : ℕ) (commits batches : List Claim) : Type 0 where
+  pub prepared : after.prepared ≡ with_all with_prepared commits (above_mark low claims.prepared)
+  pub logged : after.logged ≡ with_all with_logged batches (above_mark low claims.logged)
+
+-- ---- laws
+
+-- Before any entry nothing is claimed.
+abbrev pub ClaimsBegin : Type 0
+ClaimsBegin = (c : Configuration) (me : ℕ) → FitsClaims c me [] no_claims
+
+-- An entry adds the own commits and the batches that it brings within the marks behind it, and may add their texts.
+abbrev pub ClaimsGrow : Type 0
+ClaimsGrow =
+    (c : Configuration) (me : ℕ) (log : LogData) (past : List Entry) (e : Entry) (old new : Point)
+    (claims after : ClaimsData) (commits batches : List Claim)
+    → FitsLog c me log past → Leaves c me past old → Leaves c me (e ∷ past) new
+    → Adds (SaidCommit c me past) (SaidCommit c me (e ∷ past)) (is_in_marks c (low c me (e ∷ past))) commits
+    → Adds (IsLoggedAs c me past) (IsLoggedAs c me (e ∷ past)) (is_in_marks c (low c me (e ∷ past))) batches
+    → Grows claims after (low c me (e ∷ past)) commits batches
+    → ((text : List ℕ) → Has (λ x. x ≡ text) after.texts
+    → Has (λ x. x ≡ text) claims.texts ⊎ WasLogged c me (e ∷ past) text)
+    → FitsClaims c me past claims → FitsClaims c me (e ∷ past) after
+
+-- Where the log asks for no commit, the claims are the lists of a view change.
+abbrev pub ClaimsAreLists : Type 0
+ClaimsAreLists =
+    (c : Configuration) (me : ℕ) (log : LogData) (history : List Entry) (point : Point) (claims : ClaimsData)
+    → FitsLog c me log history → Leaves c me history point → ((i : ℕ) → logs.due_commit log i ≡ None)
+    → FitsClaims c me history claims
+    → IsPreparedList c me history claims.prepared × IsPrePreparedList c me history claims.logged
+
+-- ---- what an entry adds
+
+-- One that logs nothing, and one that is no own commit, add nothing.
+abbrev pub NoBatchAdds : Type 0
+NoBatchAdds =
+    (c : Configuration) (me : ℕ) (past : List Entry) (e : Entry)
+    → ((v i : ℕ) → logged c me (e ∷ past) v i ≡ logged c me past v i)
+    → Adds (IsLoggedAs c me past) (IsLoggedAs c me (e ∷ past)) (is_in_marks c (low c me (e ∷ past))) []
+
+abbrev pub NoCommitAdds : Type 0
+NoCommitAdds =
+    (c : Configuration) (me : ℕ) (past : List Entry) (e : Entry)
+    → ((v i : ℕ) → commit_of c me (e ∷ past) v i me ≡ commit_of c me past v i me)
+    → Adds (SaidCommit c me past) (SaidCommit c me (e ∷ past)) (is_in_marks c (low c me (e ∷ past))) []
+
+-- One batch adds its claim, and so does one own commit.
+abbrev pub BatchAdds : Type 0
+BatchAdds =
+    (c : Configuration) (me : ℕ) (past : List Entry) (e : Entry) (v i : ℕ) (text : List ℕ)
+    → is_in_marks c (low c me (e ∷ past)) i ≡ true → logged c me (e ∷ past) v i ≡ Some text
+    → ((w j : ℕ) → (w ≢ v) ⊎ (j ≢ i) → logged c me (e ∷ past) w j ≡ logged c me past w j)
+    → Adds (IsLoggedAs c me past) (IsLoggedAs c me (e ∷ past)) (is_in_marks c (low c me (e ∷ past)))
+    (claim_of i v text ∷ [])
+
+abbrev pub CommitAdds : Type 0
+CommitAdds =
+    (c : Configuration) (me : ℕ) (past : List Entry) (e : Entry) (v i : ℕ) (digest : List ℕ)
+    → is_in_marks c (low c me (e ∷ past)) i ≡ true → commit_of c me (e ∷ past) v i me ≡ Some digest
+    → ((w j : ℕ) → (w ≢ v) ⊎ (j ≢ i) → commit_of c me (e ∷ past) w j me ≡ commit_of c me past w j me)
+    → Adds (SaidCommit c me past) (SaidCommit c me (e ∷ past)) (is_in_marks c (low c me (e ∷ past)))
+    (record { number = i; digest = digest; view = v } ∷ [])
+
+-- The requests of a batch that was logged were seen, in the message that brought it.
+abbrev pub LoggedAreSeen : Type 0
+LoggedAreSeen =
+    (c : Configuration) (me v i : ℕ) (text : List ℕ) (history : List Entry) → logged c me history v i ≡ Some text
+    → Each (λ frame. Once (HasSeen frame) history) (requests_of text)

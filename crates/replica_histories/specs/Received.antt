@@ -1,0 +1,71 @@
+-- What a replica holds of the view changes of others, in the history's words: of each the latest that counted, in a
+-- frame that was seen (Castro and Liskov, TOCS 2002, on view changes).
+use Rattle.std.specs.Prelude.{◌≡◌, ◌≢◌, ℕ, ◌<◌, List, [], ◌∷◌, length, replicate, Option, Some, None}
+use Rattle.std.specs.Option.{option_map_or}
+use Rattle.wire.specs.Messages.{ViewChangeData}
+use Rattle.protocol.specs.System.Configuration.{Configuration}
+use Rattle.protocol.specs.System.Trace.{Entry, Once}
+use Rattle.protocol.specs.System.Trace.Entry.{Got, Sent}
+use Rattle.protocol.specs.Replica.Selection.{signed_change}
+use Rattle.protocol.specs.Replica.Certificates.{view}
+use Rattle.protocol.specs.Replica.RightReplica.{HasSeen}
+use Rattle.protocol.specs.Replica.Owed.{latest_change}
+use Rattle.view_change.specs.declared.change_fault.ChangeFault.{ChangeFault}
+use Rattle.view_change.specs.ReceivedData.{HeldData, held_of, refusal_of, with_held}
+
+-- the view of what is held of a replica, else 0
+abbrev pub held_view : List (Option HeldData) → ℕ → ℕ
+held_view held s = option_map_or (λ h. h.change.view) (held_of held s) 0
+
+-- Of each other replica the latest view change that counted is held; and each frame that is held was seen.
+pub record FitsReceived (c : Configuration) (me : ℕ) (history : List Entry)
+    (held : List (Option HeldData)) : Type 0 where
+  pub latest : (s : ℕ) → s ≢ me → latest_change c history s ≡ held_view held s
+  pub seen : (s : ℕ) (h : HeldData) → held_of held s ≡ Some h → Once (HasSeen h.frame) history
+
+-- ---- laws
+
+-- At first nothing is held.
+abbrev pub ReceivedBegin : Type 0
+ReceivedBegin = (c : Configuration) (me n : ℕ) → FitsReceived c me [] (replicate n None)
+
+-- An entry that brings no view change of others leaves what is held: it isn't got, or its bytes are none that is
+-- signed, or none that is taken.
+abbrev pub ReceivedStays : Type 0
+ReceivedStays =
+    (c : Configuration) (me : ℕ) (past : List Entry) (e : Entry) (held : List (Option HeldData))
+    → ((s : ℕ) → s ≢ me → latest_change c (e ∷ past) s ≡ latest_change c past s)
+    → FitsReceived c me past held → FitsReceived c me (e ∷ past) held
+
+abbrev pub SentBringNone : Type 0
+SentBringNone =
+    (c : Configuration) (p s : ℕ) (bytes : List ℕ) (past : List Entry)
+    → latest_change c (Sent p bytes ∷ past) s ≡ latest_change c past s
+
+abbrev pub UnsignedBringNone : Type 0
+UnsignedBringNone =
+    (c : Configuration) (p s : ℕ) (bytes : List ℕ) (past : List Entry) → signed_change c bytes ≡ None
+    → latest_change c (Got p bytes ∷ past) s ≡ latest_change c past s
+
+abbrev pub RefusedBringNone : Type 0
+RefusedBringNone =
+    (c : Configuration) (me s : ℕ) (bytes : List ℕ) (past : List Entry) (held : List (Option HeldData))
+    (x : ℕ × ViewChangeData) (fault : ChangeFault)
+    → signed_change c bytes ≡ Some x → refusal_of c (view c past) held x ≡ Some fault → s ≢ me
+    → FitsReceived c me past held → latest_change c (Got me bytes ∷ past) s ≡ latest_change c past s
+
+-- One that is taken is held in its sender's place.
+abbrev pub ReceivedTakes : Type 0
+ReceivedTakes =
+    (c : Configuration) (me s : ℕ) (bytes : List ℕ) (past : List Entry) (held : List (Option HeldData))
+    (vc : ViewChangeData)
+    → signed_change c bytes ≡ Some (s, vc) → refusal_of c (view c past) held (s, vc) ≡ None → s < length held
+    → FitsReceived c me past held
+    → FitsReceived c me (Got me bytes ∷ past) (with_held (record { sender = s; change = vc; frame = bytes }) held)
+
+-- The own one is held once it is sent.
+abbrev pub ReceivedOwn : Type 0
+ReceivedOwn =
+    (c : Configuration) (me : ℕ) (past : List Entry) (held : List (Option HeldData)) (h : HeldData)
+    → h.sender ≡ me → me < length held → FitsReceived c me past held
+    → FitsReceived c me (Sent me h.frame ∷ past) (with_held h held)

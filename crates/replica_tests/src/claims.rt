@@ -1,0 +1,208 @@
+//! A view change whose list of claims is as long as it can be, and what comes of one claim more.
+
+use crate::frames::{Sent, eight, frame_of, joined, mac_for, piece};
+use crate::replicas::{config, gives_for, new_replica};
+use crate::signed::{key_trees, signed};
+use crate::states::{ROOT, State, root_of};
+use crate::views::sends;
+use events::{Output, Outputs};
+use replica::{Event, Replica};
+use signing::KeyTree;
+use std::alloc::{AllocError, Global};
+use std::test::Fail;
+
+// So many claims fit: a view change has 16,606 bytes, 40 for each checkpoint and 48 for each claim, and 262,144 at the
+// most. With this many and one checkpoint it has 262,118.
+const MOST: usize = 5114;
+
+const LONGEST: usize = 262_118;
+
+// In view 212 it has as many, of 159 views with 32 numbers and one with 26. Of the numbers above 16 these are 159 times 16
+// and 10, and with no checkpoint a view change of them has this many bytes.
+const LAST_VIEW: u8 = 212;
+
+const OF_UPPER_HALF: usize = 139_198;
+
+// So many bytes is a signature, which begins with its leaf.
+const SIGNATURE_LEN: usize = 16_577;
+
+// The request of a view, of client 0, for replica 3: no other view has it.
+fn request_of(alloc: Global, view: u8) -> Result<Vec<u8>, AllocError> {
+    let front = joined(alloc, &[&[0x41, 1, 0], &eight(1), &[0, 0x21, 1, 1]])?;
+    let body = joined(alloc, &[&front, &eight(view)])?;
+    let mac = mac_for(alloc, 256, 3, &body)?;
+    joined(alloc, &[&piece(alloc, &body)?, &[0, 1], &mac])
+}
+
+// The pre-prepare of that request, for replica 3.
+fn proposal(alloc: Global, view: u8, number: u8) -> Result<Vec<u8>, AllocError> {
+    let primary = view & 3;
+    let request = piece(alloc, &request_of(alloc, view)?)?;
+    let front = joined(alloc, &[&[0x42, 0, primary], &eight(view), &eight(number)])?;
+    let body = joined(alloc, &[&front, &[1], &request])?;
+    let mac = mac_for(alloc, u16::from(primary), 3, &body)?;
+    joined(alloc, &[&piece(alloc, &body)?, &[0, 1], &mac])
+}
+
+// Whether replica 3 answers the pre-prepares of the numbers up to the last by a frame each, its prepare.
+fn logs(replica: &mut Replica, alloc: Global, view: u8, last: u8) -> Result<bool, Fail> {
+    for number in 1..=last {
+        let frame = proposal(alloc, view, number)?;
+        let outputs = replica.step(alloc, Event::Got(frame.as_slice()))?;
+        if outputs.len() != 1 {
+            return Ok(false);
+        }
+    }
+    Ok(true)
+}
+
+// A state that a new view starts from, by its number and root.
+type Start = (u8, [u8; 32]);
+
+// The view change of a replica that has nothing to claim, and keeps the checkpoint of this state.
+fn empty_change(
+    alloc: Global,
+    trees: &[KeyTree],
+    sender: u8,
+    view: u8,
+    (low, root): Start,
+) -> Result<Vec<u8>, AllocError> {
+    let front = joined(alloc, &[&[0x46, 0, sender], &eight(view), &eight(low)])?;
+    let body = joined(alloc, &[&front, &[1], &eight(low), &root, &[0; 4]])?;
+    signed(alloc, trees, sender, 0, &body)
+}
+
+// The new view that starts from this state, with no batches, over the view changes of replicas 0, 1 and 2.
+fn empty_new_view(
+    alloc: Global,
+    trees: &[KeyTree],
+    view: u8,
+    start: Start,
+) -> Result<Vec<u8>, AllocError> {
+    let primary = view & 3;
+    let mut body = joined(alloc, &[&[0x47, 0, primary], &eight(view), &[3]])?;
+    for sender in 0..3 {
+        let change = empty_change(alloc, trees, sender, view, start)?;
+        body.extend_from_slice(&piece(alloc, &change)?)?;
+    }
+    let end = joined(alloc, &[&eight(start.0), &start.1, &[0]])?;
+    body.extend_from_slice(&end)?;
+    signed(alloc, trees, primary, 0, &body)
+}
+
+// How many numbers it logs in a view, of so many claims that are left.
+fn numbers_of(left: usize) -> u8 {
+    if left < 32 { (left & 0x1f) as u8 } else { 32 }
+}
+
+// Whether replica 3 enters the view, which starts from nothing, and has no other to answer for.
+fn enters(
+    replica: &mut Replica,
+    alloc: Global,
+    trees: &[KeyTree],
+    view: u8,
+    start: Start,
+) -> Result<bool, Fail> {
+    let new = empty_new_view(alloc, trees, view, start)?;
+    sends(replica, alloc, 3, &new, &[])
+}
+
+// Makes as many claims as fit, view after view. It is the primary of each fourth, which nobody begins.
+fn claims_most(
+    replica: &mut Replica,
+    alloc: Global,
+    trees: &[KeyTree],
+    start: Start,
+) -> Result<bool, Fail> {
+    let mut left = MOST;
+    for view in 0..=LAST_VIEW {
+        if view & 3 != 3 {
+            if view > 0 && !enters(replica, alloc, trees, view, start)? {
+                return Ok(false);
+            }
+            let count = numbers_of(left);
+            if !logs(replica, alloc, view, count)? {
+                return Ok(false);
+            }
+            left = left.saturating_sub(usize::from(count));
+        }
+    }
+    Ok(left == 0)
+}
+
+// Whether the last output is a view change of this length, signed with this leaf, and stands behind so many others.
+fn ends_with_change(outputs: &Outputs, before: usize, len: usize, leaf: u8) -> bool {
+    match outputs.as_slice().get(before) {
+        Some(Output::Send(_, frame)) => {
+            outputs.len() == before.saturating_add(1) && is_change(frame.as_slice(), len, leaf)
+        }
+        _ => false,
+    }
+}
+
+fn is_change(frame: &[u8], len: usize, leaf: u8) -> bool {
+    let signature = frame.len().saturating_sub(SIGNATURE_LEN);
+    frame.len() == len && has_byte(frame, 4, 0x46) && has_byte(frame, signature, leaf)
+}
+
+fn has_byte(bytes: &[u8], place: usize, byte: u8) -> bool {
+    match bytes.get(place) {
+        Some(found) => *found == byte,
+        None => false,
+    }
+}
+
+fn moves_in_time(
+    replica: &mut Replica,
+    alloc: Global,
+    before: usize,
+    len: usize,
+    leaf: u8,
+) -> Result<bool, Fail> {
+    let outputs = replica.step(alloc, Event::Timeout)?;
+    Ok(ends_with_change(&outputs, before, len, leaf))
+}
+
+// With one claim more nothing happens when time goes by: it is still active in its view.
+fn stays_with_one_more(
+    replica: &mut Replica,
+    alloc: Global,
+    trees: &[KeyTree],
+    start: Start,
+) -> Result<bool, Fail> {
+    if !enters(replica, alloc, trees, 214, start)? || !logs(replica, alloc, 214, 1)? {
+        return Ok(false);
+    }
+    let outputs = replica.step(alloc, Event::Timeout)?;
+    Ok(outputs.is_empty() && logs_another(replica, alloc)?)
+}
+
+fn logs_another(replica: &mut Replica, alloc: Global) -> Result<bool, Fail> {
+    let frame = proposal(alloc, 214, 2)?;
+    let outputs = replica.step(alloc, Event::Got(frame.as_slice()))?;
+    Ok(outputs.len() == 1)
+}
+
+// A view that starts at number 16 takes away the claims up to it, and the second of its keys is the next that signs.
+fn moves_when_cut(replica: &mut Replica, alloc: Global, trees: &[KeyTree]) -> Result<bool, Fail> {
+    let new = empty_new_view(alloc, trees, 216, (16, [0xff; 32]))?;
+    let fetch = frame_of(alloc, Sent::Fetch(16, ROOT, 3))?;
+    Ok(
+        sends(replica, alloc, 3, &new, &[&fetch])?
+            && moves_in_time(replica, alloc, 1, OF_UPPER_HALF, 1)?,
+    )
+}
+
+#[test]
+fn claims_in_many_views(rt: HostRuntime) -> Result<(), Fail> {
+    let alloc = rt.alloc();
+    let trees = key_trees(alloc)?;
+    let opening = (0, root_of(alloc, State::Behind(0))?);
+    let mut replica = new_replica(alloc, &config(alloc)?, 3)?;
+    assert!(rt; claims_most(&mut replica, alloc, &trees, opening)?);
+    assert!(rt; gives_for(&mut replica, alloc, Sent::Request(1), &[])?);
+    assert!(rt; moves_in_time(&mut replica, alloc, 0, LONGEST, 0)?);
+    assert!(rt; stays_with_one_more(&mut replica, alloc, &trees, opening)?);
+    assert!(rt; moves_when_cut(&mut replica, alloc, &trees)?);
+    Ok(())
+}
