@@ -22,9 +22,9 @@ fn put_to_replicas(frames: Range<u64>, steps: &mut Vec<Step>) -> Result<(), NoMe
     Ok(())
 }
 
-fn put_to_client(frames: &[u64], number: u16, steps: &mut Vec<Step>) -> Result<(), NoMemory> {
+fn put_to_client(frames: &[u64], client: ClientId, steps: &mut Vec<Step>) -> Result<(), NoMemory> {
     for frame in frames {
-        let party = Party::Client(ClientId { number });
+        let party = Party::Client(client);
         steps.push(Step::Deliver {
             frame: *frame,
             party,
@@ -46,12 +46,12 @@ fn put_asking_again(alloc: Global, steps: &mut Vec<Step>) -> Result<bool, NoMemo
         return Ok(false);
     }
     put_to_replicas(13..30, steps)?;
-    put_to_client(&[22, 24, 26, 28], 1, steps)?;
+    put_to_client(&[22, 24, 26, 28], ClientId { number: 1 }, steps)?;
     if !put_steps(alloc, &["tick c0"], steps)? {
         return Ok(false);
     }
     put_to_replicas(30..31, steps)?;
-    put_to_client(&[31, 32, 33, 34], 0, steps)?;
+    put_to_client(&[31, 32, 33, 34], ClientId { number: 0 }, steps)?;
     put_steps(alloc, &["invoke 0 rdAll 64 (*)", "flush"], steps)
 }
 
