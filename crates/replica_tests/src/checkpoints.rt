@@ -3,6 +3,7 @@
 use crate::frames::Sent;
 use crate::replicas::{Given, Row, config_of_period, gives_all, new_replica};
 use crate::states::{At, PAGE, ROOT, State, root_of};
+use replica::Replica;
 use std::alloc::{AllocError, Global};
 use std::test::Fail;
 
@@ -300,7 +301,16 @@ fn marks_two(
 ) -> Result<bool, Fail> {
     let config = config_of_period(alloc, 2)?;
     let mut replica = new_replica(alloc, &config, me)?;
-    Ok(gives_all(&mut replica, alloc, second)? && gives_all(&mut replica, alloc, is_marked)?)
+    gives_both(&mut replica, alloc, second, is_marked)
+}
+
+fn gives_both(
+    replica: &mut Replica,
+    alloc: Global,
+    first: &[Row<'_>],
+    second: &[Row<'_>],
+) -> Result<bool, Fail> {
+    Ok(gives_all(replica, alloc, first)? && gives_all(replica, alloc, second)?)
 }
 
 #[test]

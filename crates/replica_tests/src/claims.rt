@@ -173,8 +173,12 @@ fn stays_with_one_more(
     if !enters(replica, alloc, trees, 214, start)? || !logs(replica, alloc, 214, 1)? {
         return Ok(false);
     }
+    Ok(gives_nothing_in_time(replica, alloc)? && logs_another(replica, alloc)?)
+}
+
+fn gives_nothing_in_time(replica: &mut Replica, alloc: Global) -> Result<bool, Fail> {
     let outputs = replica.step(alloc, Event::Timeout)?;
-    Ok(outputs.is_empty() && logs_another(replica, alloc)?)
+    Ok(outputs.is_empty())
 }
 
 fn logs_another(replica: &mut Replica, alloc: Global) -> Result<bool, Fail> {
@@ -187,8 +191,12 @@ fn logs_another(replica: &mut Replica, alloc: Global) -> Result<bool, Fail> {
 fn moves_when_cut(replica: &mut Replica, alloc: Global, trees: &[KeyTree]) -> Result<bool, Fail> {
     let new = empty_new_view(alloc, trees, 216, (16, [0xff; 32]))?;
     let fetch = frame_of(alloc, Sent::Fetch(16, ROOT, 3))?;
+    is_cut(replica, alloc, new.as_slice(), fetch.as_slice())
+}
+
+fn is_cut(replica: &mut Replica, alloc: Global, new: &[u8], fetch: &[u8]) -> Result<bool, Fail> {
     Ok(
-        sends(replica, alloc, 3, &new, &[&fetch])?
+        sends(replica, alloc, 3, new, &[fetch])?
             && moves_in_time(replica, alloc, 1, OF_UPPER_HALF, 1)?,
     )
 }

@@ -48,7 +48,11 @@ fn is_dropped(alloc: Global, (me, sent, at): Row) -> Result<bool, Fail> {
     let mut replica = new_replica(alloc, &config, me)?;
     let mut frame = frame_of(alloc, sent)?;
     change(&mut frame, at);
-    Ok(gives(&mut replica, alloc, frame.as_slice(), &[])? && goes_on(&mut replica, alloc, me)?)
+    drops(&mut replica, alloc, me, frame.as_slice())
+}
+
+fn drops(replica: &mut Replica, alloc: Global, me: u8, frame: &[u8]) -> Result<bool, Fail> {
+    Ok(gives(replica, alloc, frame, &[])? && goes_on(replica, alloc, me)?)
 }
 
 fn goes_on(replica: &mut Replica, alloc: Global, me: u8) -> Result<bool, Fail> {

@@ -119,6 +119,22 @@ fn change_of(alloc: Global, trees: &[KeyTree], replica: u8) -> Result<Vec<u8>, A
     }
 }
 
+// What happens to a replica.
+#[derive(Clone, Copy)]
+enum Comes<'a> {
+    Bytes(&'a [u8]),
+    Time,
+}
+
+impl<'a> Comes<'a> {
+    fn event(self) -> Event<'a> {
+        match self {
+            Comes::Bytes(bytes) => Event::Got(bytes),
+            Comes::Time => Event::Timeout,
+        }
+    }
+}
+
 // Whether the event gives so many outputs, and the replica goes on; none, where it stops in it.
 fn counts_or_stops(
     replica: &mut Replica,
@@ -146,19 +162,28 @@ fn moves_or_stops(alloc: Global) -> Result<bool, Fail> {
     let of_3 = change_of(alloc, &trees, 3)?;
     let config = config_of_period(alloc, 16)?;
     let mut replica = made(alloc, &config, 2)?;
-    for (event, count) in [
-        (Event::Got(of_1.as_slice()), 0),
-        (Event::Got(of_3.as_slice()), 2),
-        (Event::Got(request.as_slice()), 1),
-        (Event::Timeout, 1),
-    ] {
-        match counts_or_stops(&mut replica, alloc, event, count) {
+    Ok(all_count_or_stop(
+        &mut replica,
+        alloc,
+        &[
+            (Comes::Bytes(of_1.as_slice()), 0),
+            (Comes::Bytes(of_3.as_slice()), 2),
+            (Comes::Bytes(request.as_slice()), 1),
+            (Comes::Time, 1),
+        ],
+    ))
+}
+
+// Whether each event gives so many outputs, up to one in which the replica stops.
+fn all_count_or_stop(replica: &mut Replica, alloc: Global, all: &[(Comes<'_>, usize)]) -> bool {
+    for (comes, count) in all {
+        match counts_or_stops(replica, alloc, comes.event(), *count) {
             Some(true) => {}
-            Some(false) => return Ok(false),
-            None => return Ok(true),
+            Some(false) => return false,
+            None => return true,
         }
     }
-    Ok(true)
+    true
 }
 
 #[test]

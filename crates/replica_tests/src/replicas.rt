@@ -86,7 +86,8 @@ pub fn gives(
     all: &[Given],
 ) -> Result<bool, Fail> {
     let outputs = replica.step(alloc, Event::Got(bytes))?;
-    Ok(are_given(alloc, &outputs, all)? && !replica.is_stopped())
+    let is_right = are_given(alloc, &outputs, all)?;
+    Ok(is_right && !replica.is_stopped())
 }
 
 /// Whether the replica gives this for a frame of the run.
@@ -113,5 +114,6 @@ pub fn gives_all(replica: &mut Replica, alloc: Global, rows: &[Row<'_>]) -> Resu
 /// Whether it gives this when time goes by.
 pub fn gives_in_time(replica: &mut Replica, alloc: Global, all: &[Given]) -> Result<bool, Fail> {
     let outputs = replica.step(alloc, Event::Timeout)?;
-    Ok(are_given(alloc, &outputs, all)? && !replica.is_stopped())
+    let is_right = are_given(alloc, &outputs, all)?;
+    Ok(is_right && !replica.is_stopped())
 }

@@ -3,6 +3,7 @@
 use crate::frames::Sent;
 use crate::replicas::{Given, Row, config_of_period, gives_all, gives_in_time, new_replica};
 use crate::states::{ROOT, State};
+use replica::Replica;
 use std::alloc::Global;
 use std::test::Fail;
 
@@ -471,12 +472,21 @@ const GOES_ON: [Row<'static>; 14] = [
 fn fetches(alloc: Global, rows: &[&[Row<'_>]], last: &[Given]) -> Result<bool, Fail> {
     let config = config_of_period(alloc, 1)?;
     let mut replica = new_replica(alloc, &config, 3)?;
+    gives_rows(&mut replica, alloc, rows, last)
+}
+
+fn gives_rows(
+    replica: &mut Replica,
+    alloc: Global,
+    rows: &[&[Row<'_>]],
+    last: &[Given],
+) -> Result<bool, Fail> {
     for all in rows {
-        if !gives_all(&mut replica, alloc, all)? {
+        if !gives_all(replica, alloc, all)? {
             return Ok(false);
         }
     }
-    Ok(gives_in_time(&mut replica, alloc, last)? && gives_in_time(&mut replica, alloc, last)?)
+    Ok(gives_in_time(replica, alloc, last)? && gives_in_time(replica, alloc, last)?)
 }
 
 #[test]

@@ -96,14 +96,40 @@ fn moves_in_time(alloc: Global) -> Result<bool, Fail> {
     let two = change_frame(alloc, &trees, 2, 1, nothing_in(2))?;
     let request = frame_of(alloc, Sent::Request(1))?;
     let mut replica = new_replica(alloc, &config(alloc)?, 2)?;
+    moves_twice(
+        &mut replica,
+        alloc,
+        request.as_slice(),
+        one.as_slice(),
+        two.as_slice(),
+    )
+}
+
+fn moves_twice(
+    replica: &mut Replica,
+    alloc: Global,
+    request: &[u8],
+    one: &[u8],
+    two: &[u8],
+) -> Result<bool, Fail> {
     Ok(
-        sends_in_time(&mut replica, alloc, 2, &[])?
-            && sends(&mut replica, alloc, 2, &request, &[])?
-            && sends_in_time(&mut replica, alloc, 2, &[&one])?
-            && sends(&mut replica, alloc, 2, &request, &[&one])?
-            && sends_in_time(&mut replica, alloc, 2, &[&two])?
-            && sends(&mut replica, alloc, 2, &request, &[&two])?
-            && sends(&mut replica, alloc, 2, &two, &[])?,
+        sends_in_time(replica, alloc, 2, &[])?
+            && sends(replica, alloc, 2, request, &[])?
+            && moves_once(replica, alloc, request, one)?
+            && moves_once(replica, alloc, request, two)?
+            && sends(replica, alloc, 2, two, &[])?,
+    )
+}
+
+fn moves_once(
+    replica: &mut Replica,
+    alloc: Global,
+    request: &[u8],
+    change: &[u8],
+) -> Result<bool, Fail> {
+    Ok(
+        sends_in_time(replica, alloc, 2, &[change])?
+            && sends(replica, alloc, 2, request, &[change])?,
     )
 }
 
@@ -142,10 +168,14 @@ fn says_what_it_logged(alloc: Global) -> Result<bool, Fail> {
     let trees = key_trees(alloc)?;
     let change = change_frame(alloc, &trees, 1, 0, LOGGED_TWO)?;
     let mut replica = new_replica(alloc, &config(alloc)?, 1)?;
+    leaves(&mut replica, alloc, change.as_slice())
+}
+
+fn leaves(replica: &mut Replica, alloc: Global, change: &[u8]) -> Result<bool, Fail> {
     Ok(
-        gives_all(&mut replica, alloc, &LOGS_TWO)?
-            && sends_in_time(&mut replica, alloc, 1, &[&change])?
-            && gives_all(&mut replica, alloc, &AFTER_IT_LEFT)?,
+        gives_all(replica, alloc, &LOGS_TWO)?
+            && sends_in_time(replica, alloc, 1, &[change])?
+            && gives_all(replica, alloc, &AFTER_IT_LEFT)?,
     )
 }
 
@@ -163,28 +193,43 @@ fn joins(alloc: Global, trees: &[KeyTree], replica: &mut Replica) -> Result<bool
     let of_0 = change_frame(alloc, trees, 0, 0, nothing_in(3))?;
     let of_1 = change_frame(alloc, trees, 1, 0, nothing_in(2))?;
     let own = change_frame(alloc, trees, 2, 0, nothing_in(2))?;
-    let of_3 = change_frame(alloc, trees, 3, 0, nothing_in(2))?;
-    let new = own_new_view(alloc, trees, &[&of_1, &own, &of_3])?;
+    joins_two(replica, alloc, &of_0, &of_1, &own)
+}
+
+fn joins_two(
+    replica: &mut Replica,
+    alloc: Global,
+    of_0: &[u8],
+    of_1: &[u8],
+    own: &[u8],
+) -> Result<bool, Fail> {
     Ok(
-        sends(replica, alloc, 2, &of_0, &[])?
-            && sends(replica, alloc, 2, &of_1, &[&own])?
-            && sends(replica, alloc, 2, &of_1, &[])?
-            && sends(replica, alloc, 2, &of_3, &[&new])?
-            && goes_on_in_view_2(alloc, trees, replica, &new)?,
+        sends(replica, alloc, 2, of_0, &[])?
+            && sends(replica, alloc, 2, of_1, &[own])?
+            && sends(replica, alloc, 2, of_1, &[])?,
     )
 }
 
-fn own_new_view(
+fn begins_view_2(
     alloc: Global,
     trees: &[KeyTree],
-    changes: &[&[u8]],
-) -> Result<Vec<u8>, AllocError> {
+    replica: &mut Replica,
+    new: &[u8],
+) -> Result<bool, Fail> {
+    let of_3 = change_frame(alloc, trees, 3, 0, nothing_in(2))?;
+    sends(replica, alloc, 2, &of_3, &[new])
+}
+
+fn own_new_view(alloc: Global, trees: &[KeyTree]) -> Result<Vec<u8>, AllocError> {
+    let of_1 = change_frame(alloc, trees, 1, 0, nothing_in(2))?;
+    let own = change_frame(alloc, trees, 2, 0, nothing_in(2))?;
+    let of_3 = change_frame(alloc, trees, 3, 0, nothing_in(2))?;
     let begun = Begun {
         view: 2,
         start: 0,
         batches: &[],
     };
-    new_view_frame(alloc, trees, (2, 1), changes, begun)
+    new_view_frame(alloc, trees, (2, 1), &[&of_1, &own, &of_3], begun)
 }
 
 // It numbers a request, says the new view and the number again when the request comes again, and its next view change is
@@ -202,10 +247,21 @@ fn goes_on_in_view_2(
         ..nothing_in(3)
     };
     let next = change_frame(alloc, trees, 2, 2, change)?;
+    numbers_and_moves(replica, alloc, new, &request, &numbered, &next)
+}
+
+fn numbers_and_moves(
+    replica: &mut Replica,
+    alloc: Global,
+    new: &[u8],
+    request: &[u8],
+    numbered: &[u8],
+    next: &[u8],
+) -> Result<bool, Fail> {
     Ok(
-        sends(replica, alloc, 2, &request, &[&numbered])?
-            && sends(replica, alloc, 2, &request, &[new, &numbered])?
-            && sends_in_time(replica, alloc, 2, &[&next])?,
+        sends(replica, alloc, 2, request, &[numbered])?
+            && sends(replica, alloc, 2, request, &[new, numbered])?
+            && sends_in_time(replica, alloc, 2, &[next])?,
     )
 }
 
@@ -213,8 +269,11 @@ fn goes_on_in_view_2(
 fn others_move(rt: HostRuntime) -> Result<(), Fail> {
     let alloc = rt.alloc();
     let trees = key_trees(alloc)?;
+    let new = own_new_view(alloc, &trees)?;
     let mut replica = new_replica(alloc, &config(alloc)?, 2)?;
     assert!(rt; joins(alloc, &trees, &mut replica)?);
+    assert!(rt; begins_view_2(alloc, &trees, &mut replica, &new)?);
+    assert!(rt; goes_on_in_view_2(alloc, &trees, &mut replica, &new)?);
     Ok(())
 }
 
@@ -305,7 +364,16 @@ fn drops_wrong_signatures(
         break_last(change);
     }
     let carries = carrying(alloc, trees, &changes, RIGHT)?;
-    Ok(sends(replica, alloc, 3, &new, &[])? && sends(replica, alloc, 3, &carries, &[])?)
+    drops_both(replica, alloc, &new, &carries)
+}
+
+fn drops_both(
+    replica: &mut Replica,
+    alloc: Global,
+    one: &[u8],
+    other: &[u8],
+) -> Result<bool, Fail> {
+    Ok(sends(replica, alloc, 3, one, &[])? && sends(replica, alloc, 3, other, &[])?)
 }
 
 fn drops_wrong_ones(
@@ -315,12 +383,22 @@ fn drops_wrong_ones(
     changes: &[Vec<u8>],
 ) -> Result<bool, Fail> {
     for carried in WRONG {
-        let new = carrying(alloc, trees, changes, carried)?;
-        if !sends(replica, alloc, 3, &new, &[])? {
+        if !drops(alloc, trees, replica, changes, carried)? {
             return Ok(false);
         }
     }
     Ok(true)
+}
+
+fn drops(
+    alloc: Global,
+    trees: &[KeyTree],
+    replica: &mut Replica,
+    changes: &[Vec<u8>],
+    carried: Carried,
+) -> Result<bool, Fail> {
+    let new = carrying(alloc, trees, changes, carried)?;
+    sends(replica, alloc, 3, &new, &[])
 }
 
 // In view 1 the batch of number 1 is prepared, committed and executed.
@@ -346,10 +424,14 @@ fn takes_the_right_one(
     changes: &[Vec<u8>],
 ) -> Result<bool, Fail> {
     let new = carrying(alloc, trees, changes, RIGHT)?;
+    begins_view_1(replica, alloc, new.as_slice())
+}
+
+fn begins_view_1(replica: &mut Replica, alloc: Global, new: &[u8]) -> Result<bool, Fail> {
     let prepare = [Given::Sends(Sent::PrepareIn(1, 1, 3))];
     Ok(
-        gives(replica, alloc, &new, &prepare)?
-            && gives(replica, alloc, &new, &[])?
+        gives(replica, alloc, new, &prepare)?
+            && gives(replica, alloc, new, &[])?
             && gives_all(replica, alloc, &IN_VIEW_1)?,
     )
 }
@@ -369,16 +451,30 @@ fn new_views_come(rt: HostRuntime) -> Result<(), Fail> {
 // Replica 3 has moved to view 2, and takes no new view of view 1.
 fn drops_what_it_has_left(alloc: Global) -> Result<bool, Fail> {
     let trees = key_trees(alloc)?;
-    let changes = changes(alloc, &trees)?;
-    let new = carrying(alloc, &trees, &changes, RIGHT)?;
+    let new = right_new_view(alloc, &trees)?;
     let one = change_frame(alloc, &trees, 3, 0, nothing_in(1))?;
     let two = change_frame(alloc, &trees, 3, 1, nothing_in(2))?;
     let mut replica = new_replica(alloc, &config(alloc)?, 3)?;
+    leaves_view_1(&mut replica, alloc, &one, &two, &new)
+}
+
+fn right_new_view(alloc: Global, trees: &[KeyTree]) -> Result<Vec<u8>, Fail> {
+    let changes = changes(alloc, trees)?;
+    Ok(carrying(alloc, trees, &changes, RIGHT)?)
+}
+
+fn leaves_view_1(
+    replica: &mut Replica,
+    alloc: Global,
+    one: &[u8],
+    two: &[u8],
+    new: &[u8],
+) -> Result<bool, Fail> {
     Ok(
-        gives_for(&mut replica, alloc, Sent::Request(1), &[])?
-            && sends_in_time(&mut replica, alloc, 3, &[&one])?
-            && sends_in_time(&mut replica, alloc, 3, &[&two])?
-            && sends(&mut replica, alloc, 3, &new, &[])?,
+        gives_for(replica, alloc, Sent::Request(1), &[])?
+            && sends_in_time(replica, alloc, 3, &[one])?
+            && sends_in_time(replica, alloc, 3, &[two])?
+            && sends(replica, alloc, 3, new, &[])?,
     )
 }
 
@@ -425,15 +521,35 @@ const BEHIND: Change<'static> = Change {
 fn fetches_the_start(alloc: Global) -> Result<bool, Fail> {
     let trees = key_trees(alloc)?;
     let new = ahead_new_view(alloc, &trees)?;
-    let fetch = frame_of(alloc, Sent::Fetch(1, ROOT, 3))?;
-    let prepare = frame_of(alloc, Sent::PrepareIn(1, 2, 3))?;
     let change = change_frame(alloc, &trees, 3, 0, BEHIND)?;
     let mut replica = new_replica(alloc, &config_of_period(alloc, 1)?, 3)?;
+    fetches_first(&mut replica, alloc, &new, &change)
+}
+
+fn fetches_first(
+    replica: &mut Replica,
+    alloc: Global,
+    new: &[u8],
+    change: &[u8],
+) -> Result<bool, Fail> {
+    let fetch = frame_of(alloc, Sent::Fetch(1, ROOT, 3))?;
+    let prepare = frame_of(alloc, Sent::PrepareIn(1, 2, 3))?;
+    fetches_and_moves(replica, alloc, new, &fetch, &prepare, change)
+}
+
+fn fetches_and_moves(
+    replica: &mut Replica,
+    alloc: Global,
+    new: &[u8],
+    fetch: &[u8],
+    prepare: &[u8],
+    change: &[u8],
+) -> Result<bool, Fail> {
     Ok(
-        sends(&mut replica, alloc, 3, &new, &[&fetch, &prepare])?
-            && sends_in_time(&mut replica, alloc, 3, &[&fetch])?
-            && gives_for(&mut replica, alloc, Sent::Request(3), &[])?
-            && sends_in_time(&mut replica, alloc, 3, &[&fetch, &change])?,
+        sends(replica, alloc, 3, new, &[fetch, prepare])?
+            && sends_in_time(replica, alloc, 3, &[fetch])?
+            && gives_for(replica, alloc, Sent::Request(3), &[])?
+            && sends_in_time(replica, alloc, 3, &[fetch, change])?,
     )
 }
 
