@@ -20,7 +20,7 @@ mod pieces;
 mod schedule;
 mod show;
 
-use command_line::{NoRequest, Request, read_words};
+use command_line::{NoRequest, Printed, Request, read_words};
 use complaints::Complaint;
 use events::Config;
 use local::local;
@@ -62,8 +62,8 @@ fn act_on<R: Files + Input + Print + Eprint + AllocGlobal>(rt: &R, request: Requ
         Request::Schedule {
             config,
             file,
-            is_traced,
-        } => run_configured(rt, config, file, is_traced),
+            printed,
+        } => run_configured(rt, config, file, printed),
     }
 }
 
@@ -89,10 +89,10 @@ fn run_configured<R: Files + Input + Print + Eprint + AllocGlobal>(
     rt: &R,
     config: &str,
     file: &str,
-    is_traced: bool,
+    printed: Printed,
 ) -> u8 {
     match configuration_at(rt, config) {
-        Ok(config) => run_schedule(rt, &config, file, is_traced),
+        Ok(config) => run_schedule(rt, &config, file, printed),
         Err(complaint) => complain(rt, complaint),
     }
 }
@@ -119,13 +119,13 @@ fn run_schedule<R: Files + Input + Print + Eprint + AllocGlobal>(
     rt: &R,
     config: &Config,
     path: &str,
-    is_traced: bool,
+    printed: Printed,
 ) -> u8 {
     if path == STANDARD_INPUT {
-        return run_steps(rt, config, rt.reader(), path, is_traced);
+        return run_steps(rt, config, rt.reader(), path, printed);
     }
     match fs::open(rt, path) {
-        Ok(file) => run_steps(rt, config, file, path, is_traced),
+        Ok(file) => run_steps(rt, config, file, path, printed),
         Err(error) => complain(rt, Complaint::of_open(&error, path)),
     }
 }
@@ -135,9 +135,9 @@ fn run_steps<R: Print + Eprint + AllocGlobal, I: Read + Drop>(
     config: &Config,
     input: I,
     path: &str,
-    is_traced: bool,
+    printed: Printed,
 ) -> u8 {
-    match schedule(rt.alloc(), config, input, is_traced, &mut io::writer(rt)) {
+    match schedule(rt.alloc(), config, input, printed, &mut io::writer(rt)) {
         Ok(()) => 0,
         Err(fault) => complain(rt, Complaint::of_schedule(&fault, path)),
     }

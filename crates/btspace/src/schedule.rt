@@ -1,8 +1,10 @@
 //! A schedule in a world of its own.
 
 use crate::pieces::{PieceEnd, ReadFault, drop_return, read_piece};
+use command_line::Printed;
 use config_text::{ConfigFault, read_config};
 use events::{Config, Entry};
+use picture::write_picture;
 use schedule_text::{Step, StepFault, read_step};
 use schedule_world::{Acceptance, Point, Report, RunFault, run};
 use std::alloc::{AllocError, AllocFailed, Global};
@@ -87,12 +89,13 @@ fn read_fault(error: io::Error) -> ScheduleFault {
 }
 
 /// Runs the lines of a schedule, and writes the report: what was accepted, the points, and the number of entries of
-/// the trace; in front of it, where it is traced, each entry. Nothing is written of a schedule that is refused.
+/// the trace; in front of it, where that is asked for, each entry; or else the picture alone. Nothing is written of a
+/// schedule that is refused.
 pub fn schedule<R: Read + Drop, W: Write>(
     alloc: Global,
     config: &Config,
     reader: R,
-    is_traced: bool,
+    printed: Printed,
     writer: &mut W,
 ) -> Result<(), ScheduleFault> {
     let mut input = match BufReader::new(alloc, reader) {
@@ -109,10 +112,17 @@ pub fn schedule<R: Read + Drop, W: Write>(
         return Err(ScheduleFault::Step { line });
     }
     let mut text = Vec::new(alloc);
-    if is_traced {
-        write_trace(alloc, report.trace.as_slice(), &mut text, writer)?;
+    match printed {
+        Printed::Report => write_report(&report, &mut text, writer),
+        Printed::Trace => {
+            write_trace(alloc, report.trace.as_slice(), &mut text, writer)?;
+            write_report(&report, &mut text, writer)
+        }
+        Printed::Picture => {
+            write_picture(alloc, config, report.trace.as_slice(), &mut text)?;
+            write_out(&mut text, writer)
+        }
     }
-    write_report(&report, &mut text, writer)
 }
 
 // Steps, and the numbers of their lines.

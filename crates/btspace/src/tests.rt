@@ -1,6 +1,7 @@
 //! Worked scripts and digits.
 
 mod checkpoints;
+mod forged;
 mod rows;
 mod schedules;
 mod turns;

@@ -7,12 +7,12 @@ use Rattle.tuple_codec.specs.Operations.{Operation, Outcome, IsOperation}
 use Rattle.protocol.specs.System.Configuration.{Configuration}
 use Rattle.protocol.specs.System.Trace.{Entry}
 use Rattle.protocol.specs.System.Trace.Entry.{Invoke, Got, Tick, Sent, Accepted}
-use Rattle.protocol.specs.Client.RightClient.{OpenCall, open_call, MayInput, IsRequest, IsClientBy}
+use Rattle.protocol.specs.Client.RightClient.{OpenCall, open_call, MayInput, IsRequest, IsClient, first_mode, reaction}
 use Rattle.protocol.specs.Client.RightClient.Reaction.{nothing, asks, accepts}
 use Rattle.events.specs.declared.output.Output.{Output}
 use Rattle.events.specs.Outputs.{entry_of, behind}
 use Rattle.client_cert.specs.State.{CallState, ClientState, me_of, called, went}
-use Rattle.client_cert.specs.Fits.{Runs, Fits, reacts}
+use Rattle.client_cert.specs.Fits.{Runs, Fits}
 use Rattle.client_cert.specs.Steps.{Leads, Weighs, Becomes, Keeps, Asks}
 use Rattle.client_cert.proofs.Holding.{holds_begun, holds_sent}
 use Rattle.client_cert.proofs.Fitting.{gives_request, true_not}
@@ -73,7 +73,7 @@ abbrev first_call : Operation → CallState
 first_call op = record { op = op; ordered = false; ordered_ballots = []; read_ballots = [] }
 
 pub call_leads : (old mid new : ClientState) (op : Operation) (mode : Mode) (outs : List Output) → IsOperation op → is_some old.call ≡ false → old.stopped ≡ false
-    → mid ≡ called (suc old.calls) op old → mode ≡ modes.Ordered → Asks mid mode outs new → Leads old (Invoke old.number (suc old.calls) op) outs new
+    → mid ≡ called (suc old.calls) op old → mode ≡ first_mode op → Asks mid mode outs new → Leads old (Invoke old.number (suc old.calls) op) outs new
 call_leads old mid new op mode outs is none runs e kind a c history f = go (subst (λ m. Asks m mode outs new) e a)
   where
     go : Asks (called (suc old.calls) op old) mode outs new → Fits c new (behind (map (entry_of (me_of old)) outs) (Invoke old.number (suc old.calls) op ∷ history))
@@ -83,7 +83,7 @@ call_leads old mid new op mode outs is none runs e kind a c history f = go (subs
         let request : IsRequest c (me_of old) mode (record { timestamp = suc old.calls; op = op }) x.text = subst (λ (k : Operation). IsRequest c (me_of old) mode (record { timestamp = suc old.calls; op = k }) x.text) (ap (λ k. k.op) (sym same)) r in
         let h = holds_sent c (me_of old) (me_of old) (suc old.calls) x.text (Invoke old.number (suc old.calls) op ∷ history) mode op (first_call op) request.says
         (holds_begun c (me_of old) old.number (suc old.calls) op history) in
-        let gave = gives_request c (me_of old) (reacts c (me_of old)) (Invoke old.number (suc old.calls) op) x.text mode (record { timestamp = suc old.calls; op = op }) history
+        let gave = gives_request c (me_of old) (reaction c (me_of old)) (Invoke old.number (suc old.calls) op) x.text mode (record { timestamp = suc old.calls; op = op }) history
         refl refl (may_call c old history op f none is) (ap (λ b. asks b (record { timestamp = suc old.calls; op = op })) (sym kind)) request (f.running runs).gave in
         one_output c new (map (entry_of (me_of old)) outs) (Sent (me_of old) x.text) (Invoke old.number (suc old.calls) op ∷ history) x.given
         (fits_moved c old.number (suc old.calls) (Some (went mode (first_call op))) new (Sent (me_of old) x.text ∷ Invoke old.number (suc old.calls) op ∷ history)
@@ -103,7 +103,7 @@ call_stops old new op is none e c history f =
       members_are = f.members_are ∙ sym e.membership;
       last_is = sym e.calls;
       open_is = sym e.is_open;
-      right = subst (λ n. IsClientBy c (256 + n) (reacts c (256 + n)) (Invoke old.number (suc old.calls) op ∷ history)) (sym e.number) (inr (refl, may_call c old history op f none is, f.right));
+      right = subst (λ n. IsClient c (256 + n) (Invoke old.number (suc old.calls) op ∷ history)) (sym e.number) (inr (refl, may_call c old history op f none is, f.right));
       running = λ r. true_not new.stopped e.stopped r (Runs c (me_of new) new (Invoke old.number (suc old.calls) op ∷ history));
     }
 

@@ -6,10 +6,10 @@ use Rattle.tuple_codec.specs.Operations.{Outcome}
 use Rattle.protocol.specs.System.Configuration.{Configuration, members}
 use Rattle.protocol.specs.System.Trace.{Entry, party_of, is_output, either}
 use Rattle.protocol.specs.System.Trace.Entry.{Got, Tick, Sent, Accepted}
-use Rattle.protocol.specs.Client.RightClient.{OpenCall, open_call, Reaction, IsReaction, IsRequest, MayInput, Reacts, IsClientBy}
+use Rattle.protocol.specs.Client.RightClient.{OpenCall, open_call, Reaction, IsReaction, IsRequest, MayInput, Reacts, IsClientBy, IsClient, reaction}
 use Rattle.protocol.specs.Client.RightClient.Reaction.{nothing, asks, accepts}
 use Rattle.client_cert.specs.State.{CallState, ClientState, me_of}
-use Rattle.client_cert.specs.Fits.{FitsOpen, Holds, Runs, Fits, reacts}
+use Rattle.client_cert.specs.Fits.{FitsOpen, Holds, Runs, Fits}
 
 module _ (c : Configuration) (me : ℕ) (react : List Entry → Reaction) where
   -- an input that gives nothing, or one output
@@ -43,13 +43,13 @@ opened_is c me t history (Some call) h = ap is_some h.open_is
 
 -- between events, of one that goes on
 pub fits_run : (c : Configuration) (client : ClientState) (history : List Entry) → members c ≡ client.membership
-    → Holds c (me_of client) history client.calls client.call → Reacts c (me_of client) (reacts c (me_of client)) [] history → Fits c client history
+    → Holds c (me_of client) history client.calls client.call → Reacts c (me_of client) (reaction c (me_of client)) [] history → Fits c client history
 fits_run c client history known h gave =
     record {
       members_are = known;
       last_is = h.last_is;
       open_is = opened_is c (me_of client) client.calls history client.call h.call_is;
-      right = right_of c (me_of client) (reacts c (me_of client)) history gave;
+      right = right_of c (me_of client) (reaction c (me_of client)) history gave;
       running = λ e. record { holds = h; gave = gave };
     }
 
@@ -70,9 +70,9 @@ true_not true e f X = absurd cc
 true_not false e f X = absurd cc
 
 module _ (c : Configuration) (old new : ClientState) (history : List Entry) (s : Stops old new) where
-  stopped_right : (e : Entry) → party_of e ≡ me_of old → MayInput history e → Fits c old history → IsClientBy c (me_of new) (reacts c (me_of new)) (e ∷ history)
+  stopped_right : (e : Entry) → party_of e ≡ me_of old → MayInput history e → Fits c old history → IsClient c (me_of new) (e ∷ history)
   stopped_right e at may f =
-      subst (λ n. IsClientBy c (256 + n) (reacts c (256 + n)) (e ∷ history)) (sym s.number) (inr (at, may, f.right))
+      subst (λ n. IsClient c (256 + n) (e ∷ history)) (sym s.number) (inr (at, may, f.right))
 
   pub fits_stop_got : (p : ℕ) (bytes : List ℕ) → p ≡ me_of old → Fits c old history → Fits c new (Got p bytes ∷ history)
   fits_stop_got p bytes at f =

@@ -1,19 +1,22 @@
 -- What a whole event does to what fits.
-use Rattle.std.proofs.Common.{◌≡◌, ℕ, ◌+◌, ◌-◌, true, false, List, [], ◌∷◌, Option, Some, None, refl, sym, ap, ◌∙◌, subst, arith}
+use Rattle.std.proofs.Common.{◌≡◌, ℕ, ◌+◌, ◌-◌, true, false, cond, ◌&&◌, ◌==◌, List, [], ◌∷◌, Option, Some, None, refl, sym, ap, ◌∙◌, subst, arith}
+use Rattle.terms.specs.declared.order.Mode.{Mode}
 use Rattle.terms.specs.declared.order.Mode.TheVariants as modes
 use Rattle.tuple_codec.specs.Operations.{Outcome}
 use Rattle.tuple_codec.specs.OperationView.{outcome_of}
+use Rattle.std.proofs.lemmas.Bool.{eq-eqb}
 use Rattle.authenticator.specs.Membership.{Membership}
 use Rattle.signing.specs.Heard.{heard}
 use Rattle.protocol.specs.System.Configuration.{Configuration, members}
+use Rattle.protocol.specs.System.Frames.{same_mode}
 use Rattle.protocol.specs.System.Trace.{Entry}
 use Rattle.protocol.specs.System.Trace.Entry.{Got, Tick, Sent, Accepted}
-use Rattle.protocol.specs.Client.RightClient.{Reacts}
+use Rattle.protocol.specs.Client.RightClient.{Reacts, reaction}
 use Rattle.protocol.specs.Client.RightClient.Reaction.{nothing, asks, accepts}
 use Rattle.client_cert.specs.declared.hearing.Heard.{Heard}
 use Rattle.client_cert.specs.Hearing.{Hears}
-use Rattle.client_cert.specs.State.{Ballot, CallState, ClientState, Takes, Turn, turn_of, ballot_of, me_of, went}
-use Rattle.client_cert.specs.Fits.{Holds, Fits, reacts}
+use Rattle.client_cert.specs.State.{Ballot, CallState, ClientState, Takes, Turn, turn_of, ballot_of, ballots_of, held, me_of, went}
+use Rattle.client_cert.specs.Fits.{Holds, Fits}
 use Rattle.client_cert.specs.Asking.{AsksWith}
 use Rattle.client_cert.specs.Steps.{Weighs, Becomes, Keeps}
 use Rattle.client_cert.proofs.Holding.{holds_got, holds_noted, holds_tick, holds_closed, holds_sent, holds_accepted}
@@ -27,12 +30,21 @@ weigh_none m me t call bytes hears c history known h =
     let here : Hears me t (heard (members c) me bytes) None = subst (λ (x : Membership). Hears me t (heard x me bytes) None) (sym known) hears in
     (holds_got c me me t bytes history call here h, no_reaction c me me t bytes history call here h)
 
+-- what a reply leaves is the sender's
+same_key : (mode : Mode) (s : ℕ) → (same_mode mode mode && (s == s)) ≡ true
+same_key modes.Ordered s = eq-eqb s s refl
+same_key modes.ReadOnly s = eq-eqb s s refl
+
+taken : (call more : CallState) (mode : Mode) (sender : ℕ) (ballot : Ballot) → Takes call mode sender ballot more → held (ballots_of mode more) sender ≡ Some ballot
+taken call more mode sender ballot takes =
+    takes.at mode sender ∙ ap (λ b. cond b (Some ballot) (held (ballots_of mode call) sender)) (same_key mode sender)
+
 pub weigh_reply : (m : Membership) (me t faults : ℕ) (call more : CallState) (bytes : List ℕ) (x : Heard) (ballot : Ballot) (turn : Turn)
     → Hears me t (heard m me bytes) (Some x)
     → faults ≡ m.faults
     → ballot ≡ ballot_of (record { mode = x.mode; number = x.number.0; answer = outcome_of x.answer })
     → Takes call x.mode x.sender ballot more
-    → turn_of faults more x.mode ballot ≡ turn
+    → turn_of faults more x.mode x.sender ≡ turn
     → Weighs m me t call bytes more (turns turn t more.op (outcome_of x.answer))
 weigh_reply m me t faults call more bytes x ballot turn hears size is takes turned c history known h =
     let here : Hears me t (heard (members c) me bytes) (Some x) = subst (λ (k : Membership). Hears me t (heard k me bytes) (Some x)) (sym known) hears in
@@ -40,28 +52,16 @@ weigh_reply m me t faults call more bytes x ballot turn hears size is takes turn
     holds_noted c me me t bytes history call more x.sender x.mode x.number.0 (outcome_of x.answer) here (rw is at takes) h in (
       now,
       reaction_is c me me t bytes history more x.sender x.mode x.number.0 (outcome_of x.answer) here now
+          (taken call more x.mode x.sender ballot takes ∙ ap Some is)
           ∙ ap (λ z. turns z t more.op (outcome_of x.answer))
-          (ap (λ b. turn_of c.faults more x.mode b) (sym is)
-          ∙ ap (λ k. turn_of k more x.mode ballot) (ap (λ z. z.faults) known ∙ sym size)
+          (ap (λ k. turn_of k more x.mode x.sender) (ap (λ z. z.faults) known ∙ sym size)
           ∙ turned),
     )
-
--- the same, of what the program computed
-pub weigh_heard : (m : Membership) (me t faults : ℕ) (call more : CallState) (bytes : List ℕ) (x : Heard) (kept ballot : Ballot) (turn : Turn)
-    → Hears me t (heard m me bytes) (Some x)
-    → faults ≡ m.faults → kept ≡ ballot
-    → ballot ≡ ballot_of (record { mode = x.mode; number = x.number.0; answer = outcome_of x.answer })
-    → Takes call x.mode x.sender kept more
-    → turn_of faults more x.mode ballot ≡ turn
-    → Weighs m me t call bytes more (turns turn t more.op (outcome_of x.answer))
-weigh_heard m me t faults call more bytes x kept ballot turn hears size same is takes turned =
-    weigh_reply m me t faults call more bytes x ballot turn hears size is
-    (subst (λ b. Takes call x.mode x.sender b more) same takes) turned
 
 -- what fits a client of this number fits the new one
 pub fits_moved : (c : Configuration) (number t : ℕ) (call : Option CallState) (new : ClientState) (now : List Entry) → members c ≡ new.membership
     → new.number ≡ number → new.calls ≡ t → new.call ≡ call
-    → Holds c (256 + number) now t call → Reacts c (256 + number) (reacts c (256 + number)) [] now → Fits c new now
+    → Holds c (256 + number) now t call → Reacts c (256 + number) (reaction c (256 + number)) [] now → Fits c new now
 fits_moved c number t call new now known same calls is h gave = fits_run c new now known (rw (same, calls, is) h) (rw same gave)
 
 module _ (c : Configuration) (old new : ClientState) (history : List Entry) (f : Fits c old history) (runs : old.stopped ≡ false) where
@@ -69,7 +69,7 @@ module _ (c : Configuration) (old new : ClientState) (history : List Entry) (f :
   me = me_of old
 
   -- what fits the old client's number and timestamp fits the new one
-  goes_on : (call : Option CallState) (now : List Entry) → Becomes old new call → Holds c (me_of old) now old.calls call → Reacts c (me_of old) (reacts c (me_of old)) [] now → Fits c new now
+  goes_on : (call : Option CallState) (now : List Entry) → Becomes old new call → Holds c (me_of old) now old.calls call → Reacts c (me_of old) (reaction c (me_of old)) [] now → Fits c new now
   goes_on call now b h gave =
       fits_run c new now (f.members_are ∙ sym b.membership)
       (rw (b.number, b.calls, b.call_is) h)
@@ -83,7 +83,7 @@ module _ (c : Configuration) (old new : ClientState) (history : List Entry) (f :
     nothing_given w b =
         let x = w c history f.members_are (open_holds (Some call) is) in
         goes_on (Some more) (Got (me_of old) bytes ∷ history) b x.0
-        (gives_none c (me_of old) (reacts c (me_of old)) (Got (me_of old) bytes) history refl refl tt x.1 (f.running runs).gave)
+        (gives_none c (me_of old) (reaction c (me_of old)) (Got (me_of old) bytes) history refl refl tt x.1 (f.running runs).gave)
 
     pub request_given : (text : List ℕ) → Weighs old.membership (me_of old) old.calls call bytes more (asks modes.Ordered (record { timestamp = old.calls; op = more.op }))
         → AsksWith old.membership (me_of old) modes.Ordered old.calls more.op text → Becomes old new (Some (went modes.Ordered more)) → Fits c new (Sent (me_of old) text ∷ Got (me_of old) bytes ∷ history)
@@ -92,7 +92,7 @@ module _ (c : Configuration) (old new : ClientState) (history : List Entry) (f :
         let r = a c f.members_are in
         goes_on (Some (went modes.Ordered more)) (Sent (me_of old) text ∷ Got (me_of old) bytes ∷ history) b
         (holds_sent c (me_of old) (me_of old) old.calls text (Got (me_of old) bytes ∷ history) modes.Ordered more.op more r.says x.0)
-        (gives_request c (me_of old) (reacts c (me_of old)) (Got (me_of old) bytes) text modes.Ordered (record { timestamp = old.calls; op = more.op }) history refl refl tt x.1 r (f.running runs).gave)
+        (gives_request c (me_of old) (reaction c (me_of old)) (Got (me_of old) bytes) text modes.Ordered (record { timestamp = old.calls; op = more.op }) history refl refl tt x.1 r (f.running runs).gave)
 
     pub answer_given : (answer : Outcome) → Weighs old.membership (me_of old) old.calls call bytes more (accepts old.calls answer)
         → Becomes old new None → Fits c new (Accepted (me_of old - 256) old.calls answer ∷ Got (me_of old) bytes ∷ history)
@@ -100,19 +100,19 @@ module _ (c : Configuration) (old new : ClientState) (history : List Entry) (f :
         let x = w c history f.members_are (open_holds (Some call) is) in
         goes_on None (Accepted (me_of old - 256) old.calls answer ∷ Got (me_of old) bytes ∷ history) b
         (holds_accepted c (me_of old) (me_of old - 256) old.calls answer (Got (me_of old) bytes ∷ history) (Some more) x.0)
-        (gives_answer c (me_of old) (reacts c (me_of old)) (Got (me_of old) bytes) (me_of old - 256) old.calls answer history (omega arith) refl refl tt x.1 (f.running runs).gave)
+        (gives_answer c (me_of old) (reaction c (me_of old)) (Got (me_of old) bytes) (me_of old - 256) old.calls answer history (omega arith) refl refl tt x.1 (f.running runs).gave)
 
   pub got_unasked : (bytes : List ℕ) → old.call ≡ None → Becomes old new None → Fits c new (Got (me_of old) bytes ∷ history)
   got_unasked bytes is b =
       let h = open_holds None is in
       goes_on None (Got (me_of old) bytes ∷ history) b (holds_closed c (me_of old) (me_of old) old.calls bytes history h)
-      (gives_none c (me_of old) (reacts c (me_of old)) (Got (me_of old) bytes) history refl refl tt (no_call_reaction c (me_of old) (me_of old) old.calls bytes history h) (f.running runs).gave)
+      (gives_none c (me_of old) (reaction c (me_of old)) (Got (me_of old) bytes) history refl refl tt (no_call_reaction c (me_of old) (me_of old) old.calls bytes history h) (f.running runs).gave)
 
   pub tick_unasked : old.call ≡ None → Becomes old new None → Fits c new (Tick (me_of old) ∷ history)
   tick_unasked is b =
       let h = open_holds None is in
       goes_on None (Tick (me_of old) ∷ history) b (holds_tick c (me_of old) (me_of old) old.calls history None h)
-      (gives_none c (me_of old) (reacts c (me_of old)) (Tick (me_of old)) history refl refl tt (no_tick_reaction c (me_of old) (me_of old) old.calls history h) (f.running runs).gave)
+      (gives_none c (me_of old) (reaction c (me_of old)) (Tick (me_of old)) history refl refl tt (no_tick_reaction c (me_of old) (me_of old) old.calls history h) (f.running runs).gave)
 
   pub tick_asked : (call : CallState) (text : List ℕ) → old.call ≡ Some call → AsksWith old.membership (me_of old) modes.Ordered old.calls call.op text
       → Becomes old new (Some (went modes.Ordered call)) → Fits c new (Sent (me_of old) text ∷ Tick (me_of old) ∷ history)
@@ -121,7 +121,7 @@ module _ (c : Configuration) (old new : ClientState) (history : List Entry) (f :
       let r = a c f.members_are in
       goes_on (Some (went modes.Ordered call)) (Sent (me_of old) text ∷ Tick (me_of old) ∷ history) b
       (holds_sent c (me_of old) (me_of old) old.calls text (Tick (me_of old) ∷ history) modes.Ordered call.op call r.says (holds_tick c (me_of old) (me_of old) old.calls history (Some call) h))
-      (gives_request c (me_of old) (reacts c (me_of old)) (Tick (me_of old)) text modes.Ordered (record { timestamp = old.calls; op = call.op }) history refl refl tt (tick_reaction c (me_of old) (me_of old) old.calls history call h) r (f.running runs).gave)
+      (gives_request c (me_of old) (reaction c (me_of old)) (Tick (me_of old)) text modes.Ordered (record { timestamp = old.calls; op = call.op }) history refl refl tt (tick_reaction c (me_of old) (me_of old) old.calls history call h) r (f.running runs).gave)
 
 -- an event of a client that stops, or had stopped
 stops_of : (old new : ClientState) → Keeps old new → new.stopped ≡ true → Stops old new

@@ -3,12 +3,8 @@ use Rattle.std.specs.Prelude.{◌≡◌, ℕ, false, List, [], Option, Some, Non
 use Rattle.terms.specs.declared.order.Mode.{Mode}
 use Rattle.protocol.specs.System.Configuration.{Configuration, members}
 use Rattle.protocol.specs.System.Trace.{Entry}
-use Rattle.protocol.specs.Client.RightClient.{last_call, open_call, went_ordered, latest, Reaction, weak_reaction, Reacts, IsClientBy}
+use Rattle.protocol.specs.Client.RightClient.{last_call, open_call, went_ordered, latest, reaction, Reacts, IsClient}
 use Rattle.client_cert.specs.State.{CallState, ClientState, me_of, held, ballots_of, ballot_of}
-
--- what this client is to give: the one word here that tells the weak client from the strong one
-abbrev pub reacts : Configuration → ℕ → List Entry → Reaction
-reacts c me = weak_reaction c me
 
 -- the open call of this timestamp
 pub record FitsCall (c : Configuration) (me : ℕ) (history : List Entry) (timestamp : ℕ) (call : CallState) : Type 0 where
@@ -29,12 +25,12 @@ pub record Holds (c : Configuration) (me : ℕ) (history : List Entry) (timestam
 -- of a client that goes on, between events
 pub record Runs (c : Configuration) (me : ℕ) (client : ClientState) (history : List Entry) : Type 0 where
   pub holds : Holds c me history client.calls client.call
-  pub gave : Reacts c me (reacts c me) [] history
+  pub gave : Reacts c me (reaction c me) [] history
 
 -- Between events. A client that stopped still knows its last call, and whether it is open.
 pub record Fits (c : Configuration) (client : ClientState) (history : List Entry) : Type 0 where
   pub members_are : members c ≡ client.membership
   pub last_is : last_call history ≡ client.calls
   pub open_is : is_some (open_call history) ≡ is_some client.call
-  pub right : IsClientBy c (me_of client) (reacts c (me_of client)) history
+  pub right : IsClient c (me_of client) history
   pub running : client.stopped ≡ false → Runs c (me_of client) client history

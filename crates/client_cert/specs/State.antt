@@ -1,5 +1,5 @@
 -- What a client holds, as plain data, and the changes that its entries make.
-use Rattle.std.specs.Prelude.{◌≡◌, ℕ, ◌+◌, ◌*◌, ◌^◌, ◌≤◌, Bool, true, false, ◌&&◌, ◌||◌, List, [], Option, Some, is_some, nat_le, ◌==◌, bytes_eq, cond, if◌then◌else◌, refl}
+use Rattle.std.specs.Prelude.{◌≡◌, ℕ, ◌+◌, ◌*◌, ◌^◌, ◌≤◌, Bool, true, false, ◌&&◌, ◌||◌, not, List, [], Option, Some, is_some, nat_le, ◌==◌, bytes_eq, cond, if◌then◌else◌, refl}
 use Rattle.std.specs.Option.{option_map_or}
 use Rattle.std.specs.Map.{lookup}
 use Rattle.std.specs.Coded.{Coded, code_by, coded×, coded_list, coded_option, coded_ℕ, coded_bool}
@@ -107,13 +107,21 @@ pub record Takes (old : CallState) (mode : Mode) (sender : ℕ) (ballot : Ballot
   pub at : (m : Mode) (s : ℕ)
       → held (ballots_of m new) s ≡ cond (same_mode mode m && (sender == s)) (Some ballot) (held (ballots_of m old) s)
 
--- alike in the answer
+-- alike in number and answer
 abbrev pub is_like : Ballot → Option Ballot → Bool
-is_like ballot other = option_map_or (λ o. bytes_eq o.text ballot.text) other false
+is_like ballot other = option_map_or (λ o. (o.number == ballot.number) && bytes_eq o.text ballot.text) other false
 
 -- how many of n replicas gave the like
 abbrev pub count_like : Ballots → ℕ → Ballot → ℕ
 count_like ballots n ballot = count_below (λ s. is_like ballot (held ballots s)) n
+
+-- how many of n replicas gave the like of what that one gave
+abbrev pub count_alike : Ballots → ℕ → ℕ → ℕ
+count_alike ballots n sender = option_map_or (count_like ballots n) (held ballots sender) 0
+
+-- how many of n replicas gave a reply
+abbrev pub count_held : Ballots → ℕ → ℕ
+count_held ballots n = count_below (λ s. is_some (held ballots s)) n
 
 -- ---- what a reply leads to: nothing, an ordered request, or an acceptance
 
@@ -122,11 +130,12 @@ pub data Turn : Type 0 where
   asks_ordered : Turn
   accepts_it : Turn
 
--- f + 1 ordered replies of one answer end a call
-abbrev pub turn_of : ℕ → CallState → Mode → Ballot → Turn
-turn_of faults call mode ballot =
-    if same_mode mode modes.Ordered && nat_le (faults + 1) (count_like call.ordered_ballots (3 * faults + 1) ballot)
-    then accepts_it else waits
+-- A quorum alike ends a call. One that was not asked for in its order is asked for so once all replicas answered it.
+abbrev pub turn_of : ℕ → CallState → Mode → ℕ → Turn
+turn_of faults call mode sender =
+    if nat_le (2 * faults + 1) (count_alike (ballots_of mode call) (3 * faults + 1) sender) then accepts_it
+    else if not call.ordered && nat_le (3 * faults + 1) (count_held call.read_ballots (3 * faults + 1))
+    then asks_ordered else waits
 
 -- ---- what entries change
 

@@ -10,7 +10,7 @@ use Rattle.authenticator.specs.Membership.{Membership}
 use Rattle.protocol.specs.System.Configuration.{Configuration, members}
 use Rattle.protocol.specs.System.Trace.{Entry}
 use Rattle.protocol.specs.System.Trace.Entry.{Invoke, Got, Tick, Sent}
-use Rattle.protocol.specs.Client.RightClient.{Reaction}
+use Rattle.protocol.specs.Client.RightClient.{Reaction, reaction}
 use Rattle.protocol.specs.Client.RightClient.Reaction.{nothing, asks, accepts}
 use Rattle.events.specs.declared.output.Output.{Output}
 use Rattle.events.specs.Outputs.{entry_of, after_event}
@@ -20,7 +20,7 @@ use Rattle.client_cert.specs.declared.hearing.Turned.{Turned}
 use Rattle.client_cert.specs.declared.hearing.Turned.TheVariants as turned
 use Rattle.client_cert.specs.State.{CallState, ClientState, me_of, went}
 use Rattle.client_cert.specs.Asking.{AsksWith}
-use Rattle.client_cert.specs.Fits.{Holds, Fits, reacts}
+use Rattle.client_cert.specs.Fits.{Holds, Fits}
 
 -- the input entry of an event
 abbrev pub input_of : ℕ → Event → Entry
@@ -64,9 +64,9 @@ reaction_of timestamp call (turned.Accept answer) = accepts timestamp (outcome_o
 
 -- what bytes do to the open call, and what they are to be answered with
 abbrev pub Weighs : Membership → ℕ → ℕ → CallState → List ℕ → CallState → Reaction → Type 0
-Weighs m me timestamp old bytes new reaction =
+Weighs m me timestamp old bytes new given =
     (c : Configuration) (history : List Entry) → members c ≡ m → Holds c me history timestamp (Some old)
-    → Holds c me (Got me bytes ∷ history) timestamp (Some new) × (reacts c me (Got me bytes ∷ history) ≡ reaction)
+    → Holds c me (Got me bytes ∷ history) timestamp (Some new) × (reaction c me (Got me bytes ∷ history) ≡ given)
 
 -- the same of the client of this number, as the program has it
 abbrev pub TurnsTo :

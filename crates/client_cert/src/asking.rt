@@ -3,11 +3,11 @@
 ghost use Rattle.std.specs.Prelude.{◌≡◌, ◌≤◌, IfOk, map};
 ghost use Rattle.std.specs.List.{range_with_len};
 ghost use Rattle.terms.specs.Parties.{party_number};
-ghost use Rattle.terms.specs.declared.order.Mode.TheVariants as modes;
 ghost use Rattle.tuple_codec.specs.OperationView.{operation_of};
 ghost use Rattle.tuple_codec.specs.Operations.{IsOperation};
 ghost use Rattle.tuple_tree.specs.Values.{IsTuple, IsTemplate};
 ghost use Rattle.wire.specs.Views.{body_data};
+ghost use Rattle.protocol.specs.Client.RightClient.{first_mode};
 ghost use Rattle.client_cert.specs.Asking.{AsksAs, IsSealableForAll, SealsForAll};
 
 use authenticator::Ring;
@@ -122,9 +122,13 @@ fn note_template(template: &Template<Global>)
     let _depth = template.depth();
 }
 
-/// The mode in which an operation is asked for first: each in its place in the order.
-pub(crate) fn first_mode() -> Mode
-    ensures { result ≡ modes.Ordered }
+/// The mode in which an operation is asked for first: a read at once from the executed state, any other in its place in
+/// the order.
+pub(crate) fn first_mode(op: &Op<Global>) -> Mode
+    ensures { result ≡ first_mode (operation_of op.now) }
 {
-    Mode::Ordered
+    match op {
+        Op::Rdp(_) | Op::RdAll(_, _) => Mode::ReadOnly,
+        Op::Out(_) | Op::Inp(_) | Op::Cas(_, _) => Mode::Ordered,
+    }
 }

@@ -1,7 +1,7 @@
 //! The replies to a call, of one mode.
 
-ghost use Rattle.std.specs.Prelude.{◌≡◌, ◌≤◌, [], IfOk, OnOk, Some};
-ghost use Rattle.client_cert.specs.State.{Adds, count_like, held, is_like};
+ghost use Rattle.std.specs.Prelude.{◌≡◌, ◌≤◌, [], OnOk, Some, is_some};
+ghost use Rattle.client_cert.specs.State.{Adds, count_alike, count_held, count_like, held, is_like};
 
 use events::Stop;
 use indexmap::IndexMap;
@@ -33,21 +33,11 @@ impl Ballot {
         Ballot { number, text }
     }
 
-    pub(crate) fn copy(&self, alloc: Global) -> Result<Ballot, Stop>
-        ensures { IfOk result (λ b. b ≡ self.now) }
-    {
-        let text = Vec::from_slice(alloc, self.text.as_slice())?;
-        Ok(Ballot {
-            number: self.number,
-            text,
-        })
-    }
-
-    // Whether the other is alike in its answer.
+    // Whether the other is alike in number and answer.
     fn is_like(&self, other: &Ballot) -> bool
         ensures { result ≡ is_like self.now (Some other.now) }
     {
-        other.text.as_slice() == self.text.as_slice()
+        other.number.0 == self.number.0 && other.text.as_slice() == self.text.as_slice()
     }
 }
 
@@ -86,8 +76,37 @@ impl Ballots {
         }
     }
 
-    /// How many of so many replicas gave the like of this reply.
-    pub(crate) fn count_like(&self, replicas: u16, ballot: &Ballot) -> u16
+    /// How many of so many replicas have a reply here.
+    pub(crate) fn count(&self, replicas: u16) -> u16
+        ensures { result ≡ count_held self.now replicas }
+    {
+        let mut count = 0;
+        for replica in 0..replicas {
+            if self.has(replica) {
+                count += 1;
+            }
+        }
+        count
+    }
+
+    fn has(&self, replica: u16) -> bool
+        ensures { result ≡ is_some (held self.now replica) }
+    {
+        self.cast.get(&replica).is_some()
+    }
+
+    /// How many of so many replicas gave the like of the sender's reply.
+    pub(crate) fn count_alike(&self, replicas: u16, sender: u16) -> u16
+        ensures { result ≡ count_alike self.now replicas sender }
+    {
+        match self.cast.get(&sender) {
+            Some(ballot) => self.count_like(replicas, ballot),
+            None => 0,
+        }
+    }
+
+    // How many of so many replicas gave the like of this reply.
+    fn count_like(&self, replicas: u16, ballot: &Ballot) -> u16
         ensures { result ≡ count_like self.now replicas ballot.now }
     {
         let mut count = 0;

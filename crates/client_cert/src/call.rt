@@ -5,7 +5,7 @@ ghost use Rattle.terms.specs.declared.order.Mode.TheVariants as modes;
 ghost use Rattle.tuple_codec.specs.OperationView.{operation_of};
 ghost use Rattle.protocol.specs.System.Frames.{same_mode};
 ghost use Rattle.client_cert.specs.Asking.{AsksAs};
-ghost use Rattle.client_cert.specs.State.{Takes, new_call, turn_of, went};
+ghost use Rattle.client_cert.specs.State.{Takes, ballots_of, count_alike, new_call, turn_of, went};
 ghost use Rattle.client_cert.specs.TurnView.{turn_is};
 
 use crate::asking::seal_request;
@@ -74,18 +74,28 @@ impl Call {
         }
     }
 
-    /// What the newest reply leads to.
-    pub(crate) fn next(&self, faults: u8, mode: Mode, ballot: &Ballot) -> Next
+    /// What the newest reply, the sender's of this mode, leads to.
+    pub(crate) fn next(&self, faults: u8, mode: Mode, sender: u16) -> Next
         requires few { faults ≤ 3 }
-        ensures turn { turn_is result (turn_of faults self.now mode ballot.now) }
+        ensures turn { turn_is result (turn_of faults self.now mode sender) }
     {
         let replicas = 3 * u16::from(faults) + 1;
-        if is_ordered(mode)
-            && self.ordered_ballots.count_like(replicas, ballot) >= u16::from(faults) + 1
-        {
+        if self.count_alike(replicas, mode, sender) >= 2 * u16::from(faults) + 1 {
             Next::Accept
+        } else if !self.ordered && self.read_ballots.count(replicas) >= replicas {
+            Next::AskOrdered
         } else {
             Next::Wait
+        }
+    }
+
+    // How many of so many replicas gave the like of the sender's reply in this mode.
+    fn count_alike(&self, replicas: u16, mode: Mode, sender: u16) -> u16
+        ensures { result ≡ count_alike (ballots_of mode self.now) replicas sender }
+    {
+        match mode {
+            Mode::Ordered => self.ordered_ballots.count_alike(replicas, sender),
+            Mode::ReadOnly => self.read_ballots.count_alike(replicas, sender),
         }
     }
 }

@@ -136,7 +136,7 @@ impl Client {
             return Err(InvokeFault::Busy);
         }
         note_op(&op);
-        let mode = first_mode();
+        let mode = first_mode(&op);
         if self.stopped || self.calls >= MAX_CALLS {
             self.stopped = true;
             self.begin(alloc, op);
@@ -231,8 +231,8 @@ impl Client {
                     }
                     Ok(Turned::Ask) => {
                         self.call = Some(call);
-                        let outputs = self.ask(alloc, Mode::Ordered)?;
-                        Ok(outputs)
+                        let asked = self.ask(alloc, Mode::Ordered)?;
+                        Ok(asked)
                     }
                     Ok(Turned::Accept(answer)) => {
                         let mut outputs = Vec::new(alloc);

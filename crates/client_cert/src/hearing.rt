@@ -58,9 +58,8 @@ pub(crate) fn weigh(
                 answer,
             } = heard;
             let ballot = ballot_of(alloc, number, &answer)?;
-            let kept = ballot.copy(alloc)?;
-            call.note(sender, mode, kept)?;
-            match call.next(faults, mode, &ballot) {
+            call.note(sender, mode, ballot)?;
+            match call.next(faults, mode, sender) {
                 Next::Accept => Ok(Turned::Accept(answer)),
                 Next::AskOrdered => Ok(Turned::Ask),
                 Next::Wait => Ok(Turned::Nothing),

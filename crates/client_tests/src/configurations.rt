@@ -8,7 +8,7 @@ use terms::{Party, ReplicaId};
 // Faults, clients and the period, one faulty replica and one faulty client, and whether they make a configuration.
 type Row = (u8, u16, u8, u16, u16, bool);
 
-const ROWS: [Row; 8] = [
+static ROWS: [Row; 8] = [
     (1, 1, 1, 0, 0, true),
     (3, 256, 16, 9, 255, true),
     (0, 1, 1, 0, 0, false),

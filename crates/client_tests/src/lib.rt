@@ -1,8 +1,13 @@
 //! Tests of a client over frames (`client_cert`) and of what the parties share (`events`): a call from its request to
-//! its answer, replies that don't count, a call that is refused, memory refused, and which configurations there are.
+//! its answer, which replies count, a read that falls back, a call that is refused, memory refused, and which
+//! configurations there are.
 #![tactic(auto)]
 
 #[cfg(test)]
 mod calls;
 #[cfg(test)]
+mod clients;
+#[cfg(test)]
 mod configurations;
+#[cfg(test)]
+mod replies;

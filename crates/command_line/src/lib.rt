@@ -28,13 +28,23 @@ pub enum Request<'a> {
     Show {
         digits: &'a str,
     },
-    /// The schedule at the second path is to be run in the configuration at the first, with each entry of its trace
-    /// printed, or without.
+    /// The schedule at the second path is to be run in the configuration at the first.
     Schedule {
         config: &'a str,
         file: &'a str,
-        is_traced: bool,
+        printed: Printed,
     },
+}
+
+/// What is printed of a run.
+#[derive(Clone, Copy, Debug, PartialEq, Eq)]
+pub enum Printed {
+    /// What was accepted, and how many entries the trace has.
+    Report,
+    /// Each entry of the trace, and then the report.
+    Trace,
+    /// The picture of the trace, alone.
+    Picture,
 }
 
 /// Why there is no request.
@@ -86,8 +96,19 @@ fn request_in<'a>(name: &str, given: &ArgMatches<'a>) -> Option<Request<'a>> {
         Some(Request::Schedule {
             config: given.get_str("CONFIG")?,
             file: given.get_str("FILE")?,
-            is_traced: given.get_flag("trace"),
+            printed: printed_of(given),
         })
+    }
+}
+
+// The two options exclude each other.
+fn printed_of(given: &ArgMatches<'_>) -> Printed {
+    if given.get_flag("picture") {
+        Printed::Picture
+    } else if given.get_flag("trace") {
+        Printed::Trace
+    } else {
+        Printed::Report
     }
 }
 
@@ -121,10 +142,16 @@ fn schedule<'a>(alloc: Global) -> Result<Command<'a>, AllocError> {
     let trace = Arg::new(alloc, "trace")
         .long("trace")
         .action(ArgAction::SetTrue)
+        .conflicts_with("picture")?
         .help("Print the entries of the trace before the report, a line each");
+    let picture = Arg::new(alloc, "picture")
+        .long("picture")
+        .action(ArgAction::SetTrue)
+        .help("Print the run as an SVG message sequence chart in place of the report");
     Command::new(alloc, "schedule")
         .about("Runs a schedule in a world of replicas and clients and prints what was accepted")
         .arg(trace)?
+        .arg(picture)?
         .arg(config)?
         .arg(file)
 }

@@ -1,11 +1,8 @@
 //! The executed state.
 
-ghost use Rattle.std.specs.Prelude.{◌≡◌, ◌↔◌, ◌+◌, ◌^◌, ◌<◌, ◌≤◌, true, false, map, option_map, IfOk};
-ghost use Rattle.tuple_codec.specs.OperationView.{operation_of, outcome_of};
-ghost use Rattle.space.specs.Applying.{outcome, is_read_only};
-ghost use Rattle.space.specs.Births.{WantsMemory};
+ghost use Rattle.std.specs.Prelude.{◌≡◌, ◌+◌, ◌^◌, ◌<◌, ◌≤◌, true, false, map, option_map, IfOk};
 ghost use Rattle.reply_cache.specs.ReplyView as reply_view;
-ghost use Rattle.protocol.specs.Replica.State.{IsState, opening, tuples, kept_of, last_time, pages_of, root_of};
+ghost use Rattle.protocol.specs.Replica.State.{IsState, opening, kept_of, last_time, pages_of, root_of};
 ghost use Rattle.execution.specs.Executed.{Executes, told};
 ghost use Rattle.execution.specs.Installing.{HasPagesAt, NoneFalls, NoneReplaces};
 ghost use Rattle.execution.specs.contracts.executed.Executed.{the_row};
@@ -18,11 +15,11 @@ use crate::replies::WatchedReplies;
 use crate::running::{Ran, run_frames};
 use partition_tree::{Snapshot, Tree};
 use reply_cache::{Reply, ReplyCache};
-use space::{PeekFault, Space, Watched};
-use std::alloc::{Allocator, Global};
+use space::{Space, Watched};
+use std::alloc::Global;
 use std::marker::Model;
 use terms::{ClientId, Digest, NoMemory, Number, Timestamp};
-use tuple_codec::{Answer, Bad, Op};
+use tuple_codec::Bad;
 use wire::requests;
 
 /// The executed state of a replica, in a configuration of up to 256 clients.
@@ -108,17 +105,11 @@ impl Executed {
         Timestamp(self.replies.replies().seen(client))
     }
 
-    /// Answers a read from the executed state; any other operation is refused before memory is looked at. NoMemory
-    /// comes only where a match is to be copied.
-    pub fn answer<A: Allocator>(&self, op: &Op<A>) -> Result<Answer<Global>, PeekFault>
-        ensures answer { IfOk result
-            (λ a. outcome_of a ≡ outcome (tuples self.now.state) (operation_of op.now)) }
-        ensures not_read_only { (result ≡ Err PeekFault.NotReadOnly)
-            ↔ (is_read_only (operation_of op.now) ≡ false) }
-        ensures memory { (result ≡ Err PeekFault.NoMemory)
-            → WantsMemory self.now.state.space (operation_of op.now) }
+    /// The space, which reads are answered from.
+    pub fn space(&self) -> &Space
+        ensures { result.now ≡ self.now.state.space }
     {
-        self.space.space().peek(op)
+        self.space.space()
     }
 
     /// Executes the next batch, by its text: each of its requests in order whose timestamp is above its client's last,

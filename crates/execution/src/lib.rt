@@ -6,12 +6,12 @@
 //!
 //! `execute` is the protocol's definition: it leaves the state that a batch leaves, and tells of each request that ran,
 //! in order, what a reply to it says, in every configuration of so many clients; a request whose timestamp isn't above
-//! its client's last doesn't run again. `answer` is the outcome of a read in the executed state. `pages`, `checkpoint`
-//! and `root` are the pages of the state and their root, though only pages that a request may have changed since the
-//! last call are written and hashed again. `install` puts the state of a number in its place exactly where it is given
-//! the pages of one in which no client's last timestamp is lower, want of memory aside, and else changes nothing. An
-//! [`Executed`] always is a state (`IsState`). Laws: `pages_determine` (equal pages are equal states),
-//! `pages_are_short` (66,048 bytes at the most).
+//! its client's last doesn't run again. `space` lends the executed space. `pages`, `checkpoint` and `root` are the
+//! pages of the state and their root, though only pages that a request may have changed since the last call are written
+//! and hashed again. `install` puts the state of a number in its place exactly where it is given the pages of one in
+//! which no client's last timestamp is lower, want of memory aside, and else changes nothing. An [`Executed`] always is
+//! a state (`IsState`). Laws: `pages_determine` (equal pages are equal states), `pages_are_short` (66,048 bytes at the
+//! most).
 #![tactic(auto)]
 
 mod calls;

@@ -13,7 +13,7 @@ use tuple_codec::{Bad, decode_op, encode_result};
 type Text = (usize, &'static [u8]);
 
 // The tuples (1) and (2) with the births 0 and 1, the replies to both clients, and the header.
-const AFTER_ONE: [Text; 5] = [
+static AFTER_ONE: [Text; 5] = [
     (0, b"\0\0\0\0\0\0\0\0\x01\x01\0\0\0\0\0\0\0\x01"),
     (1, b"\0\0\0\0\0\0\0\x01\x01\x01\0\0\0\0\0\0\0\x02"),
     (256, b"\0\0\0\0\0\0\0\x01\0\0\0\0\0\0\0\x011"),
@@ -22,10 +22,10 @@ const AFTER_ONE: [Text; 5] = [
 ];
 
 // The header of the state before the first batch.
-const BEGINNING: [Text; 1] = [(512, b"\x01\0\0\0\0\0\0\0\0\0\0\0\0\0\0\0\0")];
+static BEGINNING: [Text; 1] = [(512, b"\x01\0\0\0\0\0\0\0\0\0\0\0\0\0\0\0\0")];
 
 // The state of the next number, without the reply to client 0.
-const FORGETFUL: [Text; 4] = [
+static FORGETFUL: [Text; 4] = [
     (0, b"\0\0\0\0\0\0\0\0\x01\x01\0\0\0\0\0\0\0\x01"),
     (1, b"\0\0\0\0\0\0\0\x01\x01\x01\0\0\0\0\0\0\0\x02"),
     (257, b"\0\0\0\0\0\0\0\x02\0\0\0\0\0\0\0\x011"),
@@ -60,17 +60,25 @@ const ROOT_OF_LAST_CLIENT: Digest = [
 // A tree of these pages, with one of them changed, where one is.
 fn tree_of(alloc: Global, texts: &[Text], changed: Option<Text>) -> Result<Tree, NoMemory> {
     let mut tree = Tree::new(alloc)?;
-    for (page, text) in texts {
-        if *page < PAGES {
-            tree.set_page(*page, text)?;
-        }
-    }
-    if let Some((page, text)) = changed {
-        if page < PAGES {
-            tree.set_page(page, text)?;
-        }
-    }
+    set_all(&mut tree, texts, changed)?;
     Ok(tree)
+}
+
+fn set_all(tree: &mut Tree, texts: &[Text], changed: Option<Text>) -> Result<(), NoMemory> {
+    for text in texts {
+        set(tree, *text)?;
+    }
+    if let Some(text) = changed {
+        set(tree, text)?;
+    }
+    Ok(())
+}
+
+fn set(tree: &mut Tree, (page, text): Text) -> Result<(), NoMemory> {
+    if page < PAGES {
+        tree.set_page(page, text)?;
+    }
+    Ok(())
 }
 
 // Whether the pages after one batch, changed so, are installed as those of this number.
@@ -117,11 +125,11 @@ fn a_batch_runs_on_a_state(rt: HostRuntime) -> Result<(), Fail> {
     Ok(())
 }
 
-// Whether the read of these bytes is answered so.
+// Whether the space answers the read of these bytes so.
 fn answers(executed: &Executed, alloc: Global, op: &[u8], answer: &[u8]) -> Result<bool, Bad> {
     let (op, _) = decode_op(alloc, op)?;
     let mut bytes = Vec::new(alloc);
-    match executed.answer(&op) {
+    match executed.space().peek(&op) {
         Ok(given) => encode_result(&given, &mut bytes)?,
         Err(_) => return Ok(false),
     }
@@ -165,42 +173,64 @@ fn a_state_is_replaced(rt: HostRuntime) -> Result<(), Fail> {
 #[test]
 fn the_last_client_counts(rt: HostRuntime) -> Result<(), Fail> {
     let mut executed = Executed::new(rt.alloc(), 256)?;
-    assert!(rt;
-        replaces(
-            &mut executed,
-            rt.alloc(),
-            1,
-            LAST_CLIENT,
-            &ROOT_OF_LAST_CLIENT
-        )?
-    );
-    assert!(rt; !installs(&mut executed, rt.alloc(), 1, None)?);
-    assert!(rt; executed.seen(ClientId { number: 255 }).0 == 3);
-    assert!(rt; executed.root()? == ROOT_OF_LAST_CLIENT);
+    assert!(rt; keeps_the_last_client(&mut executed, rt.alloc())?);
     Ok(())
 }
 
+fn keeps_the_last_client(executed: &mut Executed, alloc: Global) -> Result<bool, NoMemory> {
+    Ok(
+        replaces(executed, alloc, 1, LAST_CLIENT, &ROOT_OF_LAST_CLIENT)?
+            && !installs(executed, alloc, 1, None)?
+            && executed.seen(ClientId { number: 255 }).0 == 3
+            && executed.root()? == ROOT_OF_LAST_CLIENT,
+    )
+}
+
 // Which page of those after one batch is another one: no reply to client 0, and one of a lower timestamp to client 1.
-const LOWER: [Text; 2] = [(256, b""), (257, b"\0\0\0\0\0\0\0\x01\0\0\0\0\0\0\0\x011")];
+static LOWER: [Text; 2] = [(256, b""), (257, b"\0\0\0\0\0\0\0\x01\0\0\0\0\0\0\0\x011")];
 
 // States in which a client's last timestamp is lower change nothing, whatever their numbers.
 #[test]
 fn no_timestamp_falls(rt: HostRuntime) -> Result<(), Fail> {
     let mut executed = new_state(rt.alloc())?;
-    for changed in LOWER {
-        assert!(rt; !installs(&mut executed, rt.alloc(), 1, Some(changed))?);
-        assert!(rt; is_after_one(&mut executed)?);
-    }
-    let earlier = tree_of(rt.alloc(), &BEGINNING, None)?;
-    assert!(rt; !executed.install(Number(0), earlier)?);
-    let later = tree_of(rt.alloc(), &FORGETFUL, None)?;
-    assert!(rt; !executed.install(Number(2), later)?);
-    assert!(rt; is_after_one(&mut executed)?);
+    assert!(rt; refuses_lower_ones(&mut executed, rt.alloc())?);
+    assert!(rt; refuses_state(&mut executed, rt.alloc(), 0, &BEGINNING)?);
+    assert!(rt; refuses_state(&mut executed, rt.alloc(), 2, &FORGETFUL)?);
     Ok(())
 }
 
+fn refuses_lower_ones(executed: &mut Executed, alloc: Global) -> Result<bool, NoMemory> {
+    for changed in LOWER {
+        if !refuses(executed, alloc, 1, Some(changed))? {
+            return Ok(false);
+        }
+    }
+    Ok(true)
+}
+
+// Whether the pages after one batch, changed so, are refused as those of this number, and the state stays.
+fn refuses(
+    executed: &mut Executed,
+    alloc: Global,
+    number: u64,
+    changed: Option<Text>,
+) -> Result<bool, NoMemory> {
+    Ok(!installs(executed, alloc, number, changed)? && is_after_one(executed)?)
+}
+
+// The same of these pages.
+fn refuses_state(
+    executed: &mut Executed,
+    alloc: Global,
+    number: u64,
+    texts: &[Text],
+) -> Result<bool, NoMemory> {
+    let pages = tree_of(alloc, texts, None)?;
+    Ok(!executed.install(Number(number), pages)? && is_after_one(executed)?)
+}
+
 // A number, and which page of those after one batch is another one, where one is.
-const WRONG: [(u64, Option<Text>); 13] = [
+static WRONG: [(u64, Option<Text>); 13] = [
     // The numbers of other states.
     (0, None),
     (2, None),
@@ -227,22 +257,36 @@ const WRONG: [(u64, Option<Text>); 13] = [
 #[test]
 fn pages_of_no_state(rt: HostRuntime) -> Result<(), Fail> {
     let mut executed = new_state(rt.alloc())?;
-    for (number, changed) in WRONG {
-        assert!(rt; !installs(&mut executed, rt.alloc(), number, changed)?);
-        assert!(rt; is_after_one(&mut executed)?);
-    }
+    assert!(rt; refuses_wrong_ones(&mut executed, rt.alloc())?);
     Ok(())
+}
+
+fn refuses_wrong_ones(executed: &mut Executed, alloc: Global) -> Result<bool, NoMemory> {
+    for (number, changed) in &WRONG {
+        if !refuses(executed, alloc, *number, *changed)? {
+            return Ok(false);
+        }
+    }
+    Ok(true)
 }
 
 // The pages that are lent are those installed, and those of a checkpoint.
 #[test]
 fn pages_are_lent(rt: HostRuntime) -> Result<(), Fail> {
     let mut executed = new_state(rt.alloc())?;
-    for (page, text) in AFTER_ONE {
-        assert!(rt; page >= PAGES || executed.pages()?.page(page) == text);
+    for text in AFTER_ONE {
+        assert!(rt; has_page(&mut executed, text)?);
     }
-    assert!(rt; executed.checkpoint()?.root() == executed.pages()?.root());
+    assert!(rt; has_its_root(&mut executed)?);
     Ok(())
+}
+
+fn has_page(executed: &mut Executed, (page, text): Text) -> Result<bool, NoMemory> {
+    Ok(page >= PAGES || executed.pages()?.page(page) == text)
+}
+
+fn has_its_root(executed: &mut Executed) -> Result<bool, NoMemory> {
+    Ok(executed.checkpoint()?.root() == executed.pages()?.root())
 }
 
 // Whether the pages after one batch are installed in a new state, at the second try where memory ran out at the first
@@ -268,6 +312,11 @@ fn refused_memory(rt: HostRuntime) -> Result<(), Fail> {
         Err(NoMemory) => Executed::new(rt.alloc(), 2)?,
     };
     assert!(rt; installs_again(&mut executed, rt.alloc())?);
-    assert!(rt; matches!(is_after_one(&mut executed), Ok(true)) || is_after_one(&mut executed)?);
+    assert!(rt; is_after_one_again(&mut executed)?);
     Ok(())
+}
+
+// The same at the second try where memory ran out at the first one.
+fn is_after_one_again(executed: &mut Executed) -> Result<bool, NoMemory> {
+    Ok(matches!(is_after_one(executed), Ok(true)) || is_after_one(executed)?)
 }

@@ -46,7 +46,6 @@ pub mod Stopping
 pub mod Counted
 pub mod Waiting
 pub mod FirstRead
-pub mod FirstWeak
 pub mod Correctness
 pub mod TransferringStages
 pub mod TransferringEvents

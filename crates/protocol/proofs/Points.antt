@@ -11,4 +11,4 @@ pub mod Invoking
 pub mod Accepting
 pub mod Readings
 pub mod Whole
-pub mod Weakly
+pub mod Twice

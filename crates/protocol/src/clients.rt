@@ -1,10 +1,10 @@
 //! Laws of the definitions of clients and of parties that stop: which replies count, when a client gives nothing,
-//! what all that is correct keeps, and histories of clients that are accepted.
+//! what all that is correct keeps, and a client's history that is accepted.
 
-ghost use Rattle.protocol.specs.Evidence.Clients.{HeardIsLatest, LatestStays, CallsForget, WaitsForAnswers, FallsBackOnce, WeaklyWaits, IgnoresOthers, RestsWithoutCall};
-ghost use Rattle.protocol.specs.Evidence.Correct.{ReplicasHaveOwn, ClientsHaveOwn, SealsRequests, AsksItsCall, ReplicasAreSafe, ClientsAreSafe, WeakClientsAreSafe};
-ghost use Rattle.protocol.specs.Evidence.ExamplesOfClients.{FirstReadIsAccepted, FirstWeakOperationIsRun, FirstWeakOperationIsUnforged};
-ghost use Rattle.protocol.specs.Evidence.Stopping.{ReplicasMayStop, ClientsMayStop, WeakClientsMayStop};
+ghost use Rattle.protocol.specs.Evidence.Clients.{HeardIsLatest, LatestStays, CallsForget, WaitsForAnswers, FallsBackOnce, IgnoresOthers, RestsWithoutCall};
+ghost use Rattle.protocol.specs.Evidence.Correct.{ReplicasHaveOwn, ClientsHaveOwn, SealsRequests, AsksItsCall, ReplicasAreSafe, ClientsAreSafe};
+ghost use Rattle.protocol.specs.Evidence.ExamplesOfClients.{FirstReadIsAccepted};
+ghost use Rattle.protocol.specs.Evidence.Stopping.{ReplicasMayStop, ClientsMayStop};
 
 /// A reply that is heard is its sender's latest of its mode, whatever was heard before, until the sender's next of
 /// that mode. A call begins with none.
@@ -20,7 +20,6 @@ pub fn latest_replies_count()
 pub fn clients_wait()
     ensures answers { WaitsForAnswers }
     ensures once { FallsBackOnce }
-    ensures weakly { WeaklyWaits }
     ensures others { IgnoresOthers }
     ensures calls { RestsWithoutCall }
 {}
@@ -34,24 +33,15 @@ pub fn correct_histories_are_safe()
     ensures requests { AsksItsCall }
     ensures replicas { ReplicasAreSafe }
     ensures clients { ClientsAreSafe }
-    ensures weak_clients { WeakClientsAreSafe }
 {}
 
 /// A correct replica or client may stop: behind any history of it, an input may come and no output.
 pub fn parties_may_stop()
     ensures replicas { ReplicasMayStop }
     ensures clients { ClientsMayStop }
-    ensures weak_clients { WeakClientsMayStop }
 {}
 
 /// A client that accepts its first read at the third of three read-only replies alike is a correct one.
 pub fn a_first_read_is_accepted()
     ensures read { FirstReadIsAccepted }
-{}
-
-/// A weak client's first operation at four replicas, whole, is a weak client's run, accepted at the second of its
-/// replies, and no message of it is forged.
-pub fn a_first_weak_operation_is_a_run()
-    ensures run { FirstWeakOperationIsRun }
-    ensures unforged { FirstWeakOperationIsUnforged }
 {}

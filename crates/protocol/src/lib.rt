@@ -8,9 +8,9 @@
 //! most once, an accepted one exactly once, at a position between its invocation and its acceptance. With it stand the
 //! laws of agreement over all views (`prepared_agree`, `committed_stays`, `committed_agree`, `executed_agree`,
 //! `states_agree`, `roots_agree`), `accepted_at_levels`, `none_runs_twice`, and the same laws for parties of which
-//! only safety is known (`safe_histories_are_linear`, `weak_histories_are_one_space`,
-//! `safe_histories_accept_at_levels`). `posted_frames_may_be_sent` ties what a replica posts to what it may send. What
-//! bytes spell, and what is heard from them, the definitions take from the crates `wire` and `signing`.
+//! only safety is known (`safe_histories_are_linear`, `safe_histories_accept_at_levels`). `posted_frames_may_be_sent`
+//! ties what a replica posts to what it may send. What bytes spell, and what is heard from them, the definitions take
+//! from the crates `wire` and `signing`.
 //!
 //! The other modules show what the definitions accept and refuse: the first operation of a client at four replicas,
 //! with the bytes of all its frames, is a run, unforged and fed by its schedule ([`accepted`], [`clients`]); over a
@@ -36,10 +36,10 @@ pub mod refused_runs;
 pub mod refused_steps;
 pub mod selected;
 
-ghost use Rattle.protocol.specs.Laws.Histories.{PostedMaySend, PreparedAgree, CommittedStays, CommittedAgree, ExecutedAgree, PagesDetermine, BatchesLeaveStates, StatesAreExecuted, StatesAgree, StableAgree, InstalledAgree, StartsAgree, LinearOfSafe, WeakIsOneSpace, NoneBegins, FirstViewStays};
+ghost use Rattle.protocol.specs.Laws.Histories.{PostedMaySend, PreparedAgree, CommittedStays, CommittedAgree, ExecutedAgree, PagesDetermine, BatchesLeaveStates, StatesAreExecuted, StatesAgree, StableAgree, InstalledAgree, StartsAgree, LinearOfSafe, NoneBegins, FirstViewStays};
 ghost use Rattle.protocol.specs.Evidence.FirstOperation.{SealedFramesAreHeard};
 ghost use Rattle.protocol.specs.Evidence.RefusedSteps.{SignedFramesAreHeard};
-ghost use Rattle.protocol.specs.Laws.Runs.{PointsAreLinear, NoneRunsTwice, AcceptedAtLevels, LevelsOfSafe, WeakAnswersAreOneSpace, RunsAreLinear};
+ghost use Rattle.protocol.specs.Laws.Runs.{PointsAreLinear, NoneRunsTwice, AcceptedAtLevels, LevelsOfSafe, RunsAreLinear};
 
 /// What a party of the configuration seals for others, each of them hears.
 pub fn sealed_frames_are_heard()
@@ -127,17 +127,6 @@ pub fn accepted_at_levels()
 /// The same over a trace whose histories are safe, whether or not the replicas do all that they owe.
 pub fn safe_histories_accept_at_levels()
     ensures levels { LevelsOfSafe }
-{}
-
-/// With the weak client, which accepts at `f + 1` replies of one answer, the accepted answers are still those of one
-/// space, in which each operation acts at most once. Where they stand in time is not promised.
-pub fn weak_answers_are_one_space()
-    ensures weak { WeakAnswersAreOneSpace }
-{}
-
-/// The same over a trace whose histories are safe, whether or not the replicas do all that they owe.
-pub fn weak_histories_are_one_space()
-    ensures weak { WeakIsOneSpace }
 {}
 
 /// No client and timestamp runs twice over all batches.

@@ -1,6 +1,6 @@
 //! Laws that show what the premises of the laws leave open.
 
-ghost use Rattle.protocol.specs.Evidence.Premises.{WidestIsValid, NarrowestIsValid, ReplicasAreCorrect, ClientsAreCorrect, CorrectAreBoth, EachIsPrimary, PrimariesReturn, RunsHaveReplicas, RunsHaveClients, WeakRunsHaveReplicas, WeakRunsHaveClients, RunsGoOn, WeakRunsGoOn, ReplicasGoOn, RunsTakeCalls, WeakRunsTakeCalls, OthersAreUnforged, FramesMayBeGot, FaultyHearAnything, TextsAreFew};
+ghost use Rattle.protocol.specs.Evidence.Premises.{WidestIsValid, NarrowestIsValid, ReplicasAreCorrect, ClientsAreCorrect, CorrectAreBoth, EachIsPrimary, PrimariesReturn, RunsHaveReplicas, RunsHaveClients, RunsGoOn, ReplicasGoOn, RunsTakeCalls, OthersAreUnforged, FramesMayBeGot, FaultyHearAnything, TextsAreFew};
 
 /// Ten replicas of which any three are faulty, with 256 clients of which any are faulty, the longest period and any
 /// seed of 32 bytes are a valid configuration; so are four replicas and one client, none of them faulty, with the
@@ -28,18 +28,14 @@ pub fn primaries_take_turns()
 pub fn runs_have_whole_histories()
     ensures replicas { RunsHaveReplicas }
     ensures clients { RunsHaveClients }
-    ensures weak_replicas { WeakRunsHaveReplicas }
-    ensures weak_clients { WeakRunsHaveClients }
 {}
 
 /// A run goes on with whatever a correct party gets, with a tick at any time, and with any call of a correct client
 /// that has none open; and so does a safe replica's history, with what it gets and with ticks.
 pub fn runs_go_on()
     ensures inputs { RunsGoOn }
-    ensures weak_inputs { WeakRunsGoOn }
     ensures replicas { ReplicasGoOn }
     ensures calls { RunsTakeCalls }
-    ensures weak_calls { WeakRunsTakeCalls }
 {}
 
 /// Nothing but what is got makes a trace forged. It stays unforged whatever is got that nobody takes as a correct

@@ -1,6 +1,6 @@
 //! Laws that show which lists of items are not linear, and which traces are not linearizable.
 
-ghost use Rattle.protocol.specs.Evidence.RefusedItems.{AnswersAsOneSpace, ListsWhatIsAccepted, ListsWhatIsCalled, ListsWhatIsAsked, ListsNoneTwice, PlacesInOrder, PlacesBehindCalls, PlacesBeforeAcceptances, LinearIsAllThree, OneSpaceIsBoth, WritesAreSeen, ReadsAreNotEarly};
+ghost use Rattle.protocol.specs.Evidence.RefusedItems.{AnswersAsOneSpace, ListsWhatIsAccepted, ListsWhatIsCalled, ListsWhatIsAsked, ListsNoneTwice, PlacesInOrder, PlacesBehindCalls, PlacesBeforeAcceptances, LinearIsAllThree, WritesAreSeen, ReadsAreNotEarly};
 ghost use Rattle.protocol.specs.Evidence.FirstOperation.{FirstOperationHasItsPoint};
 ghost use Rattle.protocol.specs.Evidence.FirstReads.{ReadsHaveTheirPoints};
 
@@ -18,7 +18,6 @@ pub fn lists_are_refused()
     ensures behind { PlacesBehindCalls }
     ensures before { PlacesBeforeAcceptances }
     ensures linear { LinearIsAllThree }
-    ensures one_space { OneSpaceIsBoth }
 {}
 
 /// A trace is not linearizable in which a read misses what was written before it was called, or finds what is written

@@ -1,6 +1,6 @@
 //! Laws that show what the definitions of clients, runs, schedules and certificates refuse.
 
-ghost use Rattle.protocol.specs.Evidence.RefusedRuns.{AcceptsAlike, FallsBack, AsksAtTicks, AsksAll, WeaklyAcceptsAlike, WeaklyAcceptsAtWeakQuorum, WeaklyAsksOrdered, OutputsFollow, FeedsEachStep, FeedsEachCall, FeedsEachTick, StopsInRuns, StopsAtNoSent, FlushDeliversAll, FlushDeliversSent, LogsNumbers, NoBeginWhileInactive, KeepsProposed, NoRequestByReplica, InstallsItsRoot};
+ghost use Rattle.protocol.specs.Evidence.RefusedRuns.{AcceptsAlike, FallsBack, AsksAtTicks, AsksAll, OutputsFollow, FeedsEachStep, FeedsEachCall, FeedsEachTick, StopsInRuns, StopsAtNoSent, FlushDeliversAll, FlushDeliversSent, LogsNumbers, NoBeginWhileInactive, KeepsProposed, NoRequestByReplica, InstallsItsRoot};
 
 /// A correct client that goes on accepts, and gives nothing else, where `2f + 1` replicas' latest replies are alike; it
 /// gives its open call's ordered request, and nothing else, once all replicas have answered a read and too few alike,
@@ -10,14 +10,6 @@ pub fn correct_clients_go_on()
     ensures reads { FallsBack }
     ensures ticks { AsksAtTicks }
     ensures receivers { AsksAll }
-{}
-
-/// The weak client accepts where `f + 1` replicas' latest ordered replies have one answer, and only there, and asks
-/// nothing read-only.
-pub fn weak_clients_accept_at_weak_quorum()
-    ensures accepts { WeaklyAcceptsAlike }
-    ensures quorum { WeaklyAcceptsAtWeakQuorum }
-    ensures requests { WeaklyAsksOrdered }
 {}
 
 /// In a run no output stands behind another party's entry.

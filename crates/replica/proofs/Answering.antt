@@ -18,11 +18,12 @@ use Rattle.protocol.specs.System.Configuration.{Configuration, members}
 use Rattle.protocol.specs.System.Frames.{IsPosted}
 use Rattle.protocol.specs.System.Trace.{Entry, Has}
 use Rattle.protocol.specs.System.Trace.Entry.{Got, Sent}
+use Rattle.replica_histories.specs.Questions.{AnswersInput}
 use Rattle.replica_histories.specs.Desk.{Snapshot}
 use Rattle.replica_histories.specs.Changes.{IsNoNews}
 use Rattle.replica_histories.specs.Events.{IsTaken}
 use Rattle.replica_histories.proofs.ChangesKept.{sent_keep}
-use Rattle.replica_histories.specs.TransfersAnswers.{AnswersFetches, answer_by}
+use Rattle.replica_histories.specs.TransfersAnswers.{answer_by}
 use Rattle.replica_histories.proofs.Answering.{parts_fit, kept_fetches_count, parts_suffice, other_numbers_owe_none}
 use Rattle.replica_histories.proofs.TransfersAnswering.{posted_to_one}
 use Rattle.replica.specs.declared.taking.Touched.TheVariants as touched
@@ -80,7 +81,7 @@ module _ (r : ReplicaData) (one : AreOne r.orderer r.desk) (sender : ReplicaId) 
 
     abbrev Left : List Output → Type 0
     Left os = FitsEvent c (me_of r) (event_of c r past runs bytes) r.orderer runs.desk r.desk.waiting [] os
-        × AnswersFetches c (me_of r) past (Got (me_of r) bytes) (given (me_of r) os) runs.holds.of_desk.point
+        × AnswersInput c (me_of r) past (Got (me_of r) bytes) (given (me_of r) os) runs.holds.of_desk.point
         × ((os ≡ []) ⊎ IsTaken c (me_of r) (event_of c r past runs bytes))
 
     kept_none : HasNone r.desk k → Left []
@@ -104,7 +105,7 @@ module _ (r : ReplicaData) (one : AreOne r.orderer r.desk) (sender : ReplicaId) 
           (same_log r.orderer.log) refl refl refl refl begun
           (parts_fit c (me_of r) (event_of c r past runs bytes) runs.desk r.orderer.log [] [] (record { number = k; pages = pages }) sender.0 fetch.index fetch.level seals.bytes has
           (inl (heard_so r one c past runs bytes body known hears)) posted begun.fits),
-      subst (λ (es : List Entry). AnswersFetches c (me_of r) past (Got (me_of r) bytes) es runs.holds.of_desk.point) (sym (given_one (me_of r) [] (output ∷ []) output refl ∙ ap (λ e. e ∷ []) sends))
+      subst (λ (es : List Entry). AnswersInput c (me_of r) past (Got (me_of r) bytes) es runs.holds.of_desk.point) (sym (given_one (me_of r) [] (output ∷ []) output refl ∙ ap (λ e. e ∷ []) sends))
           (parts_suffice c (me_of r) runs.desk r.orderer.log past (Got (me_of r) bytes) (Sent (me_of r) seals.bytes ∷ []) (record { number = k; pages = pages }) sender.0 fetch.index fetch.level
           runs.holds has (heard_so r one c past runs bytes body known hears) (inl (posted_to_one c (me_of r) sender.0 (part_of pages) seals.bytes posted))),
       inr (

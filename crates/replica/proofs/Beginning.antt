@@ -1,5 +1,5 @@
 -- An event that begins with bytes: what is dropped, and what the log takes.
-use Rattle.std.proofs.Common.{◌≡◌, ◌≢◌, ℕ, suc, ◌+◌, ◌*◌, ◌<◌, inl, inr, Bool, true, false, not, cond, ◌&&◌, ◌==◌, List, [], ◌∷◌, Option, Some, None, refl, sym, ap, ◌∙◌, subst, nat_lt, nat_le, ◌-◌, arith, eqb-true, ◌⊎◌}
+use Rattle.std.proofs.Common.{◌≡◌, ◌≢◌, ℕ, suc, ◌+◌, ◌*◌, ◌<◌, inl, inr, Bool, true, false, not, cond, ◌&&◌, ◌==◌, List, [], ◌∷◌, Option, Some, None, refl, sym, ap, ◌∙◌, subst, nat_lt, nat_le, arith, eqb-true, ◌⊎◌}
 use Rattle.std.specs.Prelude.{is_none, option_map}
 use Rattle.std.specs.Bool.{then_some}
 use Rattle.std.specs.Option.{option_and_then}
@@ -20,8 +20,6 @@ use Rattle.wire.specs.declared.messages.Message.{Message as WireMessage}
 use Rattle.wire.specs.declared.messages.Message.TheVariants as messages
 use Rattle.wire.specs.Views.{message_data}
 use Rattle.terms.specs.declared.order.Mode.{Mode}
-use Rattle.terms.specs.declared.order.Mode.TheVariants as modes
-use Rattle.tuple_codec.specs.Operations.{Operation}
 use Rattle.tuple_codec.specs.OperationView.{operation_of}
 use Rattle.wire.specs.Messages.{BodyData as Body, NewViewData, request as Request, pre_prepare as PrePrepare, prepare as Prepare, commit as Commit}
 use Rattle.signing.specs.Heard.{heard}
@@ -40,17 +38,16 @@ use Rattle.protocol.specs.System.Configuration.{Configuration, members}
 use Rattle.protocol.specs.System.Trace.{Entry}
 use Rattle.protocol.specs.System.Trace.Entry.{Got}
 use Rattle.protocol.specs.Replica.Certificates.{taken, are_genuine, brought, new_view_from, is_later, view, target}
-use Rattle.protocol.specs.Replica.State.{State, Call, call_in, kept_of}
-use Rattle.protocol.specs.System.Frames.{same_mode}
+use Rattle.protocol.specs.Replica.State.{State, call_in}
 use Rattle.view_change.specs.ClaimsView.{ClaimsData}
+use Rattle.replica_histories.specs.Questions.{has_question}
 use Rattle.replica_histories.specs.Events as histories
 use Rattle.replica_histories.specs.Events.{IsTaken}
 use Rattle.replica_histories.specs.Changes.{CutsClaims, FitsChanges, Passes, KeepsChanges, IsNoBatch, IsNoChange}
 use Rattle.replica_histories.proofs.ChangesPassing.{inputs_enter, changes_stay, claims_are_above, batches_are_claimed}
 use Rattle.replica_histories.proofs.ChangesKept.{got_keep, heard_keep, others_bring_none}
-use Rattle.protocol.specs.Replica.Owed.{place_from}
-use Rattle.replica_histories.proofs.TransfersAnswering.{others_owe_none}
-use Rattle.replica_histories.specs.Inputs.{asked, asked_in, again_for, IsBesideLog}
+use Rattle.replica_histories.proofs.Questions.{others_owe_none}
+use Rattle.replica_histories.specs.Inputs.{asked, IsBesideLog}
 use Rattle.replica_histories.specs.Logs.{FitsLog, Takes}
 use Rattle.replica_histories.proofs.Entering.{inputs_fit}
 use Rattle.replica_histories.proofs.Resting.{held_are_settled}
@@ -82,7 +79,7 @@ rests c r past runs =
 pub record IsNoCall (c : Configuration) (said : Option Body) : Type 0 where
   pub call : option_and_then (call_in c) said ≡ None
   pub asks : (st : State) → asked st said ≡ []
-  pub parts : option_and_then place_from said ≡ None
+  pub parts : has_question said ≡ false
   pub views : option_and_then (new_view_from c) said ≡ None
   pub changes : IsNoChange said
 
@@ -413,39 +410,19 @@ no_client m s below = go (nat_le 256 s) refl
     go false e = refl
     go true e = let l = leb-true 256 s e in absurd (omega (arith, l, below))
 
-no_call : (c : Configuration) (s : ℕ) (mode : Mode) (t : ℕ) (op : Operation) → s < 256 → call_in c (record { sender = s; message = Request t mode op }) ≡ None
-no_call c s mode t op below = rw (no_client (members c) s below) (go (same_mode mode modes.Ordered))
-  where
-    go : (b : Bool) → cond {A = Option Call} (b && false) (Some (record { client = s - 256; timestamp = t; op = op })) None ≡ None
-    go true = refl
-    go false = refl
-
-none_asked : (st : State) (s t : ℕ) (mode : Mode) → s < 256 → asked_in st s t mode ≡ []
-none_asked st s t modes.ReadOnly below = refl
-none_asked st s t modes.Ordered below = go (nat_le 256 s) refl
-  where
-    go : (b : Bool) → nat_le 256 s ≡ b → cond b (again_for (s - 256) t (kept_of st (s - 256))) [] ≡ []
-    go false e = refl
-    go true e = let l = leb-true 256 s e in absurd (omega (arith, l, below))
-
-other_no_call : (c : Configuration) (s : ℕ) (m : WireMessage) → s < 256 → IsOther m → IsNoCall c (Some (record { sender = s; message = message_data m }))
-other_no_call c s (messages.Request x) below other = record {
-  call = no_call c s x.mode x.timestamp.0 (operation_of x.op) below;
-  asks = λ st. none_asked st s x.timestamp.0 x.mode below;
-  parts = refl;
-  views = refl;
-  changes = tt;
-}
-other_no_call c s (messages.PrePrepare x) below other = record { call = refl; asks = λ st. refl; parts = refl; views = refl; changes = tt }
-other_no_call c s (messages.Prepare x) below other = record { call = refl; asks = λ st. refl; parts = refl; views = refl; changes = tt }
-other_no_call c s (messages.Commit x) below other = record { call = refl; asks = λ st. refl; parts = refl; views = refl; changes = tt }
-other_no_call c s (messages.Checkpoint x) below other = record { call = refl; asks = λ st. refl; parts = refl; views = refl; changes = tt }
-other_no_call c s (messages.ViewChange x) below other = absurd (other.5 x refl)
-other_no_call c s (messages.NewView x) below other = absurd (other.6 x refl)
-other_no_call c s (messages.Reply x) below other = record { call = refl; asks = λ st. refl; parts = refl; views = refl; changes = tt }
-other_no_call c s (messages.Fetch x) below other = absurd (other.4 x refl)
-other_no_call c s (messages.Meta x) below other = record { call = refl; asks = λ st. refl; parts = refl; views = refl; changes = tt }
-other_no_call c s (messages.Page x) below other = record { call = refl; asks = λ st. refl; parts = refl; views = refl; changes = tt }
+other_no_call : (c : Configuration) (m : Membership) (s : ℕ) (w : WireMessage) → s < 256 → has_sender m (record { sender = s; message = message_data w }) ≡ true → IsOther w
+    → IsNoCall c (Some (record { sender = s; message = message_data w }))
+other_no_call c m s (messages.Request x) below sends other = absurd (let bad : false ≡ true = sym (no_client m s below) ∙ sends in cc)
+other_no_call c m s (messages.PrePrepare x) below sends other = record { call = refl; asks = λ st. refl; parts = refl; views = refl; changes = tt }
+other_no_call c m s (messages.Prepare x) below sends other = record { call = refl; asks = λ st. refl; parts = refl; views = refl; changes = tt }
+other_no_call c m s (messages.Commit x) below sends other = record { call = refl; asks = λ st. refl; parts = refl; views = refl; changes = tt }
+other_no_call c m s (messages.Checkpoint x) below sends other = record { call = refl; asks = λ st. refl; parts = refl; views = refl; changes = tt }
+other_no_call c m s (messages.ViewChange x) below sends other = absurd (other.5 x refl)
+other_no_call c m s (messages.NewView x) below sends other = absurd (other.6 x refl)
+other_no_call c m s (messages.Reply x) below sends other = record { call = refl; asks = λ st. refl; parts = refl; views = refl; changes = tt }
+other_no_call c m s (messages.Fetch x) below sends other = absurd (other.4 x refl)
+other_no_call c m s (messages.Meta x) below sends other = record { call = refl; asks = λ st. refl; parts = refl; views = refl; changes = tt }
+other_no_call c m s (messages.Page x) below sends other = record { call = refl; asks = λ st. refl; parts = refl; views = refl; changes = tt }
 
 -- What is heard and has no part in the three phases is dropped.
 drops_heard : (r : ReplicaData) (bytes : List ℕ) (body : Body) → AreOne r.orderer r.desk → IsBesideLog (Some body) → ((c : Configuration) → IsNoCall c (Some body))
@@ -454,7 +431,10 @@ drops_heard r bytes body one beside none h = drops r one bytes (λ c past runs k
     (others_drop c (me_of r) r.orderer.log past bytes runs.holds.of_log.fits (rw hears beside), rw hears (none c)))
 
 pub other_dropped : (r : ReplicaData) (sender : ReplicaId) (m : WireMessage) → AreOne r.orderer r.desk → sender.0 < 256 → IsOther m → TakesMessage sender (message_data m) r touched.Nothing r []
-other_dropped r sender m one below other bytes h = drops_heard r bytes _ one (other_beside sender.0 m other) (λ c. other_no_call c sender.0 m below other) h
+other_dropped r sender m one below other bytes h =
+    let o = heard_was_opened r.desk.membership r.desk.me bytes (record { sender = sender.0; message = message_data m }) h in
+    let sends = subst (λ (b : Body). has_sender r.desk.membership b ≡ true) o.body_is o.opens.sender in
+    drops_heard r bytes _ one (other_beside sender.0 m other) (λ c. other_no_call c r.desk.membership sender.0 m below sends other) h
 
 -- ---- nothing, and what clients send beside ordered requests
 
@@ -464,10 +444,6 @@ silence_dropped r bytes one h = drops r one bytes (λ c past runs known. let sil
   where
     heard_by_none : (c : Configuration) → members c ≡ r.desk.membership → heard (members c) (me_of r) bytes ≡ None
     heard_by_none c known = ap (λ m. heard m (me_of r) bytes) known ∙ ap (λ (x : ℕ). heard r.desk.membership x bytes) (sym one.0) ∙ h
-
-pub read_dropped : (r : ReplicaData) (s t : ℕ) (op : Operation) (bytes : List ℕ) → AreOne r.orderer r.desk
-    → heard r.desk.membership r.desk.me bytes ≡ Some (record { sender = s; message = Request t modes.ReadOnly op }) → TakesBytes bytes r touched.Nothing r []
-read_dropped r s t op bytes one h = drops_heard r bytes _ one tt (λ c. record { call = refl; asks = λ st. refl; parts = refl; views = refl; changes = tt }) h
 
 -- clients send nothing but requests
 pub client_dropped : (r : ReplicaData) (k : ℕ) (m : WireMessage) (bytes : List ℕ) → AreOne r.orderer r.desk → ((x : WireRequest) → m ≡ messages.Request x → ⊥)

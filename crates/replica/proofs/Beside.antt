@@ -1,5 +1,5 @@
 -- An event that begins with a message which orders nothing and is no request.
-use Rattle.std.proofs.Common.{◌≡◌, ◌∷◌, ℕ, inl, List, [], Some, None, refl, sym, ap, ◌∙◌, subst}
+use Rattle.std.proofs.Common.{◌≡◌, ◌∷◌, ℕ, false, inl, List, [], Some, None, refl, sym, ap, ◌∙◌, subst}
 use Rattle.std.specs.Option.{option_and_then}
 use Rattle.wire.specs.Messages.{BodyData as Body, MessageData as Message}
 use Rattle.signing.specs.Heard.{heard}
@@ -8,6 +8,7 @@ use Rattle.protocol.specs.System.Trace.{Entry}
 use Rattle.protocol.specs.System.Trace.Entry.{Got}
 use Rattle.protocol.specs.Replica.Certificates.{taken, new_view_from}
 use Rattle.protocol.specs.Replica.State.{State, call_in}
+use Rattle.replica_histories.specs.Questions.{has_question, is_question}
 use Rattle.replica_histories.specs.Desk.{Desk}
 use Rattle.replica_histories.specs.Events as histories
 use Rattle.replica_histories.specs.Changes.{FitsChanges, IsNoChange}
@@ -16,8 +17,7 @@ use Rattle.replica_histories.proofs.ChangesKept.{got_keep, others_bring_none}
 use Rattle.replica_histories.specs.Inputs.{IsBesideLog, asked, asked_by}
 use Rattle.replica_histories.proofs.Counting.{others_drop}
 use Rattle.replica_histories.proofs.Entering.{inputs_fit}
-use Rattle.replica_histories.proofs.TransfersAnswering.{others_owe_none}
-use Rattle.protocol.specs.Replica.Owed.{place_from}
+use Rattle.replica_histories.proofs.Questions.{others_owe_none}
 use Rattle.replica.specs.declared.taking.Touched.TheVariants as touched
 use Rattle.replica.specs.State.{ReplicaData, AreOne}
 use Rattle.replica.specs.Desks.{FitsEvent, changes_of}
@@ -77,7 +77,7 @@ module _ (r : ReplicaData) (one : AreOne r.orderer r.desk) (c : Configuration) (
 
 -- What is dropped so changes nothing.
 module _ (r : ReplicaData) (one : AreOne r.orderer r.desk) (bytes : List ℕ) (body : Body) (hears : heard r.desk.membership r.desk.me bytes ≡ Some body) where
-  pub drops_beside : ((c : Configuration) → IsBeside c body) → place_from body ≡ None → TakesBytes bytes r touched.Nothing r []
+  pub drops_beside : ((c : Configuration) → IsBeside c body) → is_question body ≡ false → TakesBytes bytes r touched.Nothing r []
   drops_beside beside none = record {
     party = one_self r;
     begins = λ c past runs known. (
@@ -90,7 +90,7 @@ module _ (r : ReplicaData) (one : AreOne r.orderer r.desk) (bytes : List ℕ) (b
       (
         rests c r past runs,
         runs.all,
-        others_owe_none c (me_of r) past (Got (me_of r) bytes) [] runs.holds.of_desk.point (ap (option_and_then place_from) (heard_so r one c past runs bytes body known hears) ∙ none),
+        others_owe_none c (me_of r) past (Got (me_of r) bytes) [] runs.holds.of_desk.point (ap has_question (heard_so r one c past runs bytes body known hears) ∙ none),
         inl refl,
       ),
     );

@@ -14,7 +14,7 @@ use Rattle.protocol.specs.System.Configuration.{Configuration, members}
 use Rattle.protocol.specs.System.Trace.{Entry}
 use Rattle.protocol.specs.System.Trace.Entry.{Got}
 use Rattle.protocol.specs.Replica.Certificates.{new_view_from, taken, view}
-use Rattle.protocol.specs.Replica.Owed.{Counts, place_from}
+use Rattle.protocol.specs.Replica.Owed.{Counts}
 use Rattle.protocol.specs.Replica.Selection.{is_within, signed_change}
 use Rattle.protocol.specs.Replica.State.{State, call_in}
 use Rattle.protocol.proofs.Words.Options.{some_injective}
@@ -25,6 +25,7 @@ use Rattle.view_change.specs.ReceivedData.{HeldData, held_of, refusal_of, with_h
 use Rattle.view_change.specs.ReceivedView.{IsHeldIn, configuration_of, held_as}
 use Rattle.view_change.specs.Sets.{change_pair}
 use Rattle.view_change.proofs.Opening.{signed_is}
+use Rattle.replica_histories.specs.Questions.{has_question}
 use Rattle.replica_histories.specs.Changes.{FitsChanges, IsNoBatch, Passes}
 use Rattle.replica_histories.specs.Events as histories
 use Rattle.replica_histories.specs.Inputs.{IsBesideLog, asked}
@@ -36,7 +37,7 @@ use Rattle.replica_histories.proofs.Changing.{view_changes_count}
 use Rattle.replica_histories.proofs.Counting.{others_drop}
 use Rattle.replica_histories.proofs.Entering.{inputs_fit}
 use Rattle.replica_histories.proofs.Received.{refused_bring_none}
-use Rattle.replica_histories.proofs.TransfersAnswering.{others_owe_none}
+use Rattle.replica_histories.proofs.Questions.{others_owe_none}
 use Rattle.replica.specs.declared.taking.Touched.{Touched}
 use Rattle.replica.specs.declared.taking.Touched.TheVariants as touched
 use Rattle.replica.specs.State.{OrdererData, DeskData, ReplicaData, AreOne, IsOrderer}
@@ -96,7 +97,7 @@ change_at_most c me bytes x signed = go (heard (members c) me bytes) refl
 record IsBesideAll (c : Configuration) (said : Option Body) : Type 0 where
   call : option_and_then (call_in c) said ≡ None
   asks : (st : State) → asked st said ≡ []
-  parts : option_and_then place_from said ≡ None
+  parts : has_question said ≡ false
   views : option_and_then (new_view_from c) said ≡ None
   log : IsBesideLog said
   batch : IsNoBatch said

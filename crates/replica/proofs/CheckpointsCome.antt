@@ -30,7 +30,7 @@ use Rattle.replica_histories.proofs.ChangesPassing.{changes_stay, claims_are_abo
 use Rattle.replica_histories.proofs.Counting.{checkpoints_count, checkpoints_drop, early_checkpoints_drop}
 use Rattle.replica_histories.proofs.Entering.{checkpoints_enter}
 use Rattle.replica_histories.proofs.Giving.{kept_are_above}
-use Rattle.replica_histories.proofs.TransfersAnswering.{others_owe_none}
+use Rattle.replica_histories.proofs.Questions.{others_owe_none}
 use Rattle.replica.specs.declared.taking.Touched.TheVariants as touched
 use Rattle.view_change.specs.ClaimsView.{ClaimsData}
 use Rattle.replica.specs.State.{OrdererData, DeskData, ReplicaData, AreOne}

@@ -7,7 +7,7 @@ use Rattle.protocol.specs.System.Trace.Entry.{Got, Tick}
 use Rattle.posting.specs.Endpoint.{EndpointState}
 use Rattle.protocol.specs.Replica.State.{opening}
 use Rattle.protocol.specs.Replica.Owed.{IsInput}
-use Rattle.replica_histories.specs.Owing.{IsOrderingReplica}
+use Rattle.protocol.specs.Replica.Owed.{IsReplica}
 use Rattle.replica_histories.specs.Events as histories
 use Rattle.replica_histories.proofs.ChangesPassing.{changes_begin}
 use Rattle.replica_histories.specs.Histories.{first_desk}
@@ -65,9 +65,9 @@ true_not false e f X = absurd cc
 -- nothing more is given
 module _ (old new : ReplicaData) (endpoint : new.orderer.endpoint ≡ old.orderer.endpoint) (stopped : new.stopped ≡ true) where
   stops_right : (c : Configuration) (history : List Entry) (input : Entry) → party_of input ≡ me_of old → IsInput input → Fits c old history
-      → IsOrderingReplica c (me_of new) (input ∷ history)
+      → IsReplica c (me_of new) (input ∷ history)
   stops_right c history input own is f =
-      subst (λ (e : EndpointState). IsOrderingReplica c e.me (input ∷ history)) (sym endpoint) (inr (own, is, f.right))
+      subst (λ (e : EndpointState). IsReplica c e.me (input ∷ history)) (sym endpoint) (inr (own, is, f.right))
 
   stops : (c : Configuration) (history : List Entry) (input : Entry) → party_of input ≡ me_of old → IsInput input → Fits c old history
       → Fits c new (input ∷ history)

@@ -33,6 +33,7 @@ pub mod Parts
 pub mod Installed
 pub mod PartsEnd
 pub mod Answering
+pub mod ReadsCome
 pub mod Reacting
 pub mod Ticking
 pub mod ChangingViews

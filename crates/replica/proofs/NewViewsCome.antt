@@ -18,10 +18,10 @@ use Rattle.protocol.specs.System.Trace.{Entry}
 use Rattle.protocol.specs.System.Trace.Entry.{Got}
 use Rattle.protocol.specs.Replica.Selection.{may_select}
 use Rattle.protocol.specs.Replica.Certificates.{is_later, new_view_from, taken, target, view}
-use Rattle.protocol.specs.Replica.Owed.{place_from}
 use Rattle.protocol.specs.Replica.RightReplica.{with_waiting}
 use Rattle.protocol.specs.Replica.State.{call_in}
 use Rattle.protocol.proofs.Agreement.Marks.{few_batches}
+use Rattle.replica_histories.specs.Questions.{has_question}
 use Rattle.replica_histories.specs.Changes.{IsNoChange, Passes}
 use Rattle.replica_histories.specs.Desk.{desk_from}
 use Rattle.replica_histories.specs.Events as histories
@@ -33,7 +33,7 @@ use Rattle.replica_histories.proofs.ChangesPassing.{inputs_enter}
 use Rattle.replica_histories.proofs.Counting.{others_drop}
 use Rattle.replica_histories.proofs.Entering.{inputs_fit}
 use Rattle.replica_histories.proofs.NewViews.{new_views_enter}
-use Rattle.replica_histories.proofs.TransfersAnswering.{others_owe_none}
+use Rattle.replica_histories.proofs.Questions.{others_owe_none}
 use Rattle.replica.specs.declared.taking.Touched.TheVariants as touched
 use Rattle.replica.specs.State.{ReplicaData, AreOne, IsOrderer}
 use Rattle.replica.specs.Desks.{FitsEvent, Stands}
@@ -108,8 +108,8 @@ module _ (judge : NewViewsAreJudged) (decide : SizesDecide) (r : ReplicaData) (o
       }
 
   -- nothing of a state is asked for
-  asks_no_part : (c : Configuration) → members c ≡ r.desk.membership → option_and_then place_from (heard (members c) me bytes) ≡ None
-  asks_no_part c known = ap (option_and_then place_from) (hears c known)
+  asks_no_part : (c : Configuration) → members c ≡ r.desk.membership → has_question (heard (members c) me bytes) ≡ false
+  asks_no_part c known = ap has_question (hears c known)
 
   -- ---- it is refused
 

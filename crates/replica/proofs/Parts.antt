@@ -1,6 +1,5 @@
 -- A part that comes and is taken: the open transfer has it, and the event goes on.
 use Rattle.std.proofs.Common.{◌≡◌, ℕ, inl, inr, true, false, List, [], Some, None, refl, sym, ap, ◌∙◌, subst, option_map}
-use Rattle.std.specs.Option.{option_and_then}
 use Rattle.wire.specs.Messages.{BodyData as Body, MessageData as Message, meta as MetaMessage, page as PageMessage}
 use Rattle.wire.specs.declared.messages.Meta.{Meta}
 use Rattle.wire.specs.declared.messages.Page.{Page}
@@ -13,13 +12,14 @@ use Rattle.protocol.specs.System.Configuration.{Configuration, members}
 use Rattle.protocol.specs.System.Trace.{Entry}
 use Rattle.protocol.specs.System.Trace.Entry.{Got}
 use Rattle.protocol.specs.Replica.Certificates.{new_view_from}
-use Rattle.protocol.specs.Replica.Owed.{Counts, place_from}
+use Rattle.protocol.specs.Replica.Owed.{Counts}
 use Rattle.protocol.proofs.Words.Options.{some_injective}
+use Rattle.replica_histories.specs.Questions.{has_question, is_question}
 use Rattle.replica_histories.specs.Events as histories
 use Rattle.replica_histories.specs.Changes.{IsNoChange}
 use Rattle.replica_histories.specs.Transfers.{RestsOn}
 use Rattle.replica_histories.proofs.Fetching.{digests_enter, pages_enter, asked_digests_count, asked_pages_count}
-use Rattle.replica_histories.proofs.TransfersAnswering.{others_owe_none}
+use Rattle.replica_histories.proofs.Questions.{others_owe_none}
 use Rattle.replica_histories.proofs.TransfersInstalling.{digests_rest, pages_rest}
 use Rattle.replica.specs.declared.open_transfer.Taken.{Taken}
 use Rattle.replica.specs.declared.taking.Touched.TheVariants as touched
@@ -54,7 +54,7 @@ module _ (r : ReplicaData) (one : AreOne r.orderer r.desk) (bytes : List ℕ) (s
     abbrev body : Body
     body = record { sender = sender; message = message }
 
-    comes : place_from body ≡ None → new_view_from c body ≡ None → IsNoChange (Some body) → (RestsOn o.transfer r.desk.executed.state → RestsOn t r.desk.executed.state) → Counts c me past runs.holds.of_desk.point bytes sender message
+    comes : is_question body ≡ false → new_view_from c body ≡ None → IsNoChange (Some body) → (RestsOn o.transfer r.desk.executed.state → RestsOn t r.desk.executed.state) → Counts c me past runs.holds.of_desk.point bytes sender message
         → histories.Fits c me (event_of c r past runs bytes) (record runs.desk { transfer = Some t }) r.orderer.log [] [] → Comes c r past runs bytes n
     comes none views changes rests counts fits = subst (Comes c r past runs bytes) (sym n_is) (record {
       is = record {
@@ -75,7 +75,7 @@ module _ (r : ReplicaData) (one : AreOne r.orderer r.desk) (bytes : List ℕ) (s
         said = said_on me r.orderer.last_checkpoint past (Got me bytes) runs.said;
         changes = changes_beside r one c past runs bytes body known hears (record runs.desk { transfer = Some t }) [] views changes fits;
       };
-      taken = ((body, heard_so r one c past runs bytes body known hears, counts), ap (option_and_then place_from) (heard_so r one c past runs bytes body known hears) ∙ none);
+      taken = ((body, heard_so r one c past runs bytes body known hears, counts), ap has_question (heard_so r one c past runs bytes body known hears) ∙ none);
     })
 
   -- digests are taken
@@ -139,7 +139,7 @@ module _ (r : ReplicaData) (one : AreOne r.orderer r.desk) (bytes : List ℕ) (n
 module _ (r : ReplicaData) (one : AreOne r.orderer r.desk) (bytes : List ℕ) (sender : ℕ) (desk : DeskData) (outs : List Output) where
   -- what is dropped, with a desk that is the same
   dropped : (message : Message) → heard r.desk.membership r.desk.me bytes ≡ Some (record { sender = sender; message = message }) → ((c : Configuration) → IsBeside c (record { sender = sender; message = message }))
-      → place_from (record { sender = sender; message = message }) ≡ None → desk ≡ r.desk → outs ≡ [] → TakesBytes bytes r touched.Nothing (record r { desk = desk }) outs
+      → is_question (record { sender = sender; message = message }) ≡ false → desk ≡ r.desk → outs ≡ [] → TakesBytes bytes r touched.Nothing (record r { desk = desk }) outs
   dropped message hears beside none same silent =
       subst (λ (os : List Output). TakesBytes bytes r touched.Nothing (record r { desk = desk }) os) (sym silent)
       (subst (λ (d : DeskData). TakesBytes bytes r touched.Nothing (record r { desk = d }) []) (sym same) (drops_beside r one bytes (record { sender = sender; message = message }) hears beside none))

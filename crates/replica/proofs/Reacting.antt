@@ -9,17 +9,17 @@ use Rattle.protocol.specs.System.Configuration.{Configuration, members}
 use Rattle.protocol.specs.System.Trace.{Entry, is_output}
 use Rattle.protocol.specs.Replica.State.{State}
 use Rattle.posting.specs.Endpoint.{EndpointState}
+use Rattle.replica_histories.specs.Questions.{AnswersInput, brings_question}
 use Rattle.replica_histories.specs.Desk.{Desk}
 use Rattle.replica_histories.specs.Logs.{FitsLog}
-use Rattle.replica_histories.specs.Owing.{IsOrderingReplica}
+use Rattle.protocol.specs.Replica.Owed.{IsReplica}
 use Rattle.replica_histories.specs.Events as histories
 use Rattle.replica_histories.specs.Events.{Start, IsSettled, IsTaken, start_at}
 use Rattle.replica_histories.specs.Changes.{FitsChanges}
 use Rattle.replica_histories.specs.Numbers as numbers
-use Rattle.replica_histories.specs.TransfersAnswers.{AnswersFetches, place_heard}
 use Rattle.replica_histories.proofs.Ending.{events_end}
-use Rattle.replica_histories.proofs.Starting.{held_order}
-use Rattle.replica_histories.proofs.TransfersAnswering.{others_owe_none}
+use Rattle.replica_histories.proofs.Starting.{held_are_replicas}
+use Rattle.replica_histories.proofs.Questions.{others_owe_none}
 use Rattle.terms.specs.declared.order.Number.{Number}
 use Rattle.replica.specs.declared.taking.Touched.{Touched}
 use Rattle.replica.specs.declared.taking.Touched.TheVariants as touched
@@ -74,12 +74,12 @@ settled c me r desk history is fits count rest all = record {
 module _ (old new : ReplicaData) (one : AreOne old.orderer old.desk) (party : IsOneParty old new) (goes : new.stopped ≡ false) where
   pub ends : (c : Configuration) (past : List Entry) (input : Entry) (outs : List Output) (f : Fits c old past) (runs : Runs c old past) → is_output input ≡ false
       → Stands c (start_at c (me_of old) runs.desk old.orderer.log past runs.holds input) new.orderer new.desk [] outs → Rests new → IsAllNumbered new
-      → AnswersFetches c (me_of old) past input (given (me_of old) outs) runs.holds.of_desk.point
+      → AnswersInput c (me_of old) past input (given (me_of old) outs) runs.holds.of_desk.point
       → (outs ≡ []) ⊎ IsTaken c (me_of old) (start_at c (me_of old) runs.desk old.orderer.log past runs.holds input)
       → Fits c new (after_event (me_of old) input outs past)
   ends c past input outs f runs is st rest all answered why = subst (Fits c new) (behind_is (map (entry_of (me_of old)) outs) (input ∷ past)) (record {
     members_are = f.members_are ∙ sym (ap (λ (e : EndpointState). e.membership) party.endpoint);
-    right = subst (λ (e : EndpointState). IsOrderingReplica c e.me now) (sym party.endpoint) (held_order c (me_of old) st.desk new.orderer.log now held);
+    right = subst (λ (e : EndpointState). IsReplica c e.me now) (sym party.endpoint) (held_are_replicas c (me_of old) st.desk new.orderer.log now held);
     running = λ e. record {
       desk = st.desk;
       is_desk = st.is;
@@ -127,9 +127,9 @@ module _ (input : Entry) (old : ReplicaData) (one : AreOne old.orderer old.desk)
 
   -- what is no fetch is owed no answer
   owes_none : (c : Configuration) (s : Start) (mid : ReplicaData) (outs : List Output) → IsOneParty old mid → IsTakenBeside c (me_of mid) s
-      → AnswersFetches c (me_of old) s.before s.input (given (me_of old) outs) s.old
+      → AnswersInput c (me_of old) s.before s.input (given (me_of old) outs) s.old
   owes_none c s mid outs party t =
-      others_owe_none c (me_of old) s.before s.input (given (me_of old) outs) s.old (subst (λ (e : EndpointState). place_heard c e.me s.input ≡ None) party.endpoint t.1)
+      others_owe_none c (me_of old) s.before s.input (given (me_of old) outs) s.old (subst (λ (e : EndpointState). brings_question c e.me s.input ≡ false) party.endpoint t.1)
 
   -- an event that ends with numbers for what waits
   ends_numbered : (c : Configuration) (past : List Entry) (mid before new : ReplicaData) (x outs : List Output) (f : Fits c old past) (runs : Runs c old past)
@@ -148,7 +148,7 @@ module _ (input : Entry) (old : ReplicaData) (one : AreOne old.orderer old.desk)
       let runs = f.running goes in
       let b = t.begins c past runs (known c past f) in
       ends old new one t.party (t.party.stopped ∙ goes) c past input outs f runs is_input b.0 b.1.0 b.1.1
-      (subst (λ (e : EndpointState). AnswersFetches c e.me past input (given e.me outs) runs.holds.of_desk.point) t.party.endpoint b.1.2)
+      (subst (λ (e : EndpointState). AnswersInput c e.me past input (given e.me outs) runs.holds.of_desk.point) t.party.endpoint b.1.2)
       (why c (event_with c old past runs input) new outs t.party b.1.3)
 
   leads_waiting : (mid new : ReplicaData) (x outs : List Output) → TakesInput input old touched.Waiting mid x → NumbersWaiting mid x new outs → Leads old input outs new

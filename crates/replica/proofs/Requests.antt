@@ -21,19 +21,19 @@ use Rattle.protocol.specs.System.Trace.Entry.{Got}
 use Rattle.protocol.specs.Replica.Certificates.{taken, new_view_from}
 use Rattle.protocol.specs.Replica.State.{State, Call, call_in, call_of, kept_of, last_time}
 use Rattle.protocol.specs.Replica.RightReplica.{with_waiting}
-use Rattle.protocol.specs.Replica.Owed.{IsNoOlder, place_from}
+use Rattle.protocol.specs.Replica.Owed.{IsNoOlder}
+use Rattle.replica_histories.specs.Questions.{brings_question, has_question}
 use Rattle.replica_histories.specs.Desk.{Desk}
 use Rattle.replica_histories.specs.Logs.{FitsLog}
 use Rattle.replica_histories.specs.Events as histories
 use Rattle.replica_histories.specs.Events.{Start, IsTaken}
 use Rattle.replica_histories.specs.Inputs.{Enters, IsBesideLog, again_for, asked}
-use Rattle.replica_histories.specs.TransfersAnswers.{place_heard}
 use Rattle.replica_histories.proofs.Counting.{requests_count, others_drop}
 use Rattle.replica_histories.proofs.Entering.{inputs_fit}
 use Rattle.replica_histories.specs.Changes.{FitsChanges, Passes, IsNoBatch, IsNoChange}
 use Rattle.replica_histories.proofs.ChangesPassing.{inputs_enter}
 use Rattle.replica_histories.proofs.ChangesKept.{heard_keep, others_bring_none}
-use Rattle.replica_histories.proofs.TransfersAnswering.{others_owe_none}
+use Rattle.replica_histories.proofs.Questions.{others_owe_none}
 use Rattle.replica.specs.declared.waiting.WaitingRequest.{WaitingRequest}
 use Rattle.replica.specs.declared.taking.Touched.TheVariants as touched
 use Rattle.replica.specs.State.{OrdererData, DeskData, ReplicaData, AreOne}
@@ -208,8 +208,8 @@ module _ (old : ReplicaData) (client : ClientId) (timestamp : Timestamp) (bytes 
     unseen lt = subst (λ (st : State). last_time st k < t) (sym state_is) lt
 
     -- it asks for no part of a state
-    no_part : place_heard c (me_of old) input ≡ None
-    no_part = ap (option_and_then place_from) h
+    no_part : brings_question c (me_of old) input ≡ false
+    no_part = ap has_question h
 
     -- where nothing is touched
     leaves : (outs : List Output) → (outs ≡ []) ⊎ IsTaken c (me_of old) start → Leaves c start touched.Nothing old outs

@@ -11,7 +11,7 @@ use Rattle.replica_histories.specs.Events.{Start}
 use Rattle.replica_histories.proofs.ChangesKept.{silent_keep}
 use Rattle.replica_histories.proofs.ChangesPassing.{changes_stay, claims_are_above, inputs_enter}
 use Rattle.replica_histories.proofs.Entering.{ticks_fit}
-use Rattle.replica_histories.proofs.TransfersAnswering.{others_owe_none}
+use Rattle.replica_histories.proofs.Questions.{others_owe_none}
 use Rattle.replica.specs.declared.taking.Touched.{Touched}
 use Rattle.replica.specs.declared.taking.Touched.TheVariants as touched
 use Rattle.replica.specs.State.{OrdererData, ReplicaData, OpenData, AreOne}

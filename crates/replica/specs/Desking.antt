@@ -6,6 +6,9 @@ use Rattle.terms.specs.declared.parties.ClientId.{ClientId}
 use Rattle.terms.specs.declared.parties.Party.TheVariants as parties
 use Rattle.terms.specs.declared.order.Timestamp.{Timestamp}
 use Rattle.wire.specs.Messages.{MessageData as Message, CheckpointEntryData as CheckpointEntry}
+use Rattle.wire.specs.declared.messages.Message.TheVariants as messages
+use Rattle.wire.specs.declared.messages.Reply.{Reply}
+use Rattle.wire.specs.Views.{message_data}
 use Rattle.partition_tree.specs.Digests.{root_of as root_of_pages}
 use Rattle.reply_cache.specs.Replies.{Kept}
 use Rattle.posting.specs.Endpoint.{SealsForOne}
@@ -61,11 +64,19 @@ replies_for ran = map (λ r. reply_for (told r)) ran
 abbrev pub PaysAll : DeskData → List Message → List Output → List Output → Type 0
 PaysAll d due before after = (rest : List Message) → Pays d (due ++ rest) before rest after
 
--- the reply is given behind what was
-pub record SaysReply (d : DeskData) (client : ClientId) (kept : Kept) (before after : List Output) : Type 0 where
+-- what a reply says
+abbrev pub message_of : Reply → Message
+message_of reply = message_data (messages.Reply reply)
+
+-- the message goes to the client, behind what was given
+pub record SaysTo (d : DeskData) (client : ClientId) (message : Message) (before after : List Output) : Type 0 where
   pub output : Output
-  pub posts : SealsForOne d.membership d.me (reply_of client.number kept) (parties.Client client) output
+  pub posts : SealsForOne d.membership d.me message (parties.Client client) output
   pub given_is : after ≡ before ++ output ∷ []
+
+-- so does the reply that is kept
+abbrev pub SaysReply : DeskData → ClientId → Kept → List Output → List Output → Type 0
+SaysReply d client kept before after = SaysTo d client (reply_of client.number kept) before after
 
 -- The reply that is kept for the client goes again where it is to this timestamp, and nothing else is due.
 abbrev pub PaysAgain : DeskData → ClientId → Timestamp → List Output → List Output → Type 0

@@ -1,5 +1,5 @@
 -- What bytes that come do, before anything more is said of them.
-use Rattle.std.specs.Prelude.{◌≡◌, ◌+◌, ◌⊎◌, ℕ, List, [], None, Some}
+use Rattle.std.specs.Prelude.{◌≡◌, ◌+◌, ◌⊎◌, ℕ, false, List, [], Some}
 use Rattle.tuple_codec.specs.Operations.{Operation}
 use Rattle.terms.specs.declared.parties.ClientId.{ClientId}
 use Rattle.terms.specs.declared.parties.ReplicaId.{ReplicaId}
@@ -11,9 +11,9 @@ use Rattle.events.specs.declared.output.Output.{Output}
 use Rattle.protocol.specs.System.Configuration.{Configuration, members}
 use Rattle.protocol.specs.System.Trace.{Entry}
 use Rattle.protocol.specs.System.Trace.Entry.{Got, Tick}
+use Rattle.replica_histories.specs.Questions.{AnswersInput, brings_question}
 use Rattle.replica_histories.specs.Events as histories
 use Rattle.replica_histories.specs.Events.{Start, IsTaken}
-use Rattle.replica_histories.specs.TransfersAnswers.{AnswersFetches, place_heard}
 use Rattle.replica.specs.declared.taking.Touched.{Touched}
 use Rattle.replica.specs.declared.taking.Touched.TheVariants as touched
 use Rattle.replica.specs.State.{ReplicaData}
@@ -32,14 +32,14 @@ event_of c r past runs bytes = event_with c r past runs (Got (me_of r) bytes)
 
 -- a rule takes the input, which asks for no part of a state
 abbrev pub IsTakenBeside : Configuration → ℕ → Start → Type 0
-IsTakenBeside c me s = IsTaken c me s × (place_heard c me s.input ≡ None)
+IsTakenBeside c me s = IsTaken c me s × (brings_question c me s.input ≡ false)
 
 -- What is left to do, by what was touched: nothing, and what was asked for is given; numbers for what waits; votes for
 -- one number, and what follows; or to execute what is committed, behind a state that was installed or a view that began. What touches
 -- anything, or gives an output, is taken.
 abbrev pub Leaves : Configuration → Start → Touched → ReplicaData → List Output → Type 0
 Leaves c s touched.Nothing r outs = Rests r × IsAllNumbered r
-    × AnswersFetches c (me_of r) s.before s.input (given (me_of r) outs) s.old
+    × AnswersInput c (me_of r) s.before s.input (given (me_of r) outs) s.old
     × ((outs ≡ []) ⊎ IsTaken c (me_of r) s)
 Leaves c s touched.Waiting r outs = Rests r × IsTakenBeside c (me_of r) s
 Leaves c s (touched.Row number) r outs = IsVotedBut number.0 r.orderer.log × IsTakenBeside c (me_of r) s

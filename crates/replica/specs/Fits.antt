@@ -7,7 +7,7 @@ use Rattle.protocol.specs.System.Trace.{Entry}
 use Rattle.protocol.specs.System.Trace.Entry.{Got, Tick}
 use Rattle.replica_histories.specs.Desk.{Desk}
 use Rattle.replica_histories.specs.Events as histories
-use Rattle.replica_histories.specs.Owing.{IsOrderingReplica}
+use Rattle.protocol.specs.Replica.Owed.{IsReplica}
 use Rattle.replica_histories.specs.Changes.{FitsChanges}
 use Rattle.replica.specs.declared.replica.Event.{Event}
 use Rattle.replica.specs.declared.replica.Event.TheVariants as events
@@ -32,7 +32,7 @@ pub record Runs (c : Configuration) (r : ReplicaData) (history : List Entry) : T
 -- The history is that of a replica which orders requests, and what a replica that runs holds is what the history says.
 pub record Fits (c : Configuration) (r : ReplicaData) (history : List Entry) : Type 0 where
   pub members_are : members c ≡ r.orderer.endpoint.membership
-  pub right : IsOrderingReplica c (me_of r) history
+  pub right : IsReplica c (me_of r) history
   pub running : r.stopped ≡ false → Runs c r history
 
 -- the input entry of an event

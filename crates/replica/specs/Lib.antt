@@ -24,5 +24,6 @@ pub mod Entering
 pub mod Arriving
 pub mod Changing
 pub mod Receiving
+pub mod Reading
 pub mod EnteringViews
 pub mod Beginning

@@ -2,14 +2,13 @@
 //! keys for replies.
 
 ghost use Rattle.std.specs.Prelude.{◌≡◌, ◌+◌, ◌*◌, ◌^◌, ◌<◌, ◌≤◌, false, length, IfOk, IsFalse, IsTrue, OnOk};
-ghost use Rattle.tuple_codec.specs.OperationView.{outcome_of};
 ghost use Rattle.protocol.specs.System.Configuration.{IsConfiguration};
 ghost use Rattle.wire.specs.Lists.{Each};
 ghost use Rattle.wire.specs.Spelling.{IsCarried, is_ordered_request};
 ghost use Rattle.wire.specs.Views.{texts_of};
 ghost use Rattle.replica.specs.State.{IsDesk};
 ghost use Rattle.replica.specs.Waiting.{count_unnumbered, texts, unnumbered, with_numbered};
-ghost use Rattle.replica.specs.Desking.{IsNewDesk, HasReply, PaysAgain, PaysAll, RunsBatch, RunsWhole, SaysReply, Waits, replies_for};
+ghost use Rattle.replica.specs.Desking.{IsNewDesk, HasReply, PaysAgain, PaysAll, RunsBatch, RunsWhole, SaysTo, Waits, message_of, replies_for};
 
 use crate::open_transfer::OpenTransfer;
 use crate::snapshots::Snapshots;
@@ -22,6 +21,7 @@ use std::alloc::Global;
 use std::marker::Model;
 use terms::{ClientId, Mode, NoMemory, Number, Party, ReplicaId, Timestamp};
 use tuple_codec::Answer;
+use wire::Reply;
 
 /// What is executed, what is kept of it, and what waits for it.
 #[derive(Drop)]
@@ -134,7 +134,14 @@ impl Desk {
                 number,
                 answer,
             } = it;
-            self.reply(alloc, client, timestamp, number, answer, outputs)?;
+            let reply = Reply {
+                client,
+                timestamp,
+                kind: Mode::Ordered,
+                number,
+                answer,
+            };
+            self.reply(alloc, reply, outputs)?;
         }
         Ok(())
     }
@@ -209,25 +216,36 @@ impl Desk {
             }
             _ => return Ok(false),
         };
-        self.reply(alloc, client, timestamp, number, answer, outputs)?;
+        let reply = Reply {
+            client,
+            timestamp,
+            kind: Mode::Ordered,
+            number,
+            answer,
+        };
+        self.reply(alloc, reply, outputs)?;
         Ok(true)
     }
 
-    fn reply(
+    /// Gives a reply to its client.
+    pub(crate) fn reply(
         &mut self,
         alloc: Global,
-        client: ClientId,
-        timestamp: Timestamp,
-        number: Number,
-        answer: Answer<Global>,
+        reply: Reply,
         outputs: &mut Outputs,
     ) -> Result<(), Stop>
-        ensures said { OnOk result (SaysReply self.old client
-            (record { timestamp = timestamp.0; number = number.0; outcome = outcome_of answer })
-            outputs.old.items outputs.new.items) }
+        ensures said { OnOk result
+            (SaysTo self.old reply.client (message_of reply) outputs.old.items outputs.new.items) }
         ensures same { self.new ≡ self.old }
     {
-        let message = reply_message(client, timestamp, Mode::Ordered, number, answer);
+        let Reply {
+            client,
+            timestamp,
+            kind,
+            number,
+            answer,
+        } = reply;
+        let message = reply_message(client, timestamp, kind, number, answer);
         let party = Party::Client(client);
         match seal_for_one(&mut self.ring, alloc, self.me, message, party) {
             Ok(output) => give(outputs, output),

@@ -7,7 +7,10 @@
 //!
 //! Where time goes by while a request waits, it signs a view change for the next view and is inactive until a new view
 //! comes; it joins f + 1 others that move to a later one. As the primary of the view that it moves to it makes the new
-//! view, as soon as the view changes that it has allow it. Reads are dropped.
+//! view, as soon as the view changes that it has allow it.
+//!
+//! Reads it answers at once from what it has executed, beside the order; their templates lie in an arena that lasts as
+//! long as the event.
 //!
 //! # What it keeps
 //!
@@ -31,10 +34,9 @@
 //!
 //! Whatever history fits a replica, the longer one behind an event fits it afterwards: [`Replica::new`] fits the empty
 //! history, and [`Replica::step`] hands it on by what it gives, also where it stops. A history that fits is that of a
-//! replica that orders requests, transfers states and changes its view (`IsOrderingReplica`): safe, with all that is
-//! owed but reads: of numbers, prepares, commits, executions, replies and checkpoints, in each view, of states that are
-//! fetched and parts that are asked for, of what goes again and of what is dropped. Where memory runs out the replica
-//! has stopped: it gives nothing, then and later.
+//! correct replica (`IsReplica`): safe, with all that is owed of it, in each view: numbers, prepares, commits,
+//! executions, replies and checkpoints, states that are fetched and parts that are asked for, answers of reads, what
+//! goes again and what is dropped. Where memory runs out the replica has stopped: it gives nothing, then and later.
 #![tactic(auto)]
 
 mod arriving;
@@ -52,6 +54,7 @@ mod new_views;
 mod numbering;
 mod open_transfer;
 mod orderer;
+mod reading;
 mod replica;
 mod saying;
 mod signing_frames;

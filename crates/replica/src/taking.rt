@@ -4,10 +4,12 @@ ghost use Rattle.std.specs.Prelude.{◌≡◌, ◌+◌, ◌<◌, [], Some, IfOk}
 ghost use Rattle.wire.specs.Messages.{pre_prepare, prepare, commit};
 ghost use Rattle.wire.specs.Views.{message_data};
 ghost use Rattle.signing.specs.Heard.{heard};
+ghost use Rattle.read_only.specs.Hearing.{HearsNoRead};
 ghost use Rattle.replica.specs.Entering.{TakesBytes, TakesMessage};
 
 use crate::replica::Replica;
 use events::{Outputs, Stop};
+use read_only::asks_read;
 use std::alloc::Global;
 use terms::{ClientId, Mode, Number, Party, ReplicaId};
 use wire::{Body, Commit, Message, PrePrepare, Prepare, Request};
@@ -41,6 +43,9 @@ impl Replica {
         ensures endpoint { self.new.orderer.endpoint ≡ self.old.orderer.endpoint }
     {
         self.are_one();
+        if asks_read(bytes) {
+            return self.on_read(alloc, bytes, outputs);
+        }
         // A view change that is held isn't verified again.
         if self.orderer.received.has_frame(bytes) {
             self.orderer.judges();
@@ -55,7 +60,7 @@ impl Replica {
         }
     }
 
-    // A client's message, which came in this frame. Reads are not answered yet.
+    // A client's message, which came in this frame. It is no read.
     fn on_client(
         &mut self,
         alloc: Global,
@@ -67,6 +72,7 @@ impl Replica {
         requires first { outputs.old.items ≡ [] }
         requires heard { heard self.old.desk.membership self.old.desk.me frame.now
             ≡ Some (record { sender = 256 + client.number; message = message_data message }) }
+        requires unmarked { HearsNoRead frame.now }
         ensures ok { IfOk result (λ touched. TakesBytes frame.now self.old
             touched self.new outputs.new.items) }
         ensures endpoint { self.new.orderer.endpoint ≡ self.old.orderer.endpoint }

@@ -1,26 +1,33 @@
--- The parts of kept snapshots that others fetch, over what the replica holds.
-use Rattle.std.proofs.Common.{◌≡◌, ℕ, List, [], ◌∷◌, refl, sym, subst, Some, inl}
+-- The parts of kept snapshots that others fetch, and the answers of reads, over what the replica holds.
+use Rattle.std.proofs.Common.{◌≡◌, ℕ, Bool, true, false, List, [], ◌∷◌, refl, sym, ap, ◌∙◌, subst, Option, None, Some, inl}
 use Rattle.std.specs.Prelude.{⊤}
+use Rattle.tuple_codec.specs.Operations.{Operation}
+use Rattle.space.specs.Applying.{is_read_only}
 use Rattle.terms.specs.declared.state.Level.{Level}
 use Rattle.terms.specs.declared.state.Level.TheVariants as levels
-use Rattle.wire.specs.Messages.{MessageData as Message, meta as Meta, page as Page}
+use Rattle.wire.specs.Messages.{BodyData as Body, MessageData as Message, request as Request, meta as Meta, page as Page}
 use Rattle.ordering.specs.Log.{LogData}
 use Rattle.protocol.specs.System.Configuration.{Configuration}
 use Rattle.protocol.specs.System.Frames.{IsPosted}
-use Rattle.protocol.specs.System.Trace.{Entry, Has}
+use Rattle.protocol.specs.System.Trace.{Entry, Has, Hears}
 use Rattle.protocol.specs.System.Trace.Entry.{Sent}
 use Rattle.protocol.specs.Replica.Certificates.{low}
+use Rattle.protocol.specs.Replica.State.{State}
 use Rattle.protocol.specs.Replica.RightReplica.{Point, Leaves, IsFor, MaySay, kept_states}
+use Rattle.protocol.specs.Replica.Owed.{Gives}
 use Rattle.protocol.proofs.Words.Elements.{has_map, has_weaker}
+use Rattle.protocol.proofs.Words.Options.{some_injective}
+use Rattle.protocol.proofs.Words.Reacting.{proceeds_leaves}
 use Rattle.replica_histories.specs.Desk.{Desk, snapshot_of, point_of}
 use Rattle.replica_histories.specs.TransfersAnswers.{answer_by, KeptPages}
+use Rattle.replica_histories.specs.Questions.{read_from, read_reply}
 use Rattle.replica_histories.specs.Events.{Start, behind, Fits, Holds}
-use Rattle.replica_histories.specs.Answering.{PartsFit, KeptFetchesCount, PartsSuffice, OtherNumbersOweNone}
+use Rattle.replica_histories.specs.Answering.{PartsFit, KeptFetchesCount, PartsSuffice, OtherNumbersOweNone, ReadsFit, ReadsSuffice, OtherOperationsOweNone}
 use Rattle.replica_histories.proofs.Taking.{takes_nothing}
-use Rattle.replica_histories.proofs.Parting.{ordering_leaves}
 use Rattle.replica_histories.proofs.Logging.{beside_placed}
 use Rattle.replica_histories.proofs.Giving.{sent_fits, no_proposal}
-use Rattle.replica_histories.proofs.TransfersAnswering.{IsPart, snapshots_are_kept, kept_have_snapshots, answers_may_go, answers_suffice, none_is_owed}
+use Rattle.replica_histories.proofs.TransfersAnswering.{IsPart, hears_one, snapshots_are_kept, kept_have_snapshots, answers_may_go, answers_suffice, none_is_owed}
+use Rattle.replica_histories.proofs.Questions.{fetches_owe_no_read, reads_owe_no_part}
 use Rattle.replica_histories.proofs.TransfersQuorums.{no_root}
 
 -- ---- a part is given
@@ -66,13 +73,62 @@ kept_fetches_count c me desk log past bytes asker k index level held has =
     (has_map (λ x. x.number ≡ k) snapshot_of (kept_states (low c me past) held.of_desk.point.snapshots) (subst (λ xs. Has (λ x. x.number ≡ k) xs) (sym held.of_desk.kept) has))
 
 held_leaves : (c : Configuration) (me : ℕ) (desk : Desk) (log : LogData) (past : List Entry) (held : Holds c me desk log past) → Leaves c me past held.of_desk.point
-held_leaves c me desk log past held = ordering_leaves c me past [] held.of_desk.point held.of_desk.point held.of_desk.proceeds
+held_leaves c me desk log past held = proceeds_leaves c me past [] held.of_desk.point held.of_desk.point held.of_desk.proceeds
 
 pub parts_suffice : PartsSuffice
-parts_suffice c me desk log past input outputs snapshot asker index level held has hears given =
-    answers_suffice c me past input outputs held.of_desk.point asker snapshot.number index level snapshot.pages (held_leaves c me desk log past held) hears
-    (snapshots_are_kept c me past held.of_desk.point desk.snapshots snapshot held.of_desk.kept has) given
+parts_suffice c me desk log past input outputs snapshot asker index level held has hears given = (
+  answers_suffice c me past input outputs held.of_desk.point asker snapshot.number index level snapshot.pages (held_leaves c me desk log past held) hears
+      (snapshots_are_kept c me past held.of_desk.point desk.snapshots snapshot held.of_desk.kept has) given,
+  fetches_owe_no_read c me asker snapshot.number index level past input outputs held.of_desk.point hears,
+)
 
 pub other_numbers_owe_none : OtherNumbersOweNone
-other_numbers_owe_none c me desk log past input outputs asker k index level held hears none =
-    none_is_owed c me past input outputs held.of_desk.point asker k index level hears (λ kept. none (kept_have_snapshots c me past held.of_desk.point desk.snapshots k held.of_desk.kept kept))
+other_numbers_owe_none c me desk log past input outputs asker k index level held hears none = (
+  none_is_owed c me past input outputs held.of_desk.point asker k index level hears (λ kept. none (kept_have_snapshots c me past held.of_desk.point desk.snapshots k held.of_desk.kept kept)),
+  fetches_owe_no_read c me asker k index level past input outputs held.of_desk.point hears,
+)
+
+-- ---- a read
+
+-- the reply to a body, where that is a read-only request; and whether its operation is a read
+abbrev reply_from : State → Body → Option Message
+reply_from st body = elim body.message [ Request t mode op ↦ Some (read_reply st body.sender t op) | _ ↦ None ]
+
+abbrev is_read_only_of : Body → Bool
+is_read_only_of body = elim body.message [ Request t mode op ↦ is_read_only op | _ ↦ false ]
+
+pub reads_fit : ReadsFit
+reads_fit c me s desk log due outputs client t op bytes heard_it is posted f =
+    sent_fits c me s desk log log due due outputs bytes (client ∷ []) reply f posted refl tt (record { op = op; is_read = is; heard = heard_it; answer_is = refl; number_is = refl })
+    tt
+    (takes_nothing c me (Some (record { sender = me; message = reply })) log f.of_log.is_log (λ i w h. refl) (λ i x w h. refl) (λ i x w h. refl) (λ x. refl)) (beside_placed c me log me reply tt)
+    refl (no_root c (behind s outputs) bytes me reply desk.state.number posted.says refl) (λ x h. inl h) (λ x h. h) (no_proposal c me (behind s outputs) bytes reply posted.says tt)
+  where
+    reply : Message
+    reply = read_reply desk.state client t op
+
+pub reads_suffice : ReadsSuffice
+reads_suffice c me desk log past input outputs client t op held hears given = (reads_owe_no_part c me client t op past input outputs held.of_desk.point hears, each)
+  where
+    from : State
+    from = held.of_desk.point.state
+
+    state_is : desk.state ≡ from
+    state_is = sym (ap (λ (p : Point). p.state) held.of_desk.is)
+
+    given_there : Gives me (read_reply from client t op) outputs
+    given_there = subst (λ (st : State). Gives me (read_reply st client t op) outputs) state_is given
+
+    -- it is the one read that the input brings
+    each : (k u : ℕ) (other : Operation) → Hears c me (read_from k u other) past input → is_read_only other ≡ true → Gives me (read_reply from k u other) outputs
+    each k u other h is =
+        let same : ◌≡◌ {A = Option Message} (reply_from from (read_from client t op)) (reply_from from (read_from k u other)) = ap (reply_from from) (hears_one c me (read_from client t op) (read_from k u other) past input hears h) in
+        subst (λ (m : Message). Gives me m outputs) (some_injective (read_reply from client t op) (read_reply from k u other) same) given_there
+
+pub other_operations_owe_none : OtherOperationsOweNone
+other_operations_owe_none c me desk log past input outputs client t op held hears not_read = (reads_owe_no_part c me client t op past input outputs held.of_desk.point hears, each)
+  where
+    each : (k u : ℕ) (other : Operation) → Hears c me (read_from k u other) past input → is_read_only other ≡ true → Gives me (read_reply held.of_desk.point.state k u other) outputs
+    each k u other h is =
+        let same : is_read_only_of (read_from client t op) ≡ is_read_only_of (read_from k u other) = ap is_read_only_of (hears_one c me (read_from client t op) (read_from k u other) past input hears h) in
+        absurd (let bad : false ≡ true = sym not_read ∙ same ∙ is in cc)

@@ -25,6 +25,7 @@ use Rattle.protocol.proofs.Words.Linking.{heard_said, signed_said}
 use Rattle.view_change.specs.ClaimsView.{ClaimsData, claim_of, IsAmong}
 use Rattle.view_change.specs.Recording.{with_prepared, with_logged, with_all, above_mark, IsLoggedAs, Adds}
 use Rattle.view_change.specs.ReceivedData.{HeldData, held_of}
+use Rattle.protocol.proofs.Words.Reacting.{proceeds_leaves}
 use Rattle.replica_histories.specs.Desk.{point_of}
 use Rattle.replica_histories.specs.Events.{start_at}
 use Rattle.replica_histories.specs.Claims.{SaidCommit, WasLogged, FitsClaims}
@@ -34,7 +35,6 @@ use Rattle.replica_histories.proofs.Words.{passed, gated, given_not, marks_are}
 use Rattle.replica_histories.proofs.Certified.{is_prepared_in}
 use Rattle.replica_histories.proofs.Logging.{none_taken}
 use Rattle.replica_histories.proofs.Ending.{steps_leave}
-use Rattle.replica_histories.proofs.Parting.{ordering_leaves}
 use Rattle.replica_histories.proofs.NumbersKept.{view_of, number_of, proposal_said, logged_same}
 use Rattle.replica_histories.proofs.Claims.{claims_begin, claims_grow}
 use Rattle.replica_histories.proofs.ClaimsAdding.{no_batch_adds, no_commit_adds, batch_adds, commit_adds}
@@ -56,7 +56,7 @@ pub inputs_enter : InputsEnter
 inputs_enter c me desk later log after due past input held g = record {
   old = held.of_desk.point;
   new = point_of later g.of_desk.states g.of_desk.ran;
-  leaves = ordering_leaves c me past [] held.of_desk.point held.of_desk.point held.of_desk.proceeds;
+  leaves = proceeds_leaves c me past [] held.of_desk.point held.of_desk.point held.of_desk.proceeds;
   goes = steps_leave c me (start_at c me desk log past held input) [] (point_of later g.of_desk.states g.of_desk.ran) g.of_desk.leaves g.of_desk.steps;
   fits = held.of_log.fits;
   fits_behind = g.of_log;

@@ -15,18 +15,17 @@ use Rattle.protocol.specs.System.Trace.Entry.{Got}
 use Rattle.protocol.specs.Replica.Certificates.{is_active_in, logged, prepare_of, commit_of, Prepared, Committed}
 use Rattle.protocol.specs.Replica.State.{State, Call, root_of, page_text}
 use Rattle.protocol.specs.Replica.RightReplica.{Point, Leaves, Executes, reply_of, KeptState, digests_at}
-use Rattle.protocol.specs.Replica.Owed.{IsSaying, Gives, GivesTo, fetching, AtOutputs, NumbersOnce, IsFree, IsNumbered, IsDropped}
+use Rattle.protocol.specs.Replica.Owed.{IsSaying, Gives, GivesTo, fetching, AtOutputs, NumbersOnce, IsFree, IsNumbered, IsDropped, Owes, Proceeds}
 use Rattle.protocol.proofs.Words.Options.{some_injective}
 use Rattle.protocol.proofs.Words.Elements.{has_weaker, has_reverse, has_reversed}
 use Rattle.protocol.proofs.Words.Linking.{Speaks}
 use Rattle.protocol.proofs.Agreement.Voting.{preparing}
 use Rattle.protocol.proofs.Agreement.Commits.{committing, prepared_stays, prepared_remains}
 use Rattle.replica_histories.specs.Desk.{Desk, point_of}
-use Rattle.replica_histories.specs.Owing.{OwesOrdering, ProceedsOrdering}
 use Rattle.replica_histories.specs.Events.{Start, behind, Steps, AtEach, IsOnItsWay, IsReached, Fits, IsSettled, IsTaken, EventsEnd}
 use Rattle.replica_histories.specs.Logs.{IsVoted}
 use Rattle.replica_histories.specs.Transfers.{HasQuorum}
-use Rattle.replica_histories.specs.TransfersAnswers.{AnswersFetches}
+use Rattle.replica_histories.specs.Questions.{AnswersInput, read_reply}
 use Rattle.replica_histories.specs.TransfersQuorums.{QuorumsFetched}
 use Rattle.replica_histories.proofs.Words.{given_not, primary_same}
 use Rattle.replica_histories.proofs.Certified.{active_view, active_log, committed_there}
@@ -143,7 +142,7 @@ module _ (c : Configuration) (me : ℕ) (s : Start) (desk : Desk) (log : LogData
       × ((k : ℕ) (root : List ℕ) → HasQuorum c now k root → desk.state.number < k → fetching s.before < k → Gives me (Fetch k levels.Root 0) outputs)
   fetched = quorums_end c me s desk.state.number outputs f.of_desk.fetches
 
-  pub owes : AnswersFetches c me s.before s.input outputs s.old → (outputs ≡ []) ⊎ IsTaken c me s → OwesOrdering c me s.before s.input (reverse outputs) now s.old reached
+  pub owes : AnswersInput c me s.before s.input outputs s.old → (outputs ≡ []) ⊎ IsTaken c me s → Owes c me s.before s.input (reverse outputs) now s.old reached
   owes answered taken = record {
     numbers = numbers;
     numbers_once = at_outputs (NumbersOnce c me) s outputs [] f.once tt;
@@ -153,6 +152,7 @@ module _ (c : Configuration) (me : ℕ) (s : Start) (desk : Desk) (log : LogData
     replies = λ ran h. given (reply_of ran.call.client ran.kept) (gave (reply_of ran.call.client ran.kept) (f.of_desk.replies ran h));
     checkpoints = checkpoints;
     again = λ k t op kept hears is same. given (reply_of k kept) (gave (reply_of k kept) (f.of_desk.asked k kept (t, op, hears, is, same)));
+    reads = λ client t op hears is. given (read_reply s.old.state client t op) (answered.1 client t op hears is);
     fetched_digests = parts.0;
     fetched_page = parts.1;
     fetches = λ k root h above fresh. given (Fetch k levels.Root 0) (fetched.1 k root h above fresh);
@@ -163,7 +163,7 @@ module _ (c : Configuration) (me : ℕ) (s : Start) (desk : Desk) (log : LogData
           → GivesTo me p (Meta k level index (digests_at st level index)) (reverse outputs))
           × ((p k index : ℕ) → Hears c me (record { sender = p; message = Fetch k levels.Page index }) s.before s.input → (st : State) → KeptState c me s.before s.old k (λ x. x ≡ st)
           → GivesTo me p (Page k index (page_text st index)) (reverse outputs))
-      parts = answers_in_parts c me s.before s.input (reverse outputs) s.old (answers_turn c me s.before s.input outputs s.old answered)
+      parts = answers_in_parts c me s.before s.input (reverse outputs) s.old (answers_turn c me s.before s.input outputs s.old answered.0)
 
       dropped : (outputs ≡ []) ⊎ IsTaken c me s → (bytes : List ℕ) → s.input ≡ Got me bytes → IsDropped c me s.before s.old bytes → reverse outputs ≡ []
       dropped (inl none) bytes got drops = ap reverse none
@@ -182,8 +182,8 @@ by_or true X Y e y = absurd cc
 by_or false X Y e y = y
 
 proceed : (c : Configuration) (me : ℕ) (s : Start) (outputs later : List Entry) (mid new : Point) → is_output s.input ≡ false → Steps c me s outputs mid
-    → OwesOrdering c me s.before s.input (reverse_aux outputs later) (reverse (reverse_aux outputs later) ++ s.input ∷ s.before) s.old new
-    → ProceedsOrdering c me s.before [] s.old s.old → ProceedsOrdering c me (behind s outputs) later new mid
+    → Owes c me s.before s.input (reverse_aux outputs later) (reverse (reverse_aux outputs later) ++ s.input ∷ s.before) s.old new
+    → Proceeds c me s.before [] s.old s.old → Proceeds c me (behind s outputs) later new mid
 proceed c me s [] later mid new is steps owes past = (s.old, steps, by_or (is_output s.input) _ _ is (owes, past))
 proceed c me s (e ∷ outputs) later mid new is steps owes past =
     (steps.0, steps.2, by_either (is_output e) _ _ steps.3 (proceed c me s outputs (e ∷ later) steps.0 new is steps.1 owes past))
@@ -193,7 +193,7 @@ events_end c me desk new log after past outputs input held f settled answered is
   of_desk = record {
     point = point_of new f.of_desk.states f.of_desk.ran;
     proceeds = proceed c me s outputs [] (point_of new f.of_desk.states f.of_desk.ran) (point_of new f.of_desk.states f.of_desk.ran) is f.of_desk.steps
-        (subst (λ (xs : List Entry). OwesOrdering c me past input (reverse outputs) (xs ++ input ∷ past) held.of_desk.point (point_of new f.of_desk.states f.of_desk.ran)) (sym (reverse-reverse outputs))
+        (subst (λ (xs : List Entry). Owes c me past input (reverse outputs) (xs ++ input ∷ past) held.of_desk.point (point_of new f.of_desk.states f.of_desk.ran)) (sym (reverse-reverse outputs))
         (owes c me s new after outputs is f settled answered taken)) held.of_desk.proceeds;
     is = refl;
     kept = f.of_desk.kept;

@@ -20,6 +20,7 @@ use Rattle.protocol.specs.Replica.RightReplica.{Point, Leaves, IsStep, kept_stat
 use Rattle.protocol.specs.Replica.Owed.{fetching}
 use Rattle.protocol.proofs.Words.Plain.{Plain, plain_low}
 use Rattle.protocol.proofs.Words.Options.{some_injective}
+use Rattle.protocol.proofs.Words.Reacting.{proceeds_leaves}
 use Rattle.replica_histories.specs.Desk.{snapshot_of, point_of}
 use Rattle.state_transfer.specs.Transfer.{TransferData}
 use Rattle.replica_histories.specs.Logs.{above_mark, FitsLog}
@@ -33,7 +34,6 @@ use Rattle.replica_histories.proofs.Taking.{takes_nothing}
 use Rattle.replica_histories.proofs.Logging.{log_goes, got_read, silent_read}
 use Rattle.replica_histories.proofs.Reaching.{reached_goes}
 use Rattle.replica_histories.proofs.Cutting.{marked, alike, checked, checked_up, checked_reached}
-use Rattle.replica_histories.proofs.Parting.{ordering_leaves}
 use Rattle.replica_histories.proofs.Giving.{kept_on}
 use Rattle.replica_histories.proofs.Counting.{CheckpointFree, checkpoint_free}
 use Rattle.replica_histories.proofs.Words.{apart}
@@ -92,7 +92,7 @@ inputs_fit c me desk new log after due past bytes held none e = record {
   of_desk = record {
     states = old.snapshots;
     ran = [];
-    leaves = ordering_leaves c me past [] old old held.of_desk.proceeds;
+    leaves = proceeds_leaves c me past [] old old held.of_desk.proceeds;
     steps = record { own = refl; may = tt; moves = moves };
     kept = ap (λ (x : ℕ). map snapshot_of (kept_states x old.snapshots)) (fits.low ∙ e.takes.stays.low ∙ sym held.of_log.fits.low) ∙ held.of_desk.kept ∙ sym e.snapshots;
     frames = λ frame k. kept_frame frame (e.frames frame k);
@@ -204,7 +204,7 @@ checkpoints_enter c me desk log past s entry bytes held h none = record {
     fits = checked c me log past (Got me bytes) s entry f brings known (λ i l. (held.of_log.prepares i, held.of_log.commits i))
 
     leaves : Leaves c me past old
-    leaves = ordering_leaves c me past [] old old held.of_desk.proceeds
+    leaves = proceeds_leaves c me past [] old old held.of_desk.proceeds
 
     waits : waiting_after c me old bytes ≡ old.waiting
     waits = ap (λ (o : Option Body). option_map_or (with_waiting old.state old.waiting) (option_and_then (call_in c) o) old.waiting) h
@@ -286,7 +286,7 @@ ticks_fit c me desk log past held = record {
   of_desk = record {
     states = old.snapshots;
     ran = [];
-    leaves = ordering_leaves c me past [] old old held.of_desk.proceeds;
+    leaves = proceeds_leaves c me past [] old old held.of_desk.proceeds;
     steps = record { own = refl; may = tt; moves = moves };
     kept = ap (λ (x : ℕ). map snapshot_of (kept_states x old.snapshots)) (plain_low c me past (Tick me) plain) ∙ held.of_desk.kept;
     frames = λ frame k. let f = held.of_desk.frames frame k in (inr f.0, f.1);

@@ -9,7 +9,6 @@ pub mod Logging
 pub mod Reaching
 pub mod Cutting
 pub mod Asking
-pub mod Parting
 pub mod Ending
 pub mod Giving
 pub mod Executing
@@ -22,6 +21,7 @@ pub mod Starting
 pub mod Transfers
 pub mod TransfersInstalling
 pub mod TransfersAnswering
+pub mod Questions
 pub mod TransfersQuorums
 pub mod NumbersLists
 pub mod NumbersFlags

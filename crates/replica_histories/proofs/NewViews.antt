@@ -21,6 +21,7 @@ use Rattle.protocol.proofs.Words.Options.{some_injective, and_then_some, then_so
 use Rattle.protocol.proofs.Words.Elements.{has_weaker}
 use Rattle.protocol.proofs.Words.Temporal.{once_weaker}
 use Rattle.state_transfer.specs.Transfer.{TransferData}
+use Rattle.protocol.proofs.Words.Reacting.{proceeds_leaves}
 use Rattle.replica_histories.specs.Desk.{Desk, snapshot_of, point_of}
 use Rattle.replica_histories.specs.Logs.{FitsLog}
 use Rattle.replica_histories.specs.Transfers.{FitsOpen, MayAsk, transfer_to, open_number}
@@ -28,7 +29,6 @@ use Rattle.replica_histories.specs.Events.{behind, IsOnItsWay, IsAsked, MaySayDu
 use Rattle.replica_histories.specs.Views.{begun_log, start_due, NewViewsEnter, NewViewsFit, StartsMayAsk}
 use Rattle.replica_histories.proofs.Words.{given_not}
 use Rattle.replica_histories.proofs.Certified.{committed_there}
-use Rattle.replica_histories.proofs.Parting.{ordering_leaves}
 use Rattle.replica_histories.proofs.Giving.{kept_on, on_way, no_proposal, signed_may_send}
 use Rattle.replica_histories.proofs.Entering.{same_point}
 use Rattle.replica_histories.proofs.Resting.{rests}
@@ -131,7 +131,7 @@ new_views_enter c me desk log past s new bytes held h t = record {
   of_desk = record {
     states = old.snapshots;
     ran = [];
-    leaves = ordering_leaves c me past [] old old held.of_desk.proceeds;
+    leaves = proceeds_leaves c me past [] old old held.of_desk.proceeds;
     steps = record {
       own = refl;
       may = tt;

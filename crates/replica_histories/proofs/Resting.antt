@@ -10,11 +10,10 @@ use Rattle.protocol.specs.System.Trace.Entry.{Got, Tick}
 use Rattle.protocol.specs.Replica.Certificates.{is_active_in, low, is_in_marks, logged, Committed}
 use Rattle.protocol.specs.Replica.State.{State, Call}
 use Rattle.protocol.specs.Replica.RightReplica.{Point, first_point}
-use Rattle.protocol.specs.Replica.Owed.{IsFree, IsOfView, IsNumbered}
+use Rattle.protocol.specs.Replica.Owed.{IsFree, IsOfView, IsNumbered, Owes, Proceeds}
 use Rattle.protocol.proofs.Words.Reacting.{one_of}
 use Rattle.protocol.proofs.Agreement.Voting.{logged_stays}
 use Rattle.replica_histories.specs.Logs.{FitsLog}
-use Rattle.replica_histories.specs.Owing.{OwesOrdering, ProceedsOrdering}
 use Rattle.replica_histories.specs.Desk.{Desk}
 use Rattle.replica_histories.specs.Events.{Fits, IsSettled, start_at, HeldAreSettled}
 use Rattle.replica_histories.specs.Inputs.{InputsPass, TicksPass}
@@ -22,7 +21,7 @@ use Rattle.replica_histories.proofs.Words.{given_not, primary_same}
 use Rattle.replica_histories.proofs.Certified.{active, committed_here}
 use Rattle.replica_histories.proofs.Ending.{events_end}
 use Rattle.replica_histories.proofs.Entering.{inputs_fit, ticks_fit}
-use Rattle.replica_histories.proofs.TransfersAnswering.{others_owe_none}
+use Rattle.replica_histories.proofs.Questions.{others_owe_none}
 
 -- ---- what an event leaves
 
@@ -32,17 +31,17 @@ pub record Rests (c : Configuration) (me : ℕ) (now : List Entry) (new : Point)
   pub numbers : (v i : ℕ) (call : Call) → is_active_in c now v ≡ true → primary c v ≡ me → Has (λ x. x ≡ call) new.waiting
       → IsFree c me now new.state.number v i → IsNumbered c me now v call.client call.timestamp
 
-rests_owed : (c : Configuration) (me : ℕ) (before : List Entry) (input : Entry) (outputs now : List Entry) (old new : Point) → OwesOrdering c me before input outputs now old new → Rests c me now new
+rests_owed : (c : Configuration) (me : ℕ) (before : List Entry) (input : Entry) (outputs now : List Entry) (old new : Point) → Owes c me before input outputs now old new → Rests c me now new
 rests_owed c me before input outputs now old new o = record { executes = o.executes; numbers = o.numbers }
 
 turned : (e : Entry) (outputs past : List Entry) → reverse (e ∷ outputs) ++ past ≡ reverse outputs ++ e ∷ past
 turned e outputs past = ap (λ (xs : List Entry). xs ++ past) (reverse-cons e outputs) ∙ append_assoc (reverse outputs) (e ∷ []) past
 
 -- behind some output
-rests_behind : (c : Configuration) (me : ℕ) (o : Entry) (outputs xs : List Entry) (new point : Point) → ProceedsOrdering c me xs (o ∷ outputs) new point → Rests c me (reverse (o ∷ outputs) ++ xs) new
+rests_behind : (c : Configuration) (me : ℕ) (o : Entry) (outputs xs : List Entry) (new point : Point) → Proceeds c me xs (o ∷ outputs) new point → Rests c me (reverse (o ∷ outputs) ++ xs) new
 rests_behind c me o outputs [] new point h = absurd (let bad : o ∷ outputs ≡ [] = h.1 in cc)
 rests_behind c me o outputs (e ∷ past) new point h =
-    one_of (is_output e) (ProceedsOrdering c me past (e ∷ o ∷ outputs) new h.0) (OwesOrdering c me past e (o ∷ outputs) (reverse (o ∷ outputs) ++ e ∷ past) h.0 new × ProceedsOrdering c me past [] h.0 h.0)
+    one_of (is_output e) (Proceeds c me past (e ∷ o ∷ outputs) new h.0) (Owes c me past e (o ∷ outputs) (reverse (o ∷ outputs) ++ e ∷ past) h.0 new × Proceeds c me past [] h.0 h.0)
     (Rests c me (reverse (o ∷ outputs) ++ e ∷ past) new) h.2
     (λ k. subst (λ (now : List Entry). Rests c me now new) (turned e (o ∷ outputs) past) (rests_behind c me e (o ∷ outputs) past new h.0 k))
     (λ k. rests_owed c me past e (o ∷ outputs) (reverse (o ∷ outputs) ++ e ∷ past) h.0 new k.0)
@@ -54,10 +53,10 @@ rests_first c me point is = record {
   numbers = λ v i call active own waits free. absurd (subst (λ (p : Point). Has (λ x. x ≡ call) p.waiting) is waits);
 }
 
-pub rests : (c : Configuration) (me : ℕ) (xs : List Entry) (point : Point) → ProceedsOrdering c me xs [] point point → Rests c me xs point
+pub rests : (c : Configuration) (me : ℕ) (xs : List Entry) (point : Point) → Proceeds c me xs [] point point → Rests c me xs point
 rests c me [] point h = rests_first c me point h.0
 rests c me (e ∷ past) point h =
-    one_of (is_output e) (ProceedsOrdering c me past (e ∷ []) point h.0) (OwesOrdering c me past e [] (e ∷ past) h.0 point × ProceedsOrdering c me past [] h.0 h.0) (Rests c me (e ∷ past) point) h.2
+    one_of (is_output e) (Proceeds c me past (e ∷ []) point h.0) (Owes c me past e [] (e ∷ past) h.0 point × Proceeds c me past [] h.0 h.0) (Rests c me (e ∷ past) point) h.2
     (λ k. rests_behind c me e [] past point h.0 k)
     (λ k. rests_owed c me past e [] (e ∷ past) h.0 point k.0)
 

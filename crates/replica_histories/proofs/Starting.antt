@@ -11,7 +11,7 @@ use Rattle.protocol.specs.System.Configuration.{Configuration, replicas, span}
 use Rattle.protocol.specs.Replica.Certificates.{view, low, logged, prepare_of, commit_of, checkpoints_of}
 use Rattle.protocol.specs.Replica.RightReplica.{first_point}
 use Rattle.replica_histories.specs.Logs.{above_mark, AreLatest, FitsViews, FitsLog}
-use Rattle.replica_histories.specs.Histories.{first_desk, FirstHold, HeldOrder}
+use Rattle.replica_histories.specs.Histories.{first_desk, FirstHold, HeldAreReplicas}
 use Rattle.replica_histories.proofs.Words.{gated}
 use Rattle.replica_histories.proofs.Latest.{none_latest}
 use Rattle.replica_histories.proofs.TransfersQuorums.{quorums_first}
@@ -102,6 +102,6 @@ first_hold c me some few mine fits = record {
   low = inl (omega arith);
 }
 
-pub held_order : HeldOrder
-held_order c me desk log [] h = tt
-held_order c me desk log (e ∷ past) h = inl (h.of_desk.point, h.of_desk.proceeds)
+pub held_are_replicas : HeldAreReplicas
+held_are_replicas c me desk log [] h = tt
+held_are_replicas c me desk log (e ∷ past) h = inl (h.of_desk.point, h.of_desk.proceeds)

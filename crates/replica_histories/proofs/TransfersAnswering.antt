@@ -1,6 +1,6 @@
 -- Fetches of kept states are answered: no two kept states have one number, so that one answer is all that is owed.
-use Rattle.std.proofs.Common.{◌≡◌, ℕ, suc, ◌%◌, ◌≤◌, ◌<◌, ◌⊎◌, inl, inr, Bool, true, false, cond, List, [], ◌∷◌, refl, sym, ap, ◌∙◌, subst, arith, Option, Some, None}
-use Rattle.std.specs.Prelude.{◌==◌, nat_le, slice_index_or, option_and_then, ⊤}
+use Rattle.std.proofs.Common.{◌≡◌, ℕ, suc, ◌%◌, ◌≤◌, ◌<◌, ◌⊎◌, inl, inr, Bool, true, false, cond, List, [], ◌∷◌, refl, sym, ap, ◌∙◌, subst, arith, Option, Some}
+use Rattle.std.specs.Prelude.{◌==◌, nat_le, slice_index_or, ⊤}
 use Rattle.std.specs.Option.{option_map_or}
 use Rattle.terms.specs.declared.state.Level.{Level}
 use Rattle.terms.specs.declared.state.Level.TheVariants as levels
@@ -21,7 +21,7 @@ use Rattle.protocol.proofs.Words.Elements.{has_weaker, has_some, has_filter, has
 use Rattle.protocol.proofs.Words.Leaving.{executed_number}
 use Rattle.protocol.proofs.Words.Temporal.{once_weaker, once_stays}
 use Rattle.replica_histories.specs.Desk.{Snapshot, snapshot_of}
-use Rattle.replica_histories.specs.TransfersAnswers.{answer_of, answer_by, KeptPages, AnswersFetches, KeptAreOne, SnapshotsAreKept, KeptHaveSnapshots, FetchesCount, AnswersMayGo, PostedToOne, AnswersSuffice, NoneIsOwed, OthersOweNone, AnswersStay, AnswersTurn, AnswersInParts}
+use Rattle.replica_histories.specs.TransfersAnswers.{answer_of, answer_by, KeptPages, AnswersFetches, KeptAreOne, SnapshotsAreKept, KeptHaveSnapshots, FetchesCount, AnswersMayGo, PostedToOne, AnswersSuffice, NoneIsOwed, AnswersStay, AnswersTurn, AnswersInParts}
 use Rattle.replica_histories.proofs.Transfers.{heard_valid}
 use Rattle.replica_histories.proofs.TransfersInstalling.{pages_read}
 
@@ -196,7 +196,7 @@ posted_to_one c me s message bytes posted =
 -- ---- what is owed
 
 -- an input is heard as one body
-hears_one : (c : Configuration) (me : ℕ) (a b : Body) (past : List Entry) (e : Entry) → Hears c me a past e → Hears c me b past e → a ≡ b
+pub hears_one : (c : Configuration) (me : ℕ) (a b : Body) (past : List Entry) (e : Entry) → Hears c me a past e → Hears c me b past e → a ≡ b
 hears_one c me a b past (Got p bytes) h g = some_injective a b (sym h ∙ g)
 hears_one c me a b past (Invoke x y z) h g = absurd h
 hears_one c me a b past (Tick x) h g = absurd h
@@ -236,16 +236,6 @@ pub none_is_owed : NoneIsOwed
 none_is_owed c me before input outputs old s k index level hears none =
     answers_each c me before input outputs old s k index level hears
     (λ st h. absurd (none (has_weaker (λ x. (x.number ≡ k) × (x ≡ st)) (λ x. (x.number ≡ k) × ⊤) (λ x y. (y.0, tt)) (kept_states (low c me before) old.snapshots) h)))
-
-pub others_owe_none : OthersOweNone
-others_owe_none c me before (Got p bytes) outputs old none s k index level hears st h =
-    absurd (let bad : None ≡ Some (k, (level, index)) = sym none ∙ ap (option_and_then place_from) hears in cc)
-others_owe_none c me before (Invoke x y z) outputs old none s k index level hears st h = absurd hears
-others_owe_none c me before (Tick x) outputs old none s k index level hears st h = absurd hears
-others_owe_none c me before (Executed x y z) outputs old none s k index level hears st h = absurd hears
-others_owe_none c me before (Installed x y z) outputs old none s k index level hears st h = absurd hears
-others_owe_none c me before (Sent x y) outputs old none s k index level hears st h = absurd hears
-others_owe_none c me before (Accepted x y z) outputs old none s k index level hears st h = absurd hears
 
 pub answers_stay : AnswersStay
 answers_stay c me before input e outputs old h s k index level hears st is = inr (h s k index level hears st is)

@@ -1,17 +1,20 @@
--- The replica that answers: it gives the parts of the snapshots that it keeps to those that fetch them (Castro and
--- Liskov, TOCS 2002, on state transfer).
-use Rattle.std.specs.Prelude.{◌≡◌, ℕ, List, ◌∷◌, []}
+-- The replica that answers: it gives the parts of the snapshots that it keeps to those that fetch them, and answers
+-- reads from what it has executed (Castro and Liskov, TOCS 2002, on state transfer and on read-only operations).
+use Rattle.std.specs.Prelude.{◌≡◌, ℕ, true, false, List, ◌∷◌, []}
+use Rattle.tuple_codec.specs.Operations.{Operation}
+use Rattle.space.specs.Applying.{is_read_only}
 use Rattle.terms.specs.declared.state.Level.{Level}
 use Rattle.wire.specs.Messages.{MessageData as Message, fetch as Fetch}
 use Rattle.ordering.specs.Log.{LogData}
 use Rattle.protocol.specs.System.Configuration.{Configuration}
 use Rattle.protocol.specs.System.Frames.{IsPosted}
-use Rattle.protocol.specs.System.Trace.{Entry, Has, Hears}
+use Rattle.protocol.specs.System.Trace.{Entry, Once, Has, Hears}
 use Rattle.protocol.specs.System.Trace.Entry.{Sent}
 use Rattle.protocol.specs.Replica.RightReplica.{WasAsked}
-use Rattle.protocol.specs.Replica.Owed.{GivesTo, Counts}
+use Rattle.protocol.specs.Replica.Owed.{Gives, GivesTo, Counts}
 use Rattle.replica_histories.specs.Desk.{Desk, Snapshot}
-use Rattle.replica_histories.specs.TransfersAnswers.{answer_by, AnswersFetches}
+use Rattle.replica_histories.specs.TransfersAnswers.{answer_by}
+use Rattle.replica_histories.specs.Questions.{AnswersInput, read_from, read_reply}
 use Rattle.replica_histories.specs.Events.{Start, behind, Fits, Holds}
 
 -- The part of a kept snapshot that was asked for, to whoever asked.
@@ -40,7 +43,7 @@ PartsSuffice =
     → Has (λ x. x ≡ snapshot) desk.snapshots
     → Hears c me (record { sender = asker; message = Fetch snapshot.number level index }) past input
     → GivesTo me asker (answer_by snapshot.pages snapshot.number level index) outputs
-    → AnswersFetches c me past input outputs held.of_desk.point
+    → AnswersInput c me past input outputs held.of_desk.point
 
 abbrev pub OtherNumbersOweNone : Type 0
 OtherNumbersOweNone =
@@ -48,4 +51,29 @@ OtherNumbersOweNone =
     (outputs : List Entry) (asker k index : ℕ) (level : Level) (held : Holds c me desk log past)
     → Hears c me (record { sender = asker; message = Fetch k level index }) past input
     → (Has (λ x. x.number ≡ k) desk.snapshots → ⊥)
-    → AnswersFetches c me past input outputs held.of_desk.point
+    → AnswersInput c me past input outputs held.of_desk.point
+
+-- The reply to a read that was heard, from the executed state.
+abbrev pub ReadsFit : Type 0
+ReadsFit =
+    (c : Configuration) (me : ℕ) (s : Start) (desk : Desk) (log : LogData) (due : List Message) (outputs : List Entry)
+    (client timestamp : ℕ) (op : Operation) (bytes : List ℕ)
+    → Once (Hears c me (read_from client timestamp op)) (behind s outputs) → is_read_only op ≡ true
+    → IsPosted c me (read_reply desk.state client timestamp op) (client ∷ []) bytes
+    → Fits c me s desk log due outputs → Fits c me s desk log due (Sent me bytes ∷ outputs)
+
+-- Where it is given, nothing more is owed to the read; and nothing at all to an operation that is no read.
+abbrev pub ReadsSuffice : Type 0
+ReadsSuffice =
+    (c : Configuration) (me : ℕ) (desk : Desk) (log : LogData) (past : List Entry) (input : Entry)
+    (outputs : List Entry) (client timestamp : ℕ) (op : Operation) (held : Holds c me desk log past)
+    → Hears c me (read_from client timestamp op) past input
+    → Gives me (read_reply desk.state client timestamp op) outputs
+    → AnswersInput c me past input outputs held.of_desk.point
+
+abbrev pub OtherOperationsOweNone : Type 0
+OtherOperationsOweNone =
+    (c : Configuration) (me : ℕ) (desk : Desk) (log : LogData) (past : List Entry) (input : Entry)
+    (outputs : List Entry) (client timestamp : ℕ) (op : Operation) (held : Holds c me desk log past)
+    → Hears c me (read_from client timestamp op) past input → is_read_only op ≡ false
+    → AnswersInput c me past input outputs held.of_desk.point

@@ -14,12 +14,11 @@ use Rattle.protocol.specs.System.Trace.Entry.{Got, Tick}
 use Rattle.protocol.specs.Replica.Certificates.{low, Committed}
 use Rattle.protocol.specs.Replica.State.{State, Call, Ran, kept_of, root_of}
 use Rattle.protocol.specs.Replica.RightReplica.{Point, Leaves, Executes, kept_states, HasSeen, MayReplyOrdered, MayCheckpoint, MayFetch, reply_of}
-use Rattle.protocol.specs.Replica.Owed.{IsFree, IsNumbered, NumbersOnce, Counts, fetching}
+use Rattle.protocol.specs.Replica.Owed.{IsFree, IsNumbered, NumbersOnce, Counts, fetching, Proceeds}
 use Rattle.replica_histories.specs.Desk.{Desk, snapshot_of, point_of, desk_from}
 use Rattle.replica_histories.specs.Logs.{FitsLog}
-use Rattle.replica_histories.specs.Owing.{ProceedsOrdering}
 use Rattle.replica_histories.specs.Transfers.{FitsOpen}
-use Rattle.replica_histories.specs.TransfersAnswers.{AnswersFetches}
+use Rattle.replica_histories.specs.Questions.{AnswersInput}
 use Rattle.replica_histories.specs.TransfersQuorums.{QuorumsFetched, FetchesQuorums}
 pub use Rattle.replica_histories.specs.Running.{Start, behind, Steps, AtEach, IsOnItsWay}
 
@@ -113,11 +112,11 @@ IsTaken c me s = elim s.input [
 
 -- ---- between events
 
--- The desk holds of a history that is an ordering replica's so far: its transfer has what was got, and each quorum of
+-- The desk holds of a history that is a correct replica's so far: its transfer has what was got, and each quorum of
 -- checkpoints above the executed number was fetched.
 pub record HoldsDesk (c : Configuration) (me : ℕ) (desk : Desk) (history : List Entry) : Type 0 where
   pub point : Point
-  pub proceeds : ProceedsOrdering c me history [] point point
+  pub proceeds : Proceeds c me history [] point point
   pub is : point ≡ point_of desk point.snapshots point.ran
   pub kept : FitsSnapshots c me desk point.snapshots history
   pub frames : FitsFrames c me desk history
@@ -143,14 +142,14 @@ start_at c me desk log past held input = record { before = past; input = input; 
 
 -- ---- laws
 
--- Where both fit an event, nothing is due, nothing is left owed, and a fetch was answered, they hold of the longer
--- history.
+-- Where both fit an event, nothing is due, nothing is left owed, and what was asked is answered, they hold of the
+-- longer history.
 abbrev pub EventsEnd : Type 0
 EventsEnd =
     (c : Configuration) (me : ℕ) (desk new : Desk) (log after : LogData) (past outputs : List Entry) (input : Entry)
     (held : Holds c me desk log past)
     → Fits c me (start_at c me desk log past held input) new after [] outputs
-    → IsSettled c me new after (outputs ++ input ∷ past) → AnswersFetches c me past input outputs held.of_desk.point
+    → IsSettled c me new after (outputs ++ input ∷ past) → AnswersInput c me past input outputs held.of_desk.point
     → is_output input ≡ false
     → (outputs ≡ []) ⊎ IsTaken c me (start_at c me desk log past held input)
     → Holds c me new after (outputs ++ input ∷ past)

@@ -4,9 +4,9 @@ use Rattle.ordering.specs.Log.{LogData, new_log}
 use Rattle.protocol.specs.System.Configuration.{Configuration, replicas, span}
 use Rattle.protocol.specs.System.Trace.{Entry}
 use Rattle.protocol.specs.Replica.State.{opening}
+use Rattle.protocol.specs.Replica.Owed.{IsReplica}
 use Rattle.replica_histories.specs.Desk.{Desk, snapshot_of}
 use Rattle.replica_histories.specs.Events.{Holds}
-use Rattle.replica_histories.specs.Owing.{IsOrderingReplica}
 
 -- nothing is held but the opening state
 abbrev pub first_desk : Desk
@@ -24,8 +24,8 @@ FirstHold =
     (c : Configuration) (me : ℕ) → 1 ≤ c.faults → c.faults ≤ 3 → me < replicas c → span c ≤ 32
     → Holds c me first_desk (new_log me c.faults (span c)) []
 
--- What holds of a history makes it that of an ordering replica.
-abbrev pub HeldOrder : Type 0
-HeldOrder =
+-- What holds of a history makes it that of a correct replica.
+abbrev pub HeldAreReplicas : Type 0
+HeldAreReplicas =
     (c : Configuration) (me : ℕ) (desk : Desk) (log : LogData) (history : List Entry) → Holds c me desk log history
-    → IsOrderingReplica c me history
+    → IsReplica c me history

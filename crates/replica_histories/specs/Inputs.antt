@@ -26,7 +26,7 @@ use Rattle.replica_histories.specs.Desk.{Desk, point_of, desk_from}
 use Rattle.replica_histories.specs.Logs.{FitsLog, Takes}
 use Rattle.replica_histories.specs.Marks.{checked_log}
 use Rattle.replica_histories.specs.Transfers.{open_number}
-use Rattle.replica_histories.specs.TransfersAnswers.{AnswersFetches}
+use Rattle.replica_histories.specs.Questions.{AnswersInput}
 use Rattle.replica_histories.specs.Events.{Fits, Holds, start_at}
 
 -- ---- what a request asks for
@@ -213,7 +213,7 @@ InputsPass =
     (c : Configuration) (me : ℕ) (desk : Desk) (log : LogData) (past : List Entry) (bytes : List ℕ)
     (held : Holds c me desk log past)
     → taken c past (Got me bytes) ≡ None → Enters c me bytes desk desk log log []
-    → AnswersFetches c me past (Got me bytes) [] held.of_desk.point
+    → AnswersInput c me past (Got me bytes) [] held.of_desk.point
     → Holds c me desk log (Got me bytes ∷ past)
 
 abbrev pub TicksPass : Type 0

@@ -1,9 +1,9 @@
 pub mod Desk
 pub mod Logs
-pub mod Owing
 pub mod Running
 pub mod Transfers
 pub mod TransfersAnswers
+pub mod Questions
 pub mod TransfersQuorums
 pub mod Events
 pub mod Outputs

@@ -1,21 +1,20 @@
 -- The parts of kept states that others fetch: which answer a fetch gets, that it may be sent, and that no other is owed
 -- (Castro and Liskov, TOCS 2002, on state transfer).
-use Rattle.std.specs.Prelude.{◌≡◌, ℕ, true, List, [], ◌∷◌, map, reverse, Option, None, slice_index_or, option_and_then, ⊤}
+use Rattle.std.specs.Prelude.{◌≡◌, ℕ, true, List, [], ◌∷◌, map, reverse, slice_index_or, ⊤}
 use Rattle.terms.specs.declared.state.Level.{Level}
 use Rattle.terms.specs.declared.state.Level.TheVariants as levels
 use Rattle.partition_tree.specs.Levels.{children_of}
 use Rattle.wire.specs.Messages.{MessageData as Message, fetch as Fetch, meta as Meta, page as Page}
 use Rattle.wire.specs.Spelling.{has_children}
 use Rattle.wire.specs.Words.{carried}
-use Rattle.signing.specs.Heard.{heard}
-use Rattle.protocol.specs.System.Configuration.{Configuration, members}
+use Rattle.protocol.specs.System.Configuration.{Configuration}
 use Rattle.protocol.specs.System.Frames.{IsPosted}
 use Rattle.protocol.specs.System.Trace.{Entry, Has, Hears}
-use Rattle.protocol.specs.System.Trace.Entry.{Got, Sent}
+use Rattle.protocol.specs.System.Trace.Entry.{Sent}
 use Rattle.protocol.specs.Replica.Certificates.{low}
 use Rattle.protocol.specs.Replica.State.{State, pages_of, page_text}
 use Rattle.protocol.specs.Replica.RightReplica.{Point, Leaves, MaySay, IsFor, KeptState, WasAsked, digests_at, kept_states}
-use Rattle.protocol.specs.Replica.Owed.{place_from, IsSayingTo, GivesTo, Counts}
+use Rattle.protocol.specs.Replica.Owed.{IsSayingTo, GivesTo, Counts}
 use Rattle.replica_histories.specs.Desk.{Snapshot, snapshot_of}
 
 -- what a fetch of a place gets of a state, and the same of the state's pages: the digests below it, or the page
@@ -38,11 +37,6 @@ abbrev pub AnswersFetches : Configuration → ℕ → List Entry → Entry → L
 AnswersFetches c me before input outputs old =
     (s k index : ℕ) (level : Level) → Hears c me (record { sender = s; message = Fetch k level index }) before input
     → (st : State) → KeptState c me before old k (λ x. x ≡ st) → GivesTo me s (answer_of st k level index) outputs
-
--- the place that an input is heard to ask for
-abbrev pub place_heard : Configuration → ℕ → Entry → Option (ℕ × (Level × ℕ))
-place_heard c me (Got p bytes) = option_and_then place_from (heard (members c) me bytes)
-place_heard c me _ = None
 
 -- ---- laws: what is kept
 
@@ -106,12 +100,6 @@ NoneIsOwed =
     (s k index : ℕ) (level : Level)
     → Hears c me (record { sender = s; message = Fetch k level index }) before input
     → (KeptState c me before old k (λ st. ⊤) → ⊥) → AnswersFetches c me before input outputs old
-
--- An input that is heard as no fetch owes none.
-abbrev pub OthersOweNone : Type 0
-OthersOweNone =
-    (c : Configuration) (me : ℕ) (before : List Entry) (input : Entry) (outputs : List Entry) (old : Point)
-    → place_heard c me input ≡ None → AnswersFetches c me before input outputs old
 
 -- What is given stays given, in whatever order outputs stand.
 abbrev pub AnswersStay : Type 0

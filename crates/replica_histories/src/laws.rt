@@ -1,20 +1,20 @@
 //! Laws of the events of a replica.
 
-ghost use Rattle.replica_histories.specs.Owing.{OwedInParts, ReplicasOrder, OrderingIsSafe};
 ghost use Rattle.replica_histories.specs.Events.{EventsEnd, HeldAreSettled, KeptAreAbove};
 ghost use Rattle.replica_histories.specs.Outputs.{PreparesFit, CommitsFit, BatchesFit, ExecutesFit, RepliesFit, CheckpointsFit, InstallationsFit, PreparesGoAgain, CommitsGoAgain, BatchesGoAgain, CheckpointsGoAgain};
 ghost use Rattle.replica_histories.specs.Inputs.{InputsFit, CheckpointsEnter, TicksFit, BatchesCount, PreparesCount, CommitsCount, CheckpointsCount, RequestsCount, BatchesDrop, PreparesDrop, CommitsDrop, CheckpointsDrop, EarlyCheckpointsDrop, OthersDrop, InputsPass, TicksPass};
 ghost use Rattle.replica_histories.specs.Marks.{MarksMove, InstallationsMove, CutsAskNoMore, StableAreLow, StableAreCut};
-ghost use Rattle.replica_histories.specs.Histories.{FirstHold, HeldOrder};
+ghost use Rattle.replica_histories.specs.Histories.{FirstHold, HeldAreReplicas};
 ghost use Rattle.replica_histories.specs.Transfers.{WantedByHistory, DigestsCount, PagesCount, AimsStay, AskedStays, OpenStays, MayAskStays, OpenEnds, DigestsTaken, DigestsOpen, PagesTaken, PagesOpen, PagesGiveBack, PagesRested, QuorumsWant, TransfersStart, TransfersMove, QuorumsOpen, LowerAreFetched, OpenMayAsk, TransfersMayFetch, TransfersAsk, StartedRests, DigestsRest, PagesRest, RestedRests, TransfersInstall};
-ghost use Rattle.replica_histories.specs.TransfersAnswers.{KeptAreOne, SnapshotsAreKept, KeptHaveSnapshots, FetchesCount, AnswersMayGo, PostedToOne, AnswersSuffice, NoneIsOwed, OthersOweNone, AnswersStay, AnswersTurn, AnswersInParts};
+ghost use Rattle.replica_histories.specs.TransfersAnswers.{KeptAreOne, SnapshotsAreKept, KeptHaveSnapshots, FetchesCount, AnswersMayGo, PostedToOne, AnswersSuffice, NoneIsOwed, AnswersStay, AnswersTurn, AnswersInParts};
+ghost use Rattle.replica_histories.specs.Questions.{OthersOweNone};
 ghost use Rattle.replica_histories.specs.TransfersQuorums.{QuorumsGrow, CountsStay, UnchangedBringNone, QuorumsFirst, QuorumsStay, QuorumsBegin, QuorumsGoOn, QuorumsEnd};
 ghost use Rattle.replica_histories.specs.Fetching.{FetchesFit, DueFetchesFit, QuorumsMayAsk, HeldOweNoFetch, DigestsEnter, PagesEnter, AskedDigestsCount, AskedPagesCount, TransfersChange};
-ghost use Rattle.replica_histories.specs.Answering.{PartsFit, KeptFetchesCount, PartsSuffice, OtherNumbersOweNone};
+ghost use Rattle.replica_histories.specs.Answering.{PartsFit, KeptFetchesCount, PartsSuffice, OtherNumbersOweNone, ReadsFit, ReadsSuffice, OtherOperationsOweNone};
 ghost use Rattle.replica_histories.specs.Numbers.{FirstNumbersFit, LogsAreOfNoLaterView, LaterNumberNothing, ViewsBegin, NumbersStay, OthersKeepNumbers, BatchesKeepNumbers, NumbersFit, RequestsFit, InputsKeepNumbers, StatesFit, ExecutionsRaise, NumbersAreGiven, NumbersLeaveFewer, StatesLeaveNoMore};
 
-/// Where desk and log fit the history behind an event's outputs, nothing is due, nothing is left owed and a fetch was
-/// answered, they hold of that history, and so on at the next event. Between events nothing is left owed.
+/// Where desk and log fit the history behind an event's outputs, nothing is due, nothing is left owed and what was asked
+/// is answered, they hold of that history, and so on at the next event. Between events nothing is left owed.
 pub fn events_end()
     ensures end { EventsEnd }
     ensures settled { HeldAreSettled }
@@ -89,18 +89,10 @@ pub fn marks_move()
 {}
 
 /// The opening state and a new log hold of the empty history, and each history of which desk and log hold is that of a
-/// replica that orders requests, which is safe.
+/// correct replica.
 pub fn histories_are_replicas()
     ensures first { FirstHold }
-    ensures replicas { HeldOrder }
-    ensures safe { OrderingIsSafe }
-{}
-
-/// What orders requests and transfers states is one part of what a correct replica owes, reads are the other; and each
-/// correct replica orders requests.
-pub fn owed_in_parts()
-    ensures parts { OwedInParts }
-    ensures order { ReplicasOrder }
+    ensures replicas { HeldAreReplicas }
 {}
 
 /// What a transfer wants is what the history has for the parts of its state, and such parts count (Castro and Liskov,
@@ -176,7 +168,6 @@ pub fn fetches_are_answered()
     ensures posted { PostedToOne }
     ensures suffice { AnswersSuffice }
     ensures unkept { NoneIsOwed }
-    ensures others { OthersOweNone }
     ensures stay { AnswersStay }
     ensures turn { AnswersTurn }
     ensures parts { AnswersInParts }
@@ -222,6 +213,16 @@ pub fn parts_fit()
     ensures count { KeptFetchesCount }
     ensures suffice { PartsSuffice }
     ensures none { OtherNumbersOweNone }
+{}
+
+/// The reply to a read, from the executed state, may be given once the read was heard, and is all that is owed to it.
+/// Nothing is owed to an operation that is no read, or where nothing is asked (Castro and Liskov, TOCS 2002, on read-only
+/// operations).
+pub fn reads_fit()
+    ensures reads { ReadsFit }
+    ensures suffice { ReadsSuffice }
+    ensures operations { OtherOperationsOweNone }
+    ensures others { OthersOweNone }
 {}
 
 /// Which of the requests that wait have a number is known from the start, and from each new view on that begins a view:

@@ -44,8 +44,8 @@ pub use changes::{changes_are_made, changes_stay, entries_keep_changes, entries_
 pub use laws::{
     events_end, fetches_are_answered, fetches_fit, histories_are_replicas, inputs_fit, inputs_pass,
     kept_are_one, marks_move, messages_count, messages_drop, numbers_are_given, numbers_stay,
-    outputs_fit, owed_in_parts, own_go_again, parts_are_taken, parts_count, parts_enter, parts_fit,
-    quorums_are_fetched, transfers_ask, transfers_begin, transfers_install, transfers_stay,
-    waiting_keeps_numbers,
+    outputs_fit, own_go_again, parts_are_taken, parts_count, parts_enter, parts_fit,
+    quorums_are_fetched, reads_fit, transfers_ask, transfers_begin, transfers_install,
+    transfers_stay, waiting_keeps_numbers,
 };
 pub use views::{changes_are_held, claims_are_kept, views_begin, views_change};

@@ -39,7 +39,7 @@ fn a_worked_root(rt: HostRuntime) -> Result<(), Fail> {
 }
 
 // With a period of 2 number 1 has no checkpoint, and number 2 has one.
-const SECOND_AT_BACKUP: [Row<'static>; 8] = [
+static SECOND_AT_BACKUP: [Row<'static>; 8] = [
     (Sent::PrePrepare(1), &[Given::Sends(Sent::Prepare(1, 1))]),
     (Sent::Prepare(1, 2), &[Given::Sends(Sent::Commit(1, 1))]),
     (Sent::Commit(1, 2), &[]),
@@ -61,7 +61,7 @@ const SECOND_AT_BACKUP: [Row<'static>; 8] = [
 ];
 
 // And the primary, to which the requests come.
-const SECOND_AT_PRIMARY: [Row<'static>; 10] = [
+static SECOND_AT_PRIMARY: [Row<'static>; 10] = [
     (Sent::Request(1), &[Given::Sends(Sent::PrePrepare(1))]),
     (Sent::Request(2), &[Given::Sends(Sent::PrePrepare(2))]),
     (Sent::Prepare(1, 1), &[]),
@@ -86,7 +86,7 @@ const SECOND_AT_PRIMARY: [Row<'static>; 10] = [
 
 // Where number 2 is stable, the low mark is 2: of the states that are kept the opening one is given up, and that behind
 // number 2 stays, for whoever asks.
-const IS_MARKED_AT_BACKUP: [Row<'static>; 6] = [
+static IS_MARKED_AT_BACKUP: [Row<'static>; 6] = [
     (Sent::Checkpoint(2, State::Behind(2), 0), &[]),
     (
         Sent::Fetch(0, ROOT, 3),
@@ -101,7 +101,7 @@ const IS_MARKED_AT_BACKUP: [Row<'static>; 6] = [
     ),
 ];
 
-const IS_MARKED_AT_PRIMARY: [Row<'static>; 6] = [
+static IS_MARKED_AT_PRIMARY: [Row<'static>; 6] = [
     (Sent::Checkpoint(2, State::Behind(2), 1), &[]),
     (
         Sent::Fetch(0, ROOT, 3),
@@ -118,7 +118,7 @@ const IS_MARKED_AT_PRIMARY: [Row<'static>; 6] = [
 
 // With a period of 1 each number has one. Until a quorum has it, the opening state is kept beside it. Of a sender the
 // first of a number counts, and once. Where it is stable, the opening state is given up.
-pub const BECOMES_STABLE: [Row<'static>; 21] = [
+pub static BECOMES_STABLE: [Row<'static>; 21] = [
     (Sent::PrePrepare(1), &[Given::Sends(Sent::Prepare(1, 1))]),
     (Sent::Prepare(1, 2), &[Given::Sends(Sent::Commit(1, 1))]),
     (Sent::Commit(1, 2), &[]),
@@ -174,7 +174,7 @@ pub const BECOMES_STABLE: [Row<'static>; 21] = [
 ];
 
 // Checkpoints that came before: the own one makes it stable at once.
-const STABLE_AT_ONCE: [Row<'static>; 9] = [
+static STABLE_AT_ONCE: [Row<'static>; 9] = [
     (Sent::Checkpoint(1, ONE, 0), &[]),
     (Sent::Checkpoint(1, ONE, 3), &[]),
     (Sent::PrePrepare(1), &[Given::Sends(Sent::Prepare(1, 1))]),
@@ -200,7 +200,7 @@ const STABLE_AT_ONCE: [Row<'static>; 9] = [
 ];
 
 // Of a sender the three of largest number are kept: replica 3's fourth one doesn't count.
-const FOURTH: [Row<'static>; 12] = [
+static FOURTH: [Row<'static>; 12] = [
     (Sent::PrePrepare(1), &[Given::Sends(Sent::Prepare(1, 1))]),
     (Sent::Prepare(1, 2), &[Given::Sends(Sent::Commit(1, 1))]),
     (Sent::Commit(1, 2), &[]),
@@ -226,7 +226,7 @@ const FOURTH: [Row<'static>; 12] = [
 ];
 
 // With a period of 1 two numbers are within the marks. The third request gets its number in the event that moves them.
-pub const FREES_NUMBERS: [Row<'static>; 10] = [
+pub static FREES_NUMBERS: [Row<'static>; 10] = [
     (Sent::Request(1), &[Given::Sends(Sent::PrePrepare(1))]),
     (Sent::Request(2), &[Given::Sends(Sent::PrePrepare(2))]),
     (Sent::Request(3), &[]),
@@ -250,7 +250,7 @@ pub const FREES_NUMBERS: [Row<'static>; 10] = [
 ];
 
 // The request that waits comes again: the latest checkpoint goes out last, also where it is stable.
-const GOES_AGAIN: [Row<'static>; 11] = [
+static GOES_AGAIN: [Row<'static>; 11] = [
     (Sent::PrePrepare(1), &[Given::Sends(Sent::Prepare(1, 1))]),
     (Sent::Prepare(1, 2), &[Given::Sends(Sent::Commit(1, 1))]),
     (Sent::Commit(1, 2), &[]),

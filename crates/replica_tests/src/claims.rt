@@ -1,11 +1,10 @@
 //! A view change whose list of claims is as long as it can be, and what comes of one claim more.
 
-use crate::frames::{Sent, eight, frame_of, joined, mac_for, piece};
-use crate::replicas::{config, gives_for, new_replica};
-use crate::signed::{key_trees, signed};
+use crate::frames::{Sent, eight, joined, mac_for, piece};
+use crate::replicas::{Given, config, gives, gives_for, new_replica};
+use crate::signed::{key_tree, signed};
 use crate::states::{ROOT, State, root_of};
-use crate::views::sends;
-use events::{Output, Outputs};
+use events::{Config, Output, Outputs};
 use replica::{Event, Replica};
 use signing::KeyTree;
 use std::alloc::{AllocError, Global};
@@ -59,6 +58,28 @@ fn logs(replica: &mut Replica, alloc: Global, view: u8, last: u8) -> Result<bool
 // A state that a new view starts from, by its number and root.
 type Start = (u8, [u8; 32]);
 
+// The trees of replicas 0, 1 and 2, each made once.
+fn key_trees(alloc: Global) -> Result<Vec<KeyTree>, AllocError> {
+    let mut trees = Vec::new(alloc);
+    for replica in 0..3 {
+        trees.push(key_tree(replica))?;
+    }
+    Ok(trees)
+}
+
+// The frame of a body that one of them signs with its first key.
+fn signed_by(
+    alloc: Global,
+    trees: &[KeyTree],
+    replica: u8,
+    body: &[u8],
+) -> Result<Vec<u8>, AllocError> {
+    match trees.get(usize::from(replica)) {
+        Some(tree) => signed(alloc, tree, 0, body),
+        None => Ok(Vec::new(alloc)),
+    }
+}
+
 // The view change of a replica that has nothing to claim, and keeps the checkpoint of this state.
 fn empty_change(
     alloc: Global,
@@ -69,7 +90,7 @@ fn empty_change(
 ) -> Result<Vec<u8>, AllocError> {
     let front = joined(alloc, &[&[0x46, 0, sender], &eight(view), &eight(low)])?;
     let body = joined(alloc, &[&front, &[1], &eight(low), &root, &[0; 4]])?;
-    signed(alloc, trees, sender, 0, &body)
+    signed_by(alloc, trees, sender, &body)
 }
 
 // The new view that starts from this state, with no batches, over the view changes of replicas 0, 1 and 2.
@@ -87,7 +108,7 @@ fn empty_new_view(
     }
     let end = joined(alloc, &[&eight(start.0), &start.1, &[0]])?;
     body.extend_from_slice(&end)?;
-    signed(alloc, trees, primary, 0, &body)
+    signed_by(alloc, trees, primary, &body)
 }
 
 // How many numbers it logs in a view, of so many claims that are left.
@@ -104,7 +125,7 @@ fn enters(
     start: Start,
 ) -> Result<bool, Fail> {
     let new = empty_new_view(alloc, trees, view, start)?;
-    sends(replica, alloc, 3, &new, &[])
+    gives(replica, alloc, &new, &[])
 }
 
 // Makes as many claims as fit, view after view. It is the primary of each fourth, which nobody begins.
@@ -190,27 +211,43 @@ fn logs_another(replica: &mut Replica, alloc: Global) -> Result<bool, Fail> {
 // A view that starts at number 16 takes away the claims up to it, and the second of its keys is the next that signs.
 fn moves_when_cut(replica: &mut Replica, alloc: Global, trees: &[KeyTree]) -> Result<bool, Fail> {
     let new = empty_new_view(alloc, trees, 216, (16, [0xff; 32]))?;
-    let fetch = frame_of(alloc, Sent::Fetch(16, ROOT, 3))?;
-    is_cut(replica, alloc, new.as_slice(), fetch.as_slice())
+    is_cut(replica, alloc, &new)
 }
 
-fn is_cut(replica: &mut Replica, alloc: Global, new: &[u8], fetch: &[u8]) -> Result<bool, Fail> {
+fn is_cut(replica: &mut Replica, alloc: Global, new: &[u8]) -> Result<bool, Fail> {
+    let fetch = [Given::Sends(Sent::Fetch(16, ROOT, 3))];
+    Ok(gives(replica, alloc, new, &fetch)? && moves_in_time(replica, alloc, 1, OF_UPPER_HALF, 1)?)
+}
+
+fn claims_all_that_fit(alloc: Global) -> Result<bool, Fail> {
+    let trees = key_trees(alloc)?;
+    let config = config(alloc)?;
+    claims_from_the_start(alloc, &config, &trees)
+}
+
+fn claims_from_the_start(alloc: Global, config: &Config, trees: &[KeyTree]) -> Result<bool, Fail> {
+    let opening = (0, root_of(alloc, State::Behind(0))?);
+    let mut replica = new_replica(alloc, config, 3)?;
+    claims_and_moves(&mut replica, alloc, trees, opening)
+}
+
+fn claims_and_moves(
+    replica: &mut Replica,
+    alloc: Global,
+    trees: &[KeyTree],
+    opening: Start,
+) -> Result<bool, Fail> {
     Ok(
-        sends(replica, alloc, 3, new, &[fetch])?
-            && moves_in_time(replica, alloc, 1, OF_UPPER_HALF, 1)?,
+        claims_most(replica, alloc, trees, opening)?
+            && gives_for(replica, alloc, Sent::Request(1), &[])?
+            && moves_in_time(replica, alloc, 0, LONGEST, 0)?
+            && stays_with_one_more(replica, alloc, trees, opening)?
+            && moves_when_cut(replica, alloc, trees)?,
     )
 }
 
 #[test]
 fn claims_in_many_views(rt: HostRuntime) -> Result<(), Fail> {
-    let alloc = rt.alloc();
-    let trees = key_trees(alloc)?;
-    let opening = (0, root_of(alloc, State::Behind(0))?);
-    let mut replica = new_replica(alloc, &config(alloc)?, 3)?;
-    assert!(rt; claims_most(&mut replica, alloc, &trees, opening)?);
-    assert!(rt; gives_for(&mut replica, alloc, Sent::Request(1), &[])?);
-    assert!(rt; moves_in_time(&mut replica, alloc, 0, LONGEST, 0)?);
-    assert!(rt; stays_with_one_more(&mut replica, alloc, &trees, opening)?);
-    assert!(rt; moves_when_cut(&mut replica, alloc, &trees)?);
+    assert!(rt; claims_all_that_fit(rt.alloc())?);
     Ok(())
 }

@@ -1,6 +1,7 @@
 //! The frames of a run of requests, `out (n)` of client n - 1 at the number n, and those of checkpoints and transfers
-//! of its states, written by docs/formats.md without what reads them.
+//! of its states and views, written by docs/formats.md without what reads them.
 
+use crate::signed::{Begun, Change, change_frame, new_view_frame};
 use crate::states::{At, PAGE, State, children_at, page_text, root_of};
 use authenticator::hmac;
 use sha2::{Digest, Sha256};
@@ -12,8 +13,11 @@ pub const SEED: [u8; 32] = [7; 32];
 #[derive(Clone, Copy, Debug)]
 pub enum Sent {
     Request(u8),
-    /// A request of client 0 that asks for reads alone.
+    /// The read-only request of client 0 for a read, and for what takes a tuple.
     Read,
+    ReadOnlyTake,
+    /// The answer to the read from the state of this number, 0 or 1, of this replica.
+    ReadReply(u8, u8),
     PrePrepare(u8),
     /// The pre-prepare of this view and number, and in that view a prepare and a commit, by their senders.
     PrePrepareIn(u8, u8),
@@ -30,6 +34,8 @@ pub enum Sent {
     Fetch(u8, At, u8),
     /// The part of this state, from a replica to another one.
     Part(u8, State, At, u8, u8),
+    ViewChange(&'static Change),
+    NewView(&'static Begun),
 }
 
 // Parties are below this.
@@ -38,8 +44,15 @@ const PARTIES: u16 = 260;
 // The first client.
 const CLIENT: u16 = 256;
 
-// `rdp (*)`.
+// `rdp (*)`, and `inp (*)`.
 const READ: &[u8] = b"\x22\x01\x10";
+
+const TAKE: &[u8] = b"\x23\x01\x10";
+
+// `absent`, and the bytes in front of the number in `found (1)`.
+const ABSENT: &[u8] = b"\x33";
+
+const FOUND: &[u8] = b"\x32\x01\x01";
 
 /// A number in eight bytes.
 pub fn eight(number: u8) -> [u8; 8] {
@@ -170,6 +183,24 @@ fn reply(alloc: Global, number: u8, replica: u8) -> Result<Vec<u8>, AllocError> 
     )
 }
 
+// In the opening state nothing is found, and behind the first number its tuple.
+fn read_reply(alloc: Global, number: u8, replica: u8) -> Result<Vec<u8>, AllocError> {
+    let answer = if number == 0 {
+        joined(alloc, &[ABSENT])?
+    } else {
+        joined(alloc, &[FOUND, &eight(number)])?
+    };
+    let client = client_of(1).to_be_bytes();
+    let front = joined(alloc, &[&[0x48, 0, replica], &client, &eight(1)])?;
+    let body = joined(alloc, &[&front, &[1], &eight(number), &answer])?;
+    sealed(
+        alloc,
+        Sent::ReadReply(number, replica),
+        u16::from(replica),
+        &body,
+    )
+}
+
 fn checkpoint(alloc: Global, number: u8, state: State, replica: u8) -> Result<Vec<u8>, AllocError> {
     let root = root_of(alloc, state)?;
     let body = joined(alloc, &[&[0x45, 0, replica], &eight(number), &root])?;
@@ -211,6 +242,8 @@ pub fn frame_of(alloc: Global, sent: Sent) -> Result<Vec<u8>, AllocError> {
     match sent {
         Sent::Request(number) => out_request(alloc, number),
         Sent::Read => request(alloc, 1, 1, READ),
+        Sent::ReadOnlyTake => request(alloc, 1, 1, TAKE),
+        Sent::ReadReply(number, replica) => read_reply(alloc, number, replica),
         Sent::PrePrepare(number) => pre_prepare(alloc, 0, number, &batch(alloc, number)?),
         Sent::PrePrepareIn(view, number) => {
             pre_prepare(alloc, view, number, &batch(alloc, number)?)
@@ -227,13 +260,16 @@ pub fn frame_of(alloc: Global, sent: Sent) -> Result<Vec<u8>, AllocError> {
             let body = part_body(alloc, number, state, at, from)?;
             sealed(alloc, sent, u16::from(from), &body)
         }
+        Sent::ViewChange(change) => change_frame(alloc, change),
+        Sent::NewView(begun) => new_view_frame(alloc, begun),
     }
 }
 
 /// Whether the party of this number is one of those for whom it is.
 pub fn is_for(sent: Sent, party: u16) -> bool {
     match sent {
-        Sent::Request(_) | Sent::Read => party < 4,
+        Sent::Request(_) | Sent::Read | Sent::ReadOnlyTake => party < 4,
+        Sent::ReadReply(_, _) => party == CLIENT,
         Sent::PrePrepare(_) | Sent::Forged => party > 0 && party < 4,
         Sent::PrePrepareIn(view, _) => party < 4 && party != u16::from(primary_of(view)),
         Sent::Prepare(_, replica)
@@ -244,6 +280,8 @@ pub fn is_for(sent: Sent, party: u16) -> bool {
         | Sent::Fetch(_, _, replica) => party < 4 && party != u16::from(replica),
         Sent::Reply(number, _) => party == client_of(number),
         Sent::Part(_, _, _, _, to) => party == u16::from(to),
+        Sent::ViewChange(change) => party < 4 && party != u16::from(change.sender),
+        Sent::NewView(begun) => party < 4 && party != u16::from(begun.sender),
     }
 }
 

@@ -1,4 +1,4 @@
-//! A request that goes through the three phases.
+//! A request that goes through the three phases, and reads beside it.
 
 use crate::frames::Sent;
 use crate::replicas::{Given, Row, config, gives_all, new_replica};
@@ -7,7 +7,7 @@ use std::test::Fail;
 
 // The primary numbers the request, commits with prepares of two backups, executes with two commits beside its own, and
 // answers. What comes once more than it needs gives nothing.
-pub const AT_PRIMARY: [Row<'static>; 8] = [
+pub static AT_PRIMARY: [Row<'static>; 8] = [
     (Sent::Request(1), &[Given::Sends(Sent::PrePrepare(1))]),
     (Sent::Prepare(1, 1), &[]),
     (Sent::Prepare(1, 2), &[Given::Sends(Sent::Commit(1, 0))]),
@@ -22,7 +22,7 @@ pub const AT_PRIMARY: [Row<'static>; 8] = [
 ];
 
 // A backup prepares what the primary numbered, and commits with the prepare of another one.
-pub const AT_BACKUP: [Row<'static>; 8] = [
+pub static AT_BACKUP: [Row<'static>; 8] = [
     (Sent::Request(1), &[]),
     (Sent::PrePrepare(1), &[Given::Sends(Sent::Prepare(1, 1))]),
     (Sent::Prepare(1, 2), &[Given::Sends(Sent::Commit(1, 1))]),
@@ -37,7 +37,7 @@ pub const AT_BACKUP: [Row<'static>; 8] = [
 ];
 
 // The request comes to replica 2 inside the batch alone.
-const WITHOUT_REQUEST: [Row<'static>; 5] = [
+static WITHOUT_REQUEST: [Row<'static>; 5] = [
     (Sent::PrePrepare(1), &[Given::Sends(Sent::Prepare(1, 2))]),
     (Sent::Prepare(1, 3), &[Given::Sends(Sent::Commit(1, 2))]),
     (Sent::Commit(1, 0), &[]),
@@ -49,7 +49,7 @@ const WITHOUT_REQUEST: [Row<'static>; 5] = [
 ];
 
 // The votes come to replica 3 first, and the batch does the rest.
-const BACKWARDS: [Row<'static>; 6] = [
+static BACKWARDS: [Row<'static>; 6] = [
     (Sent::Commit(1, 0), &[]),
     (Sent::Commit(1, 1), &[]),
     (Sent::Prepare(1, 1), &[]),
@@ -67,7 +67,7 @@ const BACKWARDS: [Row<'static>; 6] = [
 ];
 
 // The request that waits comes again, and what was sent for its number goes out again.
-pub const AGAIN_AT_PRIMARY: [Row<'static>; 5] = [
+pub static AGAIN_AT_PRIMARY: [Row<'static>; 5] = [
     (Sent::Request(1), &[Given::Sends(Sent::PrePrepare(1))]),
     (Sent::Request(1), &[Given::Sends(Sent::PrePrepare(1))]),
     (Sent::Prepare(1, 1), &[]),
@@ -81,7 +81,7 @@ pub const AGAIN_AT_PRIMARY: [Row<'static>; 5] = [
     ),
 ];
 
-pub const AGAIN_AT_BACKUP: [Row<'static>; 6] = [
+pub static AGAIN_AT_BACKUP: [Row<'static>; 6] = [
     (Sent::Request(1), &[]),
     (Sent::Request(1), &[]),
     (Sent::PrePrepare(1), &[Given::Sends(Sent::Prepare(1, 1))]),
@@ -94,6 +94,20 @@ pub const AGAIN_AT_BACKUP: [Row<'static>; 6] = [
             Given::Sends(Sent::Commit(1, 1)),
         ],
     ),
+];
+
+// A read is answered at once from what is executed, by a replica that waits for others too, and again each time.
+static READS: [Row<'static>; 7] = [
+    (Sent::Read, &[Given::Sends(Sent::ReadReply(0, 1))]),
+    (Sent::PrePrepare(1), &[Given::Sends(Sent::Prepare(1, 1))]),
+    (Sent::Prepare(1, 2), &[Given::Sends(Sent::Commit(1, 1))]),
+    (Sent::Read, &[Given::Sends(Sent::ReadReply(0, 1))]),
+    (Sent::Commit(1, 2), &[]),
+    (
+        Sent::Commit(1, 3),
+        &[Given::Executes(1), Given::Sends(Sent::Reply(1, 1))],
+    ),
+    (Sent::Read, &[Given::Sends(Sent::ReadReply(1, 1))]),
 ];
 
 fn orders(alloc: Global, me: u8, rows: &[Row<'_>]) -> Result<bool, Fail> {
@@ -115,5 +129,11 @@ fn a_request_is_ordered(rt: HostRuntime) -> Result<(), Fail> {
 fn a_waiting_request_comes_again(rt: HostRuntime) -> Result<(), Fail> {
     assert!(rt; orders(rt.alloc(), 0, &AGAIN_AT_PRIMARY)?);
     assert!(rt; orders(rt.alloc(), 1, &AGAIN_AT_BACKUP)?);
+    Ok(())
+}
+
+#[test]
+fn reads_are_answered_beside_the_order(rt: HostRuntime) -> Result<(), Fail> {
+    assert!(rt; orders(rt.alloc(), 1, &READS)?);
     Ok(())
 }

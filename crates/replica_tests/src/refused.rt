@@ -2,15 +2,13 @@
 //! then the replica stops in that event, or gives what it gives.
 
 use crate::checkpoints::{BECOMES_STABLE, FREES_NUMBERS};
-use crate::frames::frame_of;
+use crate::frames::{Sent, frame_of};
 use crate::phases::{AGAIN_AT_BACKUP, AGAIN_AT_PRIMARY, AT_BACKUP, AT_PRIMARY};
-use crate::replicas::{Row, are_given, config_of_period, new_replica};
-use crate::signed::{change_frame, key_trees};
+use crate::replicas::{Given, Row, are_given, config_of_period, new_replica};
 use crate::transfers::{INSTALLS, NO_STATE};
-use crate::views::nothing_in;
+use crate::views::{self, JOINS, Turn};
 use events::{Config, Outputs, Stop};
 use replica::{Event, Replica};
-use signing::KeyTree;
 use std::alloc::{AllocError, Global};
 use std::test::Fail;
 use terms::NoMemory;
@@ -24,35 +22,84 @@ fn has_stopped(replica: &mut Replica, alloc: Global, stop: Stop) -> bool {
 }
 
 // The bytes, at the second try where memory ran out at the first one.
-fn bytes_of(alloc: Global, row: Row<'_>) -> Result<Vec<u8>, AllocError> {
-    match frame_of(alloc, row.0) {
+fn bytes_of(alloc: Global, sent: Sent) -> Result<Vec<u8>, AllocError> {
+    match frame_of(alloc, sent) {
         Ok(frame) => Ok(frame),
-        Err(_) => frame_of(alloc, row.0),
+        Err(_) => frame_of(alloc, sent),
     }
 }
 
-fn is_right(alloc: Global, outputs: &Outputs, row: Row<'_>) -> Result<bool, AllocError> {
-    match are_given(alloc, outputs, row.1) {
+fn is_right(alloc: Global, outputs: &Outputs, all: &[Given]) -> Result<bool, AllocError> {
+    match are_given(alloc, outputs, all) {
         Ok(holds) => Ok(holds),
-        Err(_) => are_given(alloc, outputs, row.1),
+        Err(_) => are_given(alloc, outputs, all),
     }
 }
 
-// Whether each event gives what it gives, up to one in which the replica stops.
+// Whether the event gives this; none, where the replica stops in it.
+fn hears_or_stops(
+    replica: &mut Replica,
+    alloc: Global,
+    event: Event<'_>,
+    all: &[Given],
+) -> Result<Option<bool>, AllocError> {
+    match replica.step(alloc, event) {
+        Ok(outputs) => {
+            let is_right = is_right(alloc, &outputs, all)?;
+            Ok(Some(is_right && !replica.is_stopped()))
+        }
+        Err(stop) => {
+            if has_stopped(replica, alloc, stop) {
+                Ok(None)
+            } else {
+                Ok(Some(false))
+            }
+        }
+    }
+}
+
 fn gives_or_stops(
+    replica: &mut Replica,
+    alloc: Global,
+    turn: Turn,
+    all: &[Given],
+) -> Result<Option<bool>, AllocError> {
+    match turn {
+        Turn::Comes(sent) => {
+            let frame = bytes_of(alloc, sent)?;
+            hears_or_stops(replica, alloc, Event::Got(frame.as_slice()), all)
+        }
+        Turn::Time => hears_or_stops(replica, alloc, Event::Timeout, all),
+    }
+}
+
+// Whether each frame gives what it gives, up to one in which the replica stops.
+fn gives_all_or_stops(
     replica: &mut Replica,
     alloc: Global,
     rows: &[Row<'_>],
 ) -> Result<bool, AllocError> {
-    for row in rows {
-        let frame = bytes_of(alloc, *row)?;
-        match replica.step(alloc, Event::Got(frame.as_slice())) {
-            Ok(outputs) => {
-                if !is_right(alloc, &outputs, *row)? || replica.is_stopped() {
-                    return Ok(false);
-                }
-            }
-            Err(stop) => return Ok(has_stopped(replica, alloc, stop)),
+    for (sent, all) in rows {
+        match gives_or_stops(replica, alloc, Turn::Comes(*sent), all)? {
+            Some(true) => {}
+            Some(false) => return Ok(false),
+            None => return Ok(true),
+        }
+    }
+    Ok(true)
+}
+
+// The same of what happens in turn.
+fn moves_or_stops(
+    replica: &mut Replica,
+    alloc: Global,
+    rows: &[views::Row<'_>],
+) -> Result<bool, AllocError> {
+    for (turn, all) in rows {
+        match gives_or_stops(replica, alloc, *turn, all)? {
+            Some(true) => {}
+            Some(false) => return Ok(false),
+            None => return Ok(true),
         }
     }
     Ok(true)
@@ -68,7 +115,7 @@ fn made(alloc: Global, config: &Config, me: u8) -> Result<Replica, NoMemory> {
 fn orders_or_stops(alloc: Global, me: u8, period: u8, rows: &[Row<'_>]) -> Result<bool, Fail> {
     let config = config_of_period(alloc, period)?;
     let mut replica = made(alloc, &config, me)?;
-    Ok(gives_or_stops(&mut replica, alloc, rows)?)
+    Ok(gives_all_or_stops(&mut replica, alloc, rows)?)
 }
 
 #[test]
@@ -104,90 +151,19 @@ fn refused_memory_where_states_are_fetched(rt: HostRuntime) -> Result<(), Fail> 
     Ok(())
 }
 
-fn trees(alloc: Global) -> Result<Vec<KeyTree>, AllocError> {
-    match key_trees(alloc) {
-        Ok(trees) => Ok(trees),
-        Err(_) => key_trees(alloc),
-    }
-}
-
-// The view change of a replica for view 2.
-fn change_of(alloc: Global, trees: &[KeyTree], replica: u8) -> Result<Vec<u8>, AllocError> {
-    match change_frame(alloc, trees, replica, 0, nothing_in(2)) {
-        Ok(frame) => Ok(frame),
-        Err(_) => change_frame(alloc, trees, replica, 0, nothing_in(2)),
-    }
-}
-
-// What happens to a replica.
-#[derive(Clone, Copy)]
-enum Comes<'a> {
-    Bytes(&'a [u8]),
-    Time,
-}
-
-impl<'a> Comes<'a> {
-    fn event(self) -> Event<'a> {
-        match self {
-            Comes::Bytes(bytes) => Event::Got(bytes),
-            Comes::Time => Event::Timeout,
-        }
-    }
-}
-
-// Whether the event gives so many outputs, and the replica goes on; none, where it stops in it.
-fn counts_or_stops(
-    replica: &mut Replica,
+fn joins_or_stops(
     alloc: Global,
-    event: Event<'_>,
-    count: usize,
-) -> Option<bool> {
-    match replica.step(alloc, event) {
-        Ok(outputs) => Some(outputs.len() == count && !replica.is_stopped()),
-        Err(stop) => {
-            if has_stopped(replica, alloc, stop) {
-                None
-            } else {
-                Some(false)
-            }
-        }
-    }
-}
-
-// Replica 2 joins replicas 1 and 3 in view 2, and begins it. It numbers a request there, and moves to view 3 in time.
-fn moves_or_stops(alloc: Global) -> Result<bool, Fail> {
-    let trees = trees(alloc)?;
-    let request = bytes_of(alloc, AT_PRIMARY[0])?;
-    let of_1 = change_of(alloc, &trees, 1)?;
-    let of_3 = change_of(alloc, &trees, 3)?;
-    let config = config_of_period(alloc, 16)?;
-    let mut replica = made(alloc, &config, 2)?;
-    Ok(all_count_or_stop(
-        &mut replica,
-        alloc,
-        &[
-            (Comes::Bytes(of_1.as_slice()), 0),
-            (Comes::Bytes(of_3.as_slice()), 2),
-            (Comes::Bytes(request.as_slice()), 1),
-            (Comes::Time, 1),
-        ],
-    ))
-}
-
-// Whether each event gives so many outputs, up to one in which the replica stops.
-fn all_count_or_stop(replica: &mut Replica, alloc: Global, all: &[(Comes<'_>, usize)]) -> bool {
-    for (comes, count) in all {
-        match counts_or_stops(replica, alloc, comes.event(), *count) {
-            Some(true) => {}
-            Some(false) => return false,
-            None => return true,
-        }
-    }
-    true
+    me: u8,
+    period: u8,
+    rows: &[views::Row<'_>],
+) -> Result<bool, Fail> {
+    let config = config_of_period(alloc, period)?;
+    let mut replica = made(alloc, &config, me)?;
+    Ok(moves_or_stops(&mut replica, alloc, rows)?)
 }
 
 #[test]
 fn refused_memory_where_views_change(rt: HostRuntime) -> Result<(), Fail> {
-    assert!(rt; moves_or_stops(rt.alloc())?);
+    assert!(rt; joins_or_stops(rt.alloc(), 2, 16, &JOINS)?);
     Ok(())
 }

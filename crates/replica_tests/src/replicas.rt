@@ -44,13 +44,6 @@ fn are_receivers(parties: &[Party], sent: Sent) -> bool {
         && parties.is_sorted_by(|one, next| one.number() < next.number())
 }
 
-/// Whether the parties are the three replicas beside this one, in order.
-pub fn are_for_others(parties: &[Party], me: u8) -> bool {
-    parties.len() == 3
-        && parties.iter().all(|party| party.number() < 4 && party.number() != u16::from(me))
-        && parties.is_sorted_by(|one, next| one.number() < next.number())
-}
-
 fn is_given(alloc: Global, output: &Output, given: Given) -> Result<bool, AllocError> {
     match (output, given) {
         (Output::Send(parties, frame), Given::Sends(sent)) => {

@@ -10,135 +10,165 @@ use terms::{Party, ReplicaId};
 /// A number and a view: the run's batch of this number was prepared, or logged, in this view.
 pub type Claim = (u8, u8);
 
-/// What a view change says beside its sender.
-#[derive(Clone, Copy)]
-pub struct Change<'a> {
+/// A view change.
+#[derive(Clone, Copy, Debug)]
+pub struct Change {
+    pub sender: u8,
+    /// Of the sender's tree the leaf that signs it, below 64.
+    pub leaf: u8,
     pub view: u8,
     pub low: u8,
     /// Of the numbers of these states it keeps the checkpoints.
-    pub kept: &'a [u8],
-    pub prepared: &'a [Claim],
-    pub logged: &'a [Claim],
+    pub kept: &'static [u8],
+    pub prepared: &'static [Claim],
+    pub logged: &'static [Claim],
+    /// Whether its signature is wrong.
+    pub is_forged: bool,
 }
 
-/// The key trees of replicas 0, 1, 2 and 3, each made once.
-pub fn key_trees(alloc: Global) -> Result<Vec<KeyTree>, AllocError> {
-    let mut trees = Vec::new(alloc);
-    for replica in 0..4 {
-        let party = Party::Replica(ReplicaId(replica));
-        trees.push(KeyTree::new(&signing_seed(&SEED, party)))?;
-    }
-    Ok(trees)
+/// A new view.
+#[derive(Clone, Copy, Debug)]
+pub struct Begun {
+    pub sender: u8,
+    pub leaf: u8,
+    pub view: u8,
+    pub changes: &'static [Change],
+    /// The number of the state that it starts from.
+    pub start: u8,
+    /// The numbers whose batches of the run it has; 0 stands for the null batch.
+    pub batches: &'static [u8],
+    pub is_forged: bool,
 }
 
-/// The frame of a body that a replica signs with this leaf, below 64.
-pub fn signed(
-    alloc: Global,
-    trees: &[KeyTree],
-    replica: u8,
-    leaf: u8,
-    body: &[u8],
-) -> Result<Vec<u8>, AllocError> {
+/// The key tree of a replica, by its number.
+pub fn key_tree(replica: u8) -> KeyTree {
+    let party = Party::Replica(ReplicaId(replica));
+    KeyTree::new(&signing_seed(&SEED, party))
+}
+
+/// The frame of a body that is signed with this leaf of a tree, below 64.
+pub fn signed(alloc: Global, tree: &KeyTree, leaf: u8, body: &[u8]) -> Result<Vec<u8>, AllocError> {
+    let signature = tree.sign_with(alloc, leaf % 64, body)?;
+    put_signature(alloc, body, signature.as_slice())
+}
+
+fn put_signature(alloc: Global, body: &[u8], signature: &[u8]) -> Result<Vec<u8>, AllocError> {
     let mut frame = piece(alloc, body)?;
     frame.push(1)?;
-    if let Some(tree) = trees.get(usize::from(replica)) {
-        let signature = tree.sign_with(alloc, leaf % 64, body)?;
-        frame.extend_from_slice(signature.as_slice())?;
+    frame.extend_from_slice(signature)?;
+    Ok(frame)
+}
+
+// Turns the lowest bit of the last byte, which is the signature's, where it is to be wrong.
+fn forge(frame: &mut [u8], is_forged: bool) {
+    if let Some(byte) = frame.last_mut() {
+        *byte ^= u8::from(is_forged);
     }
+}
+
+fn signed_by(
+    alloc: Global,
+    (sender, leaf): (u8, u8),
+    body: &[u8],
+    is_forged: bool,
+) -> Result<Vec<u8>, AllocError> {
+    let tree = key_tree(sender);
+    let mut frame = signed(alloc, &tree, leaf, body)?;
+    forge(&mut frame, is_forged);
     Ok(frame)
 }
 
 fn put_claims(alloc: Global, claims: &[Claim], out: &mut Vec<u8>) -> Result<(), AllocError> {
     out.extend_from_slice(&[0, (claims.len() & 0xff) as u8])?;
-    for (number, view) in claims {
-        out.extend_from_slice(&eight(*number))?;
-        out.extend_from_slice(&digest(alloc, *number)?)?;
-        out.extend_from_slice(&eight(*view))?;
+    for claim in claims {
+        put_claim(alloc, *claim, out)?;
     }
     Ok(())
+}
+
+fn put_claim(alloc: Global, (number, view): Claim, out: &mut Vec<u8>) -> Result<(), AllocError> {
+    let digest = digest(alloc, number)?;
+    out.extend_from_slice(&eight(number))?;
+    out.extend_from_slice(&digest)?;
+    out.extend_from_slice(&eight(view))
 }
 
 fn put_checkpoints(alloc: Global, kept: &[u8], out: &mut Vec<u8>) -> Result<(), AllocError> {
     out.push((kept.len() & 3) as u8)?;
     for number in kept {
-        out.extend_from_slice(&eight(*number))?;
-        out.extend_from_slice(&root_of(alloc, State::Behind(*number))?)?;
+        put_checkpoint(alloc, *number, out)?;
     }
     Ok(())
 }
 
-/// The body of a replica's view change.
-pub fn change_body(alloc: Global, replica: u8, change: Change<'_>) -> Result<Vec<u8>, AllocError> {
-    let mut body = joined(
-        alloc,
-        &[&[0x46, 0, replica], &eight(change.view), &eight(change.low)],
-    )?;
+fn put_checkpoint(alloc: Global, number: u8, out: &mut Vec<u8>) -> Result<(), AllocError> {
+    let root = root_of(alloc, State::Behind(number))?;
+    out.extend_from_slice(&eight(number))?;
+    out.extend_from_slice(&root)
+}
+
+fn change_body(alloc: Global, change: &Change) -> Result<Vec<u8>, AllocError> {
+    let mut body = Vec::new(alloc);
+    body.extend_from_slice(&[0x46, 0, change.sender])?;
+    body.extend_from_slice(&eight(change.view))?;
+    body.extend_from_slice(&eight(change.low))?;
     put_checkpoints(alloc, change.kept, &mut body)?;
     put_claims(alloc, change.prepared, &mut body)?;
     put_claims(alloc, change.logged, &mut body)?;
     Ok(body)
 }
 
-/// The frame of a replica's view change, signed with this leaf.
-pub fn change_frame(
-    alloc: Global,
-    trees: &[KeyTree],
-    replica: u8,
-    leaf: u8,
-    change: Change<'_>,
-) -> Result<Vec<u8>, AllocError> {
-    let body = change_body(alloc, replica, change)?;
-    signed(alloc, trees, replica, leaf, &body)
+/// The frame of a view change.
+pub fn change_frame(alloc: Global, change: &Change) -> Result<Vec<u8>, AllocError> {
+    let body = change_body(alloc, change)?;
+    signed_by(alloc, (change.sender, change.leaf), &body, change.is_forged)
 }
 
-/// What a new view says beside its sender and its view changes: its view, the state that it starts from, and the numbers
-/// whose batches of the run it has; 0 stands for the null batch.
-#[derive(Clone, Copy)]
-pub struct Begun<'a> {
-    pub view: u8,
-    pub start: u8,
-    pub batches: &'a [u8],
+fn put_change(alloc: Global, change: &Change, out: &mut Vec<u8>) -> Result<(), AllocError> {
+    let frame = change_frame(alloc, change)?;
+    let len = (frame.len() & 0xff_ffff) as u32;
+    out.extend_from_slice(&len.to_be_bytes())?;
+    out.extend_from_slice(&frame)
 }
 
-fn put_batches(alloc: Global, batches: &[u8], out: &mut Vec<u8>) -> Result<(), AllocError> {
-    out.push((batches.len() & 0x1f) as u8)?;
-    for number in batches {
-        if *number == 0 {
-            out.push(0)?;
-        } else {
-            out.extend_from_slice(&batch(alloc, *number)?)?;
-        }
+fn put_batch(alloc: Global, number: u8, out: &mut Vec<u8>) -> Result<(), AllocError> {
+    if number == 0 {
+        out.push(0)?;
+        return Ok(());
     }
-    Ok(())
+    let batch = batch(alloc, number)?;
+    out.extend_from_slice(&batch)
 }
 
-/// The body of a replica's new view over these view changes.
-pub fn new_view_body(
-    alloc: Global,
-    replica: u8,
-    changes: &[&[u8]],
-    begun: Begun<'_>,
-) -> Result<Vec<u8>, AllocError> {
-    let count = (changes.len() & 7) as u8;
-    let mut body = joined(alloc, &[&[0x47, 0, replica], &eight(begun.view), &[count]])?;
-    for change in changes {
-        let change = piece(alloc, change)?;
-        body.extend_from_slice(&change)?;
-    }
+fn new_view_body(alloc: Global, begun: &Begun) -> Result<Vec<u8>, AllocError> {
+    let mut body = Vec::new(alloc);
+    body.extend_from_slice(&[0x47, 0, begun.sender])?;
+    body.extend_from_slice(&eight(begun.view))?;
+    put_changes(alloc, begun.changes, &mut body)?;
     body.extend_from_slice(&eight(begun.start))?;
     body.extend_from_slice(&root_of(alloc, State::Behind(begun.start))?)?;
     put_batches(alloc, begun.batches, &mut body)?;
     Ok(body)
 }
 
-/// The frame of a replica's new view, signed with this leaf.
-pub fn new_view_frame(
-    alloc: Global,
-    trees: &[KeyTree],
-    (replica, leaf): (u8, u8),
-    changes: &[&[u8]],
-    begun: Begun<'_>,
-) -> Result<Vec<u8>, AllocError> {
-    let body = new_view_body(alloc, replica, changes, begun)?;
-    signed(alloc, trees, replica, leaf, &body)
+fn put_changes(alloc: Global, changes: &[Change], out: &mut Vec<u8>) -> Result<(), AllocError> {
+    out.push((changes.len() & 7) as u8)?;
+    for change in changes {
+        put_change(alloc, change, out)?;
+    }
+    Ok(())
+}
+
+fn put_batches(alloc: Global, batches: &[u8], out: &mut Vec<u8>) -> Result<(), AllocError> {
+    out.push((batches.len() & 0x1f) as u8)?;
+    for number in batches {
+        put_batch(alloc, *number, out)?;
+    }
+    Ok(())
+}
+
+/// The frame of a new view.
+pub fn new_view_frame(alloc: Global, begun: &Begun) -> Result<Vec<u8>, AllocError> {
+    let body = new_view_body(alloc, begun)?;
+    signed_by(alloc, (begun.sender, begun.leaf), &body, begun.is_forged)
 }

@@ -15,7 +15,7 @@ const TWO: State = State::Behind(2);
 
 // A quorum is ahead: its state is fetched, depth first where digests differ, and installed. It is kept then, and the
 // opening state is given up.
-pub const INSTALLS: [Row<'static>; 15] = [
+pub static INSTALLS: [Row<'static>; 15] = [
     (Sent::Checkpoint(1, ONE, 0), &[]),
     (Sent::Checkpoint(1, ONE, 1), &[]),
     (
@@ -61,7 +61,7 @@ pub const INSTALLS: [Row<'static>; 15] = [
 ];
 
 // What is committed above is executed behind the installation.
-const EXECUTES_BEHIND: [Row<'static>; 14] = [
+static EXECUTES_BEHIND: [Row<'static>; 14] = [
     (Sent::PrePrepare(2), &[Given::Sends(Sent::Prepare(2, 3))]),
     (Sent::Prepare(2, 1), &[Given::Sends(Sent::Commit(2, 3))]),
     (Sent::Commit(2, 0), &[]),
@@ -109,7 +109,7 @@ const EXECUTES_BEHIND: [Row<'static>; 14] = [
 
 // Parts that come where none is asked for, and parts of other states, of another number and of other places change
 // nothing.
-const REFUSED: [Row<'static>; 23] = [
+static REFUSED: [Row<'static>; 23] = [
     (Sent::Part(1, ONE, ROOT, 0, 3), &[]),
     (Sent::Checkpoint(1, ONE, 0), &[]),
     (Sent::Checkpoint(1, ONE, 1), &[]),
@@ -160,7 +160,7 @@ const REFUSED: [Row<'static>; 23] = [
 ];
 
 // Pages that have the root, and are no state's: the last one counts as if it hadn't come, as often as it comes.
-pub const NO_STATE: [Row<'static>; 14] = [
+pub static NO_STATE: [Row<'static>; 14] = [
     (Sent::Checkpoint(1, State::NoState, 0), &[]),
     (Sent::Checkpoint(1, State::NoState, 1), &[]),
     (
@@ -202,7 +202,7 @@ pub const NO_STATE: [Row<'static>; 14] = [
 ];
 
 // Pages of the state of another number than was asked for.
-const OF_ANOTHER_NUMBER: [Row<'static>; 11] = [
+static OF_ANOTHER_NUMBER: [Row<'static>; 11] = [
     (Sent::Checkpoint(2, ONE, 0), &[]),
     (Sent::Checkpoint(2, ONE, 1), &[]),
     (
@@ -238,7 +238,7 @@ const OF_ANOTHER_NUMBER: [Row<'static>; 11] = [
 ];
 
 // The pages of a state that knows less of a client than the own one.
-const TIME_FALLS: [Row<'static>; 17] = [
+static TIME_FALLS: [Row<'static>; 17] = [
     (Sent::PrePrepare(1), &[Given::Sends(Sent::Prepare(1, 3))]),
     (Sent::Prepare(1, 1), &[Given::Sends(Sent::Commit(1, 3))]),
     (Sent::Commit(1, 0), &[]),
@@ -290,7 +290,7 @@ const TIME_FALLS: [Row<'static>; 17] = [
 ];
 
 // A newer checkpoint overtakes. Pages that were fetched serve on, and the one that was given back is fetched anew.
-const OVERTAKES: [Row<'static>; 10] = [
+static OVERTAKES: [Row<'static>; 10] = [
     (Sent::Checkpoint(2, TWO, 0), &[]),
     (Sent::Checkpoint(2, TWO, 1), &[]),
     (
@@ -328,7 +328,7 @@ const OVERTAKES: [Row<'static>; 10] = [
 ];
 
 // And in the midst of a transfer: an answer for the older one comes too late.
-const OVERTAKES_EARLY: [Row<'static>; 18] = [
+static OVERTAKES_EARLY: [Row<'static>; 18] = [
     (Sent::Checkpoint(1, ONE, 0), &[]),
     (Sent::Checkpoint(1, ONE, 1), &[]),
     (
@@ -389,7 +389,7 @@ const OVERTAKES_EARLY: [Row<'static>; 18] = [
 ];
 
 // Executions reach the number first, and the transfer is over.
-const REACHES: [Row<'static>; 11] = [
+static REACHES: [Row<'static>; 11] = [
     (Sent::Checkpoint(1, ONE, 0), &[]),
     (Sent::Checkpoint(1, ONE, 1), &[]),
     (
@@ -420,7 +420,7 @@ const REACHES: [Row<'static>; 11] = [
 ];
 
 // Executions below the number change what differs: the pages that number 1 made are fetched no more.
-const GOES_ON: [Row<'static>; 14] = [
+static GOES_ON: [Row<'static>; 14] = [
     (Sent::Checkpoint(2, TWO, 0), &[]),
     (Sent::Checkpoint(2, TWO, 1), &[]),
     (

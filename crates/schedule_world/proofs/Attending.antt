@@ -8,7 +8,7 @@ use Rattle.protocol.specs.System.Configuration.{Configuration, IsConfiguration, 
 use Rattle.protocol.specs.System.Trace.{Entry, party_of, is_output, history_of}
 use Rattle.protocol.specs.System.Trace.Entry.{Invoke}
 use Rattle.protocol.specs.Client.RightClient.{last_call, open_call}
-use Rattle.replica_histories.specs.Owing.{IsOrderingReplica}
+use Rattle.protocol.specs.Replica.Owed.{IsReplica}
 use Rattle.events.specs.declared.output.Output.{Output}
 use Rattle.events.specs.declared.output.Output.TheVariants as outputs
 use Rattle.events.specs.Outputs.{entry_of, behind, after_event}
@@ -49,11 +49,11 @@ replica_input p replica_events.Timeout = (refl, refl)
 abbrev pub AreNumbered : Configuration → List ReplicaData → Type 0
 AreNumbered c rs = (length rs ≡ replicas c) × ((p : ℕ) (d : ReplicaData) → p < length rs → replica_fits.me_of (get_or rs p d) ≡ p)
 
-pub are_ordering : (c : Configuration) (trace : List Entry) (rs : List ReplicaData) (seats : List Seat) (d : ReplicaData) → AreNumbered c rs → Attend c trace rs seats
-    → (q : ℕ) → is_correct_replica c q ≡ true → IsOrderingReplica c q (history_of q trace)
-are_ordering c trace rs seats d numbered attend q correct =
+pub are_replicas : (c : Configuration) (trace : List Entry) (rs : List ReplicaData) (seats : List Seat) (d : ReplicaData) → AreNumbered c rs → Attend c trace rs seats
+    → (q : ℕ) → is_correct_replica c q ≡ true → IsReplica c q (history_of q trace)
+are_replicas c trace rs seats d numbered attend q correct =
     let below = replica_below c q correct in
-    subst (λ n. IsOrderingReplica c n (history_of q trace)) (numbered.1 q d (omega (arith, numbered.0, below))) (attend.replicas q d correct).right
+    subst (λ n. IsReplica c n (history_of q trace)) (numbered.1 q d (omega (arith, numbered.0, below))) (attend.replicas q d correct).right
 
 pub attend_replica : (c : Configuration) (trace : List Entry) (rs new : List ReplicaData) (seats : List Seat) (p : ℕ) (event : ReplicaEvent) (outs : List Output)
     → IsConfiguration c → AreNumbered c rs → Attend c trace rs seats → is_correct_replica c p ≡ true → Moves rs p event outs new → AreOf p (map (entry_of p) outs)

@@ -6,65 +6,70 @@ use Rattle.std.proofs.lemmas.Option.{slice_get_within, get_or_from_slice_get}
 use Rattle.protocol.specs.System.Configuration.{Configuration, is_correct_replica, is_correct_client}
 use Rattle.protocol.specs.System.Trace.{history_of}
 use Rattle.protocol.specs.System.Schedule.{World, IsAllowed}
-use Rattle.protocol.specs.Client.RightClient.{IsWeakClient}
-use Rattle.protocol.proofs.Words.Reacting.{is_weak_right}
-use Rattle.protocol.proofs.Points.Weakly.{weak_is_one_space}
-use Rattle.replica_histories.specs.Owing.{IsOrderingReplica}
-use Rattle.replica_histories.proofs.Parting.{ordering_is_safe}
+use Rattle.protocol.specs.System.Run.{IsRun}
+use Rattle.protocol.specs.Client.RightClient.{IsClient}
+use Rattle.protocol.specs.Replica.Owed.{IsReplica}
+use Rattle.protocol.specs.Space.Linear.{points}
+use Rattle.protocol.proofs.Points.Whole.{points_are_linear}
+use Rattle.points.specs.PointView.{items_of}
 use Rattle.schedule_text.specs.declared.step.Step.{Step}
 use Rattle.schedule_text.specs.StepView.{step_of}
 use Rattle.schedule_world.specs.declared.report.Report.{Report}
 use Rattle.schedule_world.specs.declared.stage.Seat.{Seat}
 use Rattle.schedule_world.specs.declared.stage.Stage.{Stage}
 use Rattle.schedule_world.specs.Stages.{IsSeated, Stands, At, acceptance_of}
-use Rattle.schedule_world.specs.Reports.{IsOrderingRun, Tells, StopsHere}
-use Rattle.schedule_world.proofs.Attending.{are_ordering, replica_below}
+use Rattle.schedule_world.specs.Reports.{Tells, StopsHere}
+use Rattle.schedule_world.proofs.Attending.{are_replicas, replica_below}
 use Rattle.schedule_world.proofs.Standing.{client_within, client_of}
 use Rattle.schedule_world.proofs.Reached.{reaches_end}
 use Rattle.schedule_world.proofs.Taking.{one_of_them}
 
 module _ (c : Configuration) (s : Stage) (seated : IsSeated c s) (w : World) (st : Stands c w s) where
-  weak : (k : ℕ) → is_correct_client c (256 + k) ≡ true → IsWeakClient c (256 + k) (history_of (256 + k) w.past)
-  weak k h =
+  client : (k : ℕ) → is_correct_client c (256 + k) ≡ true → IsClient c (256 + k) (history_of (256 + k) w.past)
+  client k h =
       let within = client_within c s k seated h in
       let d : Seat = one_of_them s.seats.items k within in
-      subst (λ n. IsWeakClient c (256 + n) (history_of (256 + k) w.past)) (seated.client_numbers k d within) (st.attend.clients k d h).0.right
+      subst (λ n. IsClient c (256 + n) (history_of (256 + k) w.past)) (seated.client_numbers k d within) (st.attend.clients k d h).0.right
 
-  clients : (p : ℕ) → is_correct_client c p ≡ true → IsWeakClient c p (history_of p w.past)
+  clients : (p : ℕ) → is_correct_client c p ≡ true → IsClient c p (history_of p w.past)
   clients p h =
       let k = client_of c p h in
-      subst (λ q. IsWeakClient c q (history_of q w.past)) (sym k.1) (weak k.0 k.2)
+      subst (λ q. IsClient c q (history_of q w.past)) (sym k.1) (client k.0 k.2)
 
-  replicas : (p : ℕ) → is_correct_replica c p ≡ true → IsOrderingReplica c p (history_of p w.past)
+  replicas : (p : ℕ) → is_correct_replica c p ≡ true → IsReplica c p (history_of p w.past)
   replicas p h =
       let below = replica_below c p h in
       let d = one_of_them s.replicas.items p (omega (arith, below, seated.replicas)) in
-      are_ordering c w.past s.replicas.items s.seats.items d (seated.replicas, seated.numbers) st.attend p h
+      are_replicas c w.past s.replicas.items s.seats.items d (seated.replicas, seated.numbers) st.attend p h
 
-  pub is_ordering_run : IsOrderingRun c w.past
-  is_ordering_run = record {
+  pub is_run : IsRun c w.past
+  is_run = record {
     clients = clients;
     replicas = replicas;
-    orderly = st.orderly;
-    one_space = λ unforged apart. weak_is_one_space c seated.valid w.past
-        (λ p h. ordering_is_safe c p (history_of p w.past) (replicas p h)) (λ p h. is_weak_right c p (history_of p w.past) (clients p h)) st.orderly.parties unforged apart;
+    parties = st.orderly.parties;
+    events = st.orderly.events;
   }
 
-pub tells : (c : Configuration) (steps : List Step) (s : Stage) (report : Report) → IsSeated c s → At c (map step_of steps) [] s → report.trace ≡ s.trace → report.accepted ≡ s.accepted → report.points.items ≡ [] → Tells c steps report
-tells c steps s report seated at trace accepted points =
-    let same : reverse report.trace.items ≡ at.world.past = ap (λ v. reverse v.items) trace ∙ at.stands.shows.past in
+pub tells : (c : Configuration) (steps : List Step) (s : Stage) (report : Report) → IsSeated c s → At c (map step_of steps) [] s → report.trace ≡ s.trace → report.accepted ≡ s.accepted
+    → items_of report.points.items ≡ points c (reverse s.trace.items) → Tells c steps report
+tells c steps s report seated at trace accepted found =
+    let shown : reverse s.trace.items ≡ at.world.past = at.stands.shows.past in
+    let same : reverse report.trace.items ≡ at.world.past = ap (λ v. reverse v.items) trace ∙ shown in
+    let run : IsRun c at.world.past = is_run c s seated at.world at.stands in
+    let are : items_of report.points.items ≡ points c at.world.past = found ∙ ap (points c) shown in
     record {
       feeds = rw same (at.world, reaches_end c (map step_of steps) at.world at.reaches);
-      run = rw same (is_ordering_run c s seated at.world at.stands);
+      run = rw same run;
       accepted = rw same (ap (λ v. map acceptance_of v.items) accepted ∙ at.stands.shows.accepted);
-      points = points;
+      points = rw same are;
+      linear = rw (same, are) (λ unforged apart. points_are_linear c seated.valid at.world.past run unforged apart);
     }
 
 pub stops_here : (c : Configuration) (steps : List Step) (n : ℕ) (s : Stage) (step : Step) → IsSeated c s → At c (map step_of (take n steps)) [] s → slice_get steps n ≡ Some step
     → ((w : World) → Stands c w s → IsAllowed c w (step_of step) → ⊥) → StopsHere c steps n
 stops_here c steps n s step seated at is refused = record {
   trace = at.world.past;
-  run = is_ordering_run c s seated at.world at.stands;
+  run = is_run c s seated at.world at.stands;
   world = at.world;
   goes = reaches_end c (map step_of (take n steps)) at.world at.reaches;
   step = step;

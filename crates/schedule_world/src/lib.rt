@@ -2,11 +2,11 @@
 //!
 //! # What is proved
 //!
-//! [`run`] gives a trace that the schedule feeds, with the acceptances in it and their positions. In it each correct
-//! client's history is a weak client's, and each correct replica's that of a replica which orders requests, transfers
-//! states and changes views (`IsOrderingReplica`), safe and with all that it owes so far, reads left out. Where the
-//! trace is unforged and its texts do not collide, it is that of one space. A schedule is refused exactly at its first
-//! step that may not come, in the world that such a run has made of the steps before it.
+//! [`run`] gives a trace that the schedule feeds, and that is a run's (`IsRun`): in it each correct replica's history and
+//! each correct client's is that of a correct one. With it come the acceptances in it, at their positions, and its points.
+//! Where no message of a correct party is forged and no two texts have one digest, the points are those of one sequential
+//! tuple space: they are legal, cover the trace, and stand between invocations and acceptances. A schedule is refused
+//! exactly at its first step that may not come, in the world that such a run has made of the steps before it.
 #![tactic(auto)]
 
 mod making;
@@ -16,5 +16,6 @@ mod report;
 mod running;
 mod stage;
 
-pub use report::{Acceptance, Point, Report};
+pub use points::Point;
+pub use report::{Acceptance, Report};
 pub use running::{RunFault, run};

@@ -1,9 +1,10 @@
 //! What a run comes to.
 
 use events::Entry;
+use points::Point;
 use std::alloc::Global;
 use terms::{ClientId, Timestamp};
-use tuple_codec::{Answer, Op};
+use tuple_codec::Answer;
 
 /// An answer that a client accepted.
 #[derive(Drop)]
@@ -15,16 +16,6 @@ pub struct Acceptance {
     pub answer: Answer<Global>,
 }
 
-/// An operation that acted, at a position of the trace.
-#[derive(Drop)]
-pub struct Point {
-    pub client: ClientId,
-    pub timestamp: Timestamp,
-    pub op: Op<Global>,
-    pub answer: Answer<Global>,
-    pub position: usize,
-}
-
 /// What a run comes to.
 #[derive(Drop)]
 pub struct Report {
@@ -32,6 +23,6 @@ pub struct Report {
     pub trace: Vec<Entry>,
     /// In order of position.
     pub accepted: Vec<Acceptance>,
-    /// In order. There are none as long as clients are weak.
+    /// What acted, in the order of one sequential space.
     pub points: Vec<Point>,
 }

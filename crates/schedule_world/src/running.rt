@@ -17,6 +17,7 @@ use crate::receivers::{is_correct, is_party, is_replica, may_receive};
 use crate::report::Report;
 use crate::stage::Stage;
 use events::Config;
+use points::points;
 use schedule_text::Step;
 use signing::LEAVES;
 use std::alloc::Global;
@@ -46,7 +47,10 @@ impl From<NoMemory> for RunFault {
     }
 }
 
-/// Plays the steps, each where those before it have led.
+/// Plays the steps, each where those before it have led. Over every schedule in which at most `f` of the `3f + 1` replicas
+/// and any clients are faulty, what correct clients accept, of reads and writes alike, is what one sequential tuple space
+/// answers, in which each operation acts at most once, an accepted one exactly once, at a position between its invocation
+/// and its acceptance (Herlihy and Wing, Linearizability, TOPLAS 1990).
 ///
 /// # Errors
 ///
@@ -67,10 +71,11 @@ pub fn run(alloc: Global, config: &Config, steps: &[Step]) -> Result<Report, Run
         accepted,
         ..
     } = stage;
+    let points = points(alloc, config, trace.as_slice())?;
     Ok(Report {
         trace,
         accepted,
-        points: Vec::new(alloc),
+        points,
     })
 }
 

@@ -1,6 +1,9 @@
 //! Runs in which all are correct.
 
-use crate::reports::{REPLY, Row, accepts, execute, execution, is_accepted, kind_of, sent};
+use crate::reports::{
+    PointRow, REPLY, REQUEST, Row, accepts, are_accepted_at, execute, execution, has_points,
+    is_accepted, kind_of, sent,
+};
 use crate::worlds::{put_steps, report_of, report_of_lines, world};
 use events::Config;
 use schedule_text::Step;
@@ -13,8 +16,8 @@ const REPLICAS: [u8; 4] = [0, 1, 2, 3];
 // Counted by the protocol: a request, a pre-prepare, three prepares, four commits and four replies are sent, and got 4,
 // 3, 9, 12 and 4 times; with the call, four executions and the acceptance there are 51 entries. Frames are got in the
 // order in which they were made. A backup commits with a second prepare beside its own, the primary with two, and each
-// executes with two commits beside its own. The second of two equal replies ends the call.
-const EXECUTED_AT: [(usize, u8); 4] = [(30, 0), (33, 1), (38, 2), (41, 3)];
+// executes with two commits beside its own. The third of equal replies ends the call.
+static EXECUTED_AT: [(usize, u8); 4] = [(30, 0), (33, 1), (38, 2), (41, 3)];
 
 fn executes_at(report: &Report, (position, replica): (usize, u8)) -> bool {
     match report.trace.get(position) {
@@ -23,35 +26,42 @@ fn executes_at(report: &Report, (position, replica): (usize, u8)) -> bool {
     }
 }
 
-fn accepts_at(report: &Report, position: usize) -> bool {
-    match report.accepted.first() {
-        Some(acceptance) => acceptance.position == position,
-        None => false,
-    }
-}
+// A read has 15: the call, its request, which is got 4 times and each time answered at once, 4 replies that are got, and
+// the acceptance behind the third of them.
+static ACCEPTED_AT: [usize; 2] = [49, 64];
 
-fn is_first_call(alloc: Global) -> bool {
-    let Some(report) = report_of_lines(alloc, 1, &["invoke 0 out (1)", "flush"]) else {
+// A write acts where a third replica executes it, and a read of what is executed everywhere where it is called.
+static WRITE_AND_READ: [PointRow<'static>; 2] = [
+    (38, 0, 1, "out (1)", "done"),
+    (51, 0, 2, "rdp (*)", "found (1)"),
+];
+
+fn are_write_and_read(alloc: Global) -> bool {
+    let lines = ["invoke 0 out (1)", "flush", "invoke 0 rdp (*)", "flush"];
+    let Some(report) = report_of_lines(alloc, 1, &lines) else {
         return false;
     };
-    report.trace.len() == 51
+    report.trace.len() == 51 + 15
         && EXECUTED_AT.iter().all(|row| executes_at(&report, *row))
         && execute(alloc, &report, &REPLICAS, &[1])
-        && accepts(alloc, &report, &[(0, 1, "done")])
-        && accepts_at(&report, 48)
+        && accepts(alloc, &report, &[(0, 1, "done"), (0, 2, "found (1)")])
+        && are_accepted_at(&report, &ACCEPTED_AT)
+        && has_points(alloc, &report, &WRITE_AND_READ)
 }
 
 #[test]
-fn a_call_has_51_entries(rt: HostRuntime) {
-    assert!(rt; is_first_call(rt.alloc()));
+fn a_write_has_51_entries_and_a_read_15(rt: HostRuntime) {
+    assert!(rt; are_write_and_read(rt.alloc()));
 }
 
-// Schedules of two clients, and what is accepted.
-type Case<'a> = (&'a [&'a str], &'a [Row<'a>]);
+// Schedules, what is accepted, and the points. Here and below the positions of points in longer traces come from an
+// implementation in Python.
+type Case<'a> = (&'a [&'a str], &'a [Row<'a>], &'a [PointRow<'a>]);
 
-const CASES: [Case<'static>; 4] = [
-    (&[], &[]),
-    (&["invoke 0 out (1)", "tick c0", "tick r0"], &[]),
+// Those of two clients.
+static CASES: [Case<'static>; 4] = [
+    (&[], &[], &[]),
+    (&["invoke 0 out (1)", "tick c0", "tick r0"], &[], &[]),
     (
         &[
             "invoke 0 cas (\"k\" *) (\"k\" 1)",
@@ -65,6 +75,11 @@ const CASES: [Case<'static>; 4] = [
             (1, 1, "swapped false"),
             (0, 2, "found (\"k\" 1)"),
         ],
+        &[
+            (64, 0, 1, "cas (\"k\" *) (\"k\" 1)", "swapped true"),
+            (84, 1, 1, "cas (\"k\" *) (\"k\" 2)", "swapped false"),
+            (102, 0, 2, "rdp (\"k\" *)", "found (\"k\" 1)"),
+        ],
     ),
     (
         &[
@@ -76,12 +91,17 @@ const CASES: [Case<'static>; 4] = [
             "flush",
         ],
         &[(0, 1, "done"), (0, 2, "found (1)"), (1, 1, "absent")],
+        &[
+            (38, 0, 1, "out (1)", "done"),
+            (89, 0, 2, "inp (?int)", "found (1)"),
+            (102, 1, 1, "rdp (*)", "absent"),
+        ],
     ),
 ];
 
-fn is_accepted_in(alloc: Global, (lines, rows): Case<'_>) -> bool {
+fn is_accepted_in(alloc: Global, (lines, rows, points): Case<'_>) -> bool {
     match report_of_lines(alloc, 2, lines) {
-        Some(report) => accepts(alloc, &report, rows),
+        Some(report) => accepts(alloc, &report, rows) && has_points(alloc, &report, points),
         None => false,
     }
 }
@@ -94,7 +114,7 @@ fn answers(rt: HostRuntime) {
 }
 
 // The type bytes of a request, a pre-prepare, a prepare, a commit and a reply.
-const KINDS: [u8; 5] = [0x41, 0x42, 0x43, 0x44, REPLY];
+const KINDS: [u8; 5] = [REQUEST, 0x42, 0x43, 0x44, REPLY];
 
 // Who sent each frame, and its type byte.
 fn sent_kinds(alloc: Global, report: &Report) -> Result<Vec<(Party, Option<u8>)>, NoMemory> {
@@ -176,7 +196,7 @@ fn put_backwards(alloc: Global, config: &Config, steps: &mut Vec<Step>) -> Resul
     Ok(true)
 }
 
-fn accepts_backwards(alloc: Global, lines: &[&str], rows: &[Row<'_>]) -> bool {
+fn accepts_backwards(alloc: Global, (lines, rows, points): Case<'_>) -> bool {
     let Some(config) = world(alloc, 1, &[], &[]) else {
         return false;
     };
@@ -187,19 +207,34 @@ fn accepts_backwards(alloc: Global, lines: &[&str], rows: &[Row<'_>]) -> bool {
         return false;
     }
     match report_of(alloc, &config, steps.as_slice()) {
-        Some(report) => accepts(alloc, &report, rows),
+        Some(report) => accepts(alloc, &report, rows) && has_points(alloc, &report, points),
         None => false,
     }
 }
 
+// What comes behind that call, whose tuple is there once.
+static BEHIND: [Case<'static>; 3] = [
+    (&[], &[(0, 1, "done")], &[(68, 0, 1, "out (1)", "done")]),
+    (
+        &["flush"],
+        &[(0, 1, "done")],
+        &[(68, 0, 1, "out (1)", "done")],
+    ),
+    (
+        &["flush", "invoke 0 rdAll 64 (*)", "flush"],
+        &[(0, 1, "done"), (0, 2, "all 1 (1)")],
+        &[
+            (68, 0, 1, "out (1)", "done"),
+            (90, 0, 2, "rdAll 64 (*)", "all 1 (1)"),
+        ],
+    ),
+];
+
 #[test]
 fn frames_that_come_twice_and_backwards(rt: HostRuntime) {
-    let done = [(0, 1, "done")];
-    assert!(rt; accepts_backwards(rt.alloc(), &[], &done));
-    assert!(rt; accepts_backwards(rt.alloc(), &["flush"], &done));
-    let lines = ["flush", "invoke 0 rdAll 64 (*)", "flush"];
-    let read = [(0, 1, "done"), (0, 2, "all 1 (1)")];
-    assert!(rt; accepts_backwards(rt.alloc(), &lines, &read));
+    for case in BEHIND {
+        assert!(rt; accepts_backwards(rt.alloc(), case), "{:?}", case.0);
+    }
 }
 
 const ALL: &str =
@@ -252,8 +287,9 @@ fn are_done_and_read(alloc: Global, report: &Report) -> bool {
 fn are_in_four_batches(alloc: Global) -> bool {
     match report_of_twenty(alloc) {
         Some(report) => {
-            execute(alloc, &report, &REPLICAS, &[1, 1, 16, 2, 1])
+            execute(alloc, &report, &REPLICAS, &[1, 1, 16, 2])
                 && are_done_and_read(alloc, &report)
+                && report.points.len() == 21
         }
         None => false,
     }

@@ -1,7 +1,7 @@
 //! Checkpoints, marks that move, and a replica that fetches the state of the others.
 
 use crate::frames::{out_op, sealed_request};
-use crate::reports::{Row, accepts, count_of, execute, kind_of, sent};
+use crate::reports::{Row, accepts, count_of, execute, executes_one, kind_of, sent};
 use crate::worlds::{put_steps, report_of, world_of_period};
 use events::EntryKind;
 use schedule_text::Step;
@@ -40,7 +40,7 @@ fn a_checkpoint_at_each_second_number(rt: HostRuntime) {
 }
 
 // Three clients' requests come to the primary.
-const THREE: [&str; 6] = [
+static THREE: [&str; 6] = [
     "invoke 0 out (1)",
     "invoke 1 out (2)",
     "invoke 2 out (3)",
@@ -49,7 +49,7 @@ const THREE: [&str; 6] = [
     "deliver 2 r0",
 ];
 
-const DONE: [Row<'static>; 3] = [(0, 1, "done"), (1, 1, "done"), (2, 1, "done")];
+static DONE: [Row<'static>; 3] = [(0, 1, "done"), (1, 1, "done"), (2, 1, "done")];
 
 // With a period of 1 there are two numbers for them.
 fn two_are_numbered(alloc: Global) -> bool {
@@ -143,7 +143,7 @@ fn report_of_lagging(alloc: Global, period: u8, lines: &[&str]) -> Option<Report
 }
 
 // What differs are the root, and in three inner parts the pages of the tuple, of client 1 and of the header.
-const OF_ONE: [Place; 7] = [
+static OF_ONE: [Place; 7] = [
     (1, 0, [0, 0]),
     (1, 1, [0, 0]),
     (1, 2, [0, 0]),
@@ -172,7 +172,7 @@ fn catches_up(alloc: Global) -> bool {
 }
 
 // With a period of 2 it has the next number's batch, but not the one before it, and fetches the state of both.
-const OF_TWO: [Place; 9] = [
+static OF_TWO: [Place; 9] = [
     (2, 0, [0, 0]),
     (2, 1, [0, 0]),
     (2, 2, [0, 0]),
@@ -184,11 +184,15 @@ const OF_TWO: [Place; 9] = [
     (2, 2, [2, 0]),
 ];
 
-// Replica 3 goes on with number 3, and answers as the others do.
+static OF_THREE: [Row<'static>; 3] = [(0, 1, "done"), (0, 2, "done"), (0, 3, "all 3 (5) (6) (7)")];
+
+// Replica 3 goes on with number 3.
 fn goes_on(alloc: Global) -> bool {
     let lines = [
         "flush",
         "invoke 0 out (6)",
+        "flush",
+        "invoke 0 out (7)",
         "flush",
         "invoke 0 rdAll 64 (*)",
         "flush",
@@ -198,7 +202,8 @@ fn goes_on(alloc: Global) -> bool {
             fetches(&report, &OF_TWO)
                 && installs(&report, 2)
                 && execute(alloc, &report, &[0, 1, 2], &[1, 1, 1])
-                && accepts(alloc, &report, &[(0, 1, "done"), (0, 2, "all 2 (5) (6)")])
+                && executes_one(&report, 3, 3)
+                && accepts(alloc, &report, &OF_THREE)
         }
         None => false,
     }

@@ -7,8 +7,26 @@ use sha2::{Digest, Sha256};
 use std::alloc::{AllocError, Global};
 use terms::{ClientId, Party, ReplicaId};
 
-/// The operation `rdAll 64 (*)`.
-pub const READ_ALL: &[u8] = b"\x25\x40\x01\x10";
+/// The operation `rdp (*)`.
+pub const READ: &[u8] = b"\x22\x01\x10";
+
+/// The operation `inp (*)`.
+pub const TAKE: &[u8] = b"\x23\x01\x10";
+
+/// The answer to a write.
+pub const DONE: &[u8] = b"\x31";
+
+/// The answer that there is no such tuple.
+pub const ABSENT: &[u8] = b"\x33";
+
+/// The mode of requests that are ordered, and of replies to them.
+pub const ORDERED: u8 = 0;
+
+/// The mode of requests that are answered at once, and of replies to them.
+pub const READ_ONLY: u8 = 1;
+
+/// What a replica replies: the timestamp of the call, the mode, the number of its state, and the answer.
+pub type Reply<'a> = (u64, u8, u64, &'a [u8]);
 
 fn joined(alloc: Global, parts: &[&[u8]]) -> Result<Vec<u8>, AllocError> {
     let mut all = Vec::new(alloc);
@@ -29,16 +47,17 @@ pub fn out_op(alloc: Global, n: u64) -> Result<Vec<u8>, AllocError> {
     joined(alloc, &[b"\x21\x01\x01", &n.to_be_bytes()])
 }
 
-/// The body of an ordered request.
+/// The body of a request.
 pub fn request_body(
     alloc: Global,
     client: u8,
     timestamp: u64,
+    mode: u8,
     op: &[u8],
 ) -> Result<Vec<u8>, AllocError> {
     joined(
         alloc,
-        &[&[0x41, 1, client], &timestamp.to_be_bytes(), &[0], op],
+        &[&[0x41, 1, client], &timestamp.to_be_bytes(), &[mode], op],
     )
 }
 
@@ -55,7 +74,7 @@ pub fn request_frame(
     timestamp: u64,
     op: &[u8],
 ) -> Result<Vec<u8>, AllocError> {
-    let body = request_body(alloc, client, timestamp, op)?;
+    let body = request_body(alloc, client, timestamp, ORDERED, op)?;
     let mut frame = piece(alloc, &body)?;
     frame.extend_from_slice(&[0, 4])?;
     for replica in 0..4 {
@@ -108,7 +127,7 @@ pub fn sealed_batch(alloc: Global, number: u64, frames: &[&[u8]]) -> Result<Step
     sealed_batch_for(alloc, number, frames, &[1, 2, 3])
 }
 
-/// The client, which is faulty, makes a request for these replicas.
+/// The client, which is faulty, makes an ordered request for these replicas.
 pub fn sealed_request(
     alloc: Global,
     client: u8,
@@ -116,11 +135,39 @@ pub fn sealed_request(
     op: &[u8],
     receivers: &[u8],
 ) -> Result<Step, AllocError> {
+    let body = request_body(alloc, client, timestamp, ORDERED, op)?;
+    sealed_by_client(alloc, client, body, receivers)
+}
+
+/// The client, which is faulty, makes a frame of the body for these replicas.
+pub fn sealed_by_client(
+    alloc: Global,
+    client: u8,
+    body: Vec<u8>,
+    receivers: &[u8],
+) -> Result<Step, AllocError> {
     let number = u16::from(client);
     Ok(Step::Seal {
         sender: Party::Client(ClientId { number }),
         receivers: replicas(alloc, receivers)?,
-        body: request_body(alloc, client, timestamp, op)?,
+        body,
+    })
+}
+
+/// Replica 3, which is faulty, replies to the client.
+pub fn sealed_reply(
+    alloc: Global,
+    client: u8,
+    (timestamp, mode, number, answer): Reply<'_>,
+) -> Result<Step, AllocError> {
+    let receiver = ClientId {
+        number: u16::from(client),
+    };
+    let front = joined(alloc, &[&[0x48, 0, 3, 1, client], &timestamp.to_be_bytes()])?;
+    Ok(Step::Seal {
+        sender: Party::Replica(ReplicaId(3)),
+        receivers: Vec::from_slice(alloc, &[Party::Client(receiver)])?,
+        body: joined(alloc, &[&front, &[mode], &number.to_be_bytes(), answer])?,
     })
 }
 

@@ -1,7 +1,7 @@
 //! A client whose replies were lost asks again, when a later checkpoint is stable: each replica sends the reply that it
 //! kept.
 
-use crate::reports::{REPLY, Row, accepts, kind_of, sent};
+use crate::reports::{PointRow, REPLY, Row, accepts, has_points, kind_of, sent};
 use crate::worlds::{put_steps, report_of, world_of_period};
 use schedule_text::Step;
 use schedule_world::Report;
@@ -76,10 +76,17 @@ fn replies_of(report: &Report, replica: u8, numbers: &[u8]) -> bool {
     left.next().is_none()
 }
 
-// The calls' numbers are 1 and 2, and that of the reading 3.
-const NUMBERS: [u8; 4] = [1, 2, 1, 3];
+// The calls' numbers are 1 and 2, and the read is answered from the state of number 2.
+const NUMBERS: [u8; 4] = [1, 2, 1, 2];
 
-const ACCEPTED: [Row<'static>; 3] = [(1, 1, "done"), (0, 1, "done"), (0, 2, "all 2 (1) (2)")];
+static ACCEPTED: [Row<'static>; 3] = [(1, 1, "done"), (0, 1, "done"), (0, 2, "all 2 (1) (2)")];
+
+// What is accepted late acted early, and once. The positions come from an implementation in Python.
+static POINTS: [PointRow<'static>; 3] = [
+    (45, 0, 1, "out (1)", "done"),
+    (101, 1, 1, "out (2)", "done"),
+    (164, 0, 2, "rdAll 64 (*)", "all 2 (1) (2)"),
+];
 
 fn replies_are_kept(alloc: Global) -> bool {
     let Some(config) = world_of_period(alloc, 2, 2, &[], &[]) else {
@@ -93,6 +100,7 @@ fn replies_are_kept(alloc: Global) -> bool {
         Some(report) => {
             REPLICAS.iter().all(|it| replies_of(&report, *it, &NUMBERS))
                 && accepts(alloc, &report, &ACCEPTED)
+                && has_points(alloc, &report, &POINTS)
         }
         None => false,
     }

@@ -2,7 +2,7 @@
 //! has a checkpoint.
 
 use crate::checkpoints::{Place, fetches, installs};
-use crate::reports::{Row, accepts, execution};
+use crate::reports::{REPLY, Row, accepts, executes_one, kind_of, sent};
 use crate::worlds::{put_steps, report_of, world_of_period};
 use schedule_text::Step;
 use schedule_world::Report;
@@ -11,7 +11,7 @@ use terms::{ClientId, NoMemory, Party, ReplicaId};
 
 // What comes of a call that replicas 0, 1 and 2 carry: how many frames were made behind the request, and which replica
 // gets the frame. These are the request, the pre-prepare, the prepares of 1 and 2, and the commits of 2, 0 and 1.
-const CARRIED: [(u64, u8); 13] = [
+static CARRIED: [(u64, u8); 13] = [
     (0, 0),
     (1, 1),
     (1, 2),
@@ -28,13 +28,13 @@ const CARRIED: [(u64, u8); 13] = [
 ];
 
 // The replies of 1, 0 and 2, of a number without a checkpoint and of one with it, where each reply is followed by one.
-const REPLIES: [u64; 3] = [7, 8, 9];
+static REPLIES: [u64; 3] = [7, 8, 9];
 
-const REPLIES_BEFORE: [u64; 3] = [7, 9, 11];
+static REPLIES_BEFORE: [u64; 3] = [7, 9, 11];
 
-const CHECKPOINTS: [u64; 3] = [8, 10, 12];
+static CHECKPOINTS: [u64; 3] = [8, 10, 12];
 
-const CARRIED_CHECKPOINTS: [(u64, u8); 6] = [(8, 0), (8, 2), (10, 1), (10, 2), (12, 0), (12, 1)];
+static CARRIED_CHECKPOINTS: [(u64, u8); 6] = [(8, 0), (8, 2), (10, 1), (10, 2), (12, 0), (12, 1)];
 
 // Steps, how many frames they make, and how many of these the last request has in front of it.
 #[derive(Drop)]
@@ -146,25 +146,9 @@ fn report_of_walk(alloc: Global, put: Result<bool, NoMemory>, walk: &Walk) -> Op
     }
 }
 
-// Whether replica 3 executes the batch of this number, which has one request, and no other batch.
-fn executes_alone(report: &Report, number: u64) -> bool {
-    let mut count = 0usize;
-    for entry in report.trace.as_slice() {
-        if let Some((replica, at, requests)) = execution(entry) {
-            if replica == 3 {
-                count = count.saturating_add(1);
-                if (at, requests) != (number, 1) {
-                    return false;
-                }
-            }
-        }
-    }
-    count == 1
-}
-
 // What differs from the opening state: the root, and in three inner parts the pages of six tuples, of client 0 and of
 // the header.
-const OF_SIX: [Place; 12] = [
+static OF_SIX: [Place; 12] = [
     (6, 0, [0, 0]),
     (6, 1, [0, 0]),
     (6, 2, [0, 0]),
@@ -179,35 +163,71 @@ const OF_SIX: [Place; 12] = [
     (6, 2, [2, 0]),
 ];
 
-const DONE: [Row<'static>; 7] = [
+static SIX_AND_READ: [Row<'static>; 8] = [
     (0, 1, "done"),
     (0, 2, "done"),
     (0, 3, "done"),
     (0, 4, "done"),
     (0, 5, "done"),
     (0, 6, "done"),
-    (0, 7, "done"),
+    (0, 7, "all 6 (1) (2) (3) (4) (5) (6)"),
+    (0, 8, "done"),
 ];
 
-// It fetches number 6, part by part, and then all three others' frames come, and the next call.
-fn put_catching_up(alloc: Global, walk: &mut Walk) -> Result<bool, NoMemory> {
+// It fetches number 6, part by part, and is the first that gets a read.
+fn put_catching_up(alloc: Global, lines: &[&str], walk: &mut Walk) -> Result<bool, NoMemory> {
     if !walk.carry_six(alloc)? {
         return Ok(false);
     }
     walk.fetch(OF_SIX.len())?;
-    Ok(walk.call(alloc, 7)? && put_steps(alloc, &["flush"], &mut walk.steps)?)
+    if !put_steps(alloc, &["invoke 0 rdAll 64 (*)"], &mut walk.steps)? {
+        return Ok(false);
+    }
+    walk.put(walk.made, Party::Replica(ReplicaId(3)))?;
+    put_steps(alloc, lines, &mut walk.steps)
 }
 
-// Of what it was cut off from it executes nothing, and number 7 it executes.
+// The mode of a reply and the lowest byte of its number.
+fn mode_and_number(frame: &[u8]) -> Option<(u8, u8)> {
+    Some((frame.get(17).copied()?, frame.get(25).copied()?))
+}
+
+// Whether what comes last is replica 3's reply to a read, from the state of number 6.
+fn is_answered_at_six(report: &Report) -> bool {
+    let Some(entry) = report.trace.last() else {
+        return false;
+    };
+    match sent(entry) {
+        Some((party, frame)) => {
+            party.number() == 3
+                && kind_of(frame) == Some(REPLY)
+                && mode_and_number(frame) == Some((1, 6))
+        }
+        None => false,
+    }
+}
+
+fn answers_alone(alloc: Global) -> bool {
+    let mut walk = Walk::new(alloc);
+    let put = put_catching_up(alloc, &[], &mut walk);
+    match report_of_walk(alloc, put, &walk) {
+        Some(report) => is_answered_at_six(&report),
+        None => false,
+    }
+}
+
+// Then all three others' frames come, and the next call. Of what it was cut off from it executes nothing, and number 7
+// it executes.
 fn catches_up(alloc: Global) -> bool {
     let mut walk = Walk::new(alloc);
-    let put = put_catching_up(alloc, &mut walk);
+    let lines = ["flush", "invoke 0 out (7)", "flush"];
+    let put = put_catching_up(alloc, &lines, &mut walk);
     match report_of_walk(alloc, put, &walk) {
         Some(report) => {
             fetches(&report, &OF_SIX)
                 && installs(&report, 6)
-                && executes_alone(&report, 7)
-                && accepts(alloc, &report, &DONE)
+                && executes_one(&report, 3, 7)
+                && accepts(alloc, &report, &SIX_AND_READ)
         }
         None => false,
     }
@@ -215,12 +235,13 @@ fn catches_up(alloc: Global) -> bool {
 
 #[test]
 fn six_calls_are_fetched(rt: HostRuntime) {
+    assert!(rt; answers_alone(rt.alloc()));
     assert!(rt; catches_up(rt.alloc()));
 }
 
 // What then differs from number 8, where the tuples of numbers 1 to 6 were fetched: behind the root the pages of two
 // more tuples, and those of client 0 and of the header, which have changed.
-const OF_EIGHT: [Place; 8] = [
+static OF_EIGHT: [Place; 8] = [
     (8, 0, [0, 0]),
     (8, 1, [0, 0]),
     (8, 2, [0, 6]),
@@ -252,9 +273,27 @@ fn put_overtaken(alloc: Global, walk: &mut Walk) -> Result<bool, NoMemory> {
     walk.tell_checkpoints()?;
     walk.put(held_back, Party::Replica(ReplicaId(3)))?;
     walk.fetch(OF_EIGHT.len())?;
-    let lines = ["invoke 0 rdAll 64 (*)", "flush"];
+    let lines = [
+        "invoke 0 out (9)",
+        "flush",
+        "invoke 0 rdAll 64 (*)",
+        "flush",
+    ];
     put_steps(alloc, &lines, &mut walk.steps)
 }
+
+static NINE_AND_READ: [Row<'static>; 10] = [
+    (0, 1, "done"),
+    (0, 2, "done"),
+    (0, 3, "done"),
+    (0, 4, "done"),
+    (0, 5, "done"),
+    (0, 6, "done"),
+    (0, 7, "done"),
+    (0, 8, "done"),
+    (0, 9, "done"),
+    (0, 10, "all 9 (1) (2) (3) (4) (5) (6) (7) (8) (9)"),
+];
 
 // Twenty parts are asked for in all. The next number is 9.
 fn is_overtaken(alloc: Global) -> bool {
@@ -264,21 +303,11 @@ fn is_overtaken(alloc: Global) -> bool {
         (Some(report), Ok(places)) => {
             fetches(&report, places.as_slice())
                 && installs(&report, 8)
-                && executes_alone(&report, 9)
-                && has_read_eight(alloc, &report)
+                && executes_one(&report, 3, 9)
+                && accepts(alloc, &report, &NINE_AND_READ)
         }
         _ => false,
     }
-}
-
-fn has_read_eight(alloc: Global, report: &Report) -> bool {
-    let mut rows = Vec::new(alloc);
-    rows.extend_from_slice(&DONE).is_ok()
-        && rows.push((0, 8, "done")).is_ok()
-        && rows
-            .push((0, 9, "all 8 (1) (2) (3) (4) (5) (6) (7) (8)"))
-            .is_ok()
-        && accepts(alloc, report, rows.as_slice())
 }
 
 #[test]

@@ -1,7 +1,7 @@
 //! Runs in which a replica or a client is faulty.
 
-use crate::frames::{READ_ALL, out_op, request_frame, sealed_batch, sealed_request};
-use crate::reports::{Row, accepts, execute, replies_to, sent};
+use crate::frames::{out_op, request_frame, sealed_batch, sealed_request};
+use crate::reports::{Row, accepts, execute, replies_to, senders_are};
 use crate::worlds::{put_steps, report_of_put, world};
 use schedule_text::Step;
 use schedule_world::Report;
@@ -30,12 +30,21 @@ fn report_of_two_of_five(alloc: Global, receivers: &[u8]) -> Option<Report> {
     report_of_put(alloc, &config, put, steps.as_slice())
 }
 
-// Of two requests of one timestamp the first one is numbered.
-fn is_first_numbered(alloc: Global) -> bool {
-    match report_of_two_of_five(alloc, &[0, 1, 2, 3]) {
+// Who gets both requests, how many requests there are in each batch, and what is read.
+type Numbered<'a> = (&'a [u8], &'a [u8], &'a str);
+
+// Of two requests of one timestamp the first one is numbered, and the other is dropped. With MACs for two replicas
+// alone neither is executed.
+static OF_FIVE: [Numbered<'static>; 2] = [
+    (&[0, 1, 2, 3], &[1], "all 1 (1)"),
+    (&[0, 1], &[], "all 0"),
+];
+
+fn is_numbered(alloc: Global, (receivers, counts, answer): Numbered<'_>) -> bool {
+    match report_of_two_of_five(alloc, receivers) {
         Some(report) => {
-            execute(alloc, &report, &[0, 1, 2, 3], &[1, 1])
-                && accepts(alloc, &report, &[(0, 1, "all 1 (1)")])
+            execute(alloc, &report, &[0, 1, 2, 3], counts)
+                && accepts(alloc, &report, &[(0, 1, answer)])
         }
         None => false,
     }
@@ -43,7 +52,9 @@ fn is_first_numbered(alloc: Global) -> bool {
 
 #[test]
 fn two_requests_of_one_timestamp(rt: HostRuntime) {
-    assert!(rt; is_first_numbered(rt.alloc()));
+    for row in OF_FIVE {
+        assert!(rt; is_numbered(rt.alloc(), row), "{:?}", row.0);
+    }
 }
 
 // Client 1 makes a request with MACs for replicas 0 and 1 alone.
@@ -58,19 +69,6 @@ fn report_for_two(alloc: Global) -> Option<Report> {
     let mut steps = Vec::new(alloc);
     let put = put_for_two(alloc, &mut steps);
     report_of_put(alloc, &config, put, steps.as_slice())
-}
-
-// The parties that send a frame are these, one frame each.
-fn senders_are(report: &Report, senders: &[u16]) -> bool {
-    let mut left = senders.iter();
-    for entry in report.trace.as_slice() {
-        if let Some((party, _)) = sent(entry) {
-            if left.next().copied() != Some(party.number()) {
-                return false;
-            }
-        }
-    }
-    left.next().is_none()
 }
 
 // Replica 0 numbers it and replica 1 prepares it. The other two drop the pre-prepare, so that is all.
@@ -96,12 +94,7 @@ fn put_one_twice(alloc: Global, steps: &mut Vec<Step>) -> Result<bool, NoMemory>
         return Ok(false);
     }
     steps.push(sealed_batch(alloc, 1, &[request.as_slice(), request.as_slice()])?)?;
-    let read = request_frame(alloc, 0, 2, READ_ALL)?;
-    if !put_steps(alloc, &["flush", "invoke 0 rdAll 64 (*)"], steps)? {
-        return Ok(false);
-    }
-    steps.push(sealed_batch(alloc, 2, &[read.as_slice()])?)?;
-    put_steps(alloc, &["flush"], steps)
+    put_steps(alloc, &["flush", "invoke 0 rdAll 64 (*)", "flush"], steps)
 }
 
 fn report_of_one_twice(alloc: Global) -> Option<Report> {
@@ -111,16 +104,16 @@ fn report_of_one_twice(alloc: Global) -> Option<Report> {
     report_of_put(alloc, &config, put, steps.as_slice())
 }
 
-// The batches have two requests and one; each correct replica replies to each call once; and what is accepted is this.
-fn runs_two_batches(alloc: Global, report: &Report, timestamps: &[u8], rows: &[Row<'_>]) -> bool {
-    execute(alloc, report, &OTHERS, &[2, 1])
+// The batch has two requests; each correct replica replies to each call once; and what is accepted is this.
+fn runs_two(alloc: Global, report: &Report, timestamps: &[u8], rows: &[Row<'_>]) -> bool {
+    execute(alloc, report, &OTHERS, &[2])
         && OTHERS.iter().all(|replica| replies_to(report, u16::from(*replica), timestamps))
         && accepts(alloc, report, rows)
 }
 
 fn runs_once(alloc: Global) -> bool {
     match report_of_one_twice(alloc) {
-        Some(report) => runs_two_batches(
+        Some(report) => runs_two(
             alloc,
             &report,
             &[1, 2],
@@ -140,12 +133,7 @@ fn put_five_and_six(alloc: Global, steps: &mut Vec<Step>) -> Result<bool, NoMemo
     let five = request_frame(alloc, 1, 5, out_op(alloc, 5)?.as_slice())?;
     let six = request_frame(alloc, 1, 6, out_op(alloc, 6)?.as_slice())?;
     steps.push(sealed_batch(alloc, 1, &[five.as_slice(), six.as_slice()])?)?;
-    let read = request_frame(alloc, 0, 1, READ_ALL)?;
-    if !put_steps(alloc, &["flush", "invoke 0 rdAll 64 (*)"], steps)? {
-        return Ok(false);
-    }
-    steps.push(sealed_batch(alloc, 2, &[read.as_slice()])?)?;
-    put_steps(alloc, &["flush"], steps)
+    put_steps(alloc, &["flush", "invoke 0 rdAll 64 (*)", "flush"], steps)
 }
 
 fn report_of_five_and_six(alloc: Global) -> Option<Report> {
@@ -158,7 +146,7 @@ fn report_of_five_and_six(alloc: Global) -> Option<Report> {
 // Each replica replies to timestamps 5 and 6 of client 1, and then to timestamp 1 of client 0.
 fn runs_both(alloc: Global) -> bool {
     match report_of_five_and_six(alloc) {
-        Some(report) => { runs_two_batches(alloc, &report, &[5, 6, 1], &[(0, 1, "all 2 (5) (6)")]) }
+        Some(report) => runs_two(alloc, &report, &[5, 6, 1], &[(0, 1, "all 2 (5) (6)")]),
         None => false,
     }
 }

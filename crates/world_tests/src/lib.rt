@@ -1,12 +1,14 @@
-//! Tests of the world of schedules (`schedule_world`): worked runs of correct parties and of faulty ones, replies
-//! that are kept, checkpoints, states that are fetched, frames that faulty replicas sign, views that change, and steps
-//! that may not come.
+//! Tests of the world of schedules (`schedule_world`): worked runs of correct parties and of faulty ones, reads beside
+//! writes that are under way, replies that are kept, checkpoints, states that are fetched, frames that are forged or
+//! that faulty replicas sign, views that change, steps that may not come, and memory that runs out.
 #![tactic(auto)]
 
 #[cfg(test)]
 mod calls;
 #[cfg(test)]
 mod checkpoints;
+#[cfg(test)]
+mod forged;
 #[cfg(test)]
 mod frames;
 #[cfg(test)]
@@ -15,6 +17,10 @@ mod kept_replies;
 mod left_behind;
 #[cfg(test)]
 mod liars;
+#[cfg(test)]
+mod memory;
+#[cfg(test)]
+mod reads;
 #[cfg(test)]
 mod refusals;
 #[cfg(test)]

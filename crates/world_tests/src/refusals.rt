@@ -13,7 +13,7 @@ fn config(alloc: Global) -> Option<Config> {
 }
 
 // Schedules whose last step is the first that may not come.
-const REFUSED: [&[&str]; 39] = [
+static REFUSED: [&[&str]; 39] = [
     &["invoke 1 out (1)"],
     &["invoke 2 out (1)"],
     &["invoke 65279 out (1)"],
@@ -56,7 +56,7 @@ const REFUSED: [&[&str]; 39] = [
 ];
 
 // Schedules of steps that may come.
-const TAKEN: [&[&str]; 7] = [
+static TAKEN: [&[&str]; 7] = [
     &[],
     &["flush"],
     &[

@@ -1,21 +1,31 @@
 //! What is looked up in reports.
 
 use events::{Entry, EntryKind};
-use schedule_world::{Acceptance, Report};
+use schedule_world::{Acceptance, Point, Report};
 use std::alloc::Global;
 use terms::{NoMemory, Party};
-use tuple_codec::Answer;
-use tuple_text::write_answer;
+use tuple_codec::{Answer, Op};
+use tuple_text::{write_answer, write_op};
 
-// The type byte of a reply.
+// The type bytes of a request and of a reply.
+pub const REQUEST: u8 = 0x41;
+
 pub const REPLY: u8 = 0x48;
 
 /// The client and the timestamp of an answer that was accepted, and its text.
 pub type Row<'a> = (u16, u64, &'a str);
 
+/// The position of a point, its client and its timestamp, and the texts of its operation and of its answer.
+pub type PointRow<'a> = (usize, u16, u64, &'a str, &'a str);
+
 fn is_text(alloc: Global, answer: &Answer<Global>, text: &str) -> bool {
     let mut out = Vec::new(alloc);
     write_answer(answer, &mut out).is_ok() && out.as_slice() == text.as_bytes()
+}
+
+fn is_line(alloc: Global, op: &Op<Global>, line: &str) -> bool {
+    let mut out = Vec::new(alloc);
+    write_op(op, &mut out).is_ok() && out.as_slice() == line.as_bytes()
 }
 
 /// Whether this was accepted.
@@ -38,6 +48,40 @@ pub fn accepts(alloc: Global, report: &Report, rows: &[Row<'_>]) -> bool {
         }
     }
     accepted.len() == rows.len()
+}
+
+/// Whether the answers were accepted at these positions.
+pub fn are_accepted_at(report: &Report, positions: &[usize]) -> bool {
+    let accepted = report.accepted.as_slice();
+    for (acceptance, position) in accepted.iter().zip(positions) {
+        if acceptance.position != *position {
+            return false;
+        }
+    }
+    accepted.len() == positions.len()
+}
+
+fn is_point(
+    alloc: Global,
+    point: &Point,
+    (position, client, timestamp, op, answer): PointRow<'_>,
+) -> bool {
+    point.position == position
+        && point.client.number == client
+        && point.timestamp.0 == timestamp
+        && is_line(alloc, &point.op, op)
+        && is_text(alloc, &point.answer, answer)
+}
+
+/// Whether these are the points, in this order, and there are no others.
+pub fn has_points(alloc: Global, report: &Report, rows: &[PointRow<'_>]) -> bool {
+    let points = report.points.as_slice();
+    for (point, row) in points.iter().zip(rows) {
+        if !is_point(alloc, point, *row) {
+            return false;
+        }
+    }
+    points.len() == rows.len()
 }
 
 /// The replica, the number and how many requests there are, where the entry is of a batch that was executed.
@@ -82,6 +126,22 @@ pub fn execute(alloc: Global, report: &Report, replicas: &[u8], counts: &[u8]) -
     true
 }
 
+/// Whether the replica executes the batch of this number, which has one request, and no other batch.
+pub fn executes_one(report: &Report, replica: u8, number: u64) -> bool {
+    let mut count = 0usize;
+    for entry in report.trace.as_slice() {
+        if let Some((who, at, requests)) = execution(entry) {
+            if who == replica {
+                count = count.saturating_add(1);
+                if (at, requests) != (number, 1) {
+                    return false;
+                }
+            }
+        }
+    }
+    count == 1
+}
+
 /// The frame that a party sent, where the entry is of one.
 pub fn sent(entry: &Entry) -> Option<(Party, &[u8])> {
     match entry.kind() {
@@ -93,6 +153,19 @@ pub fn sent(entry: &Entry) -> Option<(Party, &[u8])> {
 /// The type byte of a frame.
 pub fn kind_of(frame: &[u8]) -> Option<u8> {
     frame.get(4).copied()
+}
+
+/// Whether the parties that send a frame are these, one frame each.
+pub fn senders_are(report: &Report, senders: &[u16]) -> bool {
+    let mut left = senders.iter();
+    for entry in report.trace.as_slice() {
+        if let Some((party, _)) = sent(entry) {
+            if left.next().copied() != Some(party.number()) {
+                return false;
+            }
+        }
+    }
+    left.next().is_none()
 }
 
 /// How many frames of this type are sent.
@@ -130,6 +203,27 @@ pub fn replies_to(report: &Report, replica: u16, timestamps: &[u8]) -> bool {
             if party.number() == replica
                 && kind_of(frame) == Some(REPLY)
                 && timestamp_of(frame) != left.next().copied()
+            {
+                return false;
+            }
+        }
+    }
+    left.next().is_none()
+}
+
+// The mode of a request, behind its type, its sender and its timestamp.
+fn mode_of(frame: &[u8]) -> Option<u8> {
+    frame.get(15).copied()
+}
+
+/// Whether the party sent requests of these modes and no other ones.
+pub fn asks_in(report: &Report, party: u16, modes: &[u8]) -> bool {
+    let mut left = modes.iter();
+    for entry in report.trace.as_slice() {
+        if let Some((sender, frame)) = sent(entry) {
+            if sender.number() == party
+                && kind_of(frame) == Some(REQUEST)
+                && mode_of(frame) != left.next().copied()
             {
                 return false;
             }

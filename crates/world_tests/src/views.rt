@@ -1,7 +1,7 @@
 //! Runs in which replicas move to later views.
 
 use crate::frames::{batch_digest, out_op, request_frame, sealed_batch_for, signed_change};
-use crate::reports::{Row, accepts, count_from, count_of, execute};
+use crate::reports::{PointRow, Row, accepts, count_from, count_of, execute, has_points};
 use crate::worlds::{
     SEED, put_deliveries, put_steps, put_ticks, report_of_lines, report_of_put, world,
 };
@@ -44,7 +44,7 @@ fn a_replica_that_spends_its_keys(rt: HostRuntime) {
     assert!(rt; spends_its_keys(rt.alloc()));
 }
 
-const TICK_ALL: [&str; 4] = ["tick r1", "tick r2", "tick r3", "flush"];
+static TICK_ALL: [&str; 4] = ["tick r1", "tick r2", "tick r3", "flush"];
 
 // Replica 0, which is faulty, shows replica 1 the request of client 0 as the batch of number 1, and the other two that of
 // client 1. Then time goes by so often.
@@ -93,7 +93,15 @@ fn is_stuck(alloc: Global, times: usize, changes: usize) -> bool {
 }
 
 // The second request has number 1 in view 2, and so the first has number 2.
-const BOTH: [Row<'static>; 3] = [(1, 1, "done"), (0, 1, "done"), (0, 2, "all 2 (2) (1)")];
+static BOTH: [Row<'static>; 3] = [(1, 1, "done"), (0, 1, "done"), (0, 2, "all 2 (2) (1)")];
+
+// Each acts where a second of the three executes it, and the read where it is called. The positions come from an
+// implementation in Python.
+static POINTS_OF_BOTH: [PointRow<'static>; 3] = [
+    (83, 1, 1, "out (2)", "done"),
+    (95, 0, 1, "out (1)", "done"),
+    (108, 0, 2, "rdAll 64 (*)", "all 2 (2) (1)"),
+];
 
 // Replica 2 has the batch, and makes the new view of view 2.
 fn ends_in_view_2(alloc: Global) -> bool {
@@ -102,8 +110,9 @@ fn ends_in_view_2(alloc: Global) -> bool {
             count_of(&report, VIEW_CHANGE) == 6
                 && count_of(&report, NEW_VIEW) == 1
                 && count_from(&report, 2, NEW_VIEW) == 1
-                && execute(alloc, &report, &[1, 2, 3], &[1, 1, 1])
+                && execute(alloc, &report, &[1, 2, 3], &[1, 1])
                 && accepts(alloc, &report, &BOTH)
+                && has_points(alloc, &report, &POINTS_OF_BOTH)
         }
         None => false,
     }
@@ -118,7 +127,7 @@ fn a_primary_with_two_faces(rt: HostRuntime) {
 
 // The batch of number 1 is prepared at replicas 0, 1 and 2. Commits of the other two come to replica 0 alone, which
 // executes it. Then time goes by at those two.
-const PREPARED: [&str; 14] = [
+static PREPARED: [&str; 14] = [
     "invoke 0 out (1)",
     "deliver 0 r0",
     "deliver 0 r1",
@@ -136,10 +145,10 @@ const PREPARED: [&str; 14] = [
 ];
 
 // Replica 1 gets the view changes of replicas 2 and 3.
-const OF_THREE: [&str; 2] = ["deliver 9 r1", "deliver 10 r1"];
+static OF_THREE: [&str; 2] = ["deliver 9 r1", "deliver 10 r1"];
 
 // Replica 0 gets those of replicas 1 and 2, moves with them, and replica 1 gets its own.
-const OF_FOUR: [&str; 5] = [
+static OF_FOUR: [&str; 5] = [
     "deliver 9 r1",
     "deliver 10 r1",
     "deliver 8 r0",
@@ -199,7 +208,7 @@ fn makes_a_new_view(alloc: Global, both: bool) -> bool {
 }
 
 // Everybody gets everything, and then client 0 reads.
-const TO_THE_END: [&str; 8] = [
+static TO_THE_END: [&str; 8] = [
     "deliver 9 r1",
     "deliver 10 r1",
     "deliver 8 r0",
@@ -214,7 +223,7 @@ const TO_THE_END: [&str; 8] = [
 fn selects_what_was_prepared(alloc: Global, both: bool) -> bool {
     match report_of_false_claim(alloc, both, &TO_THE_END) {
         Some(report) => {
-            execute(alloc, &report, &[0, 1, 2], &[1, 1])
+            execute(alloc, &report, &[0, 1, 2], &[1])
                 && accepts(alloc, &report, &[(0, 1, "done"), (0, 2, "all 1 (1)")])
         }
         None => false,

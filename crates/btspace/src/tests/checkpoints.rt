@@ -38,11 +38,15 @@ invoke 1 rdAll 64 (*)
 flush
 "#;
 
-const MARKS_MOVE_REPORT: &str = r#"accepted 111 client 0 time 1 done
-accepted 129 client 1 time 1 done
-accepted 189 client 2 time 1 done
-accepted 256 client 1 time 2 all 3 (1) (2) (3)
-trace 268
+const MARKS_MOVE_REPORT: &str = r#"accepted 115 client 0 time 1 done
+accepted 133 client 1 time 1 done
+accepted 193 client 2 time 1 done
+accepted 214 client 1 time 2 all 3 (1) (2) (3)
+point 72 client 0 time 1 done
+point 96 client 1 time 1 done
+point 174 client 2 time 1 done
+point 201 client 1 time 2 all 3 (1) (2) (3)
+trace 216
 "#;
 
 const LEFT_BEHIND_SCHEDULE: &str = r#"# Replica 3 is cut off: the other three carry a call.
@@ -93,39 +97,52 @@ deliver 24 r3
 deliver 25 r0
 deliver 26 r3
 
-# With page 512 it has the state, and installs it. It has its place again: with replica 1 cut off, a call is still
-# carried by three.
+# With page 512 it has the state, and installs it. With replica 1 cut off it is needed: a read is accepted by its answer
+# and those of replicas 0 and 2, at number 1.
 invoke 0 rdp (*)
 deliver 27 r0
-deliver 28 r2
-deliver 28 r3
-deliver 29 r0
-deliver 29 r3
-deliver 30 r0
-deliver 30 r2
+deliver 27 r2
+deliver 27 r3
+deliver 28 c0
+deliver 29 c0
+deliver 30 c0
+
+# It has its place in the order again too: the same three carry a take.
+invoke 0 inp (*)
 deliver 31 r0
-deliver 31 r2
 deliver 32 r2
 deliver 32 r3
 deliver 33 r0
 deliver 33 r3
-deliver 34 c0
-deliver 36 c0
-deliver 38 c0
+deliver 34 r0
+deliver 34 r2
 deliver 35 r0
-deliver 35 r3
-deliver 37 r2
+deliver 35 r2
+deliver 36 r2
+deliver 36 r3
+deliver 37 r0
 deliver 37 r3
+deliver 38 c0
+deliver 40 c0
+deliver 42 c0
 deliver 39 r0
-deliver 39 r2
+deliver 39 r3
+deliver 41 r2
+deliver 41 r3
+deliver 43 r0
+deliver 43 r2
 
-# All that was late comes, and changes nothing more.
+# All that was late comes: replica 1 executes the take too, and nothing else changes.
 flush
 "#;
 
-const LEFT_BEHIND_REPORT: &str = r#"accepted 32 client 0 time 1 done
-accepted 104 client 0 time 2 found (1)
-trace 182
+const LEFT_BEHIND_REPORT: &str = r#"accepted 33 client 0 time 1 done
+accepted 83 client 0 time 2 found (1)
+accepted 117 client 0 time 3 found (1)
+point 27 client 0 time 1 done
+point 72 client 0 time 2 found (1)
+point 111 client 0 time 3 found (1)
+trace 197
 "#;
 
 const OVERTAKEN_SCHEDULE: &str = r#"# Replica 3 is cut off: the other three carry a call.
@@ -213,39 +230,54 @@ deliver 44 r3
 deliver 45 r0
 deliver 46 r3
 
-# It has installed the newer state, and carries a call with two others.
+# It has installed the newer state: with replica 1 cut off, a read is accepted by its answer and those of replicas 0 and
+# 2, at number 2.
 invoke 0 rdAll 64 (*)
 deliver 47 r0
-deliver 48 r2
-deliver 48 r3
-deliver 49 r0
-deliver 49 r3
-deliver 50 r0
-deliver 50 r2
+deliver 47 r2
+deliver 47 r3
+deliver 48 c0
+deliver 49 c0
+deliver 50 c0
+
+# The same three carry a take.
+invoke 0 inp (*)
 deliver 51 r0
-deliver 51 r2
 deliver 52 r2
 deliver 52 r3
 deliver 53 r0
 deliver 53 r3
-deliver 54 c0
-deliver 56 c0
-deliver 58 c0
+deliver 54 r0
+deliver 54 r2
 deliver 55 r0
-deliver 55 r3
-deliver 57 r2
+deliver 55 r2
+deliver 56 r2
+deliver 56 r3
+deliver 57 r0
 deliver 57 r3
+deliver 58 c0
+deliver 60 c0
+deliver 62 c0
 deliver 59 r0
-deliver 59 r2
+deliver 59 r3
+deliver 61 r2
+deliver 61 r3
+deliver 63 r0
+deliver 63 r2
 
-# All that was late comes.
+# All that was late comes: replica 1 executes the take too, and nothing else changes.
 flush
 "#;
 
-const OVERTAKEN_REPORT: &str = r#"accepted 32 client 0 time 1 done
-accepted 88 client 0 time 2 done
-accepted 161 client 0 time 3 all 2 (1) (2)
-trace 256
+const OVERTAKEN_REPORT: &str = r#"accepted 33 client 0 time 1 done
+accepted 89 client 0 time 2 done
+accepted 140 client 0 time 3 all 2 (1) (2)
+accepted 174 client 0 time 4 found (1)
+point 27 client 0 time 1 done
+point 83 client 0 time 2 done
+point 129 client 0 time 3 all 2 (1) (2)
+point 168 client 0 time 4 found (1)
+trace 271
 "#;
 
 const REACHED_FIRST_SCHEDULE: &str = r#"# Replica 3 is cut off: the other three carry a call.
@@ -285,12 +317,14 @@ flush
 tick r3
 
 # The next call.
-invoke 0 rdp (*)
+invoke 0 inp (*)
 flush
 "#;
 
-const REACHED_FIRST_REPORT: &str = r#"accepted 32 client 0 time 1 done
-accepted 148 client 0 time 2 found (1)
+const REACHED_FIRST_REPORT: &str = r#"accepted 33 client 0 time 1 done
+accepted 152 client 0 time 2 found (1)
+point 27 client 0 time 1 done
+point 133 client 0 time 2 found (1)
 trace 160
 "#;
 
@@ -362,12 +396,14 @@ deliver 33 r3
 
 # Replica 3 has installed the right state: the next call is carried by the three correct replicas, and replica 2 is
 # silent.
-invoke 0 rdp (*)
+invoke 0 inp (*)
 flush
 "#;
 
-const WRONG_PARTS_REPORT: &str = r#"accepted 23 client 0 time 1 done
-accepted 135 client 0 time 2 found (1)
+const WRONG_PARTS_REPORT: &str = r#"accepted 24 client 0 time 1 done
+accepted 138 client 0 time 2 found (1)
+point 18 client 0 time 1 done
+point 124 client 0 time 2 found (1)
 trace 141
 "#;
 

@@ -39,10 +39,13 @@ invoke 0 rdAll 64 (*)
 flush
 "#;
 
-const TWO_FACES_REPORT: &str = r#"accepted 102 client 1 time 1 done
-accepted 106 client 0 time 1 done
-accepted 139 client 0 time 2 all 2 (2) (1)
-trace 141
+const TWO_FACES_REPORT: &str = r#"accepted 103 client 1 time 1 done
+accepted 107 client 0 time 1 done
+accepted 119 client 0 time 2 all 2 (2) (1)
+point 83 client 1 time 1 done
+point 95 client 0 time 1 done
+point 108 client 0 time 2 all 2 (2) (1)
+trace 120
 "#;
 
 // Configurations, schedules, whether they are traced, and what is written.

@@ -1,6 +1,6 @@
 //! The words of the command line, and what is printed of them.
 
-use command_line::{NoRequest, Request, read_words};
+use command_line::{NoRequest, Printed, Request, read_words};
 use std::alloc::Global;
 use std::cell::RefCell;
 use std::fmt::Display;
@@ -80,7 +80,7 @@ struct Row {
     errors: &'static str,
 }
 
-const ROWS: [Row; 7] = [
+const ROWS: [Row; 8] = [
     Row {
         words: &["btspace", "--help"],
         why: NoRequest::Shown,
@@ -157,6 +157,17 @@ For more information, try '--help'.
 ",
     },
     Row {
+        words: &["btspace", "schedule", "--trace", "a.toml", "b", "--picture"],
+        why: NoRequest::Wrong,
+        output: "",
+        errors: "error: the argument '--trace' cannot be used with '--picture'
+
+Usage: btspace schedule --trace <CONFIG> <FILE>
+
+For more information, try '--help'.
+",
+    },
+    Row {
         words: &["btspace", "local", "a", "b"],
         why: NoRequest::Wrong,
         output: "",
@@ -201,15 +212,22 @@ fn reads_words(rt: HostRuntime) {
     let schedule = Request::Schedule {
         config: "a.toml",
         file: "b",
-        is_traced: false,
+        printed: Printed::Report,
     };
     let words = ["btspace", "schedule", "a.toml", "b"];
     assert!(rt; asks_for(rt.alloc(), &words, schedule));
     let traced = Request::Schedule {
         config: "a.toml",
         file: "b",
-        is_traced: true,
+        printed: Printed::Trace,
     };
     let words = ["btspace", "schedule", "a.toml", "b", "--trace"];
     assert!(rt; asks_for(rt.alloc(), &words, traced));
+    let drawn = Request::Schedule {
+        config: "a.toml",
+        file: "b",
+        printed: Printed::Picture,
+    };
+    let words = ["btspace", "schedule", "--picture", "a.toml", "b"];
+    assert!(rt; asks_for(rt.alloc(), &words, drawn));
 }

@@ -18,10 +18,10 @@ use Rattle.protocol.specs.Replica.RightReplica.{waiting_after, Point, Leaves, Ma
 use Rattle.protocol.specs.System.Texts.{IsUnder, Holds, ExecutesBatch, HasBatch, HasPart, batches_of, parts_of}
 use Rattle.protocol.specs.System.Texts.IsText.{null, batch, part, held, page_of, under}
 use Rattle.protocol.specs.System.Texts.IsUnder.{inner, top}
-use Rattle.protocol.specs.Client.RightClient.{open_call, last_call, MayInput, IsClient, IsWeakClient}
+use Rattle.protocol.specs.Client.RightClient.{open_call, last_call, MayInput, IsClient}
 use Rattle.protocol.specs.Replica.Owed.{IsReplica}
-use Rattle.protocol.specs.System.Run.{IsRunOf}
-use Rattle.protocol.specs.Evidence.Premises.{WidestIsValid, NarrowestIsValid, ReplicasAreCorrect, ClientsAreCorrect, CorrectAreBoth, EachIsPrimary, PrimariesReturn, RunsHaveReplicas, RunsHaveClients, WeakRunsHaveReplicas, WeakRunsHaveClients, RunsGoOn, WeakRunsGoOn, ReplicasGoOn, RunsTakeCalls, WeakRunsTakeCalls, OthersAreUnforged, MayBeTaken, MayBeGot, FramesMayBeGot, FaultyHearAnything, IsOpeningText, HasText, BringsText, is_page, is_quiet, TextsAreFew}
+use Rattle.protocol.specs.System.Run.{IsRun}
+use Rattle.protocol.specs.Evidence.Premises.{WidestIsValid, NarrowestIsValid, ReplicasAreCorrect, ClientsAreCorrect, CorrectAreBoth, EachIsPrimary, PrimariesReturn, RunsHaveReplicas, RunsHaveClients, RunsGoOn, ReplicasGoOn, RunsTakeCalls, OthersAreUnforged, MayBeTaken, MayBeGot, FramesMayBeGot, FaultyHearAnything, IsOpeningText, HasText, BringsText, is_page, is_quiet, TextsAreFew}
 use Rattle.protocol.proofs.Words.Temporal.{once_weaker, always_weaker, always_in_history, input_follows}
 use Rattle.protocol.proofs.Words.Options.{some_injective}
 use Rattle.protocol.proofs.Words.Linking.{heard_said}
@@ -170,19 +170,13 @@ runs_have_replicas c trace run = run.replicas
 pub runs_have_clients : RunsHaveClients
 runs_have_clients c trace run = run.clients
 
-pub weak_runs_have_replicas : WeakRunsHaveReplicas
-weak_runs_have_replicas c trace run = run.replicas
-
-pub weak_runs_have_clients : WeakRunsHaveClients
-weak_runs_have_clients c trace run = run.clients
-
 -- a run and one more input of a correct party
-run_goes_on : (IsIts : ℕ → List Entry → Type 0) (c : Configuration) (e : Entry) (trace : List Entry) → IsRunOf IsIts c trace
+run_goes_on : (c : Configuration) (e : Entry) (trace : List Entry) → IsRun c trace
     → is_correct c (party_of e) ≡ true → is_output e ≡ false
     → ((q : ℕ) → party_of e ≡ q → is_correct_replica c q ≡ true → IsReplica c q (history_of q trace) → IsReplica c q (e ∷ history_of q trace))
-    → ((q : ℕ) → party_of e ≡ q → is_correct_client c q ≡ true → IsIts q (history_of q trace) → IsIts q (e ∷ history_of q trace))
-    → IsRunOf IsIts c (e ∷ trace)
-run_goes_on IsIts c e trace run correct input replica client = record {
+    → ((q : ℕ) → party_of e ≡ q → is_correct_client c q ≡ true → IsClient c q (history_of q trace) → IsClient c q (e ∷ history_of q trace))
+    → IsRun c (e ∷ trace)
+run_goes_on c e trace run correct input replica client = record {
   replicas = λ q h. at_replica q h (party_of e == q) refl;
   clients = λ q h. at_client q h (party_of e == q) refl;
   parties = (correct, run.parties);
@@ -193,20 +187,14 @@ run_goes_on IsIts c e trace run correct input replica client = record {
     at_replica q h true is = replica q (eqb-true (party_of e) q is) h (run.replicas q h)
     at_replica q h false is = run.replicas q h
 
-    at_client : (q : ℕ) → is_correct_client c q ≡ true → (b : Bool) → (party_of e == q) ≡ b → IsIts q (cond b (e ∷ history_of q trace) (history_of q trace))
+    at_client : (q : ℕ) → is_correct_client c q ≡ true → (b : Bool) → (party_of e == q) ≡ b → IsClient c q (cond b (e ∷ history_of q trace) (history_of q trace))
     at_client q h true is = client q (eqb-true (party_of e) q is) h (run.clients q h)
     at_client q h false is = run.clients q h
 
 pub runs_go_on : RunsGoOn
 runs_go_on c trace run p correct = (
-  run_goes_on (IsClient c) c (Tick p) trace run correct refl (λ q is h was. inr (is, tt, was)) (λ q is h was. inr (is, tt, was)),
-  λ bytes. run_goes_on (IsClient c) c (Got p bytes) trace run correct refl (λ q is h was. inr (is, tt, was)) (λ q is h was. inr (is, tt, was)),
-)
-
-pub weak_runs_go_on : WeakRunsGoOn
-weak_runs_go_on c trace run p correct = (
-  run_goes_on (IsWeakClient c) c (Tick p) trace run correct refl (λ q is h was. inr (is, tt, was)) (λ q is h was. inr (is, tt, was)),
-  λ bytes. run_goes_on (IsWeakClient c) c (Got p bytes) trace run correct refl (λ q is h was. inr (is, tt, was)) (λ q is h was. inr (is, tt, was)),
+  run_goes_on c (Tick p) trace run correct refl (λ q is h was. inr (is, tt, was)) (λ q is h was. inr (is, tt, was)),
+  λ bytes. run_goes_on c (Got p bytes) trace run correct refl (λ q is h was. inr (is, tt, was)) (λ q is h was. inr (is, tt, was)),
 )
 
 pub replicas_go_on : ReplicasGoOn
@@ -232,12 +220,7 @@ correct_client_is c k h = or_right (is_correct_replica c (256 + k)) (is_correct_
 
 pub runs_take_calls : RunsTakeCalls
 runs_take_calls c valid trace run k op correct right none =
-    run_goes_on (IsClient c) c (Invoke k (suc (last_call (history_of (256 + k) trace))) op) trace run (correct_client_is c k correct) refl
-    (λ q is h was. absurd (not_both c valid k q is h)) (λ q is h was. inr (is, call_may trace k q op is right none, was))
-
-pub weak_runs_take_calls : WeakRunsTakeCalls
-weak_runs_take_calls c valid trace run k op correct right none =
-    run_goes_on (IsWeakClient c) c (Invoke k (suc (last_call (history_of (256 + k) trace))) op) trace run (correct_client_is c k correct) refl
+    run_goes_on c (Invoke k (suc (last_call (history_of (256 + k) trace))) op) trace run (correct_client_is c k correct) refl
     (λ q is h was. absurd (not_both c valid k q is h)) (λ q is h was. inr (is, call_may trace k q op is right none, was))
 
 -- ---- what may be got in an unforged trace

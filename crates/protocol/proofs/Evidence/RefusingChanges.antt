@@ -4,18 +4,17 @@ use Rattle.std.proofs.Common.{◌≡◌, ◌≢◌, ◌^◌, ◌+◌, ℕ, ◌�
 use Rattle.std.specs.Prelude.{nat_le, nat_lt}
 use Rattle.std.proofs.lemmas.Bool.{and_parts, leb-true, ltb-true}
 use Rattle.std.proofs.lemmas.Option.{get_or_from_slice_get, slice_get_within}
-use Rattle.tuple_codec.specs.Operations.{Operation, Outcome}
+use Rattle.tuple_codec.specs.Operations.{Operation}
 use Rattle.protocol.specs.System.Configuration.{Configuration, span, is_number}
 use Rattle.wire.specs.Messages.{ViewChangeData, BatchEntryData as BatchEntry, view_change as ViewChange}
 use Rattle.protocol.specs.System.Trace.{Entry}
 use Rattle.protocol.specs.System.Trace.Entry.{Invoke}
 use Rattle.protocol.specs.Replica.Certificates.{low, target, is_in_marks}
 use Rattle.protocol.specs.Replica.RightReplica.{MayViewChange, IsNewViewChange}
-use Rattle.protocol.specs.Client.RightClient.{MayInput, RightBy}
-use Rattle.protocol.specs.Evidence.RefusedRuns.{IsAnyClient}
+use Rattle.protocol.specs.Client.RightClient.{IsClient, MayInput, SafeClient}
 use Rattle.protocol.specs.Evidence.RefusedChanges.{SendsNewChange, ChangesAboveView, ChangesAboveEarlier, ChangesToNumbers, IsInMarks, BatchEntriesPreparedInMarks, BatchEntriesProposedInMarks, BatchEntriesAscend, BatchEntriesDiffer, ChangesAgainLast, NoCallWhileOpen, CallsOperations}
 use Rattle.protocol.proofs.Evidence.Refusing.{says_may, above_target}
-use Rattle.protocol.proofs.Words.Reacting.{is_client_right, is_weak_right}
+use Rattle.protocol.proofs.Words.Reacting.{is_client_right}
 
 -- ---- view changes
 
@@ -84,15 +83,14 @@ changes_again_last c me vc earlier bytes past says before right sent = go (says_
 
 -- ---- calls
 
-called_by : (Accepting : List Entry → ℕ → Outcome → Type 0) (me client timestamp : ℕ) (op : Operation) (later past : List Entry)
-    → RightBy Accepting me (later ++ Invoke client timestamp op ∷ past) → MayInput past (Invoke client timestamp op)
-called_by Accepting me client timestamp op [] past right = right.0.1
-called_by Accepting me client timestamp op (e ∷ later) past right = called_by Accepting me client timestamp op later past right.1
+called_by : (c : Configuration) (me client timestamp : ℕ) (op : Operation) (later past : List Entry)
+    → SafeClient c me (later ++ Invoke client timestamp op ∷ past) → MayInput past (Invoke client timestamp op)
+called_by c me client timestamp op [] past right = right.0.1
+called_by c me client timestamp op (e ∷ later) past right = called_by c me client timestamp op later past right.1
 
 called : (c : Configuration) (me client timestamp : ℕ) (op : Operation) (later past : List Entry)
-    → IsAnyClient c me (later ++ Invoke client timestamp op ∷ past) → MayInput past (Invoke client timestamp op)
-called c me client timestamp op later past (inl h) = called_by _ me client timestamp op later past (is_client_right c me (later ++ Invoke client timestamp op ∷ past) h)
-called c me client timestamp op later past (inr h) = called_by _ me client timestamp op later past (is_weak_right c me (later ++ Invoke client timestamp op ∷ past) h)
+    → IsClient c me (later ++ Invoke client timestamp op ∷ past) → MayInput past (Invoke client timestamp op)
+called c me client timestamp op later past h = called_by c me client timestamp op later past (is_client_right c me (later ++ Invoke client timestamp op ∷ past) h)
 
 pub no_call_while_open : NoCallWhileOpen
 no_call_while_open c me client timestamp call op later past opened h =

@@ -10,7 +10,7 @@ use Rattle.signing.specs.Heard.{heard}
 use Rattle.protocol.specs.System.Trace.{Entry, Once, Always, Has, frames_in}
 use Rattle.protocol.specs.System.Trace.Entry.{Invoke, Got, Tick, Executed, Installed, Sent, Accepted}
 use Rattle.protocol.specs.Space.Linear.{Item, LegalFrom, Invokes, Accepts, Asks, NoneTwice, NeverFall}
-use Rattle.protocol.specs.Evidence.RefusedItems.{left_by, AnswersAsOneSpace, ListsWhatIsAccepted, ListsWhatIsCalled, IsAskedAt, ListsWhatIsAsked, ListsNoneTwice, PlacesInOrder, PlacesBehindCalls, PlacesBeforeAcceptances, LinearIsAllThree, OneSpaceIsBoth}
+use Rattle.protocol.specs.Evidence.RefusedItems.{left_by, AnswersAsOneSpace, ListsWhatIsAccepted, ListsWhatIsCalled, IsAskedAt, ListsWhatIsAsked, ListsNoneTwice, PlacesInOrder, PlacesBehindCalls, PlacesBeforeAcceptances, LinearIsAllThree}
 use Rattle.protocol.proofs.Words.Temporal.{once_weaker}
 use Rattle.protocol.proofs.Words.Elements.{has_some, has_weaker}
 
@@ -136,6 +136,3 @@ places_before_acceptances c items later past item client answer placed has is co
 
 pub linear_is_all_three : LinearIsAllThree
 linear_is_all_three c items trace linear = (linear.legal, linear.covers, linear.placed)
-
-pub one_space_is_both : OneSpaceIsBoth
-one_space_is_both c trace space = (space.legal, space.covers)

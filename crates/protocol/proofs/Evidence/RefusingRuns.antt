@@ -1,6 +1,6 @@
 -- The definitions of clients, runs and certificates refuse what wrong bodies would do.
 use Rattle.std.specs.List.{range_with_len}
-use Rattle.std.proofs.Common.{◌≡◌, ℕ, zero, suc, not, ◌+◌, ◌*◌, ◌≤◌, ◌<◌, ◌⊎◌, inl, inr, Bool, true, false, cond, List, [], ◌∷◌, ◌++◌, map, bytes_eq, refl, sym, ap, ◌∙◌, subst, arith, ◌&&◌, Option, Some, None, eqb-true, eq-eqb, reverse}
+use Rattle.std.proofs.Common.{◌≡◌, ℕ, zero, suc, not, ◌+◌, ◌*◌, ◌≤◌, ◌<◌, ◌⊎◌, inl, inr, Bool, true, false, cond, List, [], ◌∷◌, ◌++◌, bytes_eq, refl, sym, ap, ◌∙◌, subst, arith, ◌&&◌, Option, Some, None, eqb-true, eq-eqb, reverse}
 use mathlib.Core.List.{reverse_aux}
 use Rattle.std.proofs.lemmas.List.{reverse-reverse}
 use Rattle.std.specs.Prelude.{◌==◌, nat_le, is_some}
@@ -15,24 +15,23 @@ use Rattle.quorum.proofs.Counting.{count_mono}
 use Rattle.protocol.specs.System.Configuration.{Configuration, replicas, members}
 use Rattle.terms.specs.declared.order.Mode.{Mode}
 use Rattle.terms.specs.declared.order.Mode.TheVariants as modes
-use Rattle.wire.specs.Messages.{BodyData as Body, FrameData as Frame, MacData, macs, MessageData as Message, BatchEntryData as BatchEntry, request as Request, view_change as ViewChange, new_view as NewView, reply as Reply}
+use Rattle.wire.specs.Messages.{BodyData as Body, MessageData as Message, BatchEntryData as BatchEntry, request as Request, view_change as ViewChange, new_view as NewView, reply as Reply}
 use Rattle.signing.specs.Heard.{heard}
-use Rattle.wire.specs.Words.{frame_of, said, receivers_of}
+use Rattle.wire.specs.Words.{said, receivers_of}
 use Rattle.protocol.specs.System.Frames.{same_mode}
-use Rattle.protocol.specs.System.Trace.{Entry, party_of, is_output, Once, Always, Has, AreOutputs, Hears, either}
+use Rattle.protocol.specs.System.Trace.{Entry, is_output, Once, Always, Has, AreOutputs, either}
 use Rattle.protocol.specs.System.Trace.Entry.{Invoke, Got, Tick, Executed, Installed, Sent, Accepted}
 use Rattle.protocol.specs.Replica.Certificates.{view, target, is_active_in, taken}
 use Rattle.protocol.specs.Replica.RightReplica.{SafeReplica, MaySay, MaySend, MayViewChange, MayNewView, SendsBytes}
-use Rattle.protocol.specs.Client.RightClient.{OpenCall, open_call, Vote, newest_vote, latest, is_alike, count_alike, is_complete, is_ordered_request, went_ordered, is_answered, Reaction, fallback, on_reply, on_got, reaction, is_same_answer, is_weakly_complete, weakly_on_got, weak_reaction, IsRequest, IsReaction, MayInput, Reacts, IsClientBy, SafeWeakClient}
+use Rattle.protocol.specs.Client.RightClient.{OpenCall, Vote, newest_vote, latest, is_alike, count_alike, is_complete, is_ordered_request, went_ordered, is_answered, Reaction, fallback, on_reply, on_got, reaction, IsRequest, IsReaction, MayInput, Reacts, IsClient}
 use Rattle.protocol.specs.Client.RightClient.Reaction.{nothing, asks, accepts}
 use Rattle.protocol.specs.System.Run.{Follows}
-use Rattle.protocol.specs.Evidence.RefusedRuns.{going_on, IsOrderedRequest, AcceptsAlike, AsksOrdered, FallsBack, AsksAtTicks, AsksAll, WeaklyAcceptsAlike, WeaklyAcceptsAtWeakQuorum, WeaklyAsksOrdered, OutputsFollow, LogsNumbers, NoBeginWhileInactive, KeepsProposed, NoRequestByReplica, InstallsItsRoot}
+use Rattle.protocol.specs.Evidence.RefusedRuns.{going_on, IsOrderedRequest, AcceptsAlike, AsksOrdered, FallsBack, AsksAtTicks, AsksAll, OutputsFollow, LogsNumbers, NoBeginWhileInactive, KeepsProposed, NoRequestByReplica, InstallsItsRoot}
 use Rattle.protocol.proofs.Words.Temporal.{once_weaker, once_always, once_stays_from}
 use Rattle.protocol.proofs.Words.Options.{some_injective}
 use Rattle.protocol.proofs.Agreement.Voting.{RightAt, right_always}
 use Rattle.protocol.proofs.Agreement.Marks.{takes, view_grows}
 use Rattle.protocol.proofs.Agreement.Changes.{logged_within}
-use Rattle.protocol.proofs.Points.Reading.{latest_heard}
 use Rattle.protocol.proofs.Words.Reacting.{one_output}
 
 -- ---- clients
@@ -46,19 +45,19 @@ when_false true X Y e h = absurd cc
 when_false false X Y e h = h
 
 -- the outputs of an event are taken together
-collect : (c : Configuration) (me : ℕ) (react : List Entry → Reaction) (outputs given rest : List Entry) → AreOutputs outputs → Reacts c me react given (outputs ++ rest) → Reacts c me react (reverse_aux outputs given) rest
-collect c me react [] given rest are h = h
-collect c me react (e ∷ outputs) given rest are h =
-    collect c me react outputs (e ∷ given) rest are.1
-    (when_true (is_output e) (Reacts c me react (e ∷ given) (outputs ++ rest)) (MayInput (outputs ++ rest) e × IsReaction c me (react (e ∷ outputs ++ rest)) given × Reacts c me react [] (outputs ++ rest)) are.0 h.1)
+collect : (c : Configuration) (me : ℕ) (outputs given rest : List Entry) → AreOutputs outputs → Reacts c me (reaction c me) given (outputs ++ rest) → Reacts c me (reaction c me) (reverse_aux outputs given) rest
+collect c me [] given rest are h = h
+collect c me (e ∷ outputs) given rest are h =
+    collect c me outputs (e ∷ given) rest are.1
+    (when_true (is_output e) (Reacts c me (reaction c me) (e ∷ given) (outputs ++ rest)) (MayInput (outputs ++ rest) e × IsReaction c me (reaction c me (e ∷ outputs ++ rest)) given × Reacts c me (reaction c me) [] (outputs ++ rest)) are.0 h.1)
 
 -- what a client that goes on gave in an event is what it was to give
-pub gave : (c : Configuration) (me : ℕ) (react : List Entry → Reaction) (later : List ℕ) (outputs : List Entry) (input : Entry) (past : List Entry) → is_output input ≡ false → AreOutputs outputs
-    → IsClientBy c me react (going_on me later outputs input past) → IsReaction c me (react (input ∷ past)) (reverse outputs)
-gave c me react later outputs input past is are (inl h) =
-    let event = collect c me react outputs [] (input ∷ past) are h.1.1.2 in
-    (when_false (is_output input) (Reacts c me react (input ∷ reverse outputs) past) (MayInput past input × IsReaction c me (react (input ∷ past)) (reverse outputs) × Reacts c me react [] past) is event.1).1
-gave c me react later outputs input past is are (inr h) = absurd h.1
+pub gave : (c : Configuration) (me : ℕ) (later : List ℕ) (outputs : List Entry) (input : Entry) (past : List Entry) → is_output input ≡ false → AreOutputs outputs
+    → IsClient c me (going_on me later outputs input past) → IsReaction c me (reaction c me (input ∷ past)) (reverse outputs)
+gave c me later outputs input past is are (inl h) =
+    let event = collect c me outputs [] (input ∷ past) are h.1.1.2 in
+    (when_false (is_output input) (Reacts c me (reaction c me) (input ∷ reverse outputs) past) (MayInput past input × IsReaction c me (reaction c me (input ∷ past)) (reverse outputs) × Reacts c me (reaction c me) [] past) is event.1).1
+gave c me later outputs input past is are (inr h) = absurd h.1
 
 accepts_only : (c : Configuration) (me t : ℕ) (a : Outcome) (r : Reaction) (outputs : List Entry) → r ≡ accepts t a → IsReaction c me r (reverse outputs) → (k : ℕ) × (outputs ≡ Accepted k t a ∷ [])
 accepts_only c me t a r outputs is h =
@@ -82,7 +81,7 @@ alike vote = and_from (vote.number == vote.number) (bytes_eq (outcome_spelling v
 
 pub accepts_alike : AcceptsAlike
 accepts_alike c me s number call mode answer bytes later from outputs past opened hears enough same are h =
-    accepts_only c me call.timestamp answer (reaction c me (Got me bytes ∷ past)) outputs (ap (λ (o : Option OpenCall). option_map_or (on_got c me (Got me bytes ∷ past)) o nothing) opened ∙ votes ∙ completes) (gave c me (reaction c me) later outputs (Got me bytes) past refl are h)
+    accepts_only c me call.timestamp answer (reaction c me (Got me bytes ∷ past)) outputs (ap (λ (o : Option OpenCall). option_map_or (on_got c me (Got me bytes ∷ past)) o nothing) opened ∙ votes ∙ completes) (gave c me later outputs (Got me bytes) past refl are h)
   where
     votes : on_got c me (Got me bytes ∷ past) call ≡ on_reply c me (Got me bytes ∷ past) call (vote_in mode number answer)
     votes = ap (λ (o : Option Vote). option_map_or (on_reply c me (Got me bytes ∷ past) call) o nothing) (brings c me s call.timestamp number mode answer bytes past hears)
@@ -136,7 +135,7 @@ all_below test (suc n) h =
 
 pub falls_back : FallsBack
 falls_back c me s number call answer bytes later outputs past opened hears answered few never are h =
-    asks_only c me call (reaction c me (Got me bytes ∷ past)) outputs (ap (λ (o : Option OpenCall). option_map_or (on_got c me (Got me bytes ∷ past)) o nothing) opened ∙ votes ∙ incomplete ∙ falls) (gave c me (reaction c me) later outputs (Got me bytes) past refl are h)
+    asks_only c me call (reaction c me (Got me bytes ∷ past)) outputs (ap (λ (o : Option OpenCall). option_map_or (on_got c me (Got me bytes ∷ past)) o nothing) opened ∙ votes ∙ incomplete ∙ falls) (gave c me later outputs (Got me bytes) past refl are h)
   where
     votes : on_got c me (Got me bytes ∷ past) call ≡ on_reply c me (Got me bytes ∷ past) call (vote_in modes.ReadOnly number answer)
     votes = ap (λ (o : Option Vote). option_map_or (on_reply c me (Got me bytes ∷ past) call) o nothing) (brings c me s call.timestamp number modes.ReadOnly answer bytes past hears)
@@ -165,39 +164,35 @@ falls_back c me s number call answer bytes later outputs past opened hears answe
         go false e = rw all_answered refl
 
 pub asks_at_ticks : AsksAtTicks
-asks_at_ticks c me call later outputs past opened are (inl h) =
-    asks_only c me call (reaction c me (Tick me ∷ past)) outputs (ap (λ (o : Option OpenCall). option_map_or (asks modes.Ordered) o nothing) opened) (gave c me (reaction c me) later outputs (Tick me) past refl are h)
-asks_at_ticks c me call later outputs past opened are (inr h) =
-    asks_only c me call (weak_reaction c me (Tick me ∷ past)) outputs (ap (λ (o : Option OpenCall). option_map_or (asks modes.Ordered) o nothing) opened) (gave c me (weak_reaction c me) later outputs (Tick me) past refl are h)
+asks_at_ticks c me call later outputs past opened are h =
+    asks_only c me call (reaction c me (Tick me ∷ past)) outputs (ap (λ (o : Option OpenCall). option_map_or (asks modes.Ordered) o nothing) opened) (gave c me later outputs (Tick me) past refl are h)
 
 -- one request is another's bytes
 same_request : (me : ℕ) (x y : List ℕ) → Sent me x ∷ [] ≡ Sent me y ∷ [] → y ≡ x
 same_request me x y e = cc
 
 -- a frame that a client sends is a request that it was to give
-pub record Asked (c : Configuration) (me : ℕ) (react : List Entry → Reaction) (bytes : List ℕ) : Type 0 where
-  pub now : List Entry
+pub record Asked (c : Configuration) (me : ℕ) (bytes : List ℕ) : Type 0 where
   pub mode : Mode
   pub call : OpenCall
-  pub given : react now ≡ asks mode call
   pub request : IsRequest c me mode call bytes
 
-asked_here : (c : Configuration) (me : ℕ) (react : List Entry → Reaction) (bytes : List ℕ) (past : List Entry) → Reacts c me react (Sent me bytes ∷ []) past → Asked c me react bytes
-asked_here c me react bytes [] h = absurd cc
-asked_here c me react bytes (e ∷ past) h = go (is_output e) h.1
+asked_here : (c : Configuration) (me : ℕ) (bytes : List ℕ) (past : List Entry) → Reacts c me (reaction c me) (Sent me bytes ∷ []) past → Asked c me bytes
+asked_here c me bytes [] h = absurd cc
+asked_here c me bytes (e ∷ past) h = go (is_output e) h.1
   where
-    by : (r : Reaction) → react (e ∷ past) ≡ r → IsReaction c me r (Sent me bytes ∷ []) → Asked c me react bytes
-    by nothing is k = absurd cc
-    by (asks mode call) is k = record { now = e ∷ past; mode = mode; call = call; given = is; request = subst (IsRequest c me mode call) (same_request me bytes k.0 k.1) k.2 }
-    by (accepts t a) is k = let bad = k.1 in absurd cc
+    by : (r : Reaction) → IsReaction c me r (Sent me bytes ∷ []) → Asked c me bytes
+    by nothing k = absurd cc
+    by (asks mode call) k = record { mode = mode; call = call; request = subst (IsRequest c me mode call) (same_request me bytes k.0 k.1) k.2 }
+    by (accepts t a) k = let bad = k.1 in absurd cc
 
-    go : (b : Bool) → either b (Reacts c me react (e ∷ Sent me bytes ∷ []) past) (MayInput past e × IsReaction c me (react (e ∷ past)) (Sent me bytes ∷ []) × Reacts c me react [] past) → Asked c me react bytes
-    go true k = absurd (one_output c me react e (Sent me bytes) [] past k)
-    go false k = by (react (e ∷ past)) refl k.1
+    go : (b : Bool) → either b (Reacts c me (reaction c me) (e ∷ Sent me bytes ∷ []) past) (MayInput past e × IsReaction c me (reaction c me (e ∷ past)) (Sent me bytes ∷ []) × Reacts c me (reaction c me) [] past) → Asked c me bytes
+    go true k = absurd (one_output c me e (Sent me bytes) [] past k)
+    go false k = by (reaction c me (e ∷ past)) k.1
 
-pub asked_by : (c : Configuration) (me : ℕ) (react : List Entry → Reaction) (bytes : List ℕ) (past : List Entry) → IsClientBy c me react (Sent me bytes ∷ past) → Asked c me react bytes
-asked_by c me react bytes past (inl h) = asked_here c me react bytes past h.1
-asked_by c me react bytes past (inr h) = absurd h.1
+pub asked_by : (c : Configuration) (me : ℕ) (bytes : List ℕ) (past : List Entry) → IsClient c me (Sent me bytes ∷ past) → Asked c me bytes
+asked_by c me bytes past (inl h) = asked_here c me bytes past h.1
+asked_by c me bytes past (inr h) = absurd h.1
 
 in_range : (n a s : ℕ) → a ≤ s → s < a + n → Has (λ r. r ≡ s) (range_with_len a n)
 in_range zero a s l h = absurd (omega arith)
@@ -207,100 +202,10 @@ in_range (suc n) a s l h = go (a == s) refl (λ above. in_range n (a + 1) s abov
     go true e below = inl (eqb-true a s e)
     go false e below = let d = eqb-false a s e in inr (below (omega arith))
 
-for_all : (c : Configuration) (me s : ℕ) (react : List Entry → Reaction) (bytes : List ℕ) (frame : Frame) (entries : List MacData) → Asked c me react bytes → frame_of bytes ≡ Some frame → frame.authenticator ≡ macs entries → s < replicas c
-    → Has (λ r. r ≡ s) (map (λ (x : MacData). x.receiver) entries)
-for_all c me s react bytes frame entries asked is authenticator within =
-    subst (λ (rs : List ℕ). Has (λ x. x ≡ s) rs) (sym (ap receivers_of (sym authenticator) ∙ (asked.request.is_sealed frame is).1)) (in_range (replicas c) 0 s (omega arith) (omega arith))
-
 pub asks_all : AsksAll
-asks_all c me s bytes frame entries past is authenticator within (inl h) = for_all c me s (reaction c me) bytes frame entries (asked_by c me (reaction c me) bytes past h) is authenticator within
-asks_all c me s bytes frame entries past is authenticator within (inr h) = for_all c me s (weak_reaction c me) bytes frame entries (asked_by c me (weak_reaction c me) bytes past h) is authenticator within
-
--- ---- the weak client
-
-same_answer : (vote other : Vote) → other.answer ≡ vote.answer → is_same_answer vote (Some other) ≡ true
-same_answer vote other e = (bytes_eq-Decides (outcome_spelling other.answer) (outcome_spelling vote.answer)).1 (ap outcome_spelling e)
-
-pub weakly_accepts_alike : WeaklyAcceptsAlike
-weakly_accepts_alike c me s number call answer bytes later from outputs past opened hears enough same are h =
-    accepts_only c me call.timestamp answer (weak_reaction c me (Got me bytes ∷ past)) outputs (ap (λ (o : Option OpenCall). option_map_or (weakly_on_got c me (Got me bytes ∷ past)) o nothing) opened ∙ votes ∙ completes) (gave c me (weak_reaction c me) later outputs (Got me bytes) past refl are h)
-  where
-    votes : weakly_on_got c me (Got me bytes ∷ past) call
-        ≡ cond (is_weakly_complete c me (Got me bytes ∷ past) call.timestamp (vote_in modes.Ordered number answer)) (accepts call.timestamp answer) nothing
-    votes = ap (λ (o : Option Vote). option_map_or (λ (vote : Vote). cond (is_weakly_complete c me (Got me bytes ∷ past) call.timestamp vote) (accepts call.timestamp vote.answer) nothing) o nothing) (brings c me s call.timestamp number modes.Ordered answer bytes past hears)
-
-    each : (r : ℕ) → from r ≡ true → is_same_answer (vote_in modes.Ordered number answer) (latest c me (Got me bytes ∷ past) call.timestamp modes.Ordered r) ≡ true
-    each r k = let x = same r k in ap (is_same_answer (vote_in modes.Ordered number answer)) x.1 ∙ same_answer (vote_in modes.Ordered number answer) (vote_in modes.Ordered x.0 answer) refl
-
-    full : c.faults + 1 ≤ count_below (λ r. is_same_answer (vote_in modes.Ordered number answer) (latest c me (Got me bytes ∷ past) call.timestamp modes.Ordered r)) (replicas c)
-    full = let more = count_mono from (λ r. is_same_answer (vote_in modes.Ordered number answer) (latest c me (Got me bytes ∷ past) call.timestamp modes.Ordered r)) (replicas c) (λ r l h. each r h) in omega arith
-
-    completes : cond (is_weakly_complete c me (Got me bytes ∷ past) call.timestamp (vote_in modes.Ordered number answer)) (accepts call.timestamp answer) nothing ≡ accepts call.timestamp answer
-    completes = rw (le-leb (c.faults + 1) (count_below (λ r. is_same_answer (vote_in modes.Ordered number answer) (latest c me (Got me bytes ∷ past) call.timestamp modes.Ordered r)) (replicas c)) full) refl
-
-weakly_own : (c : Configuration) (me : ℕ) (xs : List Entry) → SafeWeakClient c me xs → Always (λ past e. party_of e ≡ me) xs
-weakly_own c me [] r = tt
-weakly_own c me (e ∷ xs) r = (r.0.0, weakly_own c me xs r.1)
-
-pub weakly_accepts_at_weak_quorum : WeaklyAcceptsAtWeakQuorum
-weakly_accepts_at_weak_quorum c me k timestamp answer past right =
-    let m = right.0.1 in
-    let q = and_parts (same_mode m.1.mode modes.Ordered) (nat_le (c.faults + 1) (count_below (λ s. is_same_answer m.1 (latest c me past m.0.timestamp modes.Ordered s)) (replicas c))) m.6 in
-    let full = leb-true (c.faults + 1) (count_below (λ s. is_same_answer m.1 (latest c me past m.0.timestamp modes.Ordered s)) (replicas c)) q.1 in (
-      λ s. is_same_answer m.1 (latest c me past timestamp modes.Ordered s),
-      subst (λ (t : ℕ). c.faults + 1 ≤ count_below (λ s. is_same_answer m.1 (latest c me past t modes.Ordered s)) (replicas c)) m.3 full,
-      λ s h. answers s m.1 m.4 (latest c me past timestamp modes.Ordered s) refl h,
-    )
-  where
-    answers : (s : ℕ) (vote : Vote) → vote.answer ≡ answer → (o : Option Vote) → latest c me past timestamp modes.Ordered s ≡ o → is_same_answer vote o ≡ true
-        → (number : ℕ) × (other : Outcome) × (outcome_spelling other ≡ outcome_spelling answer) × Once (Hears c me (record { sender = s; message = Reply me timestamp modes.Ordered number other })) past
-    answers s vote is None e h = absurd cc
-    answers s vote is (Some v) e h =
-        let spelled = (bytes_eq-Decides (outcome_spelling v.answer) (outcome_spelling vote.answer)).0 h in
-        (v.number, v.answer, spelled ∙ ap outcome_spelling is, latest_heard c me timestamp modes.Ordered s v past (weakly_own c me past right.1) e)
-
--- all that it asks is ordered
-asks_mode : (c : Configuration) (me : ℕ) (now : List Entry) (mode : Mode) (call : OpenCall) → weak_reaction c me now ≡ asks mode call → mode ≡ modes.Ordered
-asks_mode c me [] mode call h = absurd cc
-asks_mode c me (Invoke client t op ∷ past) mode call h = in_mode h
-  where
-    in_mode : asks modes.Ordered (let x : OpenCall = record { timestamp = t; op = op } in x) ≡ asks mode call → mode ≡ modes.Ordered
-    in_mode e = cc
-asks_mode c me (Got p bytes ∷ past) mode call h = absurd (go (open_call past) h)
-  where
-    go : (o : Option OpenCall) → option_map_or (weakly_on_got c me (Got p bytes ∷ past)) o nothing ≡ asks mode call → ⊥
-    go None h = cc
-    go (Some x) h = votes (newest_vote c me (Got p bytes ∷ past) x.timestamp) h
-      where
-        votes : (o : Option Vote) → option_map_or (λ vote. cond (is_weakly_complete c me (Got p bytes ∷ past) x.timestamp vote) (accepts x.timestamp vote.answer) nothing) o nothing ≡ asks mode call → ⊥
-        votes None h = cc
-        votes (Some vote) h = test (is_weakly_complete c me (Got p bytes ∷ past) x.timestamp vote) h
-          where
-            test : (b : Bool) → cond b (accepts x.timestamp vote.answer) nothing ≡ asks mode call → ⊥
-            test true h = cc
-            test false h = cc
-asks_mode c me (Tick p ∷ past) mode call h = go (open_call past) h
-  where
-    go : (o : Option OpenCall) → option_map_or (asks modes.Ordered) o nothing ≡ asks mode call → mode ≡ modes.Ordered
-    go None h = absurd cc
-    go (Some x) h = in_mode h
-      where
-        in_mode : asks modes.Ordered x ≡ asks mode call → mode ≡ modes.Ordered
-        in_mode e = cc
-asks_mode c me (Executed x y z ∷ past) mode call h = absurd cc
-asks_mode c me (Installed x y z ∷ past) mode call h = absurd cc
-asks_mode c me (Sent x y ∷ past) mode call h = absurd cc
-asks_mode c me (Accepted x y z ∷ past) mode call h = absurd cc
-
-pub weakly_asks_ordered : WeaklyAsksOrdered
-weakly_asks_ordered c me timestamp mode op bytes past says h =
-    let a = asked_by c me (weak_reaction c me) bytes past h in
-    let ordered = asks_mode c me a.now a.mode a.call a.given in
-    let same = some_injective (record { sender = me; message = Request timestamp mode op }) (record { sender = me; message = Request a.call.timestamp a.mode a.call.op }) (sym says ∙ a.request.says) in
-    modes_same same ∙ ordered
-  where
-    modes_same : {t : ℕ} {m : Mode} {o : Operation} → ◌≡◌ {A = Body} (record { sender = me; message = Request timestamp mode op }) (record { sender = me; message = Request t m o }) → mode ≡ m
-    modes_same e = let messages : Request timestamp mode op ≡ Request _ _ _ = ap (λ (b : Body). b.message) e in cc
+asks_all c me s bytes frame entries past is authenticator within right =
+    let asked = asked_by c me bytes past right in
+    subst (λ (rs : List ℕ). Has (λ x. x ≡ s) rs) (sym (ap receivers_of (sym authenticator) ∙ (asked.request.is_sealed frame is).1)) (in_range (replicas c) 0 s (omega arith) (omega arith))
 
 -- ---- runs
 

@@ -1,5 +1,5 @@
 -- Where a client that goes on gives nothing.
-use Rattle.std.proofs.Common.{◌≡◌, ℕ, zero, suc, not, ◌+◌, ◌*◌, ◌≤◌, ◌<◌, ◌⊎◌, inl, inr, Bool, true, false, cond, List, [], ◌∷◌, refl, sym, ap, ◌∙◌, subst, arith, ◌&&◌, ◌||◌, Option, Some, None, eqb-true, eq-eqb, reverse}
+use Rattle.std.proofs.Common.{◌≡◌, ℕ, zero, suc, not, ◌+◌, ◌*◌, ◌≤◌, ◌<◌, inl, inr, Bool, true, false, cond, List, [], ◌∷◌, refl, sym, ap, ◌∙◌, subst, arith, ◌&&◌, ◌||◌, Option, Some, None, eqb-true, eq-eqb, reverse}
 use Rattle.std.proofs.lemmas.List.{reverse-reverse}
 use Rattle.std.specs.Prelude.{◌==◌, nat_le, is_some, option_and_then}
 use Rattle.std.specs.Option.{option_map_or}
@@ -16,10 +16,10 @@ use Rattle.signing.specs.Heard.{heard}
 use Rattle.wire.specs.Words.{said}
 use Rattle.protocol.specs.System.Trace.{Entry, party_of, Once}
 use Rattle.protocol.specs.System.Trace.Entry.{Invoke, Got, Tick, Executed, Installed, Sent, Accepted}
-use Rattle.protocol.specs.Client.RightClient.{OpenCall, last_call, open_call, Vote, vote_of, newest_vote, latest, count_alike, is_complete, is_ordered_request, went_ordered, is_answered, Reaction, fallback, on_reply, on_got, reaction, is_same_answer, is_weakly_complete, weakly_on_got, weak_reaction, IsReaction, IsClient, IsWeakClient, MayAccept, MayAsk, MayRequest, MayClient, SafeClient}
+use Rattle.protocol.specs.Client.RightClient.{OpenCall, last_call, open_call, Vote, vote_of, newest_vote, latest, count_alike, is_complete, is_ordered_request, went_ordered, is_answered, Reaction, fallback, on_reply, on_got, reaction, IsReaction, IsClient, MayAccept, MayAsk, MayRequest, MayClient, SafeClient}
 use Rattle.protocol.specs.Client.RightClient.Reaction.{nothing, asks, accepts}
 use Rattle.protocol.specs.Evidence.RefusedRuns.{going_on, AsksOrdered}
-use Rattle.protocol.specs.Evidence.Clients.{WaitsForAnswers, FallsBackOnce, WeaklyWaits, IgnoresOthers, RestsWithoutCall}
+use Rattle.protocol.specs.Evidence.Clients.{WaitsForAnswers, FallsBackOnce, IgnoresOthers, RestsWithoutCall}
 use Rattle.protocol.proofs.Words.Options.{some_injective}
 use Rattle.protocol.proofs.Words.Reacting.{is_client_right}
 use Rattle.protocol.proofs.Evidence.RefusingRuns.{vote_in, brings, gave, always_behind}
@@ -60,7 +60,7 @@ not_all test r (suc n) l e = go (test n) refl (r == n) refl (λ below. not_all t
 pub waits_for_answers : WaitsForAnswers
 waits_for_answers c me s r number call mode answer bytes later outputs past opened hears few within none are h =
     nothing_only c me (reaction c me (Got me bytes ∷ past)) outputs (reply_falls c me s number call mode answer bytes past opened hears few ∙ rests (went_ordered past call.timestamp))
-    (gave c me (reaction c me) later outputs (Got me bytes) past refl are h)
+    (gave c me later outputs (Got me bytes) past refl are h)
   where
     answered : ℕ → Bool
     answered q = is_some (latest c me (Got me bytes ∷ past) call.timestamp modes.ReadOnly q)
@@ -152,34 +152,13 @@ falls_back_once c me s number call mode answer bytes later outputs past opened h
     nothing_only c me (reaction c me (Got me bytes ∷ past)) outputs
     (reply_falls c me s number call mode answer bytes past opened hears few
     ∙ ap (λ (b : Bool). cond (not b && is_answered c me (Got me bytes ∷ past) call.timestamp) (asks modes.Ordered call) nothing) (asked_went c me call past earlier opened before))
-    (gave c me (reaction c me) later outputs (Got me bytes) past refl are h)
+    (gave c me later outputs (Got me bytes) past refl are h)
   where
     all : SafeClient c me (going_on me later outputs (Got me bytes) past)
     all = is_client_right c me (going_on me later outputs (Got me bytes) past) h
 
     earlier : SafeClient c me past
     earlier = (always_behind (λ xs e. (party_of e ≡ me) × MayClient (MayAccept c me) me xs e) outputs (Got me bytes ∷ past) all.1.1).1
-
--- ---- the weak client
-
-pub weakly_waits : WeaklyWaits
-weakly_waits c me s number call mode answer bytes later outputs past opened hears few are h =
-    nothing_only c me (weak_reaction c me (Got me bytes ∷ past)) outputs
-    (ap (λ (o : Option OpenCall). option_map_or (weakly_on_got c me (Got me bytes ∷ past)) o nothing) opened ∙ votes ∙ go mode few (is_weakly_complete c me (Got me bytes ∷ past) call.timestamp (vote_in mode number answer)) refl)
-    (gave c me (weak_reaction c me) later outputs (Got me bytes) past refl are h)
-  where
-    alike : ℕ
-    alike = count_below (λ r. is_same_answer (vote_in modes.Ordered number answer) (latest c me (Got me bytes ∷ past) call.timestamp modes.Ordered r)) (replicas c)
-
-    votes : weakly_on_got c me (Got me bytes ∷ past) call ≡ cond (is_weakly_complete c me (Got me bytes ∷ past) call.timestamp (vote_in mode number answer)) (accepts call.timestamp answer) nothing
-    votes = ap (λ (o : Option Vote). option_map_or (λ (vote : Vote). cond (is_weakly_complete c me (Got me bytes ∷ past) call.timestamp vote) (accepts call.timestamp vote.answer) nothing) o nothing) (brings c me s call.timestamp number mode answer bytes past hears)
-
-    go : (mode : Mode) → (mode ≡ modes.ReadOnly) ⊎ (alike ≤ c.faults) → (b : Bool) → is_weakly_complete c me (Got me bytes ∷ past) call.timestamp (vote_in mode number answer) ≡ b
-        → cond b (accepts call.timestamp answer) nothing ≡ nothing
-    go mode few false e = refl
-    go modes.ReadOnly few true e = absurd cc
-    go modes.Ordered (inl few) true e = absurd cc
-    go modes.Ordered (inr few) true e = let l = leb-true (c.faults + 1) alike e in absurd (omega arith)
 
 -- ---- what is no reply to the open call, and no open call
 
@@ -207,29 +186,16 @@ module _ (c : Configuration) (me timestamp : ℕ) (bytes : List ℕ) (past : Lis
       go (Some body) is = message body.sender body.message is
 
 pub ignores_others : IgnoresOthers
-ignores_others c me call bytes later outputs past opened never are (inl h) =
+ignores_others c me call bytes later outputs past opened never are h =
     nothing_only c me (reaction c me (Got me bytes ∷ past)) outputs
     (ap (λ (o : Option OpenCall). option_map_or (on_got c me (Got me bytes ∷ past)) o nothing) opened
     ∙ ap (λ (o : Option Vote). option_map_or (on_reply c me (Got me bytes ∷ past) call) o nothing) (no_vote c me call.timestamp bytes past never))
-    (gave c me (reaction c me) later outputs (Got me bytes) past refl are h)
-ignores_others c me call bytes later outputs past opened never are (inr h) =
-    nothing_only c me (weak_reaction c me (Got me bytes ∷ past)) outputs
-    (ap (λ (o : Option OpenCall). option_map_or (weakly_on_got c me (Got me bytes ∷ past)) o nothing) opened
-    ∙ ap (λ (o : Option Vote). option_map_or (λ (vote : Vote). cond (is_weakly_complete c me (Got me bytes ∷ past) call.timestamp vote) (accepts call.timestamp vote.answer) nothing) o nothing) (no_vote c me call.timestamp bytes past never))
-    (gave c me (weak_reaction c me) later outputs (Got me bytes) past refl are h)
+    (gave c me later outputs (Got me bytes) past refl are h)
 
 pub rests_without_call : RestsWithoutCall
-rests_without_call c me input later outputs past closed (inl is) are h = go (subst (λ (e : Entry). IsClient c me (going_on me later outputs e past) ⊎ IsWeakClient c me (going_on me later outputs e past)) is h)
-  where
-    go : IsClient c me (going_on me later outputs (Tick me) past) ⊎ IsWeakClient c me (going_on me later outputs (Tick me) past) → outputs ≡ []
-    go (inl h) = nothing_only c me (reaction c me (Tick me ∷ past)) outputs (ap (λ (o : Option OpenCall). option_map_or (asks modes.Ordered) o nothing) closed) (gave c me (reaction c me) later outputs (Tick me) past refl are h)
-    go (inr h) = nothing_only c me (weak_reaction c me (Tick me ∷ past)) outputs (ap (λ (o : Option OpenCall). option_map_or (asks modes.Ordered) o nothing) closed) (gave c me (weak_reaction c me) later outputs (Tick me) past refl are h)
-rests_without_call c me input later outputs past closed (inr is) are h = go is.0 (subst (λ (e : Entry). IsClient c me (going_on me later outputs e past) ⊎ IsWeakClient c me (going_on me later outputs e past)) is.1 h)
-  where
-    go : (bytes : List ℕ) → IsClient c me (going_on me later outputs (Got me bytes) past) ⊎ IsWeakClient c me (going_on me later outputs (Got me bytes) past) → outputs ≡ []
-    go bytes (inl h) =
-        nothing_only c me (reaction c me (Got me bytes ∷ past)) outputs (ap (λ (o : Option OpenCall). option_map_or (on_got c me (Got me bytes ∷ past)) o nothing) closed)
-        (gave c me (reaction c me) later outputs (Got me bytes) past refl are h)
-    go bytes (inr h) =
-        nothing_only c me (weak_reaction c me (Got me bytes ∷ past)) outputs (ap (λ (o : Option OpenCall). option_map_or (weakly_on_got c me (Got me bytes ∷ past)) o nothing) closed)
-        (gave c me (weak_reaction c me) later outputs (Got me bytes) past refl are h)
+rests_without_call c me input later outputs past closed (inl is) are h =
+    nothing_only c me (reaction c me (Tick me ∷ past)) outputs (ap (λ (o : Option OpenCall). option_map_or (asks modes.Ordered) o nothing) closed)
+    (gave c me later outputs (Tick me) past refl are (subst (λ (e : Entry). IsClient c me (going_on me later outputs e past)) is h))
+rests_without_call c me input later outputs past closed (inr (bytes, is)) are h =
+    nothing_only c me (reaction c me (Got me bytes ∷ past)) outputs (ap (λ (o : Option OpenCall). option_map_or (on_got c me (Got me bytes ∷ past)) o nothing) closed)
+    (gave c me later outputs (Got me bytes) past refl are (subst (λ (e : Entry). IsClient c me (going_on me later outputs e past)) is h))

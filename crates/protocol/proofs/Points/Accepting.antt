@@ -43,29 +43,11 @@ use Rattle.tuple_codec.specs.Spelling.{outcome_spelling}
 use Rattle.protocol.specs.Space.Linear.{invoke_past}
 use Rattle.protocol.proofs.Words.Elements.{has_some, has_weaker}
 
--- ---- a run with right clients
-
-pub record FullRun (c : Configuration) (xs : List Entry) : Type 0 where
-  pub run : Run c xs
-  pub right : (p : ℕ) → is_correct_client c p ≡ true → SafeClient c p (history_of p xs)
-
-pub full_earlier : (c : Configuration) (e : Entry) (xs : List Entry) → FullRun c (e ∷ xs) → FullRun c xs
-full_earlier c e xs f = record { run = run_earlier c e xs f.run; right = λ p h. go p (party_of e == p) (f.right p h) }
-  where
-    go : (p : ℕ) (b : Bool) → SafeClient c p (cond b (e ∷ history_of p xs) (history_of p xs)) → SafeClient c p (history_of p xs)
-    go p true h = h.1
-    go p false h = h
-
-pub full_part : (c : Configuration) (later xs : List Entry) → FullRun c (later ++ xs) → FullRun c xs
-full_part c [] xs f = f
-full_part c (e ∷ later) xs f = full_part c later xs (full_earlier c e (later ++ xs) f)
-
 -- ---- an acceptance
 
 pub record Accepting (c : Configuration) (past : List Entry) (p t : ℕ) (a : Outcome) : Type 0 where
   pub client : is_correct_client c p ≡ true
   pub run : Run c past
-  pub right : SafeClient c p (history_of p past)
   pub call : OpenCall
   pub vote : Vote
   pub opened : open_call (history_of p past) ≡ Some call
@@ -74,11 +56,11 @@ pub record Accepting (c : Configuration) (past : List Entry) (p t : ℕ) (a : Ou
   pub newest : newest_vote c p (history_of p past) t ≡ Some vote
   pub complete : 2 * c.faults + 1 ≤ count_below (λ s. is_alike vote (latest c p (history_of p past) t vote.mode s)) (3 * c.faults + 1)
 
-pub accepting : (c : Configuration) (past : List Entry) (cl t : ℕ) (a : Outcome) → FullRun c (Accepted cl t a ∷ past) → Accepting c past (256 + cl) t a
-accepting c past cl t a full = go (is_correct_replica c (256 + cl)) refl full.run.parties.0
+pub accepting : (c : Configuration) (past : List Entry) (cl t : ℕ) (a : Outcome) → Run c (Accepted cl t a ∷ past) → Accepting c past (256 + cl) t a
+accepting c past cl t a run = go (is_correct_replica c (256 + cl)) refl run.parties.0
   where
     most : c.faults ≤ 3
-    most = full.run.setting.most
+    most = run.setting.most
 
     no_replica : is_correct_replica c (256 + cl) ≡ true → ⊥
     no_replica h = let b : 256 + cl < 3 * c.faults + 1 = ltb-true (256 + cl) (3 * c.faults + 1) (and_parts (is_replica c (256 + cl)) _ h).0 in let m = most in omega arith
@@ -86,8 +68,7 @@ accepting c past cl t a full = go (is_correct_replica c (256 + cl)) refl full.ru
     build : is_correct_client c (256 + cl) ≡ true → MayAccept c (256 + cl) (history_of (256 + cl) past) t a → Accepting c past (256 + cl) t a
     build client m = record {
       client = client;
-      run = run_earlier c (Accepted cl t a) past full.run;
-      right = (full_earlier c (Accepted cl t a) past full).right (256 + cl) client;
+      run = run_earlier c (Accepted cl t a) past run;
       call = m.0;
       vote = m.1;
       opened = m.2;
@@ -105,7 +86,7 @@ accepting c past cl t a full = go (is_correct_replica c (256 + cl)) refl full.ru
 
     go : (b : Bool) → is_correct_replica c (256 + cl) ≡ b → (b || is_correct_client c (256 + cl)) ≡ true → Accepting c past (256 + cl) t a
     go true is h = absurd (no_replica is)
-    go false is h = head (256 + cl == 256 + cl) (eq-eqb (256 + cl) (256 + cl) refl) h (full.right (256 + cl) h)
+    go false is h = head (256 + cl == 256 + cl) (eq-eqb (256 + cl) (256 + cl) refl) h (run.runs.clients (256 + cl) h)
 
 -- ---- acceptances of one timestamp are one
 
@@ -165,7 +146,7 @@ accepts_own p t a past (Installed x y z) h = absurd h
 pub accepted_once : (c : Configuration) (past : List Entry) (p t : ℕ) (a b : Outcome) → Accepting c past p t a → Once (Accepts p t b) past → ⊥
 accepted_once c past p t a b x h =
     let there : Once (Accepts p t b) (history_of p past) = once_in_history (Accepts p t b) p past (once_weaker (Accepts p t b) (λ past e. (party_of e ≡ p) × Accepts p t b (history_of p past) e) (accepts_own p t b) past h) in
-    let l = accepts_lt c p t b x.call (history_of p past) x.right x.opened there in
+    let l = accepts_lt c p t b x.call (history_of p past) (x.run.runs.clients p x.client) x.opened there in
     let e = x.time in omega arith
 
 -- ---- its level

@@ -12,7 +12,7 @@ use Rattle.protocol.specs.System.Frames.{same_mode}
 use Rattle.protocol.specs.System.Trace.{Entry, party_of, history_of, Once, Always, frames_in, SendsBody, IsFromSender, IsUnforgedAt, Has}
 use Rattle.protocol.specs.System.Trace.Entry.{Invoke, Got, Tick, Executed, Installed, Sent, Accepted}
 use Rattle.protocol.specs.Replica.State.{Call, call_in, call_of}
-use Rattle.protocol.specs.Client.RightClient.{AnyClient, MayAsk, MayRequest, OpenCall, open_call, last_call}
+use Rattle.protocol.specs.Client.RightClient.{SafeClient, MayAsk, MayRequest, OpenCall, open_call, last_call}
 use Rattle.protocol.specs.System.Texts.{ExecutesBatch}
 use Rattle.protocol.specs.Space.Linear.{Placing, batch_of, is_level, Invokes, Asks}
 use Rattle.std.specs.Bool.{then_some}
@@ -66,10 +66,10 @@ opened_op p t op (Sent x y ∷ past) own h = inr (opened_op p t op past own.1 h)
 opened_op p t op (Executed x y z ∷ past) own h = inr (opened_op p t op past own.1 h)
 opened_op p t op (Installed x y z ∷ past) own h = inr (opened_op p t op past own.1 h)
 
-pub opened_invoked : (c : Configuration) (p : ℕ) (call : OpenCall) (xs : List Entry) → AnyClient p xs → open_call xs ≡ Some call → Once (Invokes p call.timestamp call.op) xs
+pub opened_invoked : (c : Configuration) (p : ℕ) (call : OpenCall) (xs : List Entry) → SafeClient c p xs → open_call xs ≡ Some call → Once (Invokes p call.timestamp call.op) xs
 opened_invoked c p call xs r h = opened_op p call.timestamp call.op xs (own_entries c p xs r) h
 
-pub asked_op : (c : Configuration) (p t : ℕ) (mode : Mode) (text : Operation) (xs : List Entry) → AnyClient p xs → Once (Speaks (asking p t mode text)) xs → Once (Invokes p t text) xs
+pub asked_op : (c : Configuration) (p t : ℕ) (mode : Mode) (text : Operation) (xs : List Entry) → SafeClient c p xs → Once (Speaks (asking p t mode text)) xs → Once (Invokes p t text) xs
 asked_op c p t mode text [] r h = absurd h
 asked_op c p t mode text (e ∷ past) r (inr h) = inr (asked_op c p t mode text past r.1 h)
 asked_op c p t mode text (Sent x bytes ∷ past) r (inl h) =
@@ -97,7 +97,7 @@ pub invoked_in_trace : (p t : ℕ) (op : Operation) (xs : List Entry) → Once (
 invoked_in_trace p t op xs h = once_weaker (λ past e. (party_of e ≡ p) × Invokes p t op (history_of p past) e) (Invokes p t op) (λ past e u. invokes_any p t op (history_of p past) past e u.1) xs (once_in_trace (Invokes p t op) p xs h)
 
 -- no earlier invocation has a later timestamp, and one timestamp has one operation
-invokes_le : (c : Configuration) (p t : ℕ) (op : Operation) (xs : List Entry) → AnyClient p xs → Once (Invokes p t op) xs → t ≤ last_call xs
+invokes_le : (c : Configuration) (p t : ℕ) (op : Operation) (xs : List Entry) → SafeClient c p xs → Once (Invokes p t op) xs → t ≤ last_call xs
 invokes_le c p t op [] r h = absurd h
 invokes_le c p t op (Invoke x y z ∷ past) r (inl h) = let e = h.1 in omega arith
 invokes_le c p t op (Invoke x y z ∷ past) r (inr h) = let a = invokes_le c p t op past r.1 h in let n = r.0.1.0 in omega arith
@@ -114,7 +114,7 @@ invokes_le c p t op (Executed x y z ∷ past) r (inr h) = invokes_le c p t op pa
 invokes_le c p t op (Installed x y z ∷ past) r (inr h) = invokes_le c p t op past r.1 h
 invokes_le c p t op (Accepted x y z ∷ past) r (inr h) = invokes_le c p t op past r.1 h
 
-pub one_invocation : (c : Configuration) (p t : ℕ) (a b : Operation) (xs : List Entry) → AnyClient p xs → Once (Invokes p t a) xs → Once (Invokes p t b) xs → a ≡ b
+pub one_invocation : (c : Configuration) (p t : ℕ) (a b : Operation) (xs : List Entry) → SafeClient c p xs → Once (Invokes p t a) xs → Once (Invokes p t b) xs → a ≡ b
 one_invocation c p t a b [] r h k = absurd h
 one_invocation c p t a b (e ∷ past) r (inr h) (inr k) = one_invocation c p t a b past r.1 h k
 one_invocation c p t a b (Invoke x y z ∷ past) r (inl h) (inl k) = sym h.2 ∙ k.2

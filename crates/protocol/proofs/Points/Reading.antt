@@ -12,7 +12,7 @@ use Rattle.protocol.specs.System.Frames.{same_mode}
 use Rattle.protocol.specs.System.Trace.{Entry, party_of, history_of, Once, Always, Unforged, Hears}
 use Rattle.protocol.specs.System.Trace.Entry.{Invoke, Got, Tick, Executed, Installed, Sent, Accepted}
 use Rattle.protocol.specs.Replica.RightReplica.{MaySay, MayReply}
-use Rattle.protocol.specs.Client.RightClient.{AnyClient, MayAsk, MayRequest, OpenCall, open_call, last_call, Vote, vote_of, later_vote, latest, is_alike}
+use Rattle.protocol.specs.Client.RightClient.{SafeClient, MayAsk, MayRequest, OpenCall, open_call, last_call, Vote, vote_of, later_vote, latest, is_alike}
 use Rattle.protocol.specs.Space.Linear.{reached, is_level}
 use Rattle.protocol.specs.Laws.Histories.{AreReplicasSafe}
 use Rattle.protocol.proofs.Words.Modes.{same_mode-true}
@@ -31,7 +31,7 @@ use Rattle.protocol.specs.Space.Linear.{invoke_past}
 pub record Runs (c : Configuration) (xs : List Entry) : Type 0 where
   pub unforged : Unforged c xs
   pub replicas : AreReplicasSafe c xs
-  pub clients : (p : ℕ) → is_correct_client c p ≡ true → AnyClient p (history_of p xs)
+  pub clients : (p : ℕ) → is_correct_client c p ≡ true → SafeClient c p (history_of p xs)
 
 pub runs_earlier : (c : Configuration) (e : Entry) (xs : List Entry) → Runs c (e ∷ xs) → Runs c xs
 runs_earlier c e xs r = record {
@@ -40,7 +40,7 @@ runs_earlier c e xs r = record {
   clients = λ p h. go p (party_of e == p) (r.clients p h);
 }
   where
-    go : (p : ℕ) (b : Bool) → AnyClient p (cond b (e ∷ history_of p xs) (history_of p xs)) → AnyClient p (history_of p xs)
+    go : (p : ℕ) (b : Bool) → SafeClient c p (cond b (e ∷ history_of p xs) (history_of p xs)) → SafeClient c p (history_of p xs)
     go p true h = h.1
     go p false h = h
 
@@ -75,7 +75,7 @@ opened p t op (Sent x y ∷ past) own h = inr (opened p t op past own.1 h)
 opened p t op (Executed x y z ∷ past) own h = inr (opened p t op past own.1 h)
 opened p t op (Installed x y z ∷ past) own h = inr (opened p t op past own.1 h)
 
-pub own_entries : (c : Configuration) (p : ℕ) (xs : List Entry) → AnyClient p xs → Always (λ past e. party_of e ≡ p) xs
+pub own_entries : (c : Configuration) (p : ℕ) (xs : List Entry) → SafeClient c p xs → Always (λ past e. party_of e ≡ p) xs
 own_entries c p [] r = tt
 own_entries c p (e ∷ xs) r = (r.0.0, own_entries c p xs r.1)
 
@@ -83,7 +83,7 @@ abbrev pub asking : ℕ → ℕ → Mode → Operation → Body
 asking p t mode text = record { sender = p; message = Request t mode text }
 
 -- what a right client asks it invoked
-pub asked_invoked : (c : Configuration) (p t : ℕ) (mode : Mode) (text : Operation) (xs : List Entry) → AnyClient p xs → Once (Speaks (asking p t mode text)) xs → Once (InvokesAt p t) xs
+pub asked_invoked : (c : Configuration) (p t : ℕ) (mode : Mode) (text : Operation) (xs : List Entry) → SafeClient c p xs → Once (Speaks (asking p t mode text)) xs → Once (InvokesAt p t) xs
 asked_invoked c p t mode text [] r h = absurd h
 asked_invoked c p t mode text (e ∷ past) r (inr h) = inr (asked_invoked c p t mode text past r.1 h)
 asked_invoked c p t mode text (Sent x bytes ∷ past) r (inl h) =
@@ -241,10 +241,10 @@ last_of-history p (Accepted x y z ∷ xs) = other (256 + x == p) (last_of-histor
     other false h = h
 
 -- an invocation of a right client has the next timestamp
-next_time : (c : Configuration) (p client t : ℕ) (op : Operation) (past : List Entry) → AnyClient p (history_of p (Invoke client t op ∷ past)) → (256 + client == p) ≡ true → t ≡ suc (last_of p past)
+next_time : (c : Configuration) (p client t : ℕ) (op : Operation) (past : List Entry) → SafeClient c p (history_of p (Invoke client t op ∷ past)) → (256 + client == p) ≡ true → t ≡ suc (last_of p past)
 next_time c p client t op past r is = go (256 + client == p) is r
   where
-    go : (b : Bool) → b ≡ true → AnyClient p (cond b (Invoke client t op ∷ history_of p past) (history_of p past)) → t ≡ suc (last_of p past)
+    go : (b : Bool) → b ≡ true → SafeClient c p (cond b (Invoke client t op ∷ history_of p past) (history_of p past)) → t ≡ suc (last_of p past)
     go true e r = r.0.1.0 ∙ ap suc (last_of-history p past)
     go false e r = absurd cc
 

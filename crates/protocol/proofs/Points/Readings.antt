@@ -22,12 +22,12 @@ use Rattle.protocol.proofs.Words.Temporal.{once_weaker}
 use Rattle.protocol.proofs.Words.Options.{some_injective, and_then_some, then_some_gives}
 use Rattle.protocol.proofs.Agreement.States.{once_append}
 use Rattle.protocol.proofs.Points.Levels.{level_stays}
-use Rattle.protocol.proofs.Points.Running.{Run, state_by, level_executed, executed_greatest}
+use Rattle.protocol.proofs.Points.Running.{Run, run_earlier, state_by, level_executed, executed_greatest}
 use Rattle.protocol.proofs.Points.Sorting.{AllOf, all_weaker, Stands, IsReadAt, tuples_at}
 use Rattle.protocol.proofs.Points.Ran.{place_lower, tuples_by}
 use Rattle.protocol.proofs.Points.Keeping.{IsRanPoint, ran_point, Differ, AllDiffer}
 use Rattle.protocol.proofs.Points.Invoking.{once_within, opened_invoked, invoked_in_trace, one_invocation}
-use Rattle.protocol.proofs.Points.Accepting.{Accepting, accepting, accepted_once, accepted_level, accepted_place, read_before, embedded, replied, read_replied, ordered_replied, voted, Voted, Answers, IsSpaceAnswer, FullRun, full_earlier}
+use Rattle.protocol.proofs.Points.Accepting.{Accepting, accepting, accepted_once, accepted_level, accepted_place, read_before, embedded, replied, read_replied, ordered_replied, voted, Voted, Answers, IsSpaceAnswer}
 use Rattle.protocol.specs.Space.Linear.{last_executed}
 use Rattle.tuple_tree.specs.Values.{TupleTree}
 use Rattle.tuple_codec.specs.Operations.{Outcome, Operation}
@@ -123,7 +123,7 @@ mode_accepts c mode p t (Sent x y ∷ past) (inl h) = absurd h
 mode_accepts c mode p t (Executed x y z ∷ past) (inl h) = absurd h
 mode_accepts c mode p t (Installed x y z ∷ past) (inl h) = absurd h
 
-not_again : (c : Configuration) (mode other : Mode) (p t : ℕ) (past : List Entry) (e : Entry) → FullRun c (e ∷ past) → ModeAt c mode p t past e → Once (ModeAt c other p t) past → ⊥
+not_again : (c : Configuration) (mode other : Mode) (p t : ℕ) (past : List Entry) (e : Entry) → Run c (e ∷ past) → ModeAt c mode p t past e → Once (ModeAt c other p t) past → ⊥
 not_again c mode other p t past (Accepted x y z) run h k =
     let r = mode_accepts c other p t past k in
     accepted_once c past (256 + x) y z r.0 (accepting c past x y z run)
@@ -146,14 +146,14 @@ both_modes c p t past (Sent x y) h k = h
 both_modes c p t past (Executed x y z) h k = h
 both_modes c p t past (Installed x y z) h k = h
 
-pub one_mode : (c : Configuration) (p t : ℕ) (xs : List Entry) → FullRun c xs → Once (ModeAt c modes.ReadOnly p t) xs → Once (ModeAt c modes.Ordered p t) xs → ⊥
+pub one_mode : (c : Configuration) (p t : ℕ) (xs : List Entry) → Run c xs → Once (ModeAt c modes.ReadOnly p t) xs → Once (ModeAt c modes.Ordered p t) xs → ⊥
 one_mode c p t [] run h k = h
 one_mode c p t (e ∷ past) run (inl h) (inl k) = both_modes c p t past e h k
 one_mode c p t (e ∷ past) run (inl h) (inr k) = not_again c modes.ReadOnly modes.Ordered p t past e run h k
 one_mode c p t (e ∷ past) run (inr h) (inl k) = not_again c modes.Ordered modes.ReadOnly p t past e run k h
-one_mode c p t (e ∷ past) run (inr h) (inr k) = one_mode c p t past (full_earlier c e past run) h k
+one_mode c p t (e ∷ past) run (inr h) (inr k) = one_mode c p t past (run_earlier c e past run) h k
 
-mode_made : (c : Configuration) (trace : List Entry) (y : Placing) (past : List Entry) (e : Entry) → FullRun c (e ∷ past) → MadeAt c trace y past e → ModeAt c modes.ReadOnly y.item.client y.item.timestamp past e
+mode_made : (c : Configuration) (trace : List Entry) (y : Placing) (past : List Entry) (e : Entry) → Run c (e ∷ past) → MadeAt c trace y past e → ModeAt c modes.ReadOnly y.item.client y.item.timestamp past e
 mode_made c trace y past (Accepted cl t a) run m =
     let x = accepting c past cl t a run in
     let call : x.call ≡ m.0 = some_injective x.call m.0 (sym x.opened ∙ m.2) in
@@ -166,33 +166,33 @@ mode_made c trace y past (Sent x z) run m = absurd m
 mode_made c trace y past (Executed x z w) run m = absurd m
 mode_made c trace y past (Installed x z w) run m = absurd m
 
-pub made_mode : (c : Configuration) (trace : List Entry) (y : Placing) (xs : List Entry) → FullRun c xs → Once (MadeAt c trace y) xs → Once (ModeAt c modes.ReadOnly y.item.client y.item.timestamp) xs
+pub made_mode : (c : Configuration) (trace : List Entry) (y : Placing) (xs : List Entry) → Run c xs → Once (MadeAt c trace y) xs → Once (ModeAt c modes.ReadOnly y.item.client y.item.timestamp) xs
 made_mode c trace y [] run h = h
 made_mode c trace y (e ∷ past) run (inl h) = inl (mode_made c trace y past e run h)
-made_mode c trace y (e ∷ past) run (inr h) = inr (made_mode c trace y past (full_earlier c e past run) h)
+made_mode c trace y (e ∷ past) run (inr h) = inr (made_mode c trace y past (run_earlier c e past run) h)
 
 -- no read is there twice
-pub reads_differ : (c : Configuration) (trace xs : List Entry) → FullRun c xs → AllDiffer (read_points c trace xs)
+pub reads_differ : (c : Configuration) (trace xs : List Entry) → Run c xs → AllDiffer (read_points c trace xs)
 reads_differ c trace [] run = tt
-reads_differ c trace (Accepted cl t a ∷ past) run = go (made_option c trace (256 + cl) t a past) refl (reads_differ c trace past (full_earlier c (Accepted cl t a) past run))
+reads_differ c trace (Accepted cl t a ∷ past) run = go (made_option c trace (256 + cl) t a past) refl (reads_differ c trace past (run_earlier c (Accepted cl t a) past run))
   where
     go : (o : Option Placing) → made_option c trace (256 + cl) t a past ≡ o → AllDiffer (read_points c trace past) → AllDiffer (option_map_or (λ point. point ∷ []) o [] ++ read_points c trace past)
     go None is rest = rest
     go (Some y) is rest = (
       all_weaker (λ z. Once (MadeAt c trace z) past) (Differ y) (λ z h same time.
           let k = mode_made c trace y past (Accepted cl t a) run (made_here c trace y past cl t a is) in
-          let early = made_mode c trace z past (full_earlier c (Accepted cl t a) past run) h in
+          let early = made_mode c trace z past (run_earlier c (Accepted cl t a) past run) h in
           let moved : Once (ModeAt c modes.ReadOnly y.item.client y.item.timestamp) past = subst (λ (i : ℕ). Once (ModeAt c modes.ReadOnly i y.item.timestamp) past) (sym same) (subst (λ (i : ℕ). Once (ModeAt c modes.ReadOnly z.item.client i) past) (sym time) early) in
           not_again c modes.ReadOnly modes.ReadOnly y.item.client y.item.timestamp past (Accepted cl t a) run k moved)
           (read_points c trace past) (reads_made c trace past),
       rest,
     )
-reads_differ c trace (Invoke x y z ∷ past) run = reads_differ c trace past (full_earlier c (Invoke x y z) past run)
-reads_differ c trace (Got x y ∷ past) run = reads_differ c trace past (full_earlier c (Got x y) past run)
-reads_differ c trace (Tick x ∷ past) run = reads_differ c trace past (full_earlier c (Tick x) past run)
-reads_differ c trace (Sent x y ∷ past) run = reads_differ c trace past (full_earlier c (Sent x y) past run)
-reads_differ c trace (Executed x y z ∷ past) run = reads_differ c trace past (full_earlier c (Executed x y z) past run)
-reads_differ c trace (Installed x y z ∷ past) run = reads_differ c trace past (full_earlier c (Installed x y z) past run)
+reads_differ c trace (Invoke x y z ∷ past) run = reads_differ c trace past (run_earlier c (Invoke x y z) past run)
+reads_differ c trace (Got x y ∷ past) run = reads_differ c trace past (run_earlier c (Got x y) past run)
+reads_differ c trace (Tick x ∷ past) run = reads_differ c trace past (run_earlier c (Tick x) past run)
+reads_differ c trace (Sent x y ∷ past) run = reads_differ c trace past (run_earlier c (Sent x y) past run)
+reads_differ c trace (Executed x y z ∷ past) run = reads_differ c trace past (run_earlier c (Executed x y z) past run)
+reads_differ c trace (Installed x y z ∷ past) run = reads_differ c trace past (run_earlier c (Installed x y z) past run)
 
 -- ---- where a read stands
 

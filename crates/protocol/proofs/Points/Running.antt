@@ -13,7 +13,7 @@ use Rattle.protocol.specs.Replica.Certificates.{first_given}
 use Rattle.std.specs.Bool.{then_some}
 use Rattle.quorum.specs.Votes.{or_else}
 use Rattle.protocol.specs.Replica.RightReplica.{Leaves}
-use Rattle.protocol.specs.Client.RightClient.{AnyClient}
+use Rattle.protocol.specs.Client.RightClient.{SafeClient}
 use Rattle.protocol.specs.Replica.State.{State, opening, execute, after_batches}
 use Rattle.protocol.specs.System.Texts.{IsText, Holds, NoCollision, AreExecuted, ExecutesBatch}
 use Rattle.protocol.specs.System.Texts.IsText.{null, batch, part, held, page_of, under}
@@ -91,7 +91,7 @@ given_executed c k b past (Executed r number text) run h =
     let g = then_some_gives (number == k) text b h in
     (pick (is_correct_replica c r) refl run.parties.0, eqb-true number k g.0, g.1)
   where
-    own : (x : Bool) → (r == r) ≡ x → x ≡ true → AnyClient r (cond x (Executed r number text ∷ history_of r past) (history_of r past)) → ⊥
+    own : (x : Bool) → (r == r) ≡ x → x ≡ true → SafeClient c r (cond x (Executed r number text ∷ history_of r past) (history_of r past)) → ⊥
     own true is e right = right.0.1
     own false is e right = absurd cc
 

@@ -1,6 +1,6 @@
 -- The points of a run are those of one sequential tuple space.
 use Rattle.std.proofs.Common.{◌≡◌, ℕ, ◌+◌, ◌≤◌, ◌⊎◌, inl, inr, Bool, true, false, not, cond, List, [], ◌∷◌, ◌++◌, length, map, filter, refl, sym, ap, ◌∙◌, subst, arith, ◌&&◌, ◌||◌, eqb-true, eq-eqb}
-use Rattle.std.specs.Prelude.{◌==◌, ⊤}
+use Rattle.std.specs.Prelude.{◌==◌}
 use Rattle.std.proofs.lemmas.Bool.{and_parts}
 use Rattle.protocol.proofs.Words.Options
 use Rattle.protocol.proofs.Agreement.States
@@ -11,18 +11,18 @@ use Rattle.protocol.specs.System.Trace.{Entry, party_of, history_of, Once, Alway
 use Rattle.protocol.specs.System.Trace.Entry.{Invoke, Got, Tick, Executed, Installed, Sent, Accepted}
 use Rattle.space.specs.Applying.{tuples_after}
 use Rattle.protocol.specs.Replica.State.{opening}
-use Rattle.protocol.specs.Client.RightClient.{OpenCall, Vote, SafeClient, AnyClient, MayClient, MayAccept}
+use Rattle.protocol.specs.Client.RightClient.{OpenCall, Vote}
 use Rattle.protocol.specs.System.Texts.{NoCollision}
 use Rattle.protocol.specs.Space.Linear.{Item, Placing, Legal, IsLinear, Invokes, Accepts, Asks, first_position, read_points, is_double, sorted, insert_point, comes_before, points}
 use Rattle.protocol.specs.Laws.Histories.{LinearOfSafe, IsSafeTrace}
 use Rattle.protocol.proofs.Words.Temporal.{once_weaker, once_in_history}
 use Rattle.protocol.proofs.Points.Legality.{legal_ordered}
-use Rattle.protocol.proofs.Points.Running.{Run}
+use Rattle.protocol.proofs.Points.Running.{Run, run_earlier}
 use Rattle.protocol.proofs.Points.Sorting.{AllOf, all_weaker, all_both, all_append, all_filter, all_has, sorted_all, Changes, IsOrdered, Stands, IsRight, read_same, sorted_legal, sorted_never_fall}
 use Rattle.protocol.proofs.Points.Ran.{Source, ordered_sources, source_ordered, points_ascend, points_from, has_map_all}
 use Rattle.protocol.proofs.Points.Keeping.{IsRanPoint, Differ, AllDiffer, differ_filter, differ_append, differ_sorted, differ_same, none_twice, points_differ, opening_full}
-use Rattle.protocol.proofs.Points.Invoking.{once_split, one_invocation, ran_asked, ran_invoked}
-use Rattle.protocol.proofs.Points.Accepting.{FullRun, full_part, Accepting, accepting, Answers, accepted_place, accepted_level, read_before, full_earlier}
+use Rattle.protocol.proofs.Points.Invoking.{run_part, once_split, one_invocation, ran_asked, ran_invoked}
+use Rattle.protocol.proofs.Points.Accepting.{Accepting, accepting, Answers, accepted_place, accepted_level, read_before}
 use Rattle.protocol.proofs.Points.Readings.{read_of, MadeAt, ModeAt, reads_made, made_read, made_mode, one_mode, reads_differ, all_ordered, ReadFacts, read_facts, read_bound, ordered_has}
 use Rattle.protocol.specs.Space.Linear.{last_executed}
 use Rattle.tuple_codec.specs.Operations.{Operation, Outcome}
@@ -126,10 +126,7 @@ pub record ItemFacts (c : Configuration) (trace : List Entry) (item : Item) : Ty
   pub invoked : is_correct_client c item.client ≡ true → Once (λ past e. Invokes item.client item.timestamp item.op past e × (length past ≤ item.position)) trace
   pub asked : is_correct_client c item.client ≡ false → Once (λ past e. Asks c item.client item.timestamp item.op past e × (length past ≤ item.position)) trace
 
-module _ (c : Configuration) (trace : List Entry) (full : FullRun c trace) where
-  abbrev run : Run c trace
-  run = full.run
-
+module _ (c : Configuration) (trace : List Entry) (run : Run c trace) where
   abbrev reads : List Placing
   reads = read_points c trace trace
 
@@ -154,7 +151,7 @@ module _ (c : Configuration) (trace : List Entry) (full : FullRun c trace) where
     where
       go : (later past : List Entry) (e : Entry) → trace ≡ later ++ e ∷ past → MadeAt c trace y past e → ReadFacts c trace y
       go later past (Accepted cl t a) is m =
-          let x = accepting c past cl t a (full_part c later (Accepted cl t a ∷ past) (subst (FullRun c) is full)) in
+          let x = accepting c past cl t a (run_part c later (Accepted cl t a ∷ past) (subst (Run c) is run)) in
           let call = Options.some_injective x.call m.0 (sym x.opened ∙ m.2) in
           let vote = Options.some_injective x.vote m.1 (sym x.newest ∙ m.3) in
           let in_mode : x.vote.mode ≡ modes.ReadOnly = ap (λ (v : Vote). v.mode) vote ∙ m.4 in
@@ -205,7 +202,7 @@ module _ (c : Configuration) (trace : List Entry) (full : FullRun c trace) where
       (all_weaker (ReadFacts c trace) (IsRight [] (all_ordered c trace)) (λ y f. f.right) reads facts)
 
   differ : AllDiffer all_points
-  differ = differ_append kept reads (differ_filter keep (all_ordered c trace) (points_differ c run.setting trace opening 1 (last_executed trace) refl opening_full).1) (reads_differ c trace trace full)
+  differ = differ_append kept reads (differ_filter keep (all_ordered c trace) (points_differ c run.setting trace opening 1 (last_executed trace) refl opening_full).1) (reads_differ c trace trace run)
       (all_weaker (λ x. keep x ≡ true) (λ x. AllOf (Differ x) reads) (λ x k. not_double reads x (single (is_double reads x) k)) kept (kept_all keep (all_ordered c trace)))
     where
       single : (b : Bool) → not b ≡ true → b ≡ false
@@ -233,7 +230,7 @@ module _ (c : Configuration) (trace : List Entry) (full : FullRun c trace) where
   shown later past cl t a is = go x.vote.mode refl
     where
       x : Accepting c past (256 + cl) t a
-      x = accepting c past cl t a (full_part c later (Accepted cl t a ∷ past) (subst (FullRun c) is full))
+      x = accepting c past cl t a (run_part c later (Accepted cl t a ∷ past) (subst (Run c) is run))
 
       whole : (Q : List Entry → Entry → Type 0) → Q past (Accepted cl t a) → Once Q trace
       whole Q h = subst (λ (ys : List Entry). Once Q ys) (sym is) (States.once_append Q later (Accepted cl t a ∷ past) (inl h))
@@ -271,9 +268,9 @@ module _ (c : Configuration) (trace : List Entry) (full : FullRun c trace) where
           single z client time true e =
               let d = double_has reads z e in
               let made = all_has (λ y. Once (MadeAt c trace y) trace) reads d.0 (reads_made c trace trace) d.1 in
-              let read = made_mode c trace d.0 trace full made in
+              let read = made_mode c trace d.0 trace run made in
               let moved : Once (ModeAt c modes.ReadOnly (256 + cl) t) trace = subst (λ (i : ℕ). Once (ModeAt c modes.ReadOnly (256 + cl) i) trace) (d.3 ∙ time) (subst (λ (i : ℕ). Once (ModeAt c modes.ReadOnly i d.0.item.timestamp) trace) (d.2 ∙ client) read) in
-              absurd (one_mode c (256 + cl) t trace full moved (whole (ModeAt c modes.Ordered (256 + cl) t) (refl, refl, (x.vote, x.newest, in_mode))))
+              absurd (one_mode c (256 + cl) t trace run moved (whole (ModeAt c modes.Ordered (256 + cl) t) (refl, refl, (x.vote, x.newest, in_mode))))
 
   accepted_there : (p t : ℕ) (a : Outcome) → is_correct_client c p ≡ true → Once (Accepts p t a) trace
       → Has (λ item. (item.client ≡ p) × (item.timestamp ≡ t) × (item.answer ≡ a) × Once (Invokes p t item.op) trace) (map (λ (x : Placing). x.item) (sorted all_points))
@@ -345,32 +342,16 @@ module _ (c : Configuration) (trace : List Entry) (full : FullRun c trace) where
   unfolding points
   points_linear = linear
 
-any_client : (c : Configuration) (p : ℕ) (xs : List Entry) → SafeClient c p xs → AnyClient p xs
-any_client c p [] r = tt
-any_client c p (e ∷ xs) r = ((r.0.0, go e r.0.1), any_client c p xs r.1)
-  where
-    go : (e : Entry) → MayClient (MayAccept c p) p xs e → MayClient (λ past timestamp answer. ⊤) p xs e
-    go (Invoke x y z) h = h
-    go (Got x y) h = h
-    go (Tick x) h = h
-    go (Executed x y z) h = h
-    go (Installed x y z) h = h
-    go (Sent x y) h = h
-    go (Accepted x y z) h = tt
-
-pub full_run : (c : Configuration) → IsConfiguration c → (trace : List Entry) → IsSafeTrace c trace → Unforged c trace → NoCollision c trace → FullRun c trace
-full_run c setting trace right unforged apart = record {
-  run = record {
-    setting = setting;
-    runs = record { unforged = unforged; replicas = right.replicas; clients = λ p h. any_client c p (history_of p trace) (right.clients p h) };
-    apart = apart;
-    parties = right.parties;
-  };
-  right = right.clients;
+pub safe_run : (c : Configuration) → IsConfiguration c → (trace : List Entry) → IsSafeTrace c trace → Unforged c trace → NoCollision c trace → Run c trace
+safe_run c setting trace right unforged apart = record {
+  setting = setting;
+  runs = record { unforged = unforged; replicas = right.replicas; clients = right.clients };
+  apart = apart;
+  parties = right.parties;
 }
 
 pub linear_of_right : LinearOfSafe
-linear_of_right c setting trace right unforged apart = points_linear c trace (full_run c setting trace right unforged apart)
+linear_of_right c setting trace right unforged apart = points_linear c trace (safe_run c setting trace right unforged apart)
 
 -- the histories of a run are safe
 run_is_safe : (c : Configuration) (trace : List Entry) → IsRun c trace → IsSafeTrace c trace
@@ -387,21 +368,21 @@ pub runs_are_linear : RunsAreLinear
 runs_are_linear c setting trace run unforged apart = (points c trace, points_are_linear c setting trace run unforged apart)
 
 pub levels_of_safe : LevelsOfSafe
-levels_of_safe c setting trace right unforged apart = each trace (full_run c setting trace right unforged apart)
+levels_of_safe c setting trace right unforged apart = each trace (safe_run c setting trace right unforged apart)
   where
-    at : (past : List Entry) (e : Entry) → FullRun c (e ∷ past) → AtItsLevel c past e
-    at past (Accepted k t a) full =
-        let x = accepting c past k t a full in (x.vote, x.newest, accepted_level c past (256 + k) t a x, λ in_mode n above. read_before c past (256 + k) t a x in_mode n above)
-    at past (Invoke x y z) full = tt
-    at past (Got x y) full = tt
-    at past (Tick x) full = tt
-    at past (Executed x y z) full = tt
-    at past (Installed x y z) full = tt
-    at past (Sent x y) full = tt
+    at : (past : List Entry) (e : Entry) → Run c (e ∷ past) → AtItsLevel c past e
+    at past (Accepted k t a) run =
+        let x = accepting c past k t a run in (x.vote, x.newest, accepted_level c past (256 + k) t a x, λ in_mode n above. read_before c past (256 + k) t a x in_mode n above)
+    at past (Invoke x y z) run = tt
+    at past (Got x y) run = tt
+    at past (Tick x) run = tt
+    at past (Executed x y z) run = tt
+    at past (Installed x y z) run = tt
+    at past (Sent x y) run = tt
 
-    each : (xs : List Entry) → FullRun c xs → Always (AtItsLevel c) xs
-    each [] full = tt
-    each (e ∷ past) full = (at past e full, each past (full_earlier c e past full))
+    each : (xs : List Entry) → Run c xs → Always (AtItsLevel c) xs
+    each [] run = tt
+    each (e ∷ past) run = (at past e run, each past (run_earlier c e past run))
 
 pub accepted_at_levels : AcceptedAtLevels
 accepted_at_levels c setting trace run unforged apart = levels_of_safe c setting trace (run_is_safe c trace run) unforged apart

@@ -9,16 +9,16 @@ use Rattle.protocol.specs.System.Configuration.{Configuration}
 use Rattle.wire.specs.Messages.{request as Request}
 use Rattle.protocol.specs.System.Trace.{Entry, party_of, is_output, Always, either}
 use Rattle.protocol.specs.System.Trace.Entry.{Invoke, Got, Tick, Executed, Installed, Sent, Accepted}
-use Rattle.protocol.specs.Client.RightClient.{OpenCall, open_call, Vote, newest_vote, is_complete, went_ordered, is_answered, Reaction, fallback, on_reply, on_got, first_mode, reaction, is_weakly_complete, weakly_on_got, weak_reaction, IsReaction, MayInput, Reacts, IsClientBy, IsClient, IsWeakClient, MayAccept, MayWeaklyAccept, MayClient, RightBy, SafeClient, SafeWeakClient}
+use Rattle.protocol.specs.Client.RightClient.{OpenCall, open_call, Vote, newest_vote, is_complete, went_ordered, is_answered, Reaction, fallback, on_reply, on_got, first_mode, reaction, IsReaction, MayInput, Reacts, IsClient, MayAccept, MayClient, SafeClient}
 use Rattle.protocol.specs.Client.RightClient.Reaction.{nothing, asks, accepts}
 use Rattle.protocol.specs.Replica.RightReplica.{first_point, Point, Leaves, SafeReplica, waiting_after}
 use Rattle.protocol.specs.Replica.Owed.{Owes, Proceeds, IsInput, IsReplica}
 
--- ---- clients, by what they react
+-- ---- the outputs of an event
 
-module _ (c : Configuration) (me : ℕ) (react : List Entry → Reaction) where
+module _ (c : Configuration) (me : ℕ) where
   -- an event has one output at most
-  pub one_output : (x y : Entry) (outputs xs : List Entry) → Reacts c me react (x ∷ y ∷ outputs) xs → ⊥
+  pub one_output : (x y : Entry) (outputs xs : List Entry) → Reacts c me (reaction c me) (x ∷ y ∷ outputs) xs → ⊥
   one_output x y outputs [] h = cc
   one_output x y outputs (e ∷ past) h = go (is_output e) h.1 (one_output e x (y ∷ outputs) past)
     where
@@ -27,61 +27,12 @@ module _ (c : Configuration) (me : ℕ) (react : List Entry → Reaction) where
       two (asks mode call) k = let bad : x ∷ y ∷ outputs ≡ Sent me k.0 ∷ [] = k.1 in cc
       two (accepts t a) k = let bad : x ∷ y ∷ outputs ≡ Accepted k.0 t a ∷ [] = k.1 in cc
 
-      go : (b : Bool) → either b (Reacts c me react (e ∷ x ∷ y ∷ outputs) past) (MayInput past e × IsReaction c me (react (e ∷ past)) (x ∷ y ∷ outputs) × Reacts c me react [] past)
-          → (Reacts c me react (e ∷ x ∷ y ∷ outputs) past → ⊥) → ⊥
+      go : (b : Bool) → either b (Reacts c me (reaction c me) (e ∷ x ∷ y ∷ outputs) past) (MayInput past e × IsReaction c me (reaction c me (e ∷ past)) (x ∷ y ∷ outputs) × Reacts c me (reaction c me) [] past)
+          → (Reacts c me (reaction c me) (e ∷ x ∷ y ∷ outputs) past → ⊥) → ⊥
       go true k below = below k
-      go false k below = two (react (e ∷ past)) k.1
+      go false k below = two (reaction c me (e ∷ past)) k.1
 
-module _ (c : Configuration) (me : ℕ) (react : List Entry → Reaction) (Accepting : List Entry → ℕ → Outcome → Type 0)
-    (asks_open : (now : List Entry) (mode : Mode) (call : OpenCall) → react now ≡ asks mode call → (open_call now ≡ Some call) × (mode ≡ modes.ReadOnly → is_read_only call.op ≡ true))
-    (accepts_may : (now : List Entry) (t : ℕ) (a : Outcome) → react now ≡ accepts t a → Accepting now t a) where
-  -- it is what the client may do
-  output_may : (e : Entry) (outputs now : List Entry) (r : Reaction) → react now ≡ r → IsReaction c me r (e ∷ outputs) → MayClient Accepting me now e
-  output_may e outputs now nothing is h = absurd cc
-  output_may e outputs now (asks mode call) is h = subst (MayClient Accepting me now) (sym (head e (Sent me h.0) outputs h.1)) asked
-    where
-      head : (x y : Entry) (xs : List Entry) → x ∷ xs ≡ y ∷ [] → x ≡ y
-      head x y xs e = cc
-
-      asked : MayClient Accepting me now (Sent me h.0)
-      asked = (record { sender = me; message = Request call.timestamp mode call.op }, h.2.says, refl, asks_open now mode call is)
-  output_may e outputs now (accepts t a) is h = subst (MayClient Accepting me now) (sym (head e (Accepted h.0 t a) outputs h.1)) (accepts_may now t a is)
-    where
-      head : (x y : Entry) (xs : List Entry) → x ∷ xs ≡ y ∷ [] → x ≡ y
-      head x y xs e = cc
-
-  behind : (e : Entry) (outputs past : List Entry) → Reacts c me react (e ∷ outputs) past → MayClient Accepting me past e
-  behind e outputs [] h = absurd cc
-  behind e outputs (f ∷ past) h = go (is_output f) h.1
-    where
-      go : (b : Bool) → either b (Reacts c me react (f ∷ e ∷ outputs) past) (MayInput past f × IsReaction c me (react (f ∷ past)) (e ∷ outputs) × Reacts c me react [] past) → MayClient Accepting me (f ∷ past) e
-      go true k = absurd (one_output c me react f e outputs past k)
-      go false k = output_may e outputs (f ∷ past) (react (f ∷ past)) refl k.1
-
-  input_may : (past : List Entry) (e : Entry) → MayInput past e → MayClient Accepting me past e
-  input_may past (Invoke x y z) h = h
-  input_may past (Got x y) h = h
-  input_may past (Tick x) h = h
-  input_may past (Executed x y z) h = h
-  input_may past (Installed x y z) h = h
-  input_may past (Sent x y) h = absurd h
-  input_may past (Accepted x y z) h = absurd h
-
-  reacts_right : (outputs xs : List Entry) → Reacts c me react outputs xs → RightBy Accepting me xs
-  reacts_right outputs [] h = tt
-  reacts_right outputs (e ∷ past) h = go (is_output e) h.1 (reacts_right (e ∷ outputs) past) (reacts_right [] past)
-    where
-      go : (b : Bool) → either b (Reacts c me react (e ∷ outputs) past) (MayInput past e × IsReaction c me (react (e ∷ past)) outputs × Reacts c me react [] past)
-          → (Reacts c me react (e ∷ outputs) past → RightBy Accepting me past) → (Reacts c me react [] past → RightBy Accepting me past) → RightBy Accepting me (e ∷ past)
-      go true k more none = ((h.0, behind e outputs past k), more k)
-      go false k more none = ((h.0, input_may past e k.0), none k.2)
-
-  pub client_right : (xs : List Entry) → IsClientBy c me react xs → RightBy Accepting me xs
-  client_right [] h = tt
-  client_right (e ∷ past) (inl h) = reacts_right [] (e ∷ past) h
-  client_right (e ∷ past) (inr h) = ((h.0, input_may past e h.1), client_right past h.2)
-
--- ---- the client
+-- ---- what a client reacts
 
 falls_back : (c : Configuration) (me : ℕ) (now : List Entry) (call x : OpenCall) (mode : Mode) → fallback c me now call ≡ asks mode x → (x ≡ call) × (mode ≡ modes.Ordered)
 falls_back c me now call x mode h = go (not (went_ordered now call.timestamp) && is_answered c me now call.timestamp) h
@@ -189,80 +140,54 @@ client_accepts c me (Installed x y z ∷ past) t a h = absurd cc
 client_accepts c me (Sent x y ∷ past) t a h = absurd cc
 client_accepts c me (Accepted x y z ∷ past) t a h = absurd cc
 
-pub is_client_right : (c : Configuration) (me : ℕ) (xs : List Entry) → IsClient c me xs → SafeClient c me xs
-is_client_right c me xs h = client_right c me (reaction c me) (MayAccept c me) (client_asks c me) (client_accepts c me) xs h
+-- ---- what it gives it may do
 
--- ---- the weak client
+module _ (c : Configuration) (me : ℕ) where
+  -- it is what the client may do
+  output_may : (e : Entry) (outputs now : List Entry) (r : Reaction) → reaction c me now ≡ r → IsReaction c me r (e ∷ outputs) → MayClient (MayAccept c me) me now e
+  output_may e outputs now nothing is h = absurd cc
+  output_may e outputs now (asks mode call) is h = subst (MayClient (MayAccept c me) me now) (sym (head e (Sent me h.0) outputs h.1)) asked
+    where
+      head : (x y : Entry) (xs : List Entry) → x ∷ xs ≡ y ∷ [] → x ≡ y
+      head x y xs e = cc
 
-weak_asks : (c : Configuration) (me : ℕ) (now : List Entry) (mode : Mode) (call : OpenCall) → weak_reaction c me now ≡ asks mode call → (open_call now ≡ Some call) × (mode ≡ modes.ReadOnly → is_read_only call.op ≡ true)
-weak_asks c me [] mode call h = absurd cc
-weak_asks c me (Invoke client t op ∷ past) mode call h = (ap Some (called h), λ e. not_read mode (sym (in_mode h)) e (is_read_only call.op ≡ true))
-  where
-    called : asks modes.Ordered (let x : OpenCall = record { timestamp = t; op = op } in x) ≡ asks mode call → ◌≡◌ {A = OpenCall} (record { timestamp = t; op = op }) call
-    called e = cc
+      asked : MayClient (MayAccept c me) me now (Sent me h.0)
+      asked = (record { sender = me; message = Request call.timestamp mode call.op }, h.2.says, refl, client_asks c me now mode call is)
+  output_may e outputs now (accepts t a) is h = subst (MayClient (MayAccept c me) me now) (sym (head e (Accepted h.0 t a) outputs h.1)) (client_accepts c me now t a is)
+    where
+      head : (x y : Entry) (xs : List Entry) → x ∷ xs ≡ y ∷ [] → x ≡ y
+      head x y xs e = cc
 
-    in_mode : asks modes.Ordered (let x : OpenCall = record { timestamp = t; op = op } in x) ≡ asks mode call → modes.Ordered ≡ mode
-    in_mode e = cc
-weak_asks c me (Got p bytes ∷ past) mode call h = absurd (go (open_call past) h)
-  where
-    go : (o : Option OpenCall) → option_map_or (weakly_on_got c me (Got p bytes ∷ past)) o nothing ≡ asks mode call → ⊥
-    go None h = cc
-    go (Some x) h = votes (newest_vote c me (Got p bytes ∷ past) x.timestamp) h
-      where
-        votes : (o : Option Vote) → option_map_or (λ vote. cond (is_weakly_complete c me (Got p bytes ∷ past) x.timestamp vote) (accepts x.timestamp vote.answer) nothing) o nothing ≡ asks mode call → ⊥
-        votes None h = cc
-        votes (Some vote) h = test (is_weakly_complete c me (Got p bytes ∷ past) x.timestamp vote) h
-          where
-            test : (b : Bool) → cond b (accepts x.timestamp vote.answer) nothing ≡ asks mode call → ⊥
-            test true h = cc
-            test false h = cc
-weak_asks c me (Tick p ∷ past) mode call h = go (open_call past) h
-  where
-    go : (o : Option OpenCall) → option_map_or (asks modes.Ordered) o nothing ≡ asks mode call → (o ≡ Some call) × (mode ≡ modes.ReadOnly → is_read_only call.op ≡ true)
-    go None h = absurd cc
-    go (Some x) h = (ap Some (called h), λ e. not_read mode (sym (in_mode h)) e (is_read_only call.op ≡ true))
-      where
-        called : asks modes.Ordered x ≡ asks mode call → x ≡ call
-        called e = cc
+  behind : (e : Entry) (outputs past : List Entry) → Reacts c me (reaction c me) (e ∷ outputs) past → MayClient (MayAccept c me) me past e
+  behind e outputs [] h = absurd cc
+  behind e outputs (f ∷ past) h = go (is_output f) h.1
+    where
+      go : (b : Bool) → either b (Reacts c me (reaction c me) (f ∷ e ∷ outputs) past) (MayInput past f × IsReaction c me (reaction c me (f ∷ past)) (e ∷ outputs) × Reacts c me (reaction c me) [] past) → MayClient (MayAccept c me) me (f ∷ past) e
+      go true k = absurd (one_output c me f e outputs past k)
+      go false k = output_may e outputs (f ∷ past) (reaction c me (f ∷ past)) refl k.1
 
-        in_mode : asks modes.Ordered x ≡ asks mode call → modes.Ordered ≡ mode
-        in_mode e = cc
-weak_asks c me (Executed x y z ∷ past) mode call h = absurd cc
-weak_asks c me (Installed x y z ∷ past) mode call h = absurd cc
-weak_asks c me (Sent x y ∷ past) mode call h = absurd cc
-weak_asks c me (Accepted x y z ∷ past) mode call h = absurd cc
+  input_may : (past : List Entry) (e : Entry) → MayInput past e → MayClient (MayAccept c me) me past e
+  input_may past (Invoke x y z) h = h
+  input_may past (Got x y) h = h
+  input_may past (Tick x) h = h
+  input_may past (Executed x y z) h = h
+  input_may past (Installed x y z) h = h
+  input_may past (Sent x y) h = absurd h
+  input_may past (Accepted x y z) h = absurd h
 
-weak_accepts : (c : Configuration) (me : ℕ) (now : List Entry) (t : ℕ) (a : Outcome) → weak_reaction c me now ≡ accepts t a → MayWeaklyAccept c me now t a
-weak_accepts c me [] t a h = absurd cc
-weak_accepts c me (Got p bytes ∷ past) t a h = go (open_call past) refl h
-  where
-    go : (o : Option OpenCall) → open_call past ≡ o → option_map_or (weakly_on_got c me (Got p bytes ∷ past)) o nothing ≡ accepts t a → MayWeaklyAccept c me (Got p bytes ∷ past) t a
-    go None is h = absurd cc
-    go (Some call) is h = votes (newest_vote c me (Got p bytes ∷ past) call.timestamp) refl h
-      where
-        votes : (o : Option Vote) → newest_vote c me (Got p bytes ∷ past) call.timestamp ≡ o
-            → option_map_or (λ vote. cond (is_weakly_complete c me (Got p bytes ∷ past) call.timestamp vote) (accepts call.timestamp vote.answer) nothing) o nothing ≡ accepts t a → MayWeaklyAccept c me (Got p bytes ∷ past) t a
-        votes None e h = absurd cc
-        votes (Some vote) e h = test (is_weakly_complete c me (Got p bytes ∷ past) call.timestamp vote) refl h
-          where
-            test : (b : Bool) → is_weakly_complete c me (Got p bytes ∷ past) call.timestamp vote ≡ b → cond b (accepts call.timestamp vote.answer) nothing ≡ accepts t a → MayWeaklyAccept c me (Got p bytes ∷ past) t a
-            test true f h =
-                let s = accepted call.timestamp t vote.answer a h in
-                (call, vote, is, s.0, s.1, subst (λ (i : ℕ). newest_vote c me (Got p bytes ∷ past) i ≡ Some vote) s.0 e, f)
-            test false f h = absurd cc
-weak_accepts c me (Invoke x y z ∷ past) t a h = absurd cc
-weak_accepts c me (Tick x ∷ past) t a h = absurd (go (open_call past) h)
-  where
-    go : (o : Option OpenCall) → option_map_or (asks modes.Ordered) o nothing ≡ accepts t a → ⊥
-    go None h = cc
-    go (Some x) h = cc
-weak_accepts c me (Executed x y z ∷ past) t a h = absurd cc
-weak_accepts c me (Installed x y z ∷ past) t a h = absurd cc
-weak_accepts c me (Sent x y ∷ past) t a h = absurd cc
-weak_accepts c me (Accepted x y z ∷ past) t a h = absurd cc
+  reacts_right : (outputs xs : List Entry) → Reacts c me (reaction c me) outputs xs → SafeClient c me xs
+  reacts_right outputs [] h = tt
+  reacts_right outputs (e ∷ past) h = go (is_output e) h.1 (reacts_right (e ∷ outputs) past) (reacts_right [] past)
+    where
+      go : (b : Bool) → either b (Reacts c me (reaction c me) (e ∷ outputs) past) (MayInput past e × IsReaction c me (reaction c me (e ∷ past)) outputs × Reacts c me (reaction c me) [] past)
+          → (Reacts c me (reaction c me) (e ∷ outputs) past → SafeClient c me past) → (Reacts c me (reaction c me) [] past → SafeClient c me past) → SafeClient c me (e ∷ past)
+      go true k more none = ((h.0, behind e outputs past k), more k)
+      go false k more none = ((h.0, input_may past e k.0), none k.2)
 
-pub is_weak_right : (c : Configuration) (me : ℕ) (xs : List Entry) → IsWeakClient c me xs → SafeWeakClient c me xs
-is_weak_right c me xs h = client_right c me (weak_reaction c me) (MayWeaklyAccept c me) (weak_asks c me) (weak_accepts c me) xs h
+  pub is_client_right : (xs : List Entry) → IsClient c me xs → SafeClient c me xs
+  is_client_right [] h = tt
+  is_client_right (e ∷ past) (inl h) = reacts_right [] (e ∷ past) h
+  is_client_right (e ∷ past) (inr h) = ((h.0, input_may past e h.1), is_client_right past h.2)
 
 -- ---- a replica
 

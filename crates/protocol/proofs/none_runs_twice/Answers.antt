@@ -1,5 +1,5 @@
-use Rattle.protocol.proofs.Points.Weakly
+use Rattle.protocol.proofs.Points.Twice
 use Rattle.protocol.proofs.none_runs_twice.Goals as goal
 
 pub returns : goal.returns
-returns c = record { once = Weakly.none_runs_twice }
+returns c = record { once = Twice.none_runs_twice }

@@ -18,7 +18,7 @@ use Rattle.wire.specs.Words.{said}
 use Rattle.protocol.specs.System.Frames.{same_mode, IsPosted}
 use Rattle.protocol.specs.System.Trace.{Entry, party_of, is_output, Always, either}
 use Rattle.protocol.specs.System.Trace.Entry.{Invoke, Got, Tick, Sent, Accepted}
-use Rattle.protocol.specs.Replica.Selection.{is_quorum, is_weak_quorum}
+use Rattle.protocol.specs.Replica.Selection.{is_quorum}
 
 -- ---- the open call
 
@@ -152,37 +152,6 @@ reaction c me (Got p bytes ∷ past) = option_map_or (on_got c me (Got p bytes �
 reaction c me (Tick p ∷ past) = on_tick past
 reaction c me (_ ∷ past) = nothing
 
--- ---- the weak client, which the first one is: every operation is ordered, and f + 1 ordered replies of one answer are
--- enough, whatever their numbers
-
--- alike in the answer alone
-abbrev pub is_same_answer : Vote → Option Vote → Bool
-is_same_answer vote other =
-    option_map_or (λ o. bytes_eq (outcome_spelling o.answer) (outcome_spelling vote.answer)) other false
-
--- f + 1 ordered replies of one answer end a call
-abbrev pub is_weakly_complete : Configuration → ℕ → List Entry → ℕ → Vote → Bool
-is_weakly_complete c me past timestamp vote =
-    same_mode vote.mode modes.Ordered
-    && is_weak_quorum c (count_below (λ s. is_same_answer vote (latest c me past timestamp modes.Ordered s))
-    (replicas c))
-
--- a reply that makes them f + 1 is accepted
-abbrev pub weakly_on_got : Configuration → ℕ → List Entry → OpenCall → Reaction
-weakly_on_got c me now call =
-    option_map_or
-    (λ vote. if is_weakly_complete c me now call.timestamp vote then accepts call.timestamp vote.answer else nothing)
-    (newest_vote c me now call.timestamp) nothing
-
--- What the weak client gives in the event of an input, the newest entry. It asks for every operation ordered.
-abbrev pub weak_reaction : Configuration → ℕ → List Entry → Reaction
-weak_reaction c me [] = nothing
-weak_reaction c me (Invoke client timestamp op ∷ past) = asks modes.Ordered (record { timestamp = timestamp; op = op })
-weak_reaction c me (Got p bytes ∷ past) =
-    option_map_or (weakly_on_got c me (Got p bytes ∷ past)) (open_call past) nothing
-weak_reaction c me (Tick p ∷ past) = on_tick past
-weak_reaction c me (_ ∷ past) = nothing
-
 -- ---- histories
 
 -- the bytes are a request of the call, sealed for all replicas
@@ -223,24 +192,14 @@ IsClientBy c me react (e ∷ past) =
 abbrev pub IsClient : Configuration → ℕ → List Entry → Type 0
 IsClient c me history = IsClientBy c me (reaction c me) history
 
--- the same for the weak client
-abbrev pub IsWeakClient : Configuration → ℕ → List Entry → Type 0
-IsWeakClient c me history = IsClientBy c me (weak_reaction c me) history
-
 -- ---- what each entry may be; the laws over all runs use no more, and a history that has nothing else is safe
 
--- the newest entry brings the reply that ends the open call: at a quorum alike, or weakly at f + 1 of one answer
+-- the newest entry brings the reply that ends the open call, at a quorum alike
 abbrev pub MayAccept : Configuration → ℕ → List Entry → ℕ → Outcome → Type 0
 MayAccept c me past timestamp answer =
     (call : OpenCall) × (vote : Vote) × (open_call past ≡ Some call) × (call.timestamp ≡ timestamp)
     × (vote.answer ≡ answer)
     × (newest_vote c me past timestamp ≡ Some vote) × (is_complete c me past call.timestamp vote ≡ true)
-
-abbrev pub MayWeaklyAccept : Configuration → ℕ → List Entry → ℕ → Outcome → Type 0
-MayWeaklyAccept c me past timestamp answer =
-    (call : OpenCall) × (vote : Vote) × (open_call past ≡ Some call) × (call.timestamp ≡ timestamp)
-    × (vote.answer ≡ answer)
-    × (newest_vote c me past timestamp ≡ Some vote) × (is_weakly_complete c me past call.timestamp vote ≡ true)
 
 -- a request of the open call, read-only for a read alone
 abbrev pub MayRequest : List Entry → ℕ → Mode → Operation → Type 0
@@ -263,13 +222,6 @@ MayClient Accepting me past e = MayInput past e
 abbrev pub RightBy : (List Entry → ℕ → Outcome → Type 0) → ℕ → List Entry → Type 0
 RightBy Accepting me history = Always (λ past e. (party_of e ≡ me) × MayClient Accepting me past e) history
 
--- The history is safe: it has nothing that a correct client may not do, or that the weak one may not.
+-- The history is safe: it has nothing that a correct client may not do.
 abbrev pub SafeClient : Configuration → ℕ → List Entry → Type 0
 SafeClient c me history = RightBy (MayAccept c me) me history
-
-abbrev pub SafeWeakClient : Configuration → ℕ → List Entry → Type 0
-SafeWeakClient c me history = RightBy (MayWeaklyAccept c me) me history
-
--- what both clients keep, whatever they accept
-abbrev pub AnyClient : ℕ → List Entry → Type 0
-AnyClient me history = RightBy (λ past timestamp answer. ⊤) me history

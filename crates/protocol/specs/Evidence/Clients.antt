@@ -1,7 +1,6 @@
 -- What counts at a client, and where a client that goes on gives nothing.
 use Rattle.std.specs.Prelude.{◌≡◌, ◌≢◌, ℕ, ◌*◌, ◌≤◌, ◌<◌, ◌⊎◌, List, [], ◌∷◌, Some, None}
 use Rattle.tuple_codec.specs.Operations.{Operation, Outcome}
-use Rattle.quorum.specs.Quorum.{count_below}
 use Rattle.protocol.specs.System.Configuration.{Configuration, replicas, members}
 use Rattle.terms.specs.declared.order.Mode.{Mode}
 use Rattle.terms.specs.declared.order.Mode.TheVariants as modes
@@ -9,8 +8,8 @@ use Rattle.wire.specs.Messages.{reply as Reply}
 use Rattle.signing.specs.Heard.{heard}
 use Rattle.protocol.specs.System.Trace.{Entry, Once, AreOutputs, Hears}
 use Rattle.protocol.specs.System.Trace.Entry.{Invoke, Got, Tick}
-use Rattle.protocol.specs.Client.RightClient.{OpenCall, open_call, latest, is_same_answer, count_alike, IsClient, IsWeakClient}
-use Rattle.protocol.specs.Evidence.RefusedRuns.{going_on, AsksOrdered, IsAnyClient}
+use Rattle.protocol.specs.Client.RightClient.{OpenCall, open_call, latest, count_alike, IsClient}
+use Rattle.protocol.specs.Evidence.RefusedRuns.{going_on, AsksOrdered}
 
 -- ---- the replies that count
 
@@ -65,31 +64,18 @@ FallsBackOnce =
     → Once (AsksOrdered call.timestamp) past
     → AreOutputs outputs → IsClient c me (going_on me later outputs (Got me bytes) past) → outputs ≡ []
 
--- A weak client gives nothing at a read-only reply, nor at an ordered one with f or fewer replicas' latest of its
--- answer.
-abbrev pub WeaklyWaits : Type 0
-WeaklyWaits =
-    (c : Configuration) (me s number : ℕ) (call : OpenCall) (mode : Mode) (answer : Outcome) (bytes later : List ℕ)
-    (outputs past : List Entry)
-    → open_call past ≡ Some call
-    → heard (members c) me bytes ≡ Some (record { sender = s; message = Reply me call.timestamp mode number answer })
-    → (mode ≡ modes.ReadOnly)
-    ⊎ (count_below (λ r. is_same_answer (record { mode = modes.Ordered; number = number; answer = answer })
-    (latest c me (Got me bytes ∷ past) call.timestamp modes.Ordered r)) (replicas c) ≤ c.faults)
-    → AreOutputs outputs → IsWeakClient c me (going_on me later outputs (Got me bytes) past) → outputs ≡ []
-
--- At a frame that is no reply to the open call neither client gives an output,
+-- At a frame that is no reply to the open call a client gives no output,
 abbrev pub IgnoresOthers : Type 0
 IgnoresOthers =
     (c : Configuration) (me : ℕ) (call : OpenCall) (bytes later : List ℕ) (outputs past : List Entry)
     → open_call past ≡ Some call
     → ((s number : ℕ) (mode : Mode) (answer : Outcome)
     → heard (members c) me bytes ≢ Some (record { sender = s; message = Reply me call.timestamp mode number answer }))
-    → AreOutputs outputs → IsAnyClient c me (going_on me later outputs (Got me bytes) past) → outputs ≡ []
+    → AreOutputs outputs → IsClient c me (going_on me later outputs (Got me bytes) past) → outputs ≡ []
 
 -- nor at a frame or a tick while no call is open.
 abbrev pub RestsWithoutCall : Type 0
 RestsWithoutCall =
     (c : Configuration) (me : ℕ) (input : Entry) (later : List ℕ) (outputs past : List Entry)
     → open_call past ≡ None → (input ≡ Tick me) ⊎ ((bytes : List ℕ) × (input ≡ Got me bytes))
-    → AreOutputs outputs → IsAnyClient c me (going_on me later outputs input past) → outputs ≡ []
+    → AreOutputs outputs → IsClient c me (going_on me later outputs input past) → outputs ≡ []

@@ -15,9 +15,9 @@ use Rattle.protocol.specs.Replica.Selection.{null_batch}
 use Rattle.protocol.specs.Replica.State.{opening, page_text, pages_of}
 use Rattle.protocol.specs.Replica.RightReplica.{SafeReplica}
 use Rattle.protocol.specs.System.Texts.{IsText}
-use Rattle.protocol.specs.Client.RightClient.{open_call, last_call, IsClient, IsWeakClient}
+use Rattle.protocol.specs.Client.RightClient.{open_call, last_call, IsClient}
 use Rattle.protocol.specs.Replica.Owed.{IsReplica}
-use Rattle.protocol.specs.System.Run.{IsRun, IsWeakRun}
+use Rattle.protocol.specs.System.Run.{IsRun}
 use Rattle.wire.specs.Lists.{Each}
 
 -- ---- configurations
@@ -93,29 +93,11 @@ RunsHaveClients =
     (c : Configuration) (trace : List Entry) → IsRun c trace → (p : ℕ) → is_correct_client c p ≡ true
     → IsClient c p (history_of p trace)
 
--- The same holds of a run of the first client.
-abbrev pub WeakRunsHaveReplicas : Type 0
-WeakRunsHaveReplicas =
-    (c : Configuration) (trace : List Entry) → IsWeakRun c trace → (p : ℕ) → is_correct_replica c p ≡ true
-    → IsReplica c p (history_of p trace)
-
-abbrev pub WeakRunsHaveClients : Type 0
-WeakRunsHaveClients =
-    (c : Configuration) (trace : List Entry) → IsWeakRun c trace → (p : ℕ) → is_correct_client c p ≡ true
-    → IsWeakClient c p (history_of p trace)
-
--- Whatever a correct party gets, and whenever it is ticked, the trace is a run still, of either client: the party may
--- have stopped.
-abbrev pub GoesOn : (Configuration → List Entry → Type 0) → Type 0
-GoesOn Runs =
-    (c : Configuration) (trace : List Entry) → Runs c trace → (p : ℕ) → is_correct c p ≡ true
-    → Runs c (Tick p ∷ trace) × ((bytes : List ℕ) → Runs c (Got p bytes ∷ trace))
-
+-- Whatever a correct party gets, and whenever it is ticked, the trace is a run still: the party may have stopped.
 abbrev pub RunsGoOn : Type 0
-RunsGoOn = GoesOn IsRun
-
-abbrev pub WeakRunsGoOn : Type 0
-WeakRunsGoOn = GoesOn IsWeakRun
+RunsGoOn =
+    (c : Configuration) (trace : List Entry) → IsRun c trace → (p : ℕ) → is_correct c p ≡ true
+    → IsRun c (Tick p ∷ trace) × ((bytes : List ℕ) → IsRun c (Got p bytes ∷ trace))
 
 -- A safe replica takes them too, and goes on.
 abbrev pub ReplicasGoOn : Type 0
@@ -124,18 +106,12 @@ ReplicasGoOn =
     → SafeReplica c me (Tick me ∷ past) × ((bytes : List ℕ) → SafeReplica c me (Got me bytes ∷ past))
 
 -- The trace is a run still where a correct client with no open call invokes any operation within the limits.
-abbrev pub CallsGoOn : (Configuration → List Entry → Type 0) → Type 0
-CallsGoOn Runs =
-    (c : Configuration) → IsConfiguration c → (trace : List Entry) → Runs c trace → (k : ℕ) (op : Operation)
+abbrev pub RunsTakeCalls : Type 0
+RunsTakeCalls =
+    (c : Configuration) → IsConfiguration c → (trace : List Entry) → IsRun c trace → (k : ℕ) (op : Operation)
     → is_correct_client c (256 + k) ≡ true
     → IsOperation op → open_call (history_of (256 + k) trace) ≡ None
-    → Runs c (Invoke k (suc (last_call (history_of (256 + k) trace))) op ∷ trace)
-
-abbrev pub RunsTakeCalls : Type 0
-RunsTakeCalls = CallsGoOn IsRun
-
-abbrev pub WeakRunsTakeCalls : Type 0
-WeakRunsTakeCalls = CallsGoOn IsWeakRun
+    → IsRun c (Invoke k (suc (last_call (history_of (256 + k) trace))) op ∷ trace)
 
 -- ---- what may be got in an unforged trace
 

@@ -17,10 +17,9 @@ use Rattle.protocol.specs.Replica.Selection.{signed_change, is_within}
 use Rattle.protocol.specs.Replica.Certificates.{low, view, is_active_in, is_in_marks, logged, prepare_of, commit_of, checkpoints_of, taken}
 use Rattle.protocol.specs.Replica.State.{Call, last_time}
 use Rattle.protocol.specs.Replica.RightReplica.{SafeReplica, SentBefore, HadQuorum, StartsAt}
-use Rattle.protocol.specs.Client.RightClient.{OpenCall, open_call}
+use Rattle.protocol.specs.Client.RightClient.{OpenCall, open_call, IsClient}
 use Rattle.protocol.specs.Replica.Owed.{IsSaying, IsReplica}
 use Rattle.protocol.specs.Evidence.Refused.{AtEachPoint, EachKept, newest_number}
-use Rattle.protocol.specs.Evidence.RefusedRuns.{IsAnyClient}
 use Rattle.wire.specs.Lists.{Each}
 
 -- ---- view changes
@@ -99,13 +98,13 @@ ChangesAgainLast =
 abbrev pub NoCallWhileOpen : Type 0
 NoCallWhileOpen =
     (c : Configuration) (me client timestamp : ℕ) (call : OpenCall) (op : Operation) (later past : List Entry)
-    → open_call past ≡ Some call → IsAnyClient c me (later ++ Invoke client timestamp op ∷ past) → ⊥
+    → open_call past ≡ Some call → IsClient c me (later ++ Invoke client timestamp op ∷ past) → ⊥
 
 -- A call of an operation beyond the limits.
 abbrev pub CallsOperations : Type 0
 CallsOperations =
     (c : Configuration) (me client timestamp : ℕ) (op : Operation) (later past : List Entry)
-    → IsAnyClient c me (later ++ Invoke client timestamp op ∷ past) → IsOperation op
+    → IsClient c me (later ++ Invoke client timestamp op ∷ past) → IsOperation op
 
 -- ---- what is dropped
 

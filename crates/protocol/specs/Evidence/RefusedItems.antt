@@ -11,7 +11,6 @@ use Rattle.signing.specs.Heard.{heard}
 use Rattle.protocol.specs.System.Trace.{Entry, Once, Has, frames_in}
 use Rattle.protocol.specs.System.Trace.Entry.{Invoke, Got, Accepted}
 use Rattle.protocol.specs.Space.Linear.{Item, Legal, Covers, Placed, IsLinear, Linear}
-use Rattle.protocol.specs.Laws.Histories.{IsOneSpace}
 
 -- ---- legal
 
@@ -99,12 +98,6 @@ abbrev pub LinearIsAllThree : Type 0
 LinearIsAllThree =
     (c : Configuration) (items : List Item) (trace : List Entry) → IsLinear c items trace
     → Legal items × Covers c items trace × Placed c items trace
-
--- Items of one space that are not legal, or don't cover the trace.
-abbrev pub OneSpaceIsBoth : Type 0
-OneSpaceIsBoth =
-    (c : Configuration) (trace : List Entry) (space : IsOneSpace c trace)
-    → Legal space.items × Covers c space.items trace
 
 -- A client writes a tuple; then another reads with a template that matches it, and finds nothing.
 abbrev pub WritesAreSeen : Type 0

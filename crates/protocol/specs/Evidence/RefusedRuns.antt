@@ -1,8 +1,7 @@
 -- Small histories and traces that the definitions of clients, runs, schedules and certificates refuse.
-use Rattle.std.specs.Prelude.{◌≡◌, ◌≢◌, ℕ, ◌+◌, ◌*◌, ◌^◌, ◌≤◌, ◌<◌, ◌⊎◌, Bool, true, false, List, [], ◌∷◌, ◌++◌, length, map, filter, slice_get, ◌==◌, Some, None}
+use Rattle.std.specs.Prelude.{◌≡◌, ◌≢◌, ℕ, ◌+◌, ◌*◌, ◌^◌, ◌≤◌, ◌<◌, Bool, true, false, List, [], ◌∷◌, ◌++◌, length, map, filter, slice_get, ◌==◌, Some, None}
 use Rattle.sha2.specs.Sha256.{sha256}
 use Rattle.tuple_codec.specs.Operations.{Operation, Outcome}
-use Rattle.tuple_codec.specs.Spelling.{outcome_spelling}
 use Rattle.quorum.specs.Quorum.{count_below}
 use Rattle.protocol.specs.System.Configuration.{Configuration, replicas, is_correct, members}
 use Rattle.terms.specs.declared.order.Mode.{Mode}
@@ -10,12 +9,12 @@ use Rattle.terms.specs.declared.order.Mode.TheVariants as modes
 use Rattle.wire.specs.Messages.{FrameData as Frame, MacData, macs, ViewChangeData, NewViewData, BatchEntryData as BatchEntry, request as Request, view_change as ViewChange, new_view as NewView, reply as Reply}
 use Rattle.signing.specs.Heard.{heard}
 use Rattle.wire.specs.Words.{frame_of, said}
-use Rattle.protocol.specs.System.Trace.{Entry, party_of, is_output, Once, Has, AreOutputs, Hears}
+use Rattle.protocol.specs.System.Trace.{Entry, party_of, is_output, Once, Has, AreOutputs}
 use Rattle.protocol.specs.System.Trace.Entry.{Invoke, Got, Tick, Installed, Sent, Accepted}
 use Rattle.protocol.specs.Replica.Certificates.{low, is_in_marks, is_active_in, logged}
 use Rattle.protocol.specs.Replica.State.{root_of}
 use Rattle.protocol.specs.Replica.RightReplica.{SafeReplica, SentBefore}
-use Rattle.protocol.specs.Client.RightClient.{OpenCall, open_call, latest, count_alike, IsClient, IsWeakClient, SafeWeakClient}
+use Rattle.protocol.specs.Client.RightClient.{OpenCall, open_call, latest, count_alike, IsClient}
 use Rattle.protocol.specs.System.Run.{IsRun}
 use Rattle.protocol.specs.System.Schedule.{Step, calls, deliver, feed, ticks, flush, Made, meant_for, Feeds, StopsAt}
 
@@ -68,15 +67,11 @@ FallsBack =
     → AreOutputs outputs → IsClient c me (going_on me later outputs (Got me bytes) past)
     → IsOrderedRequest me call outputs
 
--- a client of either kind
-abbrev pub IsAnyClient : Configuration → ℕ → List Entry → Type 0
-IsAnyClient c me history = IsClient c me history ⊎ IsWeakClient c me history
-
 -- A tick with an open call, and not its ordered request, or more than that.
 abbrev pub AsksAtTicks : Type 0
 AsksAtTicks =
     (c : Configuration) (me : ℕ) (call : OpenCall) (later : List ℕ) (outputs past : List Entry)
-    → open_call past ≡ Some call → AreOutputs outputs → IsAnyClient c me (going_on me later outputs (Tick me) past)
+    → open_call past ≡ Some call → AreOutputs outputs → IsClient c me (going_on me later outputs (Tick me) past)
     → IsOrderedRequest me call outputs
 
 -- A request that is not sealed for each replica.
@@ -84,41 +79,8 @@ abbrev pub AsksAll : Type 0
 AsksAll =
     (c : Configuration) (me s : ℕ) (bytes : List ℕ) (frame : Frame) (entries : List MacData) (past : List Entry)
     → frame_of bytes ≡ Some frame → frame.authenticator ≡ macs entries → s < replicas c
-    → IsAnyClient c me (Sent me bytes ∷ past)
+    → IsClient c me (Sent me bytes ∷ past)
     → Has (λ r. r ≡ s) (map (λ x. x.receiver) entries)
-
--- Of the weak client: an ordered reply that makes f + 1 replicas' latest ones of one answer, and no acceptance, or
--- more than that.
-abbrev pub WeaklyAcceptsAlike : Type 0
-WeaklyAcceptsAlike =
-    (c : Configuration) (me s number : ℕ) (call : OpenCall) (answer : Outcome) (bytes later : List ℕ) (from : ℕ → Bool)
-    (outputs past : List Entry)
-    → open_call past ≡ Some call
-    → heard (members c) me bytes
-    ≡ Some (record { sender = s; message = Reply me call.timestamp modes.Ordered number answer })
-    → c.faults + 1 ≤ count_below from (replicas c)
-    → ((r : ℕ) → from r ≡ true
-    → (n : ℕ) × (latest c me (Got me bytes ∷ past) call.timestamp modes.Ordered r
-    ≡ Some (record { mode = modes.Ordered; number = n; answer = answer })))
-    → AreOutputs outputs → IsWeakClient c me (going_on me later outputs (Got me bytes) past)
-    → (k : ℕ) × (outputs ≡ Accepted k call.timestamp answer ∷ [])
-
--- An acceptance at f replies, at one replica's reply that comes again, or at read-only replies.
-abbrev pub WeaklyAcceptsAtWeakQuorum : Type 0
-WeaklyAcceptsAtWeakQuorum =
-    (c : Configuration) (me k timestamp : ℕ) (answer : Outcome) (past : List Entry)
-    → SafeWeakClient c me (Accepted k timestamp answer ∷ past)
-    → (from : ℕ → Bool) × (c.faults + 1 ≤ count_below from (replicas c))
-    × ((s : ℕ) → from s ≡ true → (number : ℕ) × (other : Outcome) × (outcome_spelling other ≡ outcome_spelling answer)
-    × Once (Hears c me (record { sender = s; message = Reply me timestamp modes.Ordered number other })) past)
-
--- A read-only request.
-abbrev pub WeaklyAsksOrdered : Type 0
-WeaklyAsksOrdered =
-    (c : Configuration) (me timestamp : ℕ) (mode : Mode) (op : Operation) (bytes : List ℕ) (past : List Entry)
-    → said bytes ≡ Some (record { sender = me; message = Request timestamp mode op })
-    → IsWeakClient c me (Sent me bytes ∷ past)
-    → mode ≡ modes.Ordered
 
 -- ---- a run
 

@@ -4,7 +4,7 @@ use Rattle.tuple_codec.specs.Operations.{Operation, IsOperation}
 use Rattle.protocol.specs.System.Configuration.{Configuration}
 use Rattle.protocol.specs.System.Trace.{Entry}
 use Rattle.protocol.specs.System.Trace.Entry.{Invoke, Got, Tick}
-use Rattle.protocol.specs.Client.RightClient.{last_call, open_call, IsClient, IsWeakClient}
+use Rattle.protocol.specs.Client.RightClient.{last_call, open_call, IsClient}
 use Rattle.protocol.specs.Replica.Owed.{IsReplica}
 
 -- the party gets a frame, or has a tick
@@ -12,10 +12,10 @@ abbrev pub TakesInputs : ℕ → (List Entry → Type 0) → List Entry → Type
 TakesInputs me Is past = ((bytes : List ℕ) → Is (Got me bytes ∷ past)) × Is (Tick me ∷ past)
 
 -- the client calls, where no call is open
-abbrev pub TakesCalls : ℕ → (List Entry → Type 0) → List Entry → Type 0
-TakesCalls me Is past =
+abbrev pub TakesCalls : Configuration → ℕ → List Entry → Type 0
+TakesCalls c me past =
     (k : ℕ) (op : Operation) → me ≡ 256 + k → open_call past ≡ None → IsOperation op
-    → Is (Invoke k (suc (last_call past)) op ∷ past)
+    → IsClient c me (Invoke k (suc (last_call past)) op ∷ past)
 
 -- A correct replica's history stays one where it takes an input and gives nothing: it stopped.
 abbrev pub ReplicasMayStop : Type 0
@@ -26,9 +26,4 @@ ReplicasMayStop =
 abbrev pub ClientsMayStop : Type 0
 ClientsMayStop =
     (c : Configuration) (me : ℕ) (past : List Entry)
-    → IsClient c me past → TakesInputs me (IsClient c me) past × TakesCalls me (IsClient c me) past
-
-abbrev pub WeakClientsMayStop : Type 0
-WeakClientsMayStop =
-    (c : Configuration) (me : ℕ) (past : List Entry)
-    → IsWeakClient c me past → TakesInputs me (IsWeakClient c me) past × TakesCalls me (IsWeakClient c me) past
+    → IsClient c me past → TakesInputs me (IsClient c me) past × TakesCalls c me past

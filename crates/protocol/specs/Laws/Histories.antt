@@ -9,8 +9,8 @@ use Rattle.protocol.specs.System.Trace.{Entry, party_of, history_of, Once, Alway
 use Rattle.protocol.specs.System.Trace.Entry.{Installed}
 use Rattle.protocol.specs.Replica.Certificates.{Prepared, Committed, view, taken, batch_begun}
 use Rattle.protocol.specs.Replica.RightReplica.{Point, HasSeen, SafeReplica, HadQuorum, StartsAt, MaySay, IsFor, MaySend}
-use Rattle.protocol.specs.Client.RightClient.{SafeClient, SafeWeakClient}
-use Rattle.protocol.specs.Space.Linear.{points, IsLinear, Item, Legal, Covers}
+use Rattle.protocol.specs.Client.RightClient.{SafeClient}
+use Rattle.protocol.specs.Space.Linear.{points, IsLinear}
 use Rattle.protocol.specs.Replica.State.{State, IsState, opening, after_batches, page_text, root_of}
 use Rattle.protocol.specs.System.Texts.{NoCollision, StoodAt, ExecutesBatch, AreExecuted}
 use Rattle.wire.specs.Lists.{Each}
@@ -155,24 +155,6 @@ LinearOfSafe =
     (c : Configuration) → IsConfiguration c → (trace : List Entry) → IsSafeTrace c trace → Unforged c trace
     → NoCollision c trace
     → IsLinear c (points c trace) trace
-
--- Some list of items is legal and covers the trace, under the client that accepts at f + 1 replies of one answer too:
--- one correct replica stands behind an answer.
-pub record IsOneSpace (c : Configuration) (trace : List Entry) : Type 0 where
-  pub items : List Item
-  pub legal : Legal items
-  pub covers : Covers c items trace
-
--- each correct client's history is safe, by the rule that accepts at f + 1
-abbrev pub AreClientsWeak : Configuration → List Entry → Type 0
-AreClientsWeak c trace = (p : ℕ) → is_correct_client c p ≡ true → SafeWeakClient c p (history_of p trace)
-
--- It is so in each trace of safe parties.
-abbrev pub WeakIsOneSpace : Type 0
-WeakIsOneSpace =
-    (c : Configuration) → IsConfiguration c → (trace : List Entry) → AreReplicasSafe c trace → AreClientsWeak c trace
-    → Always (λ past e. is_correct c (party_of e) ≡ true) trace → Unforged c trace → NoCollision c trace
-    → IsOneSpace c trace
 
 -- ---- the first view
 

@@ -9,8 +9,8 @@ use Rattle.protocol.specs.System.Texts.{NoCollision}
 use Rattle.wire.specs.Words.{requests_of}
 use Rattle.protocol.specs.Replica.State.{State, opening, execute, ran_in}
 use Rattle.protocol.specs.Space.Linear.{points, IsLinear, Linear, is_level, invoke_past, Placing, ordered_point, NoneTwice}
-use Rattle.protocol.specs.Laws.Histories.{IsOneSpace, IsSafeTrace}
-use Rattle.protocol.specs.System.Run.{IsRun, IsWeakRun}
+use Rattle.protocol.specs.Laws.Histories.{IsSafeTrace}
+use Rattle.protocol.specs.System.Run.{IsRun}
 
 -- Over every run of a valid configuration that is unforged and whose texts do not collide, the points are legal, cover
 -- the trace and are placed: the answers that correct clients accept, of reads and writes alike, are those of one
@@ -27,14 +27,6 @@ abbrev pub RunsAreLinear : Type 0
 RunsAreLinear =
     (c : Configuration) → IsConfiguration c → (trace : List Entry) → IsRun c trace → Unforged c trace
     → NoCollision c trace → Linear c trace
-
--- Over every run of the weak client too, the accepted answers are those of one space: some list of items is legal and
--- covers the trace. Positions are not promised.
-abbrev pub WeakAnswersAreOneSpace : Type 0
-WeakAnswersAreOneSpace =
-    (c : Configuration) → IsConfiguration c → (trace : List Entry) → IsWeakRun c trace → Unforged c trace
-    → NoCollision c trace
-    → IsOneSpace c trace
 
 -- ---- the levels of what is accepted
 

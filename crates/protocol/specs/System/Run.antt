@@ -2,7 +2,7 @@
 use Rattle.std.specs.Prelude.{◌≡◌, ℕ, true, false, List, [], ◌∷◌}
 use Rattle.protocol.specs.System.Configuration.{Configuration, is_correct, is_correct_replica, is_correct_client}
 use Rattle.protocol.specs.System.Trace.{Entry, party_of, is_output, history_of, Always}
-use Rattle.protocol.specs.Client.RightClient.{IsClient, IsWeakClient}
+use Rattle.protocol.specs.Client.RightClient.{IsClient}
 use Rattle.protocol.specs.Replica.Owed.{IsReplica}
 
 -- an output follows its input, or an output of the same event
@@ -12,16 +12,8 @@ Follows (before ∷ past) e = is_output e ≡ true → party_of before ≡ party
 
 -- Each correct replica's history is safe and prompt, or it stopped; each correct client's is a client's; no others have
 -- entries; and the outputs of an event follow its input before the next.
-pub record IsRunOf (IsIts : ℕ → List Entry → Type 0) (c : Configuration) (trace : List Entry) : Type 0 where
+pub record IsRun (c : Configuration) (trace : List Entry) : Type 0 where
   pub replicas : (p : ℕ) → is_correct_replica c p ≡ true → IsReplica c p (history_of p trace)
-  pub clients : (p : ℕ) → is_correct_client c p ≡ true → IsIts p (history_of p trace)
+  pub clients : (p : ℕ) → is_correct_client c p ≡ true → IsClient c p (history_of p trace)
   pub parties : Always (λ past e. is_correct c (party_of e) ≡ true) trace
   pub events : Always Follows trace
-
--- a run of the clients that accept at 2f + 1 replies alike
-abbrev pub IsRun : Configuration → List Entry → Type 0
-IsRun c trace = IsRunOf (IsClient c) c trace
-
--- a run of the weak client, which accepts at f + 1 replies of one answer
-abbrev pub IsWeakRun : Configuration → List Entry → Type 0
-IsWeakRun c trace = IsRunOf (IsWeakClient c) c trace

@@ -2,4 +2,4 @@ use Rattle.protocol.proofs.Evidence.Presuming
 use Rattle.protocol.proofs.premises.runs_have_whole_histories.Goals as goal
 
 pub returns : goal.returns
-returns c = record { replicas = Presuming.runs_have_replicas; clients = Presuming.runs_have_clients; weak_replicas = Presuming.weak_runs_have_replicas; weak_clients = Presuming.weak_runs_have_clients }
+returns c = record { replicas = Presuming.runs_have_replicas; clients = Presuming.runs_have_clients }

@@ -12,5 +12,4 @@ returns c = record {
   behind = RefusingItems.places_behind_calls;
   before = RefusingItems.places_before_acceptances;
   linear = RefusingItems.linear_is_all_three;
-  one_space = RefusingItems.one_space_is_both;
 }

@@ -1,4 +1,5 @@
-use Rattle.std.proofs.Common.{◌<◌, length, true, false, refl, subst, arith}
+use Rattle.std.proofs.Common.{◌<◌, length, reverse, true, false, refl, ap, ◌∙◌, subst, arith}
+use Rattle.protocol.specs.Space.Linear.{points}
 use Rattle.std.proofs.lemmas.Option.{slice_get_read}
 use Rattle.schedule_text.specs.StepView.{step_of}
 use Rattle.schedule_world.specs.Moving.{Takes}
@@ -27,4 +28,4 @@ loop-i-preserved c =
 pub returns-clause-tells : goal.returns-clause-tells
 returns-clause-tells c =
     tells c.args.config.now c.args.steps.now c.loop-i.stage _ c.loop-i.invariant.0
-    (all_steps c.args.config.now c.args.steps.now c.loop-i.i c.loop-i.stage (omega arith) c.loop-i.invariant.1) refl refl c.new-2.ensures.items
+    (all_steps c.args.config.now c.args.steps.now c.loop-i.i c.loop-i.stage (omega arith) c.loop-i.invariant.1) refl refl (c.in_ok-points.ensures ∙ ap (λ xs. points c.args.config.now (reverse xs)) c.as_slice.ensures.value)

@@ -15,12 +15,12 @@ returns-in-Ok-Nothing-clause-leads c =
     (got_nothing_leads _ _ c.in-Some.taken c.weigh-turned.new.call c.args.bytes.now (ap (λ s. s.stopped) c.self.view_is ∙ c.requires) (sym c.take.ensures.value ∙ c.in-Some.is)
     (rw c.in-Ok-Nothing.field-0-is at c.in-Ok-Nothing.ensures.weighs) (record { number = refl; membership = c.weigh-turned.ensures.same; calls = refl; call_is = refl }))
 
-pub returns-in_ok-outputs-in-Ok-Ask-clause-leads : goal.returns-in_ok-outputs-in-Ok-Ask-clause-leads
-returns-in_ok-outputs-in-Ok-Ask-clause-leads c =
+pub returns-in_ok-asked-in-Ok-Ask-clause-leads : goal.returns-in_ok-asked-in-Ok-Ask-clause-leads
+returns-in_ok-asked-in-Ok-Ask-clause-leads c =
     rw (← c.self.view_is)
-    (got_asks_leads _ _ _ c.in-Some.taken c.weigh-turned.new.call c.args.bytes.now c.in_ok-outputs-in-Ok-Ask.outputs.items
+    (got_asks_leads _ _ _ c.in-Some.taken c.weigh-turned.new.call c.args.bytes.now c.in_ok-asked-in-Ok-Ask.asked.items
     (ap (λ s. s.stopped) c.self.view_is ∙ c.requires) (sym c.take.ensures.value ∙ c.in-Some.is)
-    (rw c.in-Ok-Ask.field-0-is at c.in-Ok-Ask.ensures.weighs) (rw c.weigh-turned.ensures.same refl) c.in_ok-outputs-in-Ok-Ask.ensures.asked)
+    (rw c.in-Ok-Ask.field-0-is at c.in-Ok-Ask.ensures.weighs) (rw c.weigh-turned.ensures.same refl) c.in_ok-asked-in-Ok-Ask.ensures.asked)
 
 pub returns-in-Ok-clause-leads : goal.returns-in-Ok-clause-leads
 returns-in-Ok-clause-leads c =

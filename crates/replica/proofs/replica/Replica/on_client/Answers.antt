@@ -1,7 +1,7 @@
 use Rattle.std.proofs.Common.{rules, ◌+◌, refl}
 use Rattle.terms.specs.declared.order.Mode.TheVariants as modes
 use Rattle.replica.proofs.Carrying.{request_carried}
-use Rattle.replica.proofs.Beginning.{heard_request, client_dropped, read_dropped}
+use Rattle.replica.proofs.Beginning.{heard_request, client_dropped}
 use Rattle.replica.proofs.replica.Replica.on_client.Goals as goal
 
 pub returns-in_default : goal.returns-in_default
@@ -16,9 +16,6 @@ on_request-requires-clause-carried c =
     (heard_request _ _ (256 + c.args.client.number) c.args.frame.now c.args.message c.in-Request.request modes.Ordered c.requires.heard c.in-Request.is c.in-Ordered.is) refl
 
 pub returns : goal.returns
-returns c = record {
-  ok = rw c.requires.first
-      (read_dropped _ (256 + c.args.client.number) _ _ c.args.frame.now c.are_one.ensures
-      (heard_request _ _ (256 + c.args.client.number) c.args.frame.now c.args.message c.in-Request.request modes.ReadOnly c.requires.heard c.in-Request.is c.in-ReadOnly.is));
-  endpoint = search rules;
-}
+returns c =
+    absurd (c.requires.unmarked _ _ (256 + c.args.client.number) _ _
+    (heard_request _ _ (256 + c.args.client.number) c.args.frame.now c.args.message c.in-Request.request modes.ReadOnly c.requires.heard c.in-Request.is c.in-ReadOnly.is))

@@ -1,0 +1,251 @@
+//! The lanes of the parties, and where things stand on the page.
+
+use events::{Config, Entry, EntryKind};
+use std::alloc::{AllocError, Global};
+use std::fmt::{self, Write};
+use terms::{FIRST_CLIENT, NoMemory, Party};
+
+// From the left edge to the first lane, from a lane to the next, and from the last one to the right edge. Behind the
+// last lane is room for what clients are told.
+const LEFT: u64 = 96;
+
+const LANE: u64 = 150;
+
+const RIGHT: u64 = 240;
+
+// The height of an entry's row, and what stands above the first and below the last.
+const ROW: u64 = 14;
+
+const ABOVE: u64 = 128;
+
+const BELOW: u64 = 44;
+
+// How far down the names are.
+const HEADS: u64 = 98;
+
+/// Whether a party stands in the configuration, and there as faulty.
+#[derive(Clone, Copy, Debug, PartialEq, Eq, Drop)]
+pub(crate) enum Standing {
+    Correct,
+    Faulty,
+    Unknown,
+}
+
+/// A lane for each party of the configuration and each that occurs, by their numbers: replicas, then clients.
+#[derive(Drop)]
+pub(crate) struct Lanes {
+    parties: Vec<u16>,
+    standings: Vec<Standing>,
+    rows: u64,
+}
+
+impl Lanes {
+    pub(crate) fn of(alloc: Global, config: &Config, trace: &[Entry]) -> Result<Lanes, AllocError> {
+        let numbers = numbers(alloc, config, trace)?;
+        let mut parties = Vec::new(alloc);
+        let mut standings = Vec::new(alloc);
+        for number in numbers.as_slice() {
+            if parties.last() != Some(number) {
+                parties.push(*number)?;
+                standings.push(standing_of(config, *number))?;
+            }
+        }
+        Ok(Lanes {
+            parties,
+            standings,
+            rows: trace.len() as u64,
+        })
+    }
+
+    pub(crate) fn parties(&self) -> &[u16] {
+        self.parties.as_slice()
+    }
+
+    pub(crate) fn standing(&self, party: u16) -> Standing {
+        match self.parties.as_slice().binary_search(&party) {
+            Ok(place) => self
+                .standings
+                .get(place)
+                .copied()
+                .unwrap_or(Standing::Unknown),
+            Err(_) => Standing::Unknown,
+        }
+    }
+
+    /// How far to the right a party's lane is.
+    pub(crate) fn x(&self, party: u16) -> u64 {
+        match self.parties.as_slice().binary_search(&party) {
+            Ok(place) => after(LEFT, place as u64, LANE),
+            Err(_) => LEFT,
+        }
+    }
+
+    /// Whether no lane is to the right of a party's.
+    pub(crate) fn is_last(&self, party: u16) -> bool {
+        self.parties.last() == Some(&party)
+    }
+
+    pub(crate) fn rows(&self) -> u64 {
+        self.rows
+    }
+
+    pub(crate) fn width(&self) -> u64 {
+        let lanes = (self.parties.len() as u64).saturating_sub(1);
+        after(LEFT + RIGHT, lanes, LANE)
+    }
+
+    pub(crate) fn height(&self) -> u64 {
+        after(ABOVE + BELOW, self.rows, ROW)
+    }
+}
+
+/// How far down the row of an entry is.
+pub(crate) fn row(position: u64) -> u64 {
+    after(ABOVE, position, ROW)
+}
+
+fn after(start: u64, count: u64, step: u64) -> u64 {
+    count.saturating_mul(step).saturating_add(start)
+}
+
+// The numbers of the parties, ascending, some of them several times.
+fn numbers(alloc: Global, config: &Config, trace: &[Entry]) -> Result<Vec<u16>, AllocError> {
+    let mut numbers = Vec::new(alloc);
+    for replica in 0..config.replicas() {
+        numbers.push(u16::from(replica))?;
+    }
+    for client in 0..config.clients() {
+        numbers.push(FIRST_CLIENT.saturating_add(client))?;
+    }
+    for entry in trace {
+        numbers.push(party(entry.kind()).number())?;
+    }
+    numbers.sort()?;
+    Ok(numbers)
+}
+
+/// At whom an entry happened.
+pub(crate) fn party(kind: &EntryKind) -> Party {
+    match kind {
+        EntryKind::Invoke(client, _, _) => Party::Client(*client),
+        EntryKind::Got(party, _) => *party,
+        EntryKind::Tick(party) => *party,
+        EntryKind::Executed(replica, _, _) => Party::Replica(*replica),
+        EntryKind::Installed(replica, _, _) => Party::Replica(*replica),
+        EntryKind::Sent(party, _) => *party,
+        EntryKind::Accepted(client, _, _) => Party::Client(*client),
+    }
+}
+
+fn standing_of(config: &Config, number: u16) -> Standing {
+    if config.is_correct_replica(number) || config.is_correct_client(number) {
+        Standing::Correct
+    } else if is_configured(config, number) {
+        Standing::Faulty
+    } else {
+        Standing::Unknown
+    }
+}
+
+fn is_configured(config: &Config, number: u16) -> bool {
+    if number < FIRST_CLIENT {
+        number < u16::from(config.replicas())
+    } else {
+        number - FIRST_CLIENT < config.clients()
+    }
+}
+
+/// Draws a line for every tenth entry, and the lanes with the names of their parties.
+pub(crate) fn put_lanes(lanes: &Lanes, svg: &mut String) -> Result<(), NoMemory> {
+    put_tens(lanes, svg)?;
+    writeln!(svg, "<g class=\"lanes\">")?;
+    for number in lanes.parties() {
+        put_lane(lanes, *number, svg)?;
+    }
+    Ok(writeln!(svg, "</g>")?)
+}
+
+fn put_tens(lanes: &Lanes, svg: &mut String) -> Result<(), NoMemory> {
+    let right = lanes.width().saturating_sub(RIGHT - LANE);
+    writeln!(svg, "<g class=\"tens\">")?;
+    for ten in 0..lanes.rows().div_ceil(10) {
+        let y = row(ten.saturating_mul(10));
+        writeln!(svg, "<path d=\"M46 {y}H{right}\"/>")?;
+    }
+    Ok(writeln!(svg, "</g>")?)
+}
+
+// A lane is named at the top, at the foot, and small at every fiftieth entry.
+fn put_lane(lanes: &Lanes, number: u16, svg: &mut String) -> Result<(), NoMemory> {
+    let (x, class) = (lanes.x(number), class(lanes.standing(number)));
+    let foot = lanes.height().saturating_sub(BELOW - 10);
+    writeln!(svg, "<path class=\"{class}\" d=\"M{x} {HEADS}V{foot}\"/>")?;
+    for fifty in 1..lanes.rows().div_ceil(50) {
+        put_small_name(x, row(fifty.saturating_mul(50)), number, svg)?;
+    }
+    put_name(x, HEADS, number, lanes.standing(number), svg)?;
+    put_name(x, foot, number, lanes.standing(number), svg)
+}
+
+fn put_small_name(x: u64, y: u64, number: u16, svg: &mut String) -> Result<(), NoMemory> {
+    let (left, base, name) = (x.saturating_sub(14), y.saturating_sub(3), Name(number));
+    Ok(writeln!(
+        svg,
+        "<text class=\"small\" x=\"{left}\" y=\"{base}\">{name}</text>"
+    )?)
+}
+
+fn put_name(
+    x: u64,
+    y: u64,
+    number: u16,
+    standing: Standing,
+    svg: &mut String,
+) -> Result<(), NoMemory> {
+    let (left, top, base) = (
+        x.saturating_sub(34),
+        y.saturating_sub(9),
+        y.saturating_add(4),
+    );
+    let (class, name, note) = (class(standing), Name(number), note(standing));
+    write!(
+        svg,
+        "<rect class=\"{class}\" x=\"{left}\" y=\"{top}\" width=\"68\" height=\"18\" rx=\"4\"/>"
+    )?;
+    Ok(writeln!(
+        svg,
+        "<text class=\"{class}\" x=\"{x}\" y=\"{base}\">{name}{note}</text>"
+    )?)
+}
+
+fn class(standing: Standing) -> &'static str {
+    match standing {
+        Standing::Correct => "good",
+        Standing::Faulty => "bad",
+        Standing::Unknown => "other",
+    }
+}
+
+fn note(standing: Standing) -> &'static str {
+    match standing {
+        Standing::Correct => "",
+        Standing::Faulty => " faulty",
+        Standing::Unknown => " unknown",
+    }
+}
+
+// Replica 0 is `r0`, client 0 is `c0`.
+#[derive(Clone, Copy, Drop)]
+struct Name(u16);
+
+impl fmt::Display for Name {
+    fn fmt<W: fmt::Write>(&self, f: &mut fmt::Formatter<W>) -> fmt::Result {
+        let number = self.0;
+        if number < FIRST_CLIENT {
+            write!(f, "r{number}")
+        } else {
+            let client = number - FIRST_CLIENT;
+            write!(f, "c{client}")
+        }
+    }
+}

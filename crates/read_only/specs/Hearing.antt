@@ -1,0 +1,31 @@
+-- Read-only requests as a replica hears them (Castro and Liskov, Practical Byzantine fault tolerance and proactive
+-- recovery, TOCS 2002, on read-only operations).
+use Rattle.std.specs.Prelude.{◌≡◌, ◌≢◌, ℕ, ◌+◌, Bool, ◌&&◌, ◌==◌, List, slice_index, Some}
+use Rattle.terms.specs.declared.order.Mode.TheVariants as modes
+use Rattle.tuple_codec.specs.Operations.{Operation}
+use Rattle.tuple_codec.specs.Spelling.{SpellsOperation}
+use Rattle.wire.specs.Messages.{BodyData, request}
+use Rattle.authenticator.specs.Membership.{Membership}
+use Rattle.signing.specs.Heard.{heard}
+
+-- a party's read-only request
+abbrev pub read_only_request : ℕ → ℕ → Operation → BodyData
+read_only_request sender timestamp op =
+    record { sender = sender; message = request timestamp modes.ReadOnly op }
+
+-- Whether bytes have the marks of one: byte 4 is the type of requests, and byte 15 the read-only mode.
+abbrev pub asks_read : List ℕ → Bool
+asks_read bytes = slice_index bytes 4 == 0x41 && slice_index bytes 15 == 0x01
+
+-- No party hears a read-only request from the bytes.
+abbrev pub HearsNoRead : List ℕ → Type 0
+HearsNoRead bytes =
+    (m : Membership) (me sender timestamp : ℕ) (op : Operation)
+    → heard m me bytes ≢ Some (read_only_request sender timestamp op)
+
+-- From the bytes the replica hears the client's read-only request of an operation that this text spells.
+pub record HearsRead (m : Membership) (me : ℕ) (bytes : List ℕ) (client timestamp : ℕ)
+    (text : List ℕ) : Type 0 where
+  pub op : Operation
+  pub hears : heard m me bytes ≡ Some (read_only_request (256 + client) timestamp op)
+  pub spelled : SpellsOperation text op

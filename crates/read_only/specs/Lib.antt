@@ -1,0 +1,3 @@
+pub mod Hearing
+pub mod Answering
+pub mod Faults

@@ -1,0 +1,91 @@
+//! Answers to reads.
+
+ghost use Rattle.std.specs.Prelude.{◌≡◌, ◌↔◌, IfOk, MatchResult};
+ghost use Rattle.tuple_codec.specs.OperationView.{outcome_of};
+ghost use Rattle.wire.specs.Spelling.{IsMessage};
+ghost use Rattle.read_only.specs.Answering.{AnswersRead, AnswersText, SpellsNoRead, SpellsRead, SpellsSomeOperation, begins_as_read, read_reply, reply_data};
+
+use crate::hearing::ReadRequest;
+use crate::read_fault::ReadFault;
+use bumpalo::Bump;
+use space::Space;
+use std::alloc::Global;
+use terms::{ClientId, Mode, Number, Timestamp};
+use tuple_codec::{Answer, Bad, decode_op};
+use wire::Reply;
+
+/// What reads are answered from: the tuples of an executed state, and its number.
+#[derive(Clone, Copy, Drop)]
+pub struct Shelf<'a> {
+    pub space: &'a Space,
+    pub number: Number,
+}
+
+/// The reply to a read from the shelf. The operation is decoded in the arena, and dropped before this returns; the
+/// reply is in ordinary memory.
+///
+/// # Errors
+///
+/// NotReadOnly where the operation is no read, before memory is looked at. NoMemory where memory runs out.
+pub fn answer(
+    alloc: Global,
+    shelf: &Shelf<'_>,
+    request: &ReadRequest<'_>,
+    arena: &mut Bump,
+) -> Result<Reply, ReadFault>
+    requires spelled { SpellsSomeOperation request.now.op.now }
+    ensures answer { IfOk result (AnswersRead shelf.now request.now) }
+    ensures may { IfOk result (λ reply. IsMessage (reply_data reply)) }
+    ensures not_read_only { (result ≡ Err ReadFault.NotReadOnly) ↔ SpellsNoRead request.now.op.now }
+    ensures memory { (result ≡ Err ReadFault.NoMemory) → SpellsRead request.now.op.now }
+{
+    if !is_read(request.op) {
+        return Err(ReadFault::NotReadOnly);
+    }
+    let answered = peek(shelf.space, request.op, arena);
+    // The operation is gone, and its room is free again. An arena that a caller left something in is replaced.
+    if arena.reset().is_err() {
+        *arena = Bump::new(alloc);
+    }
+    let answer = answered?;
+    Ok(reply_of(request.client, request.timestamp, shelf.number, answer))
+}
+
+// The reply to a client's read-only request of this timestamp, from the state of this number.
+fn reply_of(client: ClientId, timestamp: Timestamp, number: Number, answer: Answer<Global>) -> Reply
+    ensures says { reply_data result
+        ≡ read_reply client.number timestamp.0 number.0 (outcome_of answer) }
+    ensures may { IsMessage (reply_data result) }
+{
+    answer.note_valid();
+    Reply {
+        client,
+        timestamp,
+        kind: Mode::ReadOnly,
+        number,
+        answer,
+    }
+}
+
+// Whether the operation that the text spells is a read, by its first byte.
+fn is_read(text: &[u8]) -> bool
+    ensures { result ≡ begins_as_read text.now }
+{
+    match text {
+        [0x22 | 0x25, ..] => true,
+        _ => false,
+    }
+}
+
+// What the read that the text spells comes to in the space.
+fn peek(space: &Space, text: &[u8], arena: &Bump) -> Result<Answer<Global>, ReadFault>
+    requires { SpellsRead text.now }
+    ensures { MatchResult result (AnswersText space.now text.now) (λ e. e ≡ ReadFault.NoMemory) }
+{
+    let op = match decode_op(arena, text) {
+        Ok((op, _)) => op,
+        Err(Bad::NoMemory) => return Err(ReadFault::NoMemory),
+        Err(Bad::Malformed) => unreachable!(),
+    };
+    Ok(space.peek(&op)?)
+}

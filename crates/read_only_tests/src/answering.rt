@@ -1,0 +1,115 @@
+//! What reads of a space with the tuples ("k") and (true) come to.
+
+use bumpalo::Bump;
+use read_only::{ReadFault, ReadRequest, Shelf, answer};
+use space::Space;
+use std::alloc::Global;
+use std::test::Fail;
+use terms::{ClientId, Mode, NoMemory, Number, Timestamp};
+use tuple_codec::{Bad, decode_op, encode_result, is_op};
+use wire::Reply;
+
+static STORED: [&[u8]; 2] = [b"\x21\x01\x02\x00\x01k", b"\x21\x01\x04\x01"];
+
+const NUMBER: Number = Number(17);
+
+/// A space with the two tuples.
+pub fn new_space(alloc: Global) -> Result<Space, Bad> {
+    let mut space = Space::new(alloc);
+    for bytes in STORED {
+        put(alloc, &mut space, bytes)?;
+    }
+    Ok(space)
+}
+
+fn put(alloc: Global, space: &mut Space, bytes: &[u8]) -> Result<(), Bad> {
+    let (op, _) = decode_op(alloc, bytes)?;
+    if space.births_left() {
+        space.apply(&op)?;
+    }
+    Ok(())
+}
+
+/// Answers the operation of these bytes to client 1, with the timestamp 9, where they are one.
+pub fn read(
+    alloc: Global,
+    space: &Space,
+    op: &[u8],
+    arena: &mut Bump,
+) -> Option<Result<Reply, ReadFault>> {
+    if !is_op(op) {
+        return None;
+    }
+    let shelf = Shelf {
+        space,
+        number: NUMBER,
+    };
+    let request = ReadRequest {
+        client: ClientId { number: 1 },
+        timestamp: Timestamp(9),
+        op,
+    };
+    Some(answer(alloc, &shelf, &request, arena))
+}
+
+/// Whether the reply is to that request, and says this.
+pub fn says(alloc: Global, reply: &Reply, answer: &[u8]) -> Result<bool, NoMemory> {
+    let mut bytes = Vec::new(alloc);
+    encode_result(&reply.answer, &mut bytes)?;
+    Ok(
+        reply.client.number == 1
+            && reply.timestamp.0 == 9
+            && reply.kind == Mode::ReadOnly
+            && reply.number.0 == NUMBER.0
+            && bytes.as_slice() == answer,
+    )
+}
+
+// An operation and its answer, in bytes; none where it is refused.
+type Row<'a> = (&'a [u8], Option<&'a [u8]>);
+
+static ROWS: [Row<'static>; 9] = [
+    // rdp (*): found ("k")
+    (b"\x22\x01\x10", Some(b"\x32\x01\x02\x00\x01k")),
+    // rdp (?bool): found (true)
+    (b"\x22\x01\x14", Some(b"\x32\x01\x04\x01")),
+    // rdp (?int): absent
+    (b"\x22\x01\x11", Some(b"\x33")),
+    // rdAll 64 (*): all 2 ("k") (true)
+    (
+        b"\x25\x40\x01\x10",
+        Some(b"\x35\x02\x01\x02\x00\x01k\x01\x04\x01"),
+    ),
+    // rdAll 1 (*): all 1 ("k")
+    (b"\x25\x01\x01\x10", Some(b"\x35\x01\x01\x02\x00\x01k")),
+    // rdAll 1 (): all 0
+    (b"\x25\x01\0", Some(b"\x35\0")),
+    // inp (*), out ("k") and cas (?text) (true)
+    (b"\x23\x01\x10", None),
+    (b"\x21\x01\x02\x00\x01k", None),
+    (b"\x24\x01\x12\x01\x04\x01", None),
+];
+
+fn agrees(
+    alloc: Global,
+    space: &Space,
+    arena: &mut Bump,
+    (op, expected): Row<'_>,
+) -> Result<bool, NoMemory> {
+    match (read(alloc, space, op, arena), expected) {
+        (Some(Ok(reply)), Some(bytes)) => says(alloc, &reply, bytes),
+        (Some(Err(fault)), None) => Ok(fault == ReadFault::NotReadOnly),
+        _ => Ok(false),
+    }
+}
+
+#[test]
+fn operations(rt: HostRuntime) -> Result<(), Fail> {
+    let space = new_space(rt.alloc())?;
+    let mut arena = Bump::new(rt.alloc());
+    for row in ROWS {
+        assert!(rt; agrees(rt.alloc(), &space, &mut arena, row)?);
+    }
+    assert!(rt; space.count() == 2);
+    Ok(())
+}

@@ -1,0 +1,160 @@
+-- A read is answered from what is executed.
+use Rattle.std.proofs.Common.{◌≡◌, ℕ, ◌+◌, ◌⊎◌, inl, inr, true, false, List, [], ◌∷◌, Some, refl, sym, ap, ◌∙◌, subst}
+use Rattle.tuple_codec.specs.Operations.{Operation}
+use Rattle.space.specs.Applying.{is_read_only}
+use Rattle.terms.specs.declared.order.Mode.TheVariants as modes
+use Rattle.space.specs.Applying.{outcome}
+use Rattle.space.specs.Births.{tuples_of}
+use Rattle.wire.specs.Messages.{MessageData as Message, reply as Reply}
+use Rattle.wire.specs.declared.messages.Reply.{Reply as WireReply}
+use Rattle.read_only.specs.declared.answering.Shelf.{Shelf}
+use Rattle.read_only.specs.declared.hearing.ReadRequest.{ReadRequest}
+use Rattle.read_only.specs.Hearing.{HearsRead}
+use Rattle.read_only.specs.Answering as answers
+use Rattle.signing.specs.Heard.{heard}
+use Rattle.events.specs.declared.output.Output.{Output}
+use Rattle.events.specs.Outputs.{entry_of}
+use Rattle.protocol.specs.System.Configuration.{Configuration, members}
+use Rattle.protocol.specs.System.Frames.{IsPosted}
+use Rattle.protocol.specs.System.Trace.{Entry}
+use Rattle.protocol.specs.System.Trace.Entry.{Got, Sent}
+use Rattle.protocol.specs.Replica.State.{State}
+use Rattle.replica_histories.specs.Questions.{AnswersInput, read_from, read_reply}
+use Rattle.replica_histories.specs.Events.{IsTaken}
+use Rattle.replica_histories.proofs.Answering.{reads_fit, reads_suffice, other_operations_owe_none}
+use Rattle.replica_histories.proofs.ChangesKept.{sent_keep}
+use Rattle.replica.specs.declared.taking.Touched.TheVariants as touched
+use Rattle.replica.specs.State.{ReplicaData, DeskData, AreOne}
+use Rattle.replica.specs.Desks.{given, FitsEvent}
+use Rattle.replica.specs.Desking.{SaysTo, message_of}
+use Rattle.replica.specs.Entering.{event_of, TakesBytes}
+use Rattle.replica.specs.Reading.{AnswersRead, HearsNoRead, AnswersBytes}
+use Rattle.replica.specs.Fits.{Runs, me_of}
+use Rattle.replica.proofs.Beginning.{rests, silence_dropped}
+use Rattle.replica.proofs.Beside.{begins, heard_so}
+use Rattle.replica.proofs.Given.{given_one}
+use Rattle.replica.proofs.Parties.{one_self, same_log}
+use Rattle.replica.proofs.Staying.{fits_on, sent_beside}
+
+-- ---- a request is heard that is to be answered beside the order
+
+module _ (r : ReplicaData) (one : AreOne r.orderer r.desk) (client t : ℕ) (op : Operation) (bytes : List ℕ) (hears : heard r.desk.membership r.desk.me bytes ≡ Some (read_from client t op)) where
+  module _ (c : Configuration) (past : List Entry) (runs : Runs c r past) (known : members c ≡ r.desk.membership) where
+    abbrev me : ℕ
+    me = me_of r
+
+    begun : FitsEvent c me (event_of c r past runs bytes) r.orderer runs.desk r.desk.waiting [] []
+    begun = begins r one c past runs bytes (read_from client t op) known hears (record { log = tt; call = refl; asks = λ st. refl; views = refl; changes = tt })
+
+    is_heard : heard (members c) me bytes ≡ Some (read_from client t op)
+    is_heard = heard_so r one c past runs bytes (read_from client t op) known hears
+
+    abbrev Left : List Output → Type 0
+    Left outs = FitsEvent c me (event_of c r past runs bytes) r.orderer runs.desk r.desk.waiting [] outs
+        × AnswersInput c me past (Got me bytes) (given me outs) runs.holds.of_desk.point
+        × ((outs ≡ []) ⊎ IsTaken c me (event_of c r past runs bytes))
+
+    -- what is no read gets nothing
+    drops : is_read_only op ≡ false → Left []
+    drops unread = (begun, other_operations_owe_none c me runs.desk r.orderer.log past (Got me bytes) [] client t op runs.holds is_heard unread, inl refl)
+
+    abbrev reply : Message
+    reply = read_reply runs.desk.state client t op
+
+    -- and a read its answer
+    gives : is_read_only op ≡ true → (output : Output) (sent : List ℕ) → entry_of me output ≡ Sent me sent → IsPosted c me reply (client ∷ []) sent → Left (output ∷ [])
+    gives is output sent sends posted = (
+      fits_on c me (event_of c r past runs bytes) r.orderer r.orderer runs.desk r.desk.waiting [] [] [] (output ∷ []) (Sent me sent) one_given
+          (sent_beside c me reply (client ∷ []) sent (Got me bytes ∷ past) tt posted)
+          (sent_keep c me (Got me bytes ∷ past) reply sent posted.says tt)
+          (same_log r.orderer.log) refl refl refl refl begun
+          (reads_fit c me (event_of c r past runs bytes) runs.desk r.orderer.log [] [] client t op sent (inl is_heard) is posted begun.fits),
+      subst (λ (es : List Entry). AnswersInput c me past (Got me bytes) es runs.holds.of_desk.point) (sym one_given)
+          (reads_suffice c me runs.desk r.orderer.log past (Got me bytes) (Sent me sent ∷ []) client t op runs.holds is_heard (inl posted.says)),
+      inr (read_from client t op, is_heard, is),
+    )
+      where
+        one_given : given me (output ∷ []) ≡ Sent me sent ∷ []
+        one_given = given_one me [] (output ∷ []) output refl ∙ ap (λ e. e ∷ []) sends
+
+  -- in whatever event, nothing else is left to do
+  takes : (outs : List Output)
+      → ((c : Configuration) (past : List Entry) (runs : Runs c r past) (known : members c ≡ r.desk.membership) → Left c past runs known outs) → TakesBytes bytes r touched.Nothing r outs
+  takes outs left = record {
+    party = one_self r;
+    begins = λ c past runs known. let l = left c past runs known in (
+      record {
+        desk = runs.desk;
+        is = runs.is_desk;
+        fits = subst (λ (m : ℕ). FitsEvent c m (event_of c r past runs bytes) r.orderer runs.desk r.desk.waiting [] outs) (sym one.0) l.0;
+      },
+      (rests c r past runs, runs.all, l.1, l.2),
+    );
+  }
+
+  takes_no_read : is_read_only op ≡ false → TakesBytes bytes r touched.Nothing r []
+  takes_no_read unread = takes [] (λ c past runs known. drops c past runs known unread)
+
+-- ---- a client's read
+
+module _ (r : ReplicaData) (one : AreOne r.orderer r.desk) (bytes : List ℕ) (outs : List Output) (a : AnswersRead r.desk bytes [] outs) where
+  abbrev client : ℕ
+  client = 256 + a.client.number
+
+  takes_read : TakesBytes bytes r touched.Nothing r outs
+  takes_read = subst (λ (os : List Output). TakesBytes bytes r touched.Nothing r os) (sym a.says.given_is)
+      (takes r one client a.timestamp a.op bytes a.hears (a.says.output ∷ []) (λ c past runs known.
+      gives r one client a.timestamp a.op bytes a.hears c past runs known a.is_read a.says.output a.says.posts.bytes (sends c) (posted c past runs known)))
+    where
+      sends : (c : Configuration) → entry_of (me_of r) a.says.output ≡ Sent (me_of r) a.says.posts.bytes
+      sends c = subst (λ (m : ℕ). entry_of m a.says.output ≡ Sent m a.says.posts.bytes) one.0 a.says.posts.sends
+
+      posted : (c : Configuration) (past : List Entry) (runs : Runs c r past) → members c ≡ r.desk.membership
+          → IsPosted c (me_of r) (read_reply runs.desk.state client a.timestamp a.op) (client ∷ []) a.says.posts.bytes
+      posted c past runs known =
+          subst (λ (st : State). IsPosted c (me_of r) (read_reply st client a.timestamp a.op) (client ∷ []) a.says.posts.bytes) (sym runs.is_desk.state)
+          (subst (λ (m : ℕ). IsPosted c m (read_reply r.desk.executed.state client a.timestamp a.op) (client ∷ []) a.says.posts.bytes) one.0 (a.says.posts.posted c known))
+
+-- ---- whatever asks
+
+pub answers_bytes : (r : ReplicaData) (bytes : List ℕ) (outs : List Output) → AreOne r.orderer r.desk → AnswersBytes r.desk bytes [] outs → TakesBytes bytes r touched.Nothing r outs
+answers_bytes r bytes outs one (inl a) = takes_read r one bytes outs a
+answers_bytes r bytes outs one (inr (none, same)) = subst (λ (os : List Output). TakesBytes bytes r touched.Nothing r os) (sym same) (dropped none)
+  where
+    dropped : HearsNoRead r.desk bytes → TakesBytes bytes r touched.Nothing r []
+    dropped (inl silent) = silence_dropped r bytes one silent
+    dropped (inr (k, t, op, hears, unread)) = takes_no_read r one k t op bytes hears unread
+
+-- ---- an answer
+
+-- the client that a reply is for
+abbrev named : Message → ℕ
+named message = elim message [ Reply client t mode number outcome ↦ client | _ ↦ 0 ]
+
+-- What answers the read that is heard, from the executed state, and goes to its client, is its answer.
+pub answered : (d : DeskData) (bytes : List ℕ) (shelf : Shelf) (request : ReadRequest) (reply : WireReply) (before after : List Output)
+    → HearsRead d.membership d.me bytes request.client.number request.timestamp.0 request.op.now → answers.AnswersRead shelf request reply
+    → shelf.space.now ≡ d.executed.state.space → shelf.number.0 ≡ d.executed.state.number
+    → SaysTo d reply.client (message_of reply) before after → AnswersBytes d bytes before after
+answered d bytes shelf request reply before after h answer space number says = inl (record {
+  client = reply.client;
+  timestamp = t;
+  op = h.op;
+  hears = h.hears ∙ ap (λ k. Some (read_from k t h.op)) (sym same);
+  is_read = a.read;
+  says = subst (λ (m : Message). SaysTo d reply.client m before after) said_is says;
+})
+  where
+    t : ℕ
+    t = request.timestamp.0
+
+    a : answers.IsReadReply shelf request h.op reply
+    a = answer h.op h.spelled
+
+    same : 256 + reply.client.number ≡ 256 + request.client.number
+    same = ap named a.says
+
+    said_is : message_of reply ≡ read_reply d.executed.state (256 + reply.client.number) t h.op
+    said_is = a.says ∙ ap (λ k. Reply k t modes.ReadOnly shelf.number.0 (outcome (tuples_of shelf.space.now) h.op)) (sym same)
+        ∙ ap (λ n. Reply (256 + reply.client.number) t modes.ReadOnly n (outcome (tuples_of shelf.space.now) h.op)) number
+        ∙ ap (λ x. Reply (256 + reply.client.number) t modes.ReadOnly d.executed.state.number (outcome (tuples_of x) h.op)) space

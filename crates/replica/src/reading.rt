@@ -1,0 +1,67 @@
+//! Reads: they are answered beside the order, in their event.
+
+ghost use Rattle.std.specs.Prelude.{◌≡◌, true, [], IfOk, OnOk};
+ghost use Rattle.read_only.specs.Hearing.{asks_read};
+ghost use Rattle.replica.specs.Entering.{TakesBytes};
+ghost use Rattle.replica.specs.Reading.{AnswersBytes};
+
+use crate::desk::Desk;
+use crate::replica::Replica;
+use crate::taking::Touched;
+use bumpalo::Bump;
+use events::{Outputs, Stop};
+use read_only::{ReadFault, Shelf, answer, hear_read};
+use std::alloc::Global;
+
+impl Replica {
+    /// Answers the read that bytes with its marks ask for, if the replica hears one. The arena for its template is made
+    /// here and dropped here.
+    pub(crate) fn on_read(
+        &mut self,
+        alloc: Global,
+        bytes: &[u8],
+        outputs: &mut Outputs,
+    ) -> Result<Touched, Stop>
+        requires first { outputs.old.items ≡ [] }
+        requires marks { asks_read bytes.now ≡ true }
+        ensures ok { IfOk result (λ touched. TakesBytes bytes.now self.old
+            touched self.new outputs.new.items) }
+        ensures endpoint { self.new.orderer.endpoint ≡ self.old.orderer.endpoint }
+    {
+        self.are_one();
+        let mut arena = Bump::new(alloc);
+        self.desk.read(alloc, bytes, &mut arena, outputs)?;
+        Ok(Touched::Nothing)
+    }
+}
+
+impl Desk {
+    /// Answers the read that bytes with its marks ask for, if the replica hears one, from what is executed. The arena is
+    /// for its template alone. Nothing changes.
+    pub(crate) fn read(
+        &mut self,
+        alloc: Global,
+        bytes: &[u8],
+        arena: &mut Bump,
+        outputs: &mut Outputs,
+    ) -> Result<(), Stop>
+        requires { asks_read bytes.now ≡ true }
+        ensures ok { OnOk result (AnswersBytes self.old bytes.now outputs.old.items outputs.new.items) }
+        ensures same { self.new ≡ self.old }
+    {
+        let Some(request) = hear_read(&mut self.ring, self.me, bytes) else {
+            return Ok(());
+        };
+        let shelf = Shelf {
+            space: self.executed.space(),
+            number: self.executed.number(),
+        };
+        let reply = match answer(alloc, &shelf, &request, arena) {
+            Ok(reply) => reply,
+            Err(ReadFault::NotReadOnly) => return Ok(()),
+            Err(ReadFault::NoMemory) => return Err(Stop::NoMemory),
+        };
+        self.reply(alloc, reply, outputs)?;
+        Ok(())
+    }
+}
