@@ -5,3 +5,4 @@ pub mod Trace
 pub mod Texts
 pub mod Run
 pub mod Schedule
+pub mod Reads

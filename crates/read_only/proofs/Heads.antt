@@ -18,7 +18,8 @@ use Rattle.signing.specs.Heard.{heard}
 use Rattle.signing.specs.Hearing.{authenticator_holds, signature_holds}
 use Rattle.signing.proofs.Heard.{heard_was_opened}
 use Rattle.signing.proofs.Opened.{heard_by_header, own_not_heard, refused_not_heard}
-use Rattle.read_only.specs.Hearing.{HearsRead, asks_read, read_only_request}
+use Rattle.wire.specs.Marks.{asks_read}
+use Rattle.read_only.specs.Hearing.{HearsRead, read_only_request}
 use Rattle.read_only.proofs.Marks.{marked_is_read}
 
 none_heard : (o : Option BodyData) → ((body : BodyData) → o ≡ Some body → ⊥) → o ≡ None

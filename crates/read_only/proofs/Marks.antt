@@ -9,7 +9,8 @@ use Rattle.wire.specs.Spelling.{SpellsFrame, authenticator_spelling, fields_spel
 use Rattle.authenticator.specs.Membership.{Membership}
 use Rattle.signing.specs.Heard.{heard}
 use Rattle.signing.proofs.Heard.{heard_was_opened}
-use Rattle.read_only.specs.Hearing.{HearsNoRead, asks_read, read_only_request}
+use Rattle.wire.specs.Marks.{asks_read}
+use Rattle.read_only.specs.Hearing.{HearsNoRead, read_only_request}
 
 -- whether a frame has the marks, by its message and the bytes behind it
 abbrev has_marks : MessageData → List ℕ → Bool

@@ -1,6 +1,6 @@
 -- Read-only requests as a replica hears them (Castro and Liskov, Practical Byzantine fault tolerance and proactive
 -- recovery, TOCS 2002, on read-only operations).
-use Rattle.std.specs.Prelude.{◌≡◌, ◌≢◌, ℕ, ◌+◌, Bool, ◌&&◌, ◌==◌, List, slice_index, Some}
+use Rattle.std.specs.Prelude.{◌≡◌, ◌≢◌, ℕ, ◌+◌, List, Some}
 use Rattle.terms.specs.declared.order.Mode.TheVariants as modes
 use Rattle.tuple_codec.specs.Operations.{Operation}
 use Rattle.tuple_codec.specs.Spelling.{SpellsOperation}
@@ -12,10 +12,6 @@ use Rattle.signing.specs.Heard.{heard}
 abbrev pub read_only_request : ℕ → ℕ → Operation → BodyData
 read_only_request sender timestamp op =
     record { sender = sender; message = request timestamp modes.ReadOnly op }
-
--- Whether bytes have the marks of one: byte 4 is the type of requests, and byte 15 the read-only mode.
-abbrev pub asks_read : List ℕ → Bool
-asks_read bytes = slice_index bytes 4 == 0x41 && slice_index bytes 15 == 0x01
 
 -- No party hears a read-only request from the bytes.
 abbrev pub HearsNoRead : List ℕ → Type 0

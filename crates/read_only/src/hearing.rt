@@ -3,7 +3,8 @@
 ghost use Rattle.std.specs.Prelude.{◌≡◌, ◌≤◌, ◌==◌, length, drop, slice_index, true, IfSome, IsFalse, IsNone};
 ghost use Rattle.byteorder.specs.Endian.{big_number};
 ghost use Rattle.signing.specs.Heard.{heard};
-ghost use Rattle.read_only.specs.Hearing.{HearsNoRead, HearsRead, asks_read};
+ghost use Rattle.wire.specs.Marks.{asks_read};
+ghost use Rattle.read_only.specs.Hearing.{HearsNoRead, HearsRead};
 
 use authenticator::Ring;
 use byteorder::{BigEndian, ByteOrder};

@@ -7,7 +7,7 @@ ghost use Rattle.protocol.specs.System.Trace.{Has};
 ghost use Rattle.view_change.specs.Finding as finding;
 ghost use Rattle.view_change.specs.ReceivedData as spec;
 ghost use Rattle.view_change.specs.ReceivedData.{HeldData, IsHeldSet, IsJoined, frames_for, held_of, later_views, pairs_for};
-ghost use Rattle.view_change.specs.ReceivedView.{configuration_of, held_as, held_by, held_data, IsAdded, IsFrameAdded, IsHeldIn};
+ghost use Rattle.view_change.specs.ReceivedView.{AreReceived, configuration_of, held_as, held_by, held_data, IsAdded, IsFrameAdded, IsHeldIn};
 ghost use Rattle.view_change.specs.Selecting.{are_for};
 ghost use Rattle.view_change.specs.Sets.{change_pair, pairs, sized};
 ghost use Rattle.wire.specs.Views.{texts_of, view_change_data};
@@ -103,6 +103,13 @@ impl Received {
         let sender = usize::from(signed.change.sender.0);
         self.held[sender] = Some(signed);
         Ok(())
+    }
+
+    /// Tells a proof of each that is held whose it is, and that its sender signed its frame.
+    pub fn note_held(&self)
+        ensures { AreReceived self.now }
+    {
+        let _sizes = self.sizes;
     }
 
     /// How many replicas may be faulty, and how many batches lie from one checkpoint to the next.
