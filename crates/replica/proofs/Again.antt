@@ -30,7 +30,7 @@ use Rattle.replica_histories.proofs.NumbersKept.{batches_keep_numbers}
 use Rattle.replica_histories.specs.Changes.{FitsChanges}
 use Rattle.replica_histories.proofs.ChangesPassing.{outputs_pass, batches_are_claimed}
 use Rattle.replica_histories.proofs.ChangesKept.{sent_keep}
-use Rattle.replica.specs.State.{OrdererData, ReplicaData, IsOrderer}
+use Rattle.replica.specs.State.{OrdererData, JoinedData, IsOrderer}
 use Rattle.replica.specs.Desks.{given, changes_of}
 use Rattle.replica.specs.Waiting.{unnumbered, with_numbered}
 use Rattle.replica.specs.Claiming.{LogsBatch}
@@ -132,7 +132,7 @@ again_twice a b d x y z p q = record {
 }
 
 -- and so with the desk beside
-pub all_again : (active : Bool) (a new : ReplicaData) (o : OrdererData) (before after : List Output) → a.orderer.log.active ≡ active → SaysAgain active a.orderer before o after → new ≡ record a { orderer = o }
+pub all_again : (active : Bool) (a new : JoinedData) (o : OrdererData) (before after : List Output) → a.orderer.log.active ≡ active → SaysAgain active a.orderer before o after → new ≡ record a { orderer = o }
     → AllAgain a before new after
 all_again active a new o before after at says is =
     (is ∙ ap (λ (k : OrdererData). record a { orderer = k }) says.same, subst (λ (k : OrdererData). GoesOn a.orderer before k after) says.same (says.goes at))

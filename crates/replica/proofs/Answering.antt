@@ -27,11 +27,11 @@ use Rattle.replica_histories.specs.TransfersAnswers.{answer_by}
 use Rattle.replica_histories.proofs.Answering.{parts_fit, kept_fetches_count, parts_suffice, other_numbers_owe_none}
 use Rattle.replica_histories.proofs.TransfersAnswering.{posted_to_one}
 use Rattle.replica.specs.declared.taking.Touched.TheVariants as touched
-use Rattle.replica.specs.State.{ReplicaData, AreOne}
+use Rattle.replica.specs.State.{JoinedData, AreOne}
 use Rattle.replica.specs.Desks.{given, FitsEvent}
 use Rattle.replica.specs.Entering.{event_of, TakesBytes}
 use Rattle.replica.specs.Fetching.{GivesPart, HasKept, HasNone}
-use Rattle.replica.specs.Fits.{Runs, me_of}
+use Rattle.replica.specs.Joined.{Runs, me_of}
 use Rattle.replica.proofs.Beginning.{rests}
 use Rattle.replica.proofs.Beside.{begins, heard_so}
 use Rattle.replica.proofs.Given.{given_one}
@@ -67,7 +67,7 @@ of_number k pages [] has = absurd has
 of_number k pages (x ∷ xs) (inl e) = inl (ap (λ (s : Snapshot). s.number) e)
 of_number k pages (x ∷ xs) (inr h) = inr (of_number k pages xs h)
 
-module _ (r : ReplicaData) (one : AreOne r.orderer r.desk) (sender : ReplicaId) (fetch : Fetch) (bytes : List ℕ) (outs : List Output)
+module _ (r : JoinedData) (one : AreOne r.orderer r.desk) (sender : ReplicaId) (fetch : Fetch) (bytes : List ℕ) (outs : List Output)
     (hears : heard r.desk.membership r.desk.me bytes ≡ Some (record { sender = sender.0; message = FetchMessage fetch.number.0 fetch.level fetch.index })) where
   abbrev k : ℕ
   k = fetch.number.0

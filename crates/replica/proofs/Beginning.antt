@@ -53,11 +53,11 @@ use Rattle.replica_histories.proofs.Entering.{inputs_fit}
 use Rattle.replica_histories.proofs.Resting.{held_are_settled}
 use Rattle.replica_histories.proofs.Counting.{batches_count, batches_drop, prepares_count, prepares_drop, commits_count, commits_drop, others_drop}
 use Rattle.replica.specs.declared.taking.Touched.TheVariants as touched
-use Rattle.replica.specs.State.{OrdererData, ReplicaData, AreOne}
+use Rattle.replica.specs.State.{OrdererData, JoinedData, AreOne}
 use Rattle.replica.specs.Desks.{Stands, FitsEvent, changes_of}
 use Rattle.replica.specs.Going.{IsSameLog, IsVotedBut, Rests}
 use Rattle.replica.specs.Taking.{TakesBatch, TakesPrepare, TakesCommit}
-use Rattle.replica.specs.Fits.{Runs, me_of}
+use Rattle.replica.specs.Joined.{Runs, me_of}
 use Rattle.replica.specs.Entering.{event_of, TakesBytes, TakesMessage}
 use Rattle.replica.proofs.Parties.{same_log, one_self}
 use Rattle.replica.proofs.Staying.{numbers_alike, numbers_beside, said_on, same_rows}
@@ -66,7 +66,7 @@ use Rattle.replica.proofs.Rows.{due_prepare_elsewhere, due_commit_elsewhere}
 -- ---- between events
 
 -- nothing is left to say or to execute
-pub rests : (c : Configuration) (r : ReplicaData) (past : List Entry) → Runs c r past → Rests r
+pub rests : (c : Configuration) (r : JoinedData) (past : List Entry) → Runs c r past → Rests r
 rests c r past runs =
     let settled = held_are_settled c (me_of r) runs.desk r.orderer.log past runs.holds in (
       (λ i. (runs.holds.of_log.prepares i, runs.holds.of_log.commits i)),
@@ -88,18 +88,18 @@ pub none_taken : (c : Configuration) (past : List Entry) (e : Entry) → option_
 none_taken c past e h = ap (option_and_then (λ (new : NewViewData). then_some (is_later (view c past) (target past) new) new)) h
 
 -- With this log and these claims what is held for changes fits behind the bytes.
-abbrev pub ChangesFit : (r : ReplicaData) (c : Configuration) (past : List Entry) → List ℕ → LogData → ClaimsData → Type 0
+abbrev pub ChangesFit : (r : JoinedData) (c : Configuration) (past : List Entry) → List ℕ → LogData → ClaimsData → Type 0
 ChangesFit r c past bytes after claims = Passes c (me_of r) past (Got (me_of r) bytes) r.orderer.log after
     → FitsChanges c (me_of r) after (record (changes_of r.orderer) { claims = claims }) (Got (me_of r) bytes ∷ past)
 
 -- The log takes the bytes, which count.
-pub record TakesOne (r : ReplicaData) (c : Configuration) (past : List Entry) (runs : Runs c r past) (bytes : List ℕ) (after : LogData) (claims : ClaimsData) : Type 0 where
+pub record TakesOne (r : JoinedData) (c : Configuration) (past : List Entry) (runs : Runs c r past) (bytes : List ℕ) (after : LogData) (claims : ClaimsData) : Type 0 where
   pub takes : Takes c (me_of r) (heard (members c) (me_of r) bytes) r.orderer.log after
   pub none : IsNoCall c (heard (members c) (me_of r) bytes)
   pub counts : IsTaken c (me_of r) (event_of c r past runs bytes)
   pub changes : ChangesFit r c past bytes after claims
 
-module _ (r : ReplicaData) (one : AreOne r.orderer r.desk) where
+module _ (r : JoinedData) (one : AreOne r.orderer r.desk) where
   -- the desk hears what the orderer does
   pub heard_by : (c : Configuration) (bytes : List ℕ) (body : Body) → members c ≡ r.desk.membership → heard r.desk.membership r.desk.me bytes ≡ Some body
       → heard (members c) (me_of r) bytes ≡ Some body
@@ -177,7 +177,7 @@ module _ (r : ReplicaData) (one : AreOne r.orderer r.desk) where
       → ((c : Configuration) (past : List Entry) (runs : Runs c r past) → members c ≡ r.desk.membership → TakesOne r c past runs bytes after claims)
       → TakesBytes bytes r (touched.Row number) (record r { orderer = record r.orderer { log = after; claims = claims } }) []
   takes_row bytes number after claims same others takes = record {
-    party = record { endpoint = refl; me = refl; membership = refl; stopped = refl };
+    party = record { endpoint = refl; me = refl; membership = refl };
     begins = λ c past runs known. let t = takes c past runs known in
         (begins_with c past runs bytes after claims same t.takes t.none t.changes, (voted c past runs, (t.counts, t.none.parts)));
   }
@@ -212,27 +212,27 @@ abbrev vote_by : ReplicaId → List ℕ → Vote
 vote_by sender digest = record { sender = sender; digest = digest }
 
 -- a vote is no call, and brings nothing about
-none_of : (r : ReplicaData) (bytes : List ℕ) (c : Configuration) (body : Body) → heard (members c) (me_of r) bytes ≡ Some body → IsNoCall c (Some body) → IsNoCall c (heard (members c) (me_of r) bytes)
+none_of : (r : JoinedData) (bytes : List ℕ) (c : Configuration) (body : Body) → heard (members c) (me_of r) bytes ≡ Some body → IsNoCall c (Some body) → IsNoCall c (heard (members c) (me_of r) bytes)
 none_of r bytes c body hears none = subst (IsNoCall c) (sym hears) none
 
-prepare_none : (r : ReplicaData) (bytes : List ℕ) (c : Configuration) (s v i : ℕ) (digest : List ℕ) → heard (members c) (me_of r) bytes ≡ Some (record { sender = s; message = Prepare v i digest })
+prepare_none : (r : JoinedData) (bytes : List ℕ) (c : Configuration) (s v i : ℕ) (digest : List ℕ) → heard (members c) (me_of r) bytes ≡ Some (record { sender = s; message = Prepare v i digest })
     → IsNoCall c (heard (members c) (me_of r) bytes)
 prepare_none r bytes c s v i digest hears = none_of r bytes c _ hears (record { call = refl; asks = λ st. refl; parts = refl; views = refl; changes = tt })
 
-commit_none : (r : ReplicaData) (bytes : List ℕ) (c : Configuration) (s v i : ℕ) (digest : List ℕ) → heard (members c) (me_of r) bytes ≡ Some (record { sender = s; message = Commit v i digest })
+commit_none : (r : JoinedData) (bytes : List ℕ) (c : Configuration) (s v i : ℕ) (digest : List ℕ) → heard (members c) (me_of r) bytes ≡ Some (record { sender = s; message = Commit v i digest })
     → IsNoCall c (heard (members c) (me_of r) bytes)
 commit_none r bytes c s v i digest hears = none_of r bytes c _ hears (record { call = refl; asks = λ st. refl; parts = refl; views = refl; changes = tt })
 
-batch_none : (r : ReplicaData) (bytes : List ℕ) (c : Configuration) (s v i : ℕ) (batch : List ℕ) → heard (members c) (me_of r) bytes ≡ Some (record { sender = s; message = PrePrepare v i batch })
+batch_none : (r : JoinedData) (bytes : List ℕ) (c : Configuration) (s v i : ℕ) (batch : List ℕ) → heard (members c) (me_of r) bytes ≡ Some (record { sender = s; message = PrePrepare v i batch })
     → IsNoCall c (heard (members c) (me_of r) bytes)
 batch_none r bytes c s v i batch hears = none_of r bytes c _ hears (record { call = refl; asks = λ st. refl; parts = refl; views = refl; changes = tt })
 
-votes_keep : (r : ReplicaData) (bytes : List ℕ) (c : Configuration) (past : List Entry) → IsNoCall c (heard (members c) (me_of r) bytes) → IsNoBatch (heard (members c) (me_of r) bytes)
+votes_keep : (r : JoinedData) (bytes : List ℕ) (c : Configuration) (past : List Entry) → IsNoCall c (heard (members c) (me_of r) bytes) → IsNoBatch (heard (members c) (me_of r) bytes)
     → KeepsChanges c (me_of r) past (Got (me_of r) bytes)
 votes_keep r bytes c past none no_batch =
     heard_keep c (me_of r) past bytes (none_taken c past (Got (me_of r) bytes) none.views) no_batch (λ s other. others_bring_none c (me_of r) s past bytes none.changes other)
 
-pub prepare_taken : (r : ReplicaData) (sender : ReplicaId) (p : WirePrepare) (new : OrdererData) → AreOne r.orderer r.desk → TakesPrepare r.orderer sender p new true
+pub prepare_taken : (r : JoinedData) (sender : ReplicaId) (p : WirePrepare) (new : OrdererData) → AreOne r.orderer r.desk → TakesPrepare r.orderer sender p new true
     → TakesMessage sender (Prepare p.view.0 p.number.0 p.digest) r (touched.Row p.number) (record r { orderer = new }) []
 prepare_taken r sender p new one t bytes h =
     subst (λ (o : OrdererData). TakesBytes bytes r (touched.Row p.number) (record r { orderer = o }) []) (sym t.1)
@@ -257,7 +257,7 @@ prepare_taken r sender p new one t bytes h =
               (λ passes. votes_keep r bytes c past (prepare_none r bytes c sender.0 p.view.0 p.number.0 p.digest hears) (rw hears tt));
         }
 
-pub commit_taken : (r : ReplicaData) (sender : ReplicaId) (p : WireCommit) (new : OrdererData) → AreOne r.orderer r.desk → TakesCommit r.orderer sender p new true
+pub commit_taken : (r : JoinedData) (sender : ReplicaId) (p : WireCommit) (new : OrdererData) → AreOne r.orderer r.desk → TakesCommit r.orderer sender p new true
     → TakesMessage sender (Commit p.view.0 p.number.0 p.digest) r (touched.Row p.number) (record r { orderer = new }) []
 commit_taken r sender p new one t bytes h =
     subst (λ (o : OrdererData). TakesBytes bytes r (touched.Row p.number) (record r { orderer = o }) []) (sym t.1)
@@ -288,7 +288,7 @@ some_fault : (o : Option Dropped) → is_none o ≡ false → (fault : Dropped) 
 some_fault None h = absurd cc
 some_fault (Some x) h = (x, refl)
 
-pub prepare_dropped : (r : ReplicaData) (sender : ReplicaId) (p : WirePrepare) (new : OrdererData) → AreOne r.orderer r.desk → TakesPrepare r.orderer sender p new false
+pub prepare_dropped : (r : JoinedData) (sender : ReplicaId) (p : WirePrepare) (new : OrdererData) → AreOne r.orderer r.desk → TakesPrepare r.orderer sender p new false
     → TakesMessage sender (Prepare p.view.0 p.number.0 p.digest) r touched.Nothing (record r { orderer = new }) []
 prepare_dropped r sender p new one t bytes h =
     subst (λ (o : OrdererData). TakesBytes bytes r touched.Nothing (record r { orderer = o }) []) (sym t.1) (drops r one bytes none)
@@ -302,7 +302,7 @@ prepare_dropped r sender p new one t bytes h =
           prepare_none r bytes c sender.0 p.view.0 p.number.0 p.digest hears,
         )
 
-pub commit_dropped : (r : ReplicaData) (sender : ReplicaId) (p : WireCommit) (new : OrdererData) → AreOne r.orderer r.desk → TakesCommit r.orderer sender p new false
+pub commit_dropped : (r : JoinedData) (sender : ReplicaId) (p : WireCommit) (new : OrdererData) → AreOne r.orderer r.desk → TakesCommit r.orderer sender p new false
     → TakesMessage sender (Commit p.view.0 p.number.0 p.digest) r touched.Nothing (record r { orderer = new }) []
 commit_dropped r sender p new one t bytes h =
     subst (λ (o : OrdererData). TakesBytes bytes r touched.Nothing (record r { orderer = o }) []) (sym t.1) (drops r one bytes none)
@@ -316,7 +316,7 @@ commit_dropped r sender p new one t bytes h =
           commit_none r bytes c sender.0 p.view.0 p.number.0 p.digest hears,
         )
 
-pub batch_dropped : (r : ReplicaData) (sender : ReplicaId) (p : WirePrePrepare) (new : OrdererData) → AreOne r.orderer r.desk → TakesBatch r.orderer sender p new false
+pub batch_dropped : (r : JoinedData) (sender : ReplicaId) (p : WirePrePrepare) (new : OrdererData) → AreOne r.orderer r.desk → TakesBatch r.orderer sender p new false
     → TakesMessage sender (PrePrepare p.view.0 p.number.0 p.batch.text.items) r touched.Nothing (record r { orderer = new }) []
 batch_dropped r sender p new one t bytes h =
     subst (λ (o : OrdererData). TakesBytes bytes r touched.Nothing (record r { orderer = o }) []) (sym t.1) (drops r one bytes none)
@@ -353,7 +353,7 @@ mapped_none f (Some x) h = absurd cc
 no_batch : (log : LogData) (i : ℕ) → is_in_marks log i ≡ true → logs.logged_digest log i ≡ None → logged_batch log i ≡ None
 no_batch log i within h = ap (λ (b : Bool). cond b (logs.row_of log i).batch None) within ∙ mapped_none sha256 (logs.row_of log i).batch (sym (ap (λ (b : Bool). cond b (logs.digest_of (logs.row_of log i)) None) within) ∙ h)
 
-pub batch_taken : (r : ReplicaData) (sender : ReplicaId) (p : WirePrePrepare) (new : OrdererData) → AreOne r.orderer r.desk → TakesBatch r.orderer sender p new true
+pub batch_taken : (r : JoinedData) (sender : ReplicaId) (p : WirePrePrepare) (new : OrdererData) → AreOne r.orderer r.desk → TakesBatch r.orderer sender p new true
     → TakesMessage sender (PrePrepare p.view.0 p.number.0 p.batch.text.items) r (touched.Row p.number) (record r { orderer = new }) []
 batch_taken r sender p new one (free, were_heard, (claims, adds, is)) bytes h =
     subst (λ (o : OrdererData). TakesBytes bytes r (touched.Row p.number) (record r { orderer = o }) []) (sym is)
@@ -425,12 +425,12 @@ other_no_call c m s (messages.Meta x) below sends other = record { call = refl; 
 other_no_call c m s (messages.Page x) below sends other = record { call = refl; asks = λ st. refl; parts = refl; views = refl; changes = tt }
 
 -- What is heard and has no part in the three phases is dropped.
-drops_heard : (r : ReplicaData) (bytes : List ℕ) (body : Body) → AreOne r.orderer r.desk → IsBesideLog (Some body) → ((c : Configuration) → IsNoCall c (Some body))
+drops_heard : (r : JoinedData) (bytes : List ℕ) (body : Body) → AreOne r.orderer r.desk → IsBesideLog (Some body) → ((c : Configuration) → IsNoCall c (Some body))
     → heard r.desk.membership r.desk.me bytes ≡ Some body → TakesBytes bytes r touched.Nothing r []
 drops_heard r bytes body one beside none h = drops r one bytes (λ c past runs known. let hears = heard_by r one c bytes body known h in
     (others_drop c (me_of r) r.orderer.log past bytes runs.holds.of_log.fits (rw hears beside), rw hears (none c)))
 
-pub other_dropped : (r : ReplicaData) (sender : ReplicaId) (m : WireMessage) → AreOne r.orderer r.desk → sender.0 < 256 → IsOther m → TakesMessage sender (message_data m) r touched.Nothing r []
+pub other_dropped : (r : JoinedData) (sender : ReplicaId) (m : WireMessage) → AreOne r.orderer r.desk → sender.0 < 256 → IsOther m → TakesMessage sender (message_data m) r touched.Nothing r []
 other_dropped r sender m one below other bytes h =
     let o = heard_was_opened r.desk.membership r.desk.me bytes (record { sender = sender.0; message = message_data m }) h in
     let sends = subst (λ (b : Body). has_sender r.desk.membership b ≡ true) o.body_is o.opens.sender in
@@ -438,7 +438,7 @@ other_dropped r sender m one below other bytes h =
 
 -- ---- nothing, and what clients send beside ordered requests
 
-pub silence_dropped : (r : ReplicaData) (bytes : List ℕ) → AreOne r.orderer r.desk → heard r.desk.membership r.desk.me bytes ≡ None → TakesBytes bytes r touched.Nothing r []
+pub silence_dropped : (r : JoinedData) (bytes : List ℕ) → AreOne r.orderer r.desk → heard r.desk.membership r.desk.me bytes ≡ None → TakesBytes bytes r touched.Nothing r []
 silence_dropped r bytes one h = drops r one bytes (λ c past runs known. let silent = heard_by_none c known in
     (others_drop c (me_of r) r.orderer.log past bytes runs.holds.of_log.fits (rw silent tt), subst (IsNoCall c) (sym silent) (record { call = refl; asks = λ st. refl; parts = refl; views = refl; changes = tt })))
   where
@@ -446,7 +446,7 @@ silence_dropped r bytes one h = drops r one bytes (λ c past runs known. let sil
     heard_by_none c known = ap (λ m. heard m (me_of r) bytes) known ∙ ap (λ (x : ℕ). heard r.desk.membership x bytes) (sym one.0) ∙ h
 
 -- clients send nothing but requests
-pub client_dropped : (r : ReplicaData) (k : ℕ) (m : WireMessage) (bytes : List ℕ) → AreOne r.orderer r.desk → ((x : WireRequest) → m ≡ messages.Request x → ⊥)
+pub client_dropped : (r : JoinedData) (k : ℕ) (m : WireMessage) (bytes : List ℕ) → AreOne r.orderer r.desk → ((x : WireRequest) → m ≡ messages.Request x → ⊥)
     → heard r.desk.membership r.desk.me bytes ≡ Some (record { sender = 256 + k; message = message_data m }) → TakesBytes bytes r touched.Nothing r []
 client_dropped r k m bytes one other h = drops r one bytes (λ c past runs known.
     let hears = heard_by r one c bytes _ known h in

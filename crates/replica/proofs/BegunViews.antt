@@ -26,7 +26,7 @@ use Rattle.replica_histories.proofs.Batches.{stays, begun_batch, begun_low}
 use Rattle.replica_histories.proofs.Cutting.{cut_same}
 use Rattle.replica.specs.declared.waiting.BegunCall.{BegunCall}
 use Rattle.replica.specs.declared.waiting.WaitingRequest.{WaitingRequest}
-use Rattle.replica.specs.State.{OrdererData, DeskData, OpenData, ReplicaData}
+use Rattle.replica.specs.State.{OrdererData, DeskData, OpenData, JoinedData}
 use Rattle.replica.specs.Waiting.{with_view}
 use Rattle.replica.specs.Desking.{desk_above}
 use Rattle.replica.specs.Desks.{given, IsCallOf, AreCallsOf, AreOfDifferentClients, IsDeskOf, FitsEvent, Stands}
@@ -127,19 +127,19 @@ abbrev pub start_of : NewViewData → CheckpointEntry
 start_of new = record { number = new.start; digest = new.root }
 
 -- The replica has begun the view by the new view, and says what that asks for.
-pub record Begins (new : NewViewData) (own : Option (List ℕ)) (r : ReplicaData) (before : List Output) (n : ReplicaData) (after : List Output) : Type 0 where
+pub record Begins (new : NewViewData) (own : Option (List ℕ)) (r : JoinedData) (before : List Output) (n : JoinedData) (after : List Output) : Type 0 where
   pub claims : ClaimsData
   pub kept : BeginsClaims r.orderer.log new r.orderer.claims claims
   pub calls : List BegunCall
   pub are : AreBegun r.desk.executed.clients new.batches calls
-  pub fetched : ReplicaData
+  pub fetched : JoinedData
   pub said : List Output
   pub fetches : FetchesStart (start_of new) (record r { orderer = begun_orderer r.orderer new own claims; desk = begun_data (begun_log r.orderer.log new).low calls r.desk }) before fetched said
   pub orderer : OrdererData
   pub votes : SaysVotesOf new.start (new.start + length new.batches) fetched.orderer said orderer after
   pub new_is : n ≡ record fetched { orderer = orderer }
 
-module _ (new : NewViewData) (own : Option (List ℕ)) (r : ReplicaData) (before : List Output) (n : ReplicaData) (after : List Output) (is : IsLog r.orderer.log) (small : new.start < 2 ^ 48)
+module _ (new : NewViewData) (own : Option (List ℕ)) (r : JoinedData) (before : List Output) (n : JoinedData) (after : List Output) (is : IsLog r.orderer.log) (small : new.start < 2 ^ 48)
     (k : Enters new.view (start_of new) new.batches own r before n after) where
   abbrev last : ℕ
   last = new.start + length new.batches
@@ -157,7 +157,7 @@ module _ (new : NewViewData) (own : Option (List ℕ)) (r : ReplicaData) (before
   cut_orderer = record entered { log = at; claims = claims }
 
   cut_is : k.cut.orderer ≡ cut_orderer
-  cut_is = ap (λ (x : ReplicaData). x.orderer) k.cuts.2 ∙ k.cuts.1.2
+  cut_is = ap (λ (x : JoinedData). x.orderer) k.cuts.2 ∙ k.cuts.1.2
 
   view_is : at.view ≡ new.view
   view_is = cut_same (λ m. m.view) (λ m h rows. refl) (logs.entered r.orderer.log new.view) new.start
@@ -173,13 +173,13 @@ module _ (new : NewViewData) (own : Option (List ℕ)) (r : ReplicaData) (before
   low_is : at.low ≡ (begun_log r.orderer.log new).low
   low_is = sym (stays r.orderer.log new is small).low
 
-  mid_is : ◌≡◌ {A = ReplicaData} (record k.cut { orderer = k.logged })
+  mid_is : ◌≡◌ {A = JoinedData} (record k.cut { orderer = k.logged })
       (record r { orderer = begun_orderer r.orderer new own k.logs.0; desk = begun_data (begun_log r.orderer.log new).low k.noted.calls r.desk })
   mid_is =
-      ap (λ (x : ReplicaData). let y : ReplicaData = record x { orderer = k.logged } in y) k.cuts.2
-      ∙ ap (λ (x : OrdererData). let y : ReplicaData = record r { orderer = x; desk = desk_above at.low k.desk } in y) logged_is
-      ∙ ap (λ (d : DeskData). let y : ReplicaData = record r { orderer = begun_orderer r.orderer new own k.logs.0; desk = desk_above at.low d } in y) k.noted.new_is
-      ∙ ap (λ (l : ℕ). let y : ReplicaData = record r { orderer = begun_orderer r.orderer new own k.logs.0; desk = begun_data l k.noted.calls r.desk } in y) low_is
+      ap (λ (x : JoinedData). let y : JoinedData = record x { orderer = k.logged } in y) k.cuts.2
+      ∙ ap (λ (x : OrdererData). let y : JoinedData = record r { orderer = x; desk = desk_above at.low k.desk } in y) logged_is
+      ∙ ap (λ (d : DeskData). let y : JoinedData = record r { orderer = begun_orderer r.orderer new own k.logs.0; desk = desk_above at.low d } in y) k.noted.new_is
+      ∙ ap (λ (l : ℕ). let y : JoinedData = record r { orderer = begun_orderer r.orderer new own k.logs.0; desk = begun_data l k.noted.calls r.desk } in y) low_is
 
   pub begins : Begins new own r before n after
   begins = record {
@@ -189,7 +189,7 @@ module _ (new : NewViewData) (own : Option (List ℕ)) (r : ReplicaData) (before
     are = k.noted.are;
     fetched = k.fetched;
     said = k.said;
-    fetches = subst (λ (x : ReplicaData). FetchesStart (start_of new) x before k.fetched k.said) mid_is k.fetches;
+    fetches = subst (λ (x : JoinedData). FetchesStart (start_of new) x before k.fetched k.said) mid_is k.fetches;
     orderer = k.orderer;
     votes = k.votes;
     new_is = k.new_is;
@@ -197,22 +197,20 @@ module _ (new : NewViewData) (own : Option (List ℕ)) (r : ReplicaData) (before
 
 -- ---- what the fetch leaves
 
-pub record IsFetchedFrom (m fetched : ReplicaData) : Type 0 where
+pub record IsFetchedFrom (m fetched : JoinedData) : Type 0 where
   pub orderer : fetched.orderer ≡ m.orderer
   pub me : fetched.desk.me ≡ m.desk.me
   pub membership : fetched.desk.membership ≡ m.desk.membership
-  pub stopped : fetched.stopped ≡ m.stopped
 
-fetched_from : (entry : CheckpointEntry) (m fetched : ReplicaData) (before said : List Output) → FetchesStart entry m before fetched said → IsFetchedFrom m fetched
+fetched_from : (entry : CheckpointEntry) (m fetched : JoinedData) (before said : List Output) → FetchesStart entry m before fetched said → IsFetchedFrom m fetched
 fetched_from entry m fetched before said (inl h) = subst (IsFetchedFrom m) (sym h.2) (record {
   orderer = refl;
   me = ap (λ (d : DeskData). d.me) h.1.1;
   membership = ap (λ (d : DeskData). d.membership) h.1.1;
-  stopped = refl;
 })
-fetched_from entry m fetched before said (inr h) = subst (IsFetchedFrom m) (sym h.1) (record { orderer = refl; me = refl; membership = refl; stopped = refl })
+fetched_from entry m fetched before said (inr h) = subst (IsFetchedFrom m) (sym h.1) (record { orderer = refl; me = refl; membership = refl })
 
-module _ (new : NewViewData) (own : Option (List ℕ)) (r : ReplicaData) (before : List Output) (n : ReplicaData) (after : List Output) (k : Begins new own r before n after) where
+module _ (new : NewViewData) (own : Option (List ℕ)) (r : JoinedData) (before : List Output) (n : JoinedData) (after : List Output) (k : Begins new own r before n after) where
   abbrev me : ℕ
   me = r.orderer.endpoint.me
 
@@ -225,7 +223,7 @@ module _ (new : NewViewData) (own : Option (List ℕ)) (r : ReplicaData) (before
   abbrev the_desk : DeskData
   the_desk = begun_data the_low k.calls r.desk
 
-  abbrev mid : ReplicaData
+  abbrev mid : JoinedData
   mid = record r { orderer = the_orderer; desk = the_desk }
 
   from : IsFetchedFrom mid k.fetched
@@ -236,12 +234,11 @@ module _ (new : NewViewData) (own : Option (List ℕ)) (r : ReplicaData) (before
     endpoint = k.votes.same.endpoint ∙ ap (λ (o : OrdererData). o.endpoint) from.orderer;
     me = from.me;
     membership = from.membership;
-    stopped = from.stopped;
   })
 
   pub all_voted : IsLog r.orderer.log → new.start < 2 ^ 48 → IsVotedAll n.orderer.log
   all_voted is small i =
-      subst (λ (x : ReplicaData). IsVoted x.orderer.log i) (sym k.new_is)
+      subst (λ (x : JoinedData). IsVoted x.orderer.log i) (sym k.new_is)
       (k.votes.voted i (subst (λ (x : OrdererData). ((new.start < i) × (i ≤ new.start + length new.batches)) ⊎ IsVoted x.log i) (sym from.orderer) (asks_there r.orderer.log new is small i)))
 
   -- What fits once the view has begun, stands in the end.
@@ -286,15 +283,15 @@ module _ (new : NewViewData) (own : Option (List ℕ)) (r : ReplicaData) (before
     says_it said ahead (inr h) =
         aimed said ahead (subst (λ (o : OpenData). Says the_orderer (fetch_of o.transfer) before said) (sym (some_injective (aim_of (start_of new) the_desk) h.0 h.1)) h.2)
 
-    at_start : (fetched : ReplicaData) (said : List Output) → FetchesStart (start_of new) mid before fetched said → Stands c s the_orderer fetched.desk [] said
+    at_start : (fetched : JoinedData) (said : List Output) → FetchesStart (start_of new) mid before fetched said → Stands c s the_orderer fetched.desk [] said
     at_start fetched said (inl h) =
-        let same : fetched ≡ record mid { desk = aiming (start_of new) the_desk } = h.2 ∙ ap (λ (d : DeskData). let y : ReplicaData = record mid { desk = d } in y) h.1.1 in
-        subst (λ (x : ReplicaData). Stands c s the_orderer x.desk [] said) (sym same) (says_it said h.1.0 (subst (λ (x : ReplicaData). SaysFetch x before said) same h.3))
+        let same : fetched ≡ record mid { desk = aiming (start_of new) the_desk } = h.2 ∙ ap (λ (d : DeskData). let y : JoinedData = record mid { desk = d } in y) h.1.1 in
+        subst (λ (x : JoinedData). Stands c s the_orderer x.desk [] said) (sym same) (says_it said h.1.0 (subst (λ (x : JoinedData). SaysFetch x before said) same h.3))
     at_start fetched said (inr h) =
-        subst (λ (x : ReplicaData). Stands c s the_orderer x.desk [] said) (sym h.1) (subst (λ (outs : List Output). Stands c s the_orderer the_desk [] outs) (sym h.2) (unaimed h.0))
+        subst (λ (x : JoinedData). Stands c s the_orderer x.desk [] said) (sym h.1) (subst (λ (outs : List Output). Stands c s the_orderer the_desk [] outs) (sym h.2) (unaimed h.0))
 
     pub begun_stands : Stands c s n.orderer n.desk [] after
-    begun_stands = subst (λ (x : ReplicaData). Stands c s x.orderer x.desk [] after) (sym k.new_is) (record {
+    begun_stands = subst (λ (x : JoinedData). Stands c s x.orderer x.desk [] after) (sym k.new_is) (record {
       desk = st.desk;
       is = st.is;
       fits = subst (λ (m : ℕ). FitsEvent c m s k.orderer st.desk k.fetched.desk.waiting [] after) (sym named)

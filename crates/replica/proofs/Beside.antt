@@ -19,10 +19,10 @@ use Rattle.replica_histories.proofs.Counting.{others_drop}
 use Rattle.replica_histories.proofs.Entering.{inputs_fit}
 use Rattle.replica_histories.proofs.Questions.{others_owe_none}
 use Rattle.replica.specs.declared.taking.Touched.TheVariants as touched
-use Rattle.replica.specs.State.{ReplicaData, AreOne}
+use Rattle.replica.specs.State.{JoinedData, AreOne}
 use Rattle.replica.specs.Desks.{FitsEvent, changes_of}
 use Rattle.replica.specs.Entering.{event_of, TakesBytes}
-use Rattle.replica.specs.Fits.{Runs, me_of}
+use Rattle.replica.specs.Joined.{Runs, me_of}
 use Rattle.replica.proofs.Beginning.{rests, changes_kept, none_taken}
 use Rattle.replica.proofs.Parties.{one_self, same_log}
 use Rattle.replica.proofs.Staying.{numbers_beside, said_on}
@@ -35,7 +35,7 @@ pub record IsBeside (c : Configuration) (body : Body) : Type 0 where
   pub views : new_view_from c body ≡ None
   pub changes : IsNoChange (Some body)
 
-module _ (r : ReplicaData) (one : AreOne r.orderer r.desk) (c : Configuration) (past : List Entry) (runs : Runs c r past) (bytes : List ℕ) (body : Body)
+module _ (r : JoinedData) (one : AreOne r.orderer r.desk) (c : Configuration) (past : List Entry) (runs : Runs c r past) (bytes : List ℕ) (body : Body)
     (known : members c ≡ r.desk.membership) (hears : heard r.desk.membership r.desk.me bytes ≡ Some body) where
   -- the desk hears what the orderer does
   pub heard_so : heard (members c) (me_of r) bytes ≡ Some body
@@ -76,7 +76,7 @@ module _ (r : ReplicaData) (one : AreOne r.orderer r.desk) (c : Configuration) (
       })
 
 -- What is dropped so changes nothing.
-module _ (r : ReplicaData) (one : AreOne r.orderer r.desk) (bytes : List ℕ) (body : Body) (hears : heard r.desk.membership r.desk.me bytes ≡ Some body) where
+module _ (r : JoinedData) (one : AreOne r.orderer r.desk) (bytes : List ℕ) (body : Body) (hears : heard r.desk.membership r.desk.me bytes ≡ Some body) where
   pub drops_beside : ((c : Configuration) → IsBeside c body) → is_question body ≡ false → TakesBytes bytes r touched.Nothing r []
   drops_beside beside none = record {
     party = one_self r;

@@ -40,12 +40,12 @@ use Rattle.replica_histories.proofs.Received.{refused_bring_none}
 use Rattle.replica_histories.proofs.Questions.{others_owe_none}
 use Rattle.replica.specs.declared.taking.Touched.{Touched}
 use Rattle.replica.specs.declared.taking.Touched.TheVariants as touched
-use Rattle.replica.specs.State.{OrdererData, DeskData, ReplicaData, AreOne, IsOrderer}
+use Rattle.replica.specs.State.{OrdererData, DeskData, JoinedData, AreOne, IsOrderer}
 use Rattle.replica.specs.Beginning.{BeginsView, MayBegin}
 use Rattle.replica.specs.Changing.{ChangesView}
 use Rattle.replica.specs.Desks.{given, Stands, FitsEvent, changes_of}
 use Rattle.replica.specs.Entering.{event_of, event_with, IsTakenBeside, TakesBytes, TakesInput}
-use Rattle.replica.specs.Fits.{Runs, me_of}
+use Rattle.replica.specs.Joined.{Runs, me_of}
 use Rattle.replica.specs.Going.{IsOneParty, Rests}
 use Rattle.replica.specs.Numbering.{IsAllNumbered}
 use Rattle.replica.specs.Receiving.{JudgesAlike, Receives}
@@ -108,7 +108,7 @@ beside_all c x said (inr h) = subst (IsBesideAll c) (sym h) (record { call = ref
 
 -- ---- an event begins
 
-module _ (r : ReplicaData) (one : AreOne r.orderer r.desk) (bytes : List ℕ) where
+module _ (r : JoinedData) (one : AreOne r.orderer r.desk) (bytes : List ℕ) where
   -- where these are held
   abbrev holding : List (Option HeldData) → OrdererData
   holding held = record r.orderer { received = record r.orderer.received { held = held } }
@@ -161,7 +161,7 @@ some_fault : (o : Option ChangeFault) → o ≢ None → (fault : ChangeFault) �
 some_fault None h = absurd (h refl)
 some_fault (Some x) h = (x, refl)
 
-module _ (r : ReplicaData) (one : AreOne r.orderer r.desk) (rules : JudgesAlike r.orderer) (bytes : List ℕ) (x : ℕ × ViewChangeData)
+module _ (r : JoinedData) (one : AreOne r.orderer r.desk) (rules : JudgesAlike r.orderer) (bytes : List ℕ) (x : ℕ × ViewChangeData)
     (signed : signed_change (configuration_of r.orderer.received) bytes ≡ Some x) where
   rule : (c : Configuration) (past : List Entry) → Runs c r past → members c ≡ r.desk.membership → HaveOneRule (configuration_of r.orderer.received) c
   rule c past runs known = rules c (known ∙ one.1) (runs.is_desk.period_is ∙ sym one.2)
@@ -203,7 +203,7 @@ module _ (r : ReplicaData) (one : AreOne r.orderer r.desk) (rules : JudgesAlike 
               ∙ sym ((rule c past runs known).untaken r.orderer.log.view r.orderer.received.held x) ∙ fault.1
 
 -- One that is held in these bytes is refused: it is as late as itself.
-pub change_held : (r : ReplicaData) (bytes : List ℕ) (h : HeldData) → AreOne r.orderer r.desk → JudgesAlike r.orderer → ChangesAreJudged → IsHeldIn r.orderer.received bytes h → TakesBytes bytes r touched.Nothing r []
+pub change_held : (r : JoinedData) (bytes : List ℕ) (h : HeldData) → AreOne r.orderer r.desk → JudgesAlike r.orderer → ChangesAreJudged → IsHeldIn r.orderer.received bytes h → TakesBytes bytes r touched.Nothing r []
 change_held r bytes h one rules judged is = refused r one rules bytes (h.sender, h.change) is.signed late
   where
     late : refusal_of (configuration_of r.orderer.received) r.orderer.log.view r.orderer.received.held (h.sender, h.change) ≢ None
@@ -214,15 +214,15 @@ change_held r bytes h one rules judged is = refused r one rules bytes (h.sender,
 -- ---- what goes on behind an input that a rule takes
 
 -- What holds of the past fits the event, with these outputs, and nothing is left to do.
-record Comes (input : Entry) (old new : ReplicaData) (outs : List Output) : Type 0 where
+record Comes (input : Entry) (old new : JoinedData) (outs : List Output) : Type 0 where
   party : IsOneParty old new
   begins : (c : Configuration) (past : List Entry) (runs : Runs c old past) → members c ≡ old.desk.membership
       → Stands c (event_with c old past runs input) new.orderer new.desk [] outs × Rests new × IsAllNumbered new × IsTakenBeside c (me_of new) (event_with c old past runs input)
 
-module _ (input : Entry) (old : ReplicaData) where
+module _ (input : Entry) (old : JoinedData) where
   -- the replica may move to a later view
-  moves : (a b : ReplicaData) (x y : List Output) (flag : Bool) → ChangesView a x b y flag → Comes input old a x → Comes input old b y
-  moves a b x y false (same, still) came = subst (λ (r : ReplicaData). Comes input old r y) (sym same) (subst (λ (os : List Output). Comes input old a os) (sym still) came)
+  moves : (a b : JoinedData) (x y : List Output) (flag : Bool) → ChangesView a x b y flag → Comes input old a x → Comes input old b y
+  moves a b x y false (same, still) came = subst (λ (r : JoinedData). Comes input old r y) (sym same) (subst (λ (os : List Output). Comes input old a os) (sym still) came)
   moves a b x y true leaves came = record {
     party = ones_twice old a b came.party leaves.party;
     begins = λ c past runs known. let g = came.begins c past runs known in (
@@ -234,7 +234,7 @@ module _ (input : Entry) (old : ReplicaData) where
   }
 
   -- and may begin it
-  begins_now : (a b : ReplicaData) (x y : List Output) → BeginsView a x b y → Comes input old a x → TakesInput input old touched.View b y
+  begins_now : (a b : JoinedData) (x y : List Output) → BeginsView a x b y → Comes input old a x → TakesInput input old touched.View b y
   begins_now a b x y begun came = record {
     party = ones_twice old a b came.party begun.party;
     begins = λ c past runs known. let g = came.begins c past runs known in (
@@ -243,7 +243,7 @@ module _ (input : Entry) (old : ReplicaData) where
     );
   }
 
-  rests_now : (a : ReplicaData) (x : List Output) → Comes input old a x → TakesInput input old touched.Nothing a x
+  rests_now : (a : JoinedData) (x : List Output) → Comes input old a x → TakesInput input old touched.Nothing a x
   rests_now a x came = record {
     party = came.party;
     begins = λ c past runs known. let g = came.begins c past runs known in let s = event_with c old past runs input in (
@@ -252,17 +252,17 @@ module _ (input : Entry) (old : ReplicaData) where
     );
   }
 
-  may_begin : (a b : ReplicaData) (x y : List Output) (what : Touched) → MayBegin a x what b y → Comes input old a x → TakesInput input old what b y
+  may_begin : (a b : JoinedData) (x y : List Output) (what : Touched) → MayBegin a x what b y → Comes input old a x → TakesInput input old what b y
   may_begin a b x y touched.View begun came = begins_now a b x y begun came
   may_begin a b x y touched.Nothing (same, still) came =
-      subst (λ (r : ReplicaData). TakesInput input old touched.Nothing r y) (sym same) (subst (λ (os : List Output). TakesInput input old touched.Nothing a os) (sym still) (rests_now a x came))
+      subst (λ (r : JoinedData). TakesInput input old touched.Nothing r y) (sym same) (subst (λ (os : List Output). TakesInput input old touched.Nothing a os) (sym still) (rests_now a x came))
   may_begin a b x y touched.Waiting begun came = absurd begun
   may_begin a b x y (touched.Row number) begun came = absurd begun
   may_begin a b x y touched.State begun came = absurd begun
 
 -- ---- it is taken
 
-module _ (r : ReplicaData) (x : Change) (bytes : List ℕ) (one : AreOne r.orderer r.desk) (rules : JudgesAlike r.orderer) (judge : ChangesAreJudged)
+module _ (r : JoinedData) (x : Change) (bytes : List ℕ) (one : AreOne r.orderer r.desk) (rules : JudgesAlike r.orderer) (judge : ChangesAreJudged)
     (h : heard r.desk.membership r.desk.me bytes ≡ Some (record { sender = x.sender.0; message = ViewChange (view_change_data x.change) })) where
   abbrev vc : ViewChangeData
   vc = view_change_data x.change
@@ -271,7 +271,7 @@ module _ (r : ReplicaData) (x : Change) (bytes : List ℕ) (one : AreOne r.order
   signed = heard_is_signed r.orderer r.desk x bytes rules one h
 
   module _ (right : refusal_of (configuration_of r.orderer.received) r.orderer.log.view r.orderer.received.held (change_pair x) ≡ None) where
-    abbrev with_it : ReplicaData
+    abbrev with_it : JoinedData
     with_it = record r { orderer = holding r one bytes (with_held (held_as x bytes) r.orderer.received.held) }
 
     judged : (r.orderer.log.view < vc.view) × (is_within (configuration_of r.orderer.received) vc ≡ true)
@@ -303,7 +303,7 @@ module _ (r : ReplicaData) (x : Change) (bytes : List ℕ) (one : AreOne r.order
 
     comes : Comes (Got (me_of r) bytes) r with_it []
     comes = record {
-      party = record { endpoint = refl; me = refl; membership = refl; stopped = refl };
+      party = record { endpoint = refl; me = refl; membership = refl };
       begins = λ c past runs known. let s = signed_in r one rules bytes (change_pair x) signed c past runs known in (
         stands r one bytes c past runs (change_pair x) s (with_held (held_as x bytes) r.orderer.received.held) (holds c past runs known),
         rests c r past runs,
@@ -316,7 +316,7 @@ module _ (r : ReplicaData) (x : Change) (bytes : List ℕ) (one : AreOne r.order
     }
 
   -- It is held, and moves the replica on.
-  pub change_taken : (received : OrdererData) (moved new : ReplicaData) (said outs : List Output) (flag : Bool) (what : Touched) → Receives (held_as x bytes) r.orderer received true
+  pub change_taken : (received : OrdererData) (moved new : JoinedData) (said outs : List Output) (flag : Bool) (what : Touched) → Receives (held_as x bytes) r.orderer received true
       → ChangesView (record r { orderer = received }) [] moved said flag → MayBegin moved said what new outs → TakesBytes bytes r what new outs
   change_taken received moved new said outs flag what receives changes begins =
       may_begin (Got (me_of r) bytes) r moved new said outs what begins

@@ -37,7 +37,7 @@ use Rattle.replica_histories.proofs.Claims.{claims_are_lists}
 use Rattle.replica_histories.proofs.Ending.{steps_leave}
 use Rattle.replica.specs.declared.snapshots.KeptState.{KeptState}
 use Rattle.replica.specs.SnapshotsView.{kept_data}
-use Rattle.replica.specs.State.{OrdererData, ReplicaData, IsOrderer, AreOne}
+use Rattle.replica.specs.State.{OrdererData, JoinedData, IsOrderer, AreOne}
 use Rattle.replica.specs.Waiting.{WaitingData}
 use Rattle.replica.specs.Desks.{given, changes_of, FitsEvent}
 use Rattle.replica.specs.Going.{IsVotedAll}
@@ -128,7 +128,7 @@ signs_copy o said x message frame copy is signed = subst (λ (m : Message). IsOw
 
 -- ---- the view is left
 
-module _ (view : ℕ) (old : ReplicaData) (signed : OrdererData) (frame : List ℕ) (one : AreOne old.orderer old.desk) (next : IsNextView old.orderer view)
+module _ (view : ℕ) (old : JoinedData) (signed : OrdererData) (frame : List ℕ) (one : AreOne old.orderer old.desk) (next : IsNextView old.orderer view)
     (k : SignsChange view (entries_of old.desk.snapshots) old.orderer signed frame) where
   abbrev o : OrdererData
   o = old.orderer
@@ -205,13 +205,13 @@ module _ (view : ℕ) (old : ReplicaData) (signed : OrdererData) (frame : List �
           fits = subst (λ (m : ℕ). FitsEvent c m s new st.desk old.desk.waiting [] after) (sym one.0)
               (goes c s st.desk before after known voted st.is.snapshots (subst (λ (m : ℕ). FitsEvent c m s o st.desk old.desk.waiting [] before) one.0 st.fits) says);
         };
-        party = record { endpoint = refl; me = refl; membership = refl; stopped = refl };
+        party = record { endpoint = refl; me = refl; membership = refl };
         inactive = refl;
         voted = λ i. (refl, refl);
         executed = λ h. h;
       }
 
-pub leaves_as : (view : ℕ) (old : ReplicaData) (signed later : OrdererData) (frame said : List ℕ) (before after : List Output) → AreOne old.orderer old.desk → IsNextView old.orderer view
+pub leaves_as : (view : ℕ) (old : JoinedData) (signed later : OrdererData) (frame said : List ℕ) (before after : List Output) → AreOne old.orderer old.desk → IsNextView old.orderer view
     → SignsChange view (entries_of old.desk.snapshots) old.orderer signed frame → later ≡ record signed { log = left signed.log; target = view } → said ≡ frame → SaysFrame later said before after
     → LeavesView old before (record old { orderer = later }) after
 leaves_as view old signed later frame said before after one next k is same says =

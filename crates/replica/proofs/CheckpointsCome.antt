@@ -33,16 +33,16 @@ use Rattle.replica_histories.proofs.Giving.{kept_are_above}
 use Rattle.replica_histories.proofs.Questions.{others_owe_none}
 use Rattle.replica.specs.declared.taking.Touched.TheVariants as touched
 use Rattle.view_change.specs.ClaimsView.{ClaimsData}
-use Rattle.replica.specs.State.{OrdererData, DeskData, ReplicaData, AreOne}
+use Rattle.replica.specs.State.{OrdererData, DeskData, JoinedData, AreOne}
 use Rattle.replica.specs.Checkpoints.{Follows, Settles, TakesCheckpoint, counting, said_entry}
 use Rattle.replica.specs.Desks.{given, FitsEvent, Stands, changes_of}
 use Rattle.replica.specs.Entering.{event_of, IsTakenBeside, Leaves, TakesBytes, TakesMessage}
 use Rattle.replica.specs.Fetching.{aimed_at, aiming}
-use Rattle.replica.specs.Fits.{Runs, me_of}
+use Rattle.replica.specs.Joined.{Runs, me_of}
 use Rattle.replica.specs.Going.{CommitsNoMore, IsExecuted, IsOneParty, IsSameLog, IsVotedAll, Rests}
 use Rattle.replica.specs.Saying.{Says}
 use Rattle.replica.proofs.Beginning.{IsNoCall, drops, heard_by, none_taken, rests}
-use Rattle.replica.proofs.DueCheckpoints.{cut_commits, cut_voted, either, same_cut, settled_claims, settled_desk, settled_orderer, settled_snapshots, settled_stopped}
+use Rattle.replica.proofs.DueCheckpoints.{cut_commits, cut_voted, either, same_cut, settled_claims, settled_desk, settled_orderer, settled_snapshots}
 use Rattle.replica_histories.proofs.Counting.{checkpoint_free}
 use Rattle.replica.proofs.Following.{aim_of, aimed_is, aims, aims_desk}
 use Rattle.replica.proofs.Staying.{numbers_alike, numbers_beside, said_on, same_but_checkpoints}
@@ -96,7 +96,7 @@ none_more old new i no_more none = go (logs.committed_batch new i) refl
 
 -- ---- it comes
 
-module _ (r : ReplicaData) (one : AreOne r.orderer r.desk) (s : ℕ) (entry : CheckpointEntry) (bytes : List ℕ)
+module _ (r : JoinedData) (one : AreOne r.orderer r.desk) (s : ℕ) (entry : CheckpointEntry) (bytes : List ℕ)
     (h : heard r.desk.membership r.desk.me bytes ≡ Some (record { sender = s; message = Checkpoint entry.number entry.digest })) where
   abbrev body : Body
   body = record { sender = s; message = Checkpoint entry.number entry.digest }
@@ -113,7 +113,7 @@ module _ (r : ReplicaData) (one : AreOne r.orderer r.desk) (s : ℕ) (entry : Ch
       drops r one bytes (λ c past runs known. (checkpoints_drop c (me_of r) r.orderer.log past s entry bytes fault runs.holds.of_log.fits (hears c known) is, no_call c known))
 
   counted_party : IsOneParty r (record r { orderer = counting r.orderer s entry })
-  counted_party = record { endpoint = refl; me = refl; membership = refl; stopped = refl }
+  counted_party = record { endpoint = refl; me = refl; membership = refl }
 
   early_dropped : says_checkpoint entry (logs.checkpoints_of (logs.with_checkpoint_of r.orderer.log s entry) s) ≡ false
       → TakesBytes bytes r touched.Nothing (record r { orderer = counting r.orderer s entry }) []
@@ -132,7 +132,7 @@ module _ (r : ReplicaData) (one : AreOne r.orderer r.desk) (s : ℕ) (entry : Ch
     abbrev counted : LogData
     counted = logs.with_checkpoint_of r.orderer.log s entry
 
-    abbrev with_it : ReplicaData
+    abbrev with_it : JoinedData
     with_it = record r { orderer = counting r.orderer s entry }
 
     abbrev after : LogData
@@ -184,7 +184,7 @@ module _ (r : ReplicaData) (one : AreOne r.orderer r.desk) (s : ℕ) (entry : Ch
         let above = kept_are_above c (me_of r) runs.desk r.orderer.log runs.holds.of_desk.point.snapshots past runs.holds.of_log.fits runs.holds.of_desk.kept in
         ap (kept_from r.orderer.log.low) (sym runs.is_desk.snapshots) ∙ ap (λ (d : Desk). d.snapshots) above ∙ runs.is_desk.snapshots
 
-    module _ (n : ReplicaData) (b : Bool) (settles : Settles entry with_it n b) where
+    module _ (n : JoinedData) (b : Bool) (settles : Settles entry with_it n b) where
       orderer_is : n.orderer ≡ checked n.orderer.claims
       orderer_is = settled_orderer entry with_it n b settles
 
@@ -217,7 +217,6 @@ module _ (r : ReplicaData) (one : AreOne r.orderer r.desk) (s : ℕ) (entry : Ch
         endpoint = ap (λ (k : OrdererData). k.endpoint) orderer_is;
         me = ap (λ (d : DeskData). d.me) desk_is;
         membership = ap (λ (d : DeskData). d.membership) desk_is;
-        stopped = settled_stopped entry with_it n b settles;
       }
 
       rests_on : (c : Configuration) (past : List Entry) (runs : Runs c r past) → Rests n
@@ -232,7 +231,7 @@ module _ (r : ReplicaData) (one : AreOne r.orderer r.desk) (s : ℕ) (entry : Ch
           )
 
     -- The marks move.
-    settled : (n : ReplicaData) → Settles entry with_it n true → TakesBytes bytes r touched.Waiting n []
+    settled : (n : JoinedData) → Settles entry with_it n true → TakesBytes bytes r touched.Waiting n []
     settled n settles = record {
       party = party n true settles;
       begins = λ c past runs known. (
@@ -260,7 +259,7 @@ module _ (r : ReplicaData) (one : AreOne r.orderer r.desk) (s : ℕ) (entry : Ch
       fetches : (outs : List Output) → nat_le (2 * counted.faults + 1) (logs.count_checkpoints counted entry) ≡ true → aimed_at r.desk < entry.number
           → Says with_it.orderer (Fetch entry.number levels.Root 0) [] outs → TakesBytes bytes r touched.Nothing (record with_it { desk = aiming entry r.desk }) outs
       fetches outs quorum ahead says = record {
-        party = record { endpoint = refl; me = refl; membership = refl; stopped = refl };
+        party = record { endpoint = refl; me = refl; membership = refl };
         begins = λ c past runs known. (
           asked c past runs known,
           (rests c r past runs, runs.all, others_owe_none c (me_of r) past (Got (me_of r) bytes) (given (me_of r) outs) runs.holds.of_desk.point (no_call c known).parts, inr (counts c past runs known).0),
@@ -285,10 +284,10 @@ module _ (r : ReplicaData) (one : AreOne r.orderer r.desk) (s : ℕ) (entry : Ch
                     (subst (λ (m : ℕ). FitsEvent c m (event_of c r past runs bytes) with_it.orderer st.desk r.desk.waiting (Fetch entry.number levels.Root 0 ∷ []) []) one.0 st.fits));
               }
 
-      followed : (n : ReplicaData) (outs : List Output) → Follows entry with_it [] n outs → TakesBytes bytes r touched.Nothing n outs
+      followed : (n : JoinedData) (outs : List Output) → Follows entry with_it [] n outs → TakesBytes bytes r touched.Nothing n outs
       followed n outs (inl (why, same, silent)) =
-          subst (λ (k : ReplicaData). TakesBytes bytes r touched.Nothing k outs) (sym same) (subst (λ (os : List Output). TakesBytes bytes r touched.Nothing with_it os) (sym silent) (waits why))
-      followed n outs (inr (quorum, ahead, same, says)) = subst (λ (k : ReplicaData). TakesBytes bytes r touched.Nothing k outs) (sym same) (fetches outs quorum ahead says)
+          subst (λ (k : JoinedData). TakesBytes bytes r touched.Nothing k outs) (sym same) (subst (λ (os : List Output). TakesBytes bytes r touched.Nothing with_it os) (sym silent) (waits why))
+      followed n outs (inr (quorum, ahead, same, says)) = subst (λ (k : JoinedData). TakesBytes bytes r touched.Nothing k outs) (sym same) (fetches outs quorum ahead says)
 
 -- ---- as the program takes it
 
@@ -296,7 +295,7 @@ some_fault : (o : Option Dropped) → is_none o ≡ false → (fault : Dropped) 
 some_fault None h = absurd cc
 some_fault (Some x) h = (x, refl)
 
-module _ (r : ReplicaData) (one : AreOne r.orderer r.desk) (sender : ReplicaId) (m : WireCheckpoint) where
+module _ (r : JoinedData) (one : AreOne r.orderer r.desk) (sender : ReplicaId) (m : WireCheckpoint) where
   pub checkpoint_dropped : (o : OrdererData) → TakesCheckpoint r.orderer sender m o false → TakesMessage sender (Checkpoint m.number.0 m.root) r touched.Nothing (record r { orderer = o }) []
   checkpoint_dropped o (inl (fault, same)) bytes h =
       let why = some_fault _ fault in
@@ -309,13 +308,13 @@ module _ (r : ReplicaData) (one : AreOne r.orderer r.desk) (sender : ReplicaId) 
     latest_then : says_checkpoint (said_entry m) (logs.checkpoints_of (logs.with_checkpoint_of r.orderer.log sender.0 (said_entry m)) sender.0) ≡ true
     latest_then = subst (λ (k : OrdererData). says_checkpoint (said_entry m) (logs.checkpoints_of k.log sender.0) ≡ true) takes.1 takes.2
 
-    pub checkpoint_settled : (n : ReplicaData) → Settles (said_entry m) (record r { orderer = o }) n true → TakesMessage sender (Checkpoint m.number.0 m.root) r touched.Waiting n []
+    pub checkpoint_settled : (n : JoinedData) → Settles (said_entry m) (record r { orderer = o }) n true → TakesMessage sender (Checkpoint m.number.0 m.root) r touched.Waiting n []
     checkpoint_settled n settles bytes h =
         settled r one sender.0 (said_entry m) bytes h takes.0 latest_then n (subst (λ (k : OrdererData). Settles (said_entry m) (record r { orderer = k }) n true) takes.1 settles)
 
-    pub checkpoint_followed : (x n : ReplicaData) (outs : List Output) → Settles (said_entry m) (record r { orderer = o }) x false → Follows (said_entry m) x [] n outs
+    pub checkpoint_followed : (x n : JoinedData) (outs : List Output) → Settles (said_entry m) (record r { orderer = o }) x false → Follows (said_entry m) x [] n outs
         → TakesMessage sender (Checkpoint m.number.0 m.root) r touched.Nothing n outs
     checkpoint_followed x n outs settles follows bytes h =
         let unstable = subst (λ (k : OrdererData). logs.is_stable k.log (said_entry m) ≡ false) takes.1 settles.0 in
         let x_is = settles.1 ∙ ap (λ (k : OrdererData). record r { orderer = k }) takes.1 in
-        followed r one sender.0 (said_entry m) bytes h takes.0 latest_then unstable n outs (subst (λ (k : ReplicaData). Follows (said_entry m) k [] n outs) x_is follows)
+        followed r one sender.0 (said_entry m) bytes h takes.0 latest_then unstable n outs (subst (λ (k : JoinedData). Follows (said_entry m) k [] n outs) x_is follows)

@@ -27,7 +27,7 @@ use Rattle.replica_histories.proofs.ChangesKept.{sent_keep}
 use Rattle.replica_histories.proofs.ChangesPassing.{claims_are_above}
 use Rattle.replica_histories.proofs.Giving.{checkpoints_fit, kept_are_above}
 use Rattle.view_change.specs.ClaimsView.{ClaimsData}
-use Rattle.replica.specs.State.{OrdererData, DeskData, ReplicaData, AreOne}
+use Rattle.replica.specs.State.{OrdererData, DeskData, JoinedData, AreOne}
 use Rattle.replica.specs.Waiting.{WaitingData}
 use Rattle.replica.specs.Desks.{given, FitsWaiting, FitsEvent, Stands, changes_of}
 use Rattle.replica.specs.Going.{CommitsNoMore, IsSameLog, IsSameOrderer, IsVotedAll}
@@ -160,45 +160,41 @@ module _ (c : Configuration) (s : Start) (o : OrdererData) (desk : Desk) (w : Wa
 
 -- ---- both parts
 
-pub settled_orderer : (entry : CheckpointEntry) (m n : ReplicaData) (b : Bool) → Settles entry m n b
+pub settled_orderer : (entry : CheckpointEntry) (m n : JoinedData) (b : Bool) → Settles entry m n b
     → n.orderer ≡ record m.orderer { log = cut_if_stable m.orderer.log entry; claims = n.orderer.claims }
 settled_orderer entry m n true (stable, (o, (claims, cuts, o_is), moves)) =
-    subst (λ (r : ReplicaData). r.orderer ≡ record m.orderer { log = cut_if_stable m.orderer.log entry; claims = r.orderer.claims }) (sym moves)
+    subst (λ (r : JoinedData). r.orderer ≡ record m.orderer { log = cut_if_stable m.orderer.log entry; claims = r.orderer.claims }) (sym moves)
     (subst (λ (k : OrdererData). k ≡ record m.orderer { log = cut_if_stable m.orderer.log entry; claims = k.claims }) (sym o_is)
     (ap (λ (b : Bool). let k : OrdererData = record m.orderer { log = cond b (logs.cut_to m.orderer.log entry.number) m.orderer.log; claims = claims } in k) (sym stable)))
 settled_orderer entry m n false (stable, same) =
-    subst (λ (r : ReplicaData). r.orderer ≡ record m.orderer { log = cut_if_stable m.orderer.log entry; claims = r.orderer.claims }) (sym same)
+    subst (λ (r : JoinedData). r.orderer ≡ record m.orderer { log = cut_if_stable m.orderer.log entry; claims = r.orderer.claims }) (sym same)
     (ap (λ (b : Bool). let k : OrdererData = record m.orderer { log = cond b (logs.cut_to m.orderer.log entry.number) m.orderer.log } in k) (sym stable))
 
 -- the claims up to the low mark go
-pub settled_claims : (entry : CheckpointEntry) (m n : ReplicaData) (b : Bool) → Settles entry m n b → CutsClaims m.orderer.log.low m.orderer.claims m.orderer.claims
+pub settled_claims : (entry : CheckpointEntry) (m n : JoinedData) (b : Bool) → Settles entry m n b → CutsClaims m.orderer.log.low m.orderer.claims m.orderer.claims
     → CutsClaims (cut_if_stable m.orderer.log entry).low m.orderer.claims n.orderer.claims
 settled_claims entry m n true (stable, (o, (claims, cuts, o_is), moves)) above =
     subst (λ (b : Bool). CutsClaims (cond b (logs.cut_to m.orderer.log entry.number) m.orderer.log).low m.orderer.claims n.orderer.claims) (sym stable)
-    (subst (λ (x : ClaimsData). CutsClaims (logs.cut_to m.orderer.log entry.number).low m.orderer.claims x) (sym (ap (λ (r : ReplicaData). r.orderer.claims) moves ∙ ap (λ (k : OrdererData). k.claims) o_is)) cuts)
+    (subst (λ (x : ClaimsData). CutsClaims (logs.cut_to m.orderer.log entry.number).low m.orderer.claims x) (sym (ap (λ (r : JoinedData). r.orderer.claims) moves ∙ ap (λ (k : OrdererData). k.claims) o_is)) cuts)
 settled_claims entry m n false (stable, same) above =
     subst (λ (b : Bool). CutsClaims (cond b (logs.cut_to m.orderer.log entry.number) m.orderer.log).low m.orderer.claims n.orderer.claims) (sym stable)
-    (subst (λ (r : ReplicaData). CutsClaims m.orderer.log.low m.orderer.claims r.orderer.claims) (sym same) above)
+    (subst (λ (r : JoinedData). CutsClaims m.orderer.log.low m.orderer.claims r.orderer.claims) (sym same) above)
 
-pub settled_desk : (entry : CheckpointEntry) (m n : ReplicaData) (b : Bool) → Settles entry m n b → n.desk ≡ record m.desk { snapshots = n.desk.snapshots }
-settled_desk entry m n true (stable, (o, cuts, moves)) = subst (λ (r : ReplicaData). r.desk ≡ record m.desk { snapshots = r.desk.snapshots }) (sym moves) refl
-settled_desk entry m n false (stable, same) = subst (λ (r : ReplicaData). r.desk ≡ record m.desk { snapshots = r.desk.snapshots }) (sym same) refl
-
-pub settled_stopped : (entry : CheckpointEntry) (m n : ReplicaData) (b : Bool) → Settles entry m n b → n.stopped ≡ m.stopped
-settled_stopped entry m n true (stable, (o, cuts, moves)) = ap (λ (r : ReplicaData). r.stopped) moves
-settled_stopped entry m n false (stable, same) = ap (λ (r : ReplicaData). r.stopped) same
+pub settled_desk : (entry : CheckpointEntry) (m n : JoinedData) (b : Bool) → Settles entry m n b → n.desk ≡ record m.desk { snapshots = n.desk.snapshots }
+settled_desk entry m n true (stable, (o, cuts, moves)) = subst (λ (r : JoinedData). r.desk ≡ record m.desk { snapshots = r.desk.snapshots }) (sym moves) refl
+settled_desk entry m n false (stable, same) = subst (λ (r : JoinedData). r.desk ≡ record m.desk { snapshots = r.desk.snapshots }) (sym same) refl
 
 -- the kept states are those from the mark on
-pub settled_snapshots : (entry : CheckpointEntry) (m n : ReplicaData) (b : Bool) → Settles entry m n b → kept_from m.orderer.log.low m.desk.snapshots ≡ m.desk.snapshots
+pub settled_snapshots : (entry : CheckpointEntry) (m n : JoinedData) (b : Bool) → Settles entry m n b → kept_from m.orderer.log.low m.desk.snapshots ≡ m.desk.snapshots
     → kept_from (cut_if_stable m.orderer.log entry).low m.desk.snapshots ≡ n.desk.snapshots
 settled_snapshots entry m n true (stable, (o, cuts, moves)) kept =
     ap (λ (b : Bool). kept_from (cond b (logs.cut_to m.orderer.log entry.number) m.orderer.log).low m.desk.snapshots) stable
-    ∙ sym (ap (λ (r : ReplicaData). r.desk.snapshots) moves)
+    ∙ sym (ap (λ (r : JoinedData). r.desk.snapshots) moves)
 settled_snapshots entry m n false (stable, same) kept =
     ap (λ (b : Bool). kept_from (cond b (logs.cut_to m.orderer.log entry.number) m.orderer.log).low m.desk.snapshots) stable
-    ∙ kept ∙ sym (ap (λ (r : ReplicaData). r.desk.snapshots) same)
+    ∙ kept ∙ sym (ap (λ (r : JoinedData). r.desk.snapshots) same)
 
-module _ (a : ReplicaData) (o : OrdererData) (n : ReplicaData) (entry : CheckpointEntry) (x y : List Output) (b : Bool) (one : AreOne a.orderer a.desk) (due : IsDueEntry a.desk entry)
+module _ (a : JoinedData) (o : OrdererData) (n : JoinedData) (entry : CheckpointEntry) (x y : List Output) (b : Bool) (one : AreOne a.orderer a.desk) (due : IsDueEntry a.desk entry)
     (says : SaysCheckpoint entry a.orderer x o y) (settles : Settles entry (record a { orderer = o }) n b) (is_log : IsLog o.log) where
   abbrev counted : LogData
   counted = logs.with_checkpoint_of a.orderer.log a.orderer.log.me entry
@@ -262,7 +258,6 @@ module _ (a : ReplicaData) (o : OrdererData) (n : ReplicaData) (entry : Checkpoi
       orderer = subst (λ (k : OrdererData). IsSameOrderer a.orderer k) (sym orderer_is) (record { endpoint = refl; log = same_checked a.orderer.log entry });
       me = ap (λ (d : DeskData). d.me) desk_is;
       membership = ap (λ (d : DeskData). d.membership) desk_is;
-      stopped = settled_stopped entry (record a { orderer = o }) n b settles;
     };
     used = ap (λ (k : OrdererData). k.used) orderer_is;
     desk = desk_is;
@@ -272,7 +267,7 @@ module _ (a : ReplicaData) (o : OrdererData) (n : ReplicaData) (entry : Checkpoi
   }
 
 -- nothing is due
-pub says_none : (a : ReplicaData) (x : List Output) → IsDueKept a.desk → due_entry a.desk ≡ None → SaysDueCheckpoint a x a x
+pub says_none : (a : JoinedData) (x : List Output) → IsDueKept a.desk → due_entry a.desk ≡ None → SaysDueCheckpoint a x a x
 says_none a x kept none = record {
   stands = λ c s known voted st. record {
     desk = st.desk;

@@ -23,7 +23,7 @@ use Rattle.replica_histories.specs.Numbers.{BegunCall as HistoryCall, begun_in}
 use Rattle.replica.specs.declared.waiting.BegunCall.{BegunCall}
 use Rattle.replica_histories.specs.Desk.{Desk, desk_from, kept_from}
 use Rattle.replica.specs.declared.waiting.WaitingRequest.{WaitingRequest}
-use Rattle.replica.specs.State.{OrdererData, DeskData, ReplicaData}
+use Rattle.replica.specs.State.{OrdererData, DeskData, JoinedData}
 use Rattle.replica.specs.Waiting.{texts, renumbered, with_view}
 use Rattle.replica.specs.Desks.{AreCallsOf, AreOfDifferentClients, IsDeskOf}
 use Rattle.replica.specs.Desking.{desk_above}
@@ -287,11 +287,11 @@ begun_desk c d desk begun low is = record {
 
 -- ---- the fetch of the start
 
-pub fetch_passed : (entry : CheckpointEntry) (r : ReplicaData) (d : DeskData) (outs : List Output) → AimsAt entry r.desk d false → FetchesStart entry r outs (record r { desk = d }) outs
+pub fetch_passed : (entry : CheckpointEntry) (r : JoinedData) (d : DeskData) (outs : List Output) → AimsAt entry r.desk d false → FetchesStart entry r outs (record r { desk = d }) outs
 fetch_passed entry r d outs aims = inr (aims.0, ap (λ (x : DeskData). record r { desk = x }) aims.1, refl)
 
-pub fetch_started : (entry : CheckpointEntry) (r new : ReplicaData) (d : DeskData) (before after : List Output) → AimsAt entry r.desk d true → new ≡ record r { desk = d } → SaysFetch (record r { desk = d }) before after → FetchesStart entry r before new after
-fetch_started entry r new d before after aims same says = inl (d, aims, same, subst (λ (x : ReplicaData). SaysFetch x before after) (sym same) says)
+pub fetch_started : (entry : CheckpointEntry) (r new : JoinedData) (d : DeskData) (before after : List Output) → AimsAt entry r.desk d true → new ≡ record r { desk = d } → SaysFetch (record r { desk = d }) before after → FetchesStart entry r before new after
+fetch_started entry r new d before after aims same says = inl (d, aims, same, subst (λ (x : JoinedData). SaysFetch x before after) (sym same) says)
 
 -- ---- each of several texts
 
@@ -302,7 +302,7 @@ each_next P (x ∷ xs) (suc i) d l h p = (h.0, each_next P xs i d (omega (arith,
 
 -- ---- all of it
 
-pub enters_all : (view : ℕ) (start : CheckpointEntry) (texts : List (List ℕ)) (own : Option (List ℕ)) (r : ReplicaData) (d : DeskData) (o : OrdererData) (cut : ReplicaData) (logged : OrdererData) (fetched : ReplicaData) (last : OrdererData)
+pub enters_all : (view : ℕ) (start : CheckpointEntry) (texts : List (List ℕ)) (own : Option (List ℕ)) (r : JoinedData) (d : DeskData) (o : OrdererData) (cut : JoinedData) (logged : OrdererData) (fetched : JoinedData) (last : OrdererData)
     (before said after : List Output)
     → NotesBegun texts r.desk d → o ≡ entering view (start.number + length texts) own r.orderer → MovesMarks start.number (record r { orderer = o; desk = d }) cut
     → LogsBatches (suc start.number) texts cut.orderer logged → FetchesStart start (record cut { orderer = logged }) before fetched said

@@ -3,14 +3,14 @@ use Rattle.std.proofs.Common.{◌≡◌, ◌≢◌, ℕ, Bool, true, false, List
 use Rattle.std.proofs.lemmas.Bool.{eqb-false}
 use Rattle.events.specs.declared.output.Output.{Output}
 use Rattle.ordering.specs.Log.{LogData}
-use Rattle.replica.specs.State.{OrdererData, ReplicaData, AreOne}
+use Rattle.replica.specs.State.{OrdererData, JoinedData, AreOne}
 use Rattle.replica.specs.Desks.{FitsEvent}
 use Rattle.replica.specs.Going.{Proceeds, ExecutesAll, GoesOnWith, GoesOn, IsVoted, IsVotedBut, IsVotedAll}
 use Rattle.replica.specs.Saying.{SaysVotes}
 use Rattle.replica.proofs.Parties.{orderers_twice}
 
 -- what the orderer says stands on the same desk
-pub said_stands : (a : ReplicaData) (o : OrdererData) (x y : List Output) → AreOne a.orderer a.desk → GoesOn a.orderer x o y → Proceeds a x (record a { orderer = o }) y
+pub said_stands : (a : JoinedData) (o : OrdererData) (x y : List Output) → AreOne a.orderer a.desk → GoesOn a.orderer x o y → Proceeds a x (record a { orderer = o }) y
 said_stands a o x y one goes c s known st = record {
   desk = st.desk;
   is = st.is;
@@ -26,7 +26,7 @@ all_voted number old new others here but i = go (i == number) refl
     go true e = subst (IsVoted new) (sym (eqb-true i number e)) here
     go false e = others i (eqb-false i number e) (but i (eqb-false i number e))
 
-pub goes_on_with : (number : ℕ) (a : ReplicaData) (o : OrdererData) (d : ReplicaData) (x y z : List Output) → AreOne a.orderer a.desk → SaysVotes number a.orderer x o y
+pub goes_on_with : (number : ℕ) (a : JoinedData) (o : OrdererData) (d : JoinedData) (x y z : List Output) → AreOne a.orderer a.desk → SaysVotes number a.orderer x o y
     → ExecutesAll (record a { orderer = o }) y d z → GoesOnWith number a x d z
 goes_on_with number a o d x y z one v e = record {
   proceeds = λ but c s known st. e.proceeds (voted but) c s known (said_stands a o x y one v.says.goes c s known st);
@@ -34,7 +34,6 @@ goes_on_with number a o d x y z one v e = record {
     orderer = orderers_twice a.orderer o d.orderer v.says.same e.party.orderer;
     me = e.party.me;
     membership = e.party.membership;
-    stopped = e.party.stopped;
   };
   used = e.used ∙ v.says.used;
   waiting = e.waiting;

@@ -26,14 +26,14 @@ use Rattle.replica_histories.proofs.Installing.{installations_fit}
 use Rattle.replica_histories.proofs.ChangesKept.{silent_keep}
 use Rattle.replica.specs.declared.waiting.WaitingRequest.{WaitingRequest}
 use Rattle.view_change.specs.ClaimsView.{ClaimsData}
-use Rattle.replica.specs.State.{OrdererData, OpenData, DeskData, ReplicaData, AreOne}
+use Rattle.replica.specs.State.{OrdererData, OpenData, DeskData, JoinedData, AreOne}
 use Rattle.replica.specs.Waiting.{forgotten, frames_of, is_new}
 use Rattle.replica.specs.Desks.{given, FitsWaiting, FitsEvent, IsDeskOf, Stands}
 use Rattle.replica.specs.Desking.{desk_above}
 use Rattle.replica.specs.Fetching.{Installs, InstallsFetched}
 use Rattle.replica.specs.Going.{IsSameParty, IsVotedAll}
 use Rattle.replica.specs.Marking.{MovesMarks}
-use Rattle.replica.specs.Fits.{me_of}
+use Rattle.replica.specs.Joined.{me_of}
 use Rattle.replica.proofs.Desking.{calls_behind, frames_behind}
 use Rattle.replica.proofs.DueCheckpoints.{same_cut, cut_voted}
 use Rattle.replica.proofs.Given.{given_one}
@@ -42,7 +42,7 @@ use Rattle.replica.proofs.Flags.{flags_forgotten}
 use Rattle.replica.proofs.Staying.{changes_cut, fits_behind, installed_beside, numbers_alike, numbers_beside}
 
 -- All that the open transfer holds has the root that is wanted, and it rests on the executed state.
-pub record IsFetched (c : Configuration) (s : Start) (a : ReplicaData) (desk : Desk) (m : OpenData) (before : List Output) : Type 0 where
+pub record IsFetched (c : Configuration) (s : Start) (a : JoinedData) (desk : Desk) (m : OpenData) (before : List Output) : Type 0 where
   pub is_open : a.desk.transfer ≡ Some m
   pub is : IsDeskOf c a.desk desk
   pub fits : FitsEvent c (me_of a) s a.orderer desk a.desk.waiting [] before
@@ -67,7 +67,7 @@ none_some x P e = absurd cc
 abbrev cut_orderer : ℕ → ClaimsData → OrdererData → OrdererData
 cut_orderer number claims o = record o { log = logs.cut_to o.log number; claims = claims }
 
-record IsInstalled (a : ReplicaData) (m : OpenData) (number : Number) (root : List ℕ) (st : State) (b : ReplicaData) : Type 0 where
+record IsInstalled (a : JoinedData) (m : OpenData) (number : Number) (root : List ℕ) (st : State) (b : JoinedData) : Type 0 where
   has : HasPagesAt m.transfer.number m.transfer.held st
   falls : NoneFalls a.desk.executed.state st
   number_is : number.0 ≡ m.transfer.number
@@ -79,7 +79,7 @@ record IsInstalled (a : ReplicaData) (m : OpenData) (number : Number) (root : Li
     desk = with_state st (logs.cut_to a.orderer.log m.transfer.number).low a.desk;
   }
 
-module _ (c : Configuration) (s : Start) (a : ReplicaData) (desk : Desk) (m : OpenData) (before after : List Output) (st : State)
+module _ (c : Configuration) (s : Start) (a : JoinedData) (desk : Desk) (m : OpenData) (before after : List Output) (st : State)
     (g : IsFetched c s a desk m before) (has : HasPagesAt m.transfer.number m.transfer.held st) (falls : NoneFalls a.desk.executed.state st) (voted : IsVotedAll a.orderer.log)
     (claims : ClaimsData) (cuts : CutsClaims (logs.cut_to a.orderer.log m.transfer.number).low a.orderer.claims claims)
     (gives : given (me_of a) after ≡ Installed (me_of a) m.transfer.number m.transfer.root ∷ given (me_of a) before) where
@@ -157,7 +157,7 @@ entry_for number root = record { number = number.0; digest = root }
 pub same_open : (x y : OpenData) → Some x ≡ Some y → x ≡ y
 same_open x y e = some_injective x y e
 
-installs_so : (a b : ReplicaData) (d : DeskData) (m : OpenData) (number : Number) (root : List ℕ) → a.desk.transfer ≡ Some m → Installs a.desk d (Some (entry_for number root)) → MovesMarks number.0 (record a { desk = d }) b
+installs_so : (a b : JoinedData) (d : DeskData) (m : OpenData) (number : Number) (root : List ℕ) → a.desk.transfer ≡ Some m → Installs a.desk d (Some (entry_for number root)) → MovesMarks number.0 (record a { desk = d }) b
     → IsInstalled a m number root d.executed.state b
 installs_so a b d m number root there (o, is_open, entry_is, has, falls, d_is) (x, (claims, cuts, x_is), moves) = record {
   has = subst (λ (y : OpenData). HasPagesAt y.transfer.number y.transfer.held d.executed.state) same has;
@@ -167,9 +167,9 @@ installs_so a b d m number root there (o, is_open, entry_is, has, falls, d_is) (
   claims = claims;
   cuts = subst (λ (n : ℕ). CutsClaims (logs.cut_to a.orderer.log n).low a.orderer.claims claims) at cuts;
   new_is = moves
-      ∙ ap (λ (k : OrdererData). let new : ReplicaData = record a { orderer = k; desk = desk_above (logs.cut_to a.orderer.log number.0).low d } in new) x_is
-      ∙ ap (λ (n : ℕ). let new : ReplicaData = record a { orderer = cut_orderer n claims a.orderer; desk = desk_above (logs.cut_to a.orderer.log n).low d } in new) at
-      ∙ ap (λ (y : DeskData). let new : ReplicaData = record a { orderer = cut_orderer m.transfer.number claims a.orderer; desk = desk_above (logs.cut_to a.orderer.log m.transfer.number).low y } in new) d_is;
+      ∙ ap (λ (k : OrdererData). let new : JoinedData = record a { orderer = k; desk = desk_above (logs.cut_to a.orderer.log number.0).low d } in new) x_is
+      ∙ ap (λ (n : ℕ). let new : JoinedData = record a { orderer = cut_orderer n claims a.orderer; desk = desk_above (logs.cut_to a.orderer.log n).low d } in new) at
+      ∙ ap (λ (y : DeskData). let new : JoinedData = record a { orderer = cut_orderer m.transfer.number claims a.orderer; desk = desk_above (logs.cut_to a.orderer.log m.transfer.number).low y } in new) d_is;
 }
   where
     same : o ≡ m
@@ -178,24 +178,24 @@ installs_so a b d m number root there (o, is_open, entry_is, has, falls, d_is) (
     at : number.0 ≡ m.transfer.number
     at = ap (λ (x : CheckpointEntry). x.number) entry_is ∙ ap (λ (x : OpenData). x.transfer.number) same
 
-installed_party : (a : ReplicaData) (n : ℕ) (claims : ClaimsData) (st : State) (low : ℕ) → IsSameParty a (record a { orderer = cut_orderer n claims a.orderer; desk = with_state st low a.desk })
-installed_party a n claims st low = record { orderer = record { endpoint = refl; log = same_cut a.orderer.log n }; me = refl; membership = refl; stopped = refl }
+installed_party : (a : JoinedData) (n : ℕ) (claims : ClaimsData) (st : State) (low : ℕ) → IsSameParty a (record a { orderer = cut_orderer n claims a.orderer; desk = with_state st low a.desk })
+installed_party a n claims st low = record { orderer = record { endpoint = refl; log = same_cut a.orderer.log n }; me = refl; membership = refl }
 
 -- The party is the same.
-pub moved_party : (a b : ReplicaData) (m : OpenData) (before after : List Output) → a.desk.transfer ≡ Some m → InstallsFetched a before b after true → IsSameParty a b
+pub moved_party : (a b : JoinedData) (m : OpenData) (before after : List Output) → a.desk.transfer ≡ Some m → InstallsFetched a before b after true → IsSameParty a b
 moved_party a b m before after there (d, number, root, installs, gives, moves) =
     let i = installs_so a b d m number root there installs moves in
-    subst (λ (r : ReplicaData). IsSameParty a r) (sym i.new_is) (installed_party a m.transfer.number i.claims d.executed.state (logs.cut_to a.orderer.log m.transfer.number).low)
+    subst (λ (r : JoinedData). IsSameParty a r) (sym i.new_is) (installed_party a m.transfer.number i.claims d.executed.state (logs.cut_to a.orderer.log m.transfer.number).low)
 
 -- What was fetched is installed.
-pub installs_fetched : (c : Configuration) (s : Start) (a b : ReplicaData) (desk : Desk) (m : OpenData) (before after : List Output) → AreOne a.orderer a.desk → IsFetched c s a desk m before → IsVotedAll a.orderer.log
+pub installs_fetched : (c : Configuration) (s : Start) (a b : JoinedData) (desk : Desk) (m : OpenData) (before after : List Output) → AreOne a.orderer a.desk → IsFetched c s a desk m before → IsVotedAll a.orderer.log
     → InstallsFetched a before b after true → Stands c s b.orderer b.desk [] after × IsVotedAll b.orderer.log
 installs_fetched c s a b desk m before after one g voted (d, number, root, installs, gives, moves) =
     let i = installs_so a b d m number root g.is_open installs moves in
     let st = d.executed.state in
     let is : given (me_of a) after ≡ Installed (me_of a) m.transfer.number m.transfer.root ∷ given (me_of a) before = given_one (me_of a) before after (outputs.Installed number root) gives
     ∙ ap (λ (n : ℕ). Installed (me_of a) n root ∷ given (me_of a) before) i.number_is ∙ ap (λ (r : List ℕ). Installed (me_of a) m.transfer.number r ∷ given (me_of a) before) i.root_is in
-    subst (λ (r : ReplicaData). Stands c s r.orderer r.desk [] after × IsVotedAll r.orderer.log) (sym i.new_is) (
+    subst (λ (r : JoinedData). Stands c s r.orderer r.desk [] after × IsVotedAll r.orderer.log) (sym i.new_is) (
       record {
         desk = installed_desk desk st (frames_of (forgotten st a.desk.waiting));
         is = installed_is c s a desk m before after st g i.has i.falls voted i.claims i.cuts is;

@@ -46,3 +46,11 @@ pub mod ViewsEntered
 pub mod NewViewsCome
 pub mod BegunViews
 pub mod OwnViews
+pub mod ReadMarks
+pub mod IdleEntries
+pub mod SameWords
+pub mod PartsJoining
+pub mod ReadsBeside
+pub mod ReadsDropped
+pub mod ReadsLead
+pub mod PartsLead

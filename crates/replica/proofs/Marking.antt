@@ -1,19 +1,19 @@
 -- The marks move.
 use Rattle.std.proofs.Common.{◌≡◌, ℕ, ap, ◌∙◌}
-use Rattle.replica.specs.State.{OrdererData, DeskData, ReplicaData}
+use Rattle.replica.specs.State.{OrdererData, DeskData, JoinedData}
 use Rattle.replica.specs.Claiming.{CutsLog}
 use Rattle.replica.specs.Desking.{desk_above}
 use Rattle.replica.specs.Marking.{MovesMarks}
 
 -- first the orderer's, and then the desk's to the low mark that the orderer has then
-pub moves_so : (low at : ℕ) (old mid new : ReplicaData) (o : OrdererData) (desk : DeskData) → CutsLog low old.orderer o → mid ≡ record old { orderer = o } → at ≡ mid.orderer.log.low
+pub moves_so : (low at : ℕ) (old mid new : JoinedData) (o : OrdererData) (desk : DeskData) → CutsLog low old.orderer o → mid ≡ record old { orderer = o } → at ≡ mid.orderer.log.low
     → desk ≡ desk_above at mid.desk → new ≡ record mid { desk = desk } → MovesMarks low old new
 moves_so low at old mid new o desk cuts mid_is at_is desk_is new_is = (
   o,
   cuts,
   new_is
-      ∙ ap (λ (d : DeskData). let r : ReplicaData = record mid { desk = d } in r) desk_is
-      ∙ ap (λ (n : ℕ). let r : ReplicaData = record mid { desk = desk_above n mid.desk } in r) at_is
-      ∙ ap (λ (m : ReplicaData). let r : ReplicaData = record m { desk = desk_above m.orderer.log.low m.desk } in r) mid_is
-      ∙ ap (λ (k : OrdererData). let r : ReplicaData = record old { orderer = o; desk = desk_above k.log.low old.desk } in r) cuts.2,
+      ∙ ap (λ (d : DeskData). let r : JoinedData = record mid { desk = d } in r) desk_is
+      ∙ ap (λ (n : ℕ). let r : JoinedData = record mid { desk = desk_above n mid.desk } in r) at_is
+      ∙ ap (λ (m : JoinedData). let r : JoinedData = record m { desk = desk_above m.orderer.log.low m.desk } in r) mid_is
+      ∙ ap (λ (k : OrdererData). let r : JoinedData = record old { orderer = o; desk = desk_above k.log.low old.desk } in r) cuts.2,
 )

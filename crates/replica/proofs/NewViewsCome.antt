@@ -35,10 +35,10 @@ use Rattle.replica_histories.proofs.Entering.{inputs_fit}
 use Rattle.replica_histories.proofs.NewViews.{new_views_enter}
 use Rattle.replica_histories.proofs.Questions.{others_owe_none}
 use Rattle.replica.specs.declared.taking.Touched.TheVariants as touched
-use Rattle.replica.specs.State.{ReplicaData, AreOne, IsOrderer}
+use Rattle.replica.specs.State.{JoinedData, AreOne, IsOrderer}
 use Rattle.replica.specs.Desks.{FitsEvent, Stands}
 use Rattle.replica.specs.Entering.{event_of, IsTakenBeside, TakesBytes, TakesMessage}
-use Rattle.replica.specs.Fits.{Runs, me_of}
+use Rattle.replica.specs.Joined.{Runs, me_of}
 use Rattle.replica.proofs.Beginning.{changes_kept, heard_by, rests}
 use Rattle.replica.specs.EnteringViews.{Enters}
 use Rattle.replica.proofs.Parties.{one_self, same_log}
@@ -78,7 +78,7 @@ module _ (judge : NewViewsAreJudged) (c : Configuration) (me sender : ℕ) (past
 
 -- ---- it comes
 
-module _ (judge : NewViewsAreJudged) (decide : SizesDecide) (r : ReplicaData) (one : AreOne r.orderer r.desk) (own : IsOrderer r.orderer) (sender : ℕ) (new : NewViewData) (bytes : List ℕ)
+module _ (judge : NewViewsAreJudged) (decide : SizesDecide) (r : JoinedData) (one : AreOne r.orderer r.desk) (own : IsOrderer r.orderer) (sender : ℕ) (new : NewViewData) (bytes : List ℕ)
     (h : heard r.desk.membership r.desk.me bytes ≡ Some (record { sender = sender; message = NewView new })) where
   abbrev me : ℕ
   me = r.orderer.endpoint.me
@@ -154,7 +154,7 @@ module _ (judge : NewViewsAreJudged) (decide : SizesDecide) (r : ReplicaData) (o
 
   -- ---- it is taken
 
-  module _ (clients : r.desk.executed.clients ≡ r.desk.membership.clients) (n : ReplicaData) (outs : List Output) (x : Entered new None r [] n outs) (c : Configuration) (past : List Entry) (runs : Runs c r past)
+  module _ (clients : r.desk.executed.clients ≡ r.desk.membership.clients) (n : JoinedData) (outs : List Output) (x : Entered new None r [] n outs) (c : Configuration) (past : List Entry) (runs : Runs c r past)
       (known : members c ≡ r.desk.membership) (t : taken c past e ≡ Some new) where
     begins_it : histories.Fits c me (event_of c r past runs bytes) (desk_from (begun_log r.orderer.log new).low runs.desk) (begun_log r.orderer.log new) (start_due runs.desk new) []
     begins_it = new_views_enter c me runs.desk r.orderer.log past sender new bytes runs.holds (hears c known) t
@@ -169,7 +169,7 @@ module _ (judge : NewViewsAreJudged) (decide : SizesDecide) (r : ReplicaData) (o
     taken_beside =
         subst (λ (k : EndpointState). IsTakenBeside c k.me (event_of c r past runs bytes)) (sym (entered_party new None r [] n outs x).endpoint) ((body, hears c known, t), asks_no_part c known)
 
-  right_entered : r.desk.executed.clients ≡ r.desk.membership.clients → (n : ReplicaData) (outs : List Output) → refusal (configuration_of r.orderer.received) r.orderer.log.view r.orderer.target sender new ≡ None
+  right_entered : r.desk.executed.clients ≡ r.desk.membership.clients → (n : JoinedData) (outs : List Output) → refusal (configuration_of r.orderer.received) r.orderer.log.view r.orderer.target sender new ≡ None
       → Enters new.view (start_in new) new.batches None r [] n outs → TakesBytes bytes r touched.View n outs
   right_entered clients n outs right enters = record {
     party = entered_party new None r [] n outs x;
@@ -190,7 +190,7 @@ module _ (judge : NewViewsAreJudged) (decide : SizesDecide) (r : ReplicaData) (o
 -- ---- the function's own words
 
 -- what is entered by the selection in the new view
-pub enters_with : (new : NewViewData) (start : ℕ) (root : List ℕ) (texts : List (List ℕ)) (r n : ReplicaData) (before after : List Output) → start ≡ new.start → root ≡ new.root → texts ≡ new.batches → before ≡ []
+pub enters_with : (new : NewViewData) (start : ℕ) (root : List ℕ) (texts : List (List ℕ)) (r n : JoinedData) (before after : List Output) → start ≡ new.start → root ≡ new.root → texts ≡ new.batches → before ≡ []
     → Enters new.view (record { number = start; digest = root }) texts None r before n after → Enters new.view (start_in new) new.batches None r [] n after
 enters_with new start root texts r n before after start_is root_is texts_are none x =
     subst (λ (k : ℕ). Enters new.view (record { number = k; digest = new.root }) new.batches None r [] n after) start_is
@@ -198,11 +198,11 @@ enters_with new start root texts r n before after start_is root_is texts_are non
     (subst (λ (ts : List (List ℕ)). Enters new.view (record { number = start; digest = root }) ts None r [] n after) texts_are
     (subst (λ (outs : List Output). Enters new.view (record { number = start; digest = root }) texts None r outs n after) none x)))
 
-pub new_view_dropped : NewViewsAreJudged → SizesDecide → (r : ReplicaData) (sender : ReplicaId) (new : NewViewData) → AreOne r.orderer r.desk → IsOrderer r.orderer
+pub new_view_dropped : NewViewsAreJudged → SizesDecide → (r : JoinedData) (sender : ReplicaId) (new : NewViewData) → AreOne r.orderer r.desk → IsOrderer r.orderer
     → refusal (configuration_of r.orderer.received) r.orderer.log.view r.orderer.target sender.0 new ≢ None → TakesMessage sender (NewView new) r touched.Nothing r []
 new_view_dropped judge decide r sender new one own refused bytes h = refused_dropped judge decide r one own sender.0 new bytes h refused
 
-pub new_view_entered : NewViewsAreJudged → SizesDecide → (r : ReplicaData) (sender : ReplicaId) (new : NewViewData) (n : ReplicaData) (outs : List Output) → AreOne r.orderer r.desk → IsOrderer r.orderer → r.desk.executed.clients ≡ r.desk.membership.clients
+pub new_view_entered : NewViewsAreJudged → SizesDecide → (r : JoinedData) (sender : ReplicaId) (new : NewViewData) (n : JoinedData) (outs : List Output) → AreOne r.orderer r.desk → IsOrderer r.orderer → r.desk.executed.clients ≡ r.desk.membership.clients
     → refusal (configuration_of r.orderer.received) r.orderer.log.view r.orderer.target sender.0 new ≡ None → Enters new.view (start_in new) new.batches None r [] n outs
     → TakesMessage sender (NewView new) r touched.View n outs
 new_view_entered judge decide r sender new n outs one own clients right enters bytes h = right_entered judge decide r one own sender.0 new bytes h clients n outs right enters

@@ -21,7 +21,7 @@ use Rattle.replica_histories.specs.Numbers.{AreCalls, Waiting, HasNumber, HasNon
 use Rattle.replica_histories.specs.Outputs.{MayNumber}
 use Rattle.replica_histories.proofs.NumbersLists.{each_where, has_taken, Pairs, pairs_of, all_pairs, pairs_kept, pairs_mapped, pairs_unmapped, pairs_front, IsAt, Spells, spelled_at, Differ, frames_differ}
 use Rattle.replica.specs.declared.waiting.WaitingRequest.{WaitingRequest}
-use Rattle.replica.specs.State.{DeskData, ReplicaData, AreOne}
+use Rattle.replica.specs.State.{DeskData, JoinedData, AreOne}
 use Rattle.replica.specs.Waiting.{WaitingData, texts, frames_of, all_unnumbered, unnumbered, count_unnumbered, all_numbered, with_numbered}
 use Rattle.replica.specs.Flags.{FitsFlags, flagged}
 use Rattle.replica.specs.Desks.{AreCallsOf, AreOfDifferentClients, given, FitsEvent, Stands}
@@ -169,7 +169,7 @@ module _ (c : Configuration) (me number used : ℕ) (log : LogData) (text : List
 
 -- ---- one turn
 
-module _ (number : ℕ) (a b : ReplicaData) (x y : List Output) (one : AreOne a.orderer a.desk) (above : a.orderer.used < number) (inside : logs.is_in_marks a.orderer.log number ≡ true)
+module _ (number : ℕ) (a b : JoinedData) (x y : List Output) (one : AreOne a.orderer a.desk) (above : a.orderer.used < number) (inside : logs.is_in_marks a.orderer.log number ≡ true)
     (active : a.orderer.log.active ≡ true) (primary : logs.primary a.orderer.log a.orderer.log.view ≡ a.orderer.log.me) (some : 1 ≤ length (unnumbered a.desk.waiting)) (n : NumbersNext number a x b y) where
   abbrev w : WaitingData
   w = a.desk.waiting
@@ -235,7 +235,7 @@ module _ (number : ℕ) (a b : ReplicaData) (x y : List Output) (one : AreOne a.
       omega (arith, left, some))
 
   -- the number is given, and what it asks for is done
-  pub gives_number : (d : ReplicaData) (z : List Output) → GoesOnWith number b y d z → GivesNumber a x d z
+  pub gives_number : (d : JoinedData) (z : List Output) → GoesOnWith number b y d z → GivesNumber a x d z
   gives_number d z e = record {
     proceeds = λ rest c s known st.
         e.proceeds (voted_but rest.0) c s (known ∙ sym (ap (λ (k : DeskData). k.membership) n.waits)) (next_stands c s known st);
@@ -243,7 +243,6 @@ module _ (number : ℕ) (a b : ReplicaData) (x y : List Output) (one : AreOne a.
       orderer = orderers_twice a.orderer b.orderer d.orderer same_orderer e.party.orderer;
       me = e.party.me ∙ ap (λ (k : DeskData). k.me) n.waits;
       membership = e.party.membership ∙ ap (λ (k : DeskData). k.membership) n.waits;
-      stopped = e.party.stopped ∙ n.stopped;
     };
     rests = λ rest. e.rests (voted_but rest.0);
     fewer = let now = fewer in let after = e.waiting in omega (arith, now, after);
@@ -252,16 +251,16 @@ module _ (number : ℕ) (a b : ReplicaData) (x y : List Output) (one : AreOne a.
 -- ---- one turn after another
 
 -- so many numbers are given
-pub record NumbersSoFar (count : ℕ) (old : ReplicaData) (before : List Output) (new : ReplicaData) (after : List Output) : Type 0 where
+pub record NumbersSoFar (count : ℕ) (old : JoinedData) (before : List Output) (new : JoinedData) (after : List Output) : Type 0 where
   pub proceeds : Rests old → Proceeds old before new after
   pub party : IsSameParty old new
   pub rests : Rests old → Rests new
   pub fewer : count_unnumbered new.desk.waiting + count ≤ count_unnumbered old.desk.waiting
 
-pub none_given : (a : ReplicaData) (x : List Output) → NumbersSoFar 0 a x a x
+pub none_given : (a : JoinedData) (x : List Output) → NumbersSoFar 0 a x a x
 none_given a x = record { proceeds = λ rest c s known st. st; party = same_party a; rests = λ r. r; fewer = omega arith }
 
-pub one_given : (count : ℕ) (a b d : ReplicaData) (x y z : List Output) → NumbersSoFar count a x b y → GivesNumber b y d z → NumbersSoFar (count + 1) a x d z
+pub one_given : (count : ℕ) (a b d : JoinedData) (x y z : List Output) → NumbersSoFar count a x b y → GivesNumber b y d z → NumbersSoFar (count + 1) a x d z
 one_given count a b d x y z f g = record {
   proceeds = λ rest c s known st. g.proceeds (f.rests rest) c s (known ∙ sym f.party.membership) (f.proceeds rest c s known st);
   party = parties_twice a b d f.party g.party;
@@ -269,13 +268,13 @@ one_given count a b d x y z f g = record {
   fewer = let first = f.fewer in let then = g.fewer in omega (arith, first, then);
 }
 
-pub numbers_stop : (count : ℕ) (a b d : ReplicaData) (x y z : List Output) → NumbersSoFar count a x b y → (d ≡ b) × (z ≡ y) × IsAllNumbered b → NumbersWaiting a x d z
+pub numbers_stop : (count : ℕ) (a b d : JoinedData) (x y z : List Output) → NumbersSoFar count a x b y → (d ≡ b) × (z ≡ y) × IsAllNumbered b → NumbersWaiting a x d z
 numbers_stop count a b d x y z f (same, outs, all) =
-    subst (λ (r : ReplicaData). NumbersWaiting a x r z) (sym same) (subst (λ (o : List Output). NumbersWaiting a x b o) (sym outs)
+    subst (λ (r : JoinedData). NumbersWaiting a x r z) (sym same) (subst (λ (o : List Output). NumbersWaiting a x b o) (sym outs)
     (record { proceeds = f.proceeds; party = f.party; rests = f.rests; all = all }))
 
 -- behind as many numbers as requests without one, none is left
-pub numbers_end : (count : ℕ) (a b : ReplicaData) (x y : List Output) → count ≡ count_unnumbered a.desk.waiting → NumbersSoFar count a x b y → NumbersWaiting a x b y
+pub numbers_end : (count : ℕ) (a b : JoinedData) (x y : List Output) → count ≡ count_unnumbered a.desk.waiting → NumbersSoFar count a x b y → NumbersWaiting a x b y
 numbers_end count a b x y whole f = record {
   proceeds = f.proceeds;
   party = f.party;

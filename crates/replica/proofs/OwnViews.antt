@@ -43,7 +43,7 @@ use Rattle.replica_histories.proofs.NewViews.{new_views_fit}
 use Rattle.replica_histories.proofs.NumbersBegun.{logs_are_of_no_later_view}
 use Rattle.replica_histories.proofs.Seeing.{logged_are_seen}
 use Rattle.replica_histories.proofs.Words.{primary_same}
-use Rattle.replica.specs.State.{OrdererData, ReplicaData, IsOrderer, AreOne}
+use Rattle.replica.specs.State.{OrdererData, JoinedData, IsOrderer, AreOne}
 use Rattle.replica.specs.Waiting.{with_view}
 use Rattle.replica.specs.Beginning.{BeginsView}
 use Rattle.replica.specs.Claiming.{SaysFrame}
@@ -148,7 +148,7 @@ module _ (decide : SizesDecide) (o : OrdererData) (start : ℕ) (root frame : Li
 
 -- ---- all stands behind it
 
-module _ (decide : SizesDecide) (r : ReplicaData) (start : ℕ) (root frame : List ℕ) (texts : List (List ℕ)) (before said after : List Output) (n : ReplicaData)
+module _ (decide : SizesDecide) (r : JoinedData) (start : ℕ) (root frame : List ℕ) (texts : List (List ℕ)) (before said after : List Output) (n : JoinedData)
     (one : AreOne r.orderer r.desk) (own : IsOrderer r.orderer) (is_log : IsLog r.orderer.log) (clients : r.desk.executed.clients ≡ r.desk.membership.clients)
     (sel : IsSelection r.orderer start root texts) (signs : SignsView r.orderer (new_view_of r.orderer start root texts) frame) (says : SaysFrame r.orderer frame before said)
     (enters : Enters r.orderer.target (start_of (new_view_of r.orderer start root texts)) texts (Some frame) r said n after) where
@@ -236,8 +236,8 @@ module _ (decide : SizesDecide) (r : ReplicaData) (start : ℕ) (root frame : Li
   }
 
 -- by equal parts
-pub begins_so : (decide : SizesDecide) (r : ReplicaData) (start : ℕ) (root frame : List ℕ) (texts : List (List ℕ)) (before said after : List Output) (n : ReplicaData)
-    (view : ℕ) (bytes : List ℕ) (signed : OrdererData) (mid : ReplicaData)
+pub begins_so : (decide : SizesDecide) (r : JoinedData) (start : ℕ) (root frame : List ℕ) (texts : List (List ℕ)) (before said after : List Output) (n : JoinedData)
+    (view : ℕ) (bytes : List ℕ) (signed : OrdererData) (mid : JoinedData)
     → AreOne r.orderer r.desk → IsOrderer r.orderer → IsLog r.orderer.log → r.desk.executed.clients ≡ r.desk.membership.clients
     → IsSelection r.orderer start root texts → SignsView r.orderer (new_view_of r.orderer start root texts) frame
     → signed ≡ r.orderer → bytes ≡ frame → SaysFrame signed bytes before said
@@ -247,4 +247,4 @@ begins_so decide r start root frame texts before said after n view bytes signed 
     own_view_begins decide r start root frame texts before said after n one own is_log clients sel signs
     (subst (λ (o : OrdererData). SaysFrame o frame before said) same_orderer (subst (λ (b : List ℕ). SaysFrame signed b before said) same_bytes says))
     (subst (λ (v : ℕ). Enters v (start_of (new_view_of r.orderer start root texts)) texts (Some frame) r said n after) same_view
-    (subst (λ (m : ReplicaData). Enters view (start_of (new_view_of r.orderer start root texts)) texts (Some frame) m said n after) same enters))
+    (subst (λ (m : JoinedData). Enters view (start_of (new_view_of r.orderer start root texts)) texts (Some frame) m said n after) same enters))

@@ -1,6 +1,6 @@
 -- The party of a replica, from one step to the next.
 use Rattle.std.proofs.Common.{refl, ◌∙◌, arith}
-use Rattle.replica.specs.State.{OrdererData, ReplicaData}
+use Rattle.replica.specs.State.{OrdererData, JoinedData}
 use Rattle.replica.specs.Going.{IsSameLog, IsSameOrderer, IsSameParty, IsOneParty}
 use Rattle.ordering.specs.Log.{LogData}
 
@@ -10,8 +10,8 @@ same_log log = record { me = refl; faults = refl; span = refl; view = refl; acti
 pub same_orderer : (o : OrdererData) → IsSameOrderer o o
 same_orderer o = record { endpoint = refl; log = same_log o.log }
 
-pub same_party : (r : ReplicaData) → IsSameParty r r
-same_party r = record { orderer = same_orderer r.orderer; me = refl; membership = refl; stopped = refl }
+pub same_party : (r : JoinedData) → IsSameParty r r
+same_party r = record { orderer = same_orderer r.orderer; me = refl; membership = refl }
 
 pub logs_twice : (a b d : LogData) → IsSameLog a b → IsSameLog b d → IsSameLog a d
 logs_twice a b d first then = record {
@@ -26,26 +26,24 @@ logs_twice a b d first then = record {
 pub orderers_twice : (a b d : OrdererData) → IsSameOrderer a b → IsSameOrderer b d → IsSameOrderer a d
 orderers_twice a b d first then = record { endpoint = then.endpoint ∙ first.endpoint; log = logs_twice a.log b.log d.log first.log then.log }
 
-pub parties_twice : (a b d : ReplicaData) → IsSameParty a b → IsSameParty b d → IsSameParty a d
+pub parties_twice : (a b d : JoinedData) → IsSameParty a b → IsSameParty b d → IsSameParty a d
 parties_twice a b d first then = record {
   orderer = orderers_twice a.orderer b.orderer d.orderer first.orderer then.orderer;
   me = then.me ∙ first.me;
   membership = then.membership ∙ first.membership;
-  stopped = then.stopped ∙ first.stopped;
 }
 
 -- ---- whatever its view
 
-pub one_self : (r : ReplicaData) → IsOneParty r r
-one_self r = record { endpoint = refl; me = refl; membership = refl; stopped = refl }
+pub one_self : (r : JoinedData) → IsOneParty r r
+one_self r = record { endpoint = refl; me = refl; membership = refl }
 
-pub one_of_same : (a b : ReplicaData) → IsSameParty a b → IsOneParty a b
-one_of_same a b p = record { endpoint = p.orderer.endpoint; me = p.me; membership = p.membership; stopped = p.stopped }
+pub one_of_same : (a b : JoinedData) → IsSameParty a b → IsOneParty a b
+one_of_same a b p = record { endpoint = p.orderer.endpoint; me = p.me; membership = p.membership }
 
-pub ones_twice : (a b d : ReplicaData) → IsOneParty a b → IsOneParty b d → IsOneParty a d
+pub ones_twice : (a b d : JoinedData) → IsOneParty a b → IsOneParty b d → IsOneParty a d
 ones_twice a b d first then = record {
   endpoint = then.endpoint ∙ first.endpoint;
   me = then.me ∙ first.me;
   membership = then.membership ∙ first.membership;
-  stopped = then.stopped ∙ first.stopped;
 }

@@ -23,11 +23,11 @@ use Rattle.replica_histories.proofs.Questions.{others_owe_none}
 use Rattle.replica_histories.proofs.TransfersInstalling.{digests_rest, pages_rest}
 use Rattle.replica.specs.declared.open_transfer.Taken.{Taken}
 use Rattle.replica.specs.declared.taking.Touched.TheVariants as touched
-use Rattle.replica.specs.State.{ReplicaData, DeskData, OpenData, AreOne}
+use Rattle.replica.specs.State.{JoinedData, DeskData, OpenData, AreOne}
 use Rattle.replica.specs.Desks.{given, FitsEvent, IsDeskOf, RestsAt}
 use Rattle.replica.specs.Entering.{event_of, IsTakenBeside, TakesBytes}
 use Rattle.replica.specs.Fetching.{fetch_of, with_transfer, AsksOn, SaysFetch, TakesDigests, TakesPage}
-use Rattle.replica.specs.Fits.{Runs, me_of}
+use Rattle.replica.specs.Joined.{Runs, me_of}
 use Rattle.replica.specs.Saying.{Says}
 use Rattle.replica.specs.Transferring.{TakesDigestsOf, TakesPageOf, AsksPlace}
 use Rattle.replica.proofs.Beginning.{rests}
@@ -36,12 +36,12 @@ use Rattle.replica.proofs.Fetched.{asks_next}
 use Rattle.replica.proofs.Staying.{numbers_beside, said_on}
 
 -- In the event that begins with the bytes, the open transfer is this one, and nothing else changed.
-pub record Comes (c : Configuration) (r : ReplicaData) (past : List Entry) (runs : Runs c r past) (bytes : List ℕ) (n : OpenData) : Type 0 where
+pub record Comes (c : Configuration) (r : JoinedData) (past : List Entry) (runs : Runs c r past) (bytes : List ℕ) (n : OpenData) : Type 0 where
   pub is : IsDeskOf c (with_transfer n r.desk) (record runs.desk { transfer = Some n.transfer })
   pub fits : FitsEvent c (me_of r) (event_of c r past runs bytes) r.orderer (record runs.desk { transfer = Some n.transfer }) r.desk.waiting [] []
   pub taken : IsTakenBeside c (me_of r) (event_of c r past runs bytes)
 
-module _ (r : ReplicaData) (one : AreOne r.orderer r.desk) (bytes : List ℕ) (sender : ℕ) (o n : OpenData) (there : r.desk.transfer ≡ Some o) (c : Configuration) (past : List Entry)
+module _ (r : JoinedData) (one : AreOne r.orderer r.desk) (bytes : List ℕ) (sender : ℕ) (o n : OpenData) (there : r.desk.transfer ≡ Some o) (c : Configuration) (past : List Entry)
     (runs : Runs c r past) (known : members c ≡ r.desk.membership) where
   abbrev me : ℕ
   me = me_of r
@@ -104,12 +104,12 @@ module _ (r : ReplicaData) (one : AreOne r.orderer r.desk) (bytes : List ℕ) (s
       (pages_enter c me runs.desk r.orderer.log past o.transfer sender page.index text bytes runs.holds open_there (heard_so r one c past runs bytes (record { sender = sender; message = message }) known heard_it) all.0)
 
 -- Where more is to be fetched then, the event asks for it.
-module _ (r : ReplicaData) (one : AreOne r.orderer r.desk) (bytes : List ℕ) (n : OpenData)
+module _ (r : JoinedData) (one : AreOne r.orderer r.desk) (bytes : List ℕ) (n : OpenData)
     (comes : (c : Configuration) (past : List Entry) (runs : Runs c r past) → members c ≡ r.desk.membership → Comes c r past runs bytes n) where
   asks_for : (m : OpenData) (place : Place) (outs : List Output) → AsksPlace r.desk.executed.state n m (Some place) → Says r.orderer (fetch_of m.transfer) [] outs
       → TakesBytes bytes r touched.Nothing (record r { desk = with_transfer m r.desk }) outs
   asks_for m place outs asks says = record {
-    party = record { endpoint = refl; me = refl; membership = refl; stopped = refl };
+    party = record { endpoint = refl; me = refl; membership = refl };
     begins = λ c past runs known.
         let came = comes c past runs known in
         let asked = asks_next c (event_of c r past runs bytes) r.orderer (with_transfer n r.desk) (record runs.desk { transfer = Some n.transfer }) r.desk.waiting n [] refl came.is came.fits m place outs
@@ -127,16 +127,16 @@ module _ (r : ReplicaData) (one : AreOne r.orderer r.desk) (bytes : List ℕ) (n
   said m outs (inl (none, same)) = absurd cc
   said m outs (inr (x, is, says)) = subst (λ (y : OpenData). Says r.orderer (fetch_of y.transfer) [] outs) (sym (some_injective m x is)) says
 
-  pub asks_on : (new : ReplicaData) (outs : List Output) → AsksOn (record r { desk = with_transfer n r.desk }) [] new outs true → TakesBytes bytes r touched.Nothing new outs
+  pub asks_on : (new : JoinedData) (outs : List Output) → AsksOn (record r { desk = with_transfer n r.desk }) [] new outs true → TakesBytes bytes r touched.Nothing new outs
   asks_on new outs (desk, (x, m, place, there, desk_is, asks), new_is, says) =
       let whole : new ≡ record r { desk = with_transfer m r.desk } = new_is ∙ ap (λ (d : DeskData). record r { desk = d }) desk_is in
-      subst (λ (y : ReplicaData). TakesBytes bytes r touched.Nothing y outs) (sym whole)
+      subst (λ (y : JoinedData). TakesBytes bytes r touched.Nothing y outs) (sym whole)
       (asks_for m place outs (subst (λ (y : OpenData). AsksPlace r.desk.executed.state y m (Some place)) (sym (some_injective n x there)) asks)
-      (said m outs (subst (λ (y : ReplicaData). SaysFetch y [] outs) whole says)))
+      (said m outs (subst (λ (y : JoinedData). SaysFetch y [] outs) whole says)))
 
 -- ---- what the code does
 
-module _ (r : ReplicaData) (one : AreOne r.orderer r.desk) (bytes : List ℕ) (sender : ℕ) (desk : DeskData) (outs : List Output) where
+module _ (r : JoinedData) (one : AreOne r.orderer r.desk) (bytes : List ℕ) (sender : ℕ) (desk : DeskData) (outs : List Output) where
   -- what is dropped, with a desk that is the same
   dropped : (message : Message) → heard r.desk.membership r.desk.me bytes ≡ Some (record { sender = sender; message = message }) → ((c : Configuration) → IsBeside c (record { sender = sender; message = message }))
       → is_question (record { sender = sender; message = message }) ≡ false → desk ≡ r.desk → outs ≡ [] → TakesBytes bytes r touched.Nothing (record r { desk = desk }) outs
@@ -154,7 +154,7 @@ module _ (r : ReplicaData) (one : AreOne r.orderer r.desk) (bytes : List ℕ) (s
   page_dropped page hears same silent =
       dropped (PageMessage page.number.0 page.index page.text.items) hears (λ c. record { log = tt; call = refl; asks = λ st. refl; views = refl; changes = tt }) refl same silent
 
-  module _ (before : List Output) (first : before ≡ []) (new : ReplicaData) (asks : AsksOn (record r { desk = desk }) before new outs true) where
+  module _ (before : List Output) (first : before ≡ []) (new : JoinedData) (asks : AsksOn (record r { desk = desk }) before new outs true) where
     -- what is taken, behind which more is asked for
     asked : (n : OpenData) → desk ≡ with_transfer n r.desk
         → ((c : Configuration) (past : List Entry) (runs : Runs c r past) → members c ≡ r.desk.membership → Comes c r past runs bytes n) → TakesBytes bytes r touched.Nothing new outs

@@ -17,11 +17,11 @@ use Rattle.replica_histories.proofs.Transfers.{pages_give_back}
 use Rattle.replica_histories.proofs.Questions.{others_owe_none}
 use Rattle.replica.specs.declared.open_transfer.Taken.{Taken}
 use Rattle.replica.specs.declared.taking.Touched.TheVariants as touched
-use Rattle.replica.specs.State.{DeskData, OpenData, ReplicaData, AreOne}
+use Rattle.replica.specs.State.{DeskData, OpenData, JoinedData, AreOne}
 use Rattle.replica.specs.Desks.{FitsEvent}
 use Rattle.replica.specs.Entering.{event_of, IsTakenBeside, TakesBytes, TakesMessage}
 use Rattle.replica.specs.Fetching.{AsksOn, GivesBack, InstallsFetched, TakesDigests, TakesPage, with_transfer}
-use Rattle.replica.specs.Fits.{Runs, me_of}
+use Rattle.replica.specs.Joined.{Runs, me_of}
 use Rattle.replica.specs.Going.{IsOneParty, IsSameParty}
 use Rattle.replica.specs.Transferring.{AsksPlace, IsRestedAt, TakesPageOf}
 use Rattle.replica.proofs.Beginning.{rests}
@@ -35,34 +35,34 @@ some_none : (x : OpenData) (P : Type 0) → Some x ≡ None → P
 some_none x P e = absurd cc
 
 -- the replica with this transfer
-abbrev pub holding : OpenData → ReplicaData → ReplicaData
+abbrev pub holding : OpenData → JoinedData → JoinedData
 holding n r = record r { desk = with_transfer n r.desk }
 
-same_holding : (r : ReplicaData) (n : OpenData) → IsSameParty r (holding n r)
-same_holding r n = record { orderer = same_orderer r.orderer; me = refl; membership = refl; stopped = refl }
+same_holding : (r : JoinedData) (n : OpenData) → IsSameParty r (holding n r)
+same_holding r n = record { orderer = same_orderer r.orderer; me = refl; membership = refl }
 
 -- Behind a part that came no other is asked for: the transfer rests on the state, and all that it holds has the root.
-pub record Rested (r : ReplicaData) (n m : OpenData) (a : ReplicaData) (outs : List Output) : Type 0 where
+pub record Rested (r : JoinedData) (n m : OpenData) (a : JoinedData) (outs : List Output) : Type 0 where
   pub asks : AsksPlace r.desk.executed.state n m None
   pub root : root_of_pages m.transfer.held ≡ m.transfer.root
   pub new_is : a ≡ holding m r
   pub outs_are : outs ≡ []
 
-pub rested_so : (r : ReplicaData) (n : OpenData) (a : ReplicaData) (outs : List Output) → AsksOn (holding n r) [] a outs false → (m : OpenData) × Rested r n m a outs
+pub rested_so : (r : JoinedData) (n : OpenData) (a : JoinedData) (outs : List Output) → AsksOn (holding n r) [] a outs false → (m : OpenData) × Rested r n m a outs
 rested_so r n a outs (desk, inl (none, same), new_is, given_is) = some_none n _ none
 rested_so r n a outs (desk, inr (o, m, there, desk_is, asks, root), new_is, given_is) = (
   m,
   record {
     asks = subst (λ (x : OpenData). AsksPlace r.desk.executed.state x m None) (sym (same_open n o there)) asks;
     root = root;
-    new_is = new_is ∙ ap (λ (d : DeskData). let new : ReplicaData = record r { desk = d } in new) desk_is;
+    new_is = new_is ∙ ap (λ (d : DeskData). let new : JoinedData = record r { desk = d } in new) desk_is;
     outs_are = given_is;
   },
 )
 
-module _ (r : ReplicaData) (one : AreOne r.orderer r.desk) (bytes : List ℕ) (n m : OpenData)
+module _ (r : JoinedData) (one : AreOne r.orderer r.desk) (bytes : List ℕ) (n m : OpenData)
     (comes : (c : Configuration) (past : List Entry) (runs : Runs c r past) → members c ≡ r.desk.membership → Comes c r past runs bytes n)
-    (a b : ReplicaData) (mid outs : List Output) (f : Rested r n m a mid) where
+    (a b : JoinedData) (mid outs : List Output) (f : Rested r n m a mid) where
   fetched : (c : Configuration) (past : List Entry) (runs : Runs c r past) → members c ≡ r.desk.membership
       → IsFetched c (event_of c r past runs bytes) (holding m r) (record runs.desk { transfer = Some m.transfer }) m []
   fetched c past runs known =
@@ -82,7 +82,7 @@ module _ (r : ReplicaData) (one : AreOne r.orderer r.desk) (bytes : List ℕ) (n
   }
     where
       here : InstallsFetched (holding m r) [] b outs true
-      here = subst (λ (x : ReplicaData). InstallsFetched x [] b outs true) f.new_is (subst (λ (os : List Output). InstallsFetched a os b outs true) f.outs_are installs)
+      here = subst (λ (x : JoinedData). InstallsFetched x [] b outs true) f.new_is (subst (λ (os : List Output). InstallsFetched a os b outs true) f.outs_are installs)
 
       party : IsOneParty r b
       party = one_of_same r b (parties_twice r (holding m r) b (same_holding r m) (moved_party (holding m r) b m [] outs refl here))
@@ -90,7 +90,7 @@ module _ (r : ReplicaData) (one : AreOne r.orderer r.desk) (bytes : List ℕ) (n
   -- it is none, and what is open stays so
   pub none_comes : InstallsFetched a mid b outs false → TakesBytes bytes r touched.Nothing b outs
   none_comes (same, none) =
-      subst (λ (x : ReplicaData). TakesBytes bytes r touched.Nothing x outs) (sym (same ∙ f.new_is))
+      subst (λ (x : JoinedData). TakesBytes bytes r touched.Nothing x outs) (sym (same ∙ f.new_is))
       (subst (λ (os : List Output). TakesBytes bytes r touched.Nothing (holding m r) os) (sym (none ∙ f.outs_are)) (record {
         party = one_of_same r (holding m r) (same_holding r m);
         begins = λ c past runs known.
@@ -146,12 +146,12 @@ desk_back d e o m back there same (inr (k, x, is_open, e_is, gives)) =
     ∙ ap (λ (t : Option OpenData). let new : DeskData = record d { transfer = t } in new) (sym there)
 
 -- So the replica is, and the page is dropped.
-pub page_back : (r : ReplicaData) (one : AreOne r.orderer r.desk) (sender : ReplicaId) (page : Page) (bytes : List ℕ) (o n m : OpenData) (back : Taken) (a b : ReplicaData) (d : DeskData) (mid outs : List Output)
+pub page_back : (r : JoinedData) (one : AreOne r.orderer r.desk) (sender : ReplicaId) (page : Page) (bytes : List ℕ) (o n m : OpenData) (back : Taken) (a b : JoinedData) (d : DeskData) (mid outs : List Output)
     → heard r.desk.membership r.desk.me bytes ≡ Some (record { sender = sender.0; message = PageMessage page.number.0 page.index page.text.items })
     → r.desk.transfer ≡ Some o → TakesPageOf o page n (Some back) → Rested r n m a mid → InstallsFetched a mid b outs false → GivesBack b.desk back d
     → TakesBytes bytes r touched.Nothing (record b { desk = d }) outs
 page_back r one sender page bytes o n m back a b d mid outs hears there takes f (same, none) gives =
-    subst (λ (x : ReplicaData). TakesBytes bytes r touched.Nothing x outs) (sym r_is)
+    subst (λ (x : JoinedData). TakesBytes bytes r touched.Nothing x outs) (sym r_is)
     (subst (λ (os : List Output). TakesBytes bytes r touched.Nothing r os) (sym (none ∙ f.outs_are))
     (drops_beside r one bytes (record { sender = sender.0; message = PageMessage page.number.0 page.index page.text.items }) hears (λ c. record { log = tt; call = refl; asks = λ st. refl; views = refl; changes = tt }) refl))
   where
@@ -160,14 +160,14 @@ page_back r one sender page bytes o n m back a b d mid outs hears there takes f 
 
     d_is : d ≡ r.desk
     d_is = desk_back r.desk d o m back there (λ x. open_back r.desk.executed.state o n m x page back takes f.asks)
-        (subst (λ (x : ReplicaData). GivesBack x.desk back d) b_is gives)
+        (subst (λ (x : JoinedData). GivesBack x.desk back d) b_is gives)
 
     r_is : record b { desk = d } ≡ r
-    r_is = ap (λ (x : ReplicaData). let new : ReplicaData = record x { desk = d } in new) b_is ∙ ap (λ (x : DeskData). let new : ReplicaData = record r { desk = x } in new) d_is
+    r_is = ap (λ (x : JoinedData). let new : JoinedData = record x { desk = d } in new) b_is ∙ ap (λ (x : DeskData). let new : JoinedData = record r { desk = x } in new) d_is
 
 -- ---- digests
 
-module _ (r : ReplicaData) (one : AreOne r.orderer r.desk) (sender : ReplicaId) (meta : Meta) (d : DeskData) (a b : ReplicaData) (mid outs : List Output) (takes : TakesDigests r.desk meta d true)
+module _ (r : JoinedData) (one : AreOne r.orderer r.desk) (sender : ReplicaId) (meta : Meta) (d : DeskData) (a b : JoinedData) (mid outs : List Output) (takes : TakesDigests r.desk meta d true)
     (asks : AsksOn (record r { desk = d }) [] a mid false) where
   digests_so : (bytes : List ℕ) → heard r.desk.membership r.desk.me bytes ≡ Some (record { sender = sender.0; message = MetaMessage meta.number.0 meta.level meta.index meta.digests.items })
       → (n : OpenData) × (m : OpenData) × Rested r n m a mid
@@ -189,7 +189,7 @@ module _ (r : ReplicaData) (one : AreOne r.orderer r.desk) (sender : ReplicaId) 
 
 -- ---- a page
 
-module _ (r : ReplicaData) (one : AreOne r.orderer r.desk) (sender : ReplicaId) (page : Page) (back : Taken) (d : DeskData) (a b : ReplicaData) (mid outs : List Output) (takes : TakesPage r.desk page d (Some back))
+module _ (r : JoinedData) (one : AreOne r.orderer r.desk) (sender : ReplicaId) (page : Page) (back : Taken) (d : DeskData) (a b : JoinedData) (mid outs : List Output) (takes : TakesPage r.desk page d (Some back))
     (asks : AsksOn (record r { desk = d }) [] a mid false) where
   page_so : (m : OpenData) × Rested r takes.1 m a mid
   page_so = rested_so r takes.1 a mid (subst (λ (x : DeskData). AsksOn (record r { desk = x }) [] a mid false) takes.3 asks)

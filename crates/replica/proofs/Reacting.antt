@@ -23,7 +23,7 @@ use Rattle.replica_histories.proofs.Questions.{others_owe_none}
 use Rattle.terms.specs.declared.order.Number.{Number}
 use Rattle.replica.specs.declared.taking.Touched.{Touched}
 use Rattle.replica.specs.declared.taking.Touched.TheVariants as touched
-use Rattle.replica.specs.State.{ReplicaData, AreOne}
+use Rattle.replica.specs.State.{JoinedData, AreOne}
 use Rattle.replica.specs.Desks.{given, Stands, FitsEvent, FitsWaiting, WasSaid, IsDeskOf, changes_of}
 use Rattle.replica.specs.Waiting.{count_unnumbered}
 use Rattle.replica.specs.Going.{IsSameParty, IsOneParty, Rests}
@@ -32,7 +32,8 @@ use Rattle.replica.specs.NumbersNext.{NumbersWaiting}
 use Rattle.replica.specs.FollowingUp.{FollowsUp, ExecutesAndNumbers}
 use Rattle.replica.specs.declared.replica.Event.{Event}
 use Rattle.replica.specs.declared.replica.Event.TheVariants as events
-use Rattle.replica.specs.Fits.{Runs, Fits, Leads, input_of, me_of}
+use Rattle.replica.specs.Inputs.{input_of}
+use Rattle.replica.specs.Joined.{Runs, Fits, Leads, me_of}
 use Rattle.replica.specs.Entering.{event_with, IsTakenBeside, TakesInput}
 use Rattle.replica.proofs.Flags.{flags_given}
 use Rattle.replica.proofs.Parties.{same_party, one_of_same, ones_twice}
@@ -52,7 +53,7 @@ next_free c me used executed log history fits next = rw (fits.span, sym fits.low
 
 -- ---- settled
 
-pub settled : (c : Configuration) (me : ℕ) (r : ReplicaData) (desk : Desk) (history : List Entry) → IsDeskOf c r.desk desk → FitsLog c me r.orderer.log history
+pub settled : (c : Configuration) (me : ℕ) (r : JoinedData) (desk : Desk) (history : List Entry) → IsDeskOf c r.desk desk → FitsLog c me r.orderer.log history
     → FitsWaiting c me r.orderer r.desk.waiting desk history → Rests r → IsAllNumbered r → IsSettled c me desk r.orderer.log history
 settled c me r desk history is fits count rest all = record {
   prepares = λ i. (rest.0 i).0;
@@ -71,7 +72,7 @@ settled c me r desk history is fits count rest all = record {
 
 -- ---- the end of an event
 
-module _ (old new : ReplicaData) (one : AreOne old.orderer old.desk) (party : IsOneParty old new) (goes : new.stopped ≡ false) where
+module _ (old new : JoinedData) (one : AreOne old.orderer old.desk) (party : IsOneParty old new) where
   pub ends : (c : Configuration) (past : List Entry) (input : Entry) (outs : List Output) (f : Fits c old past) (runs : Runs c old past) → is_output input ≡ false
       → Stands c (start_at c (me_of old) runs.desk old.orderer.log past runs.holds input) new.orderer new.desk [] outs → Rests new → IsAllNumbered new
       → AnswersInput c (me_of old) past input (given (me_of old) outs) runs.holds.of_desk.point
@@ -80,7 +81,7 @@ module _ (old new : ReplicaData) (one : AreOne old.orderer old.desk) (party : Is
   ends c past input outs f runs is st rest all answered why = subst (Fits c new) (behind_is (map (entry_of (me_of old)) outs) (input ∷ past)) (record {
     members_are = f.members_are ∙ sym (ap (λ (e : EndpointState). e.membership) party.endpoint);
     right = subst (λ (e : EndpointState). IsReplica c e.me now) (sym party.endpoint) (held_are_replicas c (me_of old) st.desk new.orderer.log now held);
-    running = λ e. record {
+    runs = record {
       desk = st.desk;
       is_desk = st.is;
       holds = subst (λ (x : EndpointState). histories.Holds c x.me st.desk new.orderer.log now) (sym party.endpoint) held;
@@ -113,75 +114,75 @@ module _ (old new : ReplicaData) (one : AreOne old.orderer old.desk) (party : Is
 
 -- ---- by what was touched
 
-module _ (input : Entry) (old : ReplicaData) (one : AreOne old.orderer old.desk) (goes : old.stopped ≡ false) (is_input : is_output input ≡ false) where
+module _ (input : Entry) (old : JoinedData) (one : AreOne old.orderer old.desk) (is_input : is_output input ≡ false) where
   known : (c : Configuration) (past : List Entry) → Fits c old past → members c ≡ old.desk.membership
   known c past f = f.members_are ∙ sym one.1
 
   -- what is taken is so to the replica as it is then
-  taken_then : (c : Configuration) (s : Start) (new : ReplicaData) → IsOneParty old new → IsTaken c (me_of new) s → IsTaken c (me_of old) s
+  taken_then : (c : Configuration) (s : Start) (new : JoinedData) → IsOneParty old new → IsTaken c (me_of new) s → IsTaken c (me_of old) s
   taken_then c s new party t = subst (λ (e : EndpointState). IsTaken c e.me s) party.endpoint t
 
-  why : (c : Configuration) (s : Start) (new : ReplicaData) (outs : List Output) → IsOneParty old new → (outs ≡ []) ⊎ IsTaken c (me_of new) s → (outs ≡ []) ⊎ IsTaken c (me_of old) s
+  why : (c : Configuration) (s : Start) (new : JoinedData) (outs : List Output) → IsOneParty old new → (outs ≡ []) ⊎ IsTaken c (me_of new) s → (outs ≡ []) ⊎ IsTaken c (me_of old) s
   why c s new outs party (inl e) = inl e
   why c s new outs party (inr t) = inr (taken_then c s new party t)
 
   -- what is no fetch is owed no answer
-  owes_none : (c : Configuration) (s : Start) (mid : ReplicaData) (outs : List Output) → IsOneParty old mid → IsTakenBeside c (me_of mid) s
+  owes_none : (c : Configuration) (s : Start) (mid : JoinedData) (outs : List Output) → IsOneParty old mid → IsTakenBeside c (me_of mid) s
       → AnswersInput c (me_of old) s.before s.input (given (me_of old) outs) s.old
   owes_none c s mid outs party t =
       others_owe_none c (me_of old) s.before s.input (given (me_of old) outs) s.old (subst (λ (e : EndpointState). brings_question c e.me s.input ≡ false) party.endpoint t.1)
 
   -- an event that ends with numbers for what waits
-  ends_numbered : (c : Configuration) (past : List Entry) (mid before new : ReplicaData) (x outs : List Output) (f : Fits c old past) (runs : Runs c old past)
+  ends_numbered : (c : Configuration) (past : List Entry) (mid before new : JoinedData) (x outs : List Output) (f : Fits c old past) (runs : Runs c old past)
       → IsOneParty old mid → IsSameParty mid before → NumbersWaiting before x new outs → Rests before
       → Stands c (event_with c old past runs input) before.orderer before.desk [] x → IsTakenBeside c (me_of mid) (event_with c old past runs input)
       → Fits c new (after_event (me_of old) input outs past)
   ends_numbered c past mid before new x outs f runs first then n rest st t =
       let party = ones_twice old mid before first (one_of_same mid before then) in
       let p = n.proceeds rest c (event_with c old past runs input) (known c past f ∙ sym party.membership) st in
-      ends old new one (ones_twice old before new party (one_of_same before new n.party)) (n.party.stopped ∙ party.stopped ∙ goes) c past input outs f runs is_input p (n.rests rest) n.all
+      ends old new one (ones_twice old before new party (one_of_same before new n.party)) c past input outs f runs is_input p (n.rests rest) n.all
       (owes_none c (event_with c old past runs input) mid outs first t) (inr (taken_then c (event_with c old past runs input) mid first t.0))
 
   -- What an event does, and then what is done behind it, by what it touched.
-  leads_nothing : (new : ReplicaData) (outs : List Output) → TakesInput input old touched.Nothing new outs → Leads old input outs new
+  leads_nothing : (new : JoinedData) (outs : List Output) → TakesInput input old touched.Nothing new outs → Leads old input outs new
   leads_nothing new outs t c past f =
-      let runs = f.running goes in
+      let runs = f.runs in
       let b = t.begins c past runs (known c past f) in
-      ends old new one t.party (t.party.stopped ∙ goes) c past input outs f runs is_input b.0 b.1.0 b.1.1
+      ends old new one t.party c past input outs f runs is_input b.0 b.1.0 b.1.1
       (subst (λ (e : EndpointState). AnswersInput c e.me past input (given e.me outs) runs.holds.of_desk.point) t.party.endpoint b.1.2)
       (why c (event_with c old past runs input) new outs t.party b.1.3)
 
-  leads_waiting : (mid new : ReplicaData) (x outs : List Output) → TakesInput input old touched.Waiting mid x → NumbersWaiting mid x new outs → Leads old input outs new
+  leads_waiting : (mid new : JoinedData) (x outs : List Output) → TakesInput input old touched.Waiting mid x → NumbersWaiting mid x new outs → Leads old input outs new
   leads_waiting mid new x outs t n c past f =
-      let runs = f.running goes in
+      let runs = f.runs in
       let b = t.begins c past runs (known c past f) in
       ends_numbered c past mid mid new x outs f runs t.party (same_party mid) n b.1.0 b.0 b.1.1
 
-  leads_row : (number : Number) (mid new : ReplicaData) (x outs : List Output) → TakesInput input old (touched.Row number) mid x → FollowsUp (touched.Row number) mid x new outs → Leads old input outs new
+  leads_row : (number : Number) (mid new : JoinedData) (x outs : List Output) → TakesInput input old (touched.Row number) mid x → FollowsUp (touched.Row number) mid x new outs → Leads old input outs new
   leads_row number mid new x outs t (voted, y, g, n) c past f =
-      let runs = f.running goes in
+      let runs = f.runs in
       let b = t.begins c past runs (known c past f) in
       let st = g.proceeds b.1.0 c (event_with c old past runs input) (known c past f ∙ sym t.party.membership) b.0 in
       ends_numbered c past mid voted new y outs f runs t.party g.party n (g.rests b.1.0) st b.1.1
 
-  leads_state : (mid new : ReplicaData) (x outs : List Output) → TakesInput input old touched.State mid x → ExecutesAndNumbers mid x new outs → Leads old input outs new
+  leads_state : (mid new : JoinedData) (x outs : List Output) → TakesInput input old touched.State mid x → ExecutesAndNumbers mid x new outs → Leads old input outs new
   leads_state mid new x outs t (run, y, g, n) c past f =
-      let runs = f.running goes in
+      let runs = f.runs in
       let b = t.begins c past runs (known c past f) in
       let st = g.proceeds b.1.0 c (event_with c old past runs input) (known c past f ∙ sym t.party.membership) b.0 in
       ends_numbered c past mid run new y outs f runs t.party g.party n (g.rests b.1.0) st b.1.1
 
-  leads_view : (mid new : ReplicaData) (x outs : List Output) → TakesInput input old touched.View mid x → ExecutesAndNumbers mid x new outs → Leads old input outs new
+  leads_view : (mid new : JoinedData) (x outs : List Output) → TakesInput input old touched.View mid x → ExecutesAndNumbers mid x new outs → Leads old input outs new
   leads_view mid new x outs t (run, y, g, n) c past f =
-      let runs = f.running goes in
+      let runs = f.runs in
       let b = t.begins c past runs (known c past f) in
       let st = g.proceeds b.1.0 c (event_with c old past runs input) (known c past f ∙ sym t.party.membership) b.0 in
       ends_numbered c past mid run new y outs f runs t.party g.party n (g.rests b.1.0) st b.1.1
 
   -- whatever it touched
-  pub leads_on : (what : Touched) (mid new : ReplicaData) (x outs : List Output) → TakesInput input old what mid x → FollowsUp what mid x new outs → Leads old input outs new
+  pub leads_on : (what : Touched) (mid new : JoinedData) (x outs : List Output) → TakesInput input old what mid x → FollowsUp what mid x new outs → Leads old input outs new
   leads_on touched.Nothing mid new x outs t (same, still) =
-      subst (λ (a : ReplicaData). Leads old input outs a) (sym same) (subst (λ (os : List Output). Leads old input os mid) (sym still) (leads_nothing mid x t))
+      subst (λ (a : JoinedData). Leads old input outs a) (sym same) (subst (λ (os : List Output). Leads old input os mid) (sym still) (leads_nothing mid x t))
   leads_on touched.Waiting mid new x outs t n = leads_waiting mid new x outs t n
   leads_on (touched.Row number) mid new x outs t u = leads_row number mid new x outs t u
   leads_on touched.State mid new x outs t u = leads_state mid new x outs t u

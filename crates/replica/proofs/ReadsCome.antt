@@ -24,12 +24,12 @@ use Rattle.replica_histories.specs.Events.{IsTaken}
 use Rattle.replica_histories.proofs.Answering.{reads_fit, reads_suffice, other_operations_owe_none}
 use Rattle.replica_histories.proofs.ChangesKept.{sent_keep}
 use Rattle.replica.specs.declared.taking.Touched.TheVariants as touched
-use Rattle.replica.specs.State.{ReplicaData, DeskData, AreOne}
+use Rattle.replica.specs.State.{JoinedData, DeskData, AreOne}
 use Rattle.replica.specs.Desks.{given, FitsEvent}
 use Rattle.replica.specs.Desking.{SaysTo, message_of}
 use Rattle.replica.specs.Entering.{event_of, TakesBytes}
 use Rattle.replica.specs.Reading.{AnswersRead, HearsNoRead, AnswersBytes}
-use Rattle.replica.specs.Fits.{Runs, me_of}
+use Rattle.replica.specs.Joined.{Runs, me_of}
 use Rattle.replica.proofs.Beginning.{rests, silence_dropped}
 use Rattle.replica.proofs.Beside.{begins, heard_so}
 use Rattle.replica.proofs.Given.{given_one}
@@ -38,7 +38,7 @@ use Rattle.replica.proofs.Staying.{fits_on, sent_beside}
 
 -- ---- a request is heard that is to be answered beside the order
 
-module _ (r : ReplicaData) (one : AreOne r.orderer r.desk) (client t : ℕ) (op : Operation) (bytes : List ℕ) (hears : heard r.desk.membership r.desk.me bytes ≡ Some (read_from client t op)) where
+module _ (r : JoinedData) (one : AreOne r.orderer r.desk) (client t : ℕ) (op : Operation) (bytes : List ℕ) (hears : heard r.desk.membership r.desk.me bytes ≡ Some (read_from client t op)) where
   module _ (c : Configuration) (past : List Entry) (runs : Runs c r past) (known : members c ≡ r.desk.membership) where
     abbrev me : ℕ
     me = me_of r
@@ -97,7 +97,7 @@ module _ (r : ReplicaData) (one : AreOne r.orderer r.desk) (client t : ℕ) (op 
 
 -- ---- a client's read
 
-module _ (r : ReplicaData) (one : AreOne r.orderer r.desk) (bytes : List ℕ) (outs : List Output) (a : AnswersRead r.desk bytes [] outs) where
+module _ (r : JoinedData) (one : AreOne r.orderer r.desk) (bytes : List ℕ) (outs : List Output) (a : AnswersRead r.desk bytes [] outs) where
   abbrev client : ℕ
   client = 256 + a.client.number
 
@@ -117,7 +117,7 @@ module _ (r : ReplicaData) (one : AreOne r.orderer r.desk) (bytes : List ℕ) (o
 
 -- ---- whatever asks
 
-pub answers_bytes : (r : ReplicaData) (bytes : List ℕ) (outs : List Output) → AreOne r.orderer r.desk → AnswersBytes r.desk bytes [] outs → TakesBytes bytes r touched.Nothing r outs
+pub answers_bytes : (r : JoinedData) (bytes : List ℕ) (outs : List Output) → AreOne r.orderer r.desk → AnswersBytes r.desk bytes [] outs → TakesBytes bytes r touched.Nothing r outs
 answers_bytes r bytes outs one (inl a) = takes_read r one bytes outs a
 answers_bytes r bytes outs one (inr (none, same)) = subst (λ (os : List Output). TakesBytes bytes r touched.Nothing r os) (sym same) (dropped none)
   where

@@ -36,14 +36,14 @@ use Rattle.replica_histories.proofs.ChangesKept.{heard_keep, others_bring_none}
 use Rattle.replica_histories.proofs.Questions.{others_owe_none}
 use Rattle.replica.specs.declared.waiting.WaitingRequest.{WaitingRequest}
 use Rattle.replica.specs.declared.taking.Touched.TheVariants as touched
-use Rattle.replica.specs.State.{OrdererData, DeskData, ReplicaData, AreOne}
+use Rattle.replica.specs.State.{OrdererData, DeskData, JoinedData, AreOne}
 use Rattle.replica.specs.Waiting.{WaitingData, frames_of, is_begun, is_of, request_of, with_request, without}
 use Rattle.replica.specs.Desks.{IsDeskOf, FitsWaiting, FitsEvent, Stands, given, changes_of}
 use Rattle.replica.specs.Desking.{HasReply, PaysAgain, Waits}
 use Rattle.replica.specs.Arriving.{IsBehind, IsPast, IsWaitingAlready, IsNewer}
 use Rattle.replica.specs.Going.{GoesOn}
 use Rattle.replica.specs.Saying.{AllAgain}
-use Rattle.replica.specs.Fits.{Runs, me_of}
+use Rattle.replica.specs.Joined.{Runs, me_of}
 use Rattle.replica.specs.Entering.{event_of, Leaves, TakesBytes, TakesRequest}
 use Rattle.replica.proofs.Beginning.{rests, none_taken, changes_kept}
 use Rattle.replica.proofs.GoingOn.{said_stands}
@@ -119,7 +119,7 @@ seen_of_kept st k t kept has same = go (kept_of st k) has
     go None e = absurd cc
     go (Some x) e = let one : x.timestamp ≡ kept.timestamp = cc in omega (arith, one, same)
 
-module _ (old : ReplicaData) (client : ClientId) (timestamp : Timestamp) (bytes : List ℕ) (one : AreOne old.orderer old.desk) (op : Operation)
+module _ (old : JoinedData) (client : ClientId) (timestamp : Timestamp) (bytes : List ℕ) (one : AreOne old.orderer old.desk) (op : Operation)
     (hears : heard old.desk.membership old.desk.me bytes ≡ Some (body_of client.number timestamp.0 op)) where
   abbrev k : ℕ
   k = client.number
@@ -326,7 +326,7 @@ module _ (old : ReplicaData) (client : ClientId) (timestamp : Timestamp) (bytes 
 
     takes_new_so : TakesBytes bytes old touched.Waiting (record old { desk = waiting_desk }) outs
     takes_new_so = record {
-      party = record { endpoint = refl; me = refl; membership = refl; stopped = refl };
+      party = record { endpoint = refl; me = refl; membership = refl };
       begins = λ c past runs known. (
         subst (λ (xs : List Output). Stands c (start c past runs known) old.orderer waiting_desk [] xs) (sym silent)
             (due_none waiting_desk c (start c past runs known) old.orderer [] none (stands_new c past runs known)),
@@ -349,28 +349,28 @@ module _ (old : ReplicaData) (client : ClientId) (timestamp : Timestamp) (bytes 
 -- ---- what a request does
 
 -- what was said again by the same orderer
-pub all_again : (before new : ReplicaData) (x y : List Output) → AllAgain before x new y → x ≡ [] → GoesOn before.orderer [] before.orderer y
+pub all_again : (before new : JoinedData) (x y : List Output) → AllAgain before x new y → x ≡ [] → GoesOn before.orderer [] before.orderer y
 all_again before new x y says first = subst (λ (xs : List Output). GoesOn before.orderer xs before.orderer y) first says.1
 
-abbrev Silent : ReplicaData → ClientId → Timestamp → Type 0
+abbrev Silent : JoinedData → ClientId → Timestamp → Type 0
 Silent old client timestamp = again_for client.number timestamp.0 (kept_of old.desk.executed.state client.number) ≡ []
 
-pub request_kept : (old : ReplicaData) (client : ClientId) (timestamp : Timestamp) (bytes : List ℕ) (new : ReplicaData) (outs : List Output) → AreOne old.orderer old.desk → new ≡ old
+pub request_kept : (old : JoinedData) (client : ClientId) (timestamp : Timestamp) (bytes : List ℕ) (new : JoinedData) (outs : List Output) → AreOne old.orderer old.desk → new ≡ old
     → PaysAgain old.desk client timestamp [] outs → HasReply old.desk client timestamp true → TakesRequest client timestamp bytes old touched.Nothing new outs
 request_kept old client timestamp bytes new outs one same pays has op hears =
-    subst (λ (r : ReplicaData). TakesBytes bytes old touched.Nothing r outs) (sym same) (takes_kept old client timestamp bytes one op hears outs pays has)
+    subst (λ (r : JoinedData). TakesBytes bytes old touched.Nothing r outs) (sym same) (takes_kept old client timestamp bytes one op hears outs pays has)
 
-pub request_past : (old : ReplicaData) (client : ClientId) (timestamp : Timestamp) (bytes : List ℕ) (new : ReplicaData) (outs : List Output) → AreOne old.orderer old.desk → new ≡ old
+pub request_past : (old : JoinedData) (client : ClientId) (timestamp : Timestamp) (bytes : List ℕ) (new : JoinedData) (outs : List Output) → AreOne old.orderer old.desk → new ≡ old
     → Silent old client timestamp → outs ≡ [] → IsPast old.desk client.number timestamp.0 bytes → TakesRequest client timestamp bytes old touched.Nothing new outs
 request_past old client timestamp bytes new outs one same none silent is op hears =
-    subst (λ (r : ReplicaData). TakesBytes bytes old touched.Nothing r outs) (sym same) (takes_past old client timestamp bytes one op hears outs none silent is)
+    subst (λ (r : JoinedData). TakesBytes bytes old touched.Nothing r outs) (sym same) (takes_past old client timestamp bytes one op hears outs none silent is)
 
-pub request_again : (old : ReplicaData) (client : ClientId) (timestamp : Timestamp) (bytes : List ℕ) (new : ReplicaData) (outs : List Output) → AreOne old.orderer old.desk → new ≡ old
+pub request_again : (old : JoinedData) (client : ClientId) (timestamp : Timestamp) (bytes : List ℕ) (new : JoinedData) (outs : List Output) → AreOne old.orderer old.desk → new ≡ old
     → Silent old client timestamp → IsWaitingAlready old.desk client.number timestamp.0 bytes → GoesOn old.orderer [] old.orderer outs → TakesRequest client timestamp bytes old touched.Nothing new outs
 request_again old client timestamp bytes new outs one same none is says op hears =
-    subst (λ (r : ReplicaData). TakesBytes bytes old touched.Nothing r outs) (sym same) (takes_again old client timestamp bytes one op hears outs none is says)
+    subst (λ (r : JoinedData). TakesBytes bytes old touched.Nothing r outs) (sym same) (takes_again old client timestamp bytes one op hears outs none is says)
 
-pub request_new : (old : ReplicaData) (client : ClientId) (timestamp : Timestamp) (bytes : List ℕ) (desk : DeskData) (outs : List Output) → AreOne old.orderer old.desk
+pub request_new : (old : JoinedData) (client : ClientId) (timestamp : Timestamp) (bytes : List ℕ) (desk : DeskData) (outs : List Output) → AreOne old.orderer old.desk
     → Silent old client timestamp → outs ≡ [] → IsNewer old.desk client.number timestamp.0 → Waits client timestamp bytes old.desk desk
     → TakesRequest client timestamp bytes old touched.Waiting (record old { desk = desk }) outs
 request_new old client timestamp bytes desk outs one none silent newer waits op hears = takes_new old client timestamp bytes one op hears outs desk none silent newer waits

@@ -14,13 +14,13 @@ use Rattle.replica_histories.proofs.Entering.{ticks_fit}
 use Rattle.replica_histories.proofs.Questions.{others_owe_none}
 use Rattle.replica.specs.declared.taking.Touched.{Touched}
 use Rattle.replica.specs.declared.taking.Touched.TheVariants as touched
-use Rattle.replica.specs.State.{OrdererData, ReplicaData, OpenData, AreOne}
+use Rattle.replica.specs.State.{OrdererData, JoinedData, OpenData, AreOne}
 use Rattle.replica.specs.Beginning.{MayBegin}
 use Rattle.replica.specs.Changing.{ChangesView, LeavesView}
 use Rattle.replica.specs.Desks.{given, FitsEvent, Stands, changes_of}
 use Rattle.replica.specs.Entering.{event_with, Leaves, TakesTick}
 use Rattle.replica.specs.Fetching.{SaysFetch}
-use Rattle.replica.specs.Fits.{Runs, me_of}
+use Rattle.replica.specs.Joined.{Runs, me_of}
 use Rattle.replica.specs.Going.{Rests}
 use Rattle.replica.specs.Numbering.{IsAllNumbered}
 use Rattle.replica.proofs.Asking.{asks_again}
@@ -28,7 +28,7 @@ use Rattle.replica.proofs.Beginning.{rests}
 use Rattle.replica.proofs.Parties.{one_self, ones_twice}
 use Rattle.replica.proofs.Staying.{numbers_beside, said_on}
 
-module _ (r : ReplicaData) (one : AreOne r.orderer r.desk) where
+module _ (r : JoinedData) (one : AreOne r.orderer r.desk) where
   abbrev me : ℕ
   me = me_of r
 
@@ -82,7 +82,7 @@ module _ (r : ReplicaData) (one : AreOne r.orderer r.desk) where
     }
 
     -- where nothing more is to be done
-    leaves : (new : ReplicaData) (outs : List Output) → Rests new → IsAllNumbered new
+    leaves : (new : JoinedData) (outs : List Output) → Rests new → IsAllNumbered new
         → Leaves c start touched.Nothing new outs
     leaves new outs rest all = (
       rest,
@@ -93,22 +93,22 @@ module _ (r : ReplicaData) (one : AreOne r.orderer r.desk) where
 
   -- ---- what time going by does
 
-  pub ticks_nothing : (new : ReplicaData) (outs : List Output) → new ≡ r → SaysFetch r [] outs
+  pub ticks_nothing : (new : JoinedData) (outs : List Output) → new ≡ r → SaysFetch r [] outs
       → TakesTick r touched.Nothing new outs
   ticks_nothing new outs same says =
-      subst (λ (d : ReplicaData). TakesTick r touched.Nothing d outs) (sym same) (record {
+      subst (λ (d : JoinedData). TakesTick r touched.Nothing d outs) (sym same) (record {
         party = one_self r;
         begins = λ c past runs known.
             (stands c past runs outs known says, leaves c past runs r outs (rests c r past runs) runs.all);
       })
 
   -- the view stays, since no view change could be signed
-  pub ticks_in_place : (mid new : ReplicaData) (x outs : List Output) → mid ≡ r → SaysFetch r [] x
+  pub ticks_in_place : (mid new : JoinedData) (x outs : List Output) → mid ≡ r → SaysFetch r [] x
       → ChangesView mid x new outs false → TakesTick r touched.Nothing new outs
   ticks_in_place mid new x outs same says stays =
       ticks_nothing new outs (stays.0 ∙ same) (subst (SaysFetch r []) (sym stays.1) says)
 
-  module _ (mid : ReplicaData) (x y : List Output) (says : SaysFetch r [] x) (left : LeavesView r x mid y) where
+  module _ (mid : JoinedData) (x y : List Output) (says : SaysFetch r [] x) (left : LeavesView r x mid y) where
     -- nothing is left to say or to execute, and a replica that isn't active numbers nothing
     at_rest : (c : Configuration) (past : List Entry) → Runs c r past → Rests mid
     at_rest c past runs = let rest = rests c r past runs in (left.voted, left.executed rest.1)
@@ -130,10 +130,10 @@ module _ (r : ReplicaData) (one : AreOne r.orderer r.desk) where
     }
 
     -- or the next one begins
-    begins_then : (what : Touched) (new : ReplicaData) (outs : List Output) → MayBegin mid y what new outs
+    begins_then : (what : Touched) (new : JoinedData) (outs : List Output) → MayBegin mid y what new outs
         → TakesTick r what new outs
     begins_then touched.Nothing new outs (same, still) =
-        subst (λ (d : ReplicaData). TakesTick r touched.Nothing d outs) (sym same)
+        subst (λ (d : JoinedData). TakesTick r touched.Nothing d outs) (sym same)
         (subst (λ (os : List Output). TakesTick r touched.Nothing mid os) (sym still) ticks_left)
     begins_then touched.Waiting new outs h = absurd h
     begins_then (touched.Row number) new outs h = absurd h
@@ -147,9 +147,9 @@ module _ (r : ReplicaData) (one : AreOne r.orderer r.desk) where
       );
     }
 
-  pub ticks_on : {E : Type 0} (result : Result Touched E) (fetched mid new : ReplicaData) (x y outs : List Output)
+  pub ticks_on : {E : Type 0} (result : Result Touched E) (fetched mid new : JoinedData) (x y outs : List Output)
       → fetched ≡ r → SaysFetch r [] x → ChangesView fetched x mid y true
       → IfOk result (λ what. MayBegin mid y what new outs) → IfOk result (λ what. TakesTick r what new outs)
   ticks_on (Err e) fetched mid new x y outs same says left h = h
   ticks_on (Ok what) fetched mid new x y outs same says left h =
-      begins_then mid x y says (subst (λ (d : ReplicaData). LeavesView d x mid y) same left) what new outs h
+      begins_then mid x y says (subst (λ (d : JoinedData). LeavesView d x mid y) same left) what new outs h

@@ -34,7 +34,7 @@ use Rattle.replica_histories.proofs.NumbersBegun.{logs_are_of_no_later_view}
 use Rattle.replica_histories.proofs.Words.{gated, given_not}
 use Rattle.replica.specs.declared.waiting.BegunCall.{BegunCall}
 use Rattle.replica.specs.declared.waiting.WaitingRequest.{WaitingRequest}
-use Rattle.replica.specs.State.{OrdererData, OpenData, DeskData, ReplicaData, AreOne}
+use Rattle.replica.specs.State.{OrdererData, OpenData, DeskData, JoinedData, AreOne}
 use Rattle.replica.specs.Waiting.{WaitingData, with_view}
 use Rattle.replica.specs.Flags.{FitsFlags}
 use Rattle.replica.specs.Desks.{AreCallsOf, AreOfDifferentClients, FitsEvent, FitsWaiting, IsDeskOf, Stands, WasSaid, changes_of, given}
@@ -66,26 +66,26 @@ begun_orderer new own claims o = record o {
 }
 
 -- and the desk, whose calls alone have numbers
-abbrev pub begun_parts : NewViewData → Option (List ℕ) → ClaimsData → List BegunCall → ReplicaData → ReplicaData
+abbrev pub begun_parts : NewViewData → Option (List ℕ) → ClaimsData → List BegunCall → JoinedData → JoinedData
 begun_parts new own claims calls r = record r {
   orderer = begun_orderer new own claims r.orderer;
   desk = desk_above (logs.cut_to (logs.entered r.orderer.log new.view) new.start).low (record r.desk { waiting = with_view calls r.desk.waiting });
 }
 
 -- what was entered: the parts, and then what is fetched and voted
-pub record Entered (new : NewViewData) (own : Option (List ℕ)) (r : ReplicaData) (before : List Output) (n : ReplicaData) (after : List Output) : Type 0 where
+pub record Entered (new : NewViewData) (own : Option (List ℕ)) (r : JoinedData) (before : List Output) (n : JoinedData) (after : List Output) : Type 0 where
   pub calls : List BegunCall
   pub are : AreBegun r.desk.executed.clients new.batches calls
   pub claims : ClaimsData
   pub begins : BeginsClaims r.orderer.log new r.orderer.claims claims
-  pub fetched : ReplicaData
+  pub fetched : JoinedData
   pub said : List Output
   pub fetches : FetchesStart (start_in new) (begun_parts new own claims calls r) before fetched said
   pub orderer : OrdererData
   pub votes : SaysVotesOf new.start (new.start + length new.batches) fetched.orderer said orderer after
   pub new_is : n ≡ record fetched { orderer = orderer }
 
-pub entered : (new : NewViewData) (own : Option (List ℕ)) (r : ReplicaData) (before : List Output) (n : ReplicaData) (after : List Output) → Enters new.view (start_in new) new.batches own r before n after → Entered new own r before n after
+pub entered : (new : NewViewData) (own : Option (List ℕ)) (r : JoinedData) (before : List Output) (n : JoinedData) (after : List Output) → Enters new.view (start_in new) new.batches own r before n after → Entered new own r before n after
 entered new own r before n after x = record {
   calls = x.noted.calls;
   are = x.noted.are;
@@ -93,7 +93,7 @@ entered new own r before n after x = record {
   begins = record { mid = x.cuts.1.0; cuts = x.cuts.1.1; adds = adds };
   fetched = x.fetched;
   said = x.said;
-  fetches = subst (λ (y : ReplicaData). FetchesStart (start_in new) y before x.fetched x.said) whole x.fetches;
+  fetches = subst (λ (y : JoinedData). FetchesStart (start_in new) y before x.fetched x.said) whole x.fetches;
   orderer = x.orderer;
   votes = x.votes;
   new_is = x.new_is;
@@ -106,7 +106,7 @@ entered new own r before n after x = record {
     cut_orderer = record (entering new.view (new.start + length new.batches) own r.orderer) { log = logs.cut_to in_view new.start; claims = x.cuts.1.0 }
 
     cut_is : x.cut.orderer ≡ cut_orderer
-    cut_is = ap (λ (y : ReplicaData). y.orderer) x.cuts.2 ∙ x.cuts.1.2
+    cut_is = ap (λ (y : JoinedData). y.orderer) x.cuts.2 ∙ x.cuts.1.2
 
     adds : AddsBatches (logs.cut_to in_view new.start) new.view (suc new.start) new.batches x.cuts.1.0 x.logs.0
     adds =
@@ -118,45 +118,41 @@ entered new own r before n after x = record {
 
     whole : record x.cut { orderer = x.logged } ≡ begun_parts new own x.logs.0 x.noted.calls r
     whole =
-        ap (λ (o : OrdererData). let k : ReplicaData = record x.cut { orderer = o } in k) logged_is
-        ∙ ap (λ (y : ReplicaData). let k : ReplicaData = record y { orderer = begun_orderer new own x.logs.0 r.orderer } in k) x.cuts.2
-        ∙ ap (λ (d : DeskData). let k : ReplicaData = record r { orderer = begun_orderer new own x.logs.0 r.orderer; desk = desk_above (logs.cut_to in_view new.start).low d } in k) x.noted.new_is
+        ap (λ (o : OrdererData). let k : JoinedData = record x.cut { orderer = o } in k) logged_is
+        ∙ ap (λ (y : JoinedData). let k : JoinedData = record y { orderer = begun_orderer new own x.logs.0 r.orderer } in k) x.cuts.2
+        ∙ ap (λ (d : DeskData). let k : JoinedData = record r { orderer = begun_orderer new own x.logs.0 r.orderer; desk = desk_above (logs.cut_to in_view new.start).low d } in k) x.noted.new_is
 
 -- ---- the party, and what is fetched
 
 -- the orderer stays, and so does the party
-pub record FetchedSo (r n : ReplicaData) : Type 0 where
+pub record FetchedSo (r n : JoinedData) : Type 0 where
   pub orderer : n.orderer ≡ r.orderer
   pub me : n.desk.me ≡ r.desk.me
   pub membership : n.desk.membership ≡ r.desk.membership
-  pub stopped : n.stopped ≡ r.stopped
 
-fetched_so : (entry : CheckpointEntry) (r n : ReplicaData) (before after : List Output) → FetchesStart entry r before n after → FetchedSo r n
+fetched_so : (entry : CheckpointEntry) (r n : JoinedData) (before after : List Output) → FetchesStart entry r before n after → FetchedSo r n
 fetched_so entry r n before after (inl (d, aims, same, says)) = record {
-  orderer = ap (λ (y : ReplicaData). y.orderer) same;
-  me = ap (λ (y : ReplicaData). y.desk.me) same ∙ ap (λ (k : DeskData). k.me) aims.1;
-  membership = ap (λ (y : ReplicaData). y.desk.membership) same ∙ ap (λ (k : DeskData). k.membership) aims.1;
-  stopped = ap (λ (y : ReplicaData). y.stopped) same;
+  orderer = ap (λ (y : JoinedData). y.orderer) same;
+  me = ap (λ (y : JoinedData). y.desk.me) same ∙ ap (λ (k : DeskData). k.me) aims.1;
+  membership = ap (λ (y : JoinedData). y.desk.membership) same ∙ ap (λ (k : DeskData). k.membership) aims.1;
 }
 fetched_so entry r n before after (inr (behind_it, same, none)) = record {
-  orderer = ap (λ (y : ReplicaData). y.orderer) same;
-  me = ap (λ (y : ReplicaData). y.desk.me) same;
-  membership = ap (λ (y : ReplicaData). y.desk.membership) same;
-  stopped = ap (λ (y : ReplicaData). y.stopped) same;
+  orderer = ap (λ (y : JoinedData). y.orderer) same;
+  me = ap (λ (y : JoinedData). y.desk.me) same;
+  membership = ap (λ (y : JoinedData). y.desk.membership) same;
 }
 
-pub entered_party : (new : NewViewData) (own : Option (List ℕ)) (r : ReplicaData) (before : List Output) (n : ReplicaData) (after : List Output) → Entered new own r before n after → IsOneParty r n
+pub entered_party : (new : NewViewData) (own : Option (List ℕ)) (r : JoinedData) (before : List Output) (n : JoinedData) (after : List Output) → Entered new own r before n after → IsOneParty r n
 entered_party new own r before n after x = record {
-  endpoint = ap (λ (y : ReplicaData). y.orderer.endpoint) x.new_is ∙ x.votes.same.endpoint ∙ ap (λ (o : OrdererData). o.endpoint) so.orderer;
-  me = ap (λ (y : ReplicaData). y.desk.me) x.new_is ∙ so.me;
-  membership = ap (λ (y : ReplicaData). y.desk.membership) x.new_is ∙ so.membership;
-  stopped = ap (λ (y : ReplicaData). y.stopped) x.new_is ∙ so.stopped;
+  endpoint = ap (λ (y : JoinedData). y.orderer.endpoint) x.new_is ∙ x.votes.same.endpoint ∙ ap (λ (o : OrdererData). o.endpoint) so.orderer;
+  me = ap (λ (y : JoinedData). y.desk.me) x.new_is ∙ so.me;
+  membership = ap (λ (y : JoinedData). y.desk.membership) x.new_is ∙ so.membership;
 }
   where
     so : FetchedSo (begun_parts new own x.claims x.calls r) x.fetched
     so = fetched_so (start_in new) (begun_parts new own x.claims x.calls r) x.fetched before x.said x.fetches
 
-module _ (c : Configuration) (s : Start) (r n : ReplicaData) (later : Desk) (new : NewViewData) (before after : List Output) (known : members c ≡ r.orderer.endpoint.membership) (mine : r.desk.me ≡ r.orderer.endpoint.me)
+module _ (c : Configuration) (s : Start) (r n : JoinedData) (later : Desk) (new : NewViewData) (before after : List Output) (known : members c ≡ r.orderer.endpoint.membership) (mine : r.desk.me ≡ r.orderer.endpoint.me)
     (is : IsDeskOf c r.desk later) (once : Once (λ past e. taken c past e ≡ Some new) (behind s (given r.orderer.endpoint.me before)))
     (f : FitsEvent c r.orderer.endpoint.me s r.orderer later r.desk.waiting (start_due later new) before) where
   due_ahead : aimed_at r.desk < new.start → start_due later new ≡ Fetch new.start levels.Root 0 ∷ []
@@ -169,7 +165,7 @@ module _ (c : Configuration) (s : Start) (r n : ReplicaData) (later : Desk) (new
       ap (λ (b : Bool). cond b (Fetch new.start levels.Root 0 ∷ []) [])
       (le-ltb (open_number later.state.number later.transfer) new.start (subst (λ (k : ℕ). new.start ≤ k) (sym (aimed_is c r.desk later is)) behind_it))
 
-  abbrev aimed : ReplicaData
+  abbrev aimed : JoinedData
   aimed = record r { desk = aiming (start_in new) r.desk }
 
   aimed_stands : aimed_at r.desk < new.start → SaysFetch aimed before after → Stands c s r.orderer (aiming (start_in new) r.desk) [] after
@@ -185,12 +181,12 @@ module _ (c : Configuration) (s : Start) (r n : ReplicaData) (later : Desk) (new
 
   pub fetched_stands : FetchesStart (start_in new) r before n after → Stands c s n.orderer n.desk [] after
   fetched_stands (inl (d, aims, same, says)) =
-      subst (λ (y : ReplicaData). Stands c s y.orderer y.desk [] after) (sym at) (aimed_stands aims.0 (subst (λ (y : ReplicaData). SaysFetch y before after) at says))
+      subst (λ (y : JoinedData). Stands c s y.orderer y.desk [] after) (sym at) (aimed_stands aims.0 (subst (λ (y : JoinedData). SaysFetch y before after) at says))
     where
       at : n ≡ aimed
-      at = same ∙ ap (λ (k : DeskData). let y : ReplicaData = record r { desk = k } in y) aims.1
+      at = same ∙ ap (λ (k : DeskData). let y : JoinedData = record r { desk = k } in y) aims.1
   fetched_stands (inr (behind_it, same, none)) =
-      subst (λ (y : ReplicaData). Stands c s y.orderer y.desk [] after) (sym same)
+      subst (λ (y : JoinedData). Stands c s y.orderer y.desk [] after) (sym same)
       (subst (λ (outs : List Output). Stands c s r.orderer r.desk [] outs) (sym none) (record {
         desk = later;
         is = is;
@@ -235,8 +231,8 @@ begun_votes log new i is small = go (nat_lt new.start i) (nat_le i (new.start + 
     go true false h k = inr (none (λ above. leb-false i (new.start + length new.batches) k))
     go false b h k = inr (none (λ above. let under = ltb-false new.start i h in absurd (omega (arith, above, under))))
 
-pub entered_voted : (new : NewViewData) (own : Option (List ℕ)) (r : ReplicaData) (before : List Output) (n : ReplicaData) (after : List Output) → IsLog r.orderer.log → new.start < 2 ^ 48 → Entered new own r before n after → IsVotedAll n.orderer.log
-entered_voted new own r before n after is small x i = subst (λ (y : ReplicaData). IsVoted y.orderer.log i) (sym x.new_is) (x.votes.voted i (pick (begun_votes r.orderer.log new i is small)))
+pub entered_voted : (new : NewViewData) (own : Option (List ℕ)) (r : JoinedData) (before : List Output) (n : JoinedData) (after : List Output) → IsLog r.orderer.log → new.start < 2 ^ 48 → Entered new own r before n after → IsVotedAll n.orderer.log
+entered_voted new own r before n after is small x i = subst (λ (y : JoinedData). IsVoted y.orderer.log i) (sym x.new_is) (x.votes.voted i (pick (begun_votes r.orderer.log new i is small)))
   where
     pick : ((new.start < i) × (i ≤ new.start + length new.batches)) ⊎ IsVoted (begun_log r.orderer.log new) i → ((new.start < i) × (i ≤ new.start + length new.batches)) ⊎ IsVoted x.fetched.orderer.log i
     pick (inl within) = inl within
@@ -270,7 +266,7 @@ calls_differ c rs calls h d = all_pairs CallsDiffer calls (pairs_called c rs cal
 
 -- What fits behind the new view, before anything is fetched: the numbers are those of its calls, and its batches are
 -- claimed.
-module _ (c : Configuration) (s : Start) (r : ReplicaData) (desk : Desk) (new : NewViewData) (own : Option (List ℕ)) (before : List Output) (past : List Entry) (e : Entry) (sender : ℕ)
+module _ (c : Configuration) (s : Start) (r : JoinedData) (desk : Desk) (new : NewViewData) (own : Option (List ℕ)) (before : List Output) (past : List Entry) (e : Entry) (sender : ℕ)
     (one : AreOne r.orderer r.desk) (clients : r.desk.executed.clients ≡ r.desk.membership.clients) (is : IsDeskOf c r.desk desk)
     (at : behind s (given r.orderer.endpoint.me before) ≡ e ∷ past)
     (fits : histories.Fits c r.orderer.endpoint.me s (desk_from (begun_log r.orderer.log new).low desk) (begun_log r.orderer.log new) (start_due desk new) (given r.orderer.endpoint.me before))
@@ -289,7 +285,7 @@ module _ (c : Configuration) (s : Start) (r : ReplicaData) (desk : Desk) (new : 
   small : new.start < 2 ^ 48
   small = start_small c new (selected_in c e new (takes c me past e new t).brought)
 
-  module _ (n : ReplicaData) (after : List Output) (x : Entered new own r before n after) where
+  module _ (n : JoinedData) (after : List Output) (x : Entered new own r before n after) where
     abbrev o : OrdererData
     o = begun_orderer new own x.claims r.orderer
 
@@ -311,7 +307,7 @@ module _ (c : Configuration) (s : Start) (r : ReplicaData) (desk : Desk) (new : 
           (views_are_begun c me past e log (changes_of r.orderer) new own x.claims sender passes t brings x.begins frame changes);
     }
 
-    abbrev begun : ReplicaData
+    abbrev begun : JoinedData
     begun = begun_parts new own x.claims x.calls r
 
     is_later : IsDeskOf c begun.desk later
@@ -334,7 +330,7 @@ module _ (c : Configuration) (s : Start) (r : ReplicaData) (desk : Desk) (new : 
     known = is.members_are ∙ one.1 ∙ ap (λ (k : OrdererData). k.endpoint.membership) (sym same.orderer)
 
     pub entered_stands : Stands c s n.orderer n.desk [] after
-    entered_stands = subst (λ (y : ReplicaData). Stands c s y.orderer y.desk [] after) (sym x.new_is) (record {
+    entered_stands = subst (λ (y : JoinedData). Stands c s y.orderer y.desk [] after) (sym x.new_is) (record {
       desk = fetched.desk;
       is = fetched.is;
       fits = subst (λ (m : ℕ). FitsEvent c m s x.orderer fetched.desk x.fetched.desk.waiting [] after) (sym mine)

@@ -1,13 +1,16 @@
 -- The replica's own view changes (Castro and Liskov, TOCS 2002, on view changes).
 use Rattle.std.specs.Prelude.{◌≡◌, ℕ, ◌<◌, Bool, true, false, List, [], Option, Some, None, Vec, max}
 use Rattle.std.specs.declared.alloc.Global.{Global}
+use Rattle.wire.specs.Lists.{ascends}
+use Rattle.wire.specs.Spelling.{checkpoint_entry_before}
 use Rattle.wire.specs.Messages.{CheckpointEntryData as CheckpointEntry, view_change as ViewChange}
+use Rattle.wire.specs.Words.{said}
 use Rattle.events.specs.declared.output.Output.{Output}
 use Rattle.posting.specs.Endpoint.{IsOwnSigned}
 use Rattle.protocol.specs.System.Configuration.{Configuration, is_number, members}
 use Rattle.replica_histories.specs.Events.{Start}
-use Rattle.view_change.specs.ReceivedData.{HeldData, with_held}
-use Rattle.replica.specs.State.{OrdererData, ReplicaData}
+use Rattle.view_change.specs.ReceivedData.{HeldData, held_of, with_held}
+use Rattle.replica.specs.State.{OrdererData, JoinedData}
 use Rattle.replica.specs.Desks.{Stands}
 use Rattle.replica.specs.Going.{IsExecuted, IsOneParty, IsVotedAll}
 
@@ -18,6 +21,16 @@ aimed_view o = max o.log.view o.target
 -- a view that the replica may move to, above that
 abbrev pub IsNextView : OrdererData → ℕ → Type 0
 IsNextView o view = (aimed_view o < view) × (is_number view ≡ true)
+
+-- the frames that are held say what is held of them
+abbrev pub AreChanges : List (Option HeldData) → Type 0
+AreChanges held =
+    (s : ℕ) (h : HeldData) → held_of held s ≡ Some h
+    → (sender : ℕ) × (said h.frame ≡ Some (record { sender = sender; message = ViewChange h.change }))
+
+-- as a view change lists them
+abbrev pub is_ascending : List CheckpointEntry → Bool
+is_ascending checkpoints = ascends checkpoint_entry_before checkpoints
 
 -- the view change for the view, with these checkpoints and all claims, is signed in this frame, and held
 pub record SignsChange (view : ℕ) (checkpoints : List CheckpointEntry) (old new : OrdererData)
@@ -41,7 +54,7 @@ MaySignChange view checkpoints old new None = new ≡ old
 MaySignChange view checkpoints old new (Some frame) = SignsChange view checkpoints old new frame.items
 
 -- The replica leaves its view by a view change that is said: what stood stands, and the log asks for nothing more.
-pub record LeavesView (old : ReplicaData) (before : List Output) (new : ReplicaData) (after : List Output) : Type 0
+pub record LeavesView (old : JoinedData) (before : List Output) (new : JoinedData) (after : List Output) : Type 0
   where
     pub stands : (c : Configuration) (s : Start) → members c ≡ old.desk.membership → IsVotedAll old.orderer.log
         → Stands c s old.orderer old.desk [] before → Stands c s new.orderer new.desk [] after
@@ -51,6 +64,6 @@ pub record LeavesView (old : ReplicaData) (before : List Output) (new : ReplicaD
     pub executed : IsExecuted old.orderer.log old.desk → IsExecuted new.orderer.log new.desk
 
 -- So it does, or nothing changes.
-abbrev pub ChangesView : ReplicaData → List Output → ReplicaData → List Output → Bool → Type 0
+abbrev pub ChangesView : JoinedData → List Output → JoinedData → List Output → Bool → Type 0
 ChangesView old before new after true = LeavesView old before new after
 ChangesView old before new after false = (new ≡ old) × (after ≡ before)

@@ -13,7 +13,7 @@ use Rattle.protocol.specs.System.Configuration.{Configuration, members}
 use Rattle.protocol.specs.Replica.State.{root_of}
 use Rattle.replica_histories.specs.Events.{Start}
 use Rattle.replica_histories.specs.Outputs.{checkpoint_due}
-use Rattle.replica.specs.State.{OrdererData, DeskData, ReplicaData}
+use Rattle.replica.specs.State.{OrdererData, DeskData, JoinedData}
 use Rattle.replica.specs.Desks.{Stands}
 use Rattle.replica.specs.Desking.{is_due, newest_entry}
 use Rattle.replica.specs.Marking.{MovesMarks}
@@ -47,7 +47,7 @@ pub record SaysCheckpoint (entry : CheckpointEntry) (old : OrdererData) (before 
   pub new_is : new ≡ record (counting old old.log.me entry) { last_checkpoint = Some entry }
 
 -- They move to a checkpoint where that is stable, and else nothing changes.
-abbrev pub Settles : CheckpointEntry → ReplicaData → ReplicaData → Bool → Type 0
+abbrev pub Settles : CheckpointEntry → JoinedData → JoinedData → Bool → Type 0
 Settles entry old new true = (logs.is_stable old.orderer.log entry ≡ true) × MovesMarks entry.number old new
 Settles entry old new false = (logs.is_stable old.orderer.log entry ≡ false) × (new ≡ old)
 
@@ -58,7 +58,7 @@ IsDueKept d = is_due d ≡ true
     ≡ Some (record { number = d.executed.state.number; digest = root_of d.executed.state })
 
 -- The checkpoint that is due is said, where the log asks for no vote, and marks may move.
-pub record SaysDueCheckpoint (old : ReplicaData) (before : List Output) (new : ReplicaData) (after : List Output)
+pub record SaysDueCheckpoint (old : JoinedData) (before : List Output) (new : JoinedData) (after : List Output)
     : Type 0 where
   pub stands : (c : Configuration) (s : Start) → members c ≡ old.desk.membership → IsVotedAll old.orderer.log
       → Stands c s old.orderer old.desk (checkpoint_due c old.desk.executed.state) before
@@ -70,7 +70,7 @@ pub record SaysDueCheckpoint (old : ReplicaData) (before : List Output) (new : R
   pub commits : CommitsNoMore old.orderer.log new.orderer.log
 
 -- A quorum's checkpoint above what is executed and fetched is aimed at, and its root asked for; else nothing is done.
-abbrev pub Follows : CheckpointEntry → ReplicaData → List Output → ReplicaData → List Output → Type 0
+abbrev pub Follows : CheckpointEntry → JoinedData → List Output → JoinedData → List Output → Type 0
 Follows entry old before new after =
     (((nat_le (2 * old.orderer.log.faults + 1) (logs.count_checkpoints old.orderer.log entry) ≡ false)
     ⊎ (entry.number ≤ aimed_at old.desk)) × (new ≡ old) × (after ≡ before))

@@ -16,18 +16,18 @@ use Rattle.replica_histories.specs.Events as histories
 use Rattle.replica_histories.specs.Events.{Start, IsTaken}
 use Rattle.replica.specs.declared.taking.Touched.{Touched}
 use Rattle.replica.specs.declared.taking.Touched.TheVariants as touched
-use Rattle.replica.specs.State.{ReplicaData}
+use Rattle.replica.specs.State.{JoinedData}
 use Rattle.replica.specs.Desks.{given, Stands}
 use Rattle.replica.specs.Going.{IsVotedBut, IsVotedAll, IsOneParty, Rests}
 use Rattle.replica.specs.Numbering.{IsAllNumbered}
-use Rattle.replica.specs.Fits.{Runs, me_of}
+use Rattle.replica.specs.Joined.{Runs, me_of}
 
 -- the event in which a replica that runs has this input
-abbrev pub event_with : (c : Configuration) (r : ReplicaData) (past : List Entry) → Runs c r past → Entry → Start
+abbrev pub event_with : (c : Configuration) (r : JoinedData) (past : List Entry) → Runs c r past → Entry → Start
 event_with c r past runs input = histories.start_at c (me_of r) runs.desk r.orderer.log past runs.holds input
 
 -- in which it gets the bytes
-abbrev pub event_of : (c : Configuration) (r : ReplicaData) (past : List Entry) → Runs c r past → List ℕ → Start
+abbrev pub event_of : (c : Configuration) (r : JoinedData) (past : List Entry) → Runs c r past → List ℕ → Start
 event_of c r past runs bytes = event_with c r past runs (Got (me_of r) bytes)
 
 -- a rule takes the input, which asks for no part of a state
@@ -37,7 +37,7 @@ IsTakenBeside c me s = IsTaken c me s × (brings_question c me s.input ≡ false
 -- What is left to do, by what was touched: nothing, and what was asked for is given; numbers for what waits; votes for
 -- one number, and what follows; or to execute what is committed, behind a state that was installed or a view that began. What touches
 -- anything, or gives an output, is taken.
-abbrev pub Leaves : Configuration → Start → Touched → ReplicaData → List Output → Type 0
+abbrev pub Leaves : Configuration → Start → Touched → JoinedData → List Output → Type 0
 Leaves c s touched.Nothing r outs = Rests r × IsAllNumbered r
     × AnswersInput c (me_of r) s.before s.input (given (me_of r) outs) s.old
     × ((outs ≡ []) ⊎ IsTaken c (me_of r) s)
@@ -47,7 +47,7 @@ Leaves c s touched.State r outs = IsVotedAll r.orderer.log × IsTakenBeside c (m
 Leaves c s touched.View r outs = IsVotedAll r.orderer.log × IsTakenBeside c (me_of r) s
 
 -- In an event with this input, what holds of the past fits the event, with these outputs.
-pub record TakesInput (input : Entry) (old : ReplicaData) (touched : Touched) (new : ReplicaData)
+pub record TakesInput (input : Entry) (old : JoinedData) (touched : Touched) (new : JoinedData)
     (outs : List Output) : Type 0 where
   pub party : IsOneParty old new
   pub begins : (c : Configuration) (past : List Entry) (runs : Runs c old past) → members c ≡ old.desk.membership
@@ -55,15 +55,15 @@ pub record TakesInput (input : Entry) (old : ReplicaData) (touched : Touched) (n
       × Leaves c (event_with c old past runs input) touched new outs
 
 -- So it is where bytes are got, or time goes by.
-abbrev pub TakesBytes : List ℕ → ReplicaData → Touched → ReplicaData → List Output → Type 0
+abbrev pub TakesBytes : List ℕ → JoinedData → Touched → JoinedData → List Output → Type 0
 TakesBytes bytes old touched new outs = TakesInput (Got (me_of old) bytes) old touched new outs
 
-abbrev pub TakesTick : ReplicaData → Touched → ReplicaData → List Output → Type 0
+abbrev pub TakesTick : JoinedData → Touched → JoinedData → List Output → Type 0
 TakesTick old touched new outs = TakesInput (Tick (me_of old)) old touched new outs
 
 -- So it is where the bytes are the client's ordered request.
 abbrev pub TakesRequest :
-    ClientId → Timestamp → List ℕ → ReplicaData → Touched → ReplicaData → List Output → Type 0
+    ClientId → Timestamp → List ℕ → JoinedData → Touched → JoinedData → List Output → Type 0
 TakesRequest client timestamp bytes old touched new outs =
     (op : Operation)
     → heard old.desk.membership old.desk.me bytes
@@ -71,7 +71,7 @@ TakesRequest client timestamp bytes old touched new outs =
     → TakesBytes bytes old touched new outs
 
 -- And where they are this message of the replica's.
-abbrev pub TakesMessage : ReplicaId → Message → ReplicaData → Touched → ReplicaData → List Output → Type 0
+abbrev pub TakesMessage : ReplicaId → Message → JoinedData → Touched → JoinedData → List Output → Type 0
 TakesMessage sender message old touched new outs =
     (bytes : List ℕ)
     → heard old.desk.membership old.desk.me bytes ≡ Some (record { sender = sender.0; message = message })

@@ -17,7 +17,7 @@ use Rattle.replica_histories.specs.Numbers.{BegunCall as HistoryCall, begun_in}
 use Rattle.replica_histories.specs.Changes.{AddsBatches}
 use Rattle.replica_histories.specs.Views.{with_batches}
 use Rattle.replica.specs.declared.waiting.BegunCall.{BegunCall}
-use Rattle.replica.specs.State.{OrdererData, DeskData, ReplicaData}
+use Rattle.replica.specs.State.{OrdererData, DeskData, JoinedData}
 use Rattle.replica.specs.Waiting.{with_view}
 use Rattle.replica.specs.Flags.{begun_of}
 use Rattle.replica.specs.Going.{GoesOn, IsVoted, IsSameOrderer}
@@ -77,7 +77,7 @@ pub record SaysVotesOf (start last : ℕ) (old : OrdererData) (before : List Out
 -- ---- the replica
 
 -- A transfer is aimed at the start, where that is ahead, and the fetch of what it asks for is said.
-abbrev pub FetchesStart : CheckpointEntry → ReplicaData → List Output → ReplicaData → List Output → Type 0
+abbrev pub FetchesStart : CheckpointEntry → JoinedData → List Output → JoinedData → List Output → Type 0
 FetchesStart entry old before new after =
     ((desk : DeskData) × AimsAt entry old.desk desk true × (new ≡ record old { desk = desk })
     × SaysFetch new before after)
@@ -85,15 +85,15 @@ FetchesStart entry old before new after =
 
 -- The replica enters the view by a new view with this start and these batches, step by step.
 pub record Enters (view : ℕ) (start : CheckpointEntry) (texts : List (List ℕ)) (own : Option (List ℕ))
-    (old : ReplicaData) (before : List Output) (new : ReplicaData) (after : List Output) : Type 0 where
+    (old : JoinedData) (before : List Output) (new : JoinedData) (after : List Output) : Type 0 where
   pub desk : DeskData
   pub noted : NotesBegun texts old.desk desk
-  pub cut : ReplicaData
+  pub cut : JoinedData
   pub cuts : MovesMarks start.number
       (record old { orderer = entering view (start.number + length texts) own old.orderer; desk = desk }) cut
   pub logged : OrdererData
   pub logs : LogsBatches (suc start.number) texts cut.orderer logged
-  pub fetched : ReplicaData
+  pub fetched : JoinedData
   pub said : List Output
   pub fetches : FetchesStart start (record cut { orderer = logged }) before fetched said
   pub orderer : OrdererData

@@ -23,7 +23,7 @@ use Rattle.protocol.specs.Replica.State.{State}
 use Rattle.replica_histories.specs.Desk.{snapshot_of}
 use Rattle.replica_histories.specs.TransfersAnswers.{answer_by}
 use Rattle.replica.specs.declared.open_transfer.Taken.{Taken}
-use Rattle.replica.specs.State.{OpenData, DeskData, ReplicaData}
+use Rattle.replica.specs.State.{OpenData, DeskData, JoinedData}
 use Rattle.replica.specs.Waiting.{forgotten}
 use Rattle.replica.specs.Desking.{above_number}
 use Rattle.replica.specs.Marking.{MovesMarks}
@@ -83,7 +83,7 @@ abbrev pub fetch_of : TransferData → MessageData
 fetch_of t = FetchMessage t.number t.asked.level t.asked.index
 
 -- What is asked for is asked for again; where no transfer is open, nothing is.
-abbrev pub SaysFetch : ReplicaData → List Output → List Output → Type 0
+abbrev pub SaysFetch : JoinedData → List Output → List Output → Type 0
 SaysFetch r before after = ((r.desk.transfer ≡ None) × (after ≡ before))
     ⊎ ((o : OpenData) × (r.desk.transfer ≡ Some o) × Says r.orderer (fetch_of o.transfer) before after)
 
@@ -123,7 +123,7 @@ AsksPart old new false = ((old.transfer ≡ None) × (new ≡ old))
     × AsksPlace old.executed.state o n None × (root_of_pages n.transfer.held ≡ n.transfer.root))
 
 -- and its fetch is said
-abbrev pub AsksOn : ReplicaData → List Output → ReplicaData → List Output → Bool → Type 0
+abbrev pub AsksOn : JoinedData → List Output → JoinedData → List Output → Bool → Type 0
 AsksOn old before new after asks =
     (desk : DeskData) × AsksPart old.desk desk asks × (new ≡ record old { desk = desk })
     × (elim asks [ true ↦ SaysFetch new before after | false ↦ after ≡ before ])
@@ -146,7 +146,7 @@ Installs old new (Some entry) =
 Installs old new None = new ≡ old
 
 -- That is told, and the marks move up to it.
-abbrev pub InstallsFetched : ReplicaData → List Output → ReplicaData → List Output → Bool → Type 0
+abbrev pub InstallsFetched : JoinedData → List Output → JoinedData → List Output → Bool → Type 0
 InstallsFetched old before new after true =
     (desk : DeskData) × (number : Number) × (root : List ℕ)
     × Installs old.desk desk (Some (record { number = number.0; digest = root }))

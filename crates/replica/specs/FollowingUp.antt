@@ -3,22 +3,22 @@ use Rattle.std.specs.Prelude.{◌≡◌, List}
 use Rattle.events.specs.declared.output.Output.{Output}
 use Rattle.replica.specs.declared.taking.Touched.{Touched}
 use Rattle.replica.specs.declared.taking.Touched.TheVariants as touched
-use Rattle.replica.specs.State.{ReplicaData}
+use Rattle.replica.specs.State.{JoinedData}
 use Rattle.replica.specs.Going.{ExecutesAll, GoesOnWith}
 use Rattle.replica.specs.NumbersNext.{NumbersWaiting}
 
 -- what is committed is executed, and then what waits gets numbers
-abbrev pub ExecutesAndNumbers : ReplicaData → List Output → ReplicaData → List Output → Type 0
+abbrev pub ExecutesAndNumbers : JoinedData → List Output → JoinedData → List Output → Type 0
 ExecutesAndNumbers old before new after =
-    (run : ReplicaData) × (between : List Output) × ExecutesAll old before run between
+    (run : JoinedData) × (between : List Output) × ExecutesAll old before run between
     × NumbersWaiting run between new after
 
 -- Nothing; numbers for what waits; votes for one number, and what follows; or what follows alone.
-abbrev pub FollowsUp : Touched → ReplicaData → List Output → ReplicaData → List Output → Type 0
+abbrev pub FollowsUp : Touched → JoinedData → List Output → JoinedData → List Output → Type 0
 FollowsUp touched.Nothing old before new after = (new ≡ old) × (after ≡ before)
 FollowsUp touched.Waiting old before new after = NumbersWaiting old before new after
 FollowsUp (touched.Row number) old before new after =
-    (run : ReplicaData) × (between : List Output) × GoesOnWith number.0 old before run between
+    (run : JoinedData) × (between : List Output) × GoesOnWith number.0 old before run between
     × NumbersWaiting run between new after
 FollowsUp touched.State old before new after = ExecutesAndNumbers old before new after
 FollowsUp touched.View old before new after = ExecutesAndNumbers old before new after

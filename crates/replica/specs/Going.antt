@@ -7,7 +7,7 @@ use Rattle.ordering.specs.Log.{LogData}
 use Rattle.protocol.specs.System.Configuration.{Configuration, members}
 use Rattle.replica_histories.specs.Desk.{Desk}
 use Rattle.replica_histories.specs.Events.{Start}
-use Rattle.replica.specs.State.{OrdererData, DeskData, ReplicaData}
+use Rattle.replica.specs.State.{OrdererData, DeskData, JoinedData}
 use Rattle.replica.specs.Waiting.{WaitingData, count_unnumbered}
 use Rattle.replica.specs.Desks.{FitsEvent, Stands}
 
@@ -50,21 +50,19 @@ pub record IsSameOrderer (old new : OrdererData) : Type 0 where
 -- ---- both parts
 
 -- the party is the same
-pub record IsOneParty (old new : ReplicaData) : Type 0 where
+pub record IsOneParty (old new : JoinedData) : Type 0 where
   pub endpoint : new.orderer.endpoint ≡ old.orderer.endpoint
   pub me : new.desk.me ≡ old.desk.me
   pub membership : new.desk.membership ≡ old.desk.membership
-  pub stopped : new.stopped ≡ old.stopped
 
 -- and in the same view
-pub record IsSameParty (old new : ReplicaData) : Type 0 where
+pub record IsSameParty (old new : JoinedData) : Type 0 where
   pub orderer : IsSameOrderer old.orderer new.orderer
   pub me : new.desk.me ≡ old.desk.me
   pub membership : new.desk.membership ≡ old.desk.membership
-  pub stopped : new.stopped ≡ old.stopped
 
 -- what stands with what the event gave before, stands with what it gave since
-abbrev pub Proceeds : ReplicaData → List Output → ReplicaData → List Output → Type 0
+abbrev pub Proceeds : JoinedData → List Output → JoinedData → List Output → Type 0
 Proceeds old before new after =
     (c : Configuration) (s : Start) → members c ≡ old.desk.membership → Stands c s old.orderer old.desk [] before
     → Stands c s new.orderer new.desk [] after
@@ -74,12 +72,12 @@ abbrev pub IsExecuted : LogData → DeskData → Type 0
 IsExecuted log d = logs.committed_batch log (suc d.executed.state.number) ≡ None
 
 -- nothing is left to say or to execute
-abbrev pub Rests : ReplicaData → Type 0
+abbrev pub Rests : JoinedData → Type 0
 Rests r = IsVotedAll r.orderer.log × IsExecuted r.orderer.log r.desk
 
 -- The next batch is executed, where the log asks for no vote, and its checkpoint said; or none is committed, and nothing
 -- changes.
-pub record ExecutesNext (old : ReplicaData) (before : List Output) (new : ReplicaData) (after : List Output) : Type 0
+pub record ExecutesNext (old : JoinedData) (before : List Output) (new : JoinedData) (after : List Output) : Type 0
   where
     pub proceeds : IsVotedAll old.orderer.log → Proceeds old before new after
     pub party : IsSameParty old new
@@ -90,12 +88,12 @@ pub record ExecutesNext (old : ReplicaData) (before : List Output) (new : Replic
     pub commits : CommitsNoMore old.orderer.log new.orderer.log
     pub waiting : count_unnumbered new.desk.waiting ≤ count_unnumbered old.desk.waiting
 
-abbrev pub ExecutesTurn : ReplicaData → List Output → ReplicaData → List Output → Bool → Type 0
+abbrev pub ExecutesTurn : JoinedData → List Output → JoinedData → List Output → Bool → Type 0
 ExecutesTurn old before new after true = ExecutesNext old before new after
 ExecutesTurn old before new after false = (new ≡ old) × (after ≡ before) × IsExecuted old.orderer.log old.desk
 
 -- Where the log asks for no vote, what is committed is executed, one batch after another.
-pub record ExecutesAll (old : ReplicaData) (before : List Output) (new : ReplicaData) (after : List Output) : Type 0
+pub record ExecutesAll (old : JoinedData) (before : List Output) (new : JoinedData) (after : List Output) : Type 0
   where
     pub proceeds : IsVotedAll old.orderer.log → Proceeds old before new after
     pub party : IsSameParty old new
@@ -104,7 +102,7 @@ pub record ExecutesAll (old : ReplicaData) (before : List Output) (new : Replica
     pub rests : IsVotedAll old.orderer.log → Rests new
 
 -- All that the log asks for of a number is said, and what is committed then is executed.
-pub record GoesOnWith (number : ℕ) (old : ReplicaData) (before : List Output) (new : ReplicaData)
+pub record GoesOnWith (number : ℕ) (old : JoinedData) (before : List Output) (new : JoinedData)
     (after : List Output) : Type 0 where
   pub proceeds : IsVotedBut number old.orderer.log → Proceeds old before new after
   pub party : IsSameParty old new

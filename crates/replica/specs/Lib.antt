@@ -16,8 +16,9 @@ pub mod Marking
 pub mod Transferring
 pub mod Fetching
 pub mod Checkpoints
-pub mod Fits
-pub mod ReplicaView
+pub mod Inputs
+pub mod Joined
+pub mod JoinedView
 pub mod NumbersNext
 pub mod FollowingUp
 pub mod Entering
@@ -27,3 +28,11 @@ pub mod Receiving
 pub mod Reading
 pub mod EnteringViews
 pub mod Beginning
+pub mod Reads
+pub mod Idle
+pub mod Parted
+pub mod PartedLaws
+pub mod MemberView
+pub mod PartedView
+pub mod ReplicaView
+pub mod Fits

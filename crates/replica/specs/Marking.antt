@@ -1,12 +1,12 @@
 -- The marks move (Castro and Liskov, TOCS 2002, on garbage collection).
 use Rattle.std.specs.Prelude.{◌≡◌, ℕ}
 use Rattle.ordering.specs.Log as logs
-use Rattle.replica.specs.State.{OrdererData, ReplicaData}
+use Rattle.replica.specs.State.{OrdererData, JoinedData}
 use Rattle.replica.specs.Claiming.{CutsLog}
 use Rattle.replica.specs.Desking.{desk_above}
 
 -- The low mark moves up to a number: the log is cut there, and the claims and kept states below it go.
-abbrev pub MovesMarks : ℕ → ReplicaData → ReplicaData → Type 0
+abbrev pub MovesMarks : ℕ → JoinedData → JoinedData → Type 0
 MovesMarks low old new =
     (o : OrdererData) × CutsLog low old.orderer o
     × (new ≡ record old { orderer = o; desk = desk_above (logs.cut_to old.orderer.log low).low old.desk })

@@ -3,25 +3,24 @@ use Rattle.std.specs.Prelude.{◌≡◌, ℕ, ◌<◌, Bool, true, false, List, 
 use Rattle.wire.specs.Lists.{Each}
 use Rattle.wire.specs.Spelling.{IsCarried, is_ordered_request, pieces_spelling}
 use Rattle.events.specs.declared.output.Output.{Output}
-use Rattle.replica.specs.State.{ReplicaData}
+use Rattle.replica.specs.State.{JoinedData}
 use Rattle.replica.specs.Waiting.{texts, unnumbered, with_numbered, count_unnumbered}
 use Rattle.replica.specs.Saying.{SaysBatch}
 use Rattle.replica.specs.Going.{IsSameParty, Proceeds, Rests}
 use Rattle.replica.specs.Numbering.{IsAllNumbered}
 
 -- The oldest requests without a number get this one, in a batch that is said.
-pub record NumbersNext (number : ℕ) (old : ReplicaData) (before : List Output) (new : ReplicaData)
+pub record NumbersNext (number : ℕ) (old : JoinedData) (before : List Output) (new : JoinedData)
     (after : List Output) : Type 0 where
   pub says : SaysBatch number (pieces_spelling (texts (unnumbered old.desk.waiting))) old.orderer before new.orderer
       after
   pub waits : new.desk ≡ record old.desk {
     waiting = with_numbered (length (unnumbered old.desk.waiting)) old.desk.waiting;
   }
-  pub stopped : new.stopped ≡ old.stopped
   pub carried : Each (IsCarried is_ordered_request) (texts (unnumbered old.desk.waiting))
 
 -- The next number is given, and what it asks for is done: fewer requests are left without one.
-pub record GivesNumber (old : ReplicaData) (before : List Output) (new : ReplicaData) (after : List Output) : Type 0
+pub record GivesNumber (old : JoinedData) (before : List Output) (new : JoinedData) (after : List Output) : Type 0
   where
     pub proceeds : Rests old → Proceeds old before new after
     pub party : IsSameParty old new
@@ -29,13 +28,13 @@ pub record GivesNumber (old : ReplicaData) (before : List Output) (new : Replica
     pub fewer : count_unnumbered new.desk.waiting < count_unnumbered old.desk.waiting
 
 -- One number is given; or there is none, or no request without one, and nothing changes.
-abbrev pub NumbersTurn : ReplicaData → List Output → ReplicaData → List Output → Bool → Type 0
+abbrev pub NumbersTurn : JoinedData → List Output → JoinedData → List Output → Bool → Type 0
 NumbersTurn old before new after true = GivesNumber old before new after
 NumbersTurn old before new after false = (new ≡ old) × (after ≡ before) × IsAllNumbered old
 
 -- All that waits gets numbers as far as there are free ones, and what they ask for is done: nothing is left to say, to
 -- execute or to number.
-pub record NumbersWaiting (old : ReplicaData) (before : List Output) (new : ReplicaData)
+pub record NumbersWaiting (old : JoinedData) (before : List Output) (new : JoinedData)
     (after : List Output) : Type 0 where
   pub proceeds : Rests old → Proceeds old before new after
   pub party : IsSameParty old new

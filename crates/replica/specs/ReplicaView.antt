@@ -3,4 +3,4 @@ use Rattle.replica.specs.declared.replica.Replica.TheInside.{Inside}
 use Rattle.replica.specs.State.{ReplicaData}
 
 abbrev pub replica_data : Inside → ReplicaData
-replica_data r = record { orderer = r.orderer; desk = r.desk; stopped = r.stopped }
+replica_data r = record { orderer = r.orderer; desk = r.desk }

@@ -11,7 +11,7 @@ use Rattle.protocol.specs.System.Configuration.{Configuration, members}
 use Rattle.replica_histories.specs.Desk.{Desk}
 use Rattle.replica_histories.specs.Events.{Start, behind}
 use Rattle.replica_histories.specs.Outputs.{MayNumber}
-use Rattle.replica.specs.State.{OrdererData, ReplicaData}
+use Rattle.replica.specs.State.{OrdererData, JoinedData}
 use Rattle.replica.specs.Waiting.{WaitingData, texts, unnumbered, with_numbered}
 use Rattle.replica.specs.Desks.{AreCallsOf, given, FitsEvent}
 use Rattle.replica.specs.Going.{GoesOn, IsVoted, IsSameOrderer}
@@ -69,7 +69,7 @@ pub record SaysAgain (active : Bool) (old : OrdererData) (before : List Output) 
   pub same : new ≡ old
 
 -- All that is to be said again by a replica that waits for a request: the parts go on where it is the orderer's alone.
-abbrev pub AllAgain : ReplicaData → List Output → ReplicaData → List Output → Type 0
+abbrev pub AllAgain : JoinedData → List Output → JoinedData → List Output → Type 0
 AllAgain old before new after =
     (new ≡ old) × GoesOn old.orderer before old.orderer after
 

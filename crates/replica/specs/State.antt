@@ -1,5 +1,6 @@
--- What a replica holds, as plain data: what orders, what is executed, kept, fetched and waits, and whether it has stopped.
-use Rattle.std.specs.Prelude.{◌≡◌, ℕ, ◌<◌, ◌≤◌, Bool, List, Option}
+-- What a replica holds, as plain data: what orders, and what is executed, kept, fetched and waits.
+use Rattle.std.specs.Prelude.{◌≡◌, ℕ, ◌<◌, ◌≤◌, Bool, ◌||◌, List, Option, is_none}
+use Rattle.std.specs.Option.{ForSome}
 use Rattle.authenticator.specs.Membership.{Membership}
 use Rattle.wire.specs.Messages.{CheckpointEntryData as CheckpointEntry}
 use Rattle.posting.specs.Endpoint.{EndpointState}
@@ -42,10 +43,10 @@ pub record DeskData : Type 0 where
   pub transfer : Option OpenData
   pub waiting : WaitingData
 
-pub record ReplicaData : Type 0 where
+-- both, as they are within an event
+pub record JoinedData : Type 0 where
   pub orderer : OrdererData
   pub desk : DeskData
-  pub stopped : Bool
 
 -- ---- what each keeps
 
@@ -62,3 +63,40 @@ IsDesk d = (d.executed.clients ≡ d.membership.clients) × (d.me < 10) × (1 �
 -- both are of one replica, with checkpoints as often
 abbrev pub AreOne : OrdererData → DeskData → Type 0
 AreOne o d = (d.me ≡ o.endpoint.me) × (d.membership ≡ o.endpoint.membership) × (o.received.sizes.period ≡ d.period)
+
+-- ---- the parts of a replica
+
+-- whose part it is: the replica, and among whom
+pub record MemberData : Type 0 where
+  pub me : ℕ
+  pub membership : Membership
+
+-- Each holds what it is for, unless it stopped.
+pub record OrdererPart : Type 0 where
+  pub member : MemberData
+  pub holds : Option OrdererData
+
+pub record DeskPart : Type 0 where
+  pub member : MemberData
+  pub holds : Option DeskData
+
+-- what it holds is the member's
+abbrev pub IsOrdererPart : OrdererPart → Type 0
+IsOrdererPart part =
+    ForSome part.holds (λ o. (o.endpoint.me ≡ part.member.me) × (o.endpoint.membership ≡ part.member.membership))
+
+abbrev pub IsDeskPart : DeskPart → Type 0
+IsDeskPart part =
+    ForSome part.holds (λ d. (d.me ≡ part.member.me) × (d.membership ≡ part.member.membership))
+
+-- both parts of one replica
+pub record ReplicaData : Type 0 where
+  pub orderer : OrdererPart
+  pub desk : DeskPart
+
+abbrev pub IsReplicaData : ReplicaData → Type 0
+IsReplicaData r = r.orderer.member ≡ r.desk.member
+
+-- one of them has stopped
+abbrev pub has_stopped : ReplicaData → Bool
+has_stopped r = is_none r.orderer.holds || is_none r.desk.holds

@@ -56,6 +56,9 @@ all_unnumbered requests = filter (λ r. not r.numbered) requests
 abbrev pub unnumbered : WaitingData → List WaitingRequest
 unnumbered w = take 16 (all_unnumbered w.requests)
 
+abbrev pub unnumbered_texts : List WaitingRequest → List (List ℕ)
+unnumbered_texts requests = texts (take 16 (all_unnumbered requests))
+
 abbrev pub count_unnumbered : WaitingData → ℕ
 count_unnumbered w = length (all_unnumbered w.requests)
 

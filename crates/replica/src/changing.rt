@@ -1,18 +1,16 @@
 //! The replica's own view changes.
 
 ghost use Rattle.std.specs.Prelude.{◌≡◌, ◌≤◌, [], false, length, map, IfOk, IfSome, IsTrue, OnOk};
-ghost use Rattle.wire.specs.Lists.{ascends};
-ghost use Rattle.wire.specs.Spelling.{checkpoint_entry_before};
 ghost use Rattle.wire.specs.Views.{checkpoint_entries_data, checkpoint_entry_data};
 ghost use Rattle.ordering.specs.Log.{left};
 ghost use Rattle.replica_histories.specs.Views.{entries_of};
-ghost use Rattle.replica.specs.Changing.{ChangesView, IsNextView, MaySignChange, aimed_view};
+ghost use Rattle.replica.specs.Changing.{ChangesView, IsNextView, MaySignChange, aimed_view, is_ascending};
 ghost use Rattle.replica.specs.Entering.{TakesTick};
 ghost use Rattle.replica.specs.Saying.{SaysAgain};
 
 use crate::desk::Desk;
+use crate::joined::Joined;
 use crate::orderer::Orderer;
-use crate::replica::Replica;
 use crate::taking::Touched;
 use events::{Outputs, Stop};
 use posting::view_change_message;
@@ -24,7 +22,7 @@ use wire::CheckpointEntry;
 /// Views end below this.
 pub(crate) const VIEWS_END: u64 = 1 << 48;
 
-impl Replica {
+impl Joined {
     /// Time went by: a part that is asked for is asked for again; and where a request waits or the replica is inactive,
     /// it moves to the next view.
     pub(crate) fn on_timeout(
@@ -172,7 +170,7 @@ impl Orderer {
 // Whether a view change may list these.
 fn are_listable(checkpoints: &[CheckpointEntry]) -> bool
     ensures few { IsTrue result → length checkpoints.now ≤ 3 }
-    ensures order { IsTrue result → IsTrue (ascends checkpoint_entry_before (map checkpoint_entry_data checkpoints.now)) }
+    ensures order { IsTrue result → IsTrue (is_ascending (map checkpoint_entry_data checkpoints.now)) }
 {
     match checkpoints {
         [] | [_] => true,

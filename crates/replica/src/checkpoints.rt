@@ -7,15 +7,15 @@ ghost use Rattle.replica.specs.Checkpoints.{Follows, IsDueKept, SaysDueCheckpoin
 ghost use Rattle.replica.specs.Marking.{MovesMarks};
 ghost use Rattle.replica.specs.Entering.{TakesMessage};
 
+use crate::joined::Joined;
 use crate::marks::entry_in;
-use crate::replica::Replica;
 use crate::taking::Touched;
 use events::{Outputs, Stop};
 use std::alloc::Global;
 use terms::{Number, ReplicaId};
 use wire::{Checkpoint, CheckpointEntry};
 
-impl Replica {
+impl Joined {
     /// Takes a checkpoint of another replica. Where it completes a quorum, the own one among them, the marks move;
     /// where the quorum is without the own one and ahead of the executed state, that state is fetched.
     pub(crate) fn on_checkpoint(

@@ -8,8 +8,8 @@ ghost use Rattle.replica.specs.EnteringViews.{AddsCalls, Enters, FetchesStart, L
 ghost use Rattle.replica.specs.EnteringViews.{NotesBegun, SaysVotesOf, entering};
 
 use crate::desk::Desk;
+use crate::joined::Joined;
 use crate::orderer::Orderer;
-use crate::replica::Replica;
 use crate::waiting::BegunCall;
 use events::{Outputs, Stop};
 use execution::read_call;
@@ -20,7 +20,7 @@ use terms::{Number, View};
 use view_change::Selection;
 use wire::{CheckpointEntry, requests};
 
-impl Replica {
+impl Joined {
     /// Enters the view, which begins with this selection, by an own new view in this frame or by another's; and says
     /// what that asks for.
     pub(crate) fn enter(

@@ -3,13 +3,13 @@
 ghost use Rattle.std.specs.Prelude.{◌≡◌, IfOk, OnOk};
 ghost use Rattle.replica.specs.Going.{ExecutesAll, ExecutesTurn, GoesOnWith};
 
-use crate::replica::Replica;
+use crate::joined::Joined;
 use events::{Outputs, Stop};
 use std::alloc::Global;
 use std::sync::Arc;
 use terms::Number;
 
-impl Replica {
+impl Joined {
     /// Says what the log asks for of a number, and executes all that is committed then.
     pub(crate) fn go_on(
         &mut self,

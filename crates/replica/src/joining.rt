@@ -13,8 +13,8 @@ ghost use Rattle.replica.specs.Receiving.{JudgesAlike, Receives};
 ghost use Rattle.signing.specs.Heard.{heard};
 
 use crate::changing::VIEWS_END;
+use crate::joined::Joined;
 use crate::orderer::Orderer;
-use crate::replica::Replica;
 use crate::taking::Touched;
 use events::{Outputs, Stop};
 use std::alloc::Global;
@@ -22,7 +22,7 @@ use terms::{ReplicaId, View};
 use view_change::{Change, ChangeFault, refusals_decide, sizes_decide};
 use wire::ViewChange;
 
-impl Replica {
+impl Joined {
     /// Takes a view change that came in this frame. Where those of f + 1 others are for views above the own target, the
     /// replica moves to the least of them; and where it is the primary of the view that it moves to, it begins the view
     /// as soon as it can.

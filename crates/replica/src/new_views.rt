@@ -13,8 +13,8 @@ ghost use Rattle.replica.specs.Entering.{TakesMessage};
 ghost use Rattle.replica.specs.EnteringViews.{IsSelection, SignsView, new_view_of};
 ghost use Rattle.replica.specs.Saying.{SaysAgain};
 
+use crate::joined::Joined;
 use crate::orderer::Orderer;
-use crate::replica::Replica;
 use crate::taking::Touched;
 use events::{Outputs, Stop};
 use ordering::HashedBatch;
@@ -27,7 +27,7 @@ use view_change::{
 };
 use wire::{NewView, requests};
 
-impl Replica {
+impl Joined {
     /// Begins the view that the replica moves to, if it is its primary and the view changes that it has allow it.
     pub(crate) fn begin_view(
         &mut self,

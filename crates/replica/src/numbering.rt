@@ -10,7 +10,7 @@ ghost use Rattle.replica.specs.Numbering.{IsNextFree, next_number};
 ghost use Rattle.replica.specs.NumbersNext.{NumbersNext, NumbersTurn, NumbersWaiting};
 
 use crate::arriving::Arrival;
-use crate::replica::Replica;
+use crate::joined::Joined;
 use crate::taking::Touched;
 use events::{Outputs, Stop};
 use std::alloc::Global;
@@ -19,7 +19,7 @@ use terms::{ClientId, Number, Timestamp};
 /// So many numbers above the executed one a primary gives at the most.
 const AHEAD: u64 = 2;
 
-impl Replica {
+impl Joined {
     /// Takes a client's ordered request: the last one that ran is answered again, a newer one waits, and one that waits
     /// already makes the replica say again what it said of numbers that aren't executed.
     pub(crate) fn on_request(

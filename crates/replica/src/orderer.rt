@@ -3,6 +3,7 @@
 
 ghost use Rattle.std.specs.Prelude.{◌≡◌, ◌+◌, ◌*◌, ◌<◌, IfOk};
 ghost use Rattle.posting.specs.Endpoint.{Hears};
+ghost use Rattle.replica.specs.Changing.{AreChanges};
 ghost use Rattle.replica.specs.Taking.{IsNewOrderer, TakesBatch, TakesPrepare, TakesCommit};
 
 use authenticator::{Ring, signing_seed};
@@ -81,6 +82,20 @@ impl Orderer {
             received,
             last_checkpoint: None,
         })
+    }
+
+    // How many batches lie from one checkpoint to the next.
+    pub(crate) fn period(&self) -> u8
+        ensures { result ≡ self.now.received.sizes.period }
+    {
+        self.received.sizes().period
+    }
+
+    // Tells a proof that the frames of the view changes that it has say these.
+    pub(crate) fn note_changes(&self)
+        ensures { AreChanges self.now.received.held }
+    {
+        self.received.note_held();
     }
 
     /// What the replica hears from the bytes.

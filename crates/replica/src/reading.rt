@@ -1,19 +1,19 @@
 //! Reads: they are answered beside the order, in their event.
 
 ghost use Rattle.std.specs.Prelude.{◌≡◌, true, [], IfOk, OnOk};
-ghost use Rattle.read_only.specs.Hearing.{asks_read};
+ghost use Rattle.wire.specs.Marks.{asks_read};
 ghost use Rattle.replica.specs.Entering.{TakesBytes};
 ghost use Rattle.replica.specs.Reading.{AnswersBytes};
 
 use crate::desk::Desk;
-use crate::replica::Replica;
+use crate::joined::Joined;
 use crate::taking::Touched;
 use bumpalo::Bump;
 use events::{Outputs, Stop};
 use read_only::{ReadFault, Shelf, answer, hear_read};
 use std::alloc::Global;
 
-impl Replica {
+impl Joined {
     /// Answers the read that bytes with its marks ask for, if the replica hears one. The arena for its template is made
     /// here and dropped here.
     pub(crate) fn on_read(

@@ -1,15 +1,14 @@
 //! A replica.
 
-ghost use Rattle.std.specs.Prelude.{◌≡◌, ◌↔◌, ◌+◌, ◌*◌, ◌<◌, true, false, [], Err, IfOk, OnErr, OnOk};
+ghost use Rattle.std.specs.Prelude.{◌≡◌, ◌↔◌, ◌+◌, ◌*◌, ◌<◌, true, false, [], Err, IfOk, OnErr};
 ghost use Rattle.events.specs.declared.output.Stop.TheVariants as Stop;
-ghost use Rattle.replica.specs.State.{AreOne};
-ghost use Rattle.replica.specs.Entering.{TakesInput};
-ghost use Rattle.replica.specs.FollowingUp.{ExecutesAndNumbers, FollowsUp};
-ghost use Rattle.replica.specs.Fits.{Fits, EventLeads, input_of, me_of};
+ghost use Rattle.replica.specs.State.{IsReplicaData, has_stopped};
+ghost use Rattle.replica.specs.Fits.{EventLeads, Fits, me_of};
 
-use crate::desk::Desk;
-use crate::orderer::Orderer;
-use crate::taking::Touched;
+use crate::desk::Desk as DeskState;
+use crate::member::Member;
+use crate::orderer::Orderer as OrdererState;
+use crate::parted::{Desk, Orderer};
 use events::{Config, Outputs, Stop};
 use signing::PublicKeys;
 use std::alloc::Global;
@@ -25,16 +24,16 @@ pub enum Event<'a> {
     Timeout,
 }
 
-/// A replica. What orders and what is executed share nothing but its steps.
+/// A replica: an orderer on its own desk.
 #[derive(Drop)]
 pub struct Replica {
-    pub(crate) orderer: Orderer,
-    pub(crate) desk: Desk,
-    stopped: bool,
+    orderer: Orderer,
+    desk: Desk,
 }
 
 impl Model for Replica {
-    ghost use Rattle.replica.specs.State.{ReplicaData, AreOne};
+    ghost use Rattle.replica.specs.State.{ReplicaData, IsReplicaData};
+    ghost use Rattle.replica.specs.ReplicaView.{replica_data};
     ghost use Rattle.std.specs.Coded.{codes};
     ghost use Rattle.execution.specs.Executed.{executed_code};
 
@@ -42,11 +41,9 @@ impl Model for Replica {
 
     ghost coded = { Prim.hlevel (codes, executed_code) };
 
-    ghost use Rattle.replica.specs.ReplicaView.{replica_data};
-
     ghost view = { replica_data };
 
-    ghost invariant = { λ r. AreOne r.orderer r.desk };
+    ghost invariant = { λ r. IsReplicaData (replica_data r) };
 }
 
 impl Replica {
@@ -65,20 +62,23 @@ impl Replica {
         requires keys { publics ≡ config.now.seed }
         ensures fits { IfOk result (λ r. Fits config.now r []) }
         ensures number { IfOk result (λ r. me_of r ≡ me.0) }
-        ensures runs { IfOk result (λ r. r.stopped ≡ false) }
+        ensures runs { IfOk result (λ r. has_stopped r ≡ false) }
     {
+        let member = Member::new(config, me);
+        let orderer = OrdererState::new(alloc, config, me, publics)?;
+        orderer.note_changes();
+        let desk = DeskState::new(alloc, config, me)?;
         Ok(Replica {
-            orderer: Orderer::new(alloc, config, me, publics)?,
-            desk: Desk::new(alloc, config, me)?,
-            stopped: false,
+            orderer: Orderer::new(member, orderer),
+            desk: Desk::new(member, desk),
         })
     }
 
     /// Whether the replica has stopped.
     pub fn is_stopped(&self) -> bool
-        ensures value { result ≡ self.now.stopped }
+        ensures value { result ≡ has_stopped self.now }
     {
-        self.stopped
+        self.orderer.is_stopped() || self.desk.is_stopped()
     }
 
     /// What the replica gives for its next input.
@@ -90,91 +90,20 @@ impl Replica {
     pub fn step(&mut self, alloc: Global, event: Event<'_>) -> Result<Outputs, Stop>
         ensures leads { IfOk result (λ outs. EventLeads self.old event.entry outs.items self.new) }
         ensures stops { OnErr result (EventLeads self.old event.entry [] self.new) }
-        ensures runs { IfOk result (λ _. self.new.stopped ≡ false) }
-        ensures stopped { OnErr result (self.new.stopped ≡ true) }
-        ensures before { (result ≡ Err Stop.Stopped) ↔ (self.old.stopped ≡ true) }
+        ensures runs { IfOk result (λ _. has_stopped self.new ≡ false) }
+        ensures stopped { OnErr result (has_stopped self.new ≡ true) }
+        ensures before { (result ≡ Err Stop.Stopped) ↔ (has_stopped self.old ≡ true) }
         ensures number { me_of self.new ≡ me_of self.old }
     {
-        if self.stopped {
-            return Err(Stop::Stopped);
-        }
-        match self.react(alloc, event) {
-            Ok(outputs) => Ok(outputs),
-            Err(_) => {
-                self.stopped = true;
-                Err(Stop::NoMemory)
-            }
-        }
+        self.orderer.step(alloc, &mut self.desk, event)
     }
 
-    // Tells a proof that both parts are of one replica.
-    pub(crate) fn are_one(&self)
-        ensures { AreOne self.now.orderer self.now.desk }
+    /// Its two parts, which may lie behind two locks.
+    pub fn split(self) -> (Orderer, Desk)
+        ensures orderer { result.0 ≡ self.orderer }
+        ensures desk { result.1 ≡ self.desk }
     {
-        let _stopped = self.stopped;
-    }
-
-    // What is given for an event: first what the message itself asks for, then what the log asks for, and last the
-    // numbers that are free for waiting requests.
-    fn react(&mut self, alloc: Global, event: Event<'_>) -> Result<Outputs, Stop>
-        requires { self.old.stopped ≡ false }
-        ensures leads { IfOk result (λ outs. EventLeads self.old event.entry outs.items self.new) }
-        ensures runs { IfOk result (λ _. self.new.stopped ≡ false) }
-        ensures endpoint { self.new.orderer.endpoint ≡ self.old.orderer.endpoint }
-    {
-        self.are_one();
-        let mut outputs = Vec::new(alloc);
-        let touched = self.begin(alloc, event, &mut outputs)?;
-        self.follow_up(alloc, touched, &mut outputs)?;
-        Ok(outputs)
-    }
-
-    // What the event itself asks for. Returns what it touched.
-    fn begin(
-        &mut self,
-        alloc: Global,
-        event: Event<'_>,
-        outputs: &mut Outputs,
-    ) -> Result<Touched, Stop>
-        requires first { outputs.old.items ≡ [] }
-        ensures ok { IfOk result (λ touched. TakesInput (input_of (me_of self.old) event.entry) self.old
-            touched self.new outputs.new.items) }
-        ensures endpoint { self.new.orderer.endpoint ≡ self.old.orderer.endpoint }
-    {
-        match event {
-            Event::Timeout => self.on_timeout(alloc, outputs),
-            Event::Got(bytes) => self.take(alloc, bytes, outputs),
-        }
-    }
-
-    // What is asked for next, once an event touched this.
-    fn follow_up(
-        &mut self,
-        alloc: Global,
-        touched: Touched,
-        outputs: &mut Outputs,
-    ) -> Result<(), Stop>
-        ensures ok { OnOk result (FollowsUp touched self.old outputs.old.items self.new outputs.new.items) }
-        ensures endpoint { self.new.orderer.endpoint ≡ self.old.orderer.endpoint }
-    {
-        match touched {
-            Touched::Nothing => Ok(()),
-            Touched::Waiting => self.number_waiting(alloc, outputs),
-            Touched::Row(number) => {
-                self.go_on(alloc, number, outputs)?;
-                self.number_waiting(alloc, outputs)
-            }
-            Touched::State | Touched::View => self.execute_and_number(alloc, outputs),
-        }
-    }
-
-    // Executes what is committed, and then gives numbers to what waits.
-    fn execute_and_number(&mut self, alloc: Global, outputs: &mut Outputs) -> Result<(), Stop>
-        ensures ok { OnOk result
-            (ExecutesAndNumbers self.old outputs.old.items self.new outputs.new.items) }
-        ensures endpoint { self.new.orderer.endpoint ≡ self.old.orderer.endpoint }
-    {
-        self.execute_committed(alloc, outputs)?;
-        self.number_waiting(alloc, outputs)
+        let Replica { orderer, desk } = self;
+        (orderer, desk)
     }
 }

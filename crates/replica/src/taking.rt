@@ -7,7 +7,7 @@ ghost use Rattle.signing.specs.Heard.{heard};
 ghost use Rattle.read_only.specs.Hearing.{HearsNoRead};
 ghost use Rattle.replica.specs.Entering.{TakesBytes, TakesMessage};
 
-use crate::replica::Replica;
+use crate::joined::Joined;
 use events::{Outputs, Stop};
 use read_only::asks_read;
 use std::alloc::Global;
@@ -29,7 +29,7 @@ pub(crate) enum Touched {
     View,
 }
 
-impl Replica {
+impl Joined {
     /// Takes the message that the replica hears from the bytes, if it hears one and has no fault to find.
     pub(crate) fn take(
         &mut self,

@@ -6,14 +6,14 @@ ghost use Rattle.wire.specs.Spelling.{last_index};
 ghost use Rattle.replica.specs.Entering.{TakesMessage};
 ghost use Rattle.replica.specs.Fetching.{AsksOn, InstallsFetched, SaysFetch};
 
-use crate::replica::Replica;
+use crate::joined::Joined;
 use crate::taking::Touched;
 use events::{Output, Outputs, Stop, give};
 use std::alloc::Global;
 use terms::{Level, ReplicaId};
 use wire::{Fetch, Meta, Page};
 
-impl Replica {
+impl Joined {
     /// Asks all others for the part that an open transfer asks for.
     pub(crate) fn say_fetch(&mut self, alloc: Global, outputs: &mut Outputs) -> Result<(), Stop>
         ensures ok { OnOk result (SaysFetch self.old outputs.old.items outputs.new.items) }

@@ -4,7 +4,7 @@ ghost use Rattle.std.specs.Prelude.{◌≡◌, ◌≤◌, ◌++◌, ◌∷◌, [
 ghost use Rattle.wire.specs.Lists.{Each};
 ghost use Rattle.wire.specs.Spelling.{IsCarried, is_ordered_request};
 ghost use Rattle.wire.specs.Views.{texts_of};
-ghost use Rattle.replica.specs.Waiting.{IsRequest, count_unnumbered, none_waiting, lent, request_of, texts, unnumbered, is_of, is_new, is_begun, all_numbered, renumbered, with_request, with_numbered, with_view, without, forgotten};
+ghost use Rattle.replica.specs.Waiting.{IsRequest, count_unnumbered, none_waiting, lent, request_of, texts, unnumbered, unnumbered_texts, is_of, is_new, is_begun, all_numbered, renumbered, with_request, with_numbered, with_view, without, forgotten};
 
 use events::Stop;
 use execution::Executed;
@@ -195,7 +195,7 @@ fn keep_new(executed: &Executed, requests: &mut Vec<WaitingRequest>)
 
 // Copies of the frames of up to 16 requests without a number.
 fn copy_unnumbered(alloc: Global, requests: &[WaitingRequest]) -> Result<Vec<Vec<u8>>, Stop>
-    ensures { IfOk result (λ frames. texts_of frames.items ≡ texts (unnumbered (record none_waiting { requests = requests.now }))) }
+    ensures { IfOk result (λ frames. texts_of frames.items ≡ unnumbered_texts requests.now) }
 {
     let mut frames = Vec::new(alloc);
     for request in requests {

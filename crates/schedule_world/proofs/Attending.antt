@@ -14,6 +14,7 @@ use Rattle.events.specs.declared.output.Output.TheVariants as outputs
 use Rattle.events.specs.Outputs.{entry_of, behind, after_event}
 use Rattle.replica.specs.State.{ReplicaData}
 use Rattle.replica.specs.Fits as replica_fits
+use Rattle.replica.specs.Inputs as replica_inputs
 use Rattle.replica.specs.declared.replica.Event.{Event as ReplicaEvent}
 use Rattle.replica.specs.declared.replica.Event.TheVariants as replica_events
 use Rattle.client_cert.specs.Fits as client_fits
@@ -41,7 +42,7 @@ replica_below c p correct = ltb-true p (replicas c) (and_parts (is_replica c p) 
 abbrev pub IsInputAt : ℕ → Entry → Type 0
 IsInputAt p e = (party_of e ≡ p) × (is_output e ≡ false)
 
-pub replica_input : (p : ℕ) (event : ReplicaEvent) → IsInputAt p (replica_fits.input_of p event)
+pub replica_input : (p : ℕ) (event : ReplicaEvent) → IsInputAt p (replica_inputs.input_of p event)
 replica_input p (replica_events.Got bytes) = (refl, refl)
 replica_input p replica_events.Timeout = (refl, refl)
 
@@ -53,11 +54,11 @@ pub are_replicas : (c : Configuration) (trace : List Entry) (rs : List ReplicaDa
     → (q : ℕ) → is_correct_replica c q ≡ true → IsReplica c q (history_of q trace)
 are_replicas c trace rs seats d numbered attend q correct =
     let below = replica_below c q correct in
-    subst (λ n. IsReplica c n (history_of q trace)) (numbered.1 q d (omega (arith, numbered.0, below))) (attend.replicas q d correct).right
+    subst (λ n. IsReplica c n (history_of q trace)) (numbered.1 q d (omega (arith, numbered.0, below))) (attend.replicas q d correct).0.right
 
 pub attend_replica : (c : Configuration) (trace : List Entry) (rs new : List ReplicaData) (seats : List Seat) (p : ℕ) (event : ReplicaEvent) (outs : List Output)
     → IsConfiguration c → AreNumbered c rs → Attend c trace rs seats → is_correct_replica c p ≡ true → Moves rs p event outs new → AreOf p (map (entry_of p) outs)
-    → Attend c (behind (map (entry_of p) outs) (replica_fits.input_of p event ∷ trace)) new seats
+    → Attend c (behind (map (entry_of p) outs) (replica_inputs.input_of p event ∷ trace)) new seats
 attend_replica c trace rs new seats p event outs valid numbered attend correct m of =
     record {
       replicas = λ q e h. fits q e h (q == p) refl;
@@ -65,7 +66,7 @@ attend_replica c trace rs new seats p event outs valid numbered attend correct m
     }
   where
     input : Entry
-    input = replica_fits.input_of p event
+    input = replica_inputs.input_of p event
 
     is : IsInputAt p input
     is = replica_input p event
@@ -97,7 +98,7 @@ attend_replica c trace rs new seats p event outs valid numbered attend correct m
     fits : (q : ℕ) (e : ReplicaData) → is_correct_replica c q ≡ true → (b : Bool) → (q == p) ≡ b → replica_fits.Fits c (get_or new q e) (history_of q after)
     fits q e h true same =
         let fit : replica_fits.Fits c m.before (history_of p trace) = subst (λ r. replica_fits.Fits c r (history_of p trace)) (m.was m.before) (attend.replicas p m.before correct) in
-        let leads : replica_fits.Leads m.before input outs m.after = subst (λ n. replica_fits.Leads m.before (replica_fits.input_of n event) outs m.after) number m.leads in
+        let leads : replica_fits.Leads m.before input outs m.after = subst (λ n. replica_fits.Leads m.before (replica_inputs.input_of n event) outs m.after) number m.leads in
         let led : replica_fits.Fits c m.after (behind entries (input ∷ history_of p trace)) =
         subst (λ n. replica_fits.Fits c m.after (after_event n input outs (history_of p trace))) number (leads c (history_of p trace) fit) in
         let got : get_or new p e ≡ m.after = ap (λ xs. get_or xs p e) m.becomes ∙ get_or-set_same rs p m.after e within in

@@ -15,6 +15,7 @@ use Rattle.events.specs.declared.output.Output.{Output}
 use Rattle.events.specs.Outputs.{entry_of, behind}
 use Rattle.replica.specs.State.{ReplicaData}
 use Rattle.replica.specs.Fits as replica_fits
+use Rattle.replica.specs.Inputs as replica_inputs
 use Rattle.replica.specs.declared.replica.Event.{Event as ReplicaEvent}
 use Rattle.client_cert.specs.Steps as client_steps
 use Rattle.client_cert.specs.declared.client.Event.{Event as ClientEvent}
@@ -121,12 +122,12 @@ client_within c s k seated h = let below = client_below c k h in let count = sea
 
 pub comes_replica : (c : Configuration) (old mid late new : Stage) (p : ℕ) (event : ReplicaEvent) (outs : List Output)
     → IsSeated c old → p < 256 → is_correct c p ≡ true → Moves old.replicas.items p event outs mid.replicas.items → mid.seats ≡ old.seats → KeepsRecords old mid
-    → Adds c (replica_fits.input_of p event) mid late → KeepsParties mid late
-    → AddsAll c (map (entry_of p) outs) late new → AreOf p (map (entry_of p) outs) → KeepsParties late new → Comes c (replica_fits.input_of p event) old new
+    → Adds c (replica_inputs.input_of p event) mid late → KeepsParties mid late
+    → AddsAll c (map (entry_of p) outs) late new → AreOf p (map (entry_of p) outs) → KeepsParties late new → Comes c (replica_inputs.input_of p event) old new
 comes_replica c old mid late new p event outs seated low correct m seats records adds first all of last w st =
     let is = replica_input p event in
-    behind_event c w old mid late new p (replica_fits.input_of p event) (map (entry_of p) outs) st correct is.0 is.1 records adds first all of last
-    (subst (λ (xs : List Seat). Attend c (behind (map (entry_of p) outs) (replica_fits.input_of p event ∷ w.past)) mid.replicas.items xs) (ap (λ x. x.items) (sym seats))
+    behind_event c w old mid late new p (replica_inputs.input_of p event) (map (entry_of p) outs) st correct is.0 is.1 records adds first all of last
+    (subst (λ (xs : List Seat). Attend c (behind (map (entry_of p) outs) (replica_inputs.input_of p event ∷ w.past)) mid.replicas.items xs) (ap (λ x. x.items) (sym seats))
     (attend_replica c w.past old.replicas.items mid.replicas.items old.seats.items p event outs seated.valid (numbered c old seated) st.attend (replica_is_correct c p low correct) m of))
 
 pub comes_client : (c : Configuration) (old mid late new : Stage) (k : ℕ) (event : ClientEvent) (outs : List Output)
@@ -155,10 +156,10 @@ comes_call c old mid late new k op timestamp outs seated correct m kept records 
 -- the same of the steps in which the program makes it
 pub from_replica : (c : Configuration) (old mid step late new : Stage) (p q : ℕ) (event : ReplicaEvent) (outs given : List Output) (input : Entry)
     → IsSeated c old → p ≡ q → q < 256 → is_correct c p ≡ true → Moves old.replicas.items q event given step.replicas.items → step.seats ≡ old.seats → KeepsRecords old step
-    → mid ≡ step → outs ≡ given → input ≡ replica_fits.input_of q event
+    → mid ≡ step → outs ≡ given → input ≡ replica_inputs.input_of q event
     → Adds c input mid late → KeepsParties mid late → AddsAll c (map (entry_of p) outs) late new → AreOf p (map (entry_of p) outs) → KeepsParties late new → Comes c input old new
 from_replica c old mid step late new p q event outs given input seated same low correct moved seats records mid_is outs_are input_is adds first all of last =
-    let is : input ≡ replica_fits.input_of p event = input_is ∙ ap (λ n. replica_fits.input_of n event) (sym same) in
+    let is : input ≡ replica_inputs.input_of p event = input_is ∙ ap (λ n. replica_inputs.input_of n event) (sym same) in
     let m : Moves old.replicas.items p event outs mid.replicas.items =
     subst (λ n. Moves old.replicas.items n event outs mid.replicas.items) (sym same)
     (subst (λ (xs : List Output). Moves old.replicas.items q event xs mid.replicas.items) (sym outs_are)

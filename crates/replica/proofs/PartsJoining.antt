@@ -1,0 +1,368 @@
+-- Desk and orderer together hold of the whole history what a whole replica holds, and the other way round.
+use Rattle.std.proofs.Common.{◌≡◌, ℕ, ◌+◌, ◌*◌, ◌≤◌, inl, inr, Bool, true, false, cond, List, [], ◌∷◌, length, refl, sym, ap, ◌∙◌, subst, arith, Option, Some, None}
+use Rattle.std.specs.Prelude.{nat_le, nat_lt, not, ◌&&◌, ◌^◌}
+use Rattle.sha2.specs.Sha256.{sha256}
+use Rattle.quorum.specs.Votes.{has_digest}
+use Rattle.quorum.proofs.Counting.{count_same}
+use Rattle.std.specs.Prelude.{option_and_then}
+use Rattle.std.specs.Bool.{then_some}
+use Rattle.wire.specs.Words.{said}
+use Rattle.wire.specs.Lists.{Each}
+use Rattle.wire.specs.Messages.{MessageData as Message, NewViewData, CheckpointEntryData as CheckpointEntry, checkpoint as Checkpoint, view_change as ViewChange, new_view as NewView}
+use Rattle.ordering.specs.Log.{LogData}
+use Rattle.protocol.specs.System.Configuration.{Configuration, primary, replicas, span}
+use Rattle.protocol.specs.System.Trace.{Entry, Once, Has, either}
+use Rattle.protocol.specs.System.Trace.Entry.{Invoke, Got, Tick, Executed, Installed, Sent, Accepted}
+use Rattle.protocol.specs.Replica.RightReplica.{SendsBytes, SentBefore, HasSeen}
+use Rattle.protocol.specs.Replica.Certificates.{target, view, taken, is_later, low, is_in_marks, logged, prepare_of, commit_of, Prepared, Committed}
+use Rattle.protocol.specs.Replica.State.{State, Call}
+use Rattle.protocol.specs.Replica.Owed.{IsSaying, BeginsViewWith, IsFree}
+use Rattle.view_change.specs.ClaimsView.{ClaimsData}
+use Rattle.view_change.specs.ReceivedData.{HeldData}
+use Rattle.replica_histories.specs.Logs.{FitsLog, IsVoted, above_mark}
+use Rattle.replica_histories.specs.Claims.{FitsClaims, WasLogged}
+use Rattle.replica_histories.specs.Received.{FitsReceived}
+use Rattle.replica_histories.specs.Changes.{Changes, FitsChanges}
+use Rattle.replica_histories.specs.Events as histories
+use Rattle.replica_histories.specs.Numbers as numbers
+use Rattle.replica.specs.Idle.{IsIdle, IsQuiet, LeavesOut, CertifySame}
+use Rattle.replica.proofs.IdleEntries.{once_over, once_back, parted}
+use Rattle.replica.proofs.SameWords.{words_same, taken_same}
+use Rattle.protocol.specs.System.Reads.{without_reads}
+use Rattle.replica.specs.State.{OrdererData, DeskData}
+use Rattle.replica.specs.Desks.{FitsWaiting, WasSaid, changes_of}
+use Rattle.replica.specs.Flags.{FitsFlags, flagged}
+use Rattle.replica.specs.Numbering.{next_number, IsAllNumbered}
+use Rattle.replica.specs.Joined.{joined, me_of}
+use Rattle.replica.specs.Parted.{HoldsDesk, HoldsOrderer, IsUsed}
+use Rattle.replica.specs.PartedLaws.{PartsJoin, HoldsPart}
+use Rattle.replica.specs.Changing.{AreChanges}
+use Rattle.replica.proofs.Flags.{count_same as flags_count}
+use Rattle.replica_histories.proofs.Resting.{held_are_settled}
+use Rattle.replica_histories.proofs.Words.{primary_same}
+
+-- ---- what both histories certify, turned round
+
+pub turned : (c : Configuration) (me : ℕ) (g h : List Entry) → CertifySame c me g h → CertifySame c me h g
+turned c me g h s = record {
+  target = sym s.target;
+  view = sym s.view;
+  checkpoints = λ x. sym (s.checkpoints x);
+  low = sym s.low;
+  logged = λ v i. sym (s.logged v i);
+  prepares = λ v i x. sym (s.prepares v i x);
+  commits = λ v i x. sym (s.commits v i x);
+  fetching = sym s.fetching;
+  asked = sym s.asked;
+  latest = λ x. sym (s.latest x);
+}
+
+-- ---- certificates
+
+pub prepared_same : (c : Configuration) (me : ℕ) (g h : List Entry) (v i : ℕ) (batch : List ℕ) → CertifySame c me g h → Prepared c me h v i batch → Prepared c me g v i batch
+prepared_same c me g h v i batch s p = record {
+  logged = sym (s.logged v i) ∙ p.logged;
+  backups = subst (λ (n : ℕ). 2 * c.faults ≤ n)
+      (count_same (λ x. has_digest (sha256 batch) (prepare_of c me h v i x)) (λ x. has_digest (sha256 batch) (prepare_of c me g v i x)) (λ x. ap (has_digest (sha256 batch)) (s.prepares v i x)) (replicas c)) p.backups;
+}
+
+pub committed_same : (c : Configuration) (me : ℕ) (g h : List Entry) (v i : ℕ) (batch : List ℕ) → CertifySame c me g h → Committed c me h v i batch → Committed c me g v i batch
+committed_same c me g h v i batch s k = record {
+  prepared = prepared_same c me g h v i batch s k.prepared;
+  commits = subst (λ (n : ℕ). 2 * c.faults + 1 ≤ n)
+      (count_same (λ x. has_digest (sha256 batch) (commit_of c me h v i x)) (λ x. has_digest (sha256 batch) (commit_of c me g v i x)) (λ x. ap (has_digest (sha256 batch)) (s.commits v i x)) (replicas c)) k.commits;
+  own = sym (s.commits v i me) ∙ k.own;
+}
+
+-- ---- the log, from one history to the other
+
+module _ (c : Configuration) (me : ℕ) (g h : List Entry) (s : CertifySame c me g h) where
+  back : CertifySame c me h g
+  back = turned c me g h s
+
+  voted : (v i : ℕ) (batch : List ℕ) → IsVoted c me g v i batch → IsVoted c me h v i batch
+  voted v i batch k = record {
+    prepare = λ backup. let x = k.prepare backup in (x.0, s.prepares v i me ∙ x.1);
+    commit = λ p. let x = k.commit (prepared_same c me g h v i batch s p) in (x.0, s.commits v i me ∙ x.1);
+  }
+
+  pub log_over : (log : LogData) → ((v : ℕ) (batch : List ℕ) → Once (BeginsViewWith c v batch) h → Once (BeginsViewWith c v batch) g) → FitsLog c me log g → FitsLog c me log h
+  log_over log begins f = record {
+    is_log = f.is_log;
+    own = f.own;
+    faults = f.faults;
+    span = f.span;
+    view = s.view ∙ f.view;
+    active = ap (λ (t : ℕ). nat_le t log.view) s.target ∙ f.active;
+    low = s.low ∙ f.low;
+    batches = λ i k. s.logged log.view i ∙ f.batches i k;
+    prepares = λ i x k. s.prepares log.view i x ∙ f.prepares i x k;
+    commits = λ i x k. s.commits log.view i x ∙ f.commits i x k;
+    within = λ v i batch k. f.within v i batch (sym (s.logged v i) ∙ k);
+    above = λ i x l m. let a = f.above i x l m in (s.prepares log.view i x ∙ a.0, s.commits log.view i x ∙ a.1);
+    begun = λ v batch k. f.begun v batch (begins v batch k);
+    settled = λ a i batch l k. voted log.view i batch (f.settled a i batch l (sym (s.logged log.view i) ∙ k));
+    views = record {
+      decided = λ i batch k d. let x = f.views.decided i batch k d in (x.0, x.1, committed_same c me h g x.0 i batch back x.2);
+      all_decided = λ v i batch l k x. f.views.all_decided v i batch l k (committed_same c me g h v i batch s x);
+      voted = λ v i batch k o x. let y = f.views.voted v i batch k o (prepared_same c me g h v i batch s x) in (y.0, s.commits v i me ∙ y.1);
+      later = λ v i x l. let y = f.views.later v i x l in (s.prepares v i x ∙ y.0, s.commits v i x ∙ y.1);
+    };
+    checkpoints = λ x. ap (above_mark log.low) (s.checkpoints x) ∙ f.checkpoints x;
+    latest = f.latest;
+  }
+
+  -- ---- claims
+
+  logged_over : (texts : List (List ℕ)) → Each (WasLogged c me g) texts → Each (WasLogged c me h) texts
+  logged_over [] k = tt
+  logged_over (x ∷ xs) k = ((k.0.0, k.0.1, s.logged k.0.0 k.0.1 ∙ k.0.2), logged_over xs k.1)
+
+  marked : (i : ℕ) → is_in_marks c (low c me g) i ≡ true → is_in_marks c (low c me h) i ≡ true
+  marked i k = subst (λ (n : ℕ). is_in_marks c n i ≡ true) (sym s.low) k
+
+  unmarked : (i : ℕ) → is_in_marks c (low c me h) i ≡ true → is_in_marks c (low c me g) i ≡ true
+  unmarked i k = subst (λ (n : ℕ). is_in_marks c n i ≡ true) s.low k
+
+  pub claims_over : (claims : ClaimsData) → FitsClaims c me g claims → FitsClaims c me h claims
+  claims_over claims f = record {
+    prepared = record {
+      listed = λ claim has. let x = f.prepared.listed claim has in
+          (s.commits claim.view claim.number me ∙ x.0, marked claim.number x.1, λ v d l k. x.2 v d l (sym (s.commits v claim.number me) ∙ k));
+      all = λ v i d m k. f.prepared.all v i d (unmarked i m) (sym (s.commits v i me) ∙ k);
+      ascending = f.prepared.ascending;
+    };
+    logged = record {
+      listed = λ claim has. let x = f.logged.listed claim has in ((x.0.0, s.logged claim.view claim.number ∙ x.0.1, x.0.2), marked claim.number x.1);
+      all = λ v i d m k. f.logged.all v i d (unmarked i m) (k.0, sym (s.logged v i) ∙ k.1, k.2);
+      ascending = f.logged.ascending;
+    };
+    texts = logged_over claims.texts f.texts;
+  }
+
+-- ---- what is held for changes of the view
+
+saying_sent : (me : ℕ) (message : Message) (frame : List ℕ) (past : List Entry) (e : Entry) → said frame ≡ Some (record { sender = me; message = message }) → SendsBytes frame past e → IsSaying me message e
+saying_sent me message frame past (Sent p text) says is = ap said is ∙ says
+saying_sent me message frame past (Got x y) says is = absurd is
+saying_sent me message frame past (Invoke x y z) says is = absurd is
+saying_sent me message frame past (Tick x) says is = absurd is
+saying_sent me message frame past (Executed x y z) says is = absurd is
+saying_sent me message frame past (Installed x y z) says is = absurd is
+saying_sent me message frame past (Accepted x y z) says is = absurd is
+
+pub taken_none : (c : Configuration) (me : ℕ) (e : Entry) (past : List Entry) → IsIdle c me e → taken c past e ≡ None
+taken_none c me e past idle = ap (option_and_then (λ (new : NewViewData). then_some (is_later (view c past) (target past) new) new)) idle.view
+
+pub none_some : {A : Type 0} (x : A) → None ≡ Some x → ⊥
+none_some x e = absurd cc
+
+-- from the entries of ordering to all
+module _ (c : Configuration) (me : ℕ) (g h : List Entry) (p : LeavesOut c me g h) where
+  words : CertifySame c me g h
+  words = words_same c me g h p
+
+  taken_over : (new : NewViewData) → Once (λ past e. taken c past e ≡ Some new) g → Once (λ past e. taken c past e ≡ Some new) h
+  taken_over new k = once_over c me (λ past e. taken c past e ≡ Some new) (λ e g h p x. taken_same c me e g h (words_same c me g h p) ∙ x) g h p k
+
+  taken_back : (new : NewViewData) → Once (λ past e. taken c past e ≡ Some new) h → Once (λ past e. taken c past e ≡ Some new) g
+  taken_back new k = once_back c me (λ past e. taken c past e ≡ Some new) (λ e g h p x. sym (taken_same c me e g h (words_same c me g h p)) ∙ x)
+      (λ e past idle x. none_some new (sym (taken_none c me e past idle) ∙ x)) g h p k
+
+  begins_over : (v : ℕ) (batch : List ℕ) → Once (BeginsViewWith c v batch) g → Once (BeginsViewWith c v batch) h
+  begins_over v batch k = once_over c me (BeginsViewWith c v batch) (λ e g h p b. (b.0, taken_same c me e g h (words_same c me g h p) ∙ b.1, b.2, b.3)) g h p k
+
+  begins_back : (v : ℕ) (batch : List ℕ) → Once (BeginsViewWith c v batch) h → Once (BeginsViewWith c v batch) g
+  begins_back v batch k = once_back c me (BeginsViewWith c v batch) (λ e g h p b. (b.0, sym (taken_same c me e g h (words_same c me g h p)) ∙ b.1, b.2, b.3))
+      (λ e past idle b. none_some b.0 (sym (taken_none c me e past idle) ∙ b.1)) g h p k
+
+  pub log_joins : (log : LogData) → FitsLog c me log g → FitsLog c me log h
+  log_joins log = log_over c me g h words log begins_back
+
+  pub log_parts : (log : LogData) → FitsLog c me log h → FitsLog c me log g
+  log_parts log = log_over c me h g (turned c me g h words) log begins_over
+
+  sent_back : (message : Message) (frame : List ℕ) → (IsQuiet message → ⊥) → said frame ≡ Some (record { sender = me; message = message }) → SentBefore frame h → SentBefore frame g
+  sent_back message frame loud says k = once_back c me (SendsBytes frame) (λ e g h p x. sends_anywhere frame h g e x)
+      (λ e past idle x. loud (idle.says message (saying_sent me message frame past e says x))) g h p k
+    where
+      sends_anywhere : (frame : List ℕ) (a b : List Entry) (e : Entry) → SendsBytes frame a e → SendsBytes frame b e
+      sends_anywhere frame a b (Sent p text) x = x
+      sends_anywhere frame a b (Got x y) k = absurd k
+      sends_anywhere frame a b (Invoke x y z) k = absurd k
+      sends_anywhere frame a b (Tick x) k = absurd k
+      sends_anywhere frame a b (Executed x y z) k = absurd k
+      sends_anywhere frame a b (Installed x y z) k = absurd k
+      sends_anywhere frame a b (Accepted x y z) k = absurd k
+
+  seen_anywhere : (frame : List ℕ) (a b : List Entry) (e : Entry) → HasSeen frame a e → HasSeen frame b e
+  seen_anywhere frame a b (Sent p text) x = x
+  seen_anywhere frame a b (Got p text) x = x
+  seen_anywhere frame a b (Invoke x y z) k = absurd k
+  seen_anywhere frame a b (Tick x) k = absurd k
+  seen_anywhere frame a b (Executed x y z) k = absurd k
+  seen_anywhere frame a b (Installed x y z) k = absurd k
+  seen_anywhere frame a b (Accepted x y z) k = absurd k
+
+  sends_so : (frame : List ℕ) (a b : List Entry) (e : Entry) → SendsBytes frame a e → SendsBytes frame b e
+  sends_so frame a b (Sent p text) x = x
+  sends_so frame a b (Got x y) k = absurd k
+  sends_so frame a b (Invoke x y z) k = absurd k
+  sends_so frame a b (Tick x) k = absurd k
+  sends_so frame a b (Executed x y z) k = absurd k
+  sends_so frame a b (Installed x y z) k = absurd k
+  sends_so frame a b (Accepted x y z) k = absurd k
+
+  sent_over : (frame : List ℕ) → SentBefore frame g → SentBefore frame h
+  sent_over frame k = once_over c me (SendsBytes frame) (λ e g h p x. sends_so frame g h e x) g h p k
+
+  received_over : (held : List (Option HeldData)) → FitsReceived c me g held → FitsReceived c me h held
+  received_over held f = record {
+    latest = λ x n. words.latest x ∙ f.latest x n;
+    seen = λ x k is. once_over c me (HasSeen k.frame) (λ e g h p y. seen_anywhere k.frame g h e y) g h p (f.seen x k is);
+  }
+
+  received_back : (held : List (Option HeldData)) → AreChanges held → FitsReceived c me h held → FitsReceived c me g held
+  received_back held are f = record {
+    latest = λ x n. sym (words.latest x) ∙ f.latest x n;
+    seen = λ x k is. once_back c me (HasSeen k.frame) (λ e g h p y. seen_anywhere k.frame h g e y)
+        (λ e past idle y. idle.seen past k.frame (record { sender = (are x k is).0; message = ViewChange k.change }) y (are x k is).1) g h p (f.seen x k is);
+  }
+
+  pub changes_over : (log : LogData) (x : Changes) → FitsChanges c me log x g → FitsChanges c me log x h
+  changes_over log x f = record {
+    target = words.target ∙ f.target;
+    claims = claims_over c me g h words x.claims f.claims;
+    received = received_over x.held f.received;
+    places = f.places;
+    begun = λ new k same. f.begun new (taken_back new k) same;
+    own_change = λ a. let o = f.own_change a in record { own = o.own; held = o.held; view = o.view; sent = sent_over o.own.frame o.sent; posted = o.posted };
+    own_view = λ frame is. let o = f.own_view frame is in record { new = o.new; view = o.view; primary = o.primary; sent = sent_over frame o.sent; posted = o.posted };
+  }
+
+  pub changes_back : (log : LogData) (x : Changes) → AreChanges x.held → FitsChanges c me log x h → FitsChanges c me log x g
+  changes_back log x are f = record {
+    target = sym words.target ∙ f.target;
+    claims = claims_over c me h g (turned c me g h words) x.claims f.claims;
+    received = received_back x.held are f.received;
+    places = f.places;
+    begun = λ new k same. f.begun new (taken_over new k) same;
+    own_change = λ a. let o = f.own_change a in record { own = o.own; held = o.held; view = o.view; sent = sent_back (ViewChange o.own.change) o.own.frame (λ q. q) o.posted.says o.sent; posted = o.posted };
+    own_view = λ frame is. let o = f.own_view frame is in record { new = o.new; view = o.view; primary = o.primary; sent = sent_back (NewView o.new) frame (λ q. q) o.posted.says o.sent; posted = o.posted };
+  }
+
+  pub said_over : (last : Option CheckpointEntry) → WasSaid me last g → WasSaid me last h
+  said_over last f entry is = once_over c me (λ past e. IsSaying me (Checkpoint entry.number entry.digest) e) (λ e g h p x. x) g h p (f entry is)
+
+  pub said_back : (last : Option CheckpointEntry) → WasSaid me last h → WasSaid me last g
+  said_back last f entry is = once_back c me (λ past e. IsSaying me (Checkpoint entry.number entry.digest) e) (λ e g h p x. x)
+      (λ e past idle x. idle.says (Checkpoint entry.number entry.digest) x) g h p (f entry is)
+
+-- ---- numbers that are used, and what waits
+
+pub used_over : (c : Configuration) (me used : ℕ) (g h : List Entry) → CertifySame c me g h → IsUsed c me (view c g) used g → IsUsed c me (view c h) used h
+used_over c me used g h s u = record {
+  free = λ j a. s.logged (view c h) j ∙ subst (λ (v : ℕ). logged c me g v j ≡ None) (sym s.view) (u.free j a);
+  top = elim u.top [
+    | inl l ↦ inl (subst (λ (n : ℕ). used ≤ n) (sym s.low) l)
+    | inr b ↦ inr (b.0, s.logged (view c h) used ∙ subst (λ (v : ℕ). logged c me g v used ≡ Some b.0) (sym s.view) b.1)
+  ];
+}
+
+-- where each has a number, none is flagged as without
+none_left : (c : Configuration) (me v : ℕ) (history : List Entry) (entries : List numbers.Waiting) → Each (numbers.IsRightly c me v history) entries
+    → ((call : Call) → Has (λ x. x ≡ call) (numbers.calls_of entries) → numbers.HasNumber c me v history call) → numbers.unnumbered entries ≡ []
+none_left c me v history [] right all = refl
+none_left c me v history (w ∷ ws) right all = go w.numbered right.0 (none_left c me v history ws right.1 (λ call has. all call (inr has)))
+  where
+    go : (b : Bool) → either b (numbers.HasNumber c me v history w.call) (numbers.HasNone c me v history w.call) → numbers.unnumbered ws ≡ [] → cond (not b) (w ∷ numbers.unnumbered ws) (numbers.unnumbered ws) ≡ []
+    go true r rest = rest
+    go false r rest = absurd (r (all w.call (inl refl)))
+
+-- ---- together
+
+module _ (c : Configuration) (o : OrdererData) (d : DeskData) (h : List Entry) (hd : HoldsDesk c o.endpoint.me d h) (ho : HoldsOrderer c o.endpoint.me o (without_reads h)) where
+  abbrev me : ℕ
+  me = o.endpoint.me
+
+  p : LeavesOut c me (without_reads h) h
+  p = parted c me h
+
+  fits : FitsLog c me o.log h
+  fits = log_joins c me (without_reads h) h p o.log ho.holds.fits
+
+  holds : histories.Holds c me hd.desk o.log h
+  holds = record {
+    of_desk = hd.holds;
+    of_log = record { fits = fits; prepares = ho.holds.prepares; commits = ho.holds.commits };
+    low = subst (λ (n : ℕ). histories.IsReached c me n hd.desk.state.number [] h) fits.low hd.low;
+  }
+
+  numbered : FitsWaiting c me o d.waiting hd.desk h
+  numbered own =
+      let mine : primary c (view c h) ≡ me = ap (primary c) fits.view ∙ sym (primary_same c o.log o.log.view fits.faults) ∙ own ∙ fits.own in
+      let f = hd.flags mine in
+      let s = words_same c me (without_reads h) h p in
+      let u = used_over c me o.used (without_reads h) h s (ho.used (ap (primary c) (sym s.view) ∙ mine)) in
+      subst (λ (v : ℕ). FitsFlags c me v o.used d.waiting hd.desk.state hd.desk.waiting h) fits.view
+      (record { calls = f.1.calls; free = u.free; top = u.top; rightly = f.1.rightly; numbered = f.1.numbered; known = f.1.known; differ = f.1.differ })
+
+  all : IsAllNumbered (joined o d)
+  all (own, marks, near, active) =
+      let f = numbered own in
+      let n = next_number o in
+      let in_marks : is_in_marks c (low c me h) n ≡ true =
+      subst (λ (l : ℕ). (nat_lt l n && nat_le n (l + span c) && nat_lt n (2 ^ 48)) ≡ true) (sym fits.low)
+      (subst (λ (k : ℕ). (nat_lt o.log.low n && nat_le n (o.log.low + k) && nat_lt n (2 ^ 48)) ≡ true) fits.span marks) in
+      let free : IsFree c me h hd.desk.state.number o.log.view n = (in_marks, subst (λ (st : State). n ≤ st.number + 2) (sym hd.is_desk.state) near, λ j above. f.free j (omega (arith, above))) in
+      let settled = held_are_settled c me hd.desk o.log h holds in
+      flags_count c d.waiting hd.desk.waiting hd.is_desk.waiting
+      ∙ ap (λ (ws : List numbers.Waiting). length ws) (none_left c me o.log.view h (flagged d.waiting.requests hd.desk.waiting) f.rightly
+      (λ call has. settled.numbers n call active own (subst (λ (xs : List Call). Has (λ x. x ≡ call) xs) f.calls has) free))
+
+pub parts_join : PartsJoin
+parts_join c o d h one hd ho = record {
+  desk = hd.desk;
+  is_desk = hd.is_desk;
+  holds = holds c o d h hd ho;
+  numbers = numbered c o d h hd ho;
+  said = said_over c o.endpoint.me (without_reads h) h (parted c o.endpoint.me h) o.last_checkpoint ho.said;
+  changes = changes_over c o.endpoint.me (without_reads h) h (parted c o.endpoint.me h) o.log (changes_of o) ho.changes;
+  all = all c o d h hd ho;
+}
+
+-- ---- and in parts
+
+pub holds_part : HoldsPart
+holds_part c r h one are runs = (
+  record {
+    desk = runs.desk;
+    is_desk = runs.is_desk;
+    holds = runs.holds.of_desk;
+    low = subst (λ (n : ℕ). histories.IsReached c me n runs.desk.state.number [] h) (sym fits.low) runs.holds.low;
+    flags = λ mine. (r.orderer.used, flags mine);
+  },
+  record {
+    holds = record { fits = log_parts c me g h (parted c me h) r.orderer.log fits; prepares = runs.holds.of_log.prepares; commits = runs.holds.of_log.commits };
+    used = λ mine. let f = flags (ap (primary c) s.view ∙ mine) in used_over c me r.orderer.used h g (turned c me g h s) (record { free = f.free; top = f.top });
+    said = said_back c me g h (parted c me h) r.orderer.last_checkpoint runs.said;
+    changes = changes_back c me g h (parted c me h) r.orderer.log (changes_of r.orderer) are runs.changes;
+    period = runs.is_desk.period_is ∙ sym one.2;
+  },
+)
+  where
+    me : ℕ
+    me = me_of r
+
+    g : List Entry
+    g = without_reads h
+
+    s : CertifySame c me g h
+    s = words_same c me g h (parted c me h)
+
+    fits : FitsLog c me r.orderer.log h
+    fits = runs.holds.of_log.fits
+
+    flags : primary c (view c h) ≡ me → FitsFlags c me (view c h) r.orderer.used r.desk.waiting runs.desk.state runs.desk.waiting h
+    flags mine = subst (λ (v : ℕ). FitsFlags c me v r.orderer.used r.desk.waiting runs.desk.state runs.desk.waiting h) (sym fits.view)
+        (runs.numbers (primary_same c r.orderer.log r.orderer.log.view fits.faults ∙ ap (primary c) (sym fits.view) ∙ mine ∙ sym fits.own))

@@ -1,0 +1,207 @@
+-- The parts of a replica fit what their joined replica fits.
+use Rattle.std.proofs.Common.{◌≡◌, ℕ, zero, suc, ◌+◌, ◌*◌, ◌<◌, inr, Bool, true, false, List, [], ◌∷◌, refl, sym, ap, ◌∙◌, subst, Option, Some, None}
+use Rattle.std.specs.Prelude.{is_none, IsTrue}
+use Rattle.authenticator.specs.Membership.{Membership}
+use Rattle.events.specs.declared.output.Output.{Output}
+use Rattle.events.specs.Outputs.{after_event}
+use Rattle.wire.specs.Messages.{view_change as ViewChange}
+use Rattle.wire.specs.Words.{said}
+use Rattle.wire.proofs.Saying.{reads_said}
+use Rattle.protocol.specs.System.Configuration.{Configuration, IsConfiguration, members}
+use Rattle.protocol.specs.System.Reads.{without_reads}
+use Rattle.protocol.specs.System.Trace.{Entry}
+use Rattle.protocol.specs.Replica.Owed.{IsReplica}
+use Rattle.protocol.specs.Replica.Selection.{signed_change}
+use Rattle.protocol.proofs.Words.Options.{some_injective}
+use Rattle.view_change.specs.ReceivedData.{HeldData, AreHeldFrom}
+use Rattle.view_change.specs.ReceivedView.{ReceivedState, AreReceived, configuration_of}
+use Rattle.view_change.proofs.Opening.{signed_is}
+use Rattle.replica.specs.declared.replica.Event.{Event}
+use Rattle.replica.specs.declared.replica.Event.TheVariants as events
+use Rattle.replica.specs.State.{MemberData, OrdererData, DeskData, OrdererPart, DeskPart, IsOrdererPart, IsDeskPart, AreOne}
+use Rattle.replica.specs.Desking.{IsNewDesk}
+use Rattle.replica.specs.Taking.{IsNewOrderer}
+use Rattle.replica.specs.Inputs.{input_of}
+use Rattle.replica.specs.Joined as joined_ones
+use Rattle.replica.specs.Parted.{HoldsDesk, HoldsOrderer, FitsDesk, FitsOrderer, FitBoth, AreTogether, BothLead, DeskStops, OrdererStops, Reacts}
+use Rattle.replica.specs.Changing.{AreChanges}
+use Rattle.replica.specs.Joined.{joined}
+use Rattle.replica.proofs.Fitting.{fits_new}
+use Rattle.replica.proofs.PartsJoining.{parts_join, holds_part}
+
+none_some : {A : Type 0} (x : A) → None ≡ Some x → ⊥
+none_some x e = absurd cc
+
+-- ---- what is held for changes of the view
+
+change_said : (c : Configuration) (h : HeldData) → signed_change c h.frame ≡ Some (h.sender, h.change)
+    → (sender : ℕ) × (said h.frame ≡ Some (record { sender = sender; message = ViewChange h.change }))
+change_said c h signed =
+    let s = signed_is c h.frame (h.sender, h.change) signed in
+    (s.frame.body.sender, reads_said h.frame s.frame s.spelled ∙ ap (λ m. Some (record { sender = s.frame.body.sender; message = m })) s.message)
+
+held_said : (c : Configuration) (first : ℕ) (held : List (Option HeldData)) → AreHeldFrom c first held → AreChanges held
+held_said c first [] are s h is = absurd (none_some h is)
+held_said c first (None ∷ held) are zero h is = absurd (none_some h is)
+held_said c first (Some k ∷ held) are zero h is = subst (λ (x : HeldData). (sender : ℕ) × (said x.frame ≡ Some (record { sender = sender; message = ViewChange x.change }))) (some_injective k h is) (change_said c k are.0.2)
+held_said c first (o ∷ held) are (suc s) h is = held_said c (suc first) held are.1 s h is
+
+pub are_changes : (r : ReceivedState) → AreReceived r → AreChanges r.held
+are_changes r are = held_said (configuration_of r) 0 r.held are.each
+
+-- ---- a part that holds something
+
+abbrev pub orders : MemberData → OrdererData → OrdererPart
+orders m o = record { member = m; holds = Some o }
+
+abbrev pub answers : MemberData → DeskData → DeskPart
+answers m d = record { member = m; holds = Some d }
+
+desk_fits : (c : Configuration) (me : ℕ) (m : MemberData) (d : DeskData) (history : List Entry) → m.me ≡ me → members c ≡ m.membership → IsReplica c me history → HoldsDesk c me d history
+    → FitsDesk c me (answers m d) history
+desk_fits c me m d history mine members_are right holds = record {
+  me_is = mine;
+  members_are = members_are;
+  right = right;
+  running = λ x is. subst (λ (y : DeskData). HoldsDesk c me y history) (some_injective d x is) holds;
+}
+
+orderer_fits : (c : Configuration) (me : ℕ) (m : MemberData) (o : OrdererData) (ordering : List Entry) → m.me ≡ me → members c ≡ m.membership → HoldsOrderer c me o ordering
+    → FitsOrderer c me (orders m o) ordering
+orderer_fits c me m o ordering mine members_are holds = record {
+  me_is = mine;
+  members_are = members_are;
+  running = λ x is. subst (λ (y : OrdererData). HoldsOrderer c me y ordering) (some_injective o x is) holds;
+}
+
+-- both fit what they fit when they are joined
+both_fit : (c : Configuration) (m : MemberData) (o : OrdererData) (d : DeskData) (history : List Entry) → AreOne o d → AreChanges o.received.held → o.endpoint.me ≡ m.me
+    → members c ≡ m.membership → joined_ones.Fits c (joined o d) history → FitBoth c m.me (orders m o) (answers m d) history
+both_fit c m o d history one are mine members_are fits = (
+  desk_fits c m.me m d history refl members_are (subst (λ (n : ℕ). IsReplica c n history) mine fits.right) (subst (λ (n : ℕ). HoldsDesk c n d history) mine parts.0),
+  orderer_fits c m.me m o (without_reads history) refl members_are (subst (λ (n : ℕ). HoldsOrderer c n o (without_reads history)) mine parts.1),
+)
+  where
+    parts : HoldsDesk c o.endpoint.me d history × HoldsOrderer c o.endpoint.me o (without_reads history)
+    parts = holds_part c (joined o d) history one are fits.runs
+
+-- ---- a replica that begins
+
+one_new : (c : Configuration) (me : ℕ) (o : OrdererData) (d : DeskData) → IsNewOrderer c me o → IsNewDesk c me d → AreOne o d
+one_new c me o d new_orderer new_desk = (
+  ap (λ (x : DeskData). x.me) new_desk ∙ sym (ap (λ (x : OrdererData). x.endpoint.me) new_orderer.0),
+  ap (λ (x : DeskData). x.membership) new_desk ∙ sym (ap (λ (x : OrdererData). x.endpoint.membership) new_orderer.0),
+  new_orderer.2 ∙ sym (ap (λ (x : DeskData). x.period) new_desk),
+)
+
+pub both_new : (c : Configuration) (m : MemberData) (me : ℕ) (o : OrdererData) (d : DeskData) → IsConfiguration c → me < 3 * c.faults + 1 → m.me ≡ me → m.membership ≡ members c
+    → IsNewOrderer c me o → IsNewDesk c me d → AreChanges o.received.held → FitBoth c m.me (orders m o) (answers m d) []
+both_new c m me o d valid few mine membership new_orderer new_desk are =
+    both_fit c m o d [] (one_new c me o d new_orderer new_desk) are (ap (λ (x : OrdererData). x.endpoint.me) new_orderer.0 ∙ sym mine) (sym membership) (fits_new c me valid few (joined o d) new_orderer new_desk)
+
+-- ---- an event
+
+module _ (m n : MemberData) (o later_o : OrdererData) (d later_d : DeskData) (event : Event) (outs : List Output) (same : n ≡ m) (mine : o.endpoint.me ≡ m.me) (membership : o.endpoint.membership ≡ m.membership)
+    (one : AreOne o d) (later_one : AreOne later_o later_d) (are : AreChanges later_o.received.held) (endpoint : later_o.endpoint ≡ o.endpoint)
+    (leads : joined_ones.EventLeads (joined o d) event outs (joined later_o later_d)) where
+  lead_at : (c : Configuration) (history : List Entry) → FitBoth c m.me (orders m o) (answers m d) history
+      → FitBoth c m.me (orders m later_o) (answers m later_d) (after_event m.me (input_of m.me event) outs history)
+  lead_at c history (fits_desk, fits_orderer) =
+      both_fit c m later_o later_d (after_event m.me (input_of m.me event) outs history) later_one are (ap (λ e. e.me) endpoint ∙ mine) fits_desk.members_are
+      (subst (λ (k : ℕ). joined_ones.Fits c (joined later_o later_d) (after_event k (input_of k event) outs history)) mine (leads c history (record {
+        members_are = fits_desk.members_are ∙ sym membership;
+        right = subst (λ (k : ℕ). IsReplica c k history) (sym mine) fits_desk.right;
+        runs = parts_join c o d history one (subst (λ (k : ℕ). HoldsDesk c k d history) (sym mine) (fits_desk.running d refl))
+            (subst (λ (k : ℕ). HoldsOrderer c k o (without_reads history)) (sym mine) (fits_orderer.running o refl));
+      })))
+
+  pub both_lead : BothLead (orders m o) (answers n d) event outs (orders m later_o) (answers n later_d)
+  both_lead c me history fits =
+      subst (λ (k : MemberData). FitBoth c me (orders m later_o) (answers k later_d) (after_event me (input_of me event) outs history)) (sym same)
+      (subst (λ (k : ℕ). FitBoth c k (orders m later_o) (answers m later_d) (after_event k (input_of k event) outs history)) fits.1.me_is
+      (lead_at c history (subst (λ (k : ℕ). FitBoth c k (orders m o) (answers m d) history) (sym fits.1.me_is)
+      (subst (λ (k : MemberData). FitBoth c me (orders m o) (answers k d) history) same fits))))
+
+-- both step together
+pub steps : (o later_o : OrdererPart) (d later_d : DeskPart) (x later_x : OrdererData) (y later_y : DeskData) (event : Event) (outs : List Output) → o.holds ≡ Some x → d.holds ≡ Some y → o.member ≡ d.member
+    → IsOrdererPart o → AreOne x y → Reacts x y event outs later_x later_y → later_o ≡ orders o.member later_x → later_d ≡ answers d.member later_y → BothLead o d event outs later_o later_d
+steps o later_o d later_d x later_x y later_y event outs o_is d_is same are one r now_o now_d =
+    subst (λ (p : OrdererPart). BothLead p d event outs later_o later_d) (ap (λ (h : Option OrdererData). let p : OrdererPart = record { member = o.member; holds = h } in p) (sym o_is))
+    (subst (λ (q : DeskPart). BothLead (orders o.member x) q event outs later_o later_d) (ap (λ (h : Option DeskData). let q : DeskPart = record { member = d.member; holds = h } in q) (sym d_is))
+    (subst (λ (p : OrdererPart). BothLead (orders o.member x) (answers d.member y) event outs p later_d) (sym now_o)
+    (subst (λ (q : DeskPart). BothLead (orders o.member x) (answers d.member y) event outs (orders o.member later_x) q) (sym now_d)
+    (both_lead o.member d.member x later_x y later_y event outs (sym same) (are x o_is).0 (are x o_is).1 one r.one r.changes r.endpoint r.leads))))
+
+-- parts that are together have checkpoints as often
+pub one_period : (o : OrdererPart) (d : DeskPart) (x : OrdererData) (y : DeskData) → AreTogether o d → o.holds ≡ Some x → d.holds ≡ Some y → x.received.sizes.period ≡ y.period
+one_period o d x y t o_is d_is =
+    ap (λ (k : OrdererData). k.received.sizes.period) (some_injective x t.orderer (sym o_is ∙ t.orders)) ∙ t.period ∙ ap (λ (k : DeskData). k.period) (some_injective t.desk y (sym t.answers ∙ d_is))
+
+-- parts that are together are of one replica
+pub together_one : (o : OrdererPart) (d : DeskPart) (x : OrdererData) (y : DeskData) → AreTogether o d → IsOrdererPart o → IsDeskPart d → o.holds ≡ Some x → d.holds ≡ Some y → AreOne x y
+together_one o d x y t are_o are_d o_is d_is = (
+  (are_d y d_is).0 ∙ sym (ap (λ (m : MemberData). m.me) t.member) ∙ sym (are_o x o_is).0,
+  (are_d y d_is).1 ∙ sym (ap (λ (m : MemberData). m.membership) t.member) ∙ sym (are_o x o_is).1,
+  one_period o d x y t o_is d_is,
+)
+
+-- ---- parts that are not together fit nothing
+
+same_members : (m n : MemberData) → m.me ≡ n.me → m.membership ≡ n.membership → m ≡ n
+same_members m n e f = ap (λ (k : ℕ). let r : MemberData = record { me = k; membership = m.membership } in r) e ∙ ap (λ (k : Membership). let r : MemberData = record { me = n.me; membership = k } in r) f
+
+pub not_so : (b : Bool) → b ≡ false → IsTrue b → ⊥
+not_so true e h = absurd cc
+not_so false e h = absurd cc
+
+pub none_lead : (o : OrdererPart) (d : DeskPart) (event : Event) → is_none o.holds ≡ false → is_none d.holds ≡ false → (AreTogether o d → ⊥) → BothLead o d event [] o d
+none_lead o d event o_runs d_runs apart c me history (fits_desk, fits_orderer) = absurd (go o.holds d.holds refl refl o_runs d_runs)
+  where
+    go : (a : Option OrdererData) (b : Option DeskData) → o.holds ≡ a → d.holds ≡ b → is_none a ≡ false → is_none b ≡ false → ⊥
+    go None b a_is b_is h k = absurd cc
+    go (Some x) None a_is b_is h k = absurd cc
+    go (Some x) (Some y) a_is b_is h k = apart (record {
+      member = same_members o.member d.member (fits_orderer.me_is ∙ sym fits_desk.me_is) (sym fits_orderer.members_are ∙ fits_desk.members_are);
+      orderer = x;
+      desk = y;
+      orders = a_is;
+      answers = b_is;
+      period = sym (fits_orderer.running x a_is).period ∙ (fits_desk.running y b_is).is_desk.period_is;
+    })
+
+-- ---- parts that stopped
+
+stopped_desk : (c : Configuration) (me : ℕ) (d stopped : DeskPart) (history other : List Entry) → stopped.member ≡ d.member → stopped.holds ≡ None → FitsDesk c me d history → IsReplica c me other
+    → FitsDesk c me stopped other
+stopped_desk c me d stopped history other same none fits right = record {
+  me_is = ap (λ (m : MemberData). m.me) same ∙ fits.me_is;
+  members_are = fits.members_are ∙ sym (ap (λ (m : MemberData). m.membership) same);
+  right = right;
+  running = λ x is. absurd (none_some x (sym none ∙ is));
+}
+
+stopped_orderer : (c : Configuration) (me : ℕ) (o stopped : OrdererPart) (ordering other : List Entry) → stopped.member ≡ o.member → stopped.holds ≡ None → FitsOrderer c me o ordering
+    → FitsOrderer c me stopped other
+stopped_orderer c me o stopped ordering other same none fits = record {
+  me_is = ap (λ (m : MemberData). m.me) same ∙ fits.me_is;
+  members_are = fits.members_are ∙ sym (ap (λ (m : MemberData). m.membership) same);
+  running = λ x is. absurd (none_some x (sym none ∙ is));
+}
+
+pub desk_stops : (d stopped : DeskPart) → stopped.member ≡ d.member → stopped.holds ≡ None → DeskStops d stopped
+desk_stops d stopped same none c me history other = stopped_desk c me d stopped history other same none
+
+pub orderer_stops : (o stopped : OrdererPart) → stopped.member ≡ o.member → stopped.holds ≡ None → OrdererStops o stopped
+orderer_stops o stopped same none c me ordering other = stopped_orderer c me o stopped ordering other same none
+
+-- an input of the party, behind which there is no output
+stops_right : (c : Configuration) (me : ℕ) (event : Event) (history : List Entry) → IsReplica c me history → IsReplica c me (input_of me event ∷ history)
+stops_right c me (events.Got bytes) history right = inr (refl, tt, right)
+stops_right c me events.Timeout history right = inr (refl, tt, right)
+
+pub both_stop : (o stopped_o : OrdererPart) (d stopped_d : DeskPart) (event : Event) → stopped_o.member ≡ o.member → stopped_o.holds ≡ None → stopped_d.member ≡ d.member → stopped_d.holds ≡ None
+    → BothLead o d event [] stopped_o stopped_d
+both_stop o stopped_o d stopped_d event same_o none_o same_d none_d c me history (fits_desk, fits_orderer) = (
+  stopped_desk c me d stopped_d history (input_of me event ∷ history) same_d none_d fits_desk (stops_right c me event history fits_desk.right),
+  stopped_orderer c me o stopped_o (without_reads history) (without_reads (input_of me event ∷ history)) same_o none_o fits_orderer,
+)

@@ -1,0 +1,183 @@
+-- A read that is answered beside ordering keeps what the desk holds; no orderer is mentioned.
+use Rattle.std.proofs.Common.{◌≡◌, ℕ, suc, ◌+◌, ◌≤◌, inl, inr, true, false, List, [], ◌∷◌, map, refl, sym, ap, ◌∙◌, subst, arith, Option, Some, None}
+use Rattle.std.specs.Option.{option_map_or}
+use Rattle.std.specs.Prelude.{option_and_then}
+use Rattle.tuple_codec.specs.Operations.{Operation, Outcome}
+use Rattle.space.specs.Applying.{outcome, is_read_only}
+use Rattle.terms.specs.declared.order.Mode.TheVariants as modes
+use Rattle.terms.specs.declared.state.Level.TheVariants as levels
+use Rattle.wire.specs.Messages.{BodyData as Body, AuthenticatorData, macs, signature, request as Request, pre_prepare as PrePrepare, reply as Reply, fetch as Fetch}
+use Rattle.wire.specs.Words.{said, receivers_of}
+use Rattle.signing.specs.Heard.{heard}
+use Rattle.protocol.specs.System.Configuration.{Configuration, members, primary}
+use Rattle.protocol.specs.System.Frames.{IsPosted}
+use Rattle.protocol.specs.System.Trace.{Entry, Has}
+use Rattle.protocol.specs.System.Trace.Entry.{Got, Sent}
+use Rattle.protocol.specs.Replica.Selection.{is_quorum}
+use Rattle.protocol.specs.Replica.Certificates.{view, low, is_in_marks}
+use Rattle.protocol.specs.Replica.State.{Call, call_in, tuples}
+use Rattle.protocol.specs.Replica.RightReplica.{Point, MaySend, IsAddressed, with_waiting, waiting_after, kept_states, Executes}
+use Rattle.protocol.specs.Replica.Owed.{Owes, Proceeds, IsNumbered, fetching}
+use Rattle.protocol.proofs.Words.Options.{some_injective}
+use Rattle.replica_histories.specs.Questions.{read_from, read_reply}
+use Rattle.replica_histories.specs.TransfersQuorums.{QuorumsFetched}
+use Rattle.replica_histories.specs.Numbers.{KeepsNumbers}
+use Rattle.replica_histories.specs.Desk.{snapshot_of, point_of}
+use Rattle.replica_histories.specs.Events.{FitsFrames, FitsSnapshots, IsFetched, IsReached}
+use Rattle.replica_histories.specs.Transfers.{FitsOpen}
+use Rattle.replica.specs.State.{DeskData}
+use Rattle.replica.specs.Flags.{FitsFlags}
+use Rattle.replica.specs.Parted.{HoldsDesk}
+use Rattle.replica_histories.proofs.Resting.{Rests, rests}
+use Rattle.replica.specs.Idle.{IsIdle, IsQuiet, CertifySame}
+use Rattle.replica.specs.Reads.{is_read_request, is_read_reply}
+use Rattle.protocol.proofs.Words.Linking.{heard_said}
+use Rattle.replica.proofs.IdleEntries.{got_idle, sent_idle, reply_is_quiet}
+use Rattle.replica.proofs.SameWords.{idle_same, same_then, active_same, count_checkpoints_same}
+use Rattle.replica.proofs.PartsJoining.{prepared_same, committed_same, taken_none, none_some, turned}
+
+-- an idle entry numbers nothing
+pub idle_keeps : (c : Configuration) (me v : ℕ) (past : List Entry) (e : Entry) → IsIdle c me e → KeepsNumbers c me v past e
+idle_keeps c me v past e idle = record {
+  batches = λ i. s.logged v i;
+  numbered = λ client timestamp. (less client timestamp, more client timestamp);
+}
+  where
+    s : CertifySame c me past (e ∷ past)
+    s = idle_same c me e idle past
+
+    more : (client timestamp : ℕ) → IsNumbered c me past v client timestamp → IsNumbered c me (e ∷ past) v client timestamp
+    more client timestamp (batch, (inl at), has) = (batch, inl (at.0, s.logged v at.0 ∙ at.1), has)
+    more client timestamp (batch, (inr at), has) = (batch, inr (inr at), has)
+
+    less : (client timestamp : ℕ) → IsNumbered c me (e ∷ past) v client timestamp → IsNumbered c me past v client timestamp
+    less client timestamp (batch, (inl at), has) = (batch, inl (at.0, sym (s.logged v at.0) ∙ at.1), has)
+    less client timestamp (batch, (inr (inl b)), has) = absurd (none_some b.0 (sym (taken_none c me e past idle) ∙ b.1))
+    less client timestamp (batch, (inr (inr at)), has) = (batch, inr at, has)
+
+addressed : (c : Configuration) (me : ℕ) (past : List Entry) (client timestamp number : ℕ) (a : Outcome) (proof : AuthenticatorData) → receivers_of proof ≡ client ∷ []
+    → IsAddressed c me past (Reply client timestamp modes.ReadOnly number a) proof
+addressed c me past client timestamp number a (macs entries) h = h
+addressed c me past client timestamp number a (signature s) h = tt
+
+-- ---- a read that is answered
+
+module _ (c : Configuration) (me : ℕ) (h : List Entry) (p : Point) (bytes answer : List ℕ) (client timestamp : ℕ) (op : Operation) (proceeds : Proceeds c me h [] p p) (fetched : QuorumsFetched c p.state.number h)
+    (hears : heard (members c) me bytes ≡ Some (read_from client timestamp op)) (is_read : is_read_only op ≡ true)
+    (frame : IsPosted c me (read_reply p.state client timestamp op) (client ∷ []) answer) where
+  abbrev now : List Entry
+  now = Sent me answer ∷ Got me bytes ∷ h
+
+  abbrev mid : Point
+  mid = record p { ran = []; waiting = waiting_after c me p bytes }
+
+  pub waits : waiting_after c me p bytes ≡ p.waiting
+  waits = ap (λ (o : Option Body). option_map_or (with_waiting p.state p.waiting) (option_and_then (call_in c) o) p.waiting) hears
+
+  read_only : (b : Body) → heard (members c) me bytes ≡ Some b → is_read_request b ≡ true
+  read_only b other = ap is_read_request (some_injective b (read_from client timestamp op) (sym other ∙ hears))
+
+  reply_only : (b : Body) → said answer ≡ Some b → is_read_reply b ≡ true
+  reply_only b other = ap is_read_reply (some_injective b (record { sender = me; message = read_reply p.state client timestamp op }) (sym other ∙ frame.says))
+
+  pub got_quiet : IsIdle c me (Got me bytes)
+  got_quiet = got_idle c me me bytes (λ body is. subst (λ (b : Body). IsQuiet b.message) (some_injective (read_from client timestamp op) body (sym (heard_said c me bytes (read_from client timestamp op) hears) ∙ is)) tt)
+
+  pub sent_quiet : IsIdle c me (Sent me answer)
+  sent_quiet = sent_idle c me me answer (λ body is. reply_is_quiet body.message body.sender (reply_only body is))
+
+  pub same : CertifySame c me h now
+  same = same_then c me h (Got me bytes ∷ h) now (idle_same c me (Got me bytes) got_quiet h) (idle_same c me (Sent me answer) sent_quiet (Got me bytes ∷ h))
+
+  rest : Rests c me h p
+  rest = rests c me h p proceeds
+
+  numbered : (v a t : ℕ) → IsNumbered c me h v a t → IsNumbered c me now v a t
+  numbered v a t (batch, (inl at), has) = (batch, inl (at.0, same.logged v at.0 ∙ at.1), has)
+  numbered v a t (batch, (inr at), has) = (batch, inr (inr (inr at)), has)
+
+  owes : Owes c me h (Got me bytes) (Sent me answer ∷ []) now p mid
+  owes = record {
+    numbers = λ v i call active own wait free. numbered v call.client call.timestamp
+        (rest.numbers v i call (sym (active_same c me (Got me bytes) h now same v) ∙ active) own (subst (λ (xs : List Call). Has (λ x. x ≡ call) xs) waits wait)
+        (subst (λ (n : ℕ). is_in_marks c n i ≡ true) same.low free.0, free.1, λ j above. sym (same.logged v j) ∙ free.2 j above));
+    numbers_once = (λ v i batch says none. let bad : false ≡ true = reply_only (record { sender = me; message = PrePrepare v i batch }) says in absurd cc, tt);
+    prepares = λ v i batch none some active backup. let bad : None ≡ Some batch = sym none ∙ sym (same.logged v i) ∙ some in absurd cc;
+    commits = λ v i batch none some active. absurd (none (prepared_same c me h now v i batch same some));
+    executes = λ v batch k. rest.executes v batch (committed_same c me h now v (suc p.state.number) batch same k);
+    replies = λ ran k. absurd k;
+    checkpoints = λ k e multiple. absurd (no_execution k e);
+    again = λ k t o kept other is at. let bad : false ≡ true = read_only (record { sender = 256 + k; message = Request t modes.Ordered o }) other in absurd cc;
+    reads = λ a t o other is. inl (same_answer a t o (sym hears ∙ other));
+    fetched_digests = λ s k index level is other st kept. let bad : false ≡ true = read_only (record { sender = s; message = Fetch k level index }) other in absurd cc;
+    fetched_page = λ s k index other st kept. let bad : false ≡ true = read_only (record { sender = s; message = Fetch k levels.Page index }) other in absurd cc;
+    fetches = λ k root q above later. let most = fetched k root (subst (λ (n : ℕ). is_quorum c n ≡ true) (count_checkpoints_same c h now same.checkpoints (record { number = k; digest = root })) q) above in absurd (omega (arith, most, later));
+    dropped = λ other got drops. let at : bytes ≡ other = cc in
+        absurd (drops (read_from client timestamp op) (subst (λ (b : List ℕ). heard (members c) me b ≡ Some (read_from client timestamp op)) at hears) is_read);
+  }
+    where
+      no_execution : (k : ℕ) → Has (λ e. Executes k [] e) (Sent me answer ∷ []) → ⊥
+      no_execution k (inl x) = x
+      no_execution k (inr x) = x
+
+      same_answer : (a t : ℕ) (o : Operation) → Some (read_from client timestamp op) ≡ Some (read_from a t o)
+          → said answer ≡ Some (record { sender = me; message = Reply a t modes.ReadOnly p.state.number (outcome (tuples p.state) o) })
+      same_answer a t o is =
+          subst (λ (b : Body). said answer ≡ Some (record { sender = me; message = elim b.message [ Request time mode x ↦ Reply b.sender time modes.ReadOnly p.state.number (outcome (tuples p.state) x) | _ ↦ b.message ] }))
+          (some_injective (read_from client timestamp op) (record { sender = a; message = Request t modes.ReadOnly o }) is) frame.says
+
+  may_send : MaySend c me (Got me bytes ∷ h) mid (Sent me answer) answer
+  may_send = record {
+    body = record { sender = me; message = read_reply p.state client timestamp op };
+    says = frame.says;
+    own = refl;
+    seen = tt;
+    say = record { op = op; is_read = is_read; heard = inl hears; answer_is = refl; number_is = refl };
+    is_sealed = λ f is. let s = frame.is_sealed f is in (s.0, addressed c me (Got me bytes ∷ h) client timestamp p.state.number (outcome (tuples p.state) op) f.authenticator s.1);
+  }
+
+  pub goes_on : Proceeds c me now [] mid mid
+  goes_on = (mid, record { own = refl; may = may_send; moves = refl }, (p, record { own = refl; may = tt; moves = refl }, (owes, proceeds)))
+
+-- ---- what the desk holds
+
+module _ (c : Configuration) (me : ℕ) (d : DeskData) (h : List Entry) (hd : HoldsDesk c me d h) where
+  -- idle entries, over which the point stays but for what ran
+  module _ (now : List Entry) (s : CertifySame c me h now) (later : Point) (proceeds : Proceeds c me now [] later later)
+      (same_point : later ≡ record hd.holds.point { ran = [] }) (frames : FitsFrames c me hd.desk now) (opened : FitsOpen c me hd.desk.transfer hd.desk.state.number now)
+      (flags : (v used : ℕ) → FitsFlags c me v used d.waiting hd.desk.state hd.desk.waiting h → FitsFlags c me v used d.waiting hd.desk.state hd.desk.waiting now) where
+    over : CertifySame c me now h
+    over = turned c me h now s
+
+    fetched : QuorumsFetched c hd.desk.state.number now
+    fetched k root q above =
+        subst (λ (n : ℕ). k ≤ n) (sym s.fetching)
+        (hd.holds.fetches k root (subst (λ (n : ℕ). is_quorum c n ≡ true) (count_checkpoints_same c h now s.checkpoints (record { number = k; digest = root })) q) above)
+
+    reached : IsReached c me (low c me h) hd.desk.state.number [] h → IsReached c me (low c me now) hd.desk.state.number [] now
+    reached (inl below) = inl (subst (λ (n : ℕ). n ≤ hd.desk.state.number) (sym s.low) below)
+    reached (inr (got, none)) = inr (there got, λ v batch k. none v batch (committed_same c me h now v (suc hd.desk.state.number) batch s k))
+      where
+        there : IsFetched (low c me h) [] h → IsFetched (low c me now) [] now
+        there (inl k) = inl (subst (λ (n : ℕ). n ≤ fetching now) (sym s.low) (subst (λ (n : ℕ). low c me h ≤ n) (sym s.fetching) k))
+        there (inr k) = absurd k
+
+    pub holds_on : HoldsDesk c me d now
+    holds_on = record {
+      desk = hd.desk;
+      is_desk = hd.is_desk;
+      holds = record {
+        point = later;
+        proceeds = proceeds;
+        is = same_point ∙ ap (λ (q : Point). record q { ran = [] }) hd.holds.is
+            ∙ ap (λ (q : Point). point_of hd.desk q.snapshots q.ran) (sym same_point);
+        kept = subst (λ (q : Point). FitsSnapshots c me hd.desk q.snapshots now) (sym same_point)
+            (ap (λ (n : ℕ). map snapshot_of (kept_states n hd.holds.point.snapshots)) s.low ∙ hd.holds.kept);
+        frames = frames;
+        opened = opened;
+        fetches = fetched;
+      };
+      low = reached hd.low;
+      flags = λ mine. let f = hd.flags (ap (primary c) (sym s.view) ∙ mine) in
+          (f.0, subst (λ (v : ℕ). FitsFlags c me v f.0 d.waiting hd.desk.state hd.desk.waiting now) (sym s.view) (flags (view c h) f.0 f.1));
+    }

@@ -1,0 +1,186 @@
+-- A desk that answers a read fits the history with the read behind it, which leaves no entry of ordering.
+use Rattle.std.proofs.Common.{◌≡◌, ℕ, ◌+◌, inl, inr, true, false, cond, List, [], ◌∷◌, refl, sym, ap, ◌∙◌, subst, Option, Some, None}
+use Rattle.std.specs.Prelude.{not}
+use Rattle.tuple_codec.specs.Operations.{Operation}
+use Rattle.space.specs.Applying.{is_read_only}
+use Rattle.wire.specs.Marks.{asks_read}
+use Rattle.wire.specs.Messages.{BodyData as Body, request as Request}
+use Rattle.wire.specs.Words.{said}
+use Rattle.signing.specs.Heard.{heard}
+use Rattle.events.specs.declared.output.Output.{Output}
+use Rattle.events.specs.Outputs.{entry_of, after_event}
+use Rattle.protocol.specs.System.Configuration.{Configuration, members}
+use Rattle.protocol.specs.System.Frames.{IsPosted}
+use Rattle.protocol.specs.System.Reads.{is_beside, without_reads}
+use Rattle.protocol.specs.System.Trace.{Entry}
+use Rattle.protocol.specs.System.Trace.Entry.{Got, Sent}
+use Rattle.protocol.specs.Replica.State.{State, Call}
+use Rattle.protocol.specs.Replica.RightReplica.{Point, waiting_after}
+use Rattle.protocol.specs.Replica.Owed.{IsReplica}
+use Rattle.protocol.proofs.Words.Options.{some_injective}
+use Rattle.replica_histories.specs.Desk.{Desk}
+use Rattle.replica_histories.specs.Events.{FitsFrames}
+use Rattle.replica_histories.specs.Questions.{read_from, read_reply}
+use Rattle.replica_histories.specs.Transfers.{FitsOpen}
+use Rattle.replica_histories.specs.TransfersQuorums.{QuorumsFetched}
+use Rattle.replica_histories.proofs.Transfers.{open_stays, asks_none}
+use Rattle.replica.specs.State.{MemberData, DeskData, DeskPart, IsDeskPart}
+use Rattle.replica.specs.Flags.{FitsFlags}
+use Rattle.replica.specs.Idle.{IsIdle}
+use Rattle.replica.specs.Parted.{HoldsDesk, ReadLeads}
+use Rattle.replica.specs.Reads.{is_read_request}
+use Rattle.replica.specs.Reading.{AnswersRead, HearsNoRead, AnswersBytes}
+use Rattle.replica.proofs.Flags.{flags_stay}
+use Rattle.replica.proofs.ReadMarks.{marked_are_requests, replies_are_marked}
+use Rattle.replica.proofs.ReadsBeside as beside
+use Rattle.replica.proofs.ReadsBeside.{idle_keeps, holds_on}
+use Rattle.replica.proofs.ReadsDropped as dropped
+
+-- an entry that stands beside ordering is left out
+pub unread : (e : Entry) (h : List Entry) → is_beside e ≡ true → without_reads (e ∷ h) ≡ without_reads h
+unread e h is = ap (λ b. cond (not b) (e ∷ without_reads h) (without_reads h)) is
+
+-- frames that were seen stay so
+frames_on : (c : Configuration) (me : ℕ) (desk : Desk) (h : List Entry) (e : Entry) → FitsFrames c me desk h → FitsFrames c me desk (e ∷ h)
+frames_on c me desk h e fits frame has = let f = fits frame has in (inr f.0, f.1)
+
+-- what a read leaves
+abbrev pub Left : Configuration → ℕ → DeskData → List Entry → List Entry → Type 0
+Left c me d h now = HoldsDesk c me d now × IsReplica c me now × (without_reads now ≡ without_reads h)
+
+module _ (c : Configuration) (me : ℕ) (d : DeskData) (h : List Entry) (bytes : List ℕ) (hd : HoldsDesk c me d h) (marks : asks_read bytes ≡ true) where
+  abbrev p : Point
+  p = hd.holds.point
+
+  abbrev got : List Entry
+  got = Got me bytes ∷ h
+
+  state_is : p.state ≡ hd.desk.state
+  state_is = ap (λ (q : Point). q.state) hd.holds.is
+
+  fetched : QuorumsFetched c p.state.number h
+  fetched = subst (λ (s : State). QuorumsFetched c s.number h) (sym state_is) hd.holds.fetches
+
+  flags_on : (v used : ℕ) (past : List Entry) (e : Entry) → IsIdle c me e → FitsFlags c me v used d.waiting hd.desk.state hd.desk.waiting past
+      → FitsFlags c me v used d.waiting hd.desk.state hd.desk.waiting (e ∷ past)
+  flags_on v used past e idle = flags_stay c me v used d.waiting hd.desk.state hd.desk.waiting past e (idle_keeps c me v past e idle)
+
+  opened : FitsOpen c me hd.desk.transfer hd.desk.state.number got
+  opened = open_stays c me hd.desk.transfer hd.desk.state.number h (Got me bytes) refl hd.holds.opened
+
+  -- the point, but for what ran
+  abbrev mid : Point
+  mid = record p { ran = []; waiting = waiting_after c me p bytes }
+
+  same_point : waiting_after c me p bytes ≡ p.waiting → mid ≡ record p { ran = [] }
+  same_point waits = ap (λ (ws : List Call). record p { ran = []; waiting = ws }) waits
+
+  -- ---- answered
+
+  module _ (client t : ℕ) (op : Operation) (answer : List ℕ) (hears : heard (members c) me bytes ≡ Some (read_from client t op)) (is_read : is_read_only op ≡ true)
+      (frame : IsPosted c me (read_reply p.state client t op) (client ∷ []) answer) where
+    got_quiet : IsIdle c me (Got me bytes)
+    got_quiet = beside.got_quiet c me h p bytes answer client t op hd.holds.proceeds fetched hears is_read frame
+
+    sent_quiet : IsIdle c me (Sent me answer)
+    sent_quiet = beside.sent_quiet c me h p bytes answer client t op hd.holds.proceeds fetched hears is_read frame
+
+    pub answered : Left c me d h (Sent me answer ∷ got)
+    answered = (
+      holds_on c me d h hd (Sent me answer ∷ got) (beside.same c me h p bytes answer client t op hd.holds.proceeds fetched hears is_read frame) mid
+          (beside.goes_on c me h p bytes answer client t op hd.holds.proceeds fetched hears is_read frame)
+          (same_point (beside.waits c me h p bytes answer client t op hd.holds.proceeds fetched hears is_read frame))
+          (frames_on c me hd.desk got (Sent me answer) (frames_on c me hd.desk h (Got me bytes) hd.holds.frames))
+          (open_stays c me hd.desk.transfer hd.desk.state.number got (Sent me answer) (asks_none answer me (read_reply p.state client t op) frame.says refl) opened)
+          (λ v used f. flags_on v used got (Sent me answer) sent_quiet (flags_on v used h (Got me bytes) got_quiet f)),
+      inl (mid, beside.goes_on c me h p bytes answer client t op hd.holds.proceeds fetched hears is_read frame),
+      unread (Sent me answer) got (replies_are_marked answer (record { sender = me; message = read_reply p.state client t op }) frame.says refl) ∙ unread (Got me bytes) h marks,
+    )
+
+  -- ---- dropped
+
+  module _ (never : (client t : ℕ) (op : Operation) → heard (members c) me bytes ≡ Some (read_from client t op) → is_read_only op ≡ true → ⊥) where
+    says : (body : Body) → said bytes ≡ Some body → is_read_request body ≡ true
+    says body is = marked_are_requests bytes body marks is
+
+    pub drops : Left c me d h got
+    drops = (
+      holds_on c me d h hd got (dropped.same c me h p bytes hd.holds.proceeds fetched says never) mid
+          (dropped.goes_on c me h p bytes hd.holds.proceeds fetched says never)
+          (same_point (dropped.waits c me h p bytes hd.holds.proceeds fetched says never))
+          (frames_on c me hd.desk h (Got me bytes) hd.holds.frames) opened
+          (λ v used f. flags_on v used h (Got me bytes) (dropped.got_quiet c me h p bytes hd.holds.proceeds fetched says never) f),
+      inl (mid, dropped.goes_on c me h p bytes hd.holds.proceeds fetched says never),
+      unread (Got me bytes) h marks,
+    )
+
+  -- ---- whatever the desk gives
+
+  module _ (known : members c ≡ d.membership) (mine : d.me ≡ me) where
+    hears_so : (o : Option Body) → heard d.membership d.me bytes ≡ o → heard (members c) me bytes ≡ o
+    hears_so o is = ap (λ m. heard m me bytes) known ∙ ap (λ n. heard d.membership n bytes) (sym mine) ∙ is
+
+    answers : (outs : List Output) → AnswersRead d bytes [] outs → Left c me d h (after_event me (Got me bytes) outs h)
+    answers outs a = subst (λ (os : List Output). Left c me d h (after_event me (Got me bytes) os h)) (sym a.says.given_is)
+        (subst (λ (e : Entry). Left c me d h (e ∷ got)) (sym sends)
+        (answered (256 + a.client.number) a.timestamp a.op a.says.posts.bytes (hears_so (Some (read_from (256 + a.client.number) a.timestamp a.op)) a.hears) a.is_read posted))
+      where
+        sends : entry_of me a.says.output ≡ Sent me a.says.posts.bytes
+        sends = subst (λ (m : ℕ). entry_of m a.says.output ≡ Sent m a.says.posts.bytes) mine a.says.posts.sends
+
+        posted : IsPosted c me (read_reply p.state (256 + a.client.number) a.timestamp a.op) ((256 + a.client.number) ∷ []) a.says.posts.bytes
+        posted = subst (λ (s : State). IsPosted c me (read_reply s (256 + a.client.number) a.timestamp a.op) ((256 + a.client.number) ∷ []) a.says.posts.bytes) (sym (state_is ∙ hd.is_desk.state))
+            (subst (λ (m : ℕ). IsPosted c m (read_reply d.executed.state (256 + a.client.number) a.timestamp a.op) ((256 + a.client.number) ∷ []) a.says.posts.bytes) mine (a.says.posts.posted c known))
+
+    never_heard : HearsNoRead d bytes → (client t : ℕ) (op : Operation) → heard (members c) me bytes ≡ Some (read_from client t op) → is_read_only op ≡ true → ⊥
+    never_heard (inl silent) client t op hears is = absurd (none_some (read_from client t op) (sym (hears_so None silent) ∙ hears))
+      where
+        none_some : (x : Body) → None ≡ Some x → ⊥
+        none_some x e = absurd cc
+    never_heard (inr (k, u, o, other, not_read)) client t op hears is =
+        let same = some_injective (read_from k u o) (read_from client t op) (sym (hears_so (Some (read_from k u o)) other) ∙ hears) in
+        let ops : o ≡ op = operation_same k u client t o op same in
+        let bad : false ≡ true = sym not_read ∙ ap is_read_only ops ∙ is in absurd cc
+      where
+        operation_same : (k u client t : ℕ) (o op : Operation) → read_from k u o ≡ read_from client t op → o ≡ op
+        operation_same k u client t o op e = ap (λ (b : Body). elim b.message [ Request time mode x ↦ x | _ ↦ o ]) e
+
+    pub leaves : (outs : List Output) → AnswersBytes d bytes [] outs → Left c me d h (after_event me (Got me bytes) outs h)
+    leaves outs (inl a) = answers outs a
+    leaves outs (inr (none, same)) = subst (λ (os : List Output). Left c me d h (after_event me (Got me bytes) os h)) (sym same) (drops (never_heard none))
+
+-- ---- a part
+
+-- the desk that answered, which is as it was
+pub read_leads : (part later : DeskPart) (d : DeskData) (bytes : List ℕ) (outs : List Output) → part.holds ≡ Some d → IsDeskPart part → asks_read bytes ≡ true → later ≡ part
+    → AnswersBytes d bytes [] outs → ReadLeads part bytes outs later
+read_leads part later d bytes outs holds are marks same answers = subst (ReadLeads part bytes outs) (sym same) leads
+  where
+    leads : ReadLeads part bytes outs part
+    leads c me h f = (
+      record {
+        me_is = f.me_is;
+        members_are = f.members_are;
+        right = l.1;
+        running = λ x is. subst (λ (y : DeskData). HoldsDesk c me y (after_event me (Got me bytes) outs h)) (some_injective d x (sym holds ∙ is)) l.0;
+      },
+      l.2,
+    )
+      where
+        l : Left c me d h (after_event me (Got me bytes) outs h)
+        l = leaves c me d h bytes (f.running d holds) marks (f.members_are ∙ sym (are d holds).1) ((are d holds).0 ∙ f.me_is) outs answers
+
+-- and one that stopped before it gave anything
+pub read_stops : (part stopped : DeskPart) (bytes : List ℕ) → stopped.member ≡ part.member → stopped.holds ≡ None → asks_read bytes ≡ true → ReadLeads part bytes [] stopped
+read_stops part stopped bytes same none marks c me h f = (
+  record {
+    me_is = ap (λ (m : MemberData). m.me) same ∙ f.me_is;
+    members_are = f.members_are ∙ sym (ap (λ (m : MemberData). m.membership) same);
+    right = inr (refl, tt, f.right);
+    running = λ x is. absurd (none_some x (sym none ∙ is));
+  },
+  unread (Got me bytes) h marks,
+)
+  where
+    none_some : (x : DeskData) → None ≡ Some x → ⊥
+    none_some x e = absurd cc

@@ -1,0 +1,18 @@
+use Rattle.std.proofs.Common.{rules, ◌≤◌, length, subst, arith}
+use Rattle.replica.specs.State.{JoinedData, AreOne}
+use Rattle.replica.specs.Waiting.{unnumbered}
+use Rattle.replica.proofs.NumbersGiven.{gives_number}
+use Rattle.replica.proofs.joined.Joined.number_turn.Goals as goal
+
+pub returns : goal.returns
+returns c = record {
+  ok = gives_number c.in-Some.number.0 c.args.self.now c.number_next.new.self c.args.outputs.now.items c.number_next.new.outputs.items
+      (subst (λ (r : JoinedData). AreOne r.orderer r.desk) c.self.view_is c.self.invariant)
+      (let next = c.in-Some.ensures.next in omega (arith, next))
+      c.in-Some.ensures.within
+      c.in-Some.ensures.free.3
+      c.in-Some.ensures.free.0
+      (subst (λ (r : JoinedData). 1 ≤ length (unnumbered r.desk.waiting)) c.self.view_is (c.has_unnumbered.ensures.some c.if-not-has_unnumbered.false))
+      c.in_ok-number_next.ensures.ok c.go_on.new.self c.go_on.new.outputs.items c.in_ok-go_on.ensures.ok;
+  endpoint = search rules;
+}

@@ -1,0 +1,25 @@
+use Rattle.std.proofs.Common.{List, [], true, false, subst}
+use Rattle.wire.specs.Messages.{CheckpointEntryData as CheckpointEntry}
+use Rattle.wire.specs.Views.{checkpoint_entry_data}
+use Rattle.events.specs.declared.output.Output.{Output}
+use Rattle.replica.specs.JoinedView.{joined_data}
+use Rattle.replica.specs.Checkpoints.{Follows, Settles}
+use Rattle.replica.proofs.CheckpointsCome.{checkpoint_dropped, checkpoint_settled, checkpoint_followed}
+use Rattle.replica.proofs.joined.Joined.on_checkpoint.Goals as goal
+
+pub returns-then-not-take_checkpoint-clause-ok : goal.returns-then-not-take_checkpoint-clause-ok
+returns-then-not-take_checkpoint-clause-ok c = rw (← c.self.view_is, c.requires.first)
+    (checkpoint_dropped (joined_data c.self.inside) c.self.invariant c.args.sender c.args.message.now c.take_checkpoint.new.self c.if-not-take_checkpoint.ensures.takes)
+
+pub returns-then-settle-clause-ok : goal.returns-then-settle-clause-ok
+returns-then-settle-clause-ok c = rw (← c.self.view_is, c.requires.first)
+    (checkpoint_settled (joined_data c.self.inside) c.self.invariant c.args.sender c.args.message.now c.take_checkpoint.new.self c.if-not-take_checkpoint.ensures.takes c.settle.new.self
+    (subst (λ (e : CheckpointEntry). Settles e (joined_data (record c.self.inside { orderer = c.take_checkpoint.new.self })) c.settle.new.self true) c.entry_in-entry.ensures c.if-settle.ensures.settles))
+
+pub returns-clause-ok : goal.returns-clause-ok
+returns-clause-ok c = rw (← c.self.view_is)
+    (checkpoint_followed (joined_data c.self.inside) c.self.invariant c.args.sender c.args.message.now c.take_checkpoint.new.self c.if-not-take_checkpoint.ensures.takes
+    c.settle.new.self c.follow.new.self c.follow.new.outputs.items
+    (subst (λ (e : CheckpointEntry). Settles e (joined_data (record c.self.inside { orderer = c.take_checkpoint.new.self })) c.settle.new.self false) c.entry_in-entry.ensures c.if-settle.ensures.settles)
+    (subst (λ (e : CheckpointEntry). Follows e c.settle.new.self [] c.follow.new.self c.follow.new.outputs.items) c.entry_in-entry.ensures
+    (subst (λ (outs : List Output). Follows (checkpoint_entry_data c.entry_in-entry.result) c.settle.new.self outs c.follow.new.self c.follow.new.outputs.items) c.requires.first c.in_ok-follow.ensures.ok)))

@@ -1,0 +1,21 @@
+use Rattle.std.proofs.Common.{rules, Bool, subst}
+use Rattle.replica.specs.JoinedView.{joined_data}
+use Rattle.replica.specs.Taking.{TakesBatch}
+use Rattle.replica.proofs.Beginning.{batch_taken, batch_dropped}
+use Rattle.replica.proofs.joined.Joined.on_pre_prepare.Goals as goal
+
+pub returns-then-not-branch : goal.returns-then-not-branch
+returns-then-not-branch c = record {
+  ok = rw (← c.self.view_is)
+      (batch_dropped (joined_data c.self.inside) c.args.sender c.args.message c.take_batch.new.self c.self.invariant
+      (subst (λ (b : Bool). TakesBatch c.self.inside.orderer c.args.sender c.args.message c.take_batch.new.self b) c.if-not-branch.true c.in_ok-take_batch.ensures.takes));
+  endpoint = search rules;
+}
+
+pub returns : goal.returns
+returns c = record {
+  ok = rw (← c.self.view_is)
+      (batch_taken (joined_data c.self.inside) c.args.sender c.args.message c.take_batch.new.self c.self.invariant
+      (subst (λ (b : Bool). TakesBatch c.self.inside.orderer c.args.sender c.args.message c.take_batch.new.self b) c.if-not-branch.false c.in_ok-take_batch.ensures.takes));
+  endpoint = search rules;
+}

@@ -1,0 +1,78 @@
+use Rattle.std.proofs.Common.{List, ap, ◌∙◌, subst}
+use Rattle.events.specs.declared.output.Output.{Output}
+use Rattle.replica.specs.State.{DeskData, JoinedData}
+use Rattle.replica.specs.JoinedView.{joined_data}
+use Rattle.replica.specs.declared.taking.Touched.TheVariants as touched
+use Rattle.replica.specs.declared.arriving.Arrival.TheVariants as arrivals
+use Rattle.replica.specs.Desking.{HasReply, PaysAgain, Waits}
+use Rattle.replica.specs.Arriving.{IsArrival}
+use Rattle.replica.specs.Entering.{TakesRequest}
+use Rattle.replica.proofs.Requests.{all_again, request_kept, request_past, request_again, request_new}
+use Rattle.replica.proofs.joined.Joined.on_request.Goals as goal
+
+pub returns-then-branch-clause-ok : goal.returns-then-branch-clause-ok
+returns-then-branch-clause-ok c =
+    let client = c.args.client in
+    let time = c.args.timestamp in
+    let frame = c.args.frame.now in
+    let d = c.self.inside.desk in
+    let outs = c.reply_again.new.outputs.items in
+    let new : JoinedData = joined_data (record c.self.inside { desk = c.reply_again.new.self }) in
+    subst (λ (a : JoinedData). TakesRequest client time frame a touched.Nothing new outs) c.self.view_is
+    (request_kept (joined_data c.self.inside) client time frame new outs c.self.invariant
+    (ap (λ (x : DeskData). joined_data (record c.self.inside { desk = x })) c.in_ok-reply_again.ensures.same)
+    (subst (λ (x : List Output). PaysAgain d client time x outs) c.requires.first c.in_ok-reply_again.ensures.pays)
+    (subst (HasReply d client time) c.if-branch.true c.in_ok-reply_again.ensures.has))
+
+pub returns-in-Past-clause-ok : goal.returns-in-Past-clause-ok
+returns-in-Past-clause-ok c =
+    let client = c.args.client in
+    let time = c.args.timestamp in
+    let frame = c.args.frame.now in
+    let d = c.self.inside.desk in
+    let outs = c.reply_again.new.outputs.items in
+    let new : JoinedData = joined_data (record c.self.inside { desk = c.reply_again.new.self }) in
+    subst (λ (a : JoinedData). TakesRequest client time frame a touched.Nothing new outs) c.self.view_is
+    (request_past (joined_data c.self.inside) client time frame new outs c.self.invariant
+    (ap (λ (x : DeskData). joined_data (record c.self.inside { desk = x })) c.in_ok-reply_again.ensures.same)
+    (subst (HasReply d client time) c.if-branch.false c.in_ok-reply_again.ensures.has)
+    (ap (λ o. o.items) (c.in_ok-reply_again.ensures.silent c.if-branch.false) ∙ c.requires.first)
+    (subst (λ (x : DeskData). IsArrival x client time frame arrivals.Past) c.in_ok-reply_again.ensures.same
+    c.in-Past.ensures))
+
+pub returns-in_ok-say_all_again-in-Waiting-clause-ok : goal.returns-in_ok-say_all_again-in-Waiting-clause-ok
+returns-in_ok-say_all_again-in-Waiting-clause-ok c =
+    let client = c.args.client in
+    let time = c.args.timestamp in
+    let frame = c.args.frame.now in
+    let d = c.self.inside.desk in
+    let new = c.say_all_again.new.self in
+    let outs = c.say_all_again.new.outputs.items in
+    let mid : JoinedData = joined_data (record c.self.inside { desk = c.reply_again.new.self }) in
+    subst (λ (a : JoinedData). TakesRequest client time frame a touched.Nothing new outs) c.self.view_is
+    (request_again (joined_data c.self.inside) client time frame new outs c.self.invariant
+    (c.in_ok-say_all_again-in-Waiting.ensures.same
+    ∙ ap (λ (x : DeskData). joined_data (record c.self.inside { desk = x })) c.in_ok-reply_again.ensures.same)
+    (subst (HasReply d client time) c.if-branch.false c.in_ok-reply_again.ensures.has)
+    (subst (λ (x : DeskData). IsArrival x client time frame arrivals.Waiting) c.in_ok-reply_again.ensures.same
+    c.in-Waiting.ensures)
+    (all_again mid new c.reply_again.new.outputs.items outs c.in_ok-say_all_again-in-Waiting.ensures.ok
+    (ap (λ o. o.items) (c.in_ok-reply_again.ensures.silent c.if-branch.false) ∙ c.requires.first)))
+
+pub returns-in_ok-wait-in-New-clause-ok : goal.returns-in_ok-wait-in-New-clause-ok
+returns-in_ok-wait-in-New-clause-ok c =
+    let client = c.args.client in
+    let time = c.args.timestamp in
+    let frame = c.args.frame.now in
+    let d = c.self.inside.desk in
+    let later = c.wait.new.self in
+    let outs = c.reply_again.new.outputs.items in
+    let new : JoinedData = joined_data (record c.self.inside { desk = c.wait.new.self }) in
+    subst (λ (a : JoinedData). TakesRequest client time frame a touched.Waiting new outs) c.self.view_is
+    (request_new (joined_data c.self.inside) client time frame later outs c.self.invariant
+    (subst (HasReply d client time) c.if-branch.false c.in_ok-reply_again.ensures.has)
+    (ap (λ o. o.items) (c.in_ok-reply_again.ensures.silent c.if-branch.false) ∙ c.requires.first)
+    (subst (λ (x : DeskData). IsArrival x client time frame arrivals.New) c.in_ok-reply_again.ensures.same
+    c.in-New.ensures)
+    (subst (λ (x : DeskData). Waits client time frame x later) c.in_ok-reply_again.ensures.same
+    c.in_ok-wait-in-New.ensures.ok))

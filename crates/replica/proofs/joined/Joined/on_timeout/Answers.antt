@@ -1,0 +1,38 @@
+use Rattle.std.proofs.Common.{List, subst}
+use Rattle.events.specs.declared.output.Output.{Output}
+use Rattle.replica.specs.Changing.{ChangesView}
+use Rattle.replica.specs.Fetching.{SaysFetch}
+use Rattle.replica.proofs.Ticking.{ticks_nothing, ticks_in_place, ticks_on}
+use Rattle.replica.proofs.joined.Joined.on_timeout.Goals as goal
+
+pub returns-in_default-clause-ok : goal.returns-in_default-clause-ok
+returns-in_default-clause-ok c =
+    let old = c.args.self.now in
+    let outs = c.say_fetch.new.outputs.items in
+    ticks_nothing old c.are_one.ensures c.say_fetch.new.self outs c.in_ok-say_fetch.ensures.same
+    (subst (λ (os : List Output). SaysFetch old os outs) c.requires.first c.in_ok-say_fetch.ensures.ok)
+
+pub returns-then-not-branch-clause-ok : goal.returns-then-not-branch-clause-ok
+returns-then-not-branch-clause-ok c =
+    let old = c.args.self.now in
+    let fetched = c.say_fetch.new.self in
+    let mid = c.change_view.new.self in
+    let x = c.say_fetch.new.outputs.items in
+    let outs = c.change_view.new.outputs.items in
+    ticks_in_place old c.are_one.ensures fetched mid x outs c.in_ok-say_fetch.ensures.same
+    (subst (λ (os : List Output). SaysFetch old os x) c.requires.first c.in_ok-say_fetch.ensures.ok)
+    (subst (ChangesView fetched x mid outs) c.if-not-branch.true c.in_ok-change_view.ensures.ok)
+
+pub returns-clause-ok : goal.returns-clause-ok
+returns-clause-ok c =
+    let old = c.args.self.now in
+    let fetched = c.say_fetch.new.self in
+    let mid = c.change_view.new.self in
+    let new = c.begin_view.new.self in
+    let x = c.say_fetch.new.outputs.items in
+    let y = c.change_view.new.outputs.items in
+    let outs = c.begin_view.new.outputs.items in
+    ticks_on old c.are_one.ensures c.begin_view.result fetched mid new x y outs c.in_ok-say_fetch.ensures.same
+    (subst (λ (os : List Output). SaysFetch old os x) c.requires.first c.in_ok-say_fetch.ensures.ok)
+    (subst (ChangesView fetched x mid y) c.if-not-branch.false c.in_ok-change_view.ensures.ok)
+    c.begin_view.ensures.ok

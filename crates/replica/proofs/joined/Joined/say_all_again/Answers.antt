@@ -1,0 +1,31 @@
+use Rattle.std.proofs.Common.{true, false, refl, sym, ap, ◌∙◌, subst}
+use Rattle.replica.specs.State.{JoinedData}
+use Rattle.replica.specs.JoinedView.{joined_data}
+use Rattle.replica.specs.Saying.{AllAgain}
+use Rattle.replica.proofs.Results.{on_ok}
+use Rattle.replica.proofs.Again.{all_again}
+use Rattle.replica.proofs.joined.Joined.say_all_again.Goals as goal
+
+pub returns-then-not-is_active-clause-ok : goal.returns-then-not-is_active-clause-ok
+returns-then-not-is_active-clause-ok c =
+    let o = c.say_change_again.new.self in
+    let before = c.args.outputs.now.items in
+    let after = c.say_change_again.new.outputs.items in
+    let new : JoinedData = joined_data (record c.self.inside { orderer = o }) in
+    on_ok c.say_change_again.result
+    (λ says. subst (λ (r : JoinedData). AllAgain r before new after) c.self.view_is
+    (all_again false (joined_data c.self.inside) new o before after
+    (ap (λ r. r.orderer.log.active) (sym c.self-inside.view_is) ∙ sym c.if-not-is_active.ensures) says refl))
+    c.say_change_again.ensures.ok
+
+pub returns-clause-ok : goal.returns-clause-ok
+returns-clause-ok c =
+    let o = c.say_again.new.self in
+    let before = c.args.outputs.now.items in
+    let after = c.say_again.new.outputs.items in
+    let new : JoinedData = joined_data (record c.self.inside { orderer = o }) in
+    on_ok c.say_again.result
+    (λ says. subst (λ (r : JoinedData). AllAgain r before new after) c.self.view_is
+    (all_again true (joined_data c.self.inside) new o before after
+    (ap (λ r. r.orderer.log.active) (sym c.self-inside.view_is) ∙ sym c.if-not-is_active.ensures) says refl))
+    c.say_again.ensures.ok

@@ -1,9 +1,0 @@
-use Rattle.std.proofs.Common.{refl, ap}
-use Rattle.replica.specs.ReplicaView.{replica_data}
-use Rattle.replica.proofs.Marking.{moves_so}
-use Rattle.replica.proofs.replica.Replica.move_marks.Goals as goal
-
-pub returns-clause-moves : goal.returns-clause-moves
-returns-clause-moves c =
-    rw (← c.self.view_is)
-    (moves_so c.args.low.0 c.low.result.0 (replica_data c.self.inside) _ _ c.cut.new.self c.drop_below.new.self c.cut.ensures (ap replica_data c.self-inside.view_is) c.low.ensures.value c.drop_below.ensures refl)

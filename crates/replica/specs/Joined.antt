@@ -1,0 +1,49 @@
+-- The relation between a replica whose parts are joined, as they are within an event, and its history.
+use Rattle.std.specs.Prelude.{◌≡◌, ℕ, List}
+use Rattle.events.specs.Outputs.{after_event}
+use Rattle.events.specs.declared.output.Output.{Output}
+use Rattle.protocol.specs.System.Configuration.{Configuration, members}
+use Rattle.protocol.specs.System.Trace.{Entry}
+use Rattle.replica_histories.specs.Desk.{Desk}
+use Rattle.replica_histories.specs.Events as histories
+use Rattle.protocol.specs.Replica.Owed.{IsReplica}
+use Rattle.replica_histories.specs.Changes.{FitsChanges}
+use Rattle.replica.specs.declared.replica.Event.{Event}
+use Rattle.replica.specs.Inputs.{input_of}
+use Rattle.replica.specs.State.{OrdererData, DeskData, JoinedData}
+use Rattle.replica.specs.Desks.{IsDeskOf, FitsWaiting, WasSaid, changes_of}
+use Rattle.replica.specs.Numbering.{IsAllNumbered}
+
+-- a replica of these parts
+abbrev pub joined : OrdererData → DeskData → JoinedData
+joined o d = record { orderer = o; desk = d }
+
+-- the replica's number
+abbrev pub me_of : JoinedData → ℕ
+me_of r = r.orderer.endpoint.me
+
+-- what it holds of its history
+pub record Runs (c : Configuration) (r : JoinedData) (history : List Entry) : Type 0 where
+  pub desk : Desk
+  pub is_desk : IsDeskOf c r.desk desk
+  pub holds : histories.Holds c (me_of r) desk r.orderer.log history
+  pub numbers : FitsWaiting c (me_of r) r.orderer r.desk.waiting desk history
+  pub said : WasSaid (me_of r) r.orderer.last_checkpoint history
+  pub changes : FitsChanges c (me_of r) r.orderer.log (changes_of r.orderer) history
+  pub all : IsAllNumbered r
+
+-- The history is that of a replica which orders requests, and what the replica holds is what the history says.
+pub record Fits (c : Configuration) (r : JoinedData) (history : List Entry) : Type 0 where
+  pub members_are : members c ≡ r.orderer.endpoint.membership
+  pub right : IsReplica c (me_of r) history
+  pub runs : Runs c r history
+
+-- Whatever history the replica fits, it fits that behind the event then.
+abbrev pub Leads : JoinedData → Entry → List Output → JoinedData → Type 0
+Leads old input outs new =
+    (c : Configuration) (history : List Entry) → Fits c old history
+    → Fits c new (after_event (me_of old) input outs history)
+
+-- an event leads to what the step gives
+abbrev pub EventLeads : JoinedData → Event → List Output → JoinedData → Type 0
+EventLeads old event outs new = Leads old (input_of (me_of old) event) outs new

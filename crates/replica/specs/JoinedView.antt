@@ -1,0 +1,6 @@
+-- What the fields of a joined replica stand for.
+use Rattle.replica.specs.declared.joined.Joined.TheInside.{Inside}
+use Rattle.replica.specs.State.{JoinedData}
+
+abbrev pub joined_data : Inside → JoinedData
+joined_data r = record { orderer = r.orderer; desk = r.desk }

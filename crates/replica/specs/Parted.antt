@@ -1,0 +1,114 @@
+-- A replica in two parts, and how each meets the history: the desk the whole of it, the orderer the part without reads
+-- (Castro and Liskov, TOCS 2002, on read-only operations).
+use Rattle.std.specs.Prelude.{◌≡◌, ℕ, ◌<◌, ◌≤◌, ◌⊎◌, List, [], Some, None}
+use Rattle.std.specs.Option.{ForSome}
+use Rattle.events.specs.Outputs.{after_event}
+use Rattle.events.specs.declared.output.Output.{Output}
+use Rattle.protocol.specs.System.Configuration.{Configuration, members, primary}
+use Rattle.protocol.specs.System.Reads.{without_reads}
+use Rattle.protocol.specs.System.Trace.{Entry}
+use Rattle.protocol.specs.System.Trace.Entry.{Got}
+use Rattle.protocol.specs.Replica.Certificates.{view, low, logged}
+use Rattle.protocol.specs.Replica.Owed.{IsReplica}
+use Rattle.replica_histories.specs.Desk.{Desk}
+use Rattle.replica_histories.specs.Events as histories
+use Rattle.replica_histories.specs.Changes.{FitsChanges}
+use Rattle.replica.specs.declared.replica.Event.{Event}
+use Rattle.replica.specs.State.{OrdererData, DeskData, OrdererPart, DeskPart, AreOne}
+use Rattle.replica.specs.Flags.{FitsFlags}
+use Rattle.replica.specs.Desks.{IsDeskOf, WasSaid, changes_of}
+use Rattle.replica.specs.Inputs.{input_of}
+use Rattle.replica.specs.Joined.{EventLeads, joined}
+use Rattle.replica.specs.Changing.{AreChanges}
+
+-- ---- what a part that runs holds
+
+-- The flags of what waits are right, by some number that is used last.
+abbrev pub HasFlags : Configuration → ℕ → DeskData → Desk → List Entry → Type 0
+HasFlags c me d desk history =
+    (used : ℕ) × FitsFlags c me (view c history) used d.waiting desk.state desk.waiting history
+
+-- The desk holds a point of the whole history. At the primary of the view it has the flags of what waits.
+pub record HoldsDesk (c : Configuration) (me : ℕ) (d : DeskData) (history : List Entry) : Type 0 where
+  pub desk : Desk
+  pub is_desk : IsDeskOf c d desk
+  pub holds : histories.HoldsDesk c me desk history
+  pub low : histories.IsReached c me (low c me history) desk.state.number [] history
+  pub flags : primary c (view c history) ≡ me → HasFlags c me d desk history
+
+-- Nothing is logged above the number that is used last, which is not above the low mark, or has a batch.
+pub record IsUsed (c : Configuration) (me v used : ℕ) (history : List Entry) : Type 0 where
+  pub free : (j : ℕ) → used < j → logged c me history v j ≡ None
+  pub top : (used ≤ low c me history) ⊎ ((batch : List ℕ) × (logged c me history v used ≡ Some batch))
+
+-- The orderer holds what the entries of ordering certify. It knows of no point and no state.
+pub record HoldsOrderer (c : Configuration) (me : ℕ) (o : OrdererData) (history : List Entry) : Type 0 where
+  pub holds : histories.HoldsLog c me o.log history
+  pub used : primary c (view c history) ≡ me → IsUsed c me (view c history) o.used history
+  pub said : WasSaid me o.last_checkpoint history
+  pub changes : FitsChanges c me o.log (changes_of o) history
+  pub period : c.period ≡ o.received.sizes.period
+
+-- ---- what fits
+
+-- The desk is the replica's, whose history is a correct one's; and unless it stopped it holds of it.
+pub record FitsDesk (c : Configuration) (me : ℕ) (d : DeskPart) (history : List Entry) : Type 0 where
+  pub me_is : d.member.me ≡ me
+  pub members_are : members c ≡ d.member.membership
+  pub right : IsReplica c me history
+  pub running : ForSome d.holds (λ x. HoldsDesk c me x history)
+
+-- So is the orderer, of the entries of ordering.
+pub record FitsOrderer (c : Configuration) (me : ℕ) (o : OrdererPart) (ordering : List Entry) : Type 0 where
+  pub me_is : o.member.me ≡ me
+  pub members_are : members c ≡ o.member.membership
+  pub running : ForSome o.holds (λ x. HoldsOrderer c me x ordering)
+
+-- both fit one history
+abbrev pub FitBoth : Configuration → ℕ → OrdererPart → DeskPart → List Entry → Type 0
+FitBoth c me o d history = FitsDesk c me d history × FitsOrderer c me o (without_reads history)
+
+-- ---- what a call leads to
+
+-- Whatever history both fit, they fit that behind the event then.
+abbrev pub BothLead : OrdererPart → DeskPart → Event → List Output → OrdererPart → DeskPart → Type 0
+BothLead o d event outs later_o later_d =
+    (c : Configuration) (me : ℕ) (history : List Entry) → FitBoth c me o d history
+    → FitBoth c me later_o later_d (after_event me (input_of me event) outs history)
+
+-- Whatever history the desk fits, it fits that behind the read then; and the entries of ordering are the same.
+abbrev pub ReadLeads : DeskPart → List ℕ → List Output → DeskPart → Type 0
+ReadLeads d bytes outs later =
+    (c : Configuration) (me : ℕ) (history : List Entry) → FitsDesk c me d history
+    → FitsDesk c me later (after_event me (Got me bytes) outs history)
+    × (without_reads (after_event me (Got me bytes) outs history) ≡ without_reads history)
+
+-- A part that stopped goes with any history: the desk with one that is a correct replica's.
+abbrev pub DeskStops : DeskPart → DeskPart → Type 0
+DeskStops d stopped =
+    (c : Configuration) (me : ℕ) (history other : List Entry) → FitsDesk c me d history → IsReplica c me other
+    → FitsDesk c me stopped other
+
+abbrev pub OrdererStops : OrdererPart → OrdererPart → Type 0
+OrdererStops o stopped =
+    (c : Configuration) (me : ℕ) (ordering other : List Entry) → FitsOrderer c me o ordering
+    → FitsOrderer c me stopped other
+
+-- ---- of private functions
+
+-- both are of one replica, and neither has stopped
+pub record AreTogether (o : OrdererPart) (d : DeskPart) : Type 0 where
+  pub member : o.member ≡ d.member
+  pub orderer : OrdererData
+  pub desk : DeskData
+  pub orders : o.holds ≡ Some orderer
+  pub answers : d.holds ≡ Some desk
+  pub period : orderer.received.sizes.period ≡ desk.period
+
+-- what they give in an event when they are joined
+pub record Reacts (o : OrdererData) (d : DeskData) (event : Event) (outs : List Output) (later_o : OrdererData)
+    (later_d : DeskData) : Type 0 where
+  pub leads : EventLeads (joined o d) event outs (joined later_o later_d)
+  pub one : AreOne later_o later_d
+  pub changes : AreChanges later_o.received.held
+  pub endpoint : later_o.endpoint ≡ o.endpoint

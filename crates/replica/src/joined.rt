@@ -1,0 +1,110 @@
+//! Both parts of a replica, as they are within an event.
+
+ghost use Rattle.std.specs.Prelude.{◌≡◌, [], IfOk, OnOk};
+ghost use Rattle.replica.specs.State.{AreOne};
+ghost use Rattle.replica.specs.Entering.{TakesInput};
+ghost use Rattle.replica.specs.FollowingUp.{ExecutesAndNumbers, FollowsUp};
+ghost use Rattle.replica.specs.Inputs.{input_of};
+ghost use Rattle.replica.specs.Joined.{EventLeads, me_of};
+
+use crate::desk::Desk;
+use crate::orderer::Orderer;
+use crate::replica::Event;
+use crate::taking::Touched;
+use events::{Outputs, Stop};
+use std::alloc::Global;
+use std::marker::Model;
+
+/// What orders and what is executed share nothing but the steps that they make together.
+#[derive(Drop)]
+pub(crate) struct Joined {
+    pub(crate) orderer: Orderer,
+    pub(crate) desk: Desk,
+}
+
+impl Model for Joined {
+    ghost use Rattle.replica.specs.State.{JoinedData, AreOne};
+    ghost use Rattle.std.specs.Coded.{codes};
+    ghost use Rattle.execution.specs.Executed.{executed_code};
+
+    ghost Value = { JoinedData };
+
+    ghost coded = { Prim.hlevel (codes, executed_code) };
+
+    ghost use Rattle.replica.specs.JoinedView.{joined_data};
+
+    ghost view = { joined_data };
+
+    ghost invariant = { λ r. AreOne r.orderer r.desk };
+}
+
+impl Joined {
+    // Tells a proof that both parts are of one replica.
+    pub(crate) fn are_one(&self)
+        ensures { AreOne self.now.orderer self.now.desk }
+    {
+        let _period = self.desk.period;
+    }
+
+    // What is given for an event: first what the message itself asks for, then what the log asks for, and last the
+    // numbers that are free for waiting requests.
+    pub(crate) fn react(&mut self, alloc: Global, event: Event<'_>) -> Result<Outputs, Stop>
+        ensures leads { IfOk result (λ outs. EventLeads self.old event.entry outs.items self.new) }
+        ensures endpoint { self.new.orderer.endpoint ≡ self.old.orderer.endpoint }
+    {
+        self.are_one();
+        let mut outputs = Vec::new(alloc);
+        let touched = self.begin(alloc, event, &mut outputs)?;
+        self.follow_up(alloc, touched, &mut outputs)?;
+        Ok(outputs)
+    }
+
+    // What the event itself asks for. Returns what it touched.
+    fn begin(
+        &mut self,
+        alloc: Global,
+        event: Event<'_>,
+        outputs: &mut Outputs,
+    ) -> Result<Touched, Stop>
+        requires first { outputs.old.items ≡ [] }
+        ensures ok { IfOk result (λ touched. TakesInput (input_of (me_of self.old) event.entry) self.old
+            touched self.new outputs.new.items) }
+        ensures endpoint { self.new.orderer.endpoint ≡ self.old.orderer.endpoint }
+    {
+        match event {
+            Event::Timeout => self.on_timeout(alloc, outputs),
+            Event::Got(bytes) => self.take(alloc, bytes, outputs),
+        }
+    }
+
+    // What is asked for next, once an event touched this.
+    fn follow_up(
+        &mut self,
+        alloc: Global,
+        touched: Touched,
+        outputs: &mut Outputs,
+    ) -> Result<(), Stop>
+        ensures ok { OnOk result (FollowsUp touched self.old outputs.old.items self.new outputs.new.items) }
+        ensures endpoint { self.new.orderer.endpoint ≡ self.old.orderer.endpoint }
+    {
+        match touched {
+            Touched::Nothing => Ok(()),
+            Touched::Waiting => self.number_waiting(alloc, outputs),
+            Touched::Row(number) => {
+                self.go_on(alloc, number, outputs)?;
+                self.number_waiting(alloc, outputs)
+            }
+            Touched::State | Touched::View => self.execute_and_number(alloc, outputs),
+        }
+    }
+
+    // Executes what is committed, and then gives numbers to what waits.
+    fn execute_and_number(&mut self, alloc: Global, outputs: &mut Outputs) -> Result<(), Stop>
+        ensures ok { OnOk result
+            (ExecutesAndNumbers self.old outputs.old.items self.new outputs.new.items) }
+        ensures endpoint { self.new.orderer.endpoint ≡ self.old.orderer.endpoint }
+    {
+        self.execute_committed(alloc, outputs)?;
+        self.number_waiting(alloc, outputs)
+    }
+}

@@ -1,0 +1,289 @@
+//! A replica in two parts, which may lie behind two locks: what orders, and the desk, which answers reads beside it.
+//!
+//! The desk goes with the whole history, the orderer with the entries of ordering. An event of ordering takes both; a
+//! read takes the desk alone. Each part has a stop flag of its own: one that stopped holds nothing any more.
+
+ghost use Rattle.std.specs.Prelude.{◌≡◌, ◌⊎◌, ◌↔◌, true, false, [], None, Some, Err, is_none, IfOk, OnErr, OnOk, IsTrue};
+ghost use Rattle.events.specs.declared.output.Stop.TheVariants as Stop;
+ghost use Rattle.replica.specs.State.{AreOne};
+ghost use Rattle.replica.specs.MemberView.{member_data};
+ghost use Rattle.replica.specs.Parted.{AreTogether, BothLead, DeskStops, OrdererStops, Reacts, ReadLeads};
+ghost use Rattle.wire.specs.Marks.{asks_read};
+
+use crate::desk::Desk as DeskState;
+use crate::joined::Joined;
+use crate::member::Member;
+use crate::orderer::Orderer as OrdererState;
+use crate::replica::Event;
+use bumpalo::Bump;
+use events::{Outputs, Stop};
+use read_only::asks_read;
+use std::alloc::Global;
+use std::marker::Model;
+
+/// What orders. It knows of no state.
+#[derive(Drop)]
+pub struct Orderer {
+    member: Member,
+    holds: Option<OrdererState>,
+}
+
+impl Model for Orderer {
+    ghost use Rattle.replica.specs.State.{OrdererPart, IsOrdererPart};
+    ghost use Rattle.replica.specs.PartedView.{orderer_part};
+
+    ghost Value = { OrdererPart };
+
+    ghost view = { orderer_part };
+
+    ghost invariant = { λ o. IsOrdererPart (orderer_part o) };
+}
+
+/// What is executed, what is kept of it, and what waits for it, with the keys for replies.
+#[derive(Drop)]
+pub struct Desk {
+    member: Member,
+    holds: Option<DeskState>,
+}
+
+impl Model for Desk {
+    ghost use Rattle.replica.specs.State.{DeskPart, IsDeskPart};
+    ghost use Rattle.replica.specs.PartedView.{desk_part};
+    ghost use Rattle.std.specs.Coded.{codes};
+    ghost use Rattle.execution.specs.Executed.{executed_code};
+
+    ghost Value = { DeskPart };
+
+    ghost coded = { Prim.hlevel (codes, executed_code) };
+
+    ghost view = { desk_part };
+
+    ghost invariant = { λ d. IsDeskPart (desk_part d) };
+}
+
+impl Orderer {
+    pub(crate) fn new(member: Member, orderer: OrdererState) -> Orderer
+        requires me { orderer.endpoint.me ≡ (member_data member).me }
+        requires membership { orderer.endpoint.membership ≡ (member_data member).membership }
+        ensures { result ≡ record { member = member_data member; holds = Some orderer } }
+    {
+        Orderer {
+            member,
+            holds: Some(orderer),
+        }
+    }
+
+    /// Whether the orderer has stopped.
+    pub fn is_stopped(&self) -> bool
+        ensures { result ≡ is_none self.now.holds }
+    {
+        self.holds.is_none()
+    }
+
+    /// Stops the orderer.
+    pub fn stop(&mut self)
+        ensures stopped { self.new.holds ≡ None }
+        ensures member { self.new.member ≡ self.old.member }
+        ensures keeps { OrdererStops self.old self.new }
+    {
+        self.holds = None;
+    }
+
+    /// What the replica of both parts gives for its next input. A desk of another replica gives nothing, and nothing
+    /// changes.
+    ///
+    /// # Errors
+    ///
+    /// NoMemory where memory runs out, and Stopped exactly where either part had stopped before. Both have stopped
+    /// then, and nothing is given.
+    pub fn step(
+        &mut self,
+        alloc: Global,
+        desk: &mut Desk,
+        event: Event<'_>,
+    ) -> Result<Outputs, Stop>
+        ensures leads { IfOk result (λ outs. BothLead self.old desk.old event.entry outs.items self.new desk.new) }
+        ensures stops { OnErr result (BothLead self.old desk.old event.entry [] self.new desk.new) }
+        ensures runs { IfOk result (λ _. is_none self.new.holds ≡ false) }
+        ensures desk_runs { IfOk result (λ _. is_none desk.new.holds ≡ false) }
+        ensures stopped { OnErr result (self.new.holds ≡ None) }
+        ensures desk_stopped { OnErr result (desk.new.holds ≡ None) }
+        ensures before { (result ≡ Err Stop.Stopped) ↔ ((self.old.holds ≡ None) ⊎ (desk.old.holds ≡ None)) }
+        ensures member { self.new.member ≡ self.old.member }
+        ensures desk_member { desk.new.member ≡ desk.old.member }
+    {
+        if self.is_stopped() || desk.is_stopped() {
+            self.stop();
+            desk.stop();
+            return Err(Stop::Stopped);
+        }
+        if !self.goes_with(desk) {
+            return Ok(Vec::new(alloc));
+        }
+        self.step_with(alloc, desk, event)
+    }
+
+    // Whether both are of one replica, and neither has stopped.
+    fn goes_with(&self, desk: &Desk) -> bool
+        ensures { IsTrue result ↔ AreTogether self.now desk.now }
+    {
+        let (Some(orderer), Some(state)) = (&self.holds, &desk.holds) else {
+            return false;
+        };
+        self.member.is_same(&desk.member) && have_one_period(orderer, state)
+    }
+
+    // What both give together. They have stopped where that is refused.
+    fn step_with(
+        &mut self,
+        alloc: Global,
+        desk: &mut Desk,
+        event: Event<'_>,
+    ) -> Result<Outputs, Stop>
+        requires together { AreTogether self.old desk.old }
+        ensures leads { IfOk result (λ outs. BothLead self.old desk.old event.entry outs.items self.new desk.new) }
+        ensures runs { IfOk result (λ _. is_none self.new.holds ≡ false) }
+        ensures desk_runs { IfOk result (λ _. is_none desk.new.holds ≡ false) }
+        ensures refused { OnErr result (result ≡ Err Stop.NoMemory) }
+        ensures stopped { OnErr result (self.new.holds ≡ None) }
+        ensures desk_stopped { OnErr result (desk.new.holds ≡ None) }
+        ensures member { self.new.member ≡ self.old.member }
+        ensures desk_member { desk.new.member ≡ desk.old.member }
+    {
+        let orderer = take_orderer(&mut self.holds);
+        let state = take_desk(&mut desk.holds);
+        let (orderer, state, outputs) = react(alloc, orderer, state, event)?;
+        self.holds = Some(orderer);
+        desk.holds = Some(state);
+        Ok(outputs)
+    }
+}
+
+// Whether both have checkpoints as often.
+fn have_one_period(orderer: &OrdererState, desk: &DeskState) -> bool
+    ensures { IsTrue result ↔ (orderer.now.received.sizes.period ≡ desk.now.period) }
+{
+    orderer.period() == desk.period
+}
+
+fn take_orderer(holds: &mut Option<OrdererState>) -> OrdererState
+    requires { is_none holds.old ≡ false }
+    ensures is { holds.old ≡ Some result }
+    ensures left { holds.new ≡ None }
+{
+    match holds.take() {
+        Some(orderer) => orderer,
+        None => unreachable!(),
+    }
+}
+
+fn take_desk(holds: &mut Option<DeskState>) -> DeskState
+    requires { is_none holds.old ≡ false }
+    ensures is { holds.old ≡ Some result }
+    ensures left { holds.new ≡ None }
+{
+    match holds.take() {
+        Some(desk) => desk,
+        None => unreachable!(),
+    }
+}
+
+// What orders, the desk, and what they gave for the event.
+fn react(
+    alloc: Global,
+    orderer: OrdererState,
+    desk: DeskState,
+    event: Event<'_>,
+) -> Result<(OrdererState, DeskState, Outputs), Stop>
+    requires { AreOne orderer desk }
+    ensures goes { IfOk result (λ r. Reacts orderer desk event.entry r.2.items r.0 r.1) }
+    ensures refused { OnErr result (result ≡ Err Stop.NoMemory) }
+{
+    let mut joined = Joined { orderer, desk };
+    let Ok(outputs) = joined.react(alloc, event) else {
+        return Err(Stop::NoMemory);
+    };
+    joined.orderer.note_changes();
+    let Joined { orderer, desk } = joined;
+    Ok((orderer, desk, outputs))
+}
+
+impl Desk {
+    pub(crate) fn new(member: Member, desk: DeskState) -> Desk
+        requires me { desk.me ≡ (member_data member).me }
+        requires membership { desk.membership ≡ (member_data member).membership }
+        ensures { result ≡ record { member = member_data member; holds = Some desk } }
+    {
+        Desk {
+            member,
+            holds: Some(desk),
+        }
+    }
+
+    /// Whether the desk has stopped.
+    pub fn is_stopped(&self) -> bool
+        ensures { result ≡ is_none self.now.holds }
+    {
+        self.holds.is_none()
+    }
+
+    /// Stops the desk.
+    pub fn stop(&mut self)
+        ensures stopped { self.new.holds ≡ None }
+        ensures member { self.new.member ≡ self.old.member }
+        ensures keeps { DeskStops self.old self.new }
+    {
+        self.holds = None;
+    }
+
+    /// What the replica gives for bytes with the marks of a read: the answer from what is executed, if it hears a read.
+    /// Other bytes give nothing, and change nothing. The arena is for the read's template alone.
+    ///
+    /// # Errors
+    ///
+    /// NoMemory where memory runs out, with which the desk stops, and Stopped exactly where it had stopped before.
+    /// Nothing is given then.
+    pub fn read(&mut self, alloc: Global, bytes: &[u8], arena: &mut Bump) -> Result<Outputs, Stop>
+        ensures leads { asks_read bytes.now ≡ true
+            → IfOk result (λ outs. ReadLeads self.old bytes.now outs.items self.new) }
+        ensures stops { asks_read bytes.now ≡ true → OnErr result (ReadLeads self.old bytes.now [] self.new) }
+        ensures others { asks_read bytes.now ≡ false → IfOk result (λ outs. outs.items ≡ []) }
+        ensures same { IfOk result (λ _. self.new ≡ self.old) }
+        ensures stopped { OnErr result (self.new.holds ≡ None) }
+        ensures before { (result ≡ Err Stop.Stopped) ↔ (self.old.holds ≡ None) }
+        ensures member { self.new.member ≡ self.old.member }
+    {
+        if self.is_stopped() {
+            return Err(Stop::Stopped);
+        }
+        let mut outputs = Vec::new(alloc);
+        if self.answer(alloc, bytes, arena, &mut outputs).is_err() {
+            self.stop();
+            return Err(Stop::NoMemory);
+        }
+        Ok(outputs)
+    }
+
+    // Gives the answer to bytes with the marks of a read.
+    fn answer(
+        &mut self,
+        alloc: Global,
+        bytes: &[u8],
+        arena: &mut Bump,
+        outputs: &mut Outputs,
+    ) -> Result<(), Stop>
+        requires first { outputs.old.items ≡ [] }
+        ensures leads { asks_read bytes.now ≡ true → is_none self.old.holds ≡ false
+            → OnOk result (ReadLeads self.old bytes.now outputs.new.items self.new) }
+        ensures others { asks_read bytes.now ≡ false → OnOk result (outputs.new.items ≡ []) }
+        ensures same { self.new ≡ self.old }
+    {
+        let Some(state) = &mut self.holds else {
+            return Ok(());
+        };
+        if !asks_read(bytes) {
+            return Ok(());
+        }
+        state.read(alloc, bytes, arena, outputs)
+    }
+}
