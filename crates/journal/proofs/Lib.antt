@@ -1,0 +1,12 @@
+pub mod Turned
+pub mod Events
+pub mod Running
+pub mod Carriers
+pub mod Fronts
+pub mod Adding
+pub mod Projecting
+pub mod Tied
+pub mod Matches
+pub mod Openings
+pub mod Appending
+pub mod Unforging

@@ -1,0 +1,243 @@
+//! Entries, compared and copied.
+
+ghost use Rattle.std.specs.Prelude.{◌≡◌, ◌↔◌, IfOk, IsTrue};
+ghost use Rattle.std.specs.List.{list_any};
+ghost use Rattle.terms.specs.Parties.{party_number};
+ghost use Rattle.tuple_codec.specs.OperationView.{operation_of, outcome_of};
+ghost use Rattle.protocol.specs.System.Trace.{party_of};
+ghost use Rattle.protocol.specs.System.Trace.Entry.{Invoke, Got, Tick, Executed, Installed, Sent, Accepted};
+ghost use Rattle.events.specs.EntryView.{entry_of_kind};
+ghost use Rattle.wire.specs.Marks.{asks_read, answers_read};
+ghost use Rattle.protocol.specs.System.Reads.{is_beside, orders, without_reads};
+
+use crate::operations::{copy_op, is_same_answer, is_same_op};
+use events::{Entry, EntryKind};
+use std::alloc::Global;
+use terms::{ClientId, Digest, NoMemory, Number, Party, ReplicaId, Timestamp};
+use tuple_codec::{Answer, Op};
+
+/// The number of the party at which the entry stands.
+pub(crate) fn party_of(entry: &Entry) -> u16
+    ensures { result ≡ party_of entry.now }
+{
+    party_of_kind(entry.kind())
+}
+
+fn party_of_kind(kind: &EntryKind) -> u16
+    ensures { result ≡ party_of (entry_of_kind kind.now) }
+{
+    match kind {
+        EntryKind::Invoke(client, _, _) => Party::Client(*client).number(),
+        EntryKind::Got(party, _) => party.number(),
+        EntryKind::Tick(party) => party.number(),
+        EntryKind::Executed(replica, _, _) => u16::from(replica.0),
+        EntryKind::Installed(replica, _, _) => u16::from(replica.0),
+        EntryKind::Sent(party, _) => party.number(),
+        EntryKind::Accepted(client, _, _) => Party::Client(*client).number(),
+    }
+}
+
+/// Whether the entry is one of ordering, and not of a read.
+pub(crate) fn orders(entry: &Entry) -> bool
+    ensures { result ≡ orders entry.now }
+{
+    !is_beside(entry.kind())
+}
+
+fn is_beside(kind: &EntryKind) -> bool
+    ensures { result ≡ is_beside (entry_of_kind kind.now) }
+{
+    match kind {
+        EntryKind::Got(_, bytes) => asks_read(bytes.as_slice()),
+        EntryKind::Sent(_, bytes) => answers_read(bytes.as_slice()),
+        _ => false,
+    }
+}
+
+fn asks_read(bytes: &[u8]) -> bool
+    ensures { result ≡ asks_read bytes.now }
+{
+    bytes.len() > 15 && bytes[4] == 0x41 && bytes[15] == 0x01
+}
+
+fn answers_read(bytes: &[u8]) -> bool
+    ensures { result ≡ answers_read bytes.now }
+{
+    bytes.len() > 17 && bytes[4] == 0x48 && bytes[17] == 0x01
+}
+
+/// Whether one of them is an entry of ordering.
+pub(crate) fn have_ordering(entries: &[Entry]) -> bool
+    ensures { result ≡ list_any orders entries.now }
+{
+    entries.iter().any(|entry| orders(entry))
+}
+
+/// Equal entries.
+pub(crate) fn copy_entries(alloc: Global, entries: &[Entry]) -> Result<Vec<Entry>, NoMemory>
+    ensures { IfOk result (λ copies. copies.items ≡ entries.now) }
+{
+    let mut copies = Vec::with_capacity(alloc, entries.len())?;
+    for entry in entries {
+        copies.push(copy_entry(alloc, entry)?)?;
+    }
+    Ok(copies)
+}
+
+/// Equal entries, those of reads left out.
+pub(crate) fn copy_ordering(alloc: Global, entries: &[Entry]) -> Result<Vec<Entry>, NoMemory>
+    ensures { IfOk result (λ copies. copies.items ≡ without_reads entries.now) }
+{
+    let mut copies = Vec::new(alloc);
+    for entry in entries {
+        if orders(entry) {
+            copies.push(copy_entry(alloc, entry)?)?;
+        }
+    }
+    Ok(copies)
+}
+
+fn copy_entry(alloc: Global, entry: &Entry) -> Result<Entry, NoMemory>
+    ensures { IfOk result (λ copy. copy ≡ entry.now) }
+{
+    Ok(Entry::new(copy_kind(alloc, entry.kind())?))
+}
+
+fn copy_kind(alloc: Global, kind: &EntryKind) -> Result<EntryKind, NoMemory>
+    ensures { IfOk result (λ copy. entry_of_kind copy ≡ entry_of_kind kind.now) }
+{
+    match kind {
+        EntryKind::Invoke(client, timestamp, op) => {
+            Ok(EntryKind::Invoke(*client, *timestamp, copy_op(alloc, op)?))
+        }
+        EntryKind::Got(party, bytes) => {
+            Ok(EntryKind::Got(*party, Vec::from_slice(alloc, bytes.as_slice())?))
+        }
+        EntryKind::Tick(party) => Ok(EntryKind::Tick(*party)),
+        EntryKind::Executed(replica, number, batch) => {
+            let batch = Vec::from_slice(alloc, batch.as_slice())?;
+            Ok(EntryKind::Executed(*replica, *number, batch))
+        }
+        EntryKind::Installed(replica, number, root) => {
+            Ok(EntryKind::Installed(*replica, *number, *root))
+        }
+        EntryKind::Sent(party, bytes) => {
+            Ok(EntryKind::Sent(*party, Vec::from_slice(alloc, bytes.as_slice())?))
+        }
+        EntryKind::Accepted(client, timestamp, answer) => {
+            Ok(EntryKind::Accepted(*client, *timestamp, answer.copy_in(alloc)?))
+        }
+    }
+}
+
+/// Whether the entries are equal.
+pub(crate) fn is_same(entry: &Entry, other: &Entry) -> bool
+    ensures { IsTrue result ↔ (entry.now ≡ other.now) }
+{
+    is_same_kind(entry.kind(), other.kind())
+}
+
+fn is_same_kind(kind: &EntryKind, other: &EntryKind) -> bool
+    ensures { IsTrue result ↔ (entry_of_kind kind.now ≡ entry_of_kind other.now) }
+{
+    match kind {
+        EntryKind::Invoke(client, timestamp, op) => is_invoke(other, *client, *timestamp, op),
+        EntryKind::Got(party, bytes) => is_got(other, *party, bytes.as_slice()),
+        EntryKind::Tick(party) => is_tick(other, *party),
+        EntryKind::Executed(replica, number, batch) => {
+            is_executed(other, *replica, *number, batch.as_slice())
+        }
+        EntryKind::Installed(replica, number, root) => is_installed(other, *replica, *number, root),
+        EntryKind::Sent(party, bytes) => is_sent(other, *party, bytes.as_slice()),
+        EntryKind::Accepted(client, timestamp, answer) => {
+            is_accepted(other, *client, *timestamp, answer)
+        }
+    }
+}
+
+fn is_invoke(kind: &EntryKind, client: ClientId, timestamp: Timestamp, op: &Op<Global>) -> bool
+    ensures { IsTrue result ↔ (Invoke client.number timestamp.0 (operation_of op.now) ≡ entry_of_kind kind.now) }
+{
+    match kind {
+        EntryKind::Invoke(other, time, told) => {
+            client.number == other.number && timestamp.0 == time.0 && is_same_op(op, told)
+        }
+        _ => false,
+    }
+}
+
+fn is_got(kind: &EntryKind, party: Party, bytes: &[u8]) -> bool
+    ensures { IsTrue result ↔ (Got (party_number party) bytes.now ≡ entry_of_kind kind.now) }
+{
+    match kind {
+        EntryKind::Got(other, text) => {
+            party.number() == other.number() && are_same_bytes(bytes, text.as_slice())
+        }
+        _ => false,
+    }
+}
+
+fn is_tick(kind: &EntryKind, party: Party) -> bool
+    ensures { IsTrue result ↔ (Tick (party_number party) ≡ entry_of_kind kind.now) }
+{
+    match kind {
+        EntryKind::Tick(other) => party.number() == other.number(),
+        _ => false,
+    }
+}
+
+fn is_executed(kind: &EntryKind, replica: ReplicaId, number: Number, batch: &[u8]) -> bool
+    ensures { IsTrue result ↔ (Executed replica.0 number.0 batch.now ≡ entry_of_kind kind.now) }
+{
+    match kind {
+        EntryKind::Executed(other, count, text) => {
+            replica.0 == other.0 && number.0 == count.0 && are_same_bytes(batch, text.as_slice())
+        }
+        _ => false,
+    }
+}
+
+fn is_installed(kind: &EntryKind, replica: ReplicaId, number: Number, root: &Digest) -> bool
+    ensures { IsTrue result ↔ (Installed replica.0 number.0 root.now ≡ entry_of_kind kind.now) }
+{
+    match kind {
+        EntryKind::Installed(other, count, digest) => {
+            replica.0 == other.0 && number.0 == count.0 && are_same_bytes(root, digest)
+        }
+        _ => false,
+    }
+}
+
+fn is_sent(kind: &EntryKind, party: Party, bytes: &[u8]) -> bool
+    ensures { IsTrue result ↔ (Sent (party_number party) bytes.now ≡ entry_of_kind kind.now) }
+{
+    match kind {
+        EntryKind::Sent(other, text) => {
+            party.number() == other.number() && are_same_bytes(bytes, text.as_slice())
+        }
+        _ => false,
+    }
+}
+
+fn is_accepted(
+    kind: &EntryKind,
+    client: ClientId,
+    timestamp: Timestamp,
+    answer: &Answer<Global>,
+) -> bool
+    ensures { IsTrue result ↔ (Accepted client.number timestamp.0 (outcome_of answer.now) ≡ entry_of_kind kind.now) }
+{
+    match kind {
+        EntryKind::Accepted(other, time, told) => {
+            client.number == other.number && timestamp.0 == time.0 && is_same_answer(answer, told)
+        }
+        _ => false,
+    }
+}
+
+/// Whether the bytes are equal.
+pub(crate) fn are_same_bytes(bytes: &[u8], others: &[u8]) -> bool
+    ensures { IsTrue result ↔ (bytes.now ≡ others.now) }
+{
+    bytes == others
+}

@@ -1,0 +1,67 @@
+//! The growth of a journal and its shares: all of them grow, or none does.
+
+ghost use Rattle.std.specs.Prelude.{◌≡◌, ◌++◌, IfOk, OnOk, OnErr};
+ghost use Rattle.terms.specs.Parties.{party_number};
+ghost use Rattle.protocol.specs.System.Reads.{without_reads};
+ghost use Rattle.journal.specs.Ties.{KeepsTies};
+
+use crate::entries::{copy_entries, copy_ordering};
+use crate::front::Front;
+use crate::naming::Naming;
+use crate::tie::{Tie, tie_event};
+use events::Entry;
+use std::alloc::Global;
+use std::mem;
+use terms::{NoMemory, Party};
+
+/// Puts the entries, an event of the party, behind the trace and the party's history.
+pub(crate) fn grow_both<N: Naming>(
+    alloc: Global,
+    trace: &mut Vec<Entry>,
+    history: &mut Vec<Entry>,
+    tie: &mut Option<Tie<N>>,
+    party: Party,
+    mut entries: Vec<Entry>,
+) -> Result<Option<Front<N>>, NoMemory>
+    ensures trace { OnOk result (trace.new.items ≡ trace.old.items ++ entries.items) }
+    ensures history { OnOk result (history.new.items ≡ history.old.items ++ entries.items) }
+    ensures tied { IfOk result (λ front. KeepsTies (party_number party) entries.items tie.old tie.new front) }
+    ensures err { OnErr result (trace.new.items ≡ trace.old.items) }
+    ensures err_history { OnErr result (history.new.items ≡ history.old.items) }
+    ensures err_tie { OnErr result (tie.new ≡ tie.old) }
+{
+    let mut twins = copy_entries(alloc, entries.as_slice())?;
+    trace.reserve(twins.len())?;
+    history.reserve(entries.len())?;
+    let (longer, front) = tie_event(mem::replace(tie, None), party, &entries);
+    *tie = longer;
+    let _ = history.append(&mut entries);
+    let _ = trace.append(&mut twins);
+    Ok(front)
+}
+
+/// The same, and those of ordering behind the replica's ordering.
+pub(crate) fn grow_three<N: Naming>(
+    alloc: Global,
+    trace: &mut Vec<Entry>,
+    history: &mut Vec<Entry>,
+    ordering: &mut Vec<Entry>,
+    tie: &mut Option<Tie<N>>,
+    party: Party,
+    entries: Vec<Entry>,
+) -> Result<Option<Front<N>>, NoMemory>
+    ensures trace { OnOk result (trace.new.items ≡ trace.old.items ++ entries.items) }
+    ensures history { OnOk result (history.new.items ≡ history.old.items ++ entries.items) }
+    ensures ordering { OnOk result (ordering.new.items ≡ ordering.old.items ++ without_reads entries.items) }
+    ensures tied { IfOk result (λ front. KeepsTies (party_number party) entries.items tie.old tie.new front) }
+    ensures err { OnErr result (trace.new.items ≡ trace.old.items) }
+    ensures err_history { OnErr result (history.new.items ≡ history.old.items) }
+    ensures err_ordering { OnErr result (ordering.new.items ≡ ordering.old.items) }
+    ensures err_tie { OnErr result (tie.new ≡ tie.old) }
+{
+    let mut some = copy_ordering(alloc, entries.as_slice())?;
+    ordering.reserve(some.len())?;
+    let front = grow_both(alloc, trace, history, tie, party, entries)?;
+    let _ = ordering.append(&mut some);
+    Ok(front)
+}

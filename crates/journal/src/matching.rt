@@ -1,0 +1,45 @@
+//! Whether a journal and its shares have the same: known by the tie, or else compared whole.
+
+ghost use Rattle.std.specs.Prelude.{◌≡◌, ◌↔◌, IsTrue, reverse};
+ghost use Rattle.terms.specs.Parties.{party_number};
+ghost use Rattle.protocol.specs.System.Trace.{history_of};
+ghost use Rattle.journal.specs.Comparing.{ordering_of};
+ghost use Rattle.protocol.specs.System.Reads.{without_reads};
+ghost use Rattle.journal.specs.Ties.{IsTiedHistory, Marks, Ties};
+
+use crate::comparing::{is_history, is_ordering};
+use crate::front::Front;
+use crate::naming::Naming;
+use crate::tie::{Tie, is_known, is_ordering_known};
+use events::Entry;
+use terms::Party;
+
+/// Whether the history is what the trace has of the party.
+pub(crate) fn agree<N: Naming>(
+    tie: &Option<Tie<N>>,
+    trace: &[Entry],
+    party: Party,
+    seen: &Option<Front<N>>,
+    history: &[Entry],
+) -> bool
+    requires ties { Ties tie.now trace.now }
+    requires marks { Marks history_of seen.now (party_number party) history.now }
+    ensures { IsTrue result ↔ (history_of (party_number party) (reverse trace.now) ≡ reverse history.now) }
+{
+    is_known(tie, party, seen) || is_history(trace, party.number(), history)
+}
+
+/// Whether the ordering is what the history, which the trace has of the party, has without reads.
+pub(crate) fn are_alike<N: Naming>(
+    tie: &Option<Tie<N>>,
+    party: Party,
+    history: &[Entry],
+    seen: &Option<Front<N>>,
+    ordering: &[Entry],
+) -> bool
+    requires tied { IsTiedHistory tie.now (party_number party) history.now }
+    requires marks { Marks ordering_of seen.now (party_number party) ordering.now }
+    ensures { IsTrue result ↔ (without_reads (reverse history.now) ≡ reverse ordering.now) }
+{
+    is_ordering_known(tie, party, seen) || is_ordering(history, ordering)
+}

@@ -1,0 +1,96 @@
+//! What an ordering thread keeps of the journal.
+
+ghost use Rattle.std.specs.Prelude.{◌≡◌, [], true, reverse, IfSome};
+ghost use Rattle.terms.specs.Parties.{party_number};
+ghost use Rattle.protocol.specs.System.Configuration.{is_correct_replica};
+ghost use Rattle.journal.specs.Parts.{fresh};
+
+use crate::front::Front;
+use crate::naming::Naming;
+use events::Entry;
+use std::alloc::Global;
+use std::marker::{Model, PhantomData};
+use std::mem;
+use terms::Party;
+
+/// A correct replica's entries without those of reads, which its read thread appends beside.
+#[derive(Drop)]
+pub struct OrderShare<N: Naming> {
+    pub(crate) party: Party,
+    pub(crate) history: Vec<Entry>,
+    pub(crate) seen: Option<Front<N>>,
+    pub(crate) naming: PhantomData<N>,
+}
+
+impl<N: Naming> Model for OrderShare<N> {
+    ghost use Rattle.std.specs.Prelude.{◌≡◌, true, reverse};
+    ghost use Rattle.terms.specs.Parties.{party_number};
+    ghost use Rattle.protocol.specs.System.Configuration.{is_correct_replica};
+    ghost use Rattle.journal.specs.Comparing.{ordering_of};
+    ghost use Rattle.journal.specs.Codes.{part_code};
+    ghost use Rattle.journal.specs.Parts.{Part};
+    ghost use Rattle.journal.specs.Ties.{Marks};
+
+    ghost Value = { Part };
+
+    ghost coded = { part_code };
+
+    ghost view = { λ s. record { party = party_number s.party; history = reverse s.history.items } };
+
+    ghost invariant = { λ s. (is_correct_replica N.config (party_number s.party) ≡ true)
+        × Marks ordering_of s.seen (party_number s.party) s.history.items };
+}
+
+impl<N: Naming> OrderShare<N> {
+    // The share of a replica that has done nothing, and what it saw of an empty journal.
+    pub(crate) fn new(alloc: Global, party: Party, seen: Option<Front<N>>) -> OrderShare<N>
+        requires party { is_correct_replica N.config (party_number party) ≡ true }
+        requires seen { IfSome seen (λ front. front ≡ []) }
+        ensures { result ≡ fresh (party_number party) }
+    {
+        OrderShare {
+            party,
+            history: Vec::new(alloc),
+            seen,
+            naming: PhantomData,
+        }
+    }
+
+    /// A share of a correct replica that has done nothing.
+    pub fn empty(alloc: Global, party: Party) -> OrderShare<N>
+        requires { is_correct_replica N.config (party_number party) ≡ true }
+        ensures { result ≡ fresh (party_number party) }
+    {
+        OrderShare::new(alloc, party, None)
+    }
+
+    /// The share, of which one with no entries stays.
+    pub fn take(&mut self, alloc: Global) -> OrderShare<N>
+        ensures taken { result ≡ self.old }
+        ensures left { self.new ≡ fresh self.old.party }
+    {
+        let history = mem::replace(&mut self.history, Vec::new(alloc));
+        let seen = mem::replace(&mut self.seen, None);
+        OrderShare {
+            party: self.party,
+            history,
+            seen,
+            naming: PhantomData,
+        }
+    }
+
+    /// Whose it is.
+    pub fn party(&self) -> Party
+        ensures value { party_number result ≡ self.now.party }
+        ensures correct { is_correct_replica N.config self.now.party ≡ true }
+    {
+        self.party
+    }
+
+    /// The entries, the oldest first.
+    pub fn history(&self) -> &[Entry]
+        ensures { reverse result.now ≡ self.now.history }
+    {
+        self.history.as_slice()
+    }
+}

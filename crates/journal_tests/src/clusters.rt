@@ -1,0 +1,151 @@
+//! Four replicas, of which one may be faulty, and two clients: their configurations, and events of theirs.
+
+ghost use Rattle.std.specs.Prelude.{◌≡◌, ◌∷◌, [], map, IfOk};
+ghost use Rattle.terms.specs.Parties.{party_number};
+ghost use Rattle.tuple_codec.specs.OperationView.{operation_of};
+ghost use Rattle.protocol.specs.System.Trace.Entry.{Got, Tick};
+ghost use Rattle.journal_tests.specs.Calls.{AsksFirst, IsFirstCall, first_op};
+
+use authenticator::Ring;
+use events::{Config, Entry, EntryKind};
+use journal::{AppendFault, Journal, Naming, Share};
+use std::alloc::Global;
+use std::test::Fail;
+use terms::{ClientId, Mode, NoMemory, Party, ReplicaId, Timestamp};
+use tuple_codec::Op;
+use tuple_tree::Tuple;
+use wire::{Body, Message, Request};
+
+// The seed 00 01 .. 1f.
+fn seed() -> [u8; 32] {
+    let mut seed = [0; 32];
+    for i in 0..32 {
+        seed[i] = i as u8;
+    }
+    seed
+}
+
+/// The configuration in which the clients of these numbers are faulty.
+pub fn new_config(alloc: Global, faulty_clients: Vec<u16>) -> Result<Config, Fail>
+    ensures { IfOk result (λ config. config.faults ≡ 1) }
+{
+    Ok(Config::new(1, 2, seed(), 4, Vec::new(alloc), faulty_clients)?)
+}
+
+/// The share of the party of this number.
+pub fn take_share<N: Naming>(shares: Vec<Share<N>>, number: u16) -> Option<Share<N>> {
+    let mut found = None;
+    for share in shares {
+        if share.party().number() == number {
+            found = Some(share);
+        }
+    }
+    found
+}
+
+pub fn tick_entries(alloc: Global, party: Party) -> Result<Vec<Entry>, NoMemory>
+    ensures { IfOk result (λ entries. entries.items ≡ Tick (party_number party) ∷ []) }
+{
+    let mut entries = Vec::new(alloc);
+    entries.push(Entry::new(EntryKind::Tick(party)))?;
+    Ok(entries)
+}
+
+/// Time goes by at the share's party.
+pub fn tick<N: Naming>(
+    alloc: Global,
+    journal: &mut Journal<N>,
+    share: &mut Share<N>,
+) -> Result<(), AppendFault> {
+    let party = share.party();
+    share.note_right();
+    journal.append(alloc, share, None, tick_entries(alloc, party)?)
+}
+
+fn got_entries(alloc: Global, party: Party, bytes: &[u8]) -> Result<Vec<Entry>, NoMemory>
+    ensures { IfOk result (λ entries. entries.items ≡ Got (party_number party) bytes.now ∷ []) }
+{
+    let bytes = Vec::from_slice(alloc, bytes)?;
+    let mut entries = Vec::new(alloc);
+    entries.push(Entry::new(EntryKind::Got(party, bytes)))?;
+    Ok(entries)
+}
+
+/// The share's party gets the bytes, which were sent at that position.
+pub fn get<N: Naming>(
+    alloc: Global,
+    journal: &mut Journal<N>,
+    share: &mut Share<N>,
+    from: Option<u64>,
+    bytes: &[u8],
+) -> Result<(), AppendFault> {
+    let party = share.party();
+    share.note_right();
+    journal.append(alloc, share, from, got_entries(alloc, party, bytes)?)
+}
+
+fn all_replicas() -> [Party; 4]
+    ensures { map party_number result ≡ 0 ∷ 1 ∷ 2 ∷ 3 ∷ [] }
+{
+    [
+        Party::Replica(ReplicaId(0)),
+        Party::Replica(ReplicaId(1)),
+        Party::Replica(ReplicaId(2)),
+        Party::Replica(ReplicaId(3)),
+    ]
+}
+
+// out ()
+fn new_op(alloc: Global) -> Op<Global>
+    ensures { operation_of result ≡ first_op }
+{
+    Op::Out(Tuple::new_in(alloc))
+}
+
+/// The frame in which a client asks for its first operation, `out ()`, sealed for all four replicas.
+pub fn first_frame(alloc: Global, config: &Config, client: ClientId) -> Result<Vec<u8>, Fail>
+    requires faults { config.now.faults ≡ 1 }
+    ensures { IfOk result (λ frame. AsksFirst config.now client.number frame.items) }
+{
+    let mut ring = Ring::new(alloc, config.seed(), 1, 2);
+    let body = Body {
+        sender: Party::Client(client),
+        message: Message::Request(Request {
+            timestamp: Timestamp(1),
+            mode: Mode::Ordered,
+            op: new_op(alloc),
+        }),
+    };
+    Ok(ring.seal(alloc, &body, &all_replicas())?)
+}
+
+fn call_entries(alloc: Global, config: &Config, client: ClientId) -> Result<Vec<Entry>, Fail>
+    requires faults { config.now.faults ≡ 1 }
+    ensures { IfOk result (λ entries. IsFirstCall config.now client.number entries.items) }
+{
+    let frame = first_frame(alloc, config, client)?;
+    let mut entries = Vec::new(alloc);
+    entries.push(Entry::new(EntryKind::Invoke(client, Timestamp(1), new_op(alloc))))?;
+    entries.push(Entry::new(EntryKind::Sent(Party::Client(client), frame)))?;
+    Ok(entries)
+}
+
+/// A client that has done nothing makes its first call: two entries.
+pub fn call<N: Naming>(
+    alloc: Global,
+    config: &Config,
+    journal: &mut Journal<N>,
+    share: &mut Share<N>,
+) -> Result<Result<(), AppendFault>, Fail>
+    requires config { config.now ≡ N.config }
+    requires faults { config.now.faults ≡ 1 }
+{
+    let Party::Client(client) = share.party() else {
+        return Err(Fail::new("no client"));
+    };
+    if !share.history().is_empty() {
+        return Err(Fail::new("not the first call"));
+    }
+    let entries = call_entries(alloc, config, client)?;
+    Ok(journal.append(alloc, share, None, entries))
+}
