@@ -17,7 +17,7 @@ struct Row {
     is_client_correct: bool,
 }
 
-const ROWS: [Row; 4] = [
+static ROWS: [Row; 4] = [
     Row {
         text: "f = 1\nclients = 1\n",
         faults: 1,
@@ -57,7 +57,7 @@ const ROWS: [Row; 4] = [
 ];
 
 // Texts before a right seed.
-const REFUSED: [&str; 55] = [
+static REFUSED: [&str; 55] = [
     "",
     "f = 1\n",
     "clients = 1\n",
@@ -116,7 +116,7 @@ const REFUSED: [&str; 55] = [
 ];
 
 // Whole texts, with seeds that are none.
-const REFUSED_SEEDS: [&str; 11] = [
+static REFUSED_SEEDS: [&str; 11] = [
     "f = 1\nclients = 1\n",
     "f = 1\nclients = 1\nseed = 0\n",
     "f = 1\nclients = 1\nseed = \"\"\n",
@@ -178,17 +178,17 @@ fn is_no_text(alloc: Global, bytes: &[u8]) -> bool {
 
 #[test]
 fn reads_configurations(rt: HostRuntime) {
-    for row in ROWS {
+    for &row in &ROWS {
         assert!(rt; is_as_said(rt.alloc(), row), "{}", row.text);
     }
 }
 
 #[test]
 fn refuses_what_is_none(rt: HostRuntime) {
-    for front in REFUSED {
+    for &front in &REFUSED {
         assert!(rt; is_refused(rt.alloc(), front, SEED), "{front}");
     }
-    for text in REFUSED_SEEDS {
+    for &text in &REFUSED_SEEDS {
         assert!(rt; is_refused(rt.alloc(), text, ""), "{text}");
     }
     assert!(rt; is_refused(rt.alloc(), SEED, "f = 1\nclients = 1\n\u{1}\n"));

@@ -14,7 +14,7 @@ const OTHER: Digest = [2; 32];
 // numbers, where replica 2 has voted for the first digest at number 1.
 type Row = (u8, u64, u64, Digest, Option<Dropped>);
 
-const PREPARES: [Row; 7] = [
+static PREPARES: [Row; 7] = [
     (0, 0, 1, ONE, Some(Dropped::UnknownSender)),
     (4, 1, 5, ONE, Some(Dropped::UnknownSender)),
     (0, 1, 5, ONE, Some(Dropped::WrongView)),
@@ -24,7 +24,7 @@ const PREPARES: [Row; 7] = [
     (3, 0, 4, ONE, None),
 ];
 
-const COMMITS: [Row; 6] = [
+static COMMITS: [Row; 6] = [
     (4, 1, 5, ONE, Some(Dropped::UnknownSender)),
     (0, 1, 5, ONE, Some(Dropped::WrongView)),
     (0, 0, 0, ONE, Some(Dropped::OutOfMarks)),
@@ -33,7 +33,7 @@ const COMMITS: [Row; 6] = [
     (0, 0, 1, ONE, None),
 ];
 
-const NUMBERS: [(Dropped, u8); 5] = [
+static NUMBERS: [(Dropped, u8); 5] = [
     (Dropped::WrongView, 10),
     (Dropped::OutOfMarks, 11),
     (Dropped::Conflict, 12),
@@ -68,10 +68,10 @@ fn votes_are_refused(rt: HostRuntime) -> Result<(), Fail> {
     let mut log = new_log(rt.alloc())?;
     let first = (2, 0, 1, ONE, None);
     assert!(rt; prepare(&mut log, first).is_none() && commit(&mut log, first).is_none());
-    for row in PREPARES {
+    for &row in &PREPARES {
         assert!(rt; prepare(&mut log, row) == row.4);
     }
-    for row in COMMITS {
+    for &row in &COMMITS {
         assert!(rt; commit(&mut log, row) == row.4);
     }
     Ok(())
@@ -106,7 +106,7 @@ fn an_inactive_replica_takes_no_votes(rt: HostRuntime) -> Result<(), Fail> {
 
 #[test]
 fn refusals_have_numbers(rt: HostRuntime) -> Result<(), Fail> {
-    for (dropped, number) in NUMBERS {
+    for &(dropped, number) in &NUMBERS {
         assert!(rt; dropped.number() == number);
     }
     Ok(())

@@ -70,7 +70,7 @@ const SECOND_ROOT: Digest = [
 // Pages that are set in turn, and the root after them.
 type Row<'a> = (&'a [(usize, &'a [u8])], Digest);
 
-const ROWS: [Row<'static>; 6] = [
+static ROWS: [Row<'static>; 6] = [
     (&[], EMPTY_ROOT),
     // A new state, and the state after `out (1)` of client 0.
     (&[(HEADER_PAGE, NEW_HEADER)], NEW_STATE_ROOT),
@@ -110,7 +110,7 @@ fn has_root(alloc: Global, (pages, root): Row<'_>) -> Result<bool, NoMemory> {
 
 #[test]
 fn roots_of_pages(rt: HostRuntime) -> Result<(), Fail> {
-    for row in ROWS {
+    for &row in &ROWS {
         assert!(rt; has_root(rt.alloc(), row)?);
     }
     Ok(())

@@ -129,7 +129,7 @@ fn pages_are_read_back(rt: HostRuntime) {
     assert_eq!(rt; is_read(rt.alloc(), pages.as_slice()), Ok(true));
 }
 
-const WRONG: [&[u8]; 6] = [
+static WRONG: [&[u8]; 6] = [
     // The timestamp 0.
     b"\0\0\0\0\0\0\0\0\0\0\0\0\0\0\0\x011",
     // No answer, and half a number.
@@ -143,7 +143,7 @@ const WRONG: [&[u8]; 6] = [
 
 #[test]
 fn texts_of_no_replies(rt: HostRuntime) {
-    for text in WRONG {
+    for &text in &WRONG {
         assert_eq!(rt; is_page_read(rt.alloc(), 3, text), Err(Bad::Malformed));
     }
 }

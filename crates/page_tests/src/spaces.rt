@@ -123,7 +123,7 @@ fn pages_are_read_back(rt: HostRuntime) {
 }
 
 // Headers of no state.
-const WRONG_HEADERS: [&[u8]; 6] = [
+static WRONG_HEADERS: [&[u8]; 6] = [
     b"",
     // Another version, a byte too few, a byte too many.
     b"\x02\0\0\0\0\0\0\0\x01\0\0\0\0\0\0\0\x01",
@@ -139,7 +139,7 @@ const FITTING: &[u8; 17] = b"\x01\0\0\0\0\0\0\0\x01\0\0\0\0\0\0\x10\0";
 
 #[test]
 fn headers_of_no_state(rt: HostRuntime) {
-    for header in WRONG_HEADERS {
+    for &header in &WRONG_HEADERS {
         assert_eq!(rt;
             are_read(rt.alloc(), [b"", b""], header),
             Err(Bad::Malformed)
@@ -158,7 +158,7 @@ fn too_few_and_too_many_pages(rt: HostRuntime) {
 }
 
 // Texts that page 1 doesn't have.
-const WRONG_PAGES: [&[u8]; 8] = [
+static WRONG_PAGES: [&[u8]; 8] = [
     FALLING,
     // The birth 1 twice, the birth 0, which is another page's, and 513, which is not below the next one.
     b"\0\0\0\0\0\0\0\x01\0\0\0\0\0\0\0\0\x01\0",
@@ -173,7 +173,7 @@ const WRONG_PAGES: [&[u8]; 8] = [
 
 #[test]
 fn pages_of_no_state(rt: HostRuntime) {
-    for text in WRONG_PAGES {
+    for &text in &WRONG_PAGES {
         assert_eq!(rt;
             are_read(rt.alloc(), [b"", text], LATER_HEADER),
             Err(Bad::Malformed)

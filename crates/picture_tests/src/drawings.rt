@@ -15,7 +15,7 @@ const SECOND: &str = "0000001741010100000000000000010021010100000000000000020001
 
 // Lanes stand at 96, 246, 396 and so on, and the row of entry `n` at 128 + 14n. An arrow comes from where its frame was
 // sent, and a dashed one from 6 above its end, at the lane of a faulty sender or at the margin, 48.
-const ARROWS: [&str; 5] = [
+static ARROWS: [&str; 5] = [
     "<path class=\"request\" d=\"M696 142L96 156\"><title>2 got r0 request c0 time 1 ordered out (1)</title></path>",
     "<path class=\"request\" d=\"M696 142L246 170\"><title>3 got r1 request c0 time 1 ordered out (1)</title></path>",
     "<path class=\"request\" d=\"M696 142L246 184\"><title>4 got r1 request c0 time 1 ordered out (1)</title></path>",
@@ -23,7 +23,7 @@ const ARROWS: [&str; 5] = [
     "<path class=\"no-frame fed\" d=\"M48 206L546 212\"><title>6 got r3 1 bytes that are no frame</title></path>",
 ];
 
-const MARKS: [&str; 8] = [
+static MARKS: [&str; 8] = [
     "<path class=\"invoked\" d=\"M687 124l8 4-8 4z\"/>",
     "<circle class=\"request\" cx=\"696\" cy=\"142\" r=\"2\"/>",
     "<circle class=\"tick\" cx=\"546\" cy=\"226\" r=\"3\"/>",
@@ -171,7 +171,7 @@ fn draws_nothing_else(rt: HostRuntime) -> Result<(), Fail> {
 }
 
 // The names of the parties, each at the top and at the foot.
-const NAMES: [&str; 6] = [">r0<", ">r1<", ">r2<", ">r3<", ">c0<", ">c1 faulty<"];
+static NAMES: [&str; 6] = [">r0<", ">r1<", ">r2<", ">r3<", ">c0<", ">c1 faulty<"];
 
 #[test]
 fn draws_an_empty_trace(rt: HostRuntime) {

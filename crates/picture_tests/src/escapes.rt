@@ -7,7 +7,7 @@ use terms::NoMemory;
 
 // Texts, and how they stand: by XML 1.0, which has five predefined entities, and whose characters are 9, a, d, and those
 // from 20 to d7ff, from e000 to fffd and from 10000 on.
-const ROWS: [(&str, &str); 9] = [
+static ROWS: [(&str, &str); 9] = [
     ("", ""),
     ("out (1 x00ff true)", "out (1 x00ff true)"),
     (
@@ -34,7 +34,7 @@ fn is_escaped(alloc: Global, text: &str, escaped: &str) -> Result<bool, NoMemory
 
 #[test]
 fn escapes_texts(rt: HostRuntime) -> Result<(), Fail> {
-    for (text, escaped) in ROWS {
+    for &(text, escaped) in &ROWS {
         assert!(rt; is_escaped(rt.alloc(), text, escaped)?, "{text:?}");
     }
     Ok(())

@@ -11,7 +11,7 @@ use wire::{Body, Message};
 type Row = (u8, Option<usize>, bool);
 
 // The body stands at 4 to 54, the MACs for replicas 1, 2 and 3 at 59, 93 and 127, each behind its receiver.
-const ROWS: [Row; 12] = [
+static ROWS: [Row; 12] = [
     (1, None, true),
     (2, None, true),
     (3, None, true),
@@ -76,7 +76,7 @@ fn agrees(alloc: Global, (me, at, is_heard): Row) -> Result<bool, Fail> {
 
 #[test]
 fn frames_with_macs(rt: HostRuntime) -> Result<(), Fail> {
-    for row in ROWS {
+    for &row in &ROWS {
         assert!(rt; agrees(rt.alloc(), row)?);
     }
     Ok(())

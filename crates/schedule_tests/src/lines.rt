@@ -15,7 +15,7 @@ struct Shown {
 }
 
 // Lines, with what they give.
-const STEPS: [(&[u8], u8, &[u64], &[u8]); 19] = [
+static STEPS: [(&[u8], u8, &[u64], &[u8]); 19] = [
     (b"invoke 0 out ()", 0, &[0], b"\x21\0"),
     (b"  invoke  255   rdp  ( * )  ", 0, &[255], b"\x22\x01\x10"),
     (b"invoke 0 rdAll 64 (*)", 0, &[0], b"\x25\x40\x01\x10"),
@@ -47,9 +47,9 @@ const STEPS: [(&[u8], u8, &[u64], &[u8]); 19] = [
     (b"   flush   ", 6, &[], b""),
 ];
 
-const SKIPPED: [&[u8]; 5] = [b"", b" ", b"     ", b"#", b"# flush"];
+static SKIPPED: [&[u8]; 5] = [b"", b" ", b"     ", b"#", b"# flush"];
 
-const REFUSED: [&[u8]; 60] = [
+static REFUSED: [&[u8]; 60] = [
     b" # flush",
     b"Flush",
     b"flushh",
@@ -209,21 +209,21 @@ fn is_refused(alloc: Global, line: &[u8]) -> bool {
 
 #[test]
 fn reads_steps(rt: HostRuntime) {
-    for (line, kind, numbers, bytes) in STEPS {
+    for &(line, kind, numbers, bytes) in &STEPS {
         assert!(rt; gives(rt.alloc(), line, kind, numbers, bytes), "{line:?}");
     }
 }
 
 #[test]
 fn skips_lines(rt: HostRuntime) {
-    for line in SKIPPED {
+    for &line in &SKIPPED {
         assert!(rt; is_skipped(rt.alloc(), line), "{line:?}");
     }
 }
 
 #[test]
 fn refuses_lines(rt: HostRuntime) {
-    for line in REFUSED {
+    for &line in &REFUSED {
         assert!(rt; is_refused(rt.alloc(), line), "{line:?}");
     }
 }

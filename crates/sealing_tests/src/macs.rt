@@ -17,7 +17,7 @@ const ASCENDING: &[u8] = &[
 ];
 
 // RFC 4231, test cases 1 to 4, 6 and 7: a key, a text and its code.
-const VECTORS: [(&[u8], &[u8], &str); 6] = [
+static VECTORS: [(&[u8], &[u8], &str); 6] = [
     (
         &[0x0b; 20],
         b"Hi There",
@@ -52,7 +52,7 @@ const VECTORS: [(&[u8], &[u8], &str); 6] = [
 
 #[test]
 fn vectors(rt: HostRuntime) {
-    for (key, text, code) in VECTORS {
+    for &(key, text, code) in &VECTORS {
         assert!(rt; is_code(code_of(key, text), code), "{code}");
     }
 }

@@ -6,7 +6,7 @@ use tuple_codec::{Op, encode_op};
 use tuple_text::{LineFault, read_line, read_template, write_op, write_tuple};
 
 // Lines and the bytes of their operations.
-const LINES: [(&[u8], &[u8]); 17] = [
+static LINES: [(&[u8], &[u8]); 17] = [
     (b"out (1)", b"\x21\x01\x01\0\0\0\0\0\0\0\x01"),
     (
         b"  out   ( 1  -2 )  ",
@@ -51,7 +51,7 @@ const LINES: [(&[u8], &[u8]); 17] = [
 ];
 
 // Lines with the byte that no line goes on with.
-const BAD_BYTES: [(&[u8], usize); 47] = [
+static BAD_BYTES: [(&[u8], usize); 47] = [
     (b"rdp (1)(2)", 7),
     (b"out (01)", 6),
     (b"out (-0)", 6),
@@ -117,7 +117,7 @@ fn is_spelled(alloc: Global, op: &Op<Global>, bytes: &[u8]) -> bool {
 
 #[test]
 fn reads_the_lines(rt: HostRuntime) -> Result<(), Fail> {
-    for (line, bytes) in LINES {
+    for &(line, bytes) in &LINES {
         assert!(rt; is_read(rt.alloc(), line, bytes)?);
     }
     Ok(())
@@ -129,7 +129,7 @@ fn fault(alloc: Global, line: &[u8]) -> Option<LineFault> {
 
 #[test]
 fn stops_at_bad_bytes(rt: HostRuntime) {
-    for (line, offset) in BAD_BYTES {
+    for &(line, offset) in &BAD_BYTES {
         let fault = fault(rt.alloc(), line);
         assert!(rt; fault == Some(LineFault::BadByte { offset }), "{offset}");
     }
@@ -152,7 +152,7 @@ fn a_ninth_level_is_too_deep(rt: HostRuntime) {
 // The head, an item so many times, and the tail; with the fault of that line.
 type Long<'a> = (&'a [u8], &'a [u8], usize, &'a [u8], Option<LineFault>);
 
-const LONG: [Long<'static>; 13] = [
+static LONG: [Long<'static>; 13] = [
     // A 33rd item is too much. At one byte the levels come before the items.
     (b"out (", b"1 ", 32, b")", None),
     (b"out (", b"1 ", 33, b"", Some(LineFault::TooManyFields)),
@@ -222,7 +222,7 @@ fn has_fault(
 
 #[test]
 fn long_lines(rt: HostRuntime) -> Result<(), Fail> {
-    for (number, row) in LONG.into_iter().enumerate() {
+    for (number, &row) in LONG.iter().enumerate() {
         assert!(rt; has_fault(rt.alloc(), row)?, "{number}");
     }
     Ok(())
@@ -275,7 +275,7 @@ fn reads_what_is_written(rt: HostRuntime) -> Result<(), Fail> {
 }
 
 // Lines as they are written.
-const WRITTEN: [&[u8]; 6] = [
+static WRITTEN: [&[u8]; 6] = [
     b"out (-1 \"\xc3\xa9\\x00\" (x0a ()) false)",
     b"rdp (* ?int (?text ?bytes) ?bool ?tuple 2)",
     b"inp ()",
@@ -307,7 +307,7 @@ fn line_again(alloc: Global, line: &[u8]) -> bool {
 // try gives the line.
 #[test]
 fn writes_lines(rt: HostRuntime) {
-    for line in WRITTEN {
+    for &line in &WRITTEN {
         assert!(rt; line_again(rt.alloc(), line), "{line:?}");
     }
 }

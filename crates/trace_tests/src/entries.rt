@@ -22,7 +22,7 @@ fn op(alloc: Global, line: &[u8]) -> Option<Op<Global>> {
     }
 }
 
-const LINES: [&[u8]; 5] = [
+static LINES: [&[u8]; 5] = [
     b"out (1 \"a\" (x00ff true))",
     b"rdp (* ?int (?text ?bytes) ?bool ?tuple 2)",
     b"inp ()",
@@ -47,7 +47,7 @@ fn shows_call(alloc: Global, line: &[u8]) -> bool {
 
 #[test]
 fn shows_calls(rt: HostRuntime) {
-    for line in LINES {
+    for &line in &LINES {
         assert!(rt; shows_call(rt.alloc(), line), "{line:?}");
     }
 }

@@ -23,7 +23,7 @@ struct Row {
 }
 
 // Those that go out with MACs.
-const SEALED: [Row; 18] = [
+static SEALED: [Row; 18] = [
     Row {
         parts: &["41010000000000000000010024020200016b10020200016b010000000000000001"],
         zeros: 0,
@@ -137,7 +137,7 @@ const SEALED: [Row; 18] = [
 ];
 
 // Those that go out signed.
-const SIGNED: [Row; 2] = [
+static SIGNED: [Row; 2] = [
     Row {
         parts: &[
             "460001",
@@ -177,7 +177,7 @@ const SIGNED: [Row; 2] = [
 ];
 
 // View changes for view 1, without anything prepared.
-const CHANGES: [Row; 3] = [
+static CHANGES: [Row; 3] = [
     Row {
         parts: &[
             "460000",
@@ -217,7 +217,7 @@ const CHANGES: [Row; 3] = [
 ];
 
 // What stands behind these in new views.
-const STARTS: [Row; 2] = [
+static STARTS: [Row; 2] = [
     Row {
         parts: &["0000000000000000", DIGEST, "00"],
         zeros: 0,

@@ -2,7 +2,7 @@
 
 use crate::trees::{At, ROOT, Texts, completes, place, put, start, takes, tree_of};
 use partition_tree::Tree;
-use state_transfer::{PartFault, Transfer};
+use state_transfer::{PartFault, Replaced, Transfer};
 use std::alloc::Global;
 use std::test::Fail;
 use terms::{Level, NoMemory, Number};
@@ -12,7 +12,7 @@ const OLD: Texts<'static> = &[(0, b"a"), (1, b"a"), (256, b"a"), (512, b"a")];
 // What is taken before the newer state comes, what that state sets, and what is asked for then.
 type Row<'a> = (&'a [At], Texts<'a>, &'a [At]);
 
-const ROWS: [Row<'static>; 4] = [
+static ROWS: [Row<'static>; 4] = [
     // Pages that were fetched serve on, also where their part has another digest now.
     (
         &[ROOT, (Level::Inner, 0), (Level::Page, 0), (Level::Page, 1)],
@@ -55,57 +55,70 @@ const ROWS: [Row<'static>; 4] = [
     ),
 ];
 
-fn goes_on_with((before, texts, after): Row<'_>, alloc: Global) -> Result<bool, NoMemory> {
-    let mut tree = tree_of(alloc, OLD)?;
-    let mut transfer = start(alloc, 6, &tree, &[])?;
-    if !takes(&mut transfer, &tree, before)? {
+// Whether the transfer takes what comes before the newer state, and goes on with that.
+fn is_overtaken(
+    transfer: &mut Transfer,
+    tree: &mut Tree,
+    (before, texts, after): Row<'_>,
+) -> Result<bool, NoMemory> {
+    if !takes(transfer, tree, before)? {
         return Ok(false);
     }
-    put(&mut tree, texts)?;
+    put(tree, texts)?;
     transfer.move_to(Number(8), tree.root());
     Ok(
         transfer.number() == Number(8)
             && transfer.root() == tree.root()
             && transfer.asked() == place(ROOT)
-            && completes(&mut transfer, &tree, after)?,
+            && completes(transfer, tree, after)?,
     )
+}
+
+fn goes_on_with(row: Row<'_>, alloc: Global) -> Result<bool, NoMemory> {
+    let mut tree = tree_of(alloc, OLD)?;
+    let mut transfer = start(alloc, 6, &tree, &[])?;
+    is_overtaken(&mut transfer, &mut tree, row)
 }
 
 #[test]
 fn a_newer_state_overtakes(rt: HostRuntime) -> Result<(), Fail> {
-    for row in ROWS {
+    for &row in &ROWS {
         assert!(rt; goes_on_with(row, rt.alloc())?);
     }
     Ok(())
 }
 
-// Page 0 was fetched when the own state changes: page 40 gets the wanted text, 80 loses it, and 0 has another one.
-fn rests(alloc: Global) -> Result<bool, NoMemory> {
-    let tree = tree_of(alloc, &[(0, b"new"), (40, b"new"), (80, b"new")])?;
-    let mut transfer = start(alloc, 4, &tree, &[(80, b"new")])?;
-    if !takes(
-        &mut transfer,
-        &tree,
-        &[ROOT, (Level::Inner, 0), (Level::Page, 0)],
-    )? {
+// Page 0 is fetched when the own state changes.
+fn rests_on(transfer: &mut Transfer, tree: &Tree, own: &Tree) -> Result<bool, NoMemory> {
+    if !takes(transfer, tree, &[ROOT, (Level::Inner, 0), (Level::Page, 0)])? {
         return Ok(false);
     }
-    let own = tree_of(alloc, &[(0, b"own"), (40, b"new")])?;
-    transfer.rest_on(&own)?;
+    transfer.rest_on(own)?;
     Ok(
         transfer.pages().page(0) == b"new".as_slice()
-            && completes(
-                &mut transfer,
-                &tree,
-                &[(Level::Inner, 2), (Level::Page, 80)],
-            )?,
+            && completes(transfer, tree, &[(Level::Inner, 2), (Level::Page, 80)])?,
     )
+}
+
+// Page 40 gets the wanted text, 80 loses it, and 0 has another one.
+fn rests(alloc: Global) -> Result<bool, NoMemory> {
+    let tree = tree_of(alloc, &[(0, b"new"), (40, b"new"), (80, b"new")])?;
+    let own = tree_of(alloc, &[(0, b"own"), (40, b"new")])?;
+    let mut transfer = start(alloc, 4, &tree, &[(80, b"new")])?;
+    rests_on(&mut transfer, &tree, &own)
 }
 
 #[test]
 fn the_own_state_goes_on(rt: HostRuntime) -> Result<(), Fail> {
     assert!(rt; rests(rt.alloc())?);
     Ok(())
+}
+
+// Whether the page is taken that was replaced; it is given back then.
+fn is_taken(transfer: &mut Transfer, tree: &Tree, replaced: Replaced) -> bool {
+    let is_taken = transfer.pages().page(3) == tree.page(3);
+    transfer.give_back(replaced);
+    is_taken
 }
 
 // Takes page 3, which is asked for next, and gives it back.
@@ -115,13 +128,11 @@ fn takes_and_gives_back(transfer: &mut Transfer, tree: &Tree) -> Result<bool, No
     if transfer.next_fetch() != Some(asked) {
         return Ok(false);
     }
-    let replaced = match transfer.on_page(transfer.number(), 3, tree.page(3)) {
-        Ok(replaced) => replaced,
+    let is_taken = match transfer.on_page(transfer.number(), 3, tree.page(3)) {
+        Ok(replaced) => is_taken(transfer, tree, replaced),
         Err(PartFault::NoMemory) => return Err(NoMemory),
-        Err(_) => return Ok(false),
+        Err(_) => false,
     };
-    let is_taken = transfer.pages().page(3) == tree.page(3);
-    transfer.give_back(replaced);
     Ok(is_taken && transfer.pages().root() == before && transfer.asked() == asked)
 }
 
@@ -143,24 +154,31 @@ fn a_page_is_given_back(rt: HostRuntime) -> Result<(), Fail> {
     Ok(())
 }
 
+// Whether page 3 of a newer state is taken and given back, where that of the state before it was fetched or not.
+fn gives_newer_back(
+    transfer: &mut Transfer,
+    tree: &mut Tree,
+    fetched: bool,
+) -> Result<bool, NoMemory> {
+    let places = [ROOT, (Level::Inner, 0), (Level::Page, 3)];
+    if fetched && !takes(transfer, tree, &places)? {
+        return Ok(false);
+    }
+    put(tree, &[(3, b"new")])?;
+    transfer.move_to(Number(4), tree.root());
+    Ok(takes(transfer, tree, &places[..2])? && takes_and_gives_back(transfer, tree)?)
+}
+
 // Where a page was given back that was not fetched before it, the own text is held again, whatever that is then; where
 // another text of it had been fetched, that stays.
 fn rests_behind(alloc: Global, fetched: bool) -> Result<bool, NoMemory> {
     let mut tree = tree_of(alloc, &[(3, b"old")])?;
-    let mut transfer = start(alloc, 2, &tree, &[])?;
-    let places = [ROOT, (Level::Inner, 0), (Level::Page, 3)];
-    if fetched && !takes(&mut transfer, &tree, &places)? {
-        return Ok(false);
-    }
-    put(&mut tree, &[(3, b"new")])?;
-    transfer.move_to(Number(4), tree.root());
-    if !takes(&mut transfer, &tree, &places[..2])? || !takes_and_gives_back(&mut transfer, &tree)? {
-        return Ok(false);
-    }
     let own = tree_of(alloc, &[(3, b"own")])?;
+    let mut transfer = start(alloc, 2, &tree, &[])?;
+    let is_back = gives_newer_back(&mut transfer, &mut tree, fetched)?;
     transfer.rest_on(&own)?;
     let held: &[u8] = if fetched { b"old" } else { b"own" };
-    Ok(transfer.pages().page(3) == held)
+    Ok(is_back && transfer.pages().page(3) == held)
 }
 
 #[test]

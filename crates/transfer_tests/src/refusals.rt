@@ -7,10 +7,10 @@ use std::alloc::Global;
 use std::test::Fail;
 use terms::{Digest, Level, NoMemory, Number};
 
-const TO_PAGE_5: [At; 2] = [ROOT, (Level::Inner, 0)];
+static TO_PAGE_5: [At; 2] = [ROOT, (Level::Inner, 0)];
 
 // Number, index and text of a page, and why it is refused where page 5 of state 2 was asked for, which is `text`.
-const PAGES: [(u64, u16, &[u8], PartFault); 7] = [
+static PAGES: [(u64, u16, &[u8], PartFault); 7] = [
     (2, 5, b"texx", PartFault::WrongDigest),
     (2, 5, b"", PartFault::WrongDigest),
     (3, 5, b"text", PartFault::NotAsked),
@@ -28,7 +28,7 @@ fn refuses_pages(alloc: Global) -> Result<bool, NoMemory> {
         return Ok(false);
     }
     let own = transfer.pages().root();
-    for (number, index, text, fault) in PAGES {
+    for &(number, index, text, fault) in &PAGES {
         if transfer.on_page(Number(number), index, text).err() != Some(fault) {
             return Ok(false);
         }
@@ -48,7 +48,7 @@ fn pages_are_refused(rt: HostRuntime) -> Result<(), Fail> {
 
 // Number and place of digests that are those of the root's children but for one bit, and why they are refused where the
 // root's of state 2 were asked for.
-const DIGESTS: [(u64, At, PartFault); 6] = [
+static DIGESTS: [(u64, At, PartFault); 6] = [
     (2, ROOT, PartFault::WrongDigest),
     (3, ROOT, PartFault::NotAsked),
     (1, ROOT, PartFault::NotAsked),
@@ -62,7 +62,7 @@ fn refuses_digests(alloc: Global) -> Result<bool, NoMemory> {
     let mut transfer = start(alloc, 2, &tree, &[])?;
     let mut digests = *tree.children(Level::Root, 0);
     digests[31][31] ^= 1;
-    for (number, at, fault) in DIGESTS {
+    for &(number, at, fault) in &DIGESTS {
         if transfer.on_meta(Number(number), place(at), &digests) != Err(fault) {
             return Ok(false);
         }
@@ -152,7 +152,7 @@ fn late_digests_are_refused(rt: HostRuntime) -> Result<(), Fail> {
     Ok(())
 }
 
-const TEXTS: [(PartFault, &str); 3] = [
+static TEXTS: [(PartFault, &str); 3] = [
     (PartFault::NotAsked, "the part was not asked for"),
     (PartFault::WrongDigest, "the part has another digest"),
     (PartFault::NoMemory, "out of memory"),
@@ -160,7 +160,7 @@ const TEXTS: [(PartFault, &str); 3] = [
 
 #[test]
 fn refusals_have_texts(rt: HostRuntime) -> Result<(), Fail> {
-    for (fault, text) in TEXTS {
+    for &(fault, text) in &TEXTS {
         let written = format!(in rt.alloc(); "{fault}")?;
         assert!(rt; written.as_str() == text);
     }

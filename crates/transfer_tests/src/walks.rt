@@ -9,7 +9,7 @@ use terms::{Level, NoMemory, Number};
 // The texts of the state, the own ones, and the places: depth first, where page i is below inner part i / 32.
 type Row<'a> = (Texts<'a>, Texts<'a>, &'a [At]);
 
-const ROWS: [Row<'static>; 5] = [
+static ROWS: [Row<'static>; 5] = [
     // Six tuples, a client's reply, and a header, where nothing is held.
     (
         &[
@@ -76,7 +76,7 @@ fn asks_for((wanted, own, places): Row<'_>, alloc: Global) -> Result<bool, NoMem
 
 #[test]
 fn what_differs_is_asked_for(rt: HostRuntime) -> Result<(), Fail> {
-    for row in ROWS {
+    for &row in &ROWS {
         assert!(rt; asks_for(row, rt.alloc())?);
     }
     Ok(())

@@ -17,7 +17,7 @@ enum Sort {
 type Row<'a> = (Sort, &'a [u8]);
 
 // As many bytes as the counts in them ask for, and one of them wrong.
-const FAULTS: [Row<'static>; 20] = [
+static FAULTS: [Row<'static>; 20] = [
     // a ninth level
     (
         Sort::Tuple,
@@ -88,7 +88,7 @@ const TUPLES_65: &[u8] = &[
 ];
 
 // The same values without a fault.
-const WHOLE: [Row<'static>; 4] = [
+static WHOLE: [Row<'static>; 4] = [
     (
         Sort::Tuple,
         b"\x01\x05\x01\x05\x01\x05\x01\x05\x01\x05\x01\x05\x01\x05\x00",
@@ -110,10 +110,10 @@ fn refusal<A: Allocator + Clone>(alloc: A, (sort, bytes): Row<'_>) -> Option<Bad
 
 #[test]
 fn inner_faults_with_plenty_of_memory(rt: HostRuntime) {
-    for row in FAULTS {
+    for &row in &FAULTS {
         assert_eq!(rt; refusal(rt.alloc(), row), Some(Bad::Malformed));
     }
-    for row in WHOLE {
+    for &row in &WHOLE {
         assert_eq!(rt; refusal(rt.alloc(), row), None);
     }
 }
@@ -122,10 +122,10 @@ fn inner_faults_with_plenty_of_memory(rt: HostRuntime) {
 #[test]
 fn inner_faults_without_memory(rt: HostRuntime) -> Result<(), Fail> {
     let heap = LocalHeap::new(rt.alloc(), 0)?;
-    for row in FAULTS {
+    for &row in &FAULTS {
         assert_eq!(rt; refusal(&heap, row), Some(Bad::Malformed));
     }
-    for row in WHOLE {
+    for &row in &WHOLE {
         assert_eq!(rt; refusal(&heap, row), Some(Bad::NoMemory));
     }
     Ok(())

@@ -4,7 +4,7 @@ use std::alloc::Global;
 use std::test::Fail;
 use tuple_codec::{Bad, decode_op, decode_result, encode_op, encode_result, is_op, is_result};
 
-const ROWS: [&[u8]; 4] = [
+static ROWS: [&[u8]; 4] = [
     // out (1 "a")
     b"\x21\x02\x01\x00\x00\x00\x00\x00\x00\x00\x01\x02\x00\x01a",
     // out (("x") true)
@@ -26,7 +26,7 @@ fn comes_back(alloc: Global, row: &[u8]) -> Result<bool, Bad> {
 
 #[test]
 fn operations_come_back(rt: HostRuntime) -> Result<(), Fail> {
-    for row in ROWS {
+    for &row in &ROWS {
         assert!(rt; comes_back(rt.alloc(), row)?);
     }
     Ok(())
@@ -57,7 +57,7 @@ fn is_none_cut(row: &[u8]) -> bool {
 
 #[test]
 fn no_cut_row_is_an_operation(rt: HostRuntime) {
-    for row in ROWS {
+    for &row in &ROWS {
         assert!(rt; is_op(row) && is_none_cut(row));
     }
 }

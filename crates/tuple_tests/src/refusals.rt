@@ -60,7 +60,7 @@ fn least_heap(alloc: Global, turn: Turn) -> Result<Option<usize>, AllocError> {
 
 #[test]
 fn growths_in_an_arena(rt: HostRuntime) -> Result<(), Fail> {
-    for turn in TURNS {
+    for &turn in &TURNS {
         let least = least_arena(rt.alloc(), turn)?;
         assert!(rt; least.is_some_and(|left| left > 0));
     }
@@ -69,7 +69,7 @@ fn growths_in_an_arena(rt: HostRuntime) -> Result<(), Fail> {
 
 #[test]
 fn growths_in_a_heap(rt: HostRuntime) -> Result<(), Fail> {
-    for turn in TURNS {
+    for &turn in &TURNS {
         let least = least_heap(rt.alloc(), turn)?;
         assert!(rt; least.is_some_and(|size| size > 0));
     }
@@ -88,7 +88,7 @@ fn succeeds(alloc: Global, turn: Turn) -> bool {
 // passes at each N.
 #[test]
 fn growths_in_ordinary_memory(rt: HostRuntime) {
-    for turn in TURNS {
+    for &turn in &TURNS {
         assert!(rt; succeeds(rt.alloc(), turn));
     }
 }

@@ -35,7 +35,7 @@ enum Sort {
 // The sort of a value, its spelling, and the room for its parts.
 type Row<'a> = (Sort, &'a [u8], usize);
 
-const ROWS: [Row<'static>; 6] = [
+static ROWS: [Row<'static>; 6] = [
     // (1 "a" x09 true)
     (
         Sort::Tuple,
@@ -109,7 +109,7 @@ fn wants_all(alloc: Global, (sort, bytes, room): Row<'_>) -> Result<bool, AllocE
 
 #[test]
 fn decoded_values_fill_their_room(rt: HostRuntime) -> Result<(), Fail> {
-    for row in ROWS {
+    for &row in &ROWS {
         assert!(rt; fills(rt.alloc(), row)?);
         assert!(rt; wants_all(rt.alloc(), row)?);
     }
@@ -146,7 +146,7 @@ fn copy_fills(alloc: Global, (sort, bytes, room): Row<'_>) -> Result<bool, Alloc
 
 #[test]
 fn copies_fill_their_room(rt: HostRuntime) -> Result<(), Fail> {
-    for row in ROWS {
+    for &row in &ROWS {
         assert!(rt; copy_fills(rt.alloc(), row)?);
     }
     Ok(())
@@ -183,7 +183,7 @@ fn is_written(alloc: Global, (sort, bytes, _room): Row<'_>) -> Result<bool, Allo
 
 #[test]
 fn encoders_take_nothing_where_there_is_room(rt: HostRuntime) -> Result<(), Fail> {
-    for row in ROWS {
+    for &row in &ROWS {
         assert!(rt; is_written(rt.alloc(), row)?);
     }
     Ok(())

@@ -61,7 +61,7 @@ fn first_wrong(space: &mut Space, alloc: Global, steps: &[Step<'_>]) -> Option<u
     None
 }
 
-const OPERATIONS: [Step<'static>; 7] = [
+static OPERATIONS: [Step<'static>; 7] = [
     // out ("k"): done
     (b"\x21\x01\x02\x00\x01k", b"\x31"),
     // cas (?text) (true): swapped false
@@ -88,7 +88,7 @@ fn operations_in_ordinary_memory(rt: HostRuntime) {
     assert_eq!(rt; wrong, None);
 }
 
-const SCRIPT: [Step<'static>; 7] = [
+static SCRIPT: [Step<'static>; 7] = [
     // out (1): done, twice
     (b"\x21\x01\x01\0\0\0\0\0\0\0\x01", b"\x31"),
     (b"\x21\x01\x01\0\0\0\0\0\0\0\x01", b"\x31"),

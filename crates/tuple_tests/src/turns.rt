@@ -35,7 +35,7 @@ pub enum Turn {
     Answer,
 }
 
-pub const TURNS: [Turn; 6] = [
+pub static TURNS: [Turn; 6] = [
     Turn::Values,
     Turn::Fields,
     Turn::Tuple,

@@ -15,7 +15,7 @@ const SIZES: Sizes = Sizes {
 };
 
 // The view changes that come, each with its sender.
-const SAID: [(u8, Said); 8] = [
+static SAID: [(u8, Said); 8] = [
     (0, (1, 0, 0)),
     (0, (2, 0, 0)),
     (1, (1, 0, 0)),
@@ -45,7 +45,7 @@ const HIGHEST_OTHER: usize = 6;
 const BROKEN: usize = 7;
 
 // Which view change comes, in which view the replica was last active, and why it is refused.
-const ROWS: [(usize, u64, Option<ChangeFault>); 12] = [
+static ROWS: [(usize, u64, Option<ChangeFault>); 12] = [
     // A signature is wrong, whatever else.
     (BROKEN, 9, Some(ChangeFault::BadSignature)),
     (BROKEN, 0, Some(ChangeFault::BadSignature)),
@@ -69,7 +69,7 @@ const ROWS: [(usize, u64, Option<ChangeFault>); 12] = [
 fn frames(alloc: Global) -> Result<Vec<Vec<u8>>, Fail> {
     let mut signers = [signer_of(0), signer_of(1), signer_of(2)];
     let mut frames = Vec::new(alloc);
-    for (sender, said) in SAID {
+    for &(sender, said) in &SAID {
         let signer = &mut signers[usize::from(sender % 3)];
         frames.push(change(alloc, signer, sender, said)?)?;
     }
@@ -141,7 +141,7 @@ fn the_latest_is_kept(rt: HostRuntime) -> Result<(), Fail> {
         received.add(alloc, View(0), b"no frame"),
         Err(ChangeFault::BadSignature)
     );
-    for row in ROWS {
+    for &row in &ROWS {
         assert!(rt; is_so(alloc, &mut received, &frames, row));
     }
     assert!(rt; senders_for(alloc, &received, 1)?.as_slice() == [1, 2].as_slice());

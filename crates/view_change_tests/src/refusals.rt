@@ -14,7 +14,7 @@ const SIZES: Sizes = Sizes {
 };
 
 // The view changes that new views carry, each with its sender.
-const SAID: [(u8, Said); 6] = [
+static SAID: [(u8, Said); 6] = [
     (0, (1, 0, 1)),
     (1, (1, 0, 1)),
     (2, (1, 0, 1)),
@@ -39,7 +39,7 @@ type Heard = (u8, (u64, u64));
 const WELL: Heard = (1, (0, 1));
 
 // How a new view is heard that carries a frame which is none, and why it is refused.
-const UNREAD: [(Heard, NewViewFault); 5] = [
+static UNREAD: [(Heard, NewViewFault); 5] = [
     // It is not from its primary, whatever else.
     ((2, (1, 2)), NewViewFault::UnknownSender),
     ((0, (0, 0)), NewViewFault::UnknownSender),
@@ -53,7 +53,7 @@ const UNREAD: [(Heard, NewViewFault); 5] = [
 // Which view changes a new view carries, its root's bytes, and the bytes of its batches, behind number 0.
 type Carried = (&'static [usize], u8, &'static [u8]);
 
-const ROWS: [(Heard, Carried, Option<NewViewFault>); 15] = [
+static ROWS: [(Heard, Carried, Option<NewViewFault>); 15] = [
     // It is taken, also by who sent no view change for its view.
     (WELL, (&[0, 1, 2], 7, &[1]), None),
     ((1, (0, 0)), (&[0, 1, 2], 7, &[1]), None),
@@ -103,7 +103,7 @@ const ROWS: [(Heard, Carried, Option<NewViewFault>); 15] = [
 fn frames(alloc: Global) -> Result<Vec<Vec<u8>>, Fail> {
     let mut signers = [signer_of(0), signer_of(1), signer_of(2)];
     let mut frames = Vec::new(alloc);
-    for (sender, said) in SAID {
+    for &(sender, said) in &SAID {
         let signer = &mut signers[usize::from(sender % 3)];
         frames.push(change(alloc, signer, sender, said)?)?;
     }
@@ -162,7 +162,7 @@ fn new_views_are_refused_unread(rt: HostRuntime) -> Result<(), Fail> {
     let mut none = Vec::new(alloc);
     none.push(b"no frame".to_vec(alloc)?)?;
     let new = new_view(alloc, &none, (&[0], 8, &[0]))?;
-    for (heard, fault) in UNREAD {
+    for &(heard, fault) in &UNREAD {
         assert!(rt; refusal(alloc, &received, heard, &new) == Some(fault));
     }
     Ok(())
@@ -173,7 +173,7 @@ fn new_views_are_refused(rt: HostRuntime) -> Result<(), Fail> {
     let alloc = rt.alloc();
     let received = Received::new(alloc, PublicKeys::new(alloc, &SEED)?, SIZES)?;
     let frames = frames(alloc)?;
-    for (heard, carried, wanted) in ROWS {
+    for &(heard, carried, wanted) in &ROWS {
         let new = new_view(alloc, &frames, carried)?;
         assert!(rt; refusal(alloc, &received, heard, &new) == wanted);
     }

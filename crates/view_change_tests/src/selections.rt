@@ -107,7 +107,7 @@ const HIGHER: Said<'static> = (&[0, 16], &[], &[]);
 // A start, and the bytes of the batches behind it.
 type Start = (u64, &'static [u8]);
 
-const ROWS: [(&[Said<'static>], Option<Start>); 6] = [
+static ROWS: [(&[Said<'static>], Option<Start>); 6] = [
     // Over one lie and two true view changes nothing is selected.
     (&[ONE, ONE, LIE], None),
     // With a third true one the batch is that was prepared.
@@ -130,7 +130,7 @@ const ROWS: [(&[Said<'static>], Option<Start>); 6] = [
 ];
 
 // Two of seven lie.
-const ROWS_OF_SEVEN: [(&[Said<'static>], Option<Start>); 7] = [
+static ROWS_OF_SEVEN: [(&[Said<'static>], Option<Start>); 7] = [
     // Over four true view changes and two lies nothing is selected.
     (&[ONE, ONE, ONE, ONE, LIE, LIE], None),
     // With a fifth true one the batch is that was prepared.
@@ -168,10 +168,10 @@ fn are_selected(
 
 #[test]
 fn selections_follow_the_rules(rt: HostRuntime) -> Result<(), Fail> {
-    for (rows, wanted) in ROWS {
+    for &(rows, wanted) in &ROWS {
         assert!(rt; are_selected(rt.alloc(), FOUR, rows, wanted)?);
     }
-    for (rows, wanted) in ROWS_OF_SEVEN {
+    for &(rows, wanted) in &ROWS_OF_SEVEN {
         assert!(rt; are_selected(rt.alloc(), SEVEN, rows, wanted)?);
     }
     Ok(())

@@ -101,7 +101,7 @@ fn the_worked_request(rt: HostRuntime) -> Result<(), Fail> {
 }
 
 // Bodies that go with MACs.
-const BODIES: [&[&[u8]]; 8] = [
+static BODIES: [&[&[u8]]; 8] = [
     &[REQUEST],
     // Votes and a checkpoint.
     &[b"\x43\x00\x01", ONE, TWO, DIGEST],
@@ -116,14 +116,14 @@ const BODIES: [&[&[u8]]; 8] = [
 
 #[test]
 fn bodies_stand_with_macs(rt: HostRuntime) -> Result<(), Fail> {
-    for parts in BODIES {
+    for &parts in &BODIES {
         assert!(rt; stands_with_macs(rt.alloc(), parts)?);
     }
     Ok(())
 }
 
 // A fetch of a page past the last one.
-const PAST: &[&[u8]] = &[b"\x49\x00\x03", TWO, b"\x02\x04\x00"];
+static PAST: &[&[u8]] = &[b"\x49\x00\x03", TWO, b"\x02\x04\x00"];
 
 #[test]
 fn no_page_past_the_last(rt: HostRuntime) -> Result<(), Fail> {

@@ -15,7 +15,7 @@ pub const REQUEST: &[u8] =
     b"\x41\x01\x00\x00\x00\x00\x00\x00\x00\x00\x01\x00\x21\x01\x01\x00\x00\x00\x00\x00\x00\x00\x01";
 
 // A view change with a checkpoint entry, a batch entry to be prepared and two to be pre-prepared.
-pub const VIEW_CHANGE: &[&[u8]] = &[
+pub static VIEW_CHANGE: &[&[u8]] = &[
     b"\x46\x00\x02",
     ONE,
     ONE,

@@ -148,7 +148,7 @@ fn pre_prepare(alloc: Global) -> Result<Vec<u8>, AllocError> {
 }
 
 // A reply that found `(1)`.
-const REPLY: &[&[u8]] = &[
+static REPLY: &[&[u8]] = &[
     b"\x48\x00\x03\x01\x00",
     ONE,
     b"\x01",
@@ -157,9 +157,9 @@ const REPLY: &[&[u8]] = &[
     ONE,
 ];
 
-const DIGESTS: &[&[u8]] = &[b"\x4a\x00\x03", TWO, b"\x01\x00\x1f", &[5; 1024]];
+static DIGESTS: &[&[u8]] = &[b"\x4a\x00\x03", TWO, b"\x01\x00\x1f", &[5; 1024]];
 
-const PAGE: &[&[u8]] = &[b"\x4b\x00\x03", TWO, b"\x03\xff\x01\x02\x03"];
+static PAGE: &[&[u8]] = &[b"\x4b\x00\x03", TWO, b"\x03\xff\x01\x02\x03"];
 
 // How many messages take memory.
 const MESSAGES: u8 = 7;
