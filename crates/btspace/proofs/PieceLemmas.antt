@@ -1,13 +1,13 @@
 -- Parts of a line, one behind the other.
-use Rattle.std.proofs.Common.{◌≡◌, ◌≢◌, ℕ, suc, ◌+◌, ◌-◌, ◌<◌, ◌≤◌, ◌==◌, min, Bool, true, false, List, [], ◌∷◌, ◌++◌, All, Option, None, Some, IfSome, OnSome, Result, Ok, nat_lt, length, take, drop, get_or, refl, sym, ap, subst, ◌∙◌, arith, append_assoc, append-nil, length-take-le, ne_eqb, take-take, ltb-true, ltb-false, add-zero}
+use Rattle.std.proofs.Common.{◌≡◌, ℕ, ◌+◌, ◌<◌, ◌≤◌, ◌==◌, Bool, true, false, List, [], ◌∷◌, ◌++◌, Option, None, Some, IfSome, OnSome, Result, Ok, nat_lt, length, take, get_or, refl, sym, ap, subst, ◌∙◌, arith, append_assoc, append-nil, length-take-le, ne_eqb, take-take, ltb-true, ltb-false, add-zero}
 use Rattle.std.proofs.lemmas.List.Elements.{All-nil, All-append}
 use Rattle.std.proofs.lemmas.List.{take_more, get_or-take, get_or_default}
-use Rattle.std.specs.Io.KnownBytes.{Consumes, Keeps, IsAtEnd}
+use Rattle.std.specs.Io.KnownBytes.{Consumes, IsAtEnd}
 use Rattle.std.specs.Int.{from_bool}
 pub use Rattle.btspace.specs.Pieces.{NoLineFeed}
-use Rattle.btspace.specs.Pieces.{TakesPiece, EndsPiece, end_bytes, piece_end_of}
+use Rattle.btspace.specs.Pieces.{TakesPiece, end_bytes, piece_end_of}
 use Rattle.btspace.specs.declared.pieces.PieceEnd.{PieceEnd}
-use Rattle.btspace.specs.declared.pieces.PieceEnd.TheVariants.{Full, LineFeed, InputEnd}
+use Rattle.btspace.specs.declared.pieces.PieceEnd.TheVariants.{Full}
 
 -- nothing is taken
 pub takes_nothing : (limit : ℕ) (xs before : List ℕ) (left : Option (List ℕ)) → left ≡ Some xs → TakesPiece None limit xs left before before

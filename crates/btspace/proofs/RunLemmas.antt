@@ -1,5 +1,5 @@
 -- A run so far.
-use Rattle.std.proofs.Common.{◌≡◌, ℕ, ◌+◌, ◌^◌, ◌<◌, ◌≤◌, Bool, true, false, cond, List, [], ◌∷◌, ◌++◌, Option, None, Some, IfSome, IfOk, Result, Ok, Err, MatchResult, MatchBool, OnOk, IfErr, ◌==◌, refl, sym, ap, subst, ◌∙◌, arith, append_assoc, append-nil, nat_lt, length, is_some, zero, suc}
+use Rattle.std.proofs.Common.{◌≡◌, ℕ, ◌+◌, ◌^◌, ◌<◌, ◌≤◌, Bool, true, false, cond, List, [], ◌++◌, Option, None, Some, IfSome, IfOk, Result, Ok, Err, MatchResult, MatchBool, OnOk, IfErr, ◌==◌, refl, sym, ap, subst, ◌∙◌, arith, append_assoc, append-nil, is_some, zero, suc}
 use Rattle.std.specs.Str.Lines.{lines}
 use Rattle.std.specs.Io.KnownBytes.{Appends, prepend_known}
 use Rattle.std.specs.Io.Buffered.{reader_inner, reader_buffer, reader_capacity, reader_remaining}
@@ -9,10 +9,9 @@ use Rattle.tuple_tree.specs.Values.{TupleTree}
 use Rattle.tuple_codec.specs.Operations.{Operation, out, rdp, inp, cas, rd_all}
 use Rattle.tuple_codec.specs.OperationView.{operation_of}
 use Rattle.tuple_text.specs.Lines.{IsLine}
-use Rattle.tuple_text.specs.declared.faults.LineFault.{LineFault}
 use Rattle.tuple_text.specs.declared.faults.LineFault.TheVariants.{TooLong}
 use Rattle.space.specs.Applying.{outcome, tuples_after, has_room, first_match}
-use Rattle.space.specs.Births.{SpaceState, tuples_of, state_after, with_tuple, with_birth, birth_of, first_passing, has_page_room}
+use Rattle.space.specs.Births.{SpaceState, tuples_of, state_after, with_tuple, with_birth, first_passing, has_page_room}
 use Rattle.btspace.specs.Run.{Ending, complete, refused_at, cut_short, result_line, Runs, at_end, stops, skips, answers, refuses, is_late}
 use Rattle.btspace.specs.NextLines.{Gives, Fails, BeginsWith, IsNextLine}
 use Rattle.btspace.specs.declared.pieces.ReadFault.{ReadFault}

@@ -6,6 +6,8 @@ use Rattle.tuple_text.specs.declared.faults.LineFault.TheVariants.{BadByte, TooD
 use Rattle.btspace.specs.Refusals.{line_refusal, malformed_refusal, step_refusal, configuration_refusal}
 use Rattle.btspace.specs.declared.local.LocalFault.{LocalFault}
 use Rattle.btspace.specs.declared.local.LocalFault.TheVariants as local
+use Rattle.btspace.specs.declared.run.RunFault.{RunFault}
+use Rattle.btspace.specs.declared.run.RunFault.TheVariants as run
 use Rattle.btspace.specs.declared.show.ShowFault.{ShowFault}
 use Rattle.btspace.specs.declared.show.ShowFault.TheVariants as show
 use Rattle.btspace.specs.declared.complaints.Complaint.{Complaint}
@@ -48,3 +50,9 @@ abbrev pub OfShow : ShowFault → Complaint → Type 0
 OfShow show.Malformed c = c ≡ Malformed
 OfShow show.NoMemory c = c ≡ Stopped
 OfShow (show.Write error) c = c ≡ Stopped
+
+abbrev pub OfRun : RunFault → Complaint → Type 0
+OfRun run.Configuration c = c ≡ Configuration
+OfRun run.Stopped c = c ≡ Stopped
+OfRun run.NoMemory c = c ≡ Stopped
+OfRun (run.Write error) c = c ≡ Stopped

@@ -4,6 +4,8 @@ pub mod NextLines
 pub mod LongLines
 pub mod Endings
 pub mod Moments
+pub mod Scripts
+pub mod Results
 pub mod Shown
 pub mod ShowFaults
 pub mod Refusals

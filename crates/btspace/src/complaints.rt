@@ -2,9 +2,10 @@
 
 ghost use Rattle.std.specs.Prelude.{◌≡◌};
 ghost use Rattle.btspace.specs.Refusals.{line_refusal};
-ghost use Rattle.btspace.specs.Complaints.{status_of, OfLocal, OfShow};
+ghost use Rattle.btspace.specs.Complaints.{status_of, OfLocal, OfRun, OfShow};
 
 use crate::local::LocalFault;
+use crate::run::RunFault;
 use crate::schedule::ScheduleFault;
 use crate::show::ShowFault;
 use std::{fmt, io};
@@ -77,6 +78,15 @@ impl<'a> Complaint<'a> {
             ScheduleFault::Step { line } => Complaint::Step { line: *line },
             ScheduleFault::Read(_) => Complaint::Unreadable { path },
             ScheduleFault::NoMemory | ScheduleFault::Write(_) => Complaint::Stopped,
+        }
+    }
+
+    pub fn of_run(fault: &RunFault) -> Complaint<'a>
+        ensures { OfRun fault.now result }
+    {
+        match fault {
+            RunFault::Configuration => Complaint::Configuration,
+            RunFault::Stopped | RunFault::NoMemory | RunFault::Write(_) => Complaint::Stopped,
         }
     }
 

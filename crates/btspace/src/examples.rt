@@ -1,6 +1,7 @@
 //! The example scripts, and their results.
 
 use crate::local::local;
+use crate::tests::clusters::{CLUSTER_SETTINGS, is_answered};
 
 const LOCK_SCRIPT: &str = r#"# A lock on a printer: whoever has taken its one token holds it.
 
@@ -214,21 +215,31 @@ found ("job" "wash" 1)
 absent
 "#;
 
+const ROWS: [(&str, &str); 5] = [
+    (LOCK_SCRIPT, LOCK_RESULTS),
+    (BARRIER_SCRIPT, BARRIER_RESULTS),
+    (ELECTION_SCRIPT, ELECTION_RESULTS),
+    (CONFIGURATION_SCRIPT, CONFIGURATION_RESULTS),
+    (QUEUE_SCRIPT, QUEUE_RESULTS),
+];
+
 #[test]
 fn runs_the_examples(rt: HostRuntime) {
-    let rows = [
-        (LOCK_SCRIPT, LOCK_RESULTS),
-        (BARRIER_SCRIPT, BARRIER_RESULTS),
-        (ELECTION_SCRIPT, ELECTION_RESULTS),
-        (CONFIGURATION_SCRIPT, CONFIGURATION_RESULTS),
-        (QUEUE_SCRIPT, QUEUE_RESULTS),
-    ];
-    for (script, results) in rows {
+    for (script, results) in ROWS {
         let mut written = Vec::new(rt.alloc());
         assert!(rt;
             local(rt.alloc(), script.as_bytes(), &mut written).is_ok(),
             "{script}"
         );
         assert!(rt; written.as_slice() == results.as_bytes(), "{script}");
+    }
+}
+
+// With one client a cluster answers as a space of its own does.
+#[test]
+fn runs_the_examples_on_a_cluster(rt: HostRuntime) {
+    for (script, results) in ROWS {
+        let row = (CLUSTER_SETTINGS, script, results);
+        assert!(rt; is_answered(&rt, rt.alloc(), row), "{script}");
     }
 }

@@ -17,8 +17,8 @@ use thiserror::Error;
 use tuple_codec::Op;
 use tuple_text::{LineFault, write_answer};
 
-// The number of the first line that is one too many.
-const LINES_END: u64 = 1 << 48;
+/// The number of the first line that is one too many.
+pub const LINES_END: u64 = 1 << 48;
 
 // So many bytes of results are held back at the most, and those of one line.
 const HELD: usize = 8192;
@@ -178,7 +178,8 @@ impl Session {
     }
 }
 
-fn line_fault(line: u64, no: NoLine) -> LocalFault
+/// The fault of a line of this number.
+pub fn line_fault(line: u64, no: NoLine) -> LocalFault
     ensures { result ≡ fault_at line no }
 {
     match no {
@@ -188,7 +189,8 @@ fn line_fault(line: u64, no: NoLine) -> LocalFault
     }
 }
 
-fn read_fault(fault: ReadFault) -> LocalFault
+/// The fault of a reader.
+pub fn read_fault(fault: ReadFault) -> LocalFault
     ensures { result ≡ read_fault_of fault }
 {
     match fault {

@@ -8,39 +8,73 @@
 //! refuses exactly where they spell none. The texts of standard error and the statuses follow from the faults, and the
 //! status of words that are no request from why they are none. Results are held back only while a whole line is at
 //! hand, so that nobody waits for an answer that is there; in which order reads and writes come is tested.
+//!
+//! Of `run`: `read_script` gives the operations of all lines, or the number and the refusal of the first line that is
+//! refused. What `run` writes is a result line for each of so many answers as there are operations; at a fault it is
+//! nothing, unless the writer failed. That these answers are those of the calls, in the order of the script, that a
+//! faulty party is refused before the script is read, and what is shown while it runs, is tested.
 #![tactic(auto)]
 
 ghost use Rattle.std.specs.Prelude.{◌≡◌};
 ghost use Rattle.btspace.specs.Complaints.{status_of};
 
 mod complaints;
+mod display;
 mod input;
 mod local;
 mod pieces;
+mod run;
 mod schedule;
+mod script;
 mod show;
 
+use cluster_run::is_faultless;
 use command_line::{NoRequest, Printed, Request, read_words};
 use complaints::Complaint;
+use config_text::Settings;
+use display::Display;
 use events::Config;
+use journal::Opened;
 use local::local;
-use schedule::{read_configuration, schedule};
+use run::run;
+use schedule::{read_settings, schedule};
+use script::read_script;
 use show::show;
-use std::io::Read;
+use std::alloc::Global;
+use std::io::{IsTerminal, Read};
+use std::marker::Brand;
 use std::process::ExitCode;
 use std::rt::{Env, Files};
+use std::sync::Wait;
+use std::thread::Threads;
+use std::time::Clock;
 use std::{fs, io};
+use tuple_codec::Op;
 
 // A pipe can't always be opened by this path, as where the program runs as another user than its maker's. So it is
 // taken for the standard input that the program has already.
 const STANDARD_INPUT: &str = "/dev/stdin";
 
 fn main(rt: HostRuntime) -> ExitCode {
-    ExitCode::from(act_on_words(&rt))
+    let is_terminal = rt.stderr().is_terminal();
+    ExitCode::from(act_on_words(&rt, is_terminal))
 }
 
-// Does what the words ask for, and gives the status.
-fn act_on_words<R: Files + Env + Input + Print + Eprint + AllocGlobal>(rt: &R) -> u8 {
+// Does what the words ask for, and gives the status. Standard error may be a terminal.
+fn act_on_words<
+    R: Files
+        + Env
+        + Input
+        + Print
+        + Eprint
+        + AllocGlobal
+        + Threads
+        + Wait
+        + Clock
+        + Copy
+        + Send
+        + 'static,
+>(rt: &R, is_terminal: bool) -> u8 {
     let args = match std::env::args(rt) {
         Ok(args) => args,
         Err(error) => return refuse_words(rt, &error),
@@ -50,14 +84,30 @@ fn act_on_words<R: Files + Env + Input + Print + Eprint + AllocGlobal>(rt: &R) -
         Err(_) => return complain(rt, Complaint::Stopped),
     };
     match read_words(rt, words.as_slice()) {
-        Ok(request) => act_on(rt, request),
+        Ok(request) => act_on(rt, is_terminal, request),
         Err(why) => end_words(rt, why),
     }
 }
 
-fn act_on<R: Files + Input + Print + Eprint + AllocGlobal>(rt: &R, request: Request<'_>) -> u8 {
+fn act_on<
+    R: Files
+        + Input
+        + Print
+        + Eprint
+        + AllocGlobal
+        + Threads
+        + Wait
+        + Clock
+        + Copy
+        + Send
+        + 'static,
+>(rt: &R, is_terminal: bool, request: Request<'_>) -> u8 {
     match request {
         Request::Local { script } => run_script(rt, script),
+        Request::Run { config, script } => match settings_at(rt, config) {
+            Ok(settings) => run_cluster(rt, is_terminal, &settings, script),
+            Err(complaint) => complain(rt, complaint),
+        },
         Request::Show { digits } => print_tuple(rt, digits),
         Request::Schedule {
             config,
@@ -91,26 +141,26 @@ fn run_configured<R: Files + Input + Print + Eprint + AllocGlobal>(
     file: &str,
     printed: Printed,
 ) -> u8 {
-    match configuration_at(rt, config) {
-        Ok(config) => run_schedule(rt, &config, file, printed),
+    match settings_at(rt, config) {
+        Ok(settings) => run_schedule(rt, &settings.config, file, printed),
         Err(complaint) => complain(rt, complaint),
     }
 }
 
-fn configuration_at<'a, R: Files + Input + AllocGlobal>(
+fn settings_at<'a, R: Files + Input + AllocGlobal>(
     rt: &R,
     path: &'a str,
-) -> Result<Config, Complaint<'a>> {
-    let config = if path == STANDARD_INPUT {
-        read_configuration(rt.alloc(), rt.reader())
+) -> Result<Settings, Complaint<'a>> {
+    let settings = if path == STANDARD_INPUT {
+        read_settings(rt.alloc(), rt.reader())
     } else {
         match fs::open(rt, path) {
-            Ok(file) => read_configuration(rt.alloc(), file),
+            Ok(file) => read_settings(rt.alloc(), file),
             Err(error) => return Err(Complaint::of_open(&error, path)),
         }
     };
-    match config {
-        Ok(config) => Ok(config),
+    match settings {
+        Ok(settings) => Ok(settings),
         Err(fault) => Err(Complaint::of_schedule(&fault, path)),
     }
 }
@@ -140,6 +190,69 @@ fn run_steps<R: Print + Eprint + AllocGlobal, I: Read + Drop>(
     match schedule(rt.alloc(), config, input, printed, &mut io::writer(rt)) {
         Ok(()) => 0,
         Err(fault) => complain(rt, Complaint::of_schedule(&fault, path)),
+    }
+}
+
+// The script is read and judged whole before anything starts.
+fn run_cluster<
+    R: Files
+        + Input
+        + Print
+        + Eprint
+        + AllocGlobal
+        + Threads
+        + Wait
+        + Clock
+        + Copy
+        + Send
+        + 'static,
+>(rt: &R, is_terminal: bool, settings: &Settings, path: &str) -> u8 {
+    if !is_faultless(&settings.config) {
+        return complain(rt, Complaint::Configuration);
+    }
+    match script_at(rt, path) {
+        Ok(ops) => run_operations(rt, is_terminal, settings, ops),
+        Err(complaint) => complain(rt, complaint),
+    }
+}
+
+fn script_at<'a, R: Files + Input + AllocGlobal>(
+    rt: &R,
+    path: &'a str,
+) -> Result<Vec<Op<Global>>, Complaint<'a>> {
+    let script = if path == STANDARD_INPUT {
+        read_script(rt.alloc(), rt.reader())
+    } else {
+        match fs::open(rt, path) {
+            Ok(file) => read_script(rt.alloc(), file),
+            Err(error) => return Err(Complaint::of_open(&error, path)),
+        }
+    };
+    match script {
+        Ok(ops) => Ok(ops),
+        Err(fault) => Err(Complaint::of_local(&fault, path)),
+    }
+}
+
+fn run_operations<R: Print + Eprint + AllocGlobal + Threads + Wait + Clock + Copy + Send + 'static>(
+    rt: &R,
+    is_terminal: bool,
+    settings: &Settings,
+    ops: Vec<Op<Global>>,
+) -> u8 {
+    let mut display = Display::new(rt, is_terminal, ops.len());
+    let ending = run::<Brand, R, _, _>(
+        rt,
+        rt.alloc(),
+        Opened::new(),
+        settings,
+        ops,
+        &mut io::writer(rt),
+        &mut display,
+    );
+    match ending {
+        Ok(()) => 0,
+        Err(fault) => complain(rt, Complaint::of_run(&fault)),
     }
 }
 

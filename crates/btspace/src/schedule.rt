@@ -2,7 +2,7 @@
 
 use crate::pieces::{PieceEnd, ReadFault, drop_return, read_piece};
 use command_line::Printed;
-use config_text::{ConfigFault, read_config};
+use config_text::{ConfigFault, Settings, read_config};
 use events::{Config, Entry};
 use picture::write_picture;
 use schedule_text::{Step, StepFault, read_step};
@@ -64,8 +64,8 @@ impl From<ReadFault> for ScheduleFault {
     }
 }
 
-/// Reads a configuration.
-pub fn read_configuration<R: Read>(alloc: Global, mut reader: R) -> Result<Config, ScheduleFault>
+/// Reads a configuration, and how many entries a journal takes.
+pub fn read_settings<R: Read>(alloc: Global, mut reader: R) -> Result<Settings, ScheduleFault>
 where
     R: Drop,
 {
@@ -74,7 +74,7 @@ where
         return Err(read_fault(error));
     }
     match read_config(alloc, text.as_slice()) {
-        Ok(settings) => Ok(settings.config),
+        Ok(settings) => Ok(settings),
         Err(ConfigFault::Refused) => Err(ScheduleFault::Configuration),
         Err(ConfigFault::NoMemory) => Err(ScheduleFault::NoMemory),
     }

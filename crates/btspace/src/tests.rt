@@ -1,6 +1,8 @@
 //! Worked scripts and digits.
 
 mod checkpoints;
+pub mod clusters;
+mod displays;
 mod forged;
 mod rows;
 mod schedules;

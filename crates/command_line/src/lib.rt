@@ -28,6 +28,11 @@ pub enum Request<'a> {
     Show {
         digits: &'a str,
     },
+    /// The script at the second path is to be run on a cluster of the configuration at the first.
+    Run {
+        config: &'a str,
+        script: &'a str,
+    },
     /// The schedule at the second path is to be run in the configuration at the first.
     Schedule {
         config: &'a str,
@@ -88,6 +93,11 @@ fn request_in<'a>(name: &str, given: &ArgMatches<'a>) -> Option<Request<'a>> {
         Some(Request::Local {
             script: given.get_str("SCRIPT")?,
         })
+    } else if name == "run" {
+        Some(Request::Run {
+            config: given.get_str("CONFIG")?,
+            script: given.get_str("SCRIPT")?,
+        })
     } else if name == "show" {
         Some(Request::Show {
             digits: given.get_str("HEX")?,
@@ -119,6 +129,7 @@ fn program<'a>(alloc: Global) -> Result<Command<'a>, AllocError> {
         .subcommand_required(true)
         .disable_help_subcommand(true)
         .subcommand(local(alloc)?)?
+        .subcommand(run(alloc)?)?
         .subcommand(schedule(alloc)?)?
         .subcommand(show(alloc)?)
 }
@@ -129,6 +140,19 @@ fn local<'a>(alloc: Global) -> Result<Command<'a>, AllocError> {
         .help("The file of the script, a line for each operation");
     Command::new(alloc, "local")
         .about("Runs a script on a space of its own and prints a result line for each operation")
+        .arg(script)
+}
+
+fn run<'a>(alloc: Global) -> Result<Command<'a>, AllocError> {
+    let config = Arg::new(alloc, "CONFIG").required(true).help(
+        "The file of the configuration, in TOML, which names no faulty party",
+    );
+    let script = Arg::new(alloc, "SCRIPT").required(true).help(
+        "The file of the script, a line for each operation, which the clients take in turn",
+    );
+    Command::new(alloc, "run")
+        .about("Runs a script on a running cluster and prints a result line for each operation")
+        .arg(config)?
         .arg(script)
 }
 

@@ -12,6 +12,10 @@
 //! Reads it answers at once from what it has executed, beside the order; their templates lie in an arena that lasts as
 //! long as the event.
 //!
+//! [`Replica::split`] takes it apart for two threads: the [`Orderer`] numbers, votes and executes, and the [`Desk`],
+//! with the state, the keys and the waiting requests, answers reads by itself. A step of the whole is one of its
+//! orderer on its own desk.
+//!
 //! # What it keeps
 //!
 //! What strangers can make it keep is bounded: the latest request of each client; for each number within the marks, 32
@@ -36,7 +40,9 @@
 //! history, and [`Replica::step`] hands it on by what it gives, also where it stops. A history that fits is that of a
 //! correct replica (`IsReplica`): safe, with all that is owed of it, in each view: numbers, prepares, commits,
 //! executions, replies and checkpoints, states that are fetched and parts that are asked for, answers of reads, what
-//! goes again and what is dropped. Where memory runs out the replica has stopped: it gives nothing, then and later.
+//! goes again and what is dropped. Where memory runs out the replica has stopped: it gives nothing, then and later. The
+//! parts hand on the same histories, steps and reads in any order: the desk fits the whole of one, the orderer fits it
+//! without what stands beside ordering.
 #![tactic(auto)]
 
 mod arriving;

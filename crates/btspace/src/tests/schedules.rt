@@ -1,6 +1,6 @@
 //! The example schedules with their reports, and what is refused.
 
-use crate::schedule::{ScheduleFault, read_configuration, schedule};
+use crate::schedule::{ScheduleFault, read_settings, schedule};
 use command_line::Printed;
 use std::alloc::Global;
 use std::test::Fail;
@@ -108,7 +108,7 @@ pub fn is_reported(
     alloc: Global,
     (settings, text, is_traced, report): (&str, &str, bool, &str),
 ) -> bool {
-    let Ok(config) = read_configuration(alloc, settings.as_bytes()) else {
+    let Ok(settings) = read_settings(alloc, settings.as_bytes()) else {
         return false;
     };
     let printed = if is_traced {
@@ -117,7 +117,14 @@ pub fn is_reported(
         Printed::Report
     };
     let mut written = Vec::new(alloc);
-    schedule(alloc, &config, text.as_bytes(), printed, &mut written).is_ok()
+    schedule(
+        alloc,
+        &settings.config,
+        text.as_bytes(),
+        printed,
+        &mut written,
+    )
+    .is_ok()
         && written.as_slice() == report.as_bytes()
 }
 
@@ -129,13 +136,13 @@ fn runs_the_schedules(rt: HostRuntime) {
 }
 
 fn is_refused_at(alloc: Global, text: &str, refused: u64) -> bool {
-    let Ok(config) = read_configuration(alloc, FOUR_SETTINGS.as_bytes()) else {
+    let Ok(settings) = read_settings(alloc, FOUR_SETTINGS.as_bytes()) else {
         return false;
     };
     let mut written = Vec::new(alloc);
     match schedule(
         alloc,
-        &config,
+        &settings.config,
         text.as_bytes(),
         Printed::Report,
         &mut written,
@@ -154,13 +161,13 @@ fn names_the_line_that_is_refused(rt: HostRuntime) {
 
 // Whether the picture of a schedule, with nothing else, is what is written.
 fn is_drawn(alloc: Global, text: &str) -> bool {
-    let Ok(config) = read_configuration(alloc, FOUR_SETTINGS.as_bytes()) else {
+    let Ok(settings) = read_settings(alloc, FOUR_SETTINGS.as_bytes()) else {
         return false;
     };
     let mut written = Vec::new(alloc);
     schedule(
         alloc,
-        &config,
+        &settings.config,
         text.as_bytes(),
         Printed::Picture,
         &mut written,
@@ -177,7 +184,7 @@ fn draws_a_schedule(rt: HostRuntime) {
 
 fn is_no_configuration(alloc: Global, text: &str) -> bool {
     matches!(
-        read_configuration(alloc, text.as_bytes()),
+        read_settings(alloc, text.as_bytes()),
         Err(ScheduleFault::Configuration)
     )
 }

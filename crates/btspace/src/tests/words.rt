@@ -8,14 +8,14 @@ use std::io::{self, Write};
 
 // What was printed on standard output and on standard error, while they are open.
 #[derive(Drop)]
-struct Console {
+pub struct Console {
     is_open: bool,
-    output: RefCell<Vec<u8>>,
-    errors: RefCell<Vec<u8>>,
+    pub output: RefCell<Vec<u8>>,
+    pub errors: RefCell<Vec<u8>>,
 }
 
 impl Console {
-    fn new(alloc: Global, is_open: bool) -> Console {
+    pub fn new(alloc: Global, is_open: bool) -> Console {
         Console {
             is_open,
             output: RefCell::new(Vec::new(alloc)),
@@ -63,7 +63,7 @@ impl Eprint for Console {
     }
 }
 
-fn holds(stream: &RefCell<Vec<u8>>, text: &str) -> bool {
+pub fn holds(stream: &RefCell<Vec<u8>>, text: &str) -> bool {
     match stream.try_borrow() {
         Ok(printed) => printed.as_slice() == text.as_bytes(),
         Err(_) => false,
@@ -80,7 +80,7 @@ struct Row {
     errors: &'static str,
 }
 
-const ROWS: [Row; 8] = [
+const ROWS: [Row; 10] = [
     Row {
         words: &["btspace", "--help"],
         why: NoRequest::Shown,
@@ -90,6 +90,7 @@ Usage: btspace <COMMAND>
 
 Commands:
   local     Runs a script on a space of its own and prints a result line for each operation
+  run       Runs a script on a running cluster and prints a result line for each operation
   schedule  Runs a schedule in a world of replicas and clients and prints what was accepted
   show      Prints the tuple that is encoded by these bytes
 
@@ -125,7 +126,7 @@ Options:
         why: NoRequest::Wrong,
         output: "",
         errors: "error: 'btspace' requires a subcommand but one was not provided
-  [subcommands: local, schedule, show]
+  [subcommands: local, run, schedule, show]
 
 Usage: btspace <COMMAND>
 
@@ -140,6 +141,34 @@ For more information, try '--help'.
   <HEX>
 
 Usage: btspace show <HEX>
+
+For more information, try '--help'.
+",
+    },
+    Row {
+        words: &["btspace", "run", "--help"],
+        why: NoRequest::Shown,
+        output: "Runs a script on a running cluster and prints a result line for each operation
+
+Usage: btspace run <CONFIG> <SCRIPT>
+
+Arguments:
+  <CONFIG>  The file of the configuration, in TOML, which names no faulty party
+  <SCRIPT>  The file of the script, a line for each operation, which the clients take in turn
+
+Options:
+  -h, --help  Print help
+",
+        errors: "",
+    },
+    Row {
+        words: &["btspace", "run", "a.toml"],
+        why: NoRequest::Wrong,
+        output: "",
+        errors: "error: the following required arguments were not provided:
+  <SCRIPT>
+
+Usage: btspace run <CONFIG> <SCRIPT>
 
 For more information, try '--help'.
 ",
@@ -207,6 +236,12 @@ fn asks_for(alloc: Global, words: &[&str], request: Request<'_>) -> bool {
 fn reads_words(rt: HostRuntime) {
     let local = Request::Local { script: "a.bts" };
     assert!(rt; asks_for(rt.alloc(), &["btspace", "local", "a.bts"], local));
+    let run = Request::Run {
+        config: "a.toml",
+        script: "a.bts",
+    };
+    let words = ["btspace", "run", "a.toml", "a.bts"];
+    assert!(rt; asks_for(rt.alloc(), &words, run));
     let show = Request::Show { digits: "00" };
     assert!(rt; asks_for(rt.alloc(), &["btspace", "show", "00"], show));
     let schedule = Request::Schedule {

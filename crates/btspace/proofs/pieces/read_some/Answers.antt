@@ -1,8 +1,8 @@
-use Rattle.std.proofs.Common.{◌≡◌, ◌+◌, ◌≤◌, arith, eqb-true, leb-true, length, take, nat_lt, nat_le, IfSome, subst, sym, ◌∙◌, length-take-le}
+use Rattle.std.proofs.Common.{◌+◌, ◌≤◌, arith, eqb-true, leb-true, length, take, nat_lt, nat_le, IfSome, subst, sym, ◌∙◌, length-take-le}
 use Rattle.std.specs.Io.BufRead.{FillKeeps}
 use Rattle.std.proofs.BufReadLemmas.{Consumes_shown}
 use Rattle.btspace.specs.Pieces.{TakesPiece}
-use Rattle.btspace.proofs.PieceLemmas.{takes_some_known, ended_cases, taken_within, takes_nothing_known, full_of, Ok-injective}
+use Rattle.btspace.proofs.PieceLemmas.{takes_some_known, ended_cases, taken_within, full_of, Ok-injective}
 use Rattle.btspace.proofs.pieces.read_some.Goals as goal
 
 pub returns-clause-full : goal.returns-clause-full

@@ -1,4 +1,4 @@
-use Rattle.std.proofs.Common.{ℕ, ◌*◌, ◌≤◌, IfSome}
+use Rattle.std.proofs.Common.{◌*◌, ◌≤◌, IfSome}
 use Rattle.std.specs.Io.Buffered.{reader_remaining}
 use Rattle.space.specs.Births.{tuples_of}
 use Rattle.btspace.specs.Endings.{Along}

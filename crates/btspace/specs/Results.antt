@@ -1,0 +1,45 @@
+-- What a run on a cluster prints.
+use Rattle.std.specs.Prelude.{◌≡◌, ℕ, List, length, Option, Result, MatchResult}
+use Rattle.std.specs.List.{flat_map}
+use Rattle.std.specs.Io.KnownBytes.{Appends}
+use Rattle.std.specs.declared.alloc.Global.{Global}
+use Rattle.tuple_codec.specs.OperationView.{outcome_of}
+use Rattle.tuple_codec.specs.declared.operations.Answer.{Answer}
+use Rattle.btspace.specs.Run.{result_line}
+use Rattle.btspace.specs.declared.run.RunFault.{RunFault}
+use Rattle.btspace.specs.declared.run.RunFault.TheVariants.{Configuration, Stopped, NoMemory, Write}
+
+abbrev pub answer_line : Answer Global → List ℕ
+answer_line answer = result_line (outcome_of answer)
+
+-- a result line for each answer
+abbrev pub results_text : List (Answer Global) → List ℕ
+results_text answers = flat_map answer_line answers
+
+-- the result lines of so many answers were added
+abbrev pub PrintsResults : ℕ → Option (List ℕ) → Option (List ℕ) → Type 0
+PrintsResults count old new =
+    (answers : List (Answer Global)) × (length answers ≡ count) × Appends old new (results_text answers)
+
+-- Nothing was written, unless the writer failed.
+abbrev pub PrintsNone : RunFault → Option (List ℕ) → Option (List ℕ) → Type 0
+PrintsNone Configuration old new = new ≡ old
+PrintsNone Stopped old new = new ≡ old
+PrintsNone NoMemory old new = new ≡ old
+PrintsNone (Write error) old new = Unit {0}
+
+-- All results were printed, or none.
+abbrev pub EndsCluster : Result (Unit {0}) RunFault → ℕ → Option (List ℕ) → Option (List ℕ) → Type 0
+EndsCluster result count old new =
+    MatchResult result (λ _. PrintsResults count old new) (λ fault. PrintsNone fault old new)
+
+-- the same of answers that are there
+abbrev pub WritesResults : Result (Unit {0}) RunFault → List (Answer Global) → Option (List ℕ) → Option (List ℕ) → Type 0
+WritesResults result answers old new =
+    MatchResult result (λ _. Appends old new (results_text answers)) (λ fault. PrintsNone fault old new)
+
+abbrev pub IsNoWrite : RunFault → Type 0
+IsNoWrite Configuration = Unit {0}
+IsNoWrite Stopped = Unit {0}
+IsNoWrite NoMemory = Unit {0}
+IsNoWrite (Write error) = ⊥

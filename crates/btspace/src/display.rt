@@ -1,0 +1,45 @@
+//! How far a run is, shown while it runs.
+
+use cluster_run::Watch;
+
+// So many seconds nothing is shown.
+const PATIENCE: u64 = 2;
+
+/// Shows on standard error how many operations are answered, on one line that is written anew, where standard error is
+/// a terminal and the run takes longer than two seconds. The line is cleared at the end.
+#[derive(Drop)]
+pub struct Display<'a, R> {
+    rt: &'a R,
+    is_terminal: bool,
+    total: usize,
+    is_shown: bool,
+}
+
+impl<'a, R: Eprint> Display<'a, R> {
+    /// Of so many operations.
+    pub fn new(rt: &'a R, is_terminal: bool, total: usize) -> Display<'a, R> {
+        Display {
+            rt,
+            is_terminal,
+            total,
+            is_shown: false,
+        }
+    }
+}
+
+impl<R: Eprint> Watch for Display<'_, R> {
+    fn note(&mut self, seconds: u64, answered: u64) {
+        if self.is_terminal && seconds >= PATIENCE {
+            self.is_shown = true;
+            let total = self.total;
+            let _ = eprint!(self.rt; "\r{answered} of {total} answered");
+        }
+    }
+
+    fn end(&mut self) {
+        if self.is_shown {
+            self.is_shown = false;
+            let _ = eprint!(self.rt; "\r\x1b[K");
+        }
+    }
+}

@@ -1,0 +1,127 @@
+//! A script on a running cluster.
+
+ghost use Rattle.std.specs.Prelude.{◌≡◌, ◌++◌, IfOk, OnOk, vec_len};
+ghost use Rattle.btspace.specs.Results.{EndsCluster, WritesResults, answer_line, results_text};
+
+use cluster_run::{RunFault as ClusterFault, Watch};
+use config_text::Settings;
+use journal::{Naming, Opened};
+use std::alloc::Global;
+use std::io::{self, Write};
+use std::sync::Wait;
+use std::thread::Threads;
+use std::time::Clock;
+use terms::NoMemory;
+use thiserror::Error;
+use tuple_codec::{Answer, Op};
+use tuple_text::write_answer;
+
+/// Why no results were printed, or not all.
+#[derive(Debug, Drop, Error)]
+pub enum RunFault {
+    /// The configuration names a faulty party.
+    #[error("the configuration is refused")]
+    Configuration,
+    /// A call was not answered, or the journal doesn't have what the parties kept.
+    #[error("stopped")]
+    Stopped,
+    #[error("out of memory")]
+    NoMemory,
+    #[error("not written: {0}")]
+    Write(io::Error),
+}
+
+impl From<NoMemory> for RunFault {
+    ghost use Rattle.std.specs.Prelude.{◌≡◌};
+    ghost use Rattle.btspace.specs.declared.run.RunFault.TheVariants.{NoMemory};
+
+    ghost from_gives = { λ _ fault. fault ≡ NoMemory };
+
+    fn from(_failed: NoMemory) -> RunFault {
+        RunFault::NoMemory
+    }
+}
+
+impl From<ClusterFault> for RunFault {
+    ghost use Rattle.btspace.specs.Results.{IsNoWrite};
+
+    ghost from_gives = { λ _ fault. IsNoWrite fault };
+
+    fn from(fault: ClusterFault) -> RunFault {
+        match fault {
+            ClusterFault::BadConfig => RunFault::Configuration,
+            ClusterFault::NoMemory => RunFault::NoMemory,
+            ClusterFault::Call(_) | ClusterFault::NotInJournal => RunFault::Stopped,
+        }
+    }
+}
+
+/// Runs the operations on a cluster of its own and writes the results, a line each, in their order: operation `i`,
+/// counted from 0, is called by client `i` modulo their number. Nothing is written unless each call was answered and
+/// the cluster finished.
+pub fn run<
+    N: Naming + Send + Sync + 'static,
+    R: Threads + Wait + Clock + Copy + Send + 'static,
+    W: Write,
+    S: Watch,
+>(
+    rt: &R,
+    alloc: Global,
+    opened: Opened,
+    settings: &Settings,
+    ops: Vec<Op<Global>>,
+    writer: &mut W,
+    watch: &mut S,
+) -> Result<(), RunFault>
+    requires config { settings.now.config ≡ N.config }
+    requires book { opened ≡ N.book }
+    ensures { EndsCluster result (vec_len ops) (W.contents writer.old) (W.contents writer.new) }
+{
+    let answers = cluster_run::run::<N, R, S>(
+        rt,
+        alloc,
+        opened,
+        &settings.config,
+        settings.journal,
+        ops,
+        watch,
+    )?;
+    write_results(alloc, answers.as_slice(), writer)
+}
+
+// Writes a result line for each answer.
+fn write_results<W: Write>(
+    alloc: Global,
+    answers: &[Answer<Global>],
+    writer: &mut W,
+) -> Result<(), RunFault>
+    ensures { WritesResults result answers.now (W.contents writer.old) (W.contents writer.new) }
+{
+    let text = results_of(alloc, answers)?;
+    if let Err(error) = writer.write_all(text.as_slice()) {
+        return Err(RunFault::Write(error));
+    }
+    if let Err(error) = writer.flush() {
+        return Err(RunFault::Write(error));
+    }
+    Ok(())
+}
+
+fn results_of(alloc: Global, answers: &[Answer<Global>]) -> Result<Vec<u8>, NoMemory>
+    ensures { IfOk result (λ text. text.items ≡ results_text answers.now) }
+{
+    let mut text = Vec::new(alloc);
+    for answer in answers {
+        put_result(answer, &mut text)?;
+    }
+    Ok(text)
+}
+
+// Adds the result line of an answer.
+fn put_result(answer: &Answer<Global>, text: &mut Vec<u8>) -> Result<(), NoMemory>
+    ensures { OnOk result (text.new.items ≡ text.old.items ++ answer_line answer.now) }
+{
+    write_answer(answer, text)?;
+    text.push(b'\n')?;
+    Ok(())
+}

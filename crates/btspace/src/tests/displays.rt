@@ -1,0 +1,41 @@
+//! How far a run is, as it is shown.
+
+use super::words::{Console, holds};
+use crate::display::Display;
+use cluster_run::Watch;
+
+#[test]
+fn shows_nothing_for_two_seconds(rt: HostRuntime) {
+    let console = Console::new(rt.alloc(), true);
+    let mut display = Display::new(&console, true, 7);
+    display.note(1, 3);
+    display.end();
+    assert!(rt; holds(&console.errors, ""));
+}
+
+#[test]
+fn shows_and_clears_a_line(rt: HostRuntime) {
+    let console = Console::new(rt.alloc(), true);
+    let mut display = Display::new(&console, true, 7);
+    display.note(1, 2);
+    display.note(2, 3);
+    display.note(3, 5);
+    assert!(rt; holds(&console.errors, "\r3 of 7 answered\r5 of 7 answered"));
+    display.end();
+    assert!(rt;
+        holds(
+            &console.errors,
+            "\r3 of 7 answered\r5 of 7 answered\r\x1b[K"
+        )
+    );
+    assert!(rt; holds(&console.output, ""));
+}
+
+#[test]
+fn shows_nothing_but_to_a_terminal(rt: HostRuntime) {
+    let console = Console::new(rt.alloc(), true);
+    let mut display = Display::new(&console, false, 7);
+    display.note(5, 3);
+    display.end();
+    assert!(rt; holds(&console.errors, ""));
+}

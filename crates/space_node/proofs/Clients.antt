@@ -1,0 +1,118 @@
+-- Clients and their histories, behind an event.
+use Rattle.std.proofs.Common.{◌≡◌, ℕ, suc, ◌+◌, false, List, [], ◌∷◌, map, refl, sym, ap, ◌∙◌, subst, arith}
+use Rattle.tuple_codec.specs.Operations.{Operation}
+use Rattle.protocol.specs.System.Configuration.{Configuration}
+use Rattle.protocol.specs.System.Trace.{Entry}
+use Rattle.protocol.specs.System.Trace.Entry.{Invoke}
+use Rattle.protocol.specs.Client.RightClient.{IsClient, last_call}
+use Rattle.events.specs.Outputs.{behind, entry_of}
+use Rattle.events.specs.declared.output.Output.{Output}
+use Rattle.events.specs.declared.output.Output.TheVariants as outputs
+use Rattle.journal.specs.Histories.{IsRight}
+use Rattle.journal.specs.Parts.{Part, longer_part}
+use Rattle.client_cert.specs.State.{ClientState}
+use Rattle.client_cert.specs.Fits.{Fits}
+use Rattle.client_cert.specs.Steps.{Leads}
+use Rattle.tuple_codec.specs.OperationView.{outcome_of}
+use Rattle.space_node.specs.Calls.{AcceptNothing, Begins, Comes, IsQuiet, TurnsTo}
+use Rattle.space_node.specs.declared.turn.Turn.{Turn}
+use Rattle.space_node.specs.declared.turn.Turn.TheVariants as turns
+use Rattle.space_node.specs.declared.input.Input.{Input}
+use Rattle.space_node.specs.declared.input.Input.TheVariants as inputs
+use Rattle.space_node.specs.Seats.{ClientLeads, IsInputOf, Seated, SeatsClient, input_of}
+use Rattle.space_node.proofs.Calling.{begins, ends, goes_on}
+use Rattle.space_node.proofs.Events.{right_client}
+
+-- ---- inputs and outputs
+
+pub quiet_input : (p : ℕ) (input : Input) → IsQuiet (input_of p input)
+quiet_input p (inputs.Got bytes from) = tt
+quiet_input p inputs.Tick = tt
+
+pub is_input : (p : ℕ) (input : Input) → IsInputOf p (input_of p input)
+is_input p (inputs.Got bytes from) = (refl, refl)
+is_input p inputs.Tick = (refl, refl)
+
+last_input : (p : ℕ) (input : Input) (past : List Entry) → last_call (input_of p input ∷ past) ≡ last_call past
+last_input p (inputs.Got bytes from) past = refl
+last_input p inputs.Tick past = refl
+
+last_output : (p : ℕ) (output : Output) (past : List Entry) → last_call (entry_of p output ∷ past) ≡ last_call past
+last_output p (outputs.Executed number batch) past = refl
+last_output p (outputs.Installed number root) past = refl
+last_output p (outputs.Send receivers frame) past = refl
+last_output p (outputs.Accepted timestamp answer) past = refl
+
+last_outputs : (p : ℕ) (outs : List Output) (past : List Entry) → last_call (behind (map (entry_of p) outs) past) ≡ last_call past
+last_outputs p [] past = refl
+last_outputs p (output ∷ outs) past = last_outputs p outs (entry_of p output ∷ past) ∙ last_output p output past
+
+-- ---- a client that did not stop, and its share
+
+module _ (c : Configuration) (id calls : ℕ) (client later : ClientState) (share : Part) (seats : SeatsClient c id client calls false share) (same : later.number ≡ client.number) where
+  fits : Fits c client share.history
+  fits = seats.fits refl
+
+  pub client_right : (es : List Entry) → Fits c later (behind es share.history) → IsRight c share.party (behind es share.history)
+  client_right es after =
+      right_client c share.party (behind es share.history) seats.no_replica
+      (subst (λ (p : ℕ). IsClient c p (behind es share.history)) (ap (λ (k : ℕ). 256 + k) (same ∙ seats.number_is) ∙ sym seats.party_is) after.right)
+
+  pub client_after : (es : List Entry) (timestamp : ℕ) → last_call (behind es share.history) ≡ timestamp → Fits c later (behind es share.history) → SeatsClient c id later timestamp false (longer_part share es)
+  client_after es timestamp last after = record {
+    party_is = seats.party_is;
+    no_replica = seats.no_replica;
+    calls_are = last;
+    number_is = same ∙ seats.number_is;
+    fits = λ _. after;
+  }
+
+  -- ---- a call
+
+  module _ (timestamp : ℕ) (op : Operation) (outs : List Output) (es : List Entry) (next : timestamp ≡ calls + 1)
+      (are : es ≡ Invoke id timestamp op ∷ map (entry_of (256 + id)) outs) where
+    pub fits_invoke : Leads client (Invoke client.number (suc client.calls) op) outs later → Fits c later (behind es share.history)
+    fits_invoke leads =
+        let when : suc client.calls ≡ timestamp = omega (arith, fits.last_is, seats.calls_are, next) in
+        subst (λ (xs : List Entry). Fits c later (behind xs share.history)) (sym are)
+        (subst (λ (k : ℕ). Fits c later (behind (Invoke k timestamp op ∷ map (entry_of (256 + k)) outs) share.history)) seats.number_is
+        (subst (λ (t : ℕ). Fits c later (behind (Invoke client.number t op ∷ map (entry_of (256 + client.number)) outs) share.history)) when
+        (leads c share.history fits)))
+
+    pub last_invoke : last_call (behind es share.history) ≡ timestamp
+    last_invoke =
+        ap (λ (xs : List Entry). last_call (behind xs share.history)) are ∙ last_outputs (256 + id) outs (Invoke id timestamp op ∷ share.history)
+
+  -- ---- an input
+
+  module _ (input : Input) (outs : List Output) (es : List Entry) (are : es ≡ input_of (256 + id) input ∷ map (entry_of (256 + id)) outs) where
+    pub fits_input : ClientLeads client input outs later → Fits c later (behind es share.history)
+    fits_input leads =
+        subst (λ (xs : List Entry). Fits c later (behind xs share.history)) (sym are)
+        (subst (λ (k : ℕ). Fits c later (behind (input_of (256 + k) input ∷ map (entry_of (256 + k)) outs) share.history)) seats.number_is
+        (leads c share.history fits))
+
+    pub last_after : last_call (behind es share.history) ≡ calls
+    last_after =
+        ap (λ (xs : List Entry). last_call (behind xs share.history)) are
+        ∙ (last_outputs (256 + id) outs (input_of (256 + id) input ∷ share.history) ∙ (last_input (256 + id) input share.history ∙ seats.calls_are))
+
+-- ---- what an event comes to
+
+pub comes : (old new : Seated) (id calls : ℕ) (input : Input) (outs : List Output) (es : List Entry) (turn : Turn) → old.party ≡ 256 + id → calls ≡ last_call old.history
+    → es ≡ input_of (256 + id) input ∷ map (entry_of (256 + id)) outs → TurnsTo calls outs turn
+    → new ≡ record { party = old.party; history = behind es old.history; stopped = false } → Comes old turn new
+comes old new id calls input outs es (turns.Waits given) who when are turned is =
+    goes_on old new (input_of old.party input) outs es (quiet_input old.party input)
+    (are ∙ ap (λ (p : ℕ). input_of p input ∷ map (entry_of p) outs) (sym who)) turned.1 is
+comes old new id calls input outs es (turns.Answered answer) who when are turned is =
+    ends old new (input_of old.party input) calls (outcome_of answer) es (quiet_input old.party input) when
+    (are ∙ (ap (λ (p : ℕ). input_of p input ∷ map (entry_of p) outs) (sym who)
+    ∙ ap (λ (os : List Output). input_of old.party input ∷ map (entry_of old.party) os) turned)) is
+
+pub begins_with : (old new : Seated) (id calls timestamp : ℕ) (op : Operation) (outs : List Output) (es : List Entry) → old.party ≡ 256 + id → calls ≡ last_call old.history → timestamp ≡ calls + 1
+    → es ≡ Invoke id timestamp op ∷ map (entry_of (256 + id)) outs → AcceptNothing outs
+    → new ≡ record { party = old.party; history = behind es old.history; stopped = false } → Begins old op new
+begins_with old new id calls timestamp op outs es who when next are none is =
+    begins old new id timestamp op outs es (omega (arith, who)) (omega (arith, when, next))
+    (are ∙ ap (λ (p : ℕ). Invoke id timestamp op ∷ map (entry_of p) outs) (sym who)) none is

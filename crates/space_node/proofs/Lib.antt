@@ -1,0 +1,14 @@
+pub mod Calling
+pub mod Captures
+pub mod ClientSends
+pub mod Clients
+pub mod DeskSends
+pub mod Events
+pub mod Finished
+pub mod HandleSends
+pub mod JournalSends
+pub mod NewSeats
+pub mod Parts
+pub mod SeatSends
+pub mod Sends
+pub mod StateSends

@@ -1,0 +1,58 @@
+-- Parts of a replica behind an event.
+use Rattle.std.proofs.Common.{◌≡◌, ℕ, List, ◌∷◌, map, sym, ap, subst}
+use Rattle.protocol.specs.System.Configuration.{Configuration}
+use Rattle.protocol.specs.System.Reads.{without_reads}
+use Rattle.protocol.specs.System.Trace.{Entry}
+use Rattle.protocol.specs.System.Trace.Entry.{Got}
+use Rattle.events.specs.Outputs.{behind, entry_of, after_event}
+use Rattle.events.specs.declared.output.Output.{Output}
+use Rattle.journal.specs.Histories.{IsRight}
+use Rattle.journal.specs.Parts.{Part, AreAlike, longer_part}
+use Rattle.replica.specs.Parted.{FitBoth, FitsDesk, FitsOrderer, ReadLeads}
+use Rattle.replica.specs.State.{DeskPart, OrdererPart}
+use Rattle.space_node.specs.declared.input.Input.{Input}
+use Rattle.space_node.specs.Seats.{InputLeads, SeatsDesk, input_of}
+use Rattle.space_node.proofs.Events.{ordering_behind, right_replica}
+
+-- ---- an event of ordering, of entries that stand for it
+
+module _ (c : Configuration) (o later_o : OrdererPart) (d later_d : DeskPart) (share order : Part) (input : Input) (outs : List Output) (es : List Entry)
+    (leads : InputLeads o d input outs later_o later_d) (seats : SeatsDesk c d share) (fits : FitsOrderer c order.party o order.history)
+    (are : es ≡ input_of share.party input ∷ map (entry_of share.party) outs) (alike : AreAlike share order) where
+  both : FitBoth c share.party later_o later_d (after_event share.party (input_of share.party input) outs share.history)
+  both = leads c share.party share.history (
+    seats.fits,
+    subst (FitsOrderer c share.party o) (sym alike.1) (subst (λ (p : ℕ). FitsOrderer c p o order.history) (sym alike.0) fits),
+  )
+
+  after : behind es share.history ≡ after_event share.party (input_of share.party input) outs share.history
+  after = ap (λ (xs : List Entry). behind xs share.history) are
+
+  pub order_right : IsRight c share.party (behind es share.history)
+  order_right = subst (IsRight c share.party) (sym after) (right_replica c share.party _ seats.replica both.0.right)
+
+  pub desk_after : SeatsDesk c later_d (longer_part share es)
+  desk_after = record {
+    replica = seats.replica;
+    fits = subst (FitsDesk c share.party later_d) (sym after) both.0;
+  }
+
+  pub orderer_after : FitsOrderer c order.party later_o (behind (without_reads es) order.history)
+  orderer_after =
+      subst (λ (p : ℕ). FitsOrderer c p later_o (behind (without_reads es) order.history)) alike.0
+      (subst (λ (h : List Entry). FitsOrderer c share.party later_o (behind (without_reads es) h)) alike.1
+      (subst (FitsOrderer c share.party later_o) (ordering_behind es share.history)
+      (subst (λ (h : List Entry). FitsOrderer c share.party later_o (without_reads h)) (sym after) both.1)))
+
+-- ---- a read
+
+module _ (c : Configuration) (d later : DeskPart) (share : Part) (bytes : List ℕ) (outs : List Output) (es : List Entry) (leads : ReadLeads d bytes outs later) (seats : SeatsDesk c d share)
+    (are : es ≡ Got share.party bytes ∷ map (entry_of share.party) outs) where
+  read_fits : FitsDesk c share.party later (behind es share.history)
+  read_fits = subst (λ (xs : List Entry). FitsDesk c share.party later (behind xs share.history)) (sym are) (leads c share.party share.history seats.fits).0
+
+  pub read_right : IsRight c share.party (behind es share.history)
+  read_right = right_replica c share.party _ seats.replica read_fits.right
+
+  pub desk_after_read : SeatsDesk c later (longer_part share es)
+  desk_after_read = record { replica = seats.replica; fits = read_fits }

@@ -1,0 +1,100 @@
+-- What the threads of a cluster share may be reached from each of them.
+use denote.RattleType.{RattleType}
+use denote.Hole.{as_row}
+use denote.Param.Send.{IsSend, IsSync, sendable}
+use denote.Param.SendFields.{as_row_sync, declared_send, declared_sync}
+use Rattle.std.specs.contracts.alloc.Global as heap
+use Rattle.std.below.std_heap.specs.contracts.GlobalAllocator.TheImpl.{ghosts}
+use Rattle.std.specs.contracts.sync.Arc as arc
+use Rattle.std.specs.contracts.vec.Vec as vec
+use Rattle.std.proofs.alloc.Global.TheSendSync.{the_sync as global_sync}
+use Rattle.std.proofs.sync.Arc.TheSendSync.{the_send as arc_send}
+use Rattle.std.proofs.sync.Mutex.TheSendSync.{the_send as mutex_send, the_sync as mutex_sync}
+use Rattle.std.proofs.vec.Vec.TheSendSync.{the_sync as vec_sync}
+use Rattle.crossbeam_channel.specs.contracts.channel.Receiver as receiver
+use Rattle.crossbeam_channel.specs.contracts.channel.Sender as sender
+use Rattle.crossbeam_channel.proofs.channel.Receiver.TheSendSync.{the_send as receiver_send}
+use Rattle.crossbeam_channel.proofs.channel.Sender.TheSendSync.{the_send as sender_send, the_sync as sender_sync}
+use Rattle.journal.specs.declared.naming.Naming.{Ghosts}
+use Rattle.journal.specs.contracts.locked.Journal as journal
+use Rattle.replica.proofs.parted.Orderer.TheSendSync.{the_send as orderer_send}
+use Rattle.space_node.proofs.note.Note.TheSendSync.{the_send as note_send}
+use Rattle.space_node.specs.contracts.note.Note as note
+use Rattle.space_node.specs.contracts.order_seat.OrderSeat as order_seat
+use Rattle.space_node.specs.contracts.order_seat.OrderSeat.TheInside as in_order_seat
+use Rattle.space_node.specs.contracts.desk_seat.DeskSeat as desk_seat
+use Rattle.space_node.specs.contracts.desk_seat.DeskSeat.TheInside as in_desk_seat
+use Rattle.space_node.specs.contracts.shared.Node as node
+use Rattle.space_node.specs.contracts.shared.Shared as shared
+use Rattle.space_node.proofs.Sends.{heap_send, heap_frees, vec_field}
+use Rattle.space_node.proofs.DeskSends.{desk_send}
+use Rattle.space_node.proofs.JournalSends.{journal_send, share_send, order_share_send}
+
+heap_sync : IsSync heap.the_row
+heap_sync = search (sendable, global_sync)
+
+vec_field_sync : (R : RattleType) → IsSync R → IsSync (as_row (vec.the_field R heap.the_row ghosts))
+vec_field_sync R s =
+    as_row_sync (vec.the_field R heap.the_row ghosts) (vec_sync R heap.the_row ghosts s heap_sync)
+
+pub counted_send : (R : RattleType) → IsSend R → IsSync R → IsSend (arc.the_row R heap.the_row ghosts)
+counted_send R s t = arc_send R heap.the_row ghosts s heap_send t heap_sync heap_frees
+
+-- ---- inboxes
+
+to_inbox_send : IsSend (sender.the_row note.the_row heap.the_row ghosts)
+to_inbox_send = sender_send note.the_row heap.the_row ghosts note_send heap_send heap_sync heap_frees
+
+to_inbox_sync : IsSync (sender.the_row note.the_row heap.the_row ghosts)
+to_inbox_sync = sender_sync note.the_row heap.the_row ghosts note_send heap_send heap_sync heap_frees
+
+pub inbox_send : IsSend (receiver.the_row note.the_row heap.the_row ghosts)
+inbox_send = receiver_send note.the_row heap.the_row ghosts note_send heap_send heap_sync heap_frees
+
+-- ---- what lies behind the locks
+
+module _ (N : RattleType) (g : Ghosts N.Denot) where
+  in_order_seat_send : IsSend (in_order_seat.the_row N g)
+  in_order_seat_send = declared_send (in_order_seat.the_type N g) (search (sendable, orderer_send), (order_share_send N g, tt))
+
+  order_seat_send : IsSend (order_seat.the_row N g)
+  order_seat_send = search (sendable, in_order_seat_send)
+
+  in_desk_seat_send : IsSend (in_desk_seat.the_row N g)
+  in_desk_seat_send = declared_send (in_desk_seat.the_type N g) (desk_send, (share_send N g, tt))
+
+  desk_seat_send : IsSend (desk_seat.the_row N g)
+  desk_seat_send = search (sendable, in_desk_seat_send)
+
+  node_send : IsSend (node.the_row N g)
+  node_send = declared_send (node.the_type N g) (
+    mutex_send (order_seat.the_row N g) order_seat_send,
+    (mutex_send (desk_seat.the_row N g) desk_seat_send, (to_inbox_send, (to_inbox_send, tt))),
+  )
+
+  node_sync : IsSync (node.the_row N g)
+  node_sync = declared_sync (node.the_type N g) (
+    mutex_sync (order_seat.the_row N g) order_seat_send,
+    (mutex_sync (desk_seat.the_row N g) desk_seat_send, (to_inbox_sync, (to_inbox_sync, tt))),
+  )
+
+  shared_send : IsSend (shared.the_row N g)
+  shared_send = declared_send (shared.the_type N g) (
+    mutex_send (journal.the_row N g) (journal_send N g),
+    (
+      vec_field (node.the_row N g) node_send,
+      (vec_field (sender.the_row note.the_row heap.the_row ghosts) to_inbox_send, tt),
+    ),
+  )
+
+  shared_sync : IsSync (shared.the_row N g)
+  shared_sync = declared_sync (shared.the_type N g) (
+    mutex_sync (journal.the_row N g) (journal_send N g),
+    (
+      vec_field_sync (node.the_row N g) node_sync,
+      (vec_field_sync (sender.the_row note.the_row heap.the_row ghosts) to_inbox_sync, tt),
+    ),
+  )
+
+  pub counted_shared_send : IsSend (arc.the_row (shared.the_row N g) heap.the_row ghosts)
+  counted_shared_send = counted_send (shared.the_row N g) shared_send shared_sync

@@ -1,0 +1,54 @@
+use Rattle.std.proofs.Common.{rules, ◌≡◌, ◌+◌, ◌∷◌, Bool, false, map, refl, subst, sym, ap, ◌∙◌}
+use Rattle.tuple_codec.specs.OperationView.{operation_of}
+use Rattle.protocol.specs.Client.RightClient.{last_call}
+use Rattle.protocol.specs.System.Trace.Entry.{Invoke}
+use Rattle.events.specs.Outputs.{entry_of}
+use Rattle.journal.specs.Parts.{Part, longer_part}
+use Rattle.space_node.specs.Calls.{AcceptNothing}
+use Rattle.space_node.specs.Seats.{Seated, SeatsClient}
+use Rattle.space_node.proofs.Clients.{begins_with, client_after, client_right, fits_invoke, last_invoke}
+use Rattle.space_node.proofs.client_seat.ClientSeat.invoke.Goals as goal
+
+pub record-requires-clause-right : goal.record-requires-clause-right
+record-requires-clause-right g c =
+    let s = c.self.inside in
+    let es = c.in_ok-entries.entries.items in
+    let outs = c.in-Ok.outputs.items in
+    let later = c.invoke.new.self in
+    let off : s.stopped ≡ false = search rules in
+    let seats : SeatsClient g.N.Naming.config s.id.number s.client s.calls false s.share =
+    subst (λ (b : Bool). SeatsClient g.N.Naming.config s.id.number s.client s.calls b s.share) off c.self.invariant in
+    let are : es ≡ Invoke s.id.number (s.calls + 1) (operation_of c.args.op) ∷ map (entry_of (256 + s.id.number)) outs = search rules in
+    client_right g.N.Naming.config s.id.number s.calls s.client later s.share seats c.in-Ok.ensures.number es
+    (fits_invoke g.N.Naming.config s.id.number s.calls s.client later s.share seats c.in-Ok.ensures.number (s.calls + 1) (operation_of c.args.op) outs es refl are c.in-Ok.ensures.leads)
+
+pub invariant_of-self-2 : goal.invariant_of-self-2
+invariant_of-self-2 g c =
+    let s = c.self.inside in
+    let es = c.in_ok-entries.entries.items in
+    let outs = c.in-Ok.outputs.items in
+    let later = c.invoke.new.self in
+    let off : s.stopped ≡ false = search rules in
+    let seats : SeatsClient g.N.Naming.config s.id.number s.client s.calls false s.share =
+    subst (λ (b : Bool). SeatsClient g.N.Naming.config s.id.number s.client s.calls b s.share) off c.self.invariant in
+    let are : es ≡ Invoke s.id.number (s.calls + 1) (operation_of c.args.op) ∷ map (entry_of (256 + s.id.number)) outs = search rules in
+    let kept : c.record.new.share ≡ longer_part s.share es = search rules in
+    subst (λ (p : Part). SeatsClient g.N.Naming.config s.id.number later (s.calls + 1) false p) (sym kept)
+    (client_after g.N.Naming.config s.id.number s.calls s.client later s.share seats c.in-Ok.ensures.number es (s.calls + 1)
+    (last_invoke g.N.Naming.config s.id.number s.calls s.client later s.share seats c.in-Ok.ensures.number (s.calls + 1) (operation_of c.args.op) outs es refl are)
+    (fits_invoke g.N.Naming.config s.id.number s.calls s.client later s.share seats c.in-Ok.ensures.number (s.calls + 1) (operation_of c.args.op) outs es refl are c.in-Ok.ensures.leads))
+
+pub returns-clause-begins : goal.returns-clause-begins
+returns-clause-begins g c =
+    let s = c.self.inside in
+    let es = c.in_ok-entries.entries.items in
+    let outs = c.in-Ok.outputs.items in
+    let are : es ≡ Invoke s.id.number (s.calls + 1) (operation_of c.args.op) ∷ map (entry_of (256 + s.id.number)) outs = search rules in
+    let kept : c.record.new.share ≡ longer_part s.share es = search rules in
+    let none : AcceptNothing outs = search rules in
+    let was : c.args.self.now ≡ record { party = s.share.party; history = s.share.history; stopped = s.stopped } = search rules in
+    begins_with c.args.self.now _ s.id.number s.calls (s.calls + 1) (operation_of c.args.op) outs es
+    (ap (λ (x : Seated). x.party) was ∙ c.self.invariant.party_is)
+    (sym c.self.invariant.calls_are ∙ sym (ap (λ (x : Seated). last_call x.history) was))
+    refl are none
+    (search rules)

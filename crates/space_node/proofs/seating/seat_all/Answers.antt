@@ -1,0 +1,13 @@
+use Rattle.std.proofs.Common.{◌≡◌, []}
+use Rattle.std.proofs.lemmas.List.Elements.{All-same}
+use Rattle.journal.specs.Parts.{Part}
+use Rattle.space_node.proofs.NewSeats.{all_fresh}
+use Rattle.space_node.proofs.seating.seat_all.Goals as goal
+
+pub seat_parties-requires-clause-new : goal.seat_parties-requires-clause-new
+seat_parties-requires-clause-new g c =
+    All-same (λ (s : Part). s.history ≡ []) c.in_ok-journal.shares.items _ c.in_ok-journal.ensures.opens.shares_are (all_fresh _)
+
+pub seat_parties-requires-clause-new_orders : goal.seat_parties-requires-clause-new_orders
+seat_parties-requires-clause-new_orders g c =
+    All-same (λ (s : Part). s.history ≡ []) c.in_ok-journal.orders.items _ c.in_ok-journal.ensures.opens.orders_are (all_fresh _)

@@ -1,0 +1,92 @@
+-- What a call leaves in its client's history, whose newest entry stands first.
+use Rattle.std.specs.Prelude.{◌≡◌, ℕ, suc, ◌-◌, ◌^◌, ◌≤◌, ◌⊎◌, true, false, List, [], ◌∷◌, ◌++◌, ⊤}
+use Rattle.tuple_codec.specs.OperationView.{outcome_of}
+use Rattle.tuple_codec.specs.Operations.{Operation, Outcome}
+use Rattle.wire.specs.Lists.{Each}
+use Rattle.protocol.specs.System.Trace.{Entry}
+use Rattle.protocol.specs.System.Trace.Entry.{Invoke, Accepted}
+use Rattle.protocol.specs.Client.RightClient.{last_call}
+use Rattle.events.specs.declared.output.Output.{Output}
+use Rattle.events.specs.declared.output.Output.TheVariants as outputs
+use Rattle.space_node.specs.Seats.{Seated}
+use Rattle.space_node.specs.declared.turn.Turn.{Turn}
+use Rattle.space_node.specs.declared.turn.Turn.TheVariants as turns
+
+-- no answer is accepted
+abbrev pub IsUnanswered : Entry → Type 0
+IsUnanswered (Accepted client timestamp answer) = ⊥
+IsUnanswered _ = ⊤
+
+-- nor does a call begin
+abbrev pub IsQuiet : Entry → Type 0
+IsQuiet (Invoke client timestamp op) = ⊥
+IsQuiet (Accepted client timestamp answer) = ⊥
+IsQuiet _ = ⊤
+
+-- the client had stopped, or made 2^62 calls
+abbrev pub IsSpent : Seated → Type 0
+IsSpent s = (s.stopped ≡ true) ⊎ (2 ^ 62 ≤ last_call s.history)
+
+-- The call was answered: the history went on by its invocation, with the next timestamp, and its last entry is the
+-- acceptance of this answer. Between them no call begins and none is answered.
+pub record Called (old : Seated) (op : Operation) (answer : Outcome) (new : Seated) : Type 0 where
+  pub between : List Entry
+  pub quiet : Each IsQuiet between
+  pub history : let timestamp = suc (last_call old.history) in
+      new.history ≡ Accepted (old.party - 256) timestamp answer
+      ∷ (between ++ Invoke (old.party - 256) timestamp op ∷ old.history)
+  pub party : new.party ≡ old.party
+  pub running : new.stopped ≡ false
+
+-- The call was not answered: the history went on, if at all, without an acceptance, and the client has stopped.
+pub record Refused (old new : Seated) : Type 0 where
+  pub more : List Entry
+  pub unanswered : Each IsUnanswered more
+  pub history : new.history ≡ more ++ old.history
+  pub party : new.party ≡ old.party
+  pub stopped : new.stopped ≡ true
+
+-- ---- of private functions
+
+-- none of the outputs accepts an answer
+abbrev pub Accepts : Output → Type 0
+Accepts (outputs.Accepted timestamp answer) = ⊤
+Accepts _ = ⊥
+
+abbrev pub AcceptNothing : List Output → Type 0
+AcceptNothing outs = Each (λ output. ¬ Accepts output) outs
+
+-- the call begins
+pub record Begins (old : Seated) (op : Operation) (new : Seated) : Type 0 where
+  pub more : List Entry
+  pub quiet : Each IsQuiet more
+  pub history : let timestamp = suc (last_call old.history) in
+      new.history ≡ more ++ Invoke (old.party - 256) timestamp op ∷ old.history
+  pub party : new.party ≡ old.party
+  pub running : new.stopped ≡ false
+
+-- it goes on
+pub record GoesOn (old new : Seated) : Type 0 where
+  pub more : List Entry
+  pub quiet : Each IsQuiet more
+  pub history : new.history ≡ more ++ old.history
+  pub party : new.party ≡ old.party
+  pub running : new.stopped ≡ false
+
+-- it ends with an answer
+pub record Ends (old : Seated) (answer : Outcome) (new : Seated) : Type 0 where
+  pub more : List Entry
+  pub quiet : Each IsQuiet more
+  pub history : new.history ≡ Accepted (old.party - 256) (last_call old.history) answer ∷ (more ++ old.history)
+  pub party : new.party ≡ old.party
+  pub running : new.stopped ≡ false
+
+-- what outputs come to, in a call of this timestamp
+abbrev pub TurnsTo : ℕ → List Output → Turn → Type 0
+TurnsTo timestamp outs (turns.Waits given) = (outs ≡ given.items) × AcceptNothing outs
+TurnsTo timestamp outs (turns.Answered answer) = outs ≡ outputs.Accepted (record { 0 = timestamp }) answer ∷ []
+
+-- what an event comes to
+abbrev pub Comes : Seated → Turn → Seated → Type 0
+Comes old (turns.Waits given) new = GoesOn old new
+Comes old (turns.Answered answer) new = Ends old (outcome_of answer) new

@@ -1,0 +1,6 @@
+pub mod Calls
+pub mod Codes
+pub mod Faults
+pub mod Places
+pub mod Runs
+pub mod Seats

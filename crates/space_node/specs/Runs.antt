@@ -1,0 +1,72 @@
+-- What a cluster comes to. A trace and a history have the newest entry first.
+use Rattle.std.specs.Prelude.{◌≡◌, ℕ, List, [], All, map, reverse, slice_get, Some, ◌⊎◌, ⊤}
+use Rattle.std.specs.List.{range_with_len}
+use Rattle.terms.specs.Parties.{party_number}
+use Rattle.protocol.specs.System.Configuration.{Configuration, IsConfiguration, replicas}
+use Rattle.protocol.specs.System.Run.{IsRun}
+use Rattle.protocol.specs.System.Texts.{NoCollision}
+use Rattle.protocol.specs.System.Trace.{Entry, Unforged, history_of}
+use Rattle.protocol.specs.Space.Linear.{points, IsLinear}
+use Rattle.journal.specs.Carrying.{Carried}
+use Rattle.journal.specs.Parts.{Part}
+use Rattle.space_node.specs.declared.run.FinishFault.{FinishFault}
+use Rattle.space_node.specs.declared.run.FinishFault.TheVariants as faults
+use Rattle.space_node.specs.Seats.{Seated}
+
+-- no party is faulty
+abbrev pub IsFaultless : Configuration → Type 0
+IsFaultless c = (c.faulty_replicas ≡ []) × (c.faulty_clients ≡ [])
+
+-- the configuration of a cluster, which has so many replicas
+pub record Serves (c : Configuration) (count : ℕ) : Type 0 where
+  pub valid : IsConfiguration c
+  pub faultless : IsFaultless c
+  pub count_is : count ≡ replicas c
+
+-- the trace has just these histories of the parties
+abbrev pub HasShares : List Entry → List Part → Type 0
+HasShares trace shares = All (λ s. history_of s.party trace ≡ s.history) shares
+
+abbrev pub HasClients : List Entry → List Seated → Type 0
+HasClients trace clients = All (λ s. history_of s.party trace ≡ s.history) clients
+
+-- one of these has another history than the party's in the trace
+pub record LacksShare (trace : List Entry) (shares : List Part) (p : ℕ) : Type 0 where
+  pub at : ℕ
+  pub share : Part
+  pub is : slice_get shares at ≡ Some share
+  pub party_is : share.party ≡ p
+  pub differs : ¬ (history_of share.party trace ≡ share.history)
+
+pub record LacksClient (trace : List Entry) (clients : List Seated) (p : ℕ) : Type 0 where
+  pub at : ℕ
+  pub client : Seated
+  pub is : slice_get clients at ≡ Some client
+  pub party_is : client.party ≡ p
+  pub differs : ¬ (history_of client.party trace ≡ client.history)
+
+-- What was compared: the trace is a run's, in which what was got was sent, and has the histories of the shares and of
+-- the clients.
+pub record IsWhole (c : Configuration) (trace : List Entry) (shares : List Part) (clients : List Seated) : Type 0 where
+  pub run : IsRun c trace
+  pub carried : Carried c trace
+  pub shares_are : HasShares trace shares
+  pub clients_are : HasClients trace clients
+
+-- The trace is a run's, in which each frame that was got was sent before. It has just the histories of the shares, one
+-- of each replica, and of the clients that were handed in. It is unforged, and where its texts do not collide it is
+-- linear: the answers that clients accept, of reads and writes alike, are those of one sequential tuple space, in which
+-- each operation acts at most once, an accepted one exactly once, at a position between its invocation and its
+-- acceptance.
+pub record IsFinished (c : Configuration) (trace : List Entry) (shares : List Part) (clients : List Seated) : Type 0 where
+  pub whole : IsWhole c trace shares clients
+  pub replicas_are : map (λ s. s.party) shares ≡ range_with_len 0 (replicas c)
+  pub unforged : Unforged c trace
+  pub linear : NoCollision c trace → IsLinear c (points c trace) trace
+
+-- Where the histories differ, the trace has another one of the party that is named than its share or its handle.
+abbrev pub TellsFault : {N : Type 0} → FinishFault N → List Seated → Type 0
+TellsFault (faults.NotInJournal run party) clients =
+    LacksShare (reverse run.trace.items) run.shares.items (party_number party)
+    ⊎ LacksClient (reverse run.trace.items) clients (party_number party)
+TellsFault faults.NoMemory clients = ⊤

@@ -1,0 +1,89 @@
+-- The seats of parties: what contracts see of them, what they keep, and what an event does to them. The newest entry of
+-- a history stands first.
+use Rattle.std.specs.Prelude.{◌≡◌, ℕ, ◌+◌, ◌<◌, Bool, true, false, List, ◌∷◌, map}
+use Rattle.protocol.specs.System.Configuration.{Configuration, is_correct_replica}
+use Rattle.protocol.specs.System.Reads.{without_reads}
+use Rattle.protocol.specs.System.Trace.{Entry, party_of, is_output}
+use Rattle.protocol.specs.System.Trace.Entry.{Got, Tick}
+use Rattle.protocol.specs.Client.RightClient.{last_call}
+use Rattle.events.specs.Outputs.{after_event, entry_of}
+use Rattle.events.specs.declared.output.Output.{Output}
+use Rattle.journal.specs.Parts.{Part, longer_part}
+use Rattle.replica.specs.State.{DeskPart, OrdererPart}
+use Rattle.replica.specs.Parted.{FitBoth, FitsDesk}
+use Rattle.client_cert.specs.State.{ClientState}
+use Rattle.client_cert.specs.Fits.{Fits}
+use Rattle.space_node.specs.declared.input.Input.{Input}
+use Rattle.space_node.specs.declared.input.Input.TheVariants as inputs
+
+-- A seat: its party, the party's history, and whether it stopped.
+pub record Seated : Type 0 where
+  pub party : ℕ
+  pub history : List Entry
+  pub stopped : Bool
+
+-- it stopped, with the history as it is
+abbrev pub stopped_at : Seated → Seated
+stopped_at s = record s { stopped = true }
+
+-- ---- events
+
+-- the entry with which the party's event begins
+abbrev pub input_of : ℕ → Input → Entry
+input_of p (inputs.Got bytes from) = Got p bytes.items
+input_of p inputs.Tick = Tick p
+
+-- an event of the party may begin with it
+abbrev pub IsInputOf : ℕ → Entry → Type 0
+IsInputOf p e = (party_of e ≡ p) × (is_output e ≡ false)
+
+-- the party's history behind the event
+abbrev pub history_after : Part → Entry → List Output → List Entry
+history_after share input outs = after_event share.party input outs share.history
+
+-- its share, and its share of ordering
+abbrev pub part_after : Part → Entry → List Output → Part
+part_after share input outs = longer_part share (input ∷ map (entry_of share.party) outs)
+
+abbrev pub ordering_after : Part → Entry → List Output → Part → Part
+ordering_after share input outs order =
+    longer_part order (without_reads (input ∷ map (entry_of share.party) outs))
+
+-- the seat, whose party goes on
+abbrev pub seat_after : Seated → Entry → List Output → Seated
+seat_after s input outs = record {
+  party = s.party;
+  history = after_event s.party input outs s.history;
+  stopped = false;
+}
+
+-- ---- what seats keep
+
+-- The desk goes with the history of a replica.
+pub record SeatsDesk (c : Configuration) (desk : DeskPart) (share : Part) : Type 0 where
+  pub replica : share.party < 256
+  pub fits : FitsDesk c share.party desk share.history
+
+-- Unless it stopped, the client of this number goes with the history, which has as many calls.
+pub record SeatsClient (c : Configuration) (number : ℕ) (client : ClientState) (calls : ℕ) (stopped : Bool)
+    (share : Part) : Type 0 where
+  pub party_is : share.party ≡ 256 + number
+  pub no_replica : is_correct_replica c share.party ≡ false
+  pub calls_are : last_call share.history ≡ calls
+  pub number_is : client.number ≡ number
+  pub fits : stopped ≡ false → Fits c client share.history
+
+-- ---- steps
+
+-- whatever history the parts of a replica fit, they fit that behind the input then
+abbrev pub InputLeads :
+    OrdererPart → DeskPart → Input → List Output → OrdererPart → DeskPart → Type 0
+InputLeads o d input outs later_o later_d =
+    (c : Configuration) (me : ℕ) (history : List Entry) → FitBoth c me o d history
+    → FitBoth c me later_o later_d (after_event me (input_of me input) outs history)
+
+-- the same of a client
+abbrev pub ClientLeads : ClientState → Input → List Output → ClientState → Type 0
+ClientLeads old input outs new =
+    (c : Configuration) (history : List Entry) → Fits c old history
+    → Fits c new (after_event (256 + old.number) (input_of (256 + old.number) input) outs history)

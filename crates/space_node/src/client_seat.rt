@@ -1,0 +1,171 @@
+//! What a client's handle keeps.
+
+ghost use Rattle.std.specs.Prelude.{◌≡◌, ◌↔◌, ◌+◌, [], false, IfOk, OnErr, IsTrue};
+ghost use Rattle.tuple_codec.specs.OperationView.{operation_of};
+ghost use Rattle.protocol.specs.System.Configuration.{is_correct_replica};
+ghost use Rattle.client_cert.specs.Fits.{Fits};
+ghost use Rattle.space_node.specs.Calls.{Begins, Comes, IsSpent};
+ghost use Rattle.space_node.specs.Seats.{ClientLeads, stopped_at};
+
+use crate::entries::entries_of;
+use crate::input::{Given, Input};
+use crate::operations::copy_op;
+use crate::recording::record;
+use crate::turn::{Turn, turn_of};
+use client_cert::{Client, Event};
+use events::{Entry, EntryKind, Outputs, Stop};
+use journal::{AppendFault, Journal, Naming, Share};
+use std::alloc::Global;
+use std::marker::Model;
+use std::sync::{Mutex, Wait};
+use terms::{ClientId, Party, Timestamp};
+use tuple_codec::Op;
+
+/// How many calls a client makes at the most.
+const MAX_CALLS: u64 = 1 << 62;
+
+/// A client, with the share of its history and the timestamp of its last call.
+#[derive(Drop)]
+pub(crate) struct ClientSeat<N: Naming> {
+    id: ClientId,
+    client: Client,
+    calls: u64,
+    stopped: bool,
+    share: Share<N>,
+}
+
+impl<N: Naming> Model for ClientSeat<N> {
+    ghost use Rattle.space_node.specs.Codes.{seated_code};
+    ghost use Rattle.space_node.specs.Seats.{Seated, SeatsClient};
+
+    ghost Value = { Seated };
+
+    ghost coded = { seated_code };
+
+    ghost view = { λ s. record {
+      party = s.share.party;
+      history = s.share.history;
+      stopped = s.stopped;
+    } };
+
+    ghost invariant = { λ s. SeatsClient N.config s.id.number s.client s.calls s.stopped s.share };
+}
+
+impl<N: Naming> ClientSeat<N> {
+    /// The seat of a client that made no call.
+    pub(crate) fn new(id: ClientId, client: Client, share: Share<N>) -> ClientSeat<N>
+        requires party { share.party ≡ 256 + id.number }
+        requires no_replica { is_correct_replica N.config share.party ≡ false }
+        requires new { share.history ≡ [] }
+        requires number { client.number ≡ id.number }
+        requires fits { Fits N.config client [] }
+        ensures { result ≡ record { party = share.party; history = []; stopped = false } }
+    {
+        ClientSeat {
+            id,
+            client,
+            calls: 0,
+            stopped: false,
+            share,
+        }
+    }
+
+    pub(crate) fn share(&self) -> &Share<N>
+        ensures party { result.now.party ≡ self.now.party }
+        ensures history { result.now.history ≡ self.now.history }
+    {
+        &self.share
+    }
+
+    /// Stops the client.
+    pub(crate) fn stop(&mut self)
+        ensures { self.new ≡ stopped_at self.old }
+    {
+        self.stopped = true;
+    }
+
+    /// Whether the client has stopped, or made 2^62 calls.
+    pub(crate) fn is_spent(&self) -> bool
+        ensures { IsTrue result ↔ IsSpent self.now }
+    {
+        self.stopped || self.calls >= MAX_CALLS
+    }
+
+    /// Begins a call, and gives its request once that is in the journal.
+    ///
+    /// # Errors
+    ///
+    /// NoMemory, and what the journal refuses with. The client has stopped then.
+    pub(crate) fn invoke<R: Wait>(
+        &mut self,
+        rt: &R,
+        alloc: Global,
+        journal: &Mutex<Journal<N>>,
+        op: Op<Global>,
+    ) -> Result<Given, AppendFault>
+        requires may { ¬ IsSpent self.old }
+        ensures begins { IfOk result (λ _. Begins self.old (operation_of op) self.new) }
+        ensures stops { OnErr result (self.new ≡ stopped_at self.old) }
+    {
+        // Until the event is in the journal.
+        self.stopped = true;
+        let told = copy_op(alloc, &op)?;
+        // No call is open, and a timestamp is left.
+        let Ok(outputs) = self.client.invoke(alloc, op) else {
+            return Err(AppendFault::NoMemory);
+        };
+        let timestamp = Timestamp(self.calls + 1);
+        let input = Entry::new(EntryKind::Invoke(self.id, timestamp, told));
+        let entries = entries_of(alloc, Party::Client(self.id), input, outputs.as_slice())?;
+        let Some(Turn::Waits(outputs)) = turn_of(outputs, timestamp) else {
+            return Err(AppendFault::NotInJournal);
+        };
+        let first = record(rt, alloc, journal, &mut self.share, None, entries)?;
+        self.calls = timestamp.0;
+        self.stopped = false;
+        Ok(Given { outputs, first })
+    }
+
+    /// Takes an input, and gives what it comes to once that is in the journal, with the position of its first entry.
+    ///
+    /// # Errors
+    ///
+    /// NoMemory, and what the journal refuses with. The client has stopped then.
+    pub(crate) fn take<R: Wait>(
+        &mut self,
+        rt: &R,
+        alloc: Global,
+        journal: &Mutex<Journal<N>>,
+        input: Input,
+    ) -> Result<(Turn, u64), AppendFault>
+        requires running { self.old.stopped ≡ false }
+        ensures comes { IfOk result (λ taken. Comes self.old taken.0 self.new) }
+        ensures stops { OnErr result (self.new ≡ stopped_at self.old) }
+    {
+        // Until the event is in the journal.
+        self.stopped = true;
+        let Ok(outputs) = step_client(&mut self.client, alloc, &input) else {
+            return Err(AppendFault::NoMemory);
+        };
+        let party = Party::Client(self.id);
+        let (entry, from) = input.into_entry(party);
+        let entries = entries_of(alloc, party, entry, outputs.as_slice())?;
+        let Some(turn) = turn_of(outputs, Timestamp(self.calls)) else {
+            return Err(AppendFault::NotInJournal);
+        };
+        let first = record(rt, alloc, journal, &mut self.share, from, entries)?;
+        self.stopped = false;
+        Ok((turn, first))
+    }
+}
+
+// What the client gives.
+fn step_client(client: &mut Client, alloc: Global, input: &Input) -> Result<Outputs, Stop>
+    ensures leads { IfOk result (λ outs. ClientLeads client.old input.now outs.items client.new) }
+    ensures number { client.new.number ≡ client.old.number }
+{
+    match input {
+        Input::Got(bytes, _) => client.step(alloc, Event::Got(bytes.as_slice())),
+        Input::Tick => client.step(alloc, Event::Retry),
+    }
+}

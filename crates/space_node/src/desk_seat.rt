@@ -1,0 +1,99 @@
+//! What lies behind a node's shelf lock.
+
+ghost use Rattle.std.specs.Prelude.{◌≡◌, ◌<◌, [], IfSome, IfNone};
+ghost use Rattle.protocol.specs.System.Trace.Entry.{Got};
+ghost use Rattle.replica.specs.Parted.{FitsDesk};
+ghost use Rattle.space_node.specs.Seats.{seat_after, stopped_at};
+
+use crate::entries::entries_of;
+use crate::input::Given;
+use crate::recording::record;
+use bumpalo::Bump;
+use events::{Entry, EntryKind};
+use journal::{Journal, Naming, Share};
+use read_only::asks_read;
+use replica::Desk;
+use std::alloc::Global;
+use std::marker::Model;
+use std::sync::{Mutex, Wait};
+
+/// A replica's desk, with the share of its whole history.
+#[derive(Drop)]
+pub(crate) struct DeskSeat<N: Naming> {
+    pub(crate) desk: Desk,
+    pub(crate) share: Share<N>,
+}
+
+impl<N: Naming> Model for DeskSeat<N> {
+    ghost use Rattle.std.specs.Prelude.{is_none};
+    ghost use Rattle.space_node.specs.Codes.{seated_code};
+    ghost use Rattle.space_node.specs.Seats.{Seated, SeatsDesk};
+
+    ghost Value = { Seated };
+
+    ghost coded = { seated_code };
+
+    ghost view = { λ s. record {
+      party = s.share.party;
+      history = s.share.history;
+      stopped = is_none s.desk.holds;
+    } };
+
+    ghost invariant = { λ s. SeatsDesk N.config s.desk s.share };
+}
+
+impl<N: Naming> DeskSeat<N> {
+    /// The seat of a replica that has done nothing.
+    pub(crate) fn new(desk: Desk, share: Share<N>) -> DeskSeat<N>
+        requires replica { share.party < 256 }
+        requires fits { FitsDesk N.config share.party desk share.history }
+    {
+        DeskSeat { desk, share }
+    }
+
+    /// Stops the desk and gives the share out.
+    pub(crate) fn give_up(&mut self, alloc: Global) -> Share<N>
+        ensures party { result.party ≡ self.old.party }
+        ensures history { result.history ≡ self.old.history }
+    {
+        self.desk.stop();
+        let share = self.share.take(alloc);
+        self.share.note_right();
+        share
+    }
+
+    /// What the desk gives for bytes with the marks of a read, once that is in the journal. At `from` they were sent.
+    /// The desk stops where memory runs out or the journal refuses; one that has stopped, or other bytes, give nothing.
+    pub(crate) fn read<R: Wait>(
+        &mut self,
+        rt: &R,
+        alloc: Global,
+        arena: &mut Bump,
+        journal: &Mutex<Journal<N>>,
+        bytes: Vec<u8>,
+        from: u64,
+    ) -> Option<Given>
+        ensures given { IfSome result
+            (λ given. self.new ≡ seat_after self.old (Got self.old.party bytes.items) given.outputs.items) }
+    {
+        if !asks_read(bytes.as_slice()) {
+            return None;
+        }
+        let Ok(outputs) = self.desk.read(alloc, bytes.as_slice(), arena) else {
+            return None;
+        };
+        let party = self.share.party();
+        let input = Entry::new(EntryKind::Got(party, bytes));
+        let Ok(entries) = entries_of(alloc, party, input, outputs.as_slice()) else {
+            self.desk.stop();
+            return None;
+        };
+        match record(rt, alloc, journal, &mut self.share, Some(from), entries) {
+            Ok(first) => Some(Given { outputs, first }),
+            Err(_) => {
+                self.desk.stop();
+                None
+            }
+        }
+    }
+}

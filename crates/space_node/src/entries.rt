@@ -1,0 +1,55 @@
+//! Events as entries.
+
+ghost use Rattle.std.specs.Prelude.{◌≡◌, ◌∷◌, map, IfOk};
+ghost use Rattle.terms.specs.Parties.{party_number};
+ghost use Rattle.events.specs.Outputs.{entry_of};
+ghost use Rattle.journal.specs.Histories.{IsEventOf, IsOutputOf};
+ghost use Rattle.space_node.specs.Seats.{IsInputOf};
+
+use events::{Entry, EntryKind, Output};
+use std::alloc::Global;
+use terms::{NoMemory, Party};
+
+/// The entries of a party's event: its input, and what it gave.
+pub(crate) fn entries_of(
+    alloc: Global,
+    party: Party,
+    input: Entry,
+    outputs: &[Output],
+) -> Result<Vec<Entry>, NoMemory>
+    requires input { IsInputOf (party_number party) input }
+    ensures entries { IfOk result (λ es. es.items ≡ input ∷ map (entry_of (party_number party)) outputs.now) }
+    ensures event { IfOk result (λ es. IsEventOf (party_number party) es.items) }
+{
+    let mut entries = Vec::new(alloc);
+    entries.push(input)?;
+    for output in outputs {
+        entries.push(output_entry(alloc, party, output)?)?;
+    }
+    Ok(entries)
+}
+
+fn output_entry(alloc: Global, party: Party, output: &Output) -> Result<Entry, NoMemory>
+    ensures says { IfOk result (λ entry. entry ≡ entry_of (party_number party) output.now) }
+    ensures own { IfOk result (λ entry. IsOutputOf (party_number party) entry) }
+{
+    match (party, output) {
+        (_, Output::Send(_, frame)) => {
+            let frame = Vec::from_slice(alloc, frame.as_slice())?;
+            Ok(Entry::new(EntryKind::Sent(party, frame)))
+        }
+        (Party::Replica(replica), Output::Executed(number, batch)) => {
+            let batch = Vec::from_slice(alloc, batch.as_slice())?;
+            Ok(Entry::new(EntryKind::Executed(replica, *number, batch)))
+        }
+        (Party::Replica(replica), Output::Installed(number, root)) => {
+            Ok(Entry::new(EntryKind::Installed(replica, *number, *root)))
+        }
+        (Party::Client(client), Output::Accepted(timestamp, answer)) => {
+            let answer = answer.copy_in(alloc)?;
+            Ok(Entry::new(EntryKind::Accepted(client, *timestamp, answer)))
+        }
+        // No party gives that.
+        _ => Err(NoMemory),
+    }
+}

@@ -1,0 +1,91 @@
+//! Refusals.
+
+use journal::AppendFault;
+use std::alloc::{AllocError, AllocFailed};
+use terms::NoMemory;
+use thiserror::Error;
+
+/// Why a cluster was not started.
+#[derive(Clone, Copy, Debug, PartialEq, Eq, Error)]
+pub enum StartFault {
+    /// The configuration names a faulty party.
+    #[error("the configuration names a faulty party")]
+    BadConfig,
+    #[error("out of memory")]
+    NoMemory,
+}
+
+impl From<NoMemory> for StartFault {
+    ghost use Rattle.std.specs.Prelude.{◌≡◌};
+    ghost use Rattle.space_node.specs.declared.fault.StartFault.TheVariants.{NoMemory as no_memory};
+
+    ghost from_gives = { λ _ fault. fault ≡ no_memory };
+
+    fn from(_failed: NoMemory) -> StartFault {
+        StartFault::NoMemory
+    }
+}
+
+impl From<AllocError> for StartFault {
+    ghost use Rattle.std.specs.Prelude.{◌≡◌};
+    ghost use Rattle.space_node.specs.declared.fault.StartFault.TheVariants.{NoMemory as no_memory};
+
+    ghost from_gives = { λ _ fault. fault ≡ no_memory };
+
+    fn from(_failed: AllocError) -> StartFault {
+        StartFault::NoMemory
+    }
+}
+
+impl<T: Drop> From<AllocFailed<T>> for StartFault {
+    ghost use Rattle.std.specs.Prelude.{◌≡◌};
+    ghost use Rattle.space_node.specs.declared.fault.StartFault.TheVariants.{NoMemory as no_memory};
+
+    ghost from_gives = { λ _ fault. fault ≡ no_memory };
+
+    fn from(_failed: AllocFailed<T>) -> StartFault {
+        StartFault::NoMemory
+    }
+}
+
+/// Why a call was not answered.
+#[derive(Clone, Copy, Debug, PartialEq, Eq, Error)]
+pub enum CallFault {
+    /// The client had stopped before the call, or had no timestamp left.
+    #[error("stopped")]
+    Stopped,
+    /// The journal has another history of the client, or what it got was not sent; or the cluster has ended.
+    #[error("not in the journal")]
+    NotInJournal,
+    /// The journal has no room.
+    #[error("the journal is full")]
+    JournalFull,
+    #[error("out of memory")]
+    NoMemory,
+}
+
+impl From<NoMemory> for CallFault {
+    ghost use Rattle.std.specs.Prelude.{◌≡◌};
+    ghost use Rattle.space_node.specs.declared.fault.CallFault.TheVariants.{NoMemory as no_memory};
+
+    ghost from_gives = { λ _ fault. fault ≡ no_memory };
+
+    fn from(_failed: NoMemory) -> CallFault {
+        CallFault::NoMemory
+    }
+}
+
+impl From<AppendFault> for CallFault {
+    ghost use Rattle.space_node.specs.Faults.{fault_of};
+    ghost use Rattle.std.specs.Prelude.{◌≡◌};
+
+    ghost from_gives = { λ fault call. call ≡ fault_of fault };
+
+    fn from(fault: AppendFault) -> CallFault {
+        match fault {
+            AppendFault::NotInJournal => CallFault::NotInJournal,
+            AppendFault::JournalFull => CallFault::JournalFull,
+            AppendFault::NoMemory => CallFault::NoMemory,
+        }
+    }
+}

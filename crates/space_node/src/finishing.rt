@@ -1,0 +1,107 @@
+//! A cluster's end: what its journal has is compared with what its parties kept.
+
+ghost use Rattle.std.specs.Prelude.{◌≡◌, ◌<◌, true, map, reverse, IfOk, IfErr, MatchOption};
+ghost use Rattle.std.specs.List.{range_with_len};
+ghost use Rattle.terms.specs.Parties.{party_number};
+ghost use Rattle.protocol.specs.System.Configuration.{is_correct};
+ghost use Rattle.space_node.specs.Runs.{HasClients, HasShares, IsFinished, LacksClient, LacksShare, Serves, TellsFault};
+
+use crate::handle::ClientHandle;
+use crate::run::{FinishFault, Run};
+use crate::shared::Shared;
+use journal::{Journal, Naming, Share, carried_is_unforged};
+use protocol::points_are_linear;
+use std::alloc::Global;
+use std::sync::Wait;
+use terms::{NoMemory, Party, ReplicaId};
+
+/// The share of each replica. Their desks stop.
+pub(crate) fn shares_of<N: Naming, R: Wait>(
+    rt: &R,
+    alloc: Global,
+    shared: &Shared<N>,
+    replicas: u8,
+) -> Result<Vec<Share<N>>, NoMemory>
+    requires serves { Serves N.config replicas }
+    ensures { IfOk result (λ shares. map (λ s. s.party) shares.items ≡ range_with_len 0 replicas) }
+{
+    let mut shares = Vec::new(alloc);
+    for number in 0..replicas {
+        shares.push(share_of(rt, alloc, shared, ReplicaId(number)))?;
+    }
+    Ok(shares)
+}
+
+// The share that lies in the replica's seat.
+fn share_of<N: Naming, R: Wait>(
+    rt: &R,
+    alloc: Global,
+    shared: &Shared<N>,
+    replica: ReplicaId,
+) -> Share<N>
+    requires correct { is_correct N.config replica.0 ≡ true }
+    ensures { result.party ≡ replica.0 }
+{
+    if let Some(node) = shared.nodes.get(usize::from(replica.0)) {
+        let share = node.shelf.lock(rt).give_up(alloc);
+        if share.party().number() == u16::from(replica.0) {
+            return share;
+        }
+    }
+    Share::empty(alloc, Party::Replica(replica))
+}
+
+/// Compares the journal with the shares, one of each replica, and with the clients, and takes its trace.
+pub(crate) fn settle<N: Naming>(
+    alloc: Global,
+    journal: &mut Journal<N>,
+    replicas: u8,
+    shares: Vec<Share<N>>,
+    clients: &[ClientHandle<N>],
+) -> Result<Run<N>, FinishFault<N>>
+    requires serves { Serves N.config replicas }
+    requires replicas_are { map (λ s. s.party) shares.items ≡ range_with_len 0 replicas }
+    ensures finished { IfOk result
+        (λ run. IsFinished N.config (reverse run.trace.items) run.shares.items clients.now) }
+    ensures fault { IfErr result (λ fault. TellsFault fault clients.now) }
+{
+    let share_off = first_share_off(journal, shares.as_slice());
+    let client_off = first_client_off(journal, clients);
+    carried_is_unforged();
+    points_are_linear();
+    let run = Run {
+        trace: journal.take(alloc),
+        shares,
+    };
+    match (share_off, client_off) {
+        (Some(party), _) => Err(FinishFault::NotInJournal(run, party)),
+        (None, Some(party)) => Err(FinishFault::NotInJournal(run, party)),
+        (None, None) => Ok(run),
+    }
+}
+
+// The first party of which the journal has another history than its share.
+fn first_share_off<N: Naming>(journal: &Journal<N>, shares: &[Share<N>]) -> Option<Party>
+    ensures { MatchOption result (HasShares journal.now.trace shares.now)
+        (λ party. LacksShare journal.now.trace shares.now (party_number party)) }
+{
+    for share in shares {
+        if !journal.agrees(share) {
+            return Some(share.party());
+        }
+    }
+    None
+}
+
+// The same of clients.
+fn first_client_off<N: Naming>(journal: &Journal<N>, clients: &[ClientHandle<N>]) -> Option<Party>
+    ensures { MatchOption result (HasClients journal.now.trace clients.now)
+        (λ party. LacksClient journal.now.trace clients.now (party_number party)) }
+{
+    for client in clients {
+        if !journal.agrees(client.share()) {
+            return Some(client.party());
+        }
+    }
+    None
+}

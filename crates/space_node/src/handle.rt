@@ -1,0 +1,150 @@
+//! A client's handle.
+
+ghost use Rattle.std.specs.Prelude.{◌≡◌, ◌↔◌, ◌+◌, Err, false, IfOk, OnErr, IsTrue};
+ghost use Rattle.tuple_codec.specs.OperationView.{operation_of, outcome_of};
+ghost use Rattle.terms.specs.Parties.{party_number};
+ghost use Rattle.space_node.specs.declared.fault.CallFault.TheVariants as CallFault;
+ghost use Rattle.space_node.specs.Calls.{Called, Ends, IsSpent, Refused};
+
+use crate::client_seat::ClientSeat;
+use crate::fault::CallFault;
+use crate::input::{Given, Input};
+use crate::note::Note;
+use crate::shared::Shared;
+use crate::turn::Turn;
+use crossbeam_channel::Receiver;
+use journal::{AppendFault, Naming, Share};
+use std::alloc::Global;
+use std::marker::Model;
+use std::sync::{Arc, Wait};
+use terms::Party;
+use tuple_codec::{Answer, Op};
+
+/// A client of a running cluster, which has one call at a time.
+#[derive(Drop)]
+pub struct ClientHandle<N: Naming> {
+    seat: ClientSeat<N>,
+    shared: Arc<Shared<N>, Global>,
+    inbox: Receiver<Note>,
+}
+
+impl<N: Naming> Model for ClientHandle<N> {
+    ghost use Rattle.space_node.specs.Codes.{seated_code};
+    ghost use Rattle.space_node.specs.Seats.{Seated};
+
+    ghost Value = { Seated };
+
+    ghost coded = { seated_code };
+
+    ghost view = { λ h. h.seat };
+}
+
+impl<N: Naming> ClientHandle<N> {
+    pub(crate) fn new(
+        seat: ClientSeat<N>,
+        shared: Arc<Shared<N>, Global>,
+        inbox: Receiver<Note>,
+    ) -> ClientHandle<N>
+        ensures { result ≡ seat }
+    {
+        ClientHandle {
+            seat,
+            shared,
+            inbox,
+        }
+    }
+
+    /// Which client it is.
+    pub fn party(&self) -> Party
+        ensures { party_number result ≡ self.now.party }
+    {
+        self.seat.share().party()
+    }
+
+    /// Whether it is the handle of the client of this number.
+    pub(crate) fn is_of(&self, number: u16) -> bool
+        ensures { IsTrue result → self.now.party ≡ 256 + number }
+    {
+        match self.party() {
+            Party::Client(client) => client.number == number,
+            Party::Replica(_) => false,
+        }
+    }
+
+    pub(crate) fn share(&self) -> &Share<N>
+        ensures party { result.now.party ≡ self.now.party }
+        ensures history { result.now.history ≡ self.now.history }
+    {
+        self.seat.share()
+    }
+
+    /// Calls an operation and waits for its answer. A call after the cluster has ended is refused.
+    ///
+    /// # Errors
+    ///
+    /// Stopped exactly where the client had stopped, or made 2^62 calls. NotInJournal where the journal has another
+    /// history of the client, or the cluster has ended; JournalFull where the journal has no room for an event of the
+    /// call; and NoMemory. The client has stopped then, and the call has no answer.
+    pub fn call<R: Wait>(
+        &mut self,
+        rt: &R,
+        alloc: Global,
+        op: Op<Global>,
+    ) -> Result<Answer<Global>, CallFault>
+        ensures called { IfOk result (λ answer. Called self.old (operation_of op) (outcome_of answer) self.new) }
+        ensures refused { OnErr result (Refused self.old self.new) }
+        ensures spent { (result ≡ Err CallFault.Stopped) ↔ IsSpent self.old }
+    {
+        if self.seat.is_spent() {
+            self.seat.stop();
+            return Err(CallFault::Stopped);
+        }
+        Ok(self.answer(rt, alloc, op)?)
+    }
+
+    // Makes the call, and waits for its answer.
+    fn answer<R: Wait>(
+        &mut self,
+        rt: &R,
+        alloc: Global,
+        op: Op<Global>,
+    ) -> Result<Answer<Global>, AppendFault>
+        requires may { ¬ IsSpent self.old }
+        ensures called { IfOk result (λ answer. Called self.old (operation_of op) (outcome_of answer) self.new) }
+        ensures refused { OnErr result (Refused self.old self.new) }
+    {
+        let request = self.seat.invoke(rt, alloc, &self.shared.journal, op)?;
+        self.shared.send(rt, alloc, &request);
+        wait_answer(rt, alloc, &mut self.seat, &self.shared, &self.inbox)
+    }
+}
+
+// Takes the inbox until the open call is answered.
+fn wait_answer<N: Naming, R: Wait>(
+    rt: &R,
+    alloc: Global,
+    seat: &mut ClientSeat<N>,
+    shared: &Shared<N>,
+    inbox: &Receiver<Note>,
+) -> Result<Answer<Global>, AppendFault>
+    requires running { seat.old.stopped ≡ false }
+    ensures ends { IfOk result (λ answer. Ends seat.old (outcome_of answer) seat.new) }
+    ensures refused { OnErr result (Refused seat.old seat.new) }
+{
+    for _ in rt.forever() {
+        let input = match inbox.recv(rt) {
+            Ok(Note::Frame(bytes, from)) => Input::Got(bytes, from),
+            Ok(Note::Pulse) => Input::Tick,
+            Ok(Note::End) | Err(_) => {
+                seat.stop();
+                return Err(AppendFault::NotInJournal);
+            }
+        };
+        let (turn, first) = seat.take(rt, alloc, &shared.journal, input)?;
+        match turn {
+            Turn::Answered(answer) => return Ok(answer),
+            Turn::Waits(outputs) => shared.send(rt, alloc, &Given { outputs, first }),
+        }
+    }
+    unreachable!()
+}

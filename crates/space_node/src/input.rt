@@ -1,0 +1,36 @@
+//! Inputs of events.
+
+ghost use Rattle.std.specs.Prelude.{◌≡◌};
+ghost use Rattle.terms.specs.Parties.{party_number};
+ghost use Rattle.space_node.specs.Seats.{input_of};
+
+use events::{Entry, EntryKind, Outputs};
+use terms::Party;
+
+/// What a party takes from its inbox.
+#[derive(Drop)]
+pub(crate) enum Input {
+    /// The bytes of a frame, and the position in the journal at which it was sent.
+    Got(Vec<u8>, u64),
+    /// Time went by.
+    Tick,
+}
+
+impl Input {
+    /// The entry with which the party's event begins, and where the frame was sent that it got.
+    pub(crate) fn into_entry(self, party: Party) -> (Entry, Option<u64>)
+        ensures { result.0 ≡ input_of (party_number party) self }
+    {
+        match self {
+            Input::Got(bytes, from) => (Entry::new(EntryKind::Got(party, bytes)), Some(from)),
+            Input::Tick => (Entry::new(EntryKind::Tick(party)), None),
+        }
+    }
+}
+
+/// What an event gave that is in the journal, where its entries begin at this position.
+#[derive(Drop)]
+pub(crate) struct Given {
+    pub(crate) outputs: Outputs,
+    pub(crate) first: u64,
+}

@@ -1,0 +1,48 @@
+//! A running cluster: each replica is a node with threads of its own, a client runs on its caller's thread, and one
+//! journal has what they all did.
+//!
+//! A node has two inboxes, each an unbounded channel, and a thread for each: one orders, the other answers reads beside
+//! it. Locks are taken in the order order, shelf, journal. A step is made and its frames are sealed before the
+//! journal's lock is taken, its event is in the journal before a byte is put on a channel, and no lock is held while
+//! frames are sent. Nothing else is shared.
+//!
+//! # What is proved
+//!
+//! By the types, so also behind the locks: each part of a node has stopped, or fits the history of its share, and so
+//! does each client. So whatever a node or a client appends is right, and the trace is a run's. [`ClientHandle::call`]
+//! says what an answer stands on in the client's history, and exactly when it is refused as stopped.
+//! [`Cluster::finish`] says that the trace is a run's, in which each frame that was got was sent; that it has each
+//! replica's and each handed client's history; and that it is linearizable, unless two texts have one digest.
+//!
+//! # What is not
+//!
+//! That anything happens: that a thread runs, that a frame comes, that a call is answered. A frame that a channel
+//! doesn't take is lost, as in a network.
+#![tactic(auto)]
+
+mod client_seat;
+mod cluster;
+mod desk_seat;
+mod entries;
+mod fault;
+mod faultless;
+mod finishing;
+mod gate;
+mod handle;
+mod input;
+mod note;
+mod operations;
+mod order_seat;
+mod recording;
+mod run;
+mod seating;
+mod serving;
+mod shared;
+mod turn;
+
+pub use cluster::Cluster;
+pub use fault::{CallFault, StartFault};
+pub use faultless::is_faultless;
+pub use gate::{Gate, Open};
+pub use handle::ClientHandle;
+pub use run::{FinishFault, Run};

@@ -1,0 +1,27 @@
+//! What lies in inboxes.
+
+use crossbeam_channel::{SendError, Sender};
+use std::sync::Wait;
+use std::thread;
+
+/// What an inbox holds.
+#[derive(Drop)]
+pub(crate) enum Note {
+    /// The bytes of a frame, and the position in the journal at which it was sent.
+    Frame(Vec<u8>, u64),
+    /// Time went by.
+    Pulse,
+    /// The cluster ends.
+    End,
+}
+
+/// Ends who takes the inbox. A note that the channel has no room for is sent again.
+pub(crate) fn end<R: Wait>(rt: &R, inbox: &Sender<Note>) {
+    for _ in rt.forever() {
+        match inbox.send(rt, Note::End) {
+            Ok(()) => break,
+            Err(SendError::Disconnected(_)) => break,
+            Err(SendError::OutOfMemory(_)) => thread::yield_now(),
+        }
+    }
+}

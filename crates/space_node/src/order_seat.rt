@@ -1,0 +1,107 @@
+//! What lies behind a node's order lock.
+
+ghost use Rattle.std.specs.Prelude.{◌≡◌, None, is_none, false, IfSome, IfNone, IfOk, OnErr, true};
+ghost use Rattle.replica.specs.Parted.{FitsOrderer};
+ghost use Rattle.space_node.specs.Seats.{InputLeads, input_of, seat_after, stopped_at};
+
+use crate::desk_seat::DeskSeat;
+use crate::entries::entries_of;
+use crate::input::{Given, Input};
+use crate::recording::record_order;
+use events::{Outputs, Stop};
+use journal::{Journal, Naming, OrderShare};
+use replica::{Desk, Event, Orderer};
+use std::alloc::Global;
+use std::marker::Model;
+use std::sync::{Mutex, Wait};
+
+/// A replica's orderer, with the share of its ordering.
+#[derive(Drop)]
+pub(crate) struct OrderSeat<N: Naming> {
+    orderer: Orderer,
+    order: OrderShare<N>,
+}
+
+impl<N: Naming> Model for OrderSeat<N> {
+    ghost use Rattle.std.specs.Prelude.{is_none};
+    ghost use Rattle.replica.specs.Parted.{FitsOrderer};
+    ghost use Rattle.space_node.specs.Codes.{seated_code};
+    ghost use Rattle.space_node.specs.Seats.{Seated};
+
+    ghost Value = { Seated };
+
+    ghost coded = { seated_code };
+
+    ghost view = { λ s. record {
+      party = s.order.party;
+      history = s.order.history;
+      stopped = is_none s.orderer.holds;
+    } };
+
+    ghost invariant = { λ s. FitsOrderer N.config s.order.party s.orderer s.order.history };
+}
+
+impl<N: Naming> OrderSeat<N> {
+    /// The seat of a replica that has done nothing.
+    pub(crate) fn new(orderer: Orderer, order: OrderShare<N>) -> OrderSeat<N>
+        requires fits { FitsOrderer N.config order.party orderer order.history }
+    {
+        OrderSeat { orderer, order }
+    }
+
+    /// What the replica of both parts gives for its input, once that is in the journal. Both parts stop where memory
+    /// runs out or the journal refuses; where one has stopped, nothing is given.
+    pub(crate) fn step<R: Wait>(
+        &mut self,
+        rt: &R,
+        alloc: Global,
+        shelf: &mut DeskSeat<N>,
+        journal: &Mutex<Journal<N>>,
+        input: Input,
+    ) -> Option<Given>
+        ensures given { IfSome result
+            (λ given. shelf.new.history
+            ≡ (seat_after shelf.old (input_of shelf.old.party input) given.outputs.items).history) }
+        ensures stopped { IfNone result ((self.new.stopped ≡ true) × (shelf.new ≡ stopped_at shelf.old)) }
+    {
+        let Ok(outputs) = step_parts(&mut self.orderer, alloc, &mut shelf.desk, &input) else {
+            return None;
+        };
+        let party = shelf.share.party();
+        let (entry, from) = input.into_entry(party);
+        let Ok(entries) = entries_of(alloc, party, entry, outputs.as_slice()) else {
+            self.orderer.stop();
+            shelf.desk.stop();
+            return None;
+        };
+        let (share, order) = (&mut shelf.share, &mut self.order);
+        match record_order(rt, alloc, journal, share, order, from, entries) {
+            Ok(first) => Some(Given { outputs, first }),
+            Err(_) => {
+                self.orderer.stop();
+                shelf.desk.stop();
+                None
+            }
+        }
+    }
+}
+
+// What the replica of both parts gives.
+fn step_parts(
+    orderer: &mut Orderer,
+    alloc: Global,
+    desk: &mut Desk,
+    input: &Input,
+) -> Result<Outputs, Stop>
+    ensures leads { IfOk result
+        (λ outs. InputLeads orderer.old desk.old input.now outs.items orderer.new desk.new) }
+    ensures stopped { OnErr result (orderer.new.holds ≡ None) }
+    ensures desk_stopped { OnErr result (desk.new.holds ≡ None) }
+    ensures member { orderer.new.member ≡ orderer.old.member }
+    ensures desk_member { desk.new.member ≡ desk.old.member }
+{
+    match input {
+        Input::Got(bytes, _) => orderer.step(alloc, desk, Event::Got(bytes.as_slice())),
+        Input::Tick => orderer.step(alloc, desk, Event::Timeout),
+    }
+}

@@ -1,0 +1,198 @@
+//! The seats of a new cluster.
+
+ghost use Rattle.std.specs.Prelude.{◌≡◌, ◌+◌, [], All, IfSome};
+
+use crate::client_seat::ClientSeat;
+use crate::desk_seat::DeskSeat;
+use crate::note::Note;
+use crate::order_seat::OrderSeat;
+use crate::shared::{Node, Shared};
+use authenticator::Ring;
+use client_cert::Client;
+use crossbeam_channel::{Receiver, Sender, unbounded};
+use events::Config;
+use journal::{Journal, Naming, Opened, OrderShare, Share};
+use replica::Replica;
+use signing::PublicKeys;
+use std::alloc::Global;
+use std::sync::Mutex;
+use terms::{ClientId, NoMemory, Party, ReplicaId};
+
+/// What a node's threads take.
+#[derive(Drop)]
+pub(crate) struct NodeEnd {
+    pub(crate) replica: ReplicaId,
+    pub(crate) inbox: Receiver<Note>,
+    pub(crate) reads: Receiver<Note>,
+}
+
+/// What a client's handle has for its own.
+#[derive(Drop)]
+pub(crate) struct ClientEnd<N: Naming> {
+    pub(crate) seat: ClientSeat<N>,
+    pub(crate) inbox: Receiver<Note>,
+}
+
+/// The parties of a new cluster.
+#[derive(Drop)]
+struct Parties<N: Naming> {
+    nodes: Vec<Node<N>>,
+    node_ends: Vec<NodeEnd>,
+    clients: Vec<Sender<Note>>,
+    client_ends: Vec<ClientEnd<N>>,
+}
+
+/// What the threads of a new cluster share, and what each has for its own.
+pub(crate) fn seat_all<N: Naming>(
+    alloc: Global,
+    opened: Opened,
+    config: &Config,
+    limit: u32,
+) -> Result<(Shared<N>, Vec<NodeEnd>, Vec<ClientEnd<N>>), NoMemory>
+    requires config { config.now ≡ N.config }
+    requires book { opened ≡ N.book }
+{
+    let (journal, shares, orders) = Journal::<N>::tied(alloc, opened, config, limit)?;
+    let Parties {
+        nodes,
+        node_ends,
+        clients,
+        client_ends,
+    } = seat_parties(alloc, config, shares, orders)?;
+    let shared = Shared {
+        journal: Mutex::new(journal),
+        nodes,
+        clients,
+    };
+    Ok((shared, node_ends, client_ends))
+}
+
+// Gives each party its seat.
+fn seat_parties<N: Naming>(
+    alloc: Global,
+    config: &Config,
+    shares: Vec<Share<N>>,
+    mut orders: Vec<OrderShare<N>>,
+) -> Result<Parties<N>, NoMemory>
+    requires config { config.now ≡ N.config }
+    requires new { All (λ s. s.history ≡ []) shares.items }
+    requires new_orders { All (λ o. o.history ≡ []) orders.items }
+{
+    let publics = PublicKeys::new(alloc, config.seed())?;
+    let mut parties = Parties {
+        nodes: Vec::new(alloc),
+        node_ends: Vec::new(alloc),
+        clients: Vec::new(alloc),
+        client_ends: Vec::new(alloc),
+    };
+    for share in shares {
+        seat_party(alloc, config, &publics, share, &mut orders, &mut parties)?;
+    }
+    Ok(parties)
+}
+
+fn seat_party<N: Naming>(
+    alloc: Global,
+    config: &Config,
+    publics: &PublicKeys,
+    share: Share<N>,
+    orders: &mut Vec<OrderShare<N>>,
+    parties: &mut Parties<N>,
+) -> Result<(), NoMemory>
+    requires config { config.now ≡ N.config }
+    requires keys { publics.now ≡ config.now.seed }
+    requires new { share.history ≡ [] }
+    requires new_orders { All (λ o. o.history ≡ []) orders.old.items }
+    ensures new_orders { All (λ o. o.history ≡ []) orders.new.items }
+{
+    match share.party() {
+        Party::Replica(replica) => {
+            let Some(order) = take_order(orders, replica) else {
+                return Err(NoMemory);
+            };
+            let (node, end) = new_node(alloc, config, publics, replica, share, order)?;
+            parties.nodes.push(node)?;
+            parties.node_ends.push(end)?;
+        }
+        Party::Client(client) => {
+            let (inbox, end) = new_client(alloc, config, publics, client, share)?;
+            parties.clients.push(inbox)?;
+            parties.client_ends.push(end)?;
+        }
+    }
+    Ok(())
+}
+
+// The first share of ordering, which is the replica's.
+fn take_order<N: Naming>(
+    orders: &mut Vec<OrderShare<N>>,
+    replica: ReplicaId,
+) -> Option<OrderShare<N>>
+    requires new { All (λ o. o.history ≡ []) orders.old.items }
+    ensures party { IfSome result (λ order. order.party ≡ replica.0) }
+    ensures new { IfSome result (λ order. order.history ≡ []) }
+    ensures others { All (λ o. o.history ≡ []) orders.new.items }
+{
+    if orders.is_empty() {
+        return None;
+    }
+    let order = orders.remove(0);
+    if order.party().number() == u16::from(replica.0) {
+        Some(order)
+    } else {
+        None
+    }
+}
+
+fn new_node<N: Naming>(
+    alloc: Global,
+    config: &Config,
+    publics: &PublicKeys,
+    replica: ReplicaId,
+    share: Share<N>,
+    order: OrderShare<N>,
+) -> Result<(Node<N>, NodeEnd), NoMemory>
+    requires config { config.now ≡ N.config }
+    requires keys { publics.now ≡ config.now.seed }
+    requires party { share.party ≡ replica.0 }
+    requires new { share.history ≡ [] }
+    requires order_party { order.party ≡ replica.0 }
+    requires new_order { order.history ≡ [] }
+{
+    // It is one of the configuration's.
+    let _party = order.party();
+    let (orderer, desk) = Replica::new(alloc, config, replica, publics.share()?)?.split();
+    let (to_inbox, inbox) = unbounded(alloc)?;
+    let (to_reads, reads) = unbounded(alloc)?;
+    let node = Node {
+        order: Mutex::new(OrderSeat::new(orderer, order)),
+        shelf: Mutex::new(DeskSeat::new(desk, share)),
+        inbox: to_inbox,
+        reads: to_reads,
+    };
+    let end = NodeEnd {
+        replica,
+        inbox,
+        reads,
+    };
+    Ok((node, end))
+}
+
+fn new_client<N: Naming>(
+    alloc: Global,
+    config: &Config,
+    publics: &PublicKeys,
+    id: ClientId,
+    share: Share<N>,
+) -> Result<(Sender<Note>, ClientEnd<N>), NoMemory>
+    requires config { config.now ≡ N.config }
+    requires keys { publics.now ≡ config.now.seed }
+    requires party { share.party ≡ 256 + id.number }
+    requires new { share.history ≡ [] }
+{
+    let ring = Ring::new(alloc, config.seed(), config.faults(), config.clients());
+    let client = Client::new(id, config.faults(), ring, publics.share()?);
+    let (to_inbox, inbox) = unbounded(alloc)?;
+    let seat = ClientSeat::new(id, client, share);
+    Ok((to_inbox, ClientEnd { seat, inbox }))
+}

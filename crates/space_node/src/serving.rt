@@ -1,0 +1,87 @@
+//! The threads of a node. Each takes its inbox until it is told to end.
+
+use crate::gate::Gate;
+use crate::input::{Given, Input};
+use crate::note::Note;
+use crate::shared::{Node, Shared};
+use bumpalo::Bump;
+use crossbeam_channel::Receiver;
+use journal::{Journal, Naming};
+use std::alloc::Global;
+use std::sync::{Mutex, Wait};
+use terms::ReplicaId;
+
+/// The ordering thread.
+pub(crate) fn serve_orders<N: Naming, G: Gate, R: Wait>(
+    rt: &R,
+    alloc: Global,
+    shared: &Shared<N>,
+    gate: &G,
+    replica: ReplicaId,
+    inbox: &Receiver<Note>,
+) {
+    let Some(node) = shared.nodes.get(usize::from(replica.0)) else {
+        return;
+    };
+    let mut event_no = 0u64;
+    for _ in rt.forever() {
+        let input = match inbox.recv(rt) {
+            Ok(Note::Frame(bytes, from)) => Input::Got(bytes, from),
+            Ok(Note::Pulse) => Input::Tick,
+            Ok(Note::End) | Err(_) => break,
+        };
+        let journal = &shared.journal;
+        let given = order_event(rt, alloc, node, journal, gate, replica, event_no, input);
+        event_no = event_no.wrapping_add(1);
+        if let Some(given) = given {
+            shared.send(rt, alloc, &given);
+        }
+    }
+}
+
+// One event of ordering. The locks are let go with it.
+fn order_event<N: Naming, G: Gate, R: Wait>(
+    rt: &R,
+    alloc: Global,
+    node: &Node<N>,
+    journal: &Mutex<Journal<N>>,
+    gate: &G,
+    replica: ReplicaId,
+    event_no: u64,
+    input: Input,
+) -> Option<Given> {
+    let mut order = node.order.lock(rt);
+    gate.at(u16::from(replica.0), event_no);
+    let mut shelf = node.shelf.lock(rt);
+    order.step(rt, alloc, &mut shelf, journal, input)
+}
+
+/// The thread that reads, with an arena of its own.
+pub(crate) fn serve_reads<N: Naming, R: Wait>(
+    rt: &R,
+    alloc: Global,
+    shared: &Shared<N>,
+    replica: ReplicaId,
+    inbox: &Receiver<Note>,
+) {
+    let Some(node) = shared.nodes.get(usize::from(replica.0)) else {
+        return;
+    };
+    let mut arena = Bump::new(alloc);
+    for _ in rt.forever() {
+        let given = match inbox.recv(rt) {
+            Ok(Note::Frame(bytes, from)) => {
+                let mut shelf = node.shelf.lock(rt);
+                shelf.read(rt, alloc, &mut arena, &shared.journal, bytes, from)
+            }
+            Ok(Note::Pulse) => None,
+            Ok(Note::End) | Err(_) => break,
+        };
+        if let Some(given) = given {
+            shared.send(rt, alloc, &given);
+        }
+        if arena.reset().is_err() {
+            arena = Bump::new(alloc);
+        }
+    }
+}

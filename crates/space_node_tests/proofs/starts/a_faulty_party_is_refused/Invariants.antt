@@ -1,0 +1,5 @@
+use Rattle.space_node_tests.proofs.starts.a_faulty_party_is_refused.Given as goal
+
+-- the configuration and the book that were just made
+abbrev pub ghosts-starts_and_ends : goal.ghosts-starts_and_ends
+ghosts-starts_and_ends g a = record { config = a.config.now; book = a.opened }

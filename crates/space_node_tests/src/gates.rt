@@ -1,0 +1,106 @@
+//! A gate that holds nodes, and what it and a test tell each other.
+
+use space_node::Gate;
+use std::alloc::{AllocError, Global};
+use std::rt::Clock;
+use std::sync::Arc;
+use std::sync::atomic::{AtomicU64, Ordering};
+use std::thread;
+use std::time::Duration;
+
+// How often a flag is looked at, with a pause of a millisecond each time.
+const TURNS: u32 = 10_000;
+
+/// What a gate and its test tell each other.
+#[derive(Drop)]
+pub struct Flags {
+    // By the number of the node: whether it is to be held.
+    closed: [AtomicU64; 4],
+    // Whether it was seen inside.
+    inside: [AtomicU64; 4],
+    opened: AtomicU64,
+    gave_up: AtomicU64,
+}
+
+impl Flags {
+    /// A gate that is open.
+    pub fn new(alloc: Global) -> Result<Arc<Flags, Global>, AllocError> {
+        let flags = Flags {
+            closed: four(),
+            inside: four(),
+            opened: AtomicU64::new(0),
+            gave_up: AtomicU64::new(0),
+        };
+        Ok(Arc::new(alloc, flags)?)
+    }
+
+    /// The node's next event is held.
+    pub fn close(&self, node: usize) {
+        if let Some(closed) = self.closed.get(node) {
+            closed.store(1, Ordering::SeqCst);
+        }
+    }
+
+    /// All that are held go on.
+    pub fn open(&self) {
+        self.opened.store(1, Ordering::SeqCst);
+    }
+
+    /// Waits until the node is seen inside, for so many turns at the most.
+    pub fn see<R: Clock>(&self, rt: &R, node: usize) -> bool {
+        match self.inside.get(node) {
+            Some(inside) => waits_for(rt, inside),
+            None => false,
+        }
+    }
+
+    /// Whether no node was let go before the gate was opened.
+    pub fn held(&self) -> bool {
+        self.gave_up.load(Ordering::SeqCst) == 0
+    }
+}
+
+fn four() -> [AtomicU64; 4] {
+    [
+        AtomicU64::new(0),
+        AtomicU64::new(0),
+        AtomicU64::new(0),
+        AtomicU64::new(0),
+    ]
+}
+
+fn waits_for<R: Clock>(rt: &R, flag: &AtomicU64) -> bool {
+    for _ in 0..TURNS {
+        if flag.load(Ordering::SeqCst) == 1 {
+            return true;
+        }
+        thread::sleep(rt, Duration::from_millis(1));
+    }
+    false
+}
+
+/// Holds the nodes that are closed, until it is opened or so many turns are over.
+#[derive(Drop)]
+pub struct Hold<R: Clock> {
+    pub rt: R,
+    pub flags: Arc<Flags, Global>,
+}
+
+impl<R: Clock> Gate for Hold<R> {
+    fn at(&self, node: u16, _event_no: u64) {
+        let node = usize::from(node);
+        let (Some(closed), Some(inside)) = (
+            self.flags.closed.get(node),
+            self.flags.inside.get(node),
+        ) else {
+            return;
+        };
+        if closed.load(Ordering::SeqCst) == 0 {
+            return;
+        }
+        inside.store(1, Ordering::SeqCst);
+        if !waits_for(&self.rt, &self.flags.opened) {
+            self.flags.gave_up.store(1, Ordering::SeqCst);
+        }
+    }
+}

@@ -1,0 +1,16 @@
+//! Tests of a running cluster (`space_node`): its answers, nodes that are held, reads beside ordering, and journals that
+//! are full.
+#![tactic(auto)]
+
+#[cfg(test)]
+mod answers;
+#[cfg(test)]
+mod clusters;
+#[cfg(test)]
+mod full;
+#[cfg(test)]
+mod gates;
+#[cfg(test)]
+mod held;
+#[cfg(test)]
+mod starts;
