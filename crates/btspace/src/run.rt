@@ -22,7 +22,7 @@ pub enum RunFault {
     /// The configuration names a faulty party.
     #[error("the configuration is refused")]
     Configuration,
-    /// A call was not answered, or the journal doesn't have what the parties kept.
+    /// A call was not made or not answered, or the journal doesn't have what the parties kept.
     #[error("stopped")]
     Stopped,
     #[error("out of memory")]
@@ -51,7 +51,9 @@ impl From<ClusterFault> for RunFault {
         match fault {
             ClusterFault::BadConfig => RunFault::Configuration,
             ClusterFault::NoMemory => RunFault::NoMemory,
-            ClusterFault::Call(_) | ClusterFault::NotInJournal => RunFault::Stopped,
+            ClusterFault::NoClient | ClusterFault::Call(_) | ClusterFault::NotInJournal => {
+                RunFault::Stopped
+            }
         }
     }
 }

@@ -160,7 +160,7 @@ impl Lines {
     fn run(&self, alloc: Global, config: &Config) -> Result<Report, ScheduleFault> {
         match run(alloc, config, self.steps.as_slice()) {
             Ok(report) => Ok(report),
-            Err(RunFault::BadSchedule(step)) => Err(ScheduleFault::Step {
+            Err(RunFault::BadSchedule { step, .. }) => Err(ScheduleFault::Step {
                 line: self.line_of(step),
             }),
             Err(RunFault::NoMemory) => Err(ScheduleFault::NoMemory),

@@ -1,6 +1,7 @@
 -- What is sealed for all replicas is the client's request.
-use Rattle.std.proofs.Common.{◌++◌, Result, Ok, Err, ◌≡◌, ℕ, zero, suc, ◌+◌, ◌*◌, ◌≤◌, ◌<◌, ◌^◌, true, List, [], ◌∷◌, refl, sym, ap, ◌∙◌, subst, map, length, arith, add-one}
+use Rattle.std.proofs.Common.{◌++◌, length-append, Result, Ok, Err, ◌≡◌, ℕ, zero, suc, ◌+◌, ◌*◌, ◌≤◌, ◌<◌, ◌^◌, true, List, [], ◌∷◌, refl, sym, ap, ◌∙◌, subst, map, length, arith, add-one}
 use Rattle.std.specs.Prelude.{nat_lt, IfOk}
+use Rattle.std.specs.Int.{w16, w32, w64, to_be_bytes}
 use Rattle.std.specs.List.{range_with_len}
 use Rattle.std.proofs.lemmas.Bool.{and_from, lt-ltb}
 use Rattle.terms.specs.declared.order.Mode.{Mode}
@@ -8,15 +9,21 @@ use Rattle.terms.specs.declared.parties.Party.{Party}
 use Rattle.terms.specs.declared.parties.Party.TheVariants as parties
 use Rattle.terms.specs.declared.parties.ReplicaId.{ReplicaId}
 use Rattle.terms.specs.Parties.{party_number}
-use Rattle.tuple_codec.specs.Operations.{Operation, IsOperation}
+use Rattle.tuple_codec.specs.Operations.{Operation, IsOperation, out, rdp, inp, cas, rd_all}
+use Rattle.tuple_codec.specs.Spelling.{operation_spelling, tuple_spelling, template_spelling}
+use Rattle.tuple_tree.specs.Values.{TupleTree, TemplateTree, IsTuple, IsTemplate}
 use Rattle.wire.specs.Lists.{ascends, leads}
 use Rattle.wire.specs.Messages.{BodyData as Body, request as Request}
-use Rattle.wire.specs.Spelling.{SpellsFrame}
+use Rattle.wire.specs.Spelling.{SpellsFrame, body_spelling, fields_spelling, mode_byte}
+use Rattle.wire.proofs.Lengths.{tuple_spelling_length, template_spelling_length}
 use Rattle.authenticator.specs.Membership.{Membership}
-use Rattle.authenticator.specs.Sealing.{sealed_for, IsSealable}
-use Rattle.protocol.specs.System.Configuration.{members}
+use Rattle.authenticator.specs.Sealing.{sealed_for, IsSealable, IsTooLong}
+use Rattle.protocol.specs.System.Configuration.{Configuration, members, replicas}
 use Rattle.protocol.proofs.Words.Posting.{sealed_is_posted}
-use Rattle.client_cert.specs.Asking.{AsksWith}
+use Rattle.events.specs.Outputs.{receivers_in}
+use Rattle.events.proofs.Meant.{sealed_is_for}
+use Rattle.client_cert.specs.Asking.{AsksWith, IsShort}
+use Rattle.authenticator.proofs.Sealing.{sealed-short}
 
 abbrev request_body : ℕ → ℕ → Mode → Operation → Body
 request_body me t mode op = record { sender = me; message = Request t mode op }
@@ -55,6 +62,35 @@ may_seal sender t faults mode op receivers a b is few all =
       ascend = ap (ascends nat_lt) all ∙ range_ascends 0 (3 * faults + 1);
     }
 
+-- ---- and its frame is short
+
+tuple_length : (t : TupleTree) → IsTuple t → length (tuple_spelling t) ≤ 1024
+tuple_length t is = let e = tuple_spelling_length t in let l = is.length in omega (arith, e, l)
+
+template_length : (p : TemplateTree) → IsTemplate p → length (template_spelling p) ≤ 1024
+template_length p is = let e = template_spelling_length p in let l = is.length in omega (arith, e, l)
+
+operation_length : (op : Operation) → IsOperation op → length (operation_spelling op) ≤ 2050
+operation_length (out t) is = let l = tuple_length t is in omega (arith, l)
+operation_length (rdp p) is = let l = template_length p is in omega (arith, l)
+operation_length (inp p) is = let l = template_length p is in omega (arith, l)
+operation_length (cas p t) is = let l = template_length p is.0 in let k = tuple_length t is.1 in let e = length-append (template_spelling p) (tuple_spelling t) in omega (arith, l, k, e)
+operation_length (rd_all n p) is = let l = template_length p is.2 in omega (arith, l)
+
+pub request_is_short : (me t : ℕ) (mode : Mode) (op : Operation) → IsOperation op → IsShort (request_body me t mode op)
+request_is_short me t mode op is =
+    let body = body_spelling (request_body me t mode op) in
+    let fields = fields_spelling (Request t mode op) in
+    let whole = length-append (to_be_bytes w32 (length body)) body in
+    let behind = length-append (to_be_bytes w16 me) fields in
+    let rest = length-append (to_be_bytes w64 t) (mode_byte mode ∷ operation_spelling op) in
+    let l = operation_length op is in
+    omega (arith, whole, behind, rest, l)
+
+-- no receiver among ten makes it too long
+pub never_too_long : (seed : List ℕ) (body : Body) (receivers : List ℕ) → IsShort body → length receivers ≤ 10 → IsTooLong (sealed_for seed body receivers) → ⊥
+never_too_long seed body receivers short few long = let l = short in sealed-short seed body receivers (omega (arith, l, few)) long
+
 -- ---- what the program made
 
 range_more : (a n : ℕ) → range_with_len a (n + 1) ≡ range_with_len a n ++ (a + n) ∷ []
@@ -78,3 +114,14 @@ sealed_asks (Ok v) items m me t faults mode op e h =
     asks_with m me t mode op (items v)
     (subst (λ (f : ℕ). SpellsFrame (items v) (sealed_for m.seed (request_body me t mode op) (range_with_len 0 (3 * f + 1)))) e h)
 sealed_asks (Err x) items m me t faults mode op e h = h
+
+-- ---- for whom a request is
+
+-- A request that goes to all replicas goes to those for whom it is.
+pub request_goes : (m : Membership) (me t faults : ℕ) (mode : Mode) (op : Operation) (numbers text : List ℕ) → faults ≡ m.faults → numbers ≡ range_with_len 0 (3 * faults + 1) → AsksWith m me mode t op text
+    → (c : Configuration) → members c ≡ m → numbers ≡ receivers_in c me text
+request_goes m me t faults mode op numbers text size goes asks c known =
+    let count : faults ≡ c.faults = size ∙ ap (λ (x : Membership). x.faults) (sym known) in
+    let n : length (range_with_len 0 (3 * c.faults + 1)) ≡ 3 * c.faults + 1 = range_length 0 (3 * c.faults + 1) in
+    goes ∙ ap (λ (f : ℕ). range_with_len 0 (3 * f + 1)) count
+    ∙ sym (sealed_is_for c me (Request t mode op) (range_with_len 0 (replicas c)) text (omega (arith, n)) (asks c known))

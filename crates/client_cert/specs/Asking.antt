@@ -1,5 +1,5 @@
 -- What a client asks with.
-use Rattle.std.specs.Prelude.{◌≡◌, ◌+◌, ◌*◌, ℕ, List, Vec}
+use Rattle.std.specs.Prelude.{◌≡◌, ◌+◌, ◌*◌, ◌≤◌, ℕ, List, length, Vec}
 use Rattle.std.specs.List.{range_with_len}
 use Rattle.std.specs.declared.alloc.Global.{Global}
 use Rattle.terms.specs.declared.order.Mode.{Mode}
@@ -7,7 +7,7 @@ use Rattle.terms.specs.declared.order.Timestamp.{Timestamp}
 use Rattle.terms.specs.declared.parties.ClientId.{ClientId}
 use Rattle.tuple_codec.specs.Operations.{Operation}
 use Rattle.wire.specs.Messages.{BodyData as Body}
-use Rattle.wire.specs.Spelling.{SpellsFrame}
+use Rattle.wire.specs.Spelling.{SpellsFrame, body_spelling, frame_limit, piece}
 use Rattle.authenticator.specs.Membership.{Membership}
 use Rattle.authenticator.specs.Sealing.{IsSealable, sealed_for}
 use Rattle.protocol.specs.System.Configuration.{Configuration, members}
@@ -31,6 +31,10 @@ abbrev pub IsSealableForAll : ℕ → Body → Type 0
 IsSealableForAll faults body =
     (receivers : List ℕ) → receivers ≡ range_with_len 0 (3 * faults + 1)
     → IsSealable body receivers
+
+-- With MACs for ten replicas the body's frame is not too long.
+abbrev pub IsShort : Body → Type 0
+IsShort body = length (piece (body_spelling body)) + 342 ≤ frame_limit body.message
 
 -- a frame with the body, sealed for all replicas
 abbrev pub SealsForAll : List ℕ → ℕ → Body → Vec ℕ Global → Type 0

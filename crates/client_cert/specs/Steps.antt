@@ -13,7 +13,7 @@ use Rattle.protocol.specs.System.Trace.Entry.{Invoke, Got, Tick, Sent}
 use Rattle.protocol.specs.Client.RightClient.{Reaction, reaction}
 use Rattle.protocol.specs.Client.RightClient.Reaction.{nothing, asks, accepts}
 use Rattle.events.specs.declared.output.Output.{Output}
-use Rattle.events.specs.Outputs.{entry_of, after_event}
+use Rattle.events.specs.Outputs.{entry_of, after_event, AreSentAsMeant}
 use Rattle.client_cert.specs.declared.client.Event.{Event}
 use Rattle.client_cert.specs.declared.client.Event.TheVariants as events
 use Rattle.client_cert.specs.declared.hearing.Turned.{Turned}
@@ -45,6 +45,12 @@ CallStops old op new = is_some old.call ≡ false → CallLeads old op [] new
 -- an event leads to what the step gives
 abbrev pub EventLeads : ClientState → Event → List Output → ClientState → Type 0
 EventLeads old event outs new = Leads old (input_of (me_of old) event) outs new
+
+-- In each configuration of the client's members, each frame that it sends goes exactly to the parties for whom it is: a
+-- request to all replicas.
+abbrev pub SendsAsMeant : ClientState → List Output → Type 0
+SendsAsMeant client outs =
+    (c : Configuration) → members c ≡ client.membership → AreSentAsMeant c (me_of client) outs
 
 -- ---- of private functions
 
@@ -97,3 +103,4 @@ pub record Asks (old : ClientState) (mode : Mode) (outs : List Output) (new : Cl
   pub was : old.call ≡ Some call
   pub asks : AsksWith old.membership (me_of old) mode old.calls call.op text
   pub becomes : Becomes old new (Some (went mode call))
+  pub meant : SendsAsMeant old outs

@@ -8,9 +8,9 @@ ghost use Rattle.tuple_codec.specs.Operations.{IsOperation};
 ghost use Rattle.tuple_tree.specs.Values.{IsTuple, IsTemplate};
 ghost use Rattle.wire.specs.Views.{body_data};
 ghost use Rattle.protocol.specs.Client.RightClient.{first_mode};
-ghost use Rattle.client_cert.specs.Asking.{AsksAs, IsSealableForAll, SealsForAll};
+ghost use Rattle.client_cert.specs.Asking.{AsksAs, IsSealableForAll, IsShort, SealsForAll};
 
-use authenticator::Ring;
+use authenticator::{Ring, SealFault};
 use events::Stop;
 use std::alloc::{AllocError, Global};
 use terms::{ClientId, Mode, Party, ReplicaId, Timestamp};
@@ -64,14 +64,15 @@ pub(crate) fn seal_request(
 fn seal_for_all(ring: &mut Ring, alloc: Global, faults: u8, body: &Body) -> Result<Vec<u8>, Stop>
     requires few { faults ≤ 3 }
     requires may { IsSealableForAll faults (body_data body.now) }
+    requires short { IsShort (body_data body.now) }
     ensures sealed { IfOk result (SealsForAll ring.old.seed faults (body_data body.now)) }
     ensures same { ring.new ≡ ring.old }
 {
     let replicas = all_replicas(alloc, 3 * faults + 1)?;
-    // A request is never too long.
     match ring.seal(alloc, body, replicas.as_slice()) {
         Ok(frame) => Ok(frame),
-        Err(_) => Err(Stop::NoMemory),
+        Err(SealFault::NoMemory) => Err(Stop::NoMemory),
+        Err(SealFault::TooLarge) => unreachable!(),
     }
 }
 

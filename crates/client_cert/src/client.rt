@@ -7,7 +7,7 @@ ghost use Rattle.protocol.specs.System.Configuration.{Configuration, members};
 ghost use Rattle.client_cert.specs.State.{IsSpent, called};
 ghost use Rattle.events.specs.declared.output.Stop.TheVariants as Stop;
 ghost use Rattle.client_cert.specs.Fits.{Fits};
-ghost use Rattle.client_cert.specs.Steps.{CallLeads, CallStops, EventLeads};
+ghost use Rattle.client_cert.specs.Steps.{CallLeads, CallStops, EventLeads, SendsAsMeant};
 ghost use Rattle.client_cert.specs.Steps.{Asks, BytesLead, Keeps, RetryLeads};
 
 use crate::asking::{all_replicas, first_mode, note_op};
@@ -125,11 +125,13 @@ impl Client {
     #[tactic(auto, using(crate::proofs::Calling::call_leads, crate::proofs::Calling::call_ends, crate::proofs::Calling::call_fails))]
     pub fn invoke(&mut self, alloc: Global, op: Op<Global>) -> Result<Outputs, InvokeFault>
         ensures leads { IfOk result (λ outs. CallLeads self.old op outs.items self.new) }
+        ensures meant { IfOk result (λ outs. SendsAsMeant self.old outs.items) }
         ensures busy { (result ≡ Err InvokeFault.Busy) ↔ (is_some self.old.call ≡ true) }
         ensures same { result ≡ Err InvokeFault.Busy → self.new ≡ self.old }
         ensures stopped { (result ≡ Err InvokeFault.Stopped) ↔ IsSpent self.old }
         ensures ends { OnErr result ((is_some self.old.call ≡ true) ⊎ (self.new.stopped ≡ true)) }
         ensures stops { OnErr result (CallStops self.old op self.new) }
+        ensures runs { IfOk result (λ _. self.new.stopped ≡ false) }
         ensures number { self.new.number ≡ self.old.number }
     {
         if self.call.is_some() {
@@ -170,6 +172,7 @@ impl Client {
     #[tactic(auto, using(crate::proofs::Stepping::stops_got, crate::proofs::Stepping::stops_tick))]
     pub fn step(&mut self, alloc: Global, event: Event<'_>) -> Result<Outputs, Stop>
         ensures leads { IfOk result (λ outs. EventLeads self.old event.entry outs.items self.new) }
+        ensures meant { IfOk result (λ outs. SendsAsMeant self.old outs.items) }
         ensures stops { OnErr result (EventLeads self.old event.entry [] self.new) }
         ensures runs { IfOk result (λ _. self.new.stopped ≡ false) }
         ensures stopped { OnErr result (self.new.stopped ≡ true) }
@@ -202,6 +205,7 @@ impl Client {
     fn got(&mut self, alloc: Global, bytes: &[u8]) -> Result<Outputs, Stop>
         requires { self.old.stopped ≡ false }
         ensures leads { IfOk result (λ outs. BytesLead self.old bytes.now outs.items self.new) }
+        ensures meant { IfOk result (λ outs. SendsAsMeant self.old outs.items) }
         ensures runs { IfOk result (λ _. self.new.stopped ≡ false) }
         ensures keeps { OnErr result (Keeps self.old self.new) }
         ensures number { self.new.number ≡ self.old.number }
@@ -257,6 +261,7 @@ impl Client {
     fn retry(&mut self, alloc: Global) -> Result<Outputs, Stop>
         requires { self.old.stopped ≡ false }
         ensures leads { IfOk result (λ outs. RetryLeads self.old outs.items self.new) }
+        ensures meant { IfOk result (λ outs. SendsAsMeant self.old outs.items) }
         ensures runs { IfOk result (λ _. self.new.stopped ≡ false) }
         ensures keeps { OnErr result (Keeps self.old self.new) }
         ensures number { self.new.number ≡ self.old.number }

@@ -11,7 +11,8 @@
 //! Whatever history fits a client, the longer one behind an event fits it afterwards: [`Client::new`] fits the empty
 //! history, [`Client::invoke`] and [`Client::step`] hand it on, by what they give and also where they refuse; a history
 //! that fits is a correct client's (`IsClient`). A call while one is open is refused and changes nothing. Where memory
-//! runs out the client has stopped: it gives nothing, then and later. Frames that are no replies are not looked at.
+//! runs out the client has stopped: it gives nothing, then and later. Frames that are no replies are not looked at. Each
+//! request goes exactly to the parties for whom it is, which are all replicas.
 //!
 //! # What a reply costs
 //!

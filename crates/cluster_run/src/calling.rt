@@ -47,8 +47,7 @@ pub(crate) fn start_clients<
 ) -> Result<(), RunFault> {
     for (number, ops) in hands.into_iter().enumerate() {
         if !ops.is_empty() {
-            // There are no more hands than clients.
-            let number = u16::try_from(number).map_err(|_| RunFault::NoMemory)?;
+            let number = u16::try_from(number).map_err(|_| RunFault::NoClient)?;
             start_client(rt, alloc, cluster, number, ops, progress, callers)?;
         }
     }
@@ -67,8 +66,7 @@ fn start_client<N: Naming + Send + Sync + 'static, R: Threads + Wait + Copy + Se
     callers.parties.reserve(1)?;
     callers.threads.reserve(1)?;
     let progress = Arc::try_clone(progress)?;
-    // Each client of the configuration has a handle.
-    let client = cluster.client(number).ok_or(RunFault::NoMemory)?;
+    let client = cluster.client(number).ok_or(RunFault::NoClient)?;
     let party = client.party();
     match thread::spawn(
         &rt,

@@ -11,6 +11,9 @@ pub enum RunFault {
     /// The configuration names a faulty party.
     #[error("the configuration names a faulty party")]
     BadConfig,
+    /// There are more hands than clients.
+    #[error("no such client")]
+    NoClient,
     /// A call was not answered.
     #[error("a call was not answered: {0}")]
     Call(CallFault),

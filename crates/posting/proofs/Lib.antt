@@ -1,4 +1,5 @@
 pub mod Others
 pub mod Hearings
 pub mod Posting
+pub mod Fitting
 pub mod Digesting

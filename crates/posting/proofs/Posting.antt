@@ -1,19 +1,22 @@
 -- What is sealed or signed is posted.
-use Rattle.std.proofs.Common.{◌≡◌, ℕ, zero, suc, ◌+◌, ◌*◌, ◌<◌, ◌≤◌, ◌^◌, true, false, List, [], ◌∷◌, ◌++◌, length, length-append, arith, Result, Ok, Err, refl, sym, ap, ◌∙◌, subst}
-use Rattle.std.specs.Prelude.{IfOk, Vec}
+use Rattle.std.proofs.Common.{◌≡◌, ℕ, zero, suc, ◌+◌, ◌*◌, ◌<◌, ◌≤◌, ◌^◌, true, false, List, [], ◌∷◌, ◌++◌, Some, length, slice_get, length-append, arith, Result, Ok, Err, refl, sym, ap, ◌∙◌, subst}
+use Rattle.std.specs.Prelude.{IfOk, Vec, option_and_then}
 use Rattle.std.specs.declared.alloc.Global.{Global}
 use Rattle.tuple_tree.specs.Values.{AreBytes}
-use Rattle.wire.specs.Messages.{BodyData, MessageData as Message, signature}
+use Rattle.wire.specs.Messages.{BodyData, FrameData, MessageData as Message, signature}
 use Rattle.wire.specs.Spelling.{IsBody, IsMessage, authenticator_spelling, body_spelling, frame_limit, frame_spelling, is_signed, piece}
 use Rattle.authenticator.specs.Keys.{signing_seed}
 use Rattle.authenticator.specs.Membership.{Membership}
 use Rattle.authenticator.specs.Sealing.{IsSealable}
-use Rattle.signing.specs.Signatures.{Verifies, public_key}
+use Rattle.signing.specs.Signatures.{Verifies, public_key, signature_of}
+use Rattle.wire.proofs.Saying.{reads_frames}
 use Rattle.signing.proofs.Heard.{verifies-Decides}
 use Rattle.protocol.specs.System.Configuration.{Configuration, members}
-use Rattle.protocol.specs.System.Frames.{IsPosted}
+use Rattle.protocol.specs.System.Frames.{IsPosted, leaf_in, leaf_of}
 use Rattle.protocol.specs.Replica.RightReplica.{others}
 use Rattle.protocol.proofs.Words.Posting.{sealed_is_posted, signed_is_posted}
+use Rattle.events.specs.Outputs.{receivers_in}
+use Rattle.events.proofs.Meant.{signed_is_for}
 use Rattle.posting.specs.Endpoint.{Posts, other_replicas, others_below, says}
 use Rattle.posting.specs.Frames.{SignedFits, SpellsSealed, SpellsSigned, signed_frame}
 use Rattle.posting.proofs.Others.{others_ascend, others_few, others_some}
@@ -73,9 +76,9 @@ rest_bytes [] s x h = λ i. h (suc i)
 rest_bytes (y ∷ a) s x h = rest_bytes a s x (λ i. h (suc i))
 
 -- what a body's bytes and a signature make
-pub spells_signed : (seed : List ℕ) (body : BodyData) (text s whole : List ℕ) → IsBody body → is_signed body.message ≡ true → SignedFits body → text ≡ body_spelling body
-    → Verifies (public_key seed) text s → whole ≡ piece (body_spelling body) ++ authenticator_spelling (signature s) → AreBytes whole → SpellsSigned seed body whole
-spells_signed seed body text s whole is kind short same verified spelled are =
+pub spells_signed : (seed : List ℕ) (leaf : ℕ) (body : BodyData) (text s whole : List ℕ) → IsBody body → is_signed body.message ≡ true → SignedFits body → text ≡ body_spelling body
+    → Verifies (public_key seed) text s → whole ≡ piece (body_spelling body) ++ authenticator_spelling (signature s) → AreBytes whole → slice_get s 0 ≡ Some leaf → SpellsSigned seed leaf body whole
+spells_signed seed leaf body text s whole is kind short same verified spelled are by =
     let long : length s ≡ 16577 = verified.formed.whole in
     let bytes : AreBytes s = rest_bytes (piece (body_spelling body)) s 1 (subst AreBytes spelled are) in
     let size = length-append (piece (body_spelling body)) (authenticator_spelling (signature s)) in
@@ -87,17 +90,39 @@ spells_signed seed body text s whole is kind short same verified spelled are =
         spelled = spelled;
       };
       verifies = subst (λ (x : List ℕ). Verifies (public_key seed) x s) same verified;
+      by_leaf = by;
     }
 
-pub signed_posts : (m : Membership) (me : ℕ) (message : Message) (seed bytes : List ℕ) → seed ≡ signing_seed m.seed me → SpellsSigned seed (says me message) bytes → Posts m me message [] bytes
-signed_posts m me message seed bytes own k c known =
+pub signed_posts : (m : Membership) (me leaf : ℕ) (message : Message) (seed bytes : List ℕ) → seed ≡ signing_seed m.seed me → SpellsSigned seed leaf (says me message) bytes → Posts m me message [] bytes
+signed_posts m me leaf message seed bytes own k c known =
     let key : seed ≡ signing_seed c.seed me = own ∙ ap (λ (x : Membership). signing_seed x.seed me) (sym known) in
     let v : Verifies (public_key (signing_seed c.seed me)) (body_spelling (says me message)) k.signed =
     subst (λ (x : List ℕ). Verifies (public_key x) (body_spelling (says me message)) k.signed) key k.verifies in
     signed_is_posted c (says me message) k.signed bytes k.spells ((verifies-Decides (public_key (signing_seed c.seed me)) (body_spelling (says me message)) k.signed).1 v)
 
 -- of the endpoint's own seed
-pub signs_own : {E : Type 0} (r : Result (Vec ℕ Global) E) (m : Membership) (seed : List ℕ) (me : ℕ) (message : Message) → IfOk r (λ bytes. SpellsSigned seed (says me message) bytes.items)
+pub signs_own : {E : Type 0} (r : Result (Vec ℕ Global) E) (m : Membership) (seed : List ℕ) (me leaf : ℕ) (message : Message) → IfOk r (λ bytes. SpellsSigned seed leaf (says me message) bytes.items)
     → seed ≡ signing_seed m.seed me → IfOk r (λ bytes. Posts m me message [] bytes.items)
-signs_own (Ok bytes) m seed me message h own = signed_posts m me message seed bytes.items own h
-signs_own (Err fault) m seed me message h own = h
+signs_own (Ok bytes) m seed me leaf message h own = signed_posts m me leaf message seed bytes.items own h
+signs_own (Err fault) m seed me leaf message h own = h
+
+-- ---- the leaf that signs
+
+-- a signature begins with its leaf
+pub begins_with_leaf : (seed : List ℕ) (leaf : ℕ) (text : List ℕ) → slice_get (signature_of seed leaf text) 0 ≡ Some leaf
+unfolding signature_of
+begins_with_leaf seed leaf text = refl
+
+pub signs_by : {E : Type 0} (r : Result (Vec ℕ Global) E) (seed : List ℕ) (leaf : ℕ) (body : BodyData) → IfOk r (λ bytes. SpellsSigned seed leaf body bytes.items) → IfOk r (λ bytes. leaf_of bytes.items ≡ Some leaf)
+signs_by (Ok bytes) seed leaf body h =
+    ap (option_and_then (λ (f : FrameData). leaf_in f.authenticator)) ((reads_frames bytes.items (signed_frame body h.signed)).1 h.spells) ∙ h.by_leaf
+signs_by (Err fault) seed leaf body h = h
+
+-- ---- for whom a signed frame is
+
+pub signed_goes : (m : Membership) (me faults : ℕ) (message : Message) (numbers bytes frame : List ℕ) → me < 3 * faults + 1 → faults ≡ m.faults → numbers ≡ other_replicas m me → frame ≡ bytes
+    → (c : Configuration) → members c ≡ m → IsPosted c me message [] bytes → numbers ≡ receivers_in c me frame
+signed_goes m me faults message numbers bytes frame below size goes same c known posted =
+    let count : faults ≡ c.faults = size ∙ ap (λ (x : Membership). x.faults) (sym known) in
+    goes ∙ ap (λ (x : Membership). other_replicas x me) (sym known)
+    ∙ sym (signed_is_for c me message bytes (subst (λ (f : ℕ). me < 3 * f + 1) count below) posted) ∙ ap (receivers_in c me) (sym same)

@@ -1,13 +1,13 @@
 -- What an endpoint is, what it hears, and what it posts (Castro and Liskov, Practical Byzantine fault tolerance and
 -- proactive recovery, TOCS 2002, on the authentication of messages).
-use Rattle.std.specs.Prelude.{◌≡◌, ℕ, ◌+◌, ◌*◌, ◌<◌, ◌≤◌, ◌==◌, Bool, not, List, [], ◌∷◌, length, map, filter, Option, is_some, option_map, Vec}
+use Rattle.std.specs.Prelude.{◌≡◌, ℕ, ◌+◌, ◌*◌, ◌<◌, ◌≤◌, ◌==◌, Bool, not, List, [], ◌∷◌, length, map, filter, Option, is_some, option_map, Vec, ⊤}
 use Rattle.std.specs.List.{list_all, range_with_len}
 use Rattle.std.specs.declared.alloc.Global.{Global}
 use Rattle.terms.specs.Parties.{party_number}
 use Rattle.terms.specs.declared.parties.Party.{Party}
 use Rattle.wire.specs.declared.messages.Batch.{Batch}
 use Rattle.wire.specs.declared.messages.Body.{Body}
-use Rattle.wire.specs.Messages.{BodyData, MessageData as Message}
+use Rattle.wire.specs.Messages.{BodyData, MessageData as Message, page}
 use Rattle.wire.specs.Spelling.{body_spelling, frame_limit, piece}
 use Rattle.wire.specs.Views.{body_data}
 use Rattle.wire.specs.Words.{requests_of}
@@ -19,7 +19,7 @@ use Rattle.protocol.specs.System.Frames.{IsPosted}
 use Rattle.protocol.specs.System.Trace.Entry.{Sent}
 use Rattle.events.specs.declared.output.Output.{Output}
 use Rattle.events.specs.declared.output.Output.TheVariants as outputs
-use Rattle.events.specs.Outputs.{entry_of}
+use Rattle.events.specs.Outputs.{entry_of, IsSentAsMeant}
 
 -- who takes part, which replica this is, and how many of its 64 keys have signed
 pub record EndpointState : Type 0 where
@@ -59,6 +59,13 @@ Hears e bytes body = heard e.membership e.me bytes ≡ option_map body_data body
 abbrev pub TellsGenuine : EndpointState → Batch → Bool → Type 0
 TellsGenuine e batch test = test ≡ are_heard e.membership e.me (requests_of batch.text.items)
 
+-- ---- what fits a frame
+
+-- A page of so many bytes fits a frame with MACs for ten parties, and so does each other message that goes with MACs.
+abbrev pub FitsFrame : Message → Type 0
+FitsFrame (page number index text) = length text ≤ 4193945
+FitsFrame _ = ⊤
+
 -- ---- what is posted
 
 -- In each configuration of these members the bytes are the replica's frame that says this, sealed for these parties; a
@@ -74,13 +81,18 @@ receivers (outputs.Installed number root) = []
 receivers (outputs.Send parties frame) = numbers parties.items
 receivers (outputs.Accepted timestamp answer) = []
 
--- The output is such a frame, and goes to these parties.
+-- In each configuration of these members the output goes exactly to the parties for whom its frame is.
+abbrev pub GoesAsMeant : Membership → ℕ → Output → Type 0
+GoesAsMeant m me output = (c : Configuration) → members c ≡ m → IsSentAsMeant c me output
+
+-- The output is such a frame, and goes to these parties, for whom it is.
 pub record IsPost (m : Membership) (me : ℕ) (message : Message) (sealed parties : List ℕ)
     (output : Output) : Type 0 where
   pub bytes : List ℕ
   pub sends : entry_of me output ≡ Sent me bytes
   pub goes : receivers output ≡ parties
   pub posted : Posts m me message sealed bytes
+  pub meant : GoesAsMeant m me output
 
 -- it has a MAC for each party that it goes to
 abbrev pub IsSealedPost : Membership → ℕ → Message → List ℕ → Output → Type 0
@@ -138,10 +150,12 @@ SignedExceeds body = frame_limit body.message < length (piece (body_spelling bod
 abbrev pub IsTooLongToSign : EndpointState → Message → Type 0
 IsTooLongToSign e message = (e.used < 64) × SignedExceeds (says e.me message)
 
--- the bytes go to all other replicas
+-- The bytes go to all other replicas, for whom they are if they are a signed frame of the replica's own.
 pub record SendsToOthers (e : EndpointState) (bytes : List ℕ) (output : Output) : Type 0 where
   pub sends : entry_of e.me output ≡ Sent e.me bytes
   pub goes : receivers output ≡ other_replicas e.membership e.me
+  pub meant : (c : Configuration) (message : Message) → members c ≡ e.membership
+      → IsPosted c e.me message [] bytes → IsSentAsMeant c e.me output
 
 -- so whatever message the bytes say, signed, is posted
 abbrev pub PostsFrame : EndpointState → List ℕ → Output → Type 0

@@ -1,5 +1,5 @@
 -- What the private functions speak of that make frames.
-use Rattle.std.specs.Prelude.{◌≡◌, ℕ, ◌+◌, ◌≤◌, List, length, map, Vec}
+use Rattle.std.specs.Prelude.{◌≡◌, ℕ, ◌+◌, ◌≤◌, List, Some, length, map, slice_get, Vec}
 use Rattle.std.specs.Borrow.{Bor}
 use Rattle.std.specs.declared.alloc.Global.{Global}
 use Rattle.terms.specs.declared.parties.Party.{Party}
@@ -9,9 +9,8 @@ use Rattle.wire.specs.declared.messages.Body.{Body}
 use Rattle.wire.specs.Messages.{BodyData, FrameData, MessageData as Message, signature}
 use Rattle.wire.specs.Spelling.{SpellsFrame, body_spelling, frame_limit, piece}
 use Rattle.wire.specs.Views.{body_data}
-use Rattle.authenticator.specs.Giving.{sealed_frame}
 use Rattle.authenticator.specs.Membership.{Membership}
-use Rattle.authenticator.specs.Sealing.{IsTooLong, sealed_for}
+use Rattle.authenticator.specs.Sealing.{sealed_for}
 use Rattle.signing.specs.Signatures.{Verifies, public_key}
 use Rattle.posting.specs.Endpoint.{numbers, says}
 
@@ -33,29 +32,26 @@ abbrev pub SealsMessage : Membership → ReplicaId → Message → List Party �
 SealsMessage m me message parties bytes =
     SpellsSealed m.seed (says me.0 message) (numbers parties) bytes.items
 
--- the body with its MACs for these parties would be longer than a frame may be
-abbrev pub IsTooLarge : Membership → Body → List Party → Type 0
-IsTooLarge m body parties = IsTooLong (sealed_frame m.seed body parties)
-
 -- ---- with a signature
 
 -- a body with a signature
 abbrev pub signed_frame : BodyData → List ℕ → FrameData
 signed_frame body signed = record { body = body; authenticator = signature signed }
 
--- the bytes are the body with a signature of it by this seed
-pub record SpellsSigned (seed : List ℕ) (body : BodyData) (bytes : List ℕ) : Type 0 where
+-- the bytes are the body with a signature of it by this leaf of the seed
+pub record SpellsSigned (seed : List ℕ) (leaf : ℕ) (body : BodyData) (bytes : List ℕ) : Type 0 where
   pub signed : List ℕ
   pub spells : SpellsFrame bytes (signed_frame body signed)
   pub verifies : Verifies (public_key seed) (body_spelling body) signed
+  pub by_leaf : slice_get signed 0 ≡ Some leaf
 
 -- the bytes are the body with a signature of it
-abbrev pub SignsBody : List ℕ → Body → Vec ℕ Global → Type 0
-SignsBody seed body bytes = SpellsSigned seed (body_data body) bytes.items
+abbrev pub SignsBody : List ℕ → ℕ → Body → Vec ℕ Global → Type 0
+SignsBody seed leaf body bytes = SpellsSigned seed leaf (body_data body) bytes.items
 
 -- the bytes are the party's message with a signature of it
-abbrev pub SignsMessage : List ℕ → ReplicaId → Message → Vec ℕ Global → Type 0
-SignsMessage seed me message bytes = SpellsSigned seed (says me.0 message) bytes.items
+abbrev pub SignsMessage : List ℕ → ℕ → ReplicaId → Message → Vec ℕ Global → Type 0
+SignsMessage seed leaf me message bytes = SpellsSigned seed leaf (says me.0 message) bytes.items
 
 -- with a signature the body has at most as many bytes as a frame of it may have
 abbrev pub SignedFits : BodyData → Type 0

@@ -1,17 +1,19 @@
 //! The endpoint of a replica.
 
-ghost use Rattle.std.specs.Prelude.{◌≡◌, ◌≢◌, ◌↔◌, ◌+◌, ◌*◌, ◌<◌, ◌≤◌, true, false, IfOk, IfErr, OnOk};
+ghost use Rattle.std.specs.Prelude.{◌≡◌, ◌≢◌, ◌↔◌, ◌+◌, ◌*◌, ◌<◌, ◌≤◌, true, false, Some, IfOk, IfErr, OnOk};
 ghost use Rattle.wire.specs.Spelling.{IsMessage, is_signed};
 ghost use Rattle.wire.specs.Views.{message_data};
 ghost use Rattle.authenticator.specs.Keys.{signing_seed};
-ghost use Rattle.posting.specs.Endpoint.{Hears, IsTooLongToSign, PostsFrame, PostsTo, PostsToOthers, SendsToOthers, SignsFrame, TellsGenuine};
+ghost use Rattle.authenticator.specs.declared.sealed.SealFault.TheVariants as SealFault;
+ghost use Rattle.protocol.specs.System.Frames.{leaf_of};
+ghost use Rattle.posting.specs.Endpoint.{FitsFrame, Hears, IsTooLongToSign, PostsFrame, PostsTo, PostsToOthers, SendsToOthers, SignsFrame, TellsGenuine};
 
 use crate::hearing::{hear_all, hear_body};
 use crate::post_fault::PostFault;
 use crate::receivers::other_replicas;
 use crate::sealing::{seal_for_one, seal_for_others};
 use crate::signing_frames::sign_message;
-use authenticator::Ring;
+use authenticator::{Ring, SealFault};
 use events::Output;
 use signing::{PublicKeys, Signer};
 use std::alloc::Global;
@@ -102,16 +104,18 @@ impl Endpoint {
     ///
     /// # Errors
     ///
-    /// TooLarge where the frame would be longer than it may be, and else NoMemory where memory runs out.
+    /// TooLarge where the frame would be longer than it may be, which of messages that fit a frame none is, and else
+    /// NoMemory where memory runs out.
     pub fn post_to(
         &mut self,
         alloc: Global,
         message: Message,
         receiver: Party,
-    ) -> Result<Output, PostFault>
+    ) -> Result<Output, SealFault>
         requires said { IsMessage (message_data message) }
         requires unsigned { is_signed (message_data message) ≡ false }
         ensures posted { IfOk result (PostsTo self.old (message_data message) receiver) }
+        ensures fits { FitsFrame (message_data message) → result ≢ Err SealFault.TooLarge }
         ensures same { self.new ≡ self.old }
     {
         seal_for_one(&mut self.ring, alloc, self.me, message, receiver)
@@ -121,17 +125,19 @@ impl Endpoint {
     ///
     /// # Errors
     ///
-    /// TooLarge where the frame would be longer than it may be, and else NoMemory where memory runs out.
-    pub fn post_to_others(&mut self, alloc: Global, message: Message) -> Result<Output, PostFault>
+    /// TooLarge where the frame would be longer than it may be, which of messages that fit a frame none is, and else
+    /// NoMemory where memory runs out.
+    pub fn post_to_others(&mut self, alloc: Global, message: Message) -> Result<Output, SealFault>
         requires said { IsMessage (message_data message) }
         requires unsigned { is_signed (message_data message) ≡ false }
         ensures posted { IfOk result (PostsToOthers self.old (message_data message)) }
+        ensures fits { FitsFrame (message_data message) → result ≢ Err SealFault.TooLarge }
         ensures same { self.new ≡ self.old }
     {
         seal_for_others(&mut self.ring, alloc, self.faults, self.me, message)
     }
 
-    /// The frame of a message that is signed, by the next of 64 keys: 262,144 bytes at the most for a view change, and
+    /// The frame of a message that is signed, by the next of 64 keys, whose number is the signature's first byte: 262,144 bytes at the most for a view change, and
     /// 4,194,304 for a new view. It may be posted any number of times.
     ///
     /// The tree of the keys is made at the first call, in some 115,000 blocks of SHA-256, and then kept.
@@ -144,6 +150,7 @@ impl Endpoint {
         requires said { IsMessage (message_data message) }
         requires signed { is_signed (message_data message) ≡ true }
         ensures frame { IfOk result (SignsFrame self.old (message_data message)) }
+        ensures leaf { IfOk result (λ frame. leaf_of frame.items ≡ Some self.old.used) }
         ensures used { OnOk result (self.new ≡ record self.old { used = self.old.used + 1 }) }
         ensures membership { self.new.membership ≡ self.old.membership }
         ensures me { self.new.me ≡ self.old.me }

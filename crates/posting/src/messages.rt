@@ -5,6 +5,7 @@ ghost use Rattle.tuple_codec.specs.OperationView.{outcome_of};
 ghost use Rattle.wire.specs.Messages.{checkpoint, commit, fetch, meta, new_view, page, pre_prepare, prepare, view_change};
 ghost use Rattle.wire.specs.Spelling.{IsBatch, IsMessage, IsNewView, IsViewChange, has_children, is_signed, last_index};
 ghost use Rattle.wire.specs.Views.{message_data, new_view_data, view_change_data};
+ghost use Rattle.posting.specs.Endpoint.{FitsFrame};
 ghost use Rattle.posting.specs.Replies.{IsReply};
 
 use crate::bytes::{note_bytes, note_digests};
@@ -22,6 +23,7 @@ pub fn pre_prepare_message(view: View, number: Number, batch: Batch) -> Message
     ensures says { message_data result ≡ pre_prepare view.0 number.0 batch.text.items }
     ensures may { IsMessage (message_data result) }
     ensures unsigned { is_signed (message_data result) ≡ false }
+    ensures fits { FitsFrame (message_data result) }
 {
     Message::PrePrepare(PrePrepare {
         view,
@@ -35,6 +37,7 @@ pub fn prepare_message(view: View, number: Number, digest: Digest) -> Message
     ensures says { message_data result ≡ prepare view.0 number.0 digest }
     ensures may { IsMessage (message_data result) }
     ensures unsigned { is_signed (message_data result) ≡ false }
+    ensures fits { FitsFrame (message_data result) }
 {
     Message::Prepare(Prepare {
         view,
@@ -48,6 +51,7 @@ pub fn commit_message(view: View, number: Number, digest: Digest) -> Message
     ensures says { message_data result ≡ commit view.0 number.0 digest }
     ensures may { IsMessage (message_data result) }
     ensures unsigned { is_signed (message_data result) ≡ false }
+    ensures fits { FitsFrame (message_data result) }
 {
     Message::Commit(Commit {
         view,
@@ -61,6 +65,7 @@ pub fn checkpoint_message(number: Number, root: Digest) -> Message
     ensures says { message_data result ≡ checkpoint number.0 root }
     ensures may { IsMessage (message_data result) }
     ensures unsigned { is_signed (message_data result) ≡ false }
+    ensures fits { FitsFrame (message_data result) }
 {
     Message::Checkpoint(Checkpoint { number, root })
 }
@@ -76,6 +81,7 @@ pub fn reply_message(
     ensures says { IsReply client timestamp kind number (outcome_of answer) (message_data result) }
     ensures may { IsMessage (message_data result) }
     ensures unsigned { is_signed (message_data result) ≡ false }
+    ensures fits { FitsFrame (message_data result) }
 {
     answer.note_valid();
     Message::Reply(Reply {
@@ -94,6 +100,7 @@ pub fn fetch_message(number: Number, level: Level, index: u16) -> Message
     ensures says { message_data result ≡ fetch number.0 level index }
     ensures may { IsMessage (message_data result) }
     ensures unsigned { is_signed (message_data result) ≡ false }
+    ensures fits { FitsFrame (message_data result) }
 {
     Message::Fetch(Fetch {
         number,
@@ -116,6 +123,7 @@ pub fn meta_message(
     ensures says { IfOk result (λ m. message_data m ≡ meta number.0 level index digests.now) }
     ensures may { IfOk result (λ m. IsMessage (message_data m)) }
     ensures unsigned { IfOk result (λ m. is_signed (message_data m) ≡ false) }
+    ensures fits { IfOk result (λ m. FitsFrame (message_data m)) }
 {
     note_digests(digests);
     let digests = Vec::from_slice(alloc, digests)?;

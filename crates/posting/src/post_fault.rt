@@ -1,8 +1,6 @@
 //! Why nothing is posted.
 
-use authenticator::SealFault;
 use signing::SignFault;
-use std::alloc::AllocError;
 use terms::NoMemory;
 use thiserror::Error;
 
@@ -20,17 +18,6 @@ pub enum PostFault {
     NoMemory,
 }
 
-impl From<AllocError> for PostFault {
-    ghost use Rattle.std.specs.Prelude.{◌≡◌};
-    ghost use Rattle.posting.specs.declared.post_fault.PostFault.TheVariants.{NoMemory as no_memory};
-
-    ghost from_gives = { λ _ e. e ≡ no_memory };
-
-    fn from(_failed: AllocError) -> PostFault {
-        PostFault::NoMemory
-    }
-}
-
 impl From<NoMemory> for PostFault {
     ghost use Rattle.std.specs.Prelude.{◌≡◌};
     ghost use Rattle.posting.specs.declared.post_fault.PostFault.TheVariants.{NoMemory as no_memory};
@@ -39,20 +26,6 @@ impl From<NoMemory> for PostFault {
 
     fn from(_failed: NoMemory) -> PostFault {
         PostFault::NoMemory
-    }
-}
-
-impl From<SealFault> for PostFault {
-    ghost use Rattle.std.specs.Prelude.{◌≡◌};
-    ghost use Rattle.posting.specs.Faults.{fault_of_sealing};
-
-    ghost from_gives = { λ fault e. e ≡ fault_of_sealing fault };
-
-    fn from(fault: SealFault) -> PostFault {
-        match fault {
-            SealFault::TooLarge => PostFault::TooLarge,
-            SealFault::NoMemory => PostFault::NoMemory,
-        }
     }
 }
 

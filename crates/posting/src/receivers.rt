@@ -4,11 +4,11 @@ ghost use Rattle.std.specs.Prelude.{◌≡◌, ◌++◌, ◌∷◌, [], IfOk, On
 ghost use Rattle.terms.specs.Parties.{party_number};
 ghost use Rattle.posting.specs.Endpoint.{numbers, others_below};
 
-use std::alloc::{AllocError, Global};
-use terms::{Party, ReplicaId};
+use std::alloc::Global;
+use terms::{NoMemory, Party, ReplicaId};
 
 /// One party alone.
-pub(crate) fn only(alloc: Global, party: Party) -> Result<Vec<Party>, AllocError>
+pub(crate) fn only(alloc: Global, party: Party) -> Result<Vec<Party>, NoMemory>
     ensures { IfOk result (λ parties. numbers parties.items ≡ party_number party ∷ []) }
 {
     let mut parties = Vec::new(alloc);
@@ -22,7 +22,7 @@ pub(crate) fn other_replicas(
     alloc: Global,
     count: u8,
     me: ReplicaId,
-) -> Result<Vec<Party>, AllocError>
+) -> Result<Vec<Party>, NoMemory>
     ensures { IfOk result (λ parties. numbers parties.items ≡ others_below count me.0) }
 {
     let mut parties = Vec::new(alloc);
@@ -34,7 +34,7 @@ pub(crate) fn other_replicas(
     Ok(parties)
 }
 
-fn add_replica(parties: &mut Vec<Party>, replica: u8) -> Result<(), AllocError>
+fn add_replica(parties: &mut Vec<Party>, replica: u8) -> Result<(), NoMemory>
     ensures { OnOk result (numbers parties.new.items ≡ numbers parties.old.items ++ replica ∷ []) }
 {
     parties.push(Party::Replica(ReplicaId(replica)))?;

@@ -1,16 +1,16 @@
 //! Frames with MACs.
 
-ghost use Rattle.std.specs.Prelude.{◌≡◌, ◌+◌, ◌*◌, ◌<◌, ◌≤◌, false, IfOk};
+ghost use Rattle.std.specs.Prelude.{◌≡◌, ◌≢◌, ◌+◌, ◌*◌, ◌<◌, ◌≤◌, false, IfOk};
 ghost use Rattle.wire.specs.Spelling.{IsMessage, is_signed};
 ghost use Rattle.wire.specs.Views.{body_data, message_data};
+ghost use Rattle.authenticator.specs.declared.sealed.SealFault.TheVariants as SealFault;
 ghost use Rattle.authenticator.specs.Giving.{Seals};
 ghost use Rattle.authenticator.specs.Sealing.{IsSealable};
-ghost use Rattle.posting.specs.Endpoint.{SealsFor, SealsForOne, SealsForOthers, numbers, says};
-ghost use Rattle.posting.specs.Frames.{IsTooLarge, SealsMessage};
+ghost use Rattle.posting.specs.Endpoint.{FitsFrame, SealsFor, SealsForOne, SealsForOthers, numbers, says};
+ghost use Rattle.posting.specs.Frames.{SealsMessage};
 
-use crate::post_fault::PostFault;
 use crate::receivers::{only, other_replicas};
-use authenticator::Ring;
+use authenticator::{Ring, SealFault};
 use events::Output;
 use std::alloc::Global;
 use terms::{Party, ReplicaId};
@@ -23,7 +23,7 @@ pub(crate) fn seal_for_others(
     faults: u8,
     me: ReplicaId,
     message: Message,
-) -> Result<Output, PostFault>
+) -> Result<Output, SealFault>
     requires faults { faults ≡ ring.old.faults }
     requires some { 1 ≤ faults }
     requires few { faults ≤ 3 }
@@ -31,6 +31,7 @@ pub(crate) fn seal_for_others(
     requires said { IsMessage (message_data message) }
     requires unsigned { is_signed (message_data message) ≡ false }
     ensures posted { IfOk result (SealsForOthers ring.old me.0 (message_data message)) }
+    ensures fits { FitsFrame (message_data message) → result ≢ Err SealFault.TooLarge }
     ensures same { ring.new ≡ ring.old }
 {
     let receivers = other_replicas(alloc, 3 * faults + 1, me)?;
@@ -42,18 +43,20 @@ pub(crate) fn seal_for_others(
 ///
 /// # Errors
 ///
-/// TooLarge where the frame would be longer than it may be, and else NoMemory where memory runs out.
+/// TooLarge where the frame would be longer than it may be, which of messages that fit a frame none is, and else
+/// NoMemory where memory runs out.
 pub fn seal_for_one(
     ring: &mut Ring,
     alloc: Global,
     me: ReplicaId,
     message: Message,
     receiver: Party,
-) -> Result<Output, PostFault>
+) -> Result<Output, SealFault>
     requires said { IsMessage (message_data message) }
     requires unsigned { is_signed (message_data message) ≡ false }
     requires known { me.0 < 10 }
     ensures posted { IfOk result (SealsForOne ring.old me.0 (message_data message) receiver) }
+    ensures fits { FitsFrame (message_data message) → result ≢ Err SealFault.TooLarge }
     ensures same { ring.new ≡ ring.old }
 {
     let receivers = only(alloc, receiver)?;
@@ -67,9 +70,10 @@ fn seal_for(
     me: ReplicaId,
     message: Message,
     receivers: Vec<Party>,
-) -> Result<Output, PostFault>
+) -> Result<Output, SealFault>
     requires { IsSealable (says me.0 (message_data message)) (numbers receivers.items) }
     ensures posted { IfOk result (SealsFor ring.old me.0 (message_data message) receivers.items) }
+    ensures fits { FitsFrame (message_data message) → result ≢ Err SealFault.TooLarge }
     ensures same { ring.new ≡ ring.old }
 {
     let frame = seal_message(ring, alloc, me, message, receivers.as_slice())?;
@@ -83,9 +87,10 @@ fn seal_message(
     me: ReplicaId,
     message: Message,
     receivers: &[Party],
-) -> Result<Vec<u8>, PostFault>
+) -> Result<Vec<u8>, SealFault>
     requires { IsSealable (says me.0 (message_data message)) (numbers receivers.now) }
     ensures sealed { IfOk result (SealsMessage ring.old me (message_data message) receivers.now) }
+    ensures fits { FitsFrame (message_data message) → result ≢ Err SealFault.TooLarge }
     ensures same { ring.new ≡ ring.old }
 {
     let body = Body {
@@ -101,12 +106,11 @@ fn seal_body(
     alloc: Global,
     body: &Body,
     receivers: &[Party],
-) -> Result<Vec<u8>, PostFault>
+) -> Result<Vec<u8>, SealFault>
     requires { IsSealable (body_data body.now) (numbers receivers.now) }
     ensures sealed { IfOk result (Seals ring.old.seed body.now receivers.now) }
-    ensures large { result ≡ Err PostFault.TooLarge → IsTooLarge ring.old body.now receivers.now }
+    ensures fits { FitsFrame (message_data body.now.message) → result ≢ Err SealFault.TooLarge }
     ensures same { ring.new ≡ ring.old }
 {
-    let frame = ring.seal(alloc, body, receivers)?;
-    Ok(frame)
+    ring.seal(alloc, body, receivers)
 }

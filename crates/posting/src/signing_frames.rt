@@ -25,7 +25,7 @@ pub(crate) fn sign_message(
 ) -> Result<Vec<u8>, PostFault>
     requires said { IsBody (says me.0 (message_data message)) }
     requires signed { is_signed (message_data message) ≡ true }
-    ensures spells { IfOk result (SignsMessage signer.old.seed me (message_data message)) }
+    ensures spells { IfOk result (SignsMessage signer.old.seed signer.old.used me (message_data message)) }
     ensures used { OnOk result (signer.new ≡ record signer.old { used = signer.old.used + 1 }) }
     ensures seed { signer.new.seed ≡ signer.old.seed }
     ensures kept { IfErr result (λ fault. fault ≢ PostFault.NoMemory → signer.new ≡ signer.old) }
@@ -46,7 +46,7 @@ pub(crate) fn sign_message(
 fn sign_body(signer: &mut Signer, alloc: Global, body: &Body) -> Result<Vec<u8>, PostFault>
     requires said { IsBody (body_data body.now) }
     requires signed { is_signed (message_data body.now.message) ≡ true }
-    ensures spells { IfOk result (SignsBody signer.old.seed body.now) }
+    ensures spells { IfOk result (SignsBody signer.old.seed signer.old.used body.now) }
     ensures used { OnOk result (signer.new ≡ record signer.old { used = signer.old.used + 1 }) }
     ensures seed { signer.new.seed ≡ signer.old.seed }
     ensures kept { IfErr result (λ fault. fault ≢ PostFault.NoMemory → signer.new ≡ signer.old) }

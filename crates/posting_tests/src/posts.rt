@@ -6,6 +6,7 @@ ghost use Rattle.wire.specs.Spelling.{IsMessage, is_signed};
 ghost use Rattle.wire.specs.Views.{message_data};
 
 use crate::endpoints::{DIGEST, new_endpoint, new_ring, view_change};
+use authenticator::SealFault;
 use events::Output;
 use hex::FromHex;
 use posting::{
@@ -152,7 +153,7 @@ fn a_reply(rt: HostRuntime) -> Result<(), Fail> {
 // A frame has at most 4,194,304 bytes: here those of the text, 17 before it and 104 behind it.
 fn is_too_long(endpoint: &mut Endpoint, alloc: Global) -> Result<bool, Fail> {
     let page = page_message(Number(16), 0, vec![in alloc; 0; 4_194_184]?);
-    Ok(endpoint.post_to_others(alloc, page).err() == Some(PostFault::TooLarge))
+    Ok(endpoint.post_to_others(alloc, page).err() == Some(SealFault::TooLarge))
 }
 
 #[test]
@@ -187,7 +188,7 @@ fn commit_goes_out(endpoint: &mut Endpoint, alloc: Global) -> Result<bool, Fail>
     let commit = commit_message(View(0), Number(1), DIGEST);
     let again = commit_message(View(0), Number(1), DIGEST);
     let output = match endpoint.post_to_others(alloc, commit) {
-        Err(PostFault::NoMemory) => endpoint.post_to_others(alloc, again)?,
+        Err(SealFault::NoMemory) => endpoint.post_to_others(alloc, again)?,
         first => first?,
     };
     Ok(is_sent(&output, &OTHERS, COMMIT))

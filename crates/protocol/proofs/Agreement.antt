@@ -9,6 +9,7 @@ pub mod Changes
 pub mod Settling
 pub mod Staying
 pub mod Executing
+pub mod Firsts
 pub mod States
 pub mod Uniting
 pub mod Asking

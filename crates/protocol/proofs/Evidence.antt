@@ -1,10 +1,14 @@
 -- What the definitions accept and refuse, and what the premises leave open.
 pub mod Certifying
+pub mod Gaps
 pub mod Installing
 pub mod Refusing
+pub mod RefusingFetches
 pub mod RefusingOwed
 pub mod RefusingAgain
+pub mod RefusingReasons
 pub mod RefusingReplies
+pub mod RefusingNumbers
 pub mod FirstBatch
 pub mod FirstCall
 pub mod FirstReplicasStages
@@ -48,6 +52,7 @@ pub mod Waiting
 pub mod FirstRead
 pub mod Correctness
 pub mod TransferringStages
+pub mod Placing
 pub mod TransferringEvents
 pub mod Transferring
 pub mod SelectedTests
@@ -57,3 +62,5 @@ pub mod JoiningChangesOwing
 pub mod JoiningChanges
 pub mod TakingViews
 pub mod Presuming
+pub mod Listing
+pub mod Taken

@@ -22,3 +22,5 @@ pub mod Selected
 pub mod ExamplesOfKept
 pub mod ExamplesOfChanges
 pub mod Premises
+pub mod Listed
+pub mod Taken

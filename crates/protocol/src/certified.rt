@@ -1,7 +1,7 @@
 //! Laws of what a history certifies, and of a state that is installed by it.
 
 ghost use Rattle.protocol.specs.Evidence.ExamplesOfInstalling.{StateIsInstalled};
-ghost use Rattle.protocol.specs.Evidence.Certified.{ExecutesWithOwnCommit, ExecutesNotByOthersAlone, ExecutesWhatItCommits, TakesLater, TakesInOrder, LogsInMarks, LogsWhatBegins, PreparedRemains, CommittedRemains};
+ghost use Rattle.protocol.specs.Evidence.Certified.{ExecutesWithOwnCommit, ExecutesNotByOthersAlone, ExecutesWhatItCommits, TakesLater, TakesInOrder, LogsInMarks, LogsWhatBegins, LeavesNoGap, PreparedRemains, CommittedRemains};
 
 /// A replica executes no batch before it committed the batch itself: the commits of the others alone, however many,
 /// are not enough. If no message of a correct party is forged, it sent that commit.
@@ -19,10 +19,11 @@ pub fn taken_views_ascend()
 {}
 
 /// What an entry of a safe history logs is above the low mark and at most two periods above it, and what a new view
-/// that is taken has above it is logged.
+/// that is taken has above it is logged. At the primary of a view its batches leave no gap above the low mark.
 pub fn logged_batches_are_in_marks()
     ensures marks { LogsInMarks }
     ensures begun { LogsWhatBegins }
+    ensures gaps { LeavesNoGap }
 {}
 
 /// What is prepared or committed at a replica stays so, whatever it gets later.
@@ -31,8 +32,8 @@ pub fn certificates_stay()
     ensures committed { CommittedRemains }
 {}
 
-/// A replica that is behind may install the state of which three checkpoints have the root, once it got the one
-/// page that is another than its own.
+/// A replica that is behind may install the state of which three checkpoints have the root, once it asked for the
+/// one page that is another than its own, and got it.
 pub fn a_state_is_installed()
     ensures installed { StateIsInstalled }
 {}

@@ -35,8 +35,9 @@ pub mod refused_marks;
 pub mod refused_runs;
 pub mod refused_steps;
 pub mod selected;
+pub mod taken;
 
-ghost use Rattle.protocol.specs.Laws.Histories.{PostedMaySend, PreparedAgree, CommittedStays, CommittedAgree, ExecutedAgree, PagesDetermine, BatchesLeaveStates, StatesAreExecuted, StatesAgree, StableAgree, InstalledAgree, StartsAgree, LinearOfSafe, NoneBegins, FirstViewStays};
+ghost use Rattle.protocol.specs.Laws.Histories.{PostedMaySend, LeavesSignOnce, PreparedAgree, CommittedStays, CommittedAgree, ExecutedAgree, PagesDetermine, PointsAreOne, BatchesLeaveStates, StatesAreExecuted, StatesAgree, StableAgree, InstalledAgree, StartsAgree, LinearOfSafe, NoneBegins, FirstViewStays};
 ghost use Rattle.protocol.specs.Evidence.FirstOperation.{SealedFramesAreHeard};
 ghost use Rattle.protocol.specs.Evidence.RefusedSteps.{SignedFramesAreHeard};
 ghost use Rattle.protocol.specs.Laws.Runs.{PointsAreLinear, NoneRunsTwice, AcceptedAtLevels, LevelsOfSafe, RunsAreLinear};
@@ -54,6 +55,11 @@ pub fn signed_frames_are_heard()
 /// What a replica posts for those it is for, over frames that it has seen, it may send where it may say the message.
 pub fn posted_frames_may_be_sent()
     ensures may { PostedMaySend }
+{}
+
+/// No leaf of a right replica signs two frames, so none of its one-time keys signs two bodies.
+pub fn leaves_sign_once()
+    ensures once { LeavesSignOnce }
 {}
 
 /// What two correct replicas hold prepared in one view for one number has one digest (Castro and Liskov, TOCS 2002, on
@@ -81,6 +87,11 @@ pub fn executed_agree()
 /// States are equal where their pages are.
 pub fn pages_determine()
     ensures determine { PagesDetermine }
+{}
+
+/// A history leaves a replica at one point at most: what it installs is told by the pages that its transfer took.
+pub fn points_are_one()
+    ensures one { PointsAreOne }
 {}
 
 /// Batches leave states.

@@ -1,6 +1,7 @@
 //! Laws that show what the premises of the laws leave open.
 
 ghost use Rattle.protocol.specs.Evidence.Premises.{WidestIsValid, NarrowestIsValid, ReplicasAreCorrect, ClientsAreCorrect, CorrectAreBoth, EachIsPrimary, PrimariesReturn, RunsHaveReplicas, RunsHaveClients, RunsGoOn, ReplicasGoOn, RunsTakeCalls, OthersAreUnforged, FramesMayBeGot, FaultyHearAnything, TextsAreFew};
+ghost use Rattle.protocol.specs.Evidence.Listed.{TextsAreListed, ListsAreShort, PagesAddThemselves, PagesAreRun};
 
 /// Ten replicas of which any three are faulty, with 256 clients of which any are faulty, the longest period and any
 /// seed of 32 bytes are a valid configuration; so are four replicas and one client, none of them faulty, with the
@@ -51,4 +52,14 @@ pub fn unforged_traces_go_on()
 /// sent.
 pub fn texts_are_few()
     ensures few { TextsAreFew }
+{}
+
+/// In any trace at all, whatever is executed, installed and got, the texts whose digests must differ stand in a list of
+/// at most 1,057 for each entry and 1,058 more. Of pages that are got each adds itself alone: 257 of them are a run with
+/// at most 1,315 texts.
+pub fn texts_are_listed()
+    ensures listed { TextsAreListed }
+    ensures short { ListsAreShort }
+    ensures pages { PagesAddThemselves }
+    ensures run { PagesAreRun }
 {}

@@ -1,6 +1,6 @@
 //! Laws that show what the definitions refuse: each is a small history, or a part of one, that a wrong body would make.
 
-ghost use Rattle.protocol.specs.Evidence.Refused.{SealsWell, SignsWell, PrePreparesAsPrimary, PrePreparesInMarks, NoPrePrepareAfterChange, CheckpointsMultiples, BeginsAsPrimary, ReadsWhatWasAsked, DigestsToWhoAsked, PagesToWhoAsked, NumbersNoneTwice, NumbersNoneTogether, RepliesOfExecuted, ExecutesWhatIsCommitted, GivesKeptDigests, GivesKeptPages, GivesAskedDigests, GivesAskedPages, RepliesWhatRan, AnswersDigestFetches, AnswersPageFetches, AnswersAgain, AnswersRan, PreparesLogged, CommitsPrepared, ExecutesCommitted, NumbersWaiting, SendsCheckpoints, FetchesAhead, ProposesAuthentic, ReadsNewest, NoChangeWhileActive, AnswersReads, DropsReplies, DropsOwnFrames, FetchesWhatIsWanted, FetchesAbove, DropsUnaskedDigests, DropsUnaskedPages, RepliesAfterExecution, NoCommitAfterChange, NoPrepareAfterChange, NoEarlyCheckpoint, OnePrePrepare, NoPrepareByPrimary, ExecutesNext, KeepsPrepared, InstallsWhatItHas, InstallsWithHeader, RepliesToItsClient, CommitsToAll, TakesWellSelected, TakesNoLower, RunsOnce, AcceptsAtQuorum};
+ghost use Rattle.protocol.specs.Evidence.Refused.{SealsWell, SignsWell, PrePreparesAsPrimary, PrePreparesInMarks, NoPrePrepareAfterChange, CheckpointsMultiples, BeginsAsPrimary, ReadsWhatWasAsked, DigestsToWhoAsked, PagesToWhoAsked, NumbersNoneTwice, NumbersNoneTogether, RepliesOfExecuted, ExecutesWhatIsCommitted, GivesKeptDigests, GivesKeptPages, GivesAskedDigests, GivesAskedPages, RepliesWhatRan, RepliesToWhoAsked, AnswersDigestFetches, AnswersPageFetches, AnswersAgain, AnswersRan, PreparesLogged, CommitsPrepared, ExecutesCommitted, NumbersWaiting, SendsCheckpoints, FetchesAhead, ProposesAuthentic, ReadsNewest, NoChangeWhileActive, AnswersReads, DropsReplies, DropsOwnFrames, FetchesWhatIsWanted, FetchesAbove, FetchesNewest, FetchesOnce, FetchesWhatIsTold, FetchesWhatDiffers, DropsUnaskedDigests, DropsUnaskedPages, RepliesAfterExecution, NoCommitAfterChange, NoPrepareAfterChange, NoEarlyCheckpoint, OnePrePrepare, SkipsNoNumber, GoesBackToNoNumber, PrePreparesNearby, NoPrepareByPrimary, ExecutesNext, KeepsPrepared, InstallsWhatItHas, InstallsWithHeader, RepliesToItsClient, CommitsToAll, TakesWellSelected, TakesNoLower, RunsOnce, AcceptsAtQuorum, SignsOnceByLeaf, SendsNoFrameTwice, AsksOn, InstallsFetched, MovesForReasons};
 
 /// A right replica sends no ordered reply before anything is executed, no commit or prepare of a view after a view
 /// change above it, no checkpoint of a number that it never executed or that is no multiple of the period, and no
@@ -21,13 +21,26 @@ pub fn right_replicas_do_not_say()
     ensures fetches_above { FetchesAbove }
 {}
 
+/// A right replica fetches no state below the newest that it fetched, asks for one part at a time, and for none below the
+/// root before it got the digests of the root's children. It asks for no inner part that agrees with what is in place.
+pub fn right_replicas_fetch_what_differs()
+    ensures newest { FetchesNewest }
+    ensures once { FetchesOnce }
+    ensures told { FetchesWhatIsTold }
+    ensures differs { FetchesWhatDiffers }
+{}
+
 /// A right replica proposes only as the view's primary, and a view only as its primary; no number outside the marks,
-/// none after a view change above the view, none twice in a view, and no request that is not authentic to it.
+/// none after a view change above the view, none twice in a view, and no request that is not authentic to it. It skips no
+/// number above the low mark, goes back to none, and gives none more than two above the executed one.
 pub fn right_primaries_propose()
     ensures primaries { PrePreparesAsPrimary }
     ensures marks { PrePreparesInMarks }
     ensures active { NoPrePrepareAfterChange }
     ensures once { OnePrePrepare }
+    ensures skips { SkipsNoNumber }
+    ensures back { GoesBackToNoNumber }
+    ensures nearby { PrePreparesNearby }
     ensures requests { ProposesAuthentic }
     ensures new_views { BeginsAsPrimary }
 {}
@@ -44,14 +57,15 @@ pub fn right_replicas_do_not_skip()
 {}
 
 /// A right replica gives no digests and no page of a state that is not kept, nor any that nobody asked for, and sends
-/// no ordered reply but of a request that ran in the event or of what is kept; so where it installed nothing, the batch
-/// of the reply's number was executed and has the request.
+/// no ordered reply but of a request that ran in the event, or of what is kept if the event's input is that request; so
+/// where it installed nothing, the batch of the reply's number was executed and has the request.
 pub fn right_replicas_give_what_they_have()
     ensures digests { GivesKeptDigests }
     ensures pages { GivesKeptPages }
     ensures asked_digests { GivesAskedDigests }
     ensures asked_pages { GivesAskedPages }
     ensures replies { RepliesWhatRan }
+    ensures replies_asked { RepliesToWhoAsked }
     ensures replies_executed { RepliesOfExecuted }
 {}
 
@@ -68,7 +82,9 @@ pub fn correct_replicas_answer()
 /// A correct replica that goes on has prepared, as an active backup, what it logged in the event, committed what
 /// became prepared, executed what is committed and next, and numbered, as the active primary, the requests that
 /// wait, none of them twice in a view or in a batch; it has sent a checkpoint of each multiple of the period that
-/// it executed, and begun a transfer where a quorum of checkpoints is ahead.
+/// it executed, and begun a transfer where a quorum of checkpoints is ahead. By a part that its transfer awaits it has
+/// asked for the next one, or installed the state. Where it had a reason to move to a view, it has sent a view change
+/// for it or for a later one, unless no frame says one or its keys are spent.
 pub fn correct_replicas_go_on()
     ensures prepares { PreparesLogged }
     ensures commits { CommitsPrepared }
@@ -78,10 +94,14 @@ pub fn correct_replicas_go_on()
     ensures numbers_together { NumbersNoneTogether }
     ensures checkpoints { SendsCheckpoints }
     ensures fetches { FetchesAhead }
+    ensures asks { AsksOn }
+    ensures installs { InstallsFetched }
+    ensures moves { MovesForReasons }
 {}
 
 /// A right replica seals a reply for its client alone, a part of a state for one replica that asked for it, and a
-/// commit for each other replica; each MAC is that of the body for its receiver, and a signature is its own.
+/// commit for each other replica; each MAC is that of the body for its receiver, and a signature is its
+/// own, by a leaf that signs no other frame. It sends no frame twice in one event.
 pub fn right_replicas_address_all()
     ensures replies { RepliesToItsClient }
     ensures digests { DigestsToWhoAsked }
@@ -89,6 +109,8 @@ pub fn right_replicas_address_all()
     ensures commits { CommitsToAll }
     ensures macs { SealsWell }
     ensures signatures { SignsWell }
+    ensures leaves { SignsOnceByLeaf }
+    ensures once { SendsNoFrameTwice }
 {}
 
 /// A correct replica answers no part of a state that it did not ask for last, no reply, and no frame in its own name.

@@ -1,6 +1,6 @@
 //! Laws that show what the definitions of view changes, calls, dropped inputs and waiting requests refuse.
 
-ghost use Rattle.protocol.specs.Evidence.RefusedChanges.{ChangesAboveView, ChangesAboveEarlier, ChangesToNumbers, BatchEntriesPreparedInMarks, BatchEntriesProposedInMarks, BatchEntriesAscend, BatchEntriesDiffer, ChangesAgainLast, NoCallWhileOpen, CallsOperations, DropsWrites, DropsRequestsOfReplicas, DropsOldRequests, DropsPassedRequests, DropsPrePreparesOfBackups, DropsPrePreparesWhileInactive, DropsPrePreparesOutsideMarks, DropsSecondPrePrepares, DropsPreparesOfPrimaries, DropsPreparesWhileInactive, DropsSecondPrepares, DropsCommitsWhileInactive, DropsSecondCommits, DropsLowCheckpoints, DropsCheckpointsOfNoNumber, DropsSecondCheckpoints, DropsPassedCheckpoints, DropsLowChanges, DropsUnboundChanges, DropsPassedChanges, DropsNewViews, DropsFetches, DropsLowDigests, DropsLowPages, DropsOtherRoots, DropsOtherDigests, DropsOtherPages, WaitsOnceGot, WaitsOverFrames, WaitsUntilRun, WaitsNoLonger};
+ghost use Rattle.protocol.specs.Evidence.RefusedChanges.{ChangesAboveView, ChangesAboveEarlier, ChangesToNumbers, BatchEntriesPreparedInMarks, BatchEntriesProposedInMarks, BatchEntriesAscend, BatchEntriesDiffer, ChangesAgainLast, NoChangeAtFirst, NoChangeAtFrame, ChangesJoinEnough, ChangesJoinLeast, TicksMoveByOne, NoCallWhileOpen, CallsOperations, DropsWrites, DropsRequestsOfReplicas, DropsOldRequests, DropsPassedRequests, DropsPrePreparesOfBackups, DropsPrePreparesWhileInactive, DropsPrePreparesOutsideMarks, DropsSecondPrePrepares, DropsPreparesOfPrimaries, DropsPreparesWhileInactive, DropsSecondPrepares, DropsCommitsWhileInactive, DropsSecondCommits, DropsLowCheckpoints, DropsCheckpointsOfNoNumber, DropsSecondCheckpoints, DropsPassedCheckpoints, DropsLowChanges, DropsUnboundChanges, DropsPassedChanges, DropsNewViews, DropsFetches, DropsLowDigests, DropsLowPages, DropsOtherRoots, DropsOtherDigests, DropsOtherPages, WaitsOnceGot, WaitsOverFrames, WaitsUntilRun, WaitsNoLonger};
 
 /// A right replica sends a new view change only for a view above its own, above those of its earlier ones and below
 /// 2^48, with batch entries of numbers in the marks, the prepared ones ascending, and no digest of a number
@@ -14,6 +14,16 @@ pub fn right_replicas_change_upwards()
     ensures ascending { BatchEntriesAscend }
     ensures differing { BatchEntriesDiffer }
     ensures again { ChangesAgainLast }
+{}
+
+/// A right replica sends a new view change for a reason: at a tick for the next view, if something waits or it is
+/// inactive; else where f + 1 others are ahead of it, for the least of their views.
+pub fn right_replicas_change_for_a_reason()
+    ensures first { NoChangeAtFirst }
+    ensures frame { NoChangeAtFrame }
+    ensures enough { ChangesJoinEnough }
+    ensures least { ChangesJoinLeast }
+    ensures ticks { TicksMoveByOne }
 {}
 
 /// A correct client of either kind has one call open at a time, and calls only operations within the limits.

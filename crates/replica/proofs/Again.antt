@@ -1,12 +1,10 @@
 -- What is said again fits, and so does the primary's own batch.
-use Rattle.std.proofs.Common.{◌≡◌, ℕ, ◌≤◌, ◌<◌, Bool, true, false, not, ◌==◌, List, [], ◌∷◌, length, map, Bor, Some, refl, sym, ap, ◌∙◌, subst, arith}
+use Rattle.std.proofs.Common.{◌≡◌, ℕ, ◌+◌, ◌≤◌, ◌<◌, inl, inr, Bool, true, List, [], ◌∷◌, length, Some, refl, sym, ap, ◌∙◌, subst, arith}
 use Rattle.std.specs.Prelude.{is_some}
-use Rattle.tuple_tree.specs.Values.{AreBytes}
 use Rattle.wire.specs.Lists.{Each}
-use Rattle.wire.specs.Messages.{MessageData as Message, CheckpointEntryData as CheckpointEntry, pre_prepare as PrePrepare, prepare as Prepare, commit as Commit, checkpoint as Checkpoint}
+use Rattle.wire.specs.Messages.{MessageData as Message, CheckpointEntryData as CheckpointEntry, pre_prepare as PrePrepare, prepare as Prepare, commit as Commit, checkpoint as Checkpoint, new_view as NewView}
 use Rattle.wire.specs.Spelling.{IsBatch, IsCarried, is_ordered_request, pieces_spelling}
-use Rattle.wire.specs.Words.{requests_of}
-use Rattle.wire.proofs.Telling.{reads_batches}
+use Rattle.wire.specs.Words.{requests_of, said}
 use Rattle.signing.specs.Heard.{heard}
 use Rattle.ordering.specs.Log as logs
 use Rattle.ordering.specs.Log.{LogData, with_batch}
@@ -17,7 +15,8 @@ use Rattle.protocol.specs.System.Trace.{Entry, Has}
 use Rattle.protocol.specs.System.Trace.Entry.{Sent}
 use Rattle.protocol.specs.Replica.Certificates.{are_genuine, logged, commit_of}
 use Rattle.protocol.specs.Replica.RightReplica.{others}
-use Rattle.protocol.proofs.Words.Elements.{all_of_each}
+use Rattle.protocol.specs.Replica.Owed.{IsSaying, Gives}
+use Rattle.protocol.proofs.Words.Elements.{all_of_each, each_weaker}
 use Rattle.replica_histories.specs.Desk.{Desk}
 use Rattle.replica_histories.specs.Events as events
 use Rattle.replica_histories.specs.Events.{Start, behind}
@@ -25,37 +24,79 @@ use Rattle.replica_histories.specs.Logs.{FitsLog}
 use Rattle.replica_histories.specs.Outputs.{IsBegunBelow, MayNumber}
 use Rattle.replica_histories.proofs.Words.{passed, primary_same}
 use Rattle.replica_histories.proofs.Giving.{batches_fit}
+use Rattle.replica_histories.proofs.SaidOnce.{saying}
 use Rattle.replica_histories.proofs.Again.{prepares_go_again, commits_go_again, batches_go_again, checkpoints_go_again}
 use Rattle.replica_histories.proofs.NumbersKept.{batches_keep_numbers}
 use Rattle.replica_histories.specs.Changes.{FitsChanges}
 use Rattle.replica_histories.proofs.ChangesPassing.{outputs_pass, batches_are_claimed}
 use Rattle.replica_histories.proofs.ChangesKept.{sent_keep}
 use Rattle.replica.specs.State.{OrdererData, JoinedData, IsOrderer}
-use Rattle.replica.specs.Desks.{given, changes_of}
+use Rattle.replica.specs.Desks.{given, changes_of, FitsEvent}
 use Rattle.replica.specs.Waiting.{unnumbered, with_numbered}
 use Rattle.replica.specs.Claiming.{LogsBatch}
-use Rattle.replica.specs.Going.{GoesOn}
-use Rattle.replica.specs.Saying.{AllAgain, Says, SaysAgain, SaysBatch}
+use Rattle.replica.specs.Saying.{AllAgain, AreBelow, GoesAgain, IsBelow, Says, SaysAgain, SaysBatch, SaysLastAgain, row_place}
 use Rattle.replica.proofs.Parties.{same_log}
 use Rattle.replica.proofs.Staying.{sent_beside, fits_on, fits_behind, changes_still}
 use Rattle.replica.proofs.Flags.{flags_stay, flags_numbered}
-use Rattle.replica.proofs.Voting.{said_in, goes_twice}
+use Rattle.replica.proofs.Voting.{said_in}
 
-pub nothing_again : {active : Bool} (o : OrdererData) (outs : List Output) → SaysAgain active o outs o outs
-nothing_again o outs = record { goes = λ is c s desk w due known f. f; same = refl }
+-- ---- in which order
+
+-- what comes before a place comes before a later one
+below_later : (first end : ℕ) (message : Message) → first ≤ end → IsBelow first message → IsBelow end message
+below_later first end (NewView new) l h = omega (arith, l, h)
+below_later first end (PrePrepare v i batch) l h = omega (arith, l, h)
+below_later first end (Prepare v i digest) l h = omega (arith, l, h)
+below_later first end (Commit v i digest) l h = omega (arith, l, h)
+below_later first end _ l h = absurd h
+
+are_below_later : (me first end : ℕ) (outputs : List Entry) → first ≤ end → AreBelow me first outputs → AreBelow me end outputs
+are_below_later me first end outputs l h =
+    each_weaker (λ e. (message : Message) → IsSaying me message e → IsBelow first message) (λ e. (message : Message) → IsSaying me message e → IsBelow end message)
+    (λ e below message says. below_later first end message l (below message says)) outputs h
+
+-- what comes before no such place was not said
+pub never_said : (me place : ℕ) (message : Message) (outputs : List Entry) → (IsBelow place message → ⊥) → AreBelow me place outputs → Gives me message outputs → ⊥
+never_said me place message [] above h given = given
+never_said me place message (e ∷ outputs) above h (inl now) = above (h.0 message now)
+never_said me place message (e ∷ outputs) above h (inr before) = never_said me place message outputs above h.1 before
+
+-- one frame more
+pub one_below : (me first end : ℕ) (message : Message) (bytes : List ℕ) (before after : List Entry) → after ≡ Sent me bytes ∷ before → said bytes ≡ Some (record { sender = me; message = message }) → first ≤ end → IsBelow end message
+    → AreBelow me first before → AreBelow me end after
+one_below me first end message bytes before after is says l below h =
+    subst (AreBelow me end) (sym is)
+    (λ other now. subst (IsBelow end) (saying me message other bytes says now) below, are_below_later me first end before l h)
+
+pub nothing_again : (first end : ℕ) (o : OrdererData) (outs : List Output) → first ≤ end → SaysAgain first end o outs o outs
+nothing_again first end o outs l = record { goes = λ is c s desk w known below f. (f, are_below_later o.endpoint.me first end (given o.endpoint.me outs) l below); same = refl }
+
+pub no_batch_again : (number : ℕ) (o : OrdererData) (outs : List Output) → SaysAgain (row_place number) (row_place number + 1) o outs o outs
+no_batch_again number o outs = nothing_again (row_place number) (row_place number + 1) o outs (omega arith)
+
+pub no_prepare_again : (number : ℕ) (o : OrdererData) (outs : List Output) → SaysAgain (row_place number + 1) (row_place number + 2) o outs o outs
+no_prepare_again number o outs = nothing_again (row_place number + 1) (row_place number + 2) o outs (omega arith)
+
+pub no_commit_again : (number : ℕ) (o : OrdererData) (outs : List Output) → SaysAgain (row_place number + 2) (row_place number + 3) o outs o outs
+no_commit_again number o outs = nothing_again (row_place number + 2) (row_place number + 3) o outs (omega arith)
+
+-- ---- what stands in the log
 
 pub prepare_again : (number : ℕ) (digest : List ℕ) (o new : OrdererData) (before after : List Output) → IsOrderer o → logs.prepare_of o.log number o.log.me ≡ Some digest
-    → Says o (Prepare o.log.view number digest) before after → new ≡ o → SaysAgain true o before new after
-prepare_again number digest o new before after own has says is = subst (λ (x : OrdererData). SaysAgain true o before x after) (sym is) (record {
-  goes = λ active c s desk w due known f.
+    → Says o (Prepare o.log.view number digest) before after → new ≡ o → SaysAgain (row_place number + 1) (row_place number + 2) o before new after
+prepare_again number digest o new before after own has says is = subst (λ (x : OrdererData). SaysAgain (row_place number + 1) (row_place number + 2) o before x after) (sym is) (record {
+  goes = λ active c s desk w known below f.
       let k = said_in c o (Prepare o.log.view number digest) before after known says in
       let h = subst (λ m. logs.prepare_of o.log number m ≡ Some digest) own.0 has in
-      let past = behind s (given o.endpoint.me before) in
-      fits_on c o.endpoint.me s o o desk w due due before after (Sent o.endpoint.me k.bytes) k.is
-      (sent_beside c o.endpoint.me (Prepare o.log.view number digest) (others c o.endpoint.me) k.bytes past tt k.posted)
-      (sent_keep c o.endpoint.me past (Prepare o.log.view number digest) k.bytes k.posted.says tt)
-      (same_log o.log) refl refl refl refl f
-      (prepares_go_again c o.endpoint.me s desk o.log due (given o.endpoint.me before) number digest k.bytes active h k.posted f.fits);
+      let past = behind s (given o.endpoint.me before) in (
+        fits_on c o.endpoint.me s o o desk w [] [] before after (Sent o.endpoint.me k.bytes) k.is
+            (sent_beside c o.endpoint.me (Prepare o.log.view number digest) (others c o.endpoint.me) k.bytes past tt k.posted)
+            (sent_keep c o.endpoint.me past (Prepare o.log.view number digest) k.bytes k.posted.says tt (λ signed. absurd cc))
+            (same_log o.log) refl refl refl refl f
+            (prepares_go_again c o.endpoint.me s desk o.log [] (given o.endpoint.me before) number digest k.bytes active h
+            (never_said o.endpoint.me (row_place number + 1) (Prepare o.log.view number digest) (given o.endpoint.me before) (λ l. absurd (omega (arith, l))) below) k.posted f.fits),
+        one_below o.endpoint.me (row_place number + 1) (row_place number + 2) (Prepare o.log.view number digest) k.bytes (given o.endpoint.me before) (given o.endpoint.me after) k.is.is k.posted.says (omega arith) (omega arith) below,
+      );
   same = refl;
 })
 
@@ -66,17 +107,20 @@ committed_here c me log history number digest f has =
     f.commits number me (passed (logs.is_in_marks log number) (vote_of (logs.row_of log number).commits me) digest has).0 ∙ has
 
 pub commit_again : (number : ℕ) (digest : List ℕ) (o new : OrdererData) (before after : List Output) → IsOrderer o → logs.commit_of o.log number o.log.me ≡ Some digest
-    → Says o (Commit o.log.view number digest) before after → new ≡ o → SaysAgain true o before new after
-commit_again number digest o new before after own has says is = subst (λ (x : OrdererData). SaysAgain true o before x after) (sym is) (record {
-  goes = λ active c s desk w due known f.
+    → Says o (Commit o.log.view number digest) before after → new ≡ o → SaysAgain (row_place number + 2) (row_place number + 3) o before new after
+commit_again number digest o new before after own has says is = subst (λ (x : OrdererData). SaysAgain (row_place number + 2) (row_place number + 3) o before x after) (sym is) (record {
+  goes = λ active c s desk w known below f.
       let k = said_in c o (Commit o.log.view number digest) before after known says in
       let h = subst (λ m. logs.commit_of o.log number m ≡ Some digest) own.0 has in
-      let past = behind s (given o.endpoint.me before) in
-      fits_on c o.endpoint.me s o o desk w due due before after (Sent o.endpoint.me k.bytes) k.is
-      (sent_beside c o.endpoint.me (Commit o.log.view number digest) (others c o.endpoint.me) k.bytes past tt k.posted)
-      (sent_keep c o.endpoint.me past (Commit o.log.view number digest) k.bytes k.posted.says (digest, committed_here c o.endpoint.me o.log past number digest f.fits.of_log h))
-      (same_log o.log) refl refl refl refl f
-      (commits_go_again c o.endpoint.me s desk o.log due (given o.endpoint.me before) number digest k.bytes active h k.posted f.fits);
+      let past = behind s (given o.endpoint.me before) in (
+        fits_on c o.endpoint.me s o o desk w [] [] before after (Sent o.endpoint.me k.bytes) k.is
+            (sent_beside c o.endpoint.me (Commit o.log.view number digest) (others c o.endpoint.me) k.bytes past tt k.posted)
+            (sent_keep c o.endpoint.me past (Commit o.log.view number digest) k.bytes k.posted.says (digest, committed_here c o.endpoint.me o.log past number digest f.fits.of_log h) (λ signed. absurd cc))
+            (same_log o.log) refl refl refl refl f
+            (commits_go_again c o.endpoint.me s desk o.log [] (given o.endpoint.me before) number digest k.bytes active h
+            (never_said o.endpoint.me (row_place number + 2) (Commit o.log.view number digest) (given o.endpoint.me before) (λ l. absurd (omega (arith, l))) below) k.posted f.fits),
+        one_below o.endpoint.me (row_place number + 2) (row_place number + 3) (Commit o.log.view number digest) k.bytes (given o.endpoint.me before) (given o.endpoint.me after) k.is.is k.posted.says (omega arith) (omega arith) below,
+      );
   same = refl;
 })
 
@@ -90,52 +134,77 @@ begun_below : (c : Configuration) (me number : ℕ) (o : OrdererData) (history :
 begun_below c me number o history above f new once at = let most = f.begun new once at in omega (arith, most, above)
 
 pub batch_again : (number : ℕ) (text : List ℕ) (o new : OrdererData) (before after : List Output) → IsOrderer o → o.log.me ≡ logs.primary o.log o.log.view → o.begun < number
-    → logs.logged_batch o.log number ≡ Some text → Says o (PrePrepare o.log.view number text) before after → new ≡ o → SaysAgain true o before new after
-batch_again number text o new before after own primary above has says is = subst (λ (x : OrdererData). SaysAgain true o before x after) (sym is) (record {
-  goes = λ active c s desk w due known f.
+    → logs.logged_batch o.log number ≡ Some text → Says o (PrePrepare o.log.view number text) before after → new ≡ o → SaysAgain (row_place number) (row_place number + 1) o before new after
+batch_again number text o new before after own primary above has says is = subst (λ (x : OrdererData). SaysAgain (row_place number) (row_place number + 1) o before x after) (sym is) (record {
+  goes = λ active c s desk w known below f.
       let k = said_in c o (PrePrepare o.log.view number text) before after known says in
       let past = behind s (given o.endpoint.me before) in
       let e = Sent o.endpoint.me k.bytes in
       let here = logged_here c o.endpoint.me o.log past number text f.fits.of_log has in
-      let on = batches_go_again c o.endpoint.me s desk o.log due (given o.endpoint.me before) number text k.bytes active (sym primary ∙ own.0) has
-      (begun_below c o.endpoint.me number o past above f.changes) k.posted f.fits in
-      fits_behind c o.endpoint.me s o o desk desk w w due due before after e k.is refl f on
-      (λ first. flags_stay c o.endpoint.me o.log.view o.used w desk.state desk.waiting past e
-      (batches_keep_numbers c o.endpoint.me o.log.view number text k.bytes past k.posted.says here).1
-      (f.numbers first))
-      (changes_still c o.endpoint.me s o o desk desk due due (given o.endpoint.me before) e f.fits on
-      (sent_keep c o.endpoint.me past (PrePrepare o.log.view number text) k.bytes k.posted.says (text, here)) (same_log o.log) refl refl f.changes);
+      let on = batches_go_again c o.endpoint.me s desk o.log [] (given o.endpoint.me before) number text k.bytes active (sym primary ∙ own.0) has
+      (begun_below c o.endpoint.me number o past above f.changes)
+      (never_said o.endpoint.me (row_place number) (PrePrepare o.log.view number text) (given o.endpoint.me before) (λ l. absurd (omega (arith, l))) below) k.posted f.fits in (
+        fits_behind c o.endpoint.me s o o desk desk w w [] [] before after e k.is refl f on
+            (λ first. flags_stay c o.endpoint.me o.log.view o.used w desk.state desk.waiting past e
+            (batches_keep_numbers c o.endpoint.me o.log.view number text k.bytes past k.posted.says here).1
+            (f.numbers first))
+            (changes_still c o.endpoint.me s o o desk desk [] [] (given o.endpoint.me before) e f.fits on
+            (sent_keep c o.endpoint.me past (PrePrepare o.log.view number text) k.bytes k.posted.says (text, here) (λ signed. absurd cc)) (same_log o.log) refl refl f.changes),
+        one_below o.endpoint.me (row_place number) (row_place number + 1) (PrePrepare o.log.view number text) k.bytes (given o.endpoint.me before) (given o.endpoint.me after) k.is.is k.posted.says (omega arith) (omega arith) below,
+      );
   same = refl;
 })
 
 -- the last checkpoint
 pub checkpoint_again : (entry : CheckpointEntry) (o new : OrdererData) (before after : List Output) → o.last_checkpoint ≡ Some entry
-    → Says o (Checkpoint entry.number entry.digest) before after → new ≡ o → SaysAgain true o before new after
-checkpoint_again entry o new before after last says is = subst (λ (x : OrdererData). SaysAgain true o before x after) (sym is) (record {
-  goes = λ active c s desk w due known f.
+    → Says o (Checkpoint entry.number entry.digest) before after → new ≡ o → (place : ℕ) → SaysLastAgain true place o before new after
+checkpoint_again entry o new before after last says is place = subst (λ (x : OrdererData). SaysLastAgain true place o before x after) (sym is) (record {
+  goes = λ active c s desk w known below f.
       let k = said_in c o (Checkpoint entry.number entry.digest) before after known says in
       let past = behind s (given o.endpoint.me before) in
-      fits_on c o.endpoint.me s o o desk w due due before after (Sent o.endpoint.me k.bytes) k.is
+      fits_on c o.endpoint.me s o o desk w [] [] before after (Sent o.endpoint.me k.bytes) k.is
       (sent_beside c o.endpoint.me (Checkpoint entry.number entry.digest) (others c o.endpoint.me) k.bytes past tt k.posted)
-      (sent_keep c o.endpoint.me past (Checkpoint entry.number entry.digest) k.bytes k.posted.says tt)
+      (sent_keep c o.endpoint.me past (Checkpoint entry.number entry.digest) k.bytes k.posted.says tt (λ signed. absurd cc))
       (same_log o.log) refl refl refl refl f
-      (checkpoints_go_again c o.endpoint.me s desk o.log due (given o.endpoint.me before) entry.number entry.digest k.bytes
-      (f.said entry last) k.posted f.fits);
+      (checkpoints_go_again c o.endpoint.me s desk o.log (given o.endpoint.me before) entry.number entry.digest k.bytes
+      (f.said entry last) (never_said o.endpoint.me place (Checkpoint entry.number entry.digest) (given o.endpoint.me before) (λ none. none) below) k.posted f.fits);
   same = refl;
 })
 
-pub again_twice : {active : Bool} (a b d : OrdererData) (x y z : List Output) → SaysAgain active a x b y → SaysAgain active b y d z → SaysAgain active a x d z
-again_twice a b d x y z p q = record {
-  goes = λ is.
-      goes_twice a b d x y z (ap (λ (o : OrdererData). o.endpoint) p.same) (p.goes is) (q.goes (ap (λ (o : OrdererData). o.log.active) p.same ∙ is));
-  same = q.same ∙ p.same;
-}
+-- the event goes on with the same orderer
+pub again_twice : (first middle end : ℕ) (a b d : OrdererData) (x y z : List Output) → SaysAgain first middle a x b y → SaysAgain middle end b y d z → SaysAgain first end a x d z
+again_twice first middle end a b d x y z p q = subst (λ (o : OrdererData). SaysAgain middle end o y d z → SaysAgain first end a x d z) (sym p.same) onward q
+  where
+    onward : SaysAgain middle end a y d z → SaysAgain first end a x d z
+    onward r = record {
+      goes = λ is c s desk w known below f.
+          let g = p.goes is c s desk w known below f in
+          r.goes is c s desk w known g.1 (subst (λ (o : OrdererData). FitsEvent c a.endpoint.me s o desk w [] y) p.same g.0);
+      same = r.same;
+    }
+
+pub again_last : (active : Bool) (first place : ℕ) (a b d : OrdererData) (x y z : List Output) → active ≡ true → SaysAgain first place a x b y → SaysLastAgain active place b y d z → SaysLastAgain active first a x d z
+again_last active first place a b d x y z right p q = subst (λ (o : OrdererData). SaysLastAgain active place o y d z → SaysLastAgain active first a x d z) (sym p.same) onward q
+  where
+    onward : SaysLastAgain active place a y d z → SaysLastAgain active first a x d z
+    onward r = record {
+      goes = λ is c s desk w known below f.
+          let g = p.goes (is ∙ right) c s desk w known below f in
+          r.goes is c s desk w known g.1 (subst (λ (o : OrdererData). FitsEvent c a.endpoint.me s o desk w [] y) p.same g.0);
+      same = r.same;
+    }
+
+-- one number more
+pub rows_twice : (number : ℕ) (a b d : OrdererData) (x y z : List Output) → SaysAgain 1 (row_place number) a x b y → SaysAgain (row_place number) (row_place number + 3) b y d z → SaysAgain 1 (row_place (number + 1)) a x d z
+rows_twice number a b d x y z p q =
+    let same : row_place number + 3 ≡ row_place (number + 1) = omega arith in
+    subst (λ (n : ℕ). SaysAgain 1 n a x d z) same (again_twice 1 (row_place number) (row_place number + 3) a b d x y z p q)
 
 -- and so with the desk beside
-pub all_again : (active : Bool) (a new : JoinedData) (o : OrdererData) (before after : List Output) → a.orderer.log.active ≡ active → SaysAgain active a.orderer before o after → new ≡ record a { orderer = o }
+pub all_again : (active : Bool) (a new : JoinedData) (o : OrdererData) (before after : List Output) → a.orderer.log.active ≡ active → SaysLastAgain active 0 a.orderer before o after → new ≡ record a { orderer = o }
     → AllAgain a before new after
 all_again active a new o before after at says is =
-    (is ∙ ap (λ (k : OrdererData). record a { orderer = k }) says.same, subst (λ (k : OrdererData). GoesOn a.orderer before k after) says.same (says.goes at))
+    (is ∙ ap (λ (k : OrdererData). record a { orderer = k }) says.same, subst (λ (k : OrdererData). GoesAgain 0 a.orderer before k after) says.same (says.goes at))
 
 -- ---- a batch
 
@@ -154,7 +223,8 @@ says_batch number text o mid new before after own says (claims, adds, logs_it) i
     subst (λ (x : OrdererData). SaysBatch number text o before x after) (sym (is ∙ ap (λ (x : OrdererData). record x { used = number }) logs_it)) (record {
       endpoint = refl;
       log = refl;
-      goes = λ c s desk w due known above calls reads may f.
+      target = refl;
+      goes = λ c s desk w due known calls reads may f.
           let k = said_in c o (PrePrepare o.log.view number text) before after known says in
           let past = given o.endpoint.me before in
           let e = Sent o.endpoint.me k.bytes in
@@ -163,19 +233,7 @@ says_batch number text o mid new before after own says (claims, adds, logs_it) i
           fits_behind c o.endpoint.me s o (record o { log = with_batch o.log number text; claims = claims; used = number }) desk desk w (with_numbered (length (unnumbered w)) w) due due before after
           e k.is refl f on
           (λ first. (flags_numbered c o.endpoint.me o.log.view o.used number w desk.state desk.waiting text k.bytes (behind s past) calls
-          (sym (primary_same c o.log o.log.view faults) ∙ may.own ∙ own.0) above (held_are_genuine c o.endpoint.me s desk o.log due past number text f.fits may) reads k.posted.says (f.numbers first)).1)
+          (sym (primary_same c o.log o.log.view faults) ∙ may.own ∙ own.0) may.free (held_are_genuine c o.endpoint.me s desk o.log due past number text f.fits may) reads k.posted.says (f.numbers first)).1)
           (batches_are_claimed c o.endpoint.me (behind s past) e o.log (changes_of o) claims o.endpoint.me number text
-          (outputs_pass c o.endpoint.me s desk desk o.log (with_batch o.log number text) due due past e f.fits on) may.within may.free k.posted.says adds f.changes);
+          (outputs_pass c o.endpoint.me s desk desk o.log (with_batch o.log number text) due due past e f.fits on) may.within (sym (f.fits.of_log.batches number may.within) ∙ may.free.unused number (omega arith)) k.posted.says adds f.changes);
     })
-
--- a text that has requests is a batch
-pub is_batch : (text : List ℕ) (frames : List (Bor (List ℕ))) (empty : Bool) → AreBytes text → map (λ f. f.now) frames ≡ requests_of text → empty ≡ (length frames == 0) → not empty ≡ true → IsBatch 1 text
-is_batch text frames empty bytes read e h = reads_batches text bytes (subst (λ xs. 1 ≤ length xs) read (some frames empty e h))
-  where
-    some : (frames : List (Bor (List ℕ))) (empty : Bool) → empty ≡ (length frames == 0) → not empty ≡ true → 1 ≤ length (map (λ f. f.now) frames)
-    some [] empty e h = absurd (apart empty e h)
-      where
-        apart : (b : Bool) → b ≡ true → not b ≡ true → ⊥
-        apart true p q = absurd cc
-        apart false p q = absurd cc
-    some (x ∷ xs) empty e h = omega arith

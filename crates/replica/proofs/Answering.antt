@@ -1,5 +1,5 @@
 -- A fetch is answered from the states that are kept.
-use Rattle.std.proofs.Common.{◌≡◌, ◌≢◌, ℕ, ◌≤◌, ◌⊎◌, inl, inr, List, [], ◌∷◌, Some, refl, sym, ap, ◌∙◌, subst}
+use Rattle.std.proofs.Common.{◌≡◌, ◌≢◌, ℕ, ◌≤◌, ◌⊎◌, inl, inr, List, [], ◌∷◌, Some, refl, sym, ap, subst, true, ◌∙◌}
 use Rattle.terms.specs.declared.parties.Party.TheVariants as parties
 use Rattle.terms.specs.declared.parties.ReplicaId.{ReplicaId}
 use Rattle.terms.specs.declared.state.Level.{Level}
@@ -7,13 +7,16 @@ use Rattle.terms.specs.declared.state.Level.TheVariants as levels
 use Rattle.wire.specs.Lists.{Each}
 use Rattle.wire.specs.Messages.{BodyData as Body, MessageData as Message, fetch as FetchMessage}
 use Rattle.wire.specs.Spelling.{IsMessage, last_index}
+use Rattle.wire.specs.Views.{message_data}
 use Rattle.wire.specs.declared.messages.Fetch.{Fetch}
+use Rattle.wire.specs.declared.messages.Message.{Message as WireMessage}
+use Rattle.wire.specs.declared.messages.Message.TheVariants as messages
 use Rattle.authenticator.specs.Membership.{Membership}
 use Rattle.signing.specs.Heard.{heard}
 use Rattle.signing.proofs.Heard.{heard_was_opened}
 use Rattle.posting.specs.Endpoint.{SealsForOne}
 use Rattle.events.specs.declared.output.Output.{Output}
-use Rattle.events.specs.Outputs.{entry_of}
+use Rattle.events.specs.Outputs.{entry_of, IsSentAsMeant}
 use Rattle.protocol.specs.System.Configuration.{Configuration, members}
 use Rattle.protocol.specs.System.Frames.{IsPosted}
 use Rattle.protocol.specs.System.Trace.{Entry, Has}
@@ -27,6 +30,7 @@ use Rattle.replica_histories.specs.TransfersAnswers.{answer_by}
 use Rattle.replica_histories.proofs.Answering.{parts_fit, kept_fetches_count, parts_suffice, other_numbers_owe_none}
 use Rattle.replica_histories.proofs.TransfersAnswering.{posted_to_one}
 use Rattle.replica.specs.declared.taking.Touched.TheVariants as touched
+use Rattle.wire.specs.Spelling.{is_signed}
 use Rattle.replica.specs.State.{JoinedData, AreOne}
 use Rattle.replica.specs.Desks.{given, FitsEvent}
 use Rattle.replica.specs.Entering.{event_of, TakesBytes}
@@ -34,16 +38,22 @@ use Rattle.replica.specs.Fetching.{GivesPart, HasKept, HasNone}
 use Rattle.replica.specs.Joined.{Runs, me_of}
 use Rattle.replica.proofs.Beginning.{rests}
 use Rattle.replica.proofs.Beside.{begins, heard_so}
-use Rattle.replica.proofs.Given.{given_one}
+use Rattle.replica.proofs.Given.{GivesOne, gives_one}
 use Rattle.replica.proofs.Parties.{one_self, same_log}
 use Rattle.replica.proofs.Staying.{GivesNoNumber, fits_on, sent_beside}
 
 -- a fetch that is heard is of a place
-pub within_level : (m : Membership) (me : ℕ) (bytes : List ℕ) (s k index : ℕ) (level : Level)
+within_level : (m : Membership) (me : ℕ) (bytes : List ℕ) (s k index : ℕ) (level : Level)
     → heard m me bytes ≡ Some (record { sender = s; message = FetchMessage k level index }) → index ≤ last_index level
 within_level m me bytes s k index level h =
     let o = heard_was_opened m me bytes _ h in
     (subst (λ (b : Body). IsMessage b.message) o.body_is o.opens.spelled.valid.message).1
+
+-- so is the fetch that a message of the program is
+pub fetch_within : (m : Membership) (me : ℕ) (bytes : List ℕ) (s : ℕ) (message : WireMessage) (fetch : Fetch) → heard m me bytes ≡ Some (record { sender = s; message = message_data message })
+    → message ≡ messages.Fetch fetch → fetch.index ≤ last_index fetch.level
+fetch_within m me bytes s message fetch h is =
+    within_level m me bytes s fetch.number.0 fetch.index fetch.level (h ∙ ap (λ (x : WireMessage). Some (record { sender = s; message = message_data x })) is)
 
 -- whatever part is given, it is no proposal
 no_number : (pages : List (List ℕ)) (k index : ℕ) (level : Level) → GivesNoNumber (answer_by pages k level index)
@@ -56,6 +66,12 @@ no_news : (c : Configuration) (me : ℕ) (past : List Entry) (pages : List (List
 no_news c me past pages k index levels.Root = tt
 no_news c me past pages k index levels.Inner = tt
 no_news c me past pages k index levels.Page = tt
+
+-- nor is it signed
+never_signed : {A : Type 0} (pages : List (List ℕ)) (k index : ℕ) (level : Level) → is_signed (answer_by pages k level index) ≡ true → A
+never_signed pages k index levels.Root signed = absurd cc
+never_signed pages k index levels.Inner signed = absurd cc
+never_signed pages k index levels.Page signed = absurd cc
 
 none_of : (k : ℕ) (xs : List Snapshot) → Each (λ x. x.number ≢ k) xs → Has (λ x. x.number ≡ k) xs → ⊥
 none_of k [] each has = absurd has
@@ -81,13 +97,13 @@ module _ (r : JoinedData) (one : AreOne r.orderer r.desk) (sender : ReplicaId) (
 
     abbrev Left : List Output → Type 0
     Left os = FitsEvent c (me_of r) (event_of c r past runs bytes) r.orderer runs.desk r.desk.waiting [] os
-        × AnswersInput c (me_of r) past (Got (me_of r) bytes) (given (me_of r) os) runs.holds.of_desk.point
+        × AnswersInput c (me_of r) past (Got (me_of r) bytes) (given (me_of r) os) runs.holds.of_desk.point r.desk.executed.state.number
         × ((os ≡ []) ⊎ IsTaken c (me_of r) (event_of c r past runs bytes))
 
     kept_none : HasNone r.desk k → Left []
     kept_none none = (
       begun,
-      other_numbers_owe_none c (me_of r) runs.desk r.orderer.log past (Got (me_of r) bytes) [] sender.0 k fetch.index fetch.level runs.holds (heard_so r one c past runs bytes body known hears)
+      other_numbers_owe_none c (me_of r) runs.desk r.orderer.log past (Got (me_of r) bytes) [] sender.0 k fetch.index r.desk.executed.state.number fetch.level runs.holds (heard_so r one c past runs bytes body known hears)
           (none_of k runs.desk.snapshots (subst (Each (λ x. x.number ≢ k)) (sym runs.is_desk.snapshots) none)),
       inl refl,
     )
@@ -99,14 +115,14 @@ module _ (r : JoinedData) (one : AreOne r.orderer r.desk) (sender : ReplicaId) (
         → Left (output ∷ [])
     gives pages output kept seals = (
       fits_on c (me_of r) (event_of c r past runs bytes) r.orderer r.orderer runs.desk r.desk.waiting [] [] [] (output ∷ []) (Sent (me_of r) seals.bytes)
-          (given_one (me_of r) [] (output ∷ []) output refl ∙ ap (λ e. e ∷ []) sends)
+          one_given
           (sent_beside c (me_of r) (part_of pages) (sender.0 ∷ []) seals.bytes (Got (me_of r) bytes ∷ past) (no_number pages k fetch.index fetch.level) posted)
-          (sent_keep c (me_of r) (Got (me_of r) bytes ∷ past) (part_of pages) seals.bytes posted.says (no_news c (me_of r) (Got (me_of r) bytes ∷ past) pages k fetch.index fetch.level))
+          (sent_keep c (me_of r) (Got (me_of r) bytes ∷ past) (part_of pages) seals.bytes posted.says (no_news c (me_of r) (Got (me_of r) bytes ∷ past) pages k fetch.index fetch.level) (never_signed pages k fetch.index fetch.level))
           (same_log r.orderer.log) refl refl refl refl begun
           (parts_fit c (me_of r) (event_of c r past runs bytes) runs.desk r.orderer.log [] [] (record { number = k; pages = pages }) sender.0 fetch.index fetch.level seals.bytes has
-          (inl (heard_so r one c past runs bytes body known hears)) posted begun.fits),
-      subst (λ (es : List Entry). AnswersInput c (me_of r) past (Got (me_of r) bytes) es runs.holds.of_desk.point) (sym (given_one (me_of r) [] (output ∷ []) output refl ∙ ap (λ e. e ∷ []) sends))
-          (parts_suffice c (me_of r) runs.desk r.orderer.log past (Got (me_of r) bytes) (Sent (me_of r) seals.bytes ∷ []) (record { number = k; pages = pages }) sender.0 fetch.index fetch.level
+          (inl (heard_so r one c past runs bytes body known hears)) (λ given. given) posted begun.fits),
+      subst (λ (es : List Entry). AnswersInput c (me_of r) past (Got (me_of r) bytes) es runs.holds.of_desk.point r.desk.executed.state.number) (sym one_given.is)
+          (parts_suffice c (me_of r) runs.desk r.orderer.log past (Got (me_of r) bytes) (Sent (me_of r) seals.bytes ∷ []) (record { number = k; pages = pages }) sender.0 fetch.index r.desk.executed.state.number fetch.level
           runs.holds has (heard_so r one c past runs bytes body known hears) (inl (posted_to_one c (me_of r) sender.0 (part_of pages) seals.bytes posted))),
       inr (
         body,
@@ -117,6 +133,9 @@ module _ (r : JoinedData) (one : AreOne r.orderer r.desk) (sender : ReplicaId) (
       where
         sends : entry_of (me_of r) output ≡ Sent (me_of r) seals.bytes
         sends = subst (λ (m : ℕ). entry_of m output ≡ Sent m seals.bytes) one.0 seals.sends
+
+        one_given : GivesOne c (me_of r) [] (output ∷ []) (Sent (me_of r) seals.bytes)
+        one_given = gives_one c (me_of r) [] (output ∷ []) output (Sent (me_of r) seals.bytes) refl sends (subst (λ (m : ℕ). IsSentAsMeant c m output) one.0 (seals.meant c known))
 
         posted : IsPosted c (me_of r) (part_of pages) (sender.0 ∷ []) seals.bytes
         posted = subst (λ (m : ℕ). IsPosted c m (part_of pages) (sender.0 ∷ []) seals.bytes) one.0 (seals.posted c known)

@@ -1,5 +1,5 @@
 -- The fetch of the place that an open transfer asks for.
-use Rattle.std.proofs.Common.{◌≡◌, ℕ, List, ◌∷◌, Some, None, refl, sym, subst}
+use Rattle.std.proofs.Common.{◌≡◌, ℕ, List, ◌∷◌, Some, refl, sym, subst}
 use Rattle.wire.specs.Messages.{MessageData as Message}
 use Rattle.events.specs.declared.output.Output.{Output}
 use Rattle.state_transfer.specs.Transfer.{TransferData}
@@ -9,11 +9,10 @@ use Rattle.protocol.specs.System.Trace.Entry.{Sent}
 use Rattle.protocol.specs.Replica.RightReplica.{others}
 use Rattle.replica_histories.specs.Desk.{Desk}
 use Rattle.replica_histories.specs.Events.{Start, behind}
-use Rattle.replica_histories.specs.Transfers.{MayAsk, FitsOpen}
+use Rattle.replica_histories.specs.Transfers.{MayAsk, AsksNext}
 use Rattle.replica_histories.specs.Events as events
 use Rattle.replica_histories.proofs.ChangesKept.{sent_keep}
 use Rattle.replica_histories.proofs.Fetching.{fetches_fit, due_fetches_fit}
-use Rattle.replica_histories.proofs.Transfers.{open_may_ask}
 use Rattle.replica.specs.State.{OrdererData}
 use Rattle.replica.specs.Waiting.{WaitingData}
 use Rattle.replica.specs.Desks.{given, FitsEvent}
@@ -43,17 +42,17 @@ module _ (c : Configuration) (s : Start) (o : OrdererData) (desk : Desk) (w : Wa
   behind_it due rest f on =
       fits_behind c me s o o desk with_it w w due rest before after (Sent me said.bytes) said.is refl f on
       (numbers_beside c me w o desk past (Sent me said.bytes) f.fits.of_log.faults f.fits.of_log.own (sent_beside c me (fetch_of t) (others c me) said.bytes past tt said.posted) f.numbers)
-      (changes_still c me s o o desk with_it due rest (given me before) (Sent me said.bytes) f.fits on (sent_keep c me past (fetch_of t) said.bytes said.posted.says tt) (same_log o.log) refl refl f.changes)
+      (changes_still c me s o o desk with_it due rest (given me before) (Sent me said.bytes) f.fits on (sent_keep c me past (fetch_of t) said.bytes said.posted.says tt (λ signed. absurd cc)) (same_log o.log) refl refl f.changes)
 
-  pub asks : (due : List Message) → MayAsk c me t desk.state.number past → FitsEvent c me s o desk w due before → FitsEvent c me s o with_it w due after
-  asks due may f = behind_it due due f (fetches_fit c me s desk o.log due (given me before) t said.bytes may said.posted f.fits)
+  pub asks : (due : List Message) → MayAsk c me t desk.state.number past → AsksNext c me t desk.state past → FitsEvent c me s o desk w due before → FitsEvent c me s o with_it w due after
+  asks due may next f = behind_it due due f (fetches_fit c me s desk o.log due (given me before) t said.bytes may next said.posted f.fits)
 
   -- it was due
-  pub asks_due : (rest : List Message) → MayAsk c me t desk.state.number past → FitsEvent c me s o desk w (fetch_of t ∷ rest) before → FitsEvent c me s o with_it w rest after
-  asks_due rest may f = behind_it (fetch_of t ∷ rest) rest f (due_fetches_fit c me s desk o.log rest (given me before) t said.bytes may said.posted f.fits)
+  pub asks_due : (rest : List Message) → MayAsk c me t desk.state.number past → AsksNext c me t desk.state past → FitsEvent c me s o desk w (fetch_of t ∷ rest) before → FitsEvent c me s o with_it w rest after
+  asks_due rest may next f = behind_it (fetch_of t ∷ rest) rest f (due_fetches_fit c me s desk o.log rest (given me before) t said.bytes may next said.posted f.fits)
 
-  -- what is open asks again
-  pub asks_again : (due : List Message) → desk.transfer ≡ Some t → FitsEvent c me s o desk w due before → FitsEvent c me s o desk w due after
-  asks_again due there f =
+  -- what is open may ask again
+  pub asks_again : (due : List Message) → desk.transfer ≡ Some t → MayAsk c me t desk.state.number past → AsksNext c me t desk.state past → FitsEvent c me s o desk w due before → FitsEvent c me s o desk w due after
+  asks_again due there may next f =
       subst (λ x. FitsEvent c me s o (record desk { transfer = x }) w due after) (sym there)
-      (asks due (open_may_ask c me t None desk.state.number past (subst (λ x. FitsOpen c me x desk.state.number past) there f.fits.of_desk.opened)) f)
+      (asks due may next f)

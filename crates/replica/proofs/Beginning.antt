@@ -14,6 +14,8 @@ use Rattle.wire.specs.declared.messages.Checkpoint.{Checkpoint as WireCheckpoint
 use Rattle.wire.specs.declared.messages.Fetch.{Fetch as WireFetch}
 use Rattle.wire.specs.declared.messages.ViewChange.{ViewChange as WireViewChange}
 use Rattle.wire.specs.declared.messages.NewView.{NewView as WireNewView}
+use Rattle.wire.specs.declared.messages.Meta.{Meta as WireMeta}
+use Rattle.wire.specs.declared.messages.Page.{Page as WirePage}
 use Rattle.wire.specs.Words.{requests_of}
 use Rattle.wire.specs.declared.messages.Request.{Request as WireRequest}
 use Rattle.wire.specs.declared.messages.Message.{Message as WireMessage}
@@ -146,6 +148,7 @@ module _ (r : JoinedData) (one : AreOne r.orderer r.desk) where
             (record { here = refl; none = free; sends = refl }) runs.numbers);
         said = said_on (me_of r) r.orderer.last_checkpoint past (Got (me_of r) bytes) runs.said;
         changes = changes (inputs_enter c (me_of r) runs.desk runs.desk r.orderer.log after [] past (Got (me_of r) bytes) runs.holds enters);
+        meant = tt;
       }
 
   -- What is dropped changes nothing.
@@ -160,7 +163,7 @@ module _ (r : JoinedData) (one : AreOne r.orderer r.desk) where
       (
         rests c r past runs,
         runs.all,
-        others_owe_none c (me_of r) past (Got (me_of r) bytes) [] runs.holds.of_desk.point n.1.parts,
+        others_owe_none c (me_of r) past (Got (me_of r) bytes) [] runs.holds.of_desk.point r.desk.executed.state.number n.1.parts,
         inl refl,
       ),
     );
@@ -383,11 +386,12 @@ batch_taken r sender p new one (free, were_heard, (claims, adds, is)) bytes h =
 
 -- ---- what no rule takes here
 
--- no message of the three phases, no checkpoint, no fetch, no view change and no new view
+-- no message of the three phases, no checkpoint, no fetch and no part, no view change and no new view
 abbrev pub IsOther : WireMessage → Type 0
 IsOther m = ((x : WirePrePrepare) → m ≡ messages.PrePrepare x → ⊥) × ((x : WirePrepare) → m ≡ messages.Prepare x → ⊥) × ((x : WireCommit) → m ≡ messages.Commit x → ⊥)
     × ((x : WireCheckpoint) → m ≡ messages.Checkpoint x → ⊥) × ((x : WireFetch) → m ≡ messages.Fetch x → ⊥)
     × ((x : WireViewChange) → m ≡ messages.ViewChange x → ⊥) × ((x : WireNewView) → m ≡ messages.NewView x → ⊥)
+    × ((x : WireMeta) → m ≡ messages.Meta x → ⊥) × ((x : WirePage) → m ≡ messages.Page x → ⊥)
 
 other_beside : (s : ℕ) (m : WireMessage) → IsOther m → IsBesideLog (Some (record { sender = s; message = message_data m }))
 other_beside s (messages.Request x) h = tt
@@ -421,8 +425,8 @@ other_no_call c m s (messages.ViewChange x) below sends other = absurd (other.5 
 other_no_call c m s (messages.NewView x) below sends other = absurd (other.6 x refl)
 other_no_call c m s (messages.Reply x) below sends other = record { call = refl; asks = λ st. refl; parts = refl; views = refl; changes = tt }
 other_no_call c m s (messages.Fetch x) below sends other = absurd (other.4 x refl)
-other_no_call c m s (messages.Meta x) below sends other = record { call = refl; asks = λ st. refl; parts = refl; views = refl; changes = tt }
-other_no_call c m s (messages.Page x) below sends other = record { call = refl; asks = λ st. refl; parts = refl; views = refl; changes = tt }
+other_no_call c m s (messages.Meta x) below sends other = absurd (other.7 x refl)
+other_no_call c m s (messages.Page x) below sends other = absurd (other.8 x refl)
 
 -- What is heard and has no part in the three phases is dropped.
 drops_heard : (r : JoinedData) (bytes : List ℕ) (body : Body) → AreOne r.orderer r.desk → IsBesideLog (Some body) → ((c : Configuration) → IsNoCall c (Some body))

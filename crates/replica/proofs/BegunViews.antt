@@ -236,6 +236,9 @@ module _ (new : NewViewData) (own : Option (List ℕ)) (r : JoinedData) (before 
     membership = from.membership;
   })
 
+  pub one_target : n.orderer.target ≡ r.orderer.target
+  one_target = ap (λ (y : JoinedData). y.orderer.target) k.new_is ∙ k.votes.same.target ∙ ap (λ (o : OrdererData). o.target) from.orderer
+
   pub all_voted : IsLog r.orderer.log → new.start < 2 ^ 48 → IsVotedAll n.orderer.log
   all_voted is small i =
       subst (λ (x : JoinedData). IsVoted x.orderer.log i) (sym k.new_is)

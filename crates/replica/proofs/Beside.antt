@@ -1,5 +1,5 @@
 -- An event that begins with a message which orders nothing and is no request.
-use Rattle.std.proofs.Common.{◌≡◌, ◌∷◌, ℕ, false, inl, List, [], Some, None, refl, sym, ap, ◌∙◌, subst}
+use Rattle.std.proofs.Common.{◌≡◌, ◌∷◌, ℕ, inl, List, [], Some, None, refl, sym, ap, ◌∙◌, subst}
 use Rattle.std.specs.Option.{option_and_then}
 use Rattle.wire.specs.Messages.{BodyData as Body, MessageData as Message}
 use Rattle.signing.specs.Heard.{heard}
@@ -8,7 +8,7 @@ use Rattle.protocol.specs.System.Trace.{Entry}
 use Rattle.protocol.specs.System.Trace.Entry.{Got}
 use Rattle.protocol.specs.Replica.Certificates.{taken, new_view_from}
 use Rattle.protocol.specs.Replica.State.{State, call_in}
-use Rattle.replica_histories.specs.Questions.{has_question, is_question}
+use Rattle.replica_histories.specs.Questions.{AnswersInput}
 use Rattle.replica_histories.specs.Desk.{Desk}
 use Rattle.replica_histories.specs.Events as histories
 use Rattle.replica_histories.specs.Changes.{FitsChanges, IsNoChange}
@@ -17,7 +17,6 @@ use Rattle.replica_histories.proofs.ChangesKept.{got_keep, others_bring_none}
 use Rattle.replica_histories.specs.Inputs.{IsBesideLog, asked, asked_by}
 use Rattle.replica_histories.proofs.Counting.{others_drop}
 use Rattle.replica_histories.proofs.Entering.{inputs_fit}
-use Rattle.replica_histories.proofs.Questions.{others_owe_none}
 use Rattle.replica.specs.declared.taking.Touched.TheVariants as touched
 use Rattle.replica.specs.State.{JoinedData, AreOne}
 use Rattle.replica.specs.Desks.{FitsEvent, changes_of}
@@ -62,6 +61,7 @@ module _ (r : JoinedData) (one : AreOne r.orderer r.desk) (c : Configuration) (p
         (record { here = refl; none = takes_none beside.views; sends = refl }) runs.numbers;
     said = said_on (me_of r) r.orderer.last_checkpoint past (Got (me_of r) bytes) runs.said;
     changes = changes_beside runs.desk [] beside.views beside.changes enters;
+    meant = tt;
   }
     where
       enters : histories.Fits c (me_of r) (event_of c r past runs bytes) runs.desk r.orderer.log [] []
@@ -75,10 +75,12 @@ module _ (r : JoinedData) (one : AreOne r.orderer r.desk) (c : Configuration) (p
         due_is = sym (ap (asked runs.desk.state) heard_so ∙ beside.asks runs.desk.state);
       })
 
--- What is dropped so changes nothing.
+-- What is dropped so changes nothing, and nothing is owed to it.
 module _ (r : JoinedData) (one : AreOne r.orderer r.desk) (bytes : List ℕ) (body : Body) (hears : heard r.desk.membership r.desk.me bytes ≡ Some body) where
-  pub drops_beside : ((c : Configuration) → IsBeside c body) → is_question body ≡ false → TakesBytes bytes r touched.Nothing r []
-  drops_beside beside none = record {
+  pub drops_beside : ((c : Configuration) → IsBeside c body)
+      → ((c : Configuration) (past : List Entry) (runs : Runs c r past) → members c ≡ r.desk.membership → AnswersInput c (me_of r) past (Got (me_of r) bytes) [] runs.holds.of_desk.point r.desk.executed.state.number)
+      → TakesBytes bytes r touched.Nothing r []
+  drops_beside beside answers = record {
     party = one_self r;
     begins = λ c past runs known. (
       record {
@@ -90,7 +92,7 @@ module _ (r : JoinedData) (one : AreOne r.orderer r.desk) (bytes : List ℕ) (bo
       (
         rests c r past runs,
         runs.all,
-        others_owe_none c (me_of r) past (Got (me_of r) bytes) [] runs.holds.of_desk.point (ap has_question (heard_so r one c past runs bytes body known hears) ∙ none),
+        answers c past runs known,
         inl refl,
       ),
     );

@@ -1,6 +1,6 @@
 -- A view change that comes: it is held, and moves the replica on, or it is dropped.
-use Rattle.std.proofs.Common.{◌≡◌, ◌≢◌, ℕ, ◌<◌, ◌⊎◌, inl, inr, Bool, true, false, List, [], ◌∷◌, Option, Some, None, refl, sym, ap, ◌∙◌, subst, ap₂, arith}
-use Rattle.std.specs.Prelude.{option_and_then}
+use Rattle.std.proofs.Common.{◌≡◌, ◌≢◌, ℕ, ◌≤◌, ◌<◌, ◌⊎◌, inl, inr, max, Bool, true, false, List, [], ◌∷◌, map, Option, Some, None, refl, sym, ap, ◌∙◌, subst, ap₂, arith}
+use Rattle.std.specs.Prelude.{is_some, option_and_then}
 use Rattle.std.specs.Option.{option_map_or}
 use Rattle.wire.specs.Messages.{BodyData as Body, FrameData as Frame, MessageData as Message, ViewChangeData, view_change as ViewChange}
 use Rattle.wire.specs.Views.{view_change_data}
@@ -13,23 +13,28 @@ use Rattle.posting.specs.Endpoint.{EndpointState}
 use Rattle.protocol.specs.System.Configuration.{Configuration, members}
 use Rattle.protocol.specs.System.Trace.{Entry}
 use Rattle.protocol.specs.System.Trace.Entry.{Got}
-use Rattle.protocol.specs.Replica.Certificates.{new_view_from, taken, view}
-use Rattle.protocol.specs.Replica.Owed.{Counts}
-use Rattle.protocol.specs.Replica.Selection.{is_within, signed_change}
+use Rattle.protocol.specs.Replica.Certificates.{latest_change, new_view_from, taken, target, view}
+use Rattle.protocol.specs.Replica.Owed.{Counts, HasToMove}
+use Rattle.protocol.specs.Replica.RightReplica.{kept_states, sought_view}
+use Rattle.protocol.specs.Replica.Selection.{change_in, is_within, signed_change}
 use Rattle.protocol.specs.Replica.State.{State, call_in}
+use Rattle.protocol.proofs.Words.Moving.{no_time}
 use Rattle.protocol.proofs.Words.Options.{some_injective}
 use Rattle.view_change.specs.declared.change_fault.ChangeFault.{ChangeFault}
 use Rattle.view_change.specs.declared.changes.Change.{Change}
 use Rattle.view_change.specs.Laws.{ChangesAreJudged, HaveOneRule, SizesDecide}
-use Rattle.view_change.specs.ReceivedData.{HeldData, held_of, refusal_of, with_held}
+use Rattle.view_change.specs.ReceivedData.{AreHeldFrom, HeldData, IsJoined, held_of, later_views, refusal_of, with_held}
 use Rattle.view_change.specs.ReceivedView.{IsHeldIn, configuration_of, held_as}
 use Rattle.view_change.specs.Sets.{change_pair}
 use Rattle.view_change.proofs.Opening.{signed_is}
-use Rattle.replica_histories.specs.Questions.{has_question}
+use Rattle.replica_histories.specs.Questions.{AnswersInput, MovesOn, brings_part, has_part}
 use Rattle.replica_histories.specs.Changes.{FitsChanges, IsNoBatch, Passes}
+use Rattle.replica_histories.specs.Desk.{Snapshot, snapshot_of}
 use Rattle.replica_histories.specs.Events as histories
+use Rattle.replica_histories.specs.Events.{Start, IsTaken, behind}
 use Rattle.replica_histories.specs.Inputs.{IsBesideLog, asked}
 use Rattle.replica_histories.specs.Received.{held_view}
+use Rattle.replica_histories.specs.Views.{entries_of}
 use Rattle.replica_histories.proofs.ChangesKept.{heard_are_signed, heard_keep}
 use Rattle.replica_histories.proofs.ChangesMade.{changes_are_taken}
 use Rattle.replica_histories.proofs.ChangesPassing.{changes_stay, claims_are_above, inputs_enter}
@@ -37,18 +42,21 @@ use Rattle.replica_histories.proofs.Changing.{view_changes_count}
 use Rattle.replica_histories.proofs.Counting.{others_drop}
 use Rattle.replica_histories.proofs.Entering.{inputs_fit}
 use Rattle.replica_histories.proofs.Received.{refused_bring_none}
-use Rattle.replica_histories.proofs.Questions.{others_owe_none}
+use Rattle.replica_histories.proofs.Leaves.{all_are_spent}
+use Rattle.replica_histories.proofs.Questions.{others_owe_no_part}
+use Rattle.replica_histories.proofs.Reasons.{ahead_are_held, joined_one}
 use Rattle.replica.specs.declared.taking.Touched.{Touched}
 use Rattle.replica.specs.declared.taking.Touched.TheVariants as touched
 use Rattle.replica.specs.State.{OrdererData, DeskData, JoinedData, AreOne, IsOrderer}
 use Rattle.replica.specs.Beginning.{BeginsView, MayBegin}
-use Rattle.replica.specs.Changing.{ChangesView}
+use Rattle.replica.specs.Changing.{ChangesView, IsJoinedBy, IsJoinedByNone, IsUnsayable, aimed_view, change_for}
 use Rattle.replica.specs.Desks.{given, Stands, FitsEvent, changes_of}
-use Rattle.replica.specs.Entering.{event_of, event_with, IsTakenBeside, TakesBytes, TakesInput}
+use Rattle.replica.specs.Entering.{event_of, event_with, TakesBytes, TakesInput}
 use Rattle.replica.specs.Joined.{Runs, me_of}
 use Rattle.replica.specs.Going.{IsOneParty, Rests}
 use Rattle.replica.specs.Numbering.{IsAllNumbered}
 use Rattle.replica.specs.Receiving.{JudgesAlike, Receives}
+use Rattle.replica.proofs.Unsayable.{unsaid_spent}
 use Rattle.replica.proofs.Beginning.{heard_by, none_taken, rests}
 use Rattle.replica.proofs.Parties.{one_self, ones_twice, same_log}
 use Rattle.replica.proofs.Staying.{numbers_alike, numbers_beside, said_on}
@@ -97,7 +105,7 @@ change_at_most c me bytes x signed = go (heard (members c) me bytes) refl
 record IsBesideAll (c : Configuration) (said : Option Body) : Type 0 where
   call : option_and_then (call_in c) said ≡ None
   asks : (st : State) → asked st said ≡ []
-  parts : has_question said ≡ false
+  parts : has_part said ≡ false
   views : option_and_then (new_view_from c) said ≡ None
   log : IsBesideLog said
   batch : IsNoBatch said
@@ -152,6 +160,7 @@ module _ (r : JoinedData) (one : AreOne r.orderer r.desk) (bytes : List ℕ) whe
             (record { here = refl; none = free; sends = refl }) runs.numbers);
         said = said_on me r.orderer.last_checkpoint past e runs.said;
         changes = changes;
+        meant = tt;
       });
     }
 
@@ -169,19 +178,55 @@ module _ (r : JoinedData) (one : AreOne r.orderer r.desk) (rules : JudgesAlike r
   signed_in : (c : Configuration) (past : List Entry) → Runs c r past → members c ≡ r.desk.membership → signed_change c bytes ≡ Some x
   signed_in c past runs known = sym ((rule c past runs known).signed bytes) ∙ signed
 
+  -- one that is refused gives no reason to move
+  refused_move : ChangesAreJudged → refusal_of (configuration_of r.orderer.received) r.orderer.log.view r.orderer.received.held x ≢ None → (c : Configuration) (past : List Entry) (runs : Runs c r past) → members c ≡ r.desk.membership
+      → (outputs : List Entry) → MovesOn c (me_of r) past (Got (me_of r) bytes) outputs runs.holds.of_desk.point
+  refused_move judge faulty c past runs known outputs vc other (inl t) may within says = absurd (no_time c (me_of r) (me_of r) past bytes runs.holds.of_desk.point.waiting vc.view t)
+  refused_move judge faulty c past runs known outputs vc other (inr (taken, joins)) may within says = absurd (faulty ((judge (configuration_of r.orderer.received) r.orderer.log.view r.orderer.received.held x).1 (above, inside, newer)))
+    where
+      its : ◌≡◌ {A = ℕ × ViewChangeData} (taken.0, taken.1) x
+      its = go (change_at_most c (me_of r) bytes x (signed_in c past runs known))
+        where
+          go : IsChangeAtMost x (heard (members c) (me_of r) bytes) → ◌≡◌ {A = ℕ × ViewChangeData} (taken.0, taken.1) x
+          go (inl none) = let bad : false ≡ true = ap is_some (sym none ∙ taken.2) in absurd cc
+          go (inr is) =
+              let same : ◌≡◌ {A = Body} (record { sender = taken.0; message = ViewChange taken.1 }) (record { sender = x.0; message = ViewChange x.1 }) = some_injective _ _ (sym taken.2 ∙ is) in
+              some_injective (taken.0, taken.1) x (ap change_in same)
+
+      change : taken.1 ≡ x.1
+      change = ap (λ (y : ℕ × ViewChangeData). y.1) its
+
+      above : r.orderer.log.view < x.1.view
+      above = let l = taken.3.0 in let is = runs.holds.of_log.fits.view in let same = ap (λ (y : ViewChangeData). y.view) change in omega (arith, l, is, same)
+
+      inside : is_within (configuration_of r.orderer.received) x.1 ≡ true
+      inside = (rule c past runs known).within x.1 ∙ ap (is_within c) (sym change) ∙ taken.3.1
+
+      newer : (h : HeldData) → held_of r.orderer.received.held x.0 ≡ Some h → h.change.view < x.1.view
+      newer h there =
+          let sender : taken.0 ≡ x.0 = ap (λ (y : ℕ × ViewChangeData). y.0) its in
+          let other : taken.0 ≢ me_of r = (heard_are_signed c (me_of r) taken.0 taken.1 bytes taken.2).1 in
+          let latest : latest_change c past taken.0 ≡ h.change.view =
+          runs.changes.received.latest taken.0 other
+          ∙ ap (λ (o : Option HeldData). option_map_or (λ (y : HeldData). y.change.view) o 0) (ap (held_of r.orderer.received.held) sender ∙ there) in
+          let l = taken.3.2 in
+          let same = ap (λ (y : ViewChangeData). y.view) change in
+          omega (arith, l, latest, same)
+
   -- A signed view change that is refused changes nothing.
-  refused : refusal_of (configuration_of r.orderer.received) r.orderer.log.view r.orderer.received.held x ≢ None → TakesBytes bytes r touched.Nothing r []
-  refused faulty = record {
+  refused : ChangesAreJudged → refusal_of (configuration_of r.orderer.received) r.orderer.log.view r.orderer.received.held x ≢ None → TakesBytes bytes r touched.Nothing r []
+  refused judge faulty = record {
     party = one_self r;
-    begins = λ c past runs known. (
-      stands r one bytes c past runs x (signed_in c past runs known) r.orderer.received.held (stays c past runs known),
-      (
-        rests c r past runs,
-        runs.all,
-        others_owe_none c (me_of r) past (Got (me_of r) bytes) [] runs.holds.of_desk.point (beside r one bytes c past runs x (signed_in c past runs known)).parts,
-        inl refl,
-      ),
-    );
+    begins = λ c past runs known.
+        let none = others_owe_no_part c (me_of r) past (Got (me_of r) bytes) [] runs.holds.of_desk.point r.desk.executed.state.number (beside r one bytes c past runs x (signed_in c past runs known)).parts in (
+          stands r one bytes c past runs x (signed_in c past runs known) r.orderer.received.held (stays c past runs known),
+          (
+            rests c r past runs,
+            runs.all,
+            (none.0, none.1, none.2, none.3, refused_move judge faulty c past runs known []),
+            inl refl,
+          ),
+        );
   }
     where
       stays : (c : Configuration) (past : List Entry) (runs : Runs c r past) → members c ≡ r.desk.membership
@@ -204,7 +249,7 @@ module _ (r : JoinedData) (one : AreOne r.orderer r.desk) (rules : JudgesAlike r
 
 -- One that is held in these bytes is refused: it is as late as itself.
 pub change_held : (r : JoinedData) (bytes : List ℕ) (h : HeldData) → AreOne r.orderer r.desk → JudgesAlike r.orderer → ChangesAreJudged → IsHeldIn r.orderer.received bytes h → TakesBytes bytes r touched.Nothing r []
-change_held r bytes h one rules judged is = refused r one rules bytes (h.sender, h.change) is.signed late
+change_held r bytes h one rules judged is = refused r one rules bytes (h.sender, h.change) is.signed judged late
   where
     late : refusal_of (configuration_of r.orderer.received) r.orderer.log.view r.orderer.received.held (h.sender, h.change) ≢ None
     late right =
@@ -213,52 +258,95 @@ change_held r bytes h one rules judged is = refused r one rules bytes (h.sender,
 
 -- ---- what goes on behind an input that a rule takes
 
+-- a rule takes the input, which asks for no part
+abbrev IsTakenPartless : Configuration → ℕ → Start → Type 0
+IsTakenPartless c me s = IsTaken c me s × (brings_part c me s.input ≡ false)
+
 -- What holds of the past fits the event, with these outputs, and nothing is left to do.
 record Comes (input : Entry) (old new : JoinedData) (outs : List Output) : Type 0 where
   party : IsOneParty old new
   begins : (c : Configuration) (past : List Entry) (runs : Runs c old past) → members c ≡ old.desk.membership
-      → Stands c (event_with c old past runs input) new.orderer new.desk [] outs × Rests new × IsAllNumbered new × IsTakenBeside c (me_of new) (event_with c old past runs input)
+      → Stands c (event_with c old past runs input) new.orderer new.desk [] outs × Rests new × IsAllNumbered new × IsTakenPartless c (me_of new) (event_with c old past runs input)
 
-module _ (input : Entry) (old : JoinedData) where
-  -- the replica may move to a later view
-  moves : (a b : JoinedData) (x y : List Output) (flag : Bool) → ChangesView a x b y flag → Comes input old a x → Comes input old b y
-  moves a b x y false (same, still) came = subst (λ (r : JoinedData). Comes input old r y) (sym same) (subst (λ (os : List Output). Comes input old a os) (sym still) came)
-  moves a b x y true leaves came = record {
+-- What an event owes where the replica has to move is given where its target is this one.
+abbrev MovesAt : Entry → JoinedData → ℕ → Type 0
+MovesAt input old to =
+    (c : Configuration) (past : List Entry) (runs : Runs c old past) → members c ≡ old.desk.membership → (outputs : List Entry)
+    → target (behind (event_with c old past runs input) outputs) ≡ to → MovesOn c (me_of old) past input outputs runs.holds.of_desk.point
+
+module _ (input : Entry) (old : JoinedData) (alone : AreOne old.orderer old.desk) where
+  -- the replica may move to a later view, which others move it to
+  moves : (v : ℕ) (a b : JoinedData) (x y : List Output) (flag : Bool) → IsJoinedBy a.orderer v → ChangesView v a x b y flag → Comes input old a x → Comes input old b y
+  moves v a b x y false joined (same, still, unsaid) came =
+      subst (λ (r : JoinedData). Comes input old r y) (sym same) (subst (λ (os : List Output). Comes input old a os) (sym still) came)
+  moves v a b x y true joined leaves came = record {
     party = ones_twice old a b came.party leaves.party;
     begins = λ c past runs known. let g = came.begins c past runs known in (
-      leaves.stands c (event_with c old past runs input) (known ∙ sym came.party.membership) g.1.0 g.0,
+      leaves.stands c (event_with c old past runs input) (known ∙ sym came.party.membership) g.1.0 (inr joined) g.0,
       (leaves.voted, leaves.executed g.1.1),
       λ next. absurd (let none : true ≡ false = sym next.3 ∙ leaves.inactive in cc),
-      subst (λ (e : EndpointState). IsTakenBeside c e.me (event_with c old past runs input)) (sym leaves.party.endpoint) g.3,
+      subst (λ (e : EndpointState). IsTakenPartless c e.me (event_with c old past runs input)) (sym leaves.party.endpoint) g.3,
     );
   }
 
+  -- all that the input asks for is given then
+  answered : (a : JoinedData) (x : List Output) → Comes input old a x → MovesAt input old a.orderer.target → (c : Configuration) (past : List Entry) (runs : Runs c old past) → members c ≡ old.desk.membership → (outputs : List Entry) (executed : ℕ)
+      → target (behind (event_with c old past runs input) outputs) ≡ a.orderer.target → AnswersInput c (me_of old) past input outputs runs.holds.of_desk.point executed
+  answered a x came moved c past runs known outputs executed at =
+      let partless = subst (λ (e : EndpointState). brings_part c e.me input ≡ false) came.party.endpoint (came.begins c past runs known).3.1 in
+      let parts = others_owe_no_part c (me_of old) past input outputs runs.holds.of_desk.point executed partless in
+      (parts.0, parts.1, parts.2, parts.3, moved c past runs known outputs at)
+
   -- and may begin it
-  begins_now : (a b : JoinedData) (x y : List Output) → BeginsView a x b y → Comes input old a x → TakesInput input old touched.View b y
-  begins_now a b x y begun came = record {
+  begins_now : (a b : JoinedData) (x y : List Output) → BeginsView a x b y → Comes input old a x → MovesAt input old a.orderer.target → TakesInput input old touched.View b y
+  begins_now a b x y begun came moved = record {
     party = ones_twice old a b came.party begun.party;
     begins = λ c past runs known. let g = came.begins c past runs known in (
       begun.stands c (event_with c old past runs input) (known ∙ sym came.party.membership) g.1 g.0,
-      (begun.voted g.1, subst (λ (e : EndpointState). IsTakenBeside c e.me (event_with c old past runs input)) (sym begun.party.endpoint) g.3),
+      (
+        begun.voted g.1,
+        (
+          subst (λ (e : EndpointState). IsTaken c e.me (event_with c old past runs input)) (sym begun.party.endpoint) g.3.0,
+          λ outputs executed at. subst (λ (e : EndpointState). AnswersInput c e.me past input outputs runs.holds.of_desk.point executed) (sym (ones_twice old a b came.party begun.party).endpoint)
+              (answered a x came moved c past runs known outputs executed (at ∙ begun.target)),
+        ),
+      ),
     );
   }
 
-  rests_now : (a : JoinedData) (x : List Output) → Comes input old a x → TakesInput input old touched.Nothing a x
-  rests_now a x came = record {
+  rests_now : (a : JoinedData) (x : List Output) → Comes input old a x → MovesAt input old a.orderer.target → TakesInput input old touched.Nothing a x
+  rests_now a x came moved = record {
     party = came.party;
-    begins = λ c past runs known. let g = came.begins c past runs known in let s = event_with c old past runs input in (
+    begins = λ c past runs known. let g = came.begins c past runs known in (
       g.0,
-      (g.1, g.2, others_owe_none c (me_of a) s.before s.input (given (me_of a) x) s.old g.3.1, inr g.3.0),
+      (
+        g.1,
+        g.2,
+        subst (λ (e : EndpointState). AnswersInput c e.me past input (given e.me x) runs.holds.of_desk.point a.desk.executed.state.number) (sym came.party.endpoint)
+            (answered a x came moved c past runs known (given (me_of old) x) a.desk.executed.state.number
+            (subst (λ (m : ℕ). target (behind (event_with c old past runs input) (given m x)) ≡ a.orderer.target) (came.party.me ∙ alone.0) g.0.fits.changes.target)),
+        inr g.3.0,
+      ),
     );
   }
 
-  may_begin : (a b : JoinedData) (x y : List Output) (what : Touched) → MayBegin a x what b y → Comes input old a x → TakesInput input old what b y
-  may_begin a b x y touched.View begun came = begins_now a b x y begun came
-  may_begin a b x y touched.Nothing (same, still) came =
-      subst (λ (r : JoinedData). TakesInput input old touched.Nothing r y) (sym same) (subst (λ (os : List Output). TakesInput input old touched.Nothing a os) (sym still) (rests_now a x came))
-  may_begin a b x y touched.Waiting begun came = absurd begun
-  may_begin a b x y (touched.Row number) begun came = absurd begun
-  may_begin a b x y touched.State begun came = absurd begun
+  may_begin : (a b : JoinedData) (x y : List Output) (what : Touched) → MayBegin a x what b y → Comes input old a x → MovesAt input old a.orderer.target → TakesInput input old what b y
+  may_begin a b x y touched.View begun came moved = begins_now a b x y begun came moved
+  may_begin a b x y touched.Nothing (same, still) came moved =
+      subst (λ (r : JoinedData). TakesInput input old touched.Nothing r y) (sym same) (subst (λ (os : List Output). TakesInput input old touched.Nothing a os) (sym still) (rests_now a x came moved))
+  may_begin a b x y touched.Waiting begun came moved = absurd begun
+  may_begin a b x y (touched.Row number) begun came moved = absurd begun
+  may_begin a b x y touched.State begun came moved = absurd begun
+
+-- others may move it to their view
+pub record Joins (a : JoinedData) (x : List Output) (b : JoinedData) (y : List Output) : Type 0 where
+  pub view : ℕ
+  pub joined : IsJoinedBy a.orderer view
+  pub flag : Bool
+  pub changes : ChangesView view a x b y flag
+
+abbrev pub MayJoin : JoinedData → List Output → JoinedData → List Output → Type 0
+MayJoin a x b y = Joins a x b y ⊎ ((b ≡ a) × (y ≡ x) × IsJoinedByNone a.orderer)
 
 -- ---- it is taken
 
@@ -315,15 +403,78 @@ module _ (r : JoinedData) (x : Change) (bytes : List ℕ) (one : AreOne r.ordere
       );
     }
 
+    -- ---- the view to which others move the replica
+
+    module _ (c : Configuration) (past : List Entry) (runs : Runs c r past) (known : members c ≡ r.desk.membership) where
+      passed : Passes c (me_of r) past (Got (me_of r) bytes) r.orderer.log r.orderer.log
+      passed = passes r one bytes c past runs (change_pair x) (signed_in r one rules bytes (change_pair x) signed c past runs known)
+
+      faults_are : c.faults ≡ r.orderer.endpoint.membership.faults
+      faults_are = ap (λ (m : Membership). m.faults) (known ∙ one.1)
+
+      sought_is : sought_view c (Got (me_of r) bytes ∷ past) ≡ aimed_view with_it.orderer
+      sought_is = ap₂ (λ (a b : ℕ). max a b) passed.fits_behind.view (holds c past runs known).target
+
+      -- the views that are ahead in the history are those that are held
+      joined : AreHeldFrom (configuration_of with_it.orderer.received) 0 with_it.orderer.received.held → (v : ℕ) → HasToMove c (me_of r) past (Got (me_of r) bytes) runs.holds.of_desk.point.waiting v
+          → IsJoined r.orderer.endpoint.membership.faults (later_views (me_of r) (aimed_view with_it.orderer) with_it.orderer.received.held) v
+      joined each v (inl t) = absurd (no_time c (me_of r) (me_of r) past bytes runs.holds.of_desk.point.waiting v t)
+      joined each v (inr (taken, joins)) =
+          let f = holds c past runs known in
+          subst (λ (n : ℕ). IsJoined n (later_views (me_of r) (aimed_view with_it.orderer) with_it.orderer.received.held) v) faults_are
+          (subst (λ (t : ℕ). IsJoined c.faults (later_views (me_of r) t with_it.orderer.received.held) v) sought_is
+          (ahead_are_held c (configuration_of with_it.orderer.received) (me_of r) v (Got (me_of r) bytes ∷ past) with_it.orderer.received.held f.places each joins f.received))
+
+      -- none, where a view change for the view can't be sent
+      unsaid_move : (v : ℕ) → IsJoinedBy with_it.orderer v → IsUnsayable with_it.orderer (change_for v (entries_of r.desk.snapshots) with_it.orderer) → (outputs : List Entry)
+          → MovesOn c (me_of r) past (Got (me_of r) bytes) outputs runs.holds.of_desk.point
+      unsaid_move v by unsaid outputs other_vc other reason may within says =
+          inr (all_are_spent c (me_of r) r.orderer.log (changes_of r.orderer) past spent runs.changes)
+        where
+          at : other_vc.view ≡ v
+          at = joined_one r.orderer.endpoint.membership.faults other_vc.view v (later_views (me_of r) (aimed_view with_it.orderer) with_it.orderer.received.held) (joined by.0 other_vc.view reason) by.1
+
+          kept : map snapshot_of (kept_states r.orderer.log.low runs.holds.of_desk.point.snapshots) ≡ runs.desk.snapshots
+          kept = subst (λ (h : ℕ). map snapshot_of (kept_states h runs.holds.of_desk.point.snapshots) ≡ runs.desk.snapshots) runs.holds.of_log.fits.low runs.holds.of_desk.kept
+
+          spent : r.orderer.spent ≡ 64
+          spent =
+              unsaid_spent c (me_of r) runs.desk with_it.orderer (Got (me_of r) bytes ∷ past) runs.holds.of_desk.point passed.new v passed.fits_behind passed.goes (rests c r past runs).0 kept (holds c past runs known)
+              runs.holds.of_log.fits.own refl judge (λ y. sym ((rule r one rules bytes (change_pair x) signed c past runs known).within y))
+              (subst (λ (xs : List Snapshot). IsUnsayable with_it.orderer (change_for v (entries_of xs) with_it.orderer)) (sym runs.is_desk.snapshots) unsaid) other_vc other at may within says
+
+    -- what is owed where others move the replica
+    moved_at : (moved : JoinedData) (said : List Output) → MayJoin with_it [] moved said → MovesAt (Got (me_of r) bytes) r moved.orderer.target
+    moved_at moved said (inl j) = go j.flag j.changes
+      where
+        go : (flag : Bool) → ChangesView j.view with_it [] moved said flag → MovesAt (Got (me_of r) bytes) r moved.orderer.target
+        go true leaves c past runs known outputs at = λ other_vc other reason may within says.
+            let same = joined_one r.orderer.endpoint.membership.faults other_vc.view j.view (later_views (me_of r) (aimed_view with_it.orderer) with_it.orderer.received.held) (joined c past runs known j.joined.0 other_vc.view reason) j.joined.1 in
+            let to = leaves.target in
+            inl (omega (arith, same, to, at))
+        go false (same, still, unsaid) c past runs known outputs at = unsaid_move c past runs known j.view j.joined unsaid outputs
+    moved_at moved said (inr (same, still, none)) = λ c past runs known outputs at other_vc other reason may within says.
+        let many = (joined c past runs known none.0 other_vc.view reason).enough in
+        let few = none.1 in
+        absurd (omega (arith, many, few))
+
   -- It is held, and moves the replica on.
-  pub change_taken : (received : OrdererData) (moved new : JoinedData) (said outs : List Output) (flag : Bool) (what : Touched) → Receives (held_as x bytes) r.orderer received true
-      → ChangesView (record r { orderer = received }) [] moved said flag → MayBegin moved said what new outs → TakesBytes bytes r what new outs
-  change_taken received moved new said outs flag what receives changes begins =
-      may_begin (Got (me_of r) bytes) r moved new said outs what begins
-      (moves (Got (me_of r) bytes) r (record r { orderer = received }) moved [] said flag changes
-      (subst (λ (o : OrdererData). Comes (Got (me_of r) bytes) r (record r { orderer = o }) []) (sym receives.1) (comes receives.0)))
+  pub change_taken : (received : OrdererData) (moved new : JoinedData) (said outs : List Output) (what : Touched) → Receives (held_as x bytes) r.orderer received true
+      → MayJoin (record r { orderer = received }) [] moved said → MayBegin moved said what new outs → TakesBytes bytes r what new outs
+  change_taken received moved new said outs what receives joins begins =
+      may_begin (Got (me_of r) bytes) r one moved new said outs what begins (go joins)
+      (moved_at receives.0 moved said (subst (λ (o : OrdererData). MayJoin (record r { orderer = o }) [] moved said) receives.1 joins))
+    where
+      came : Comes (Got (me_of r) bytes) r (record r { orderer = received }) []
+      came = subst (λ (o : OrdererData). Comes (Got (me_of r) bytes) r (record r { orderer = o }) []) (sym receives.1) (comes receives.0)
+
+      go : MayJoin (record r { orderer = received }) [] moved said → Comes (Got (me_of r) bytes) r moved said
+      go (inl j) = moves (Got (me_of r) bytes) r one j.view (record r { orderer = received }) moved [] said j.flag j.joined j.changes came
+      go (inr (same, still, none)) =
+          subst (λ (a : JoinedData). Comes (Got (me_of r) bytes) r a said) (sym same)
+          (subst (λ (os : List Output). Comes (Got (me_of r) bytes) r (record r { orderer = received }) os) (sym still) came)
 
   -- Or it is refused.
   pub change_refused : (received : OrdererData) → Receives (held_as x bytes) r.orderer received false → TakesBytes bytes r touched.Nothing (record r { orderer = received }) []
   change_refused received receives =
-      subst (λ (o : OrdererData). TakesBytes bytes r touched.Nothing (record r { orderer = o }) []) (sym receives.1) (refused r one rules bytes (change_pair x) signed receives.0)
+      subst (λ (o : OrdererData). TakesBytes bytes r touched.Nothing (record r { orderer = o }) []) (sym receives.1) (refused r one rules bytes (change_pair x) signed judge receives.0)

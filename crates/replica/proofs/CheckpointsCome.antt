@@ -176,6 +176,7 @@ module _ (r : JoinedData) (one : AreOne r.orderer r.desk) (s : ℕ) (entry : Che
             (record { here = refl; none = free; sends = refl }) runs.numbers);
         said = said_on (me_of r) r.orderer.last_checkpoint past e runs.said;
         changes = changing;
+        meant = tt;
       }
 
     -- the kept states are those from the low mark on
@@ -247,7 +248,7 @@ module _ (r : JoinedData) (one : AreOne r.orderer r.desk) (s : ℕ) (entry : Che
         party = counted_party;
         begins = λ c past runs known. (
           subst (λ (due : List Message). Stands c (event_of c r past runs bytes) with_it.orderer r.desk due []) (none_now c past runs why) (stands with_it false (unstable, refl) c past runs known),
-          (rests c r past runs, runs.all, others_owe_none c (me_of r) past (Got (me_of r) bytes) [] runs.holds.of_desk.point (no_call c known).parts, inl refl),
+          (rests c r past runs, runs.all, others_owe_none c (me_of r) past (Got (me_of r) bytes) [] runs.holds.of_desk.point r.desk.executed.state.number (no_call c known).parts, inl refl),
         );
       }
         where
@@ -262,7 +263,7 @@ module _ (r : JoinedData) (one : AreOne r.orderer r.desk) (s : ℕ) (entry : Che
         party = record { endpoint = refl; me = refl; membership = refl };
         begins = λ c past runs known. (
           asked c past runs known,
-          (rests c r past runs, runs.all, others_owe_none c (me_of r) past (Got (me_of r) bytes) (given (me_of r) outs) runs.holds.of_desk.point (no_call c known).parts, inr (counts c past runs known).0),
+          (rests c r past runs, runs.all, others_owe_none c (me_of r) past (Got (me_of r) bytes) (given (me_of r) outs) runs.holds.of_desk.point r.desk.executed.state.number (no_call c known).parts, inr (counts c past runs known).0),
         );
       }
         where

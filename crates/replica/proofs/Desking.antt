@@ -1,19 +1,20 @@
 -- What a desk gives fits.
-use Rattle.std.proofs.Common.{◌≡◌, ◌≢◌, ℕ, suc, ◌+◌, Bool, true, false, cond, List, [], ◌∷◌, ◌++◌, map, filter, Some, refl, sym, ap, ◌∙◌, subst, nat_lt, eq-eqb, arith}
+use Rattle.std.proofs.Common.{◌≡◌, ◌≢◌, ℕ, suc, ◌+◌, ◌≤◌, Bool, true, false, cond, List, [], ◌∷◌, ◌++◌, map, filter, Some, refl, sym, ap, ◌∙◌, subst, nat_lt, eq-eqb, arith}
 use Rattle.std.proofs.lemmas.List.Kept.{AllPairs-filter}
 use Rattle.terms.specs.declared.parties.ClientId.{ClientId}
 use Rattle.wire.specs.Messages.{MessageData as Message}
 use Rattle.wire.specs.Words.{requests_of}
 use Rattle.reply_cache.specs.Replies.{Kept}
 use Rattle.events.specs.declared.output.Output.{Output}
-use Rattle.events.specs.Outputs.{entry_of}
+use Rattle.events.specs.declared.output.Output.TheVariants as outputs
+use Rattle.events.specs.Outputs.{entry_of, IsSentAsMeant}
 use Rattle.execution.specs.declared.running.Ran.{Ran}
 use Rattle.execution.specs.Executed.{ExecutedData, Executes, IsAfter, told, told_of}
 use Rattle.ordering.specs.Log as logs
 use Rattle.protocol.specs.System.Configuration.{Configuration, members}
 use Rattle.protocol.specs.System.Trace.{Entry, Has}
 use Rattle.protocol.specs.System.Trace.Entry.{Executed, Sent}
-use Rattle.protocol.specs.Replica.State.{State, Call, Ran as RanData, execute, kept_of, last_time, ran_in}
+use Rattle.protocol.specs.Replica.State.{State, IsState, Call, Ran as RanData, execute, kept_of, last_time, ran_in}
 use Rattle.protocol.specs.Replica.RightReplica.{reply_of, still_waiting}
 use Rattle.protocol.proofs.Words.Elements.{has_filter, has_map, has_mapped}
 use Rattle.replica_histories.specs.Desk.{Desk, snapshot_of}
@@ -27,13 +28,15 @@ use Rattle.replica_histories.proofs.Executing.{executes_fit}
 use Rattle.replica_histories.proofs.NumbersWaiting.{executions_raise}
 use Rattle.replica_histories.proofs.ChangesKept.{sent_keep, silent_keep}
 use Rattle.replica.specs.declared.waiting.WaitingRequest.{WaitingRequest}
+use Rattle.replica.specs.Keeping.{AreFew, newest_with}
 use Rattle.replica.specs.State.{OrdererData, DeskData, IsDesk}
 use Rattle.replica.specs.Waiting.{WaitingData, frames_of, is_new, forgotten}
 use Rattle.replica.specs.Flags.{FitsFlags}
 use Rattle.replica.specs.Desks.{AreCallsOf, FitsWaiting, FitsEvent, IsDeskOf, given, Stands}
 use Rattle.replica.specs.Desking.{Pays, RunsBatch, SaysReply, above_number, is_due, keeping_due, keeping_state, replies_for, reply_for, snapshots_with}
 use Rattle.replica.specs.Fetching.{closing_reached}
-use Rattle.replica.proofs.Given.{given_one}
+use Rattle.replica.proofs.Given.{GivesOne, gives_one}
+use Rattle.replica.proofs.Newest.{all_kept, all_with}
 use Rattle.replica.proofs.Parties.{same_log}
 use Rattle.replica.proofs.Flags.{flags_forgotten}
 use Rattle.replica.proofs.Staying.{changes_still, executed_beside, fits_behind, fits_on, numbers_beside, sent_beside}
@@ -47,9 +50,9 @@ pays_one d client kept before after r rest c s o known st = record {
   desk = st.desk;
   is = st.is;
   fits = fits_on c d.me s o o st.desk d.waiting (reply ∷ rest) rest before after (Sent d.me r.posts.bytes)
-      (given_one d.me before after r.output r.given_is ∙ ap (λ e. e ∷ given d.me before) r.posts.sends)
+      (gives_one c d.me before after r.output (Sent d.me r.posts.bytes) r.given_is r.posts.sends (r.posts.meant c known))
       (sent_beside c d.me reply ((256 + client.number) ∷ []) r.posts.bytes (behind s (given d.me before)) tt (r.posts.posted c known))
-      (sent_keep c d.me (behind s (given d.me before)) reply r.posts.bytes (r.posts.posted c known).says tt) (same_log o.log) refl refl refl refl st.fits
+      (sent_keep c d.me (behind s (given d.me before)) reply r.posts.bytes (r.posts.posted c known).says tt (λ signed. absurd cc)) (same_log o.log) refl refl refl refl st.fits
       (replies_fit c d.me s st.desk o.log rest (given d.me before) client.number kept r.posts.bytes (r.posts.posted c known) st.fits.fits);
 }
   where
@@ -132,7 +135,7 @@ behind_run d executed = record d {
 keeping_is : (d : DeskData) → keeping_due d ≡ record d { snapshots = snapshots_with d.period d.executed.state d.snapshots }
 keeping_is d = go (is_due d)
   where
-    go : (b : Bool) → cond b (keeping_state d) d ≡ record d { snapshots = cond b (snapshot_of d.executed.state ∷ d.snapshots) d.snapshots }
+    go : (b : Bool) → cond b (keeping_state d) d ≡ record d { snapshots = cond b (newest_with (snapshot_of d.executed.state) d.snapshots) d.snapshots }
     go true = refl
     go false = refl
 
@@ -150,6 +153,9 @@ record Run (c : Configuration) (d : DeskData) (text : List ℕ) (ran : List Ran)
   is : IsDeskOf c d desk
   ex : IsAfter c d.executed text (map told ran) executed
   number : executed.state.number ≡ suc d.executed.state.number
+  kept : snapshots_with d.period executed.state d.snapshots ≡ all_with d.period executed.state d.snapshots
+  is_state : IsState d.executed.state
+  few : c.clients ≤ 256
 
 module _ (c : Configuration) (d : DeskData) (text : List ℕ) (ran : List Ran) (executed : ExecutedData) (was : Desk) (r : Run c d text ran executed was) where
   abbrev run_desk : Desk
@@ -163,8 +169,8 @@ module _ (c : Configuration) (d : DeskData) (text : List ℕ) (ran : List Ran) (
     members_are = r.is.members_are;
     period_is = r.is.period_is;
     state = run_state;
-    snapshots = ap (λ (x : State). snapshots_behind c x was.snapshots) run_state ∙ ap (snapshots_with c.period executed.state) r.is.snapshots
-        ∙ ap (λ (n : ℕ). snapshots_with n executed.state d.snapshots) r.is.period_is;
+    snapshots = ap (λ (x : State). snapshots_behind c x was.snapshots) run_state ∙ ap (all_with c.period executed.state) r.is.snapshots
+        ∙ ap (λ (n : ℕ). all_with n executed.state d.snapshots) r.is.period_is ∙ sym r.kept;
     transfer = ap (λ (x : State). still_open x.number was.transfer) run_state ∙ ap (still_open executed.state.number) r.is.transfer ∙ above_same executed.state.number d.transfer;
     rests = rests_above d.executed.state executed.state d.transfer r.number r.is.rests;
     frames = refl;
@@ -184,7 +190,7 @@ module _ (c : Configuration) (d : DeskData) (text : List ℕ) (ran : List Ran) (
       ∙ ap (λ (ms : List Message). ms ++ checkpoint_due c (execute c was.state text)) (replies_same ran (ran_in c (suc d.executed.state.number) d.executed.state (requests_of text)) r.ex.ran)
       ∙ ap (λ (x : State). replies_for ran ++ checkpoint_due c x) run_state
 
-  module _ (s : Start) (o : OrdererData) (before after : List Output) (gives : given d.me after ≡ Executed d.me (suc was.state.number) text ∷ given d.me before)
+  module _ (s : Start) (o : OrdererData) (before after : List Output) (gives : GivesOne c d.me before after (Executed d.me (suc was.state.number) text))
       (committed : logs.committed_batch o.log (suc was.state.number) ≡ Some text) (f : FitsEvent c d.me s o was d.waiting [] before) where
     abbrev e : Entry
     e = Executed d.me (suc was.state.number) text
@@ -194,7 +200,7 @@ module _ (c : Configuration) (d : DeskData) (text : List ℕ) (ran : List Ran) (
 
     run_on : events.Fits c d.me s run_desk o.log (replies_for ran ++ checkpoint_due c executed.state) (e ∷ given d.me before)
     run_on = subst (λ (ms : List Message). events.Fits c d.me s run_desk o.log ms (e ∷ given d.me before)) run_due
-        (executes_fit c d.me s was o.log (given d.me before) text (frames_of (forgotten executed.state d.waiting)) committed (frames_behind executed.state d was.frames r.is.frames) f.fits)
+        (executes_fit c d.me s was o.log (given d.me before) text (frames_of (forgotten executed.state d.waiting)) (subst IsState (sym r.is.state) r.is_state) r.few committed (frames_behind executed.state d was.frames r.is.frames) f.fits)
 
     run_fits : FitsEvent c d.me s o run_desk (forgotten executed.state d.waiting) (replies_for ran ++ checkpoint_due c executed.state) after
     run_fits =
@@ -203,32 +209,40 @@ module _ (c : Configuration) (d : DeskData) (text : List ℕ) (ran : List Ran) (
         (changes_still c d.me s o o was run_desk [] (replies_for ran ++ checkpoint_due c executed.state) (given d.me before) e f.fits run_on
         (silent_keep c d.me past e tt) (same_log o.log) refl refl f.changes)
 
-run_stands : (d : DeskData) (executed : ExecutedData) (text : List ℕ) (ran : List Ran) (output : Output) (before after : List Output) (c : Configuration) (s : Start) (o : OrdererData) → IsAfter c d.executed text (map told ran) executed
+-- an execution is no frame
+executions_meant : (c : Configuration) (me number : ℕ) (text : List ℕ) (output : Output) → entry_of me output ≡ Executed me number text → IsSentAsMeant c me output
+executions_meant c me number text (outputs.Executed n batch) e = tt
+executions_meant c me number text (outputs.Installed n root) e = tt
+executions_meant c me number text (outputs.Send receivers frame) e = absurd cc
+executions_meant c me number text (outputs.Accepted t answer) e = tt
+
+run_stands : (d : DeskData) (executed : ExecutedData) (text : List ℕ) (ran : List Ran) (output : Output) (before after : List Output) (c : Configuration) (s : Start) (o : OrdererData) → IsDesk d → IsState d.executed.state → c.clients ≤ 256 → AreFew d.snapshots → IsAfter c d.executed text (map told ran) executed
     → executed.state.number ≡ suc d.executed.state.number → entry_of d.me output ≡ Executed d.me (suc d.executed.state.number) text → after ≡ before ++ output ∷ []
     → logs.committed_batch o.log (suc d.executed.state.number) ≡ Some text → Stands c s o d [] before
     → Stands c s o (behind_run d executed) (replies_for ran ++ checkpoint_due c executed.state) after
-run_stands d executed text ran output before after c s o ex number entry more committed st = record {
+run_stands d executed text ran output before after c s o own is_state clients few ex number entry more committed st = record {
   desk = run_desk c d text ran executed st.desk run;
   is = run_is c d text ran executed st.desk run;
   fits = run_fits c d text ran executed st.desk run s o before after
-      (given_one d.me before after output more ∙ ap (λ e. e ∷ given d.me before) (entry ∙ ap (λ (x : State). Executed d.me (suc x.number) text) (sym st.is.state)))
+      (gives_one c d.me before after output (Executed d.me (suc st.desk.state.number) text) more (entry ∙ ap (λ (x : State). Executed d.me (suc x.number) text) (sym st.is.state))
+      (executions_meant c d.me (suc d.executed.state.number) text output entry))
       (ap (λ (x : State). logs.committed_batch o.log (suc x.number)) st.is.state ∙ committed) st.fits;
 }
   where
     run : Run c d text ran executed st.desk
-    run = record { is = st.is; ex = ex; number = number }
+    run = record { is = st.is; ex = ex; number = number; kept = all_kept c s o d before text executed.state own few number committed st; is_state = is_state; few = clients }
 
 pub one_more : (n : ℕ) → n + 1 ≡ suc n
 one_more n = omega arith
 
-pub runs_batch : (old new : DeskData) (executed : ExecutedData) (text : List ℕ) (ran : List Ran) (output : Output) (before after : List Output) → new ≡ behind_run old executed → IsDesk old
+pub runs_batch : (old new : DeskData) (executed : ExecutedData) (text : List ℕ) (ran : List Ran) (output : Output) (before after : List Output) → new ≡ behind_run old executed → IsDesk old → IsState old.executed.state → old.executed.clients ≤ 256 → AreFew old.snapshots
     → Executes old.executed text (map told ran) executed → executed.state.number ≡ old.executed.state.number + 1
     → entry_of old.me output ≡ Executed old.me (suc old.executed.state.number) text → after ≡ before ++ output ∷ [] → RunsBatch old text before new (replies_for ran) after
-runs_batch old new executed text ran output before after same is runs number entry more = subst (λ (d : DeskData). RunsBatch old text before d (replies_for ran) after) (sym same) (record {
+runs_batch old new executed text ran output before after same is is_state most few runs number entry more = subst (λ (d : DeskData). RunsBatch old text before d (replies_for ran) after) (sym same) (record {
   same = refl;
   number = suc_is;
   state = λ c known. (runs c (clients c known)).state;
-  stands = λ c s o known committed st. run_stands old executed text ran output before after c s o (runs c (clients c known)) suc_is entry more committed st;
+  stands = λ c s o known committed st. run_stands old executed text ran output before after c s o is is_state (subst (λ (n : ℕ). n ≤ 256) (sym (clients c known)) most) few (runs c (clients c known)) suc_is entry more committed st;
 })
   where
     suc_is : executed.state.number ≡ suc old.executed.state.number

@@ -32,6 +32,7 @@ use Rattle.replica.specs.Waiting.{WaitingData}
 use Rattle.replica.specs.Desks.{given, FitsWaiting, FitsEvent, Stands, changes_of}
 use Rattle.replica.specs.Going.{CommitsNoMore, IsSameLog, IsSameOrderer, IsVotedAll}
 use Rattle.replica.specs.Desking.{RunsWhole, due_entry, is_due, newest_entry}
+use Rattle.replica.specs.Keeping.{newest_with}
 use Rattle.replica.specs.Checkpoints.{IsDueKept, SaysCheckpoint, SaysDueCheckpoint, Settles}
 use Rattle.replica.specs.Saying.{Says}
 use Rattle.replica.proofs.Parties.{same_party}
@@ -143,7 +144,7 @@ module _ (c : Configuration) (s : Start) (o : OrdererData) (desk : Desk) (w : Wa
       (sent_beside c me (Checkpoint entry.number entry.digest) (others c me) said.bytes past tt said.posted) f.numbers)
 
   keeps : KeepsChanges c me past (Sent me said.bytes)
-  keeps = sent_keep c me past (Checkpoint entry.number entry.digest) said.bytes said.posted.says tt
+  keeps = sent_keep c me past (Checkpoint entry.number entry.digest) said.bytes said.posted.says tt (λ signed. absurd cc)
 
   changing : FitsChanges c me (checking o entry claims).log (changes_of (checking o entry claims)) (Sent me said.bytes ∷ past)
   changing = changes_cut c me s o (checking o entry claims) desk later (Checkpoint entry.number entry.digest ∷ []) [] (given me before) (Sent me said.bytes) f.fits fitting keeps (same_checked o.log entry)
@@ -151,11 +152,12 @@ module _ (c : Configuration) (s : Start) (o : OrdererData) (desk : Desk) (w : Wa
 
   says_due : FitsEvent c me s (checking o entry claims) later w [] after
   says_due = record {
-    fits = subst (λ (es : List Entry). events.Fits c me s later (checking o entry claims).log [] es) (sym said.is) fitting;
-    numbers = subst (λ (es : List Entry). FitsWaiting c me (checking o entry claims) w later (behind s es)) (sym said.is) numbering;
-    said = λ other is. subst (λ (es : List Entry). Once (λ earlier e. IsSaying me (Checkpoint other.number other.digest) e) (behind s es)) (sym said.is)
+    fits = subst (λ (es : List Entry). events.Fits c me s later (checking o entry claims).log [] es) (sym said.is.is) fitting;
+    numbers = subst (λ (es : List Entry). FitsWaiting c me (checking o entry claims) w later (behind s es)) (sym said.is.is) numbering;
+    said = λ other is. subst (λ (es : List Entry). Once (λ earlier e. IsSaying me (Checkpoint other.number other.digest) e) (behind s es)) (sym said.is.is)
         (inl (subst (λ (z : CheckpointEntry). IsSaying me (Checkpoint z.number z.digest) (Sent me said.bytes)) (some_injective entry other is) said.posted.says));
-    changes = subst (λ (es : List Entry). FitsChanges c me (checking o entry claims).log (changes_of (checking o entry claims)) (behind s es)) (sym said.is) changing;
+    changes = subst (λ (es : List Entry). FitsChanges c me (checking o entry claims).log (changes_of (checking o entry claims)) (behind s es)) (sym said.is.is) changing;
+    meant = said.is.meant f.meant;
   }
 
 -- ---- both parts
@@ -255,7 +257,7 @@ module _ (a : JoinedData) (o : OrdererData) (n : JoinedData) (entry : Checkpoint
   says_due_checkpoint = record {
     stands = due_stands;
     party = record {
-      orderer = subst (λ (k : OrdererData). IsSameOrderer a.orderer k) (sym orderer_is) (record { endpoint = refl; log = same_checked a.orderer.log entry });
+      orderer = subst (λ (k : OrdererData). IsSameOrderer a.orderer k) (sym orderer_is) (record { endpoint = refl; log = same_checked a.orderer.log entry; target = refl });
       me = ap (λ (d : DeskData). d.me) desk_is;
       membership = ap (λ (d : DeskData). d.membership) desk_is;
     };
@@ -287,5 +289,5 @@ says_none a x kept none = record {
 pub runs_kept : (old new : DeskData) (text : List ℕ) (x y : List Output) → RunsWhole old text x new y → IsDueKept new
 runs_kept old new text x y r due =
     ap (λ (k : DeskData). newest_entry k.snapshots) r.same
-    ∙ ap (λ (b : Bool). newest_entry (cond b (snapshot_of new.executed.state ∷ old.snapshots) old.snapshots))
+    ∙ ap (λ (b : Bool). newest_entry (cond b (newest_with (snapshot_of new.executed.state) old.snapshots) old.snapshots))
     (sym (ap (λ (k : DeskData). new.executed.state.number % k.period == 0) r.same) ∙ due)

@@ -134,7 +134,7 @@ one_executed count a b d x y z f e = record {
 }
 
 executes_all : (count : ℕ) (a b : JoinedData) (x y : List Output) → ExecutesSoFar count a x b y → IsExecuted b.orderer.log b.desk → ExecutesAll a x b y
-executes_all count a b x y f none = record { proceeds = f.proceeds; party = f.party; used = f.used; waiting = f.waiting; rests = λ voted. (f.voted voted, none) }
+executes_all count a b x y f none = record { proceeds = f.proceeds; party = f.party; rises = (let at = f.number in omega (arith, at)); used = f.used; waiting = f.waiting; rests = λ voted. (f.voted voted, none) }
 
 pub executes_stop : (count : ℕ) (a b d : JoinedData) (x y z : List Output) → ExecutesSoFar count a x b y → (d ≡ b) × (z ≡ y) × IsExecuted b.orderer.log b.desk → ExecutesAll a x d z
 executes_stop count a b d x y z f (same, outs, none) =

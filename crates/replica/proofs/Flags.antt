@@ -1,5 +1,5 @@
 -- What waits, with the flags that say which of it has numbers: they stay those of the history.
-use Rattle.std.proofs.Common.{◌≡◌, ◌≢◌, ℕ, zero, suc, ◌+◌, ◌<◌, Bool, true, false, cond, not, ◌==◌, ◌||◌, ◌&&◌, nat_lt, List, [], ◌∷◌, ◌++◌, length, map, filter, take, drop, Some, refl, sym, ap, ◌∙◌, subst, AllPairs}
+use Rattle.std.proofs.Common.{◌≡◌, ◌≢◌, ℕ, zero, suc, ◌+◌, Bool, true, false, cond, not, ◌==◌, ◌||◌, ◌&&◌, nat_lt, List, [], ◌∷◌, ◌++◌, length, map, filter, take, drop, Some, refl, sym, ap, ◌∙◌, subst, AllPairs}
 use Rattle.std.proofs.lemmas.List.{take-append-drop, take_at}
 use Rattle.std.specs.Prelude.{Vec}
 use Rattle.std.specs.List.{list_all, list_any}
@@ -13,8 +13,8 @@ use Rattle.protocol.specs.System.Trace.{Entry, Has}
 use Rattle.protocol.specs.System.Trace.Entry.{Sent}
 use Rattle.protocol.specs.Replica.Certificates.{taken, are_genuine}
 use Rattle.protocol.specs.Replica.State.{State, Call, call_of, last_time}
-use Rattle.protocol.specs.Replica.RightReplica.{is_newer, with_waiting, still_waiting}
-use Rattle.protocol.specs.Replica.Owed.{IsFree, IsNumbered, NumbersOnce}
+use Rattle.protocol.specs.Replica.RightReplica.{is_newer, with_waiting, still_waiting, IsFree}
+use Rattle.protocol.specs.Replica.Owed.{IsNumbered, NumbersOnce}
 use Rattle.replica_histories.specs.Numbers.{FitsNumbers, Waiting, BegunCall as HistoryCall, calls_of, AreCalls, KeepsNumbers, NoneFalls, AreOfNoLaterView, begun_in, arrived, still_entries, entries_with, IsNextFree}
 use Rattle.replica_histories.specs.Numbers as numbers
 use Rattle.replica_histories.proofs.Numbers.{first_numbers_fit, numbers_are_given}
@@ -186,11 +186,11 @@ flags_waiting c me v used w st calls history client timestamp frame x h of_clien
 
 -- the oldest without a number get one
 pub flags_numbered : (c : Configuration) (me v used i : ℕ) (w : WaitingData) (st : State) (calls : List Call) (batch bytes : List ℕ) (past : List Entry) → AreCallsOf c w.requests calls
-    → primary c v ≡ me → used < i → are_genuine c me batch ≡ true → requests_of batch ≡ texts (unnumbered w)
+    → primary c v ≡ me → IsFree c me past st.number v i → are_genuine c me batch ≡ true → requests_of batch ≡ texts (unnumbered w)
     → said bytes ≡ Some (record { sender = me; message = PrePrepare v i batch })
     → FitsFlags c me v used w st calls past
     → NumbersOnce c me past (Sent me bytes) × FitsFlags c me v i (with_numbered (length (unnumbered w)) w) st calls (Sent me bytes ∷ past)
-flags_numbered c me v used i w st calls batch bytes past h own above genuine reads says f = (
+flags_numbered c me v used i w st calls batch bytes past h own free genuine reads says f = (
   given.0,
   subst (λ (ws : List Waiting). FitsNumbers c me v i (begun_of w.begun) ws st calls (Sent me bytes ∷ past)) (sym (flagged_numbered c (length (unnumbered w)) w.requests calls h)) given.1,
 )
@@ -211,7 +211,7 @@ flags_numbered c me v used i w st calls batch bytes past h own above genuine rea
         (are_calls c (unnumbered w) (calls_of (take (length (unnumbered w)) (numbers.unnumbered (flagged w.requests calls)))) these)
 
     given : NumbersOnce c me past (Sent me bytes) × FitsNumbers c me v i (begun_of w.begun) (numbers.with_numbered (length (unnumbered w)) (flagged w.requests calls)) st calls (Sent me bytes ∷ past)
-    given = numbers_fit c me v used i (length (unnumbered w)) (begun_of w.begun) (flagged w.requests calls) st calls batch bytes past own above genuine spells says f
+    given = numbers_fit c me v used i (length (unnumbered w)) (begun_of w.begun) (flagged w.requests calls) st calls batch bytes past own free genuine spells says f
 
 -- a view begins
 pub flags_begun : (c : Configuration) (me : ℕ) (w : WaitingData) (begun : List BegunCall) (st : State) (calls : List Call) (past : List Entry) (e : Entry) (new : NewViewData)

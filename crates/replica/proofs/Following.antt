@@ -11,7 +11,7 @@ use Rattle.protocol.specs.Replica.State.{State, pages_of}
 use Rattle.protocol.proofs.Words.Options.{some_injective}
 use Rattle.replica_histories.specs.Desk.{Desk}
 use Rattle.replica_histories.specs.Events.{Start, behind}
-use Rattle.replica_histories.specs.Transfers.{MayAsk, open_number, transfer_to}
+use Rattle.replica_histories.specs.Transfers.{MayAsk, AsksNext, open_number, transfer_to}
 use Rattle.replica_histories.proofs.Fetching.{quorums_may_ask}
 use Rattle.replica_histories.proofs.TransfersInstalling.{started_rests}
 use Rattle.replica.specs.State.{OrdererData, OpenData, DeskData}
@@ -71,8 +71,9 @@ module _ (c : Configuration) (s : Start) (o : OrdererData) (d : DeskData) (desk 
 
   may_ask : (due : List Message) → 2 * o.log.faults + 1 ≤ logs.count_checkpoints o.log entry → o.log.low < entry.number → aimed_at d < entry.number → FitsEvent c o.endpoint.me s o desk w due before
       → MayAsk c o.endpoint.me (aim_of entry d).transfer desk.state.number (behind s (given o.endpoint.me before))
+      × AsksNext c o.endpoint.me (aim_of entry d).transfer desk.state (behind s (given o.endpoint.me before))
   may_ask due enough over ahead f =
-      subst (λ (t : TransferData). MayAsk c o.endpoint.me t desk.state.number (behind s (given o.endpoint.me before)))
+      subst (λ (t : TransferData). MayAsk c o.endpoint.me t desk.state.number (behind s (given o.endpoint.me before)) × AsksNext c o.endpoint.me t desk.state (behind s (given o.endpoint.me before)))
       (ap (λ (t : Option TransferData). transfer_to t entry.number entry.digest (pages_of d.executed.state)) is.transfer ∙ opened_same d.executed.state d.transfer entry)
       (quorums_may_ask c o.endpoint.me s desk o.log due (given o.endpoint.me before) entry (pages_of d.executed.state) enough over
       (subst (λ (n : ℕ). n < entry.number) (sym (aimed_is c d desk is)) ahead) f.fits)
@@ -83,6 +84,7 @@ module _ (c : Configuration) (s : Start) (o : OrdererData) (d : DeskData) (desk 
       → FitsEvent c o.endpoint.me s o (record desk { transfer = Some (aim_of entry d).transfer }) w rest after
   aims rest known enough over ahead says f =
       let root = sym (asks_root d.executed.state d.transfer entry) in
+      let asking = may_ask (Fetch entry.number levels.Root 0 ∷ rest) enough over ahead f in
       asks_due c s o desk w before after (aim_of entry d).transfer known (subst (λ (m : Message). Says o m before after) root says) rest
-      (may_ask (Fetch entry.number levels.Root 0 ∷ rest) enough over ahead f)
+      asking.0 asking.1
       (subst (λ (m : Message). FitsEvent c o.endpoint.me s o desk w (m ∷ rest) before) root f)

@@ -4,9 +4,11 @@ use Rattle.std.proofs.lemmas.Bool.{eqb-false}
 use Rattle.events.specs.declared.output.Output.{Output}
 use Rattle.ordering.specs.Log.{LogData}
 use Rattle.replica.specs.State.{OrdererData, JoinedData, AreOne}
-use Rattle.replica.specs.Desks.{FitsEvent}
+use Rattle.protocol.specs.System.Configuration.{Configuration, members}
+use Rattle.replica_histories.specs.Events.{Start}
+use Rattle.replica.specs.Desks.{FitsEvent, Stands}
 use Rattle.replica.specs.Going.{Proceeds, ExecutesAll, GoesOnWith, GoesOn, IsVoted, IsVotedBut, IsVotedAll}
-use Rattle.replica.specs.Saying.{SaysVotes}
+use Rattle.replica.specs.Saying.{GoesAgain, SaysVotes}
 use Rattle.replica.proofs.Parties.{orderers_twice}
 
 -- what the orderer says stands on the same desk
@@ -16,6 +18,16 @@ said_stands a o x y one goes c s known st = record {
   is = st.is;
   fits = subst (λ (m : ℕ). FitsEvent c m s o st.desk a.desk.waiting [] y) (sym one.0)
       (goes c s st.desk a.desk.waiting [] (known ∙ one.1) (subst (λ (m : ℕ). FitsEvent c m s a.orderer st.desk a.desk.waiting [] x) one.0 st.fits));
+}
+
+-- what is said again, from the event's beginning on
+pub again_stands : (a : JoinedData) (y : List Output) → AreOne a.orderer a.desk → GoesAgain 0 a.orderer [] a.orderer y → (c : Configuration) (s : Start) → members c ≡ a.desk.membership → Stands c s a.orderer a.desk [] []
+    → Stands c s a.orderer a.desk [] y
+again_stands a y one goes c s known st = record {
+  desk = st.desk;
+  is = st.is;
+  fits = subst (λ (m : ℕ). FitsEvent c m s a.orderer st.desk a.desk.waiting [] y) (sym one.0)
+      (goes c s st.desk a.desk.waiting (known ∙ one.1) tt (subst (λ (m : ℕ). FitsEvent c m s a.orderer st.desk a.desk.waiting [] []) one.0 st.fits));
 }
 
 -- where it asks for votes of one number alone, and these are said, it asks for none
@@ -35,6 +47,7 @@ goes_on_with number a o d x y z one v e = record {
     me = e.party.me;
     membership = e.party.membership;
   };
+  rises = e.rises;
   used = e.used ∙ v.says.used;
   waiting = e.waiting;
   rests = λ but. e.rests (voted but);

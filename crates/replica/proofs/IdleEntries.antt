@@ -11,7 +11,7 @@ use Rattle.protocol.specs.System.Trace.{Entry, Once, Has, frames_in}
 use Rattle.protocol.specs.System.Trace.Entry.{Invoke, Got, Tick, Executed, Installed, Sent, Accepted}
 use Rattle.protocol.specs.Replica.Selection.{change_in, signed_change, is_within}
 use Rattle.protocol.specs.Replica.Certificates.{new_view_from, change_from, checkpoint_from, batch_from, prepare_from, commit_from, view}
-use Rattle.protocol.specs.Replica.Owed.{place_from, fetch_sent, asked_last}
+use Rattle.protocol.specs.Replica.Transfers.{place_from, fetch_sent, asked_last}
 use Rattle.protocol.proofs.Words.Linking.{heard_said, signed_said}
 use Rattle.protocol.specs.System.Reads.{is_beside, without_reads}
 use Rattle.replica.specs.Reads.{is_read_reply, is_read_request}

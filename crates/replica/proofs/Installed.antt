@@ -1,7 +1,8 @@
 -- The state that was fetched is installed.
-use Rattle.std.proofs.Common.{◌≡◌, ◌≢◌, ℕ, ◌<◌, ◌^◌, true, List, [], ◌∷◌, Option, Some, None, option_map, refl, sym, ap, ◌∙◌, subst}
+use Rattle.std.proofs.Common.{◌≡◌, ◌≢◌, ℕ, ◌<◌, ◌^◌, true, List, [], ◌∷◌, Option, Some, None, refl, sym, ap, ◌∙◌, subst, ◌≤◌, arith}
 use Rattle.std.proofs.lemmas.List.Kept.{AllPairs-filter}
 use Rattle.terms.specs.declared.order.Number.{Number}
+use Rattle.wire.specs.Lists.{Each}
 use Rattle.wire.specs.Messages.{CheckpointEntryData as CheckpointEntry}
 use Rattle.events.specs.declared.output.Output.{Output}
 use Rattle.events.specs.declared.output.Output.TheVariants as outputs
@@ -20,7 +21,7 @@ use Rattle.replica_histories.specs.Events as events
 use Rattle.replica_histories.specs.Events.{Start, behind}
 use Rattle.replica_histories.specs.Changes.{CutsClaims}
 use Rattle.replica_histories.specs.Outputs.{installed_desk}
-use Rattle.replica_histories.specs.Transfers.{FitsOpen, RestsOn}
+use Rattle.replica_histories.specs.Transfers.{MayAsk, RestsOn}
 use Rattle.replica_histories.proofs.Cutting.{cut_low}
 use Rattle.replica_histories.proofs.Installing.{installations_fit}
 use Rattle.replica_histories.proofs.ChangesKept.{silent_keep}
@@ -36,16 +37,20 @@ use Rattle.replica.specs.Marking.{MovesMarks}
 use Rattle.replica.specs.Joined.{me_of}
 use Rattle.replica.proofs.Desking.{calls_behind, frames_behind}
 use Rattle.replica.proofs.DueCheckpoints.{same_cut, cut_voted}
-use Rattle.replica.proofs.Given.{given_one}
-use Rattle.replica_histories.proofs.Reaching.{reached_open}
+use Rattle.replica.proofs.Given.{GivesOne, gives_one}
+use Rattle.replica_histories.proofs.Reaching.{reached_asking}
+use Rattle.replica.proofs.Newest.{below_next, kept_alone}
 use Rattle.replica.proofs.Flags.{flags_forgotten}
 use Rattle.replica.proofs.Staying.{changes_cut, fits_behind, installed_beside, numbers_alike, numbers_beside}
 
--- All that the open transfer holds has the root that is wanted, and it rests on the executed state.
+-- All that the transfer holds has the root that is wanted, it rests on the executed state, and may ask; so far the event
+-- fits with this one open.
 pub record IsFetched (c : Configuration) (s : Start) (a : JoinedData) (desk : Desk) (m : OpenData) (before : List Output) : Type 0 where
   pub is_open : a.desk.transfer ≡ Some m
   pub is : IsDeskOf c a.desk desk
-  pub fits : FitsEvent c (me_of a) s a.orderer desk a.desk.waiting [] before
+  pub open_one : Option TransferData
+  pub fits : FitsEvent c (me_of a) s a.orderer (record desk { transfer = open_one }) a.desk.waiting [] before
+  pub may : MayAsk c (me_of a) m.transfer desk.state.number (behind s (given (me_of a) before))
   pub rests : RestsOn m.transfer a.desk.executed.state
   pub root : root_of_pages m.transfer.held ≡ m.transfer.root
 
@@ -53,7 +58,7 @@ pub record IsFetched (c : Configuration) (s : Start) (a : JoinedData) (desk : De
 abbrev with_state : State → ℕ → DeskData → DeskData
 with_state st low d = record d {
   executed = record d.executed { state = st };
-  snapshots = kept_from low (snapshot_of st ∷ d.snapshots);
+  snapshots = kept_from low (snapshot_of st ∷ []);
   transfer = None;
   waiting = forgotten st d.waiting;
 }
@@ -70,6 +75,7 @@ cut_orderer number claims o = record o { log = logs.cut_to o.log number; claims 
 record IsInstalled (a : JoinedData) (m : OpenData) (number : Number) (root : List ℕ) (st : State) (b : JoinedData) : Type 0 where
   has : HasPagesAt m.transfer.number m.transfer.held st
   falls : NoneFalls a.desk.executed.state st
+  below : Each (λ x. x.number ≤ a.desk.executed.state.number) a.desk.snapshots
   number_is : number.0 ≡ m.transfer.number
   root_is : root ≡ m.transfer.root
   claims : ClaimsData
@@ -80,9 +86,10 @@ record IsInstalled (a : JoinedData) (m : OpenData) (number : Number) (root : Lis
   }
 
 module _ (c : Configuration) (s : Start) (a : JoinedData) (desk : Desk) (m : OpenData) (before after : List Output) (st : State)
-    (g : IsFetched c s a desk m before) (has : HasPagesAt m.transfer.number m.transfer.held st) (falls : NoneFalls a.desk.executed.state st) (voted : IsVotedAll a.orderer.log)
+    (g : IsFetched c s a desk m before) (has : HasPagesAt m.transfer.number m.transfer.held st) (falls : NoneFalls a.desk.executed.state st)
+    (below : Each (λ x. x.number ≤ a.desk.executed.state.number) a.desk.snapshots) (voted : IsVotedAll a.orderer.log)
     (claims : ClaimsData) (cuts : CutsClaims (logs.cut_to a.orderer.log m.transfer.number).low a.orderer.claims claims)
-    (gives : given (me_of a) after ≡ Installed (me_of a) m.transfer.number m.transfer.root ∷ given (me_of a) before) where
+    (gives : GivesOne c (me_of a) before after (Installed (me_of a) m.transfer.number m.transfer.root)) where
   abbrev me : ℕ
   me = a.orderer.endpoint.me
 
@@ -98,20 +105,17 @@ module _ (c : Configuration) (s : Start) (a : JoinedData) (desk : Desk) (m : Ope
   abbrev frames : List (List ℕ)
   frames = frames_of (forgotten st a.desk.waiting)
 
+  abbrev open_desk : Desk
+  open_desk = record desk { transfer = g.open_one }
+
   abbrev later : Desk
   later = installed_desk desk st frames
-
-  known_open : desk.transfer ≡ Some m.transfer
-  known_open = g.is.transfer ∙ ap (option_map (λ (x : OpenData). x.transfer)) g.is_open
-
-  opened : FitsOpen c me (Some m.transfer) desk.state.number past
-  opened = subst (λ (t : Option TransferData). FitsOpen c me t desk.state.number past) known_open g.fits.fits.of_desk.opened
 
   small : m.transfer.number < 2 ^ 48
   small = subst (λ (n : ℕ). n < 2 ^ 48) has.number has.state.space.few
 
   low_is : cut.low ≡ st.number
-  low_is = cut_low a.orderer.log m.transfer.number (reached_open c me a.orderer.log.low desk.state.number (Some m.transfer) past g.fits.fits.low opened) ∙ sym has.number
+  low_is = cut_low a.orderer.log m.transfer.number (reached_asking c me a.orderer.log.low desk.state.number m.transfer past g.fits.fits.low g.may) ∙ sym has.number
 
   rests_here : RestsOn m.transfer desk.state
   rests_here = subst (λ (x : State). RestsOn m.transfer x) (sym g.is.state) g.rests
@@ -120,7 +124,7 @@ module _ (c : Configuration) (s : Start) (a : JoinedData) (desk : Desk) (m : Ope
   falls_here = subst (λ (x : State). NoneFalls x st) (sym g.is.state) falls
 
   fitting : events.Fits c me s later cut [] (e ∷ given me before)
-  fitting = installations_fit c me s desk a.orderer.log (given me before) m.transfer st frames known_open rests_here g.root has.state has.number has.pages small
+  fitting = installations_fit c me s open_desk a.orderer.log (given me before) m.transfer st frames g.may rests_here g.root has.state has.number has.pages small falls_here
       (λ i. (voted i).0) (λ i. (voted i).1) (frames_behind st a.desk desk.frames g.is.frames) g.fits.fits
 
   abbrev new : OrdererData
@@ -129,19 +133,29 @@ module _ (c : Configuration) (s : Start) (a : JoinedData) (desk : Desk) (m : Ope
   numbering : FitsWaiting c me new (forgotten st a.desk.waiting) later (e ∷ past)
   numbering = numbers_alike c me (forgotten st a.desk.waiting) a.orderer new later (e ∷ past) (same_cut a.orderer.log m.transfer.number) refl
       (λ own. flags_forgotten c me a.orderer.log.view a.orderer.used a.desk.waiting desk.state st desk.waiting (e ∷ past) g.is.waiting falls_here
-      (numbers_beside c me a.desk.waiting a.orderer desk past e g.fits.fits.of_log.faults g.fits.fits.of_log.own
+      (numbers_beside c me a.desk.waiting a.orderer open_desk past e g.fits.fits.of_log.faults g.fits.fits.of_log.own
       (installed_beside c me m.transfer.number m.transfer.root past) g.fits.numbers own))
 
   installed_fits : FitsEvent c me s new later (forgotten st a.desk.waiting) [] after
-  installed_fits = fits_behind c me s a.orderer new desk later a.desk.waiting (forgotten st a.desk.waiting) [] [] before after e gives refl g.fits fitting numbering
-      (changes_cut c me s a.orderer new desk later [] [] (given me before) e g.fits.fits fitting (silent_keep c me past e tt) (same_cut a.orderer.log m.transfer.number) cuts refl g.fits.changes)
+  installed_fits = fits_behind c me s a.orderer new open_desk later a.desk.waiting (forgotten st a.desk.waiting) [] [] before after e gives refl g.fits fitting numbering
+      (changes_cut c me s a.orderer new open_desk later [] [] (given me before) e g.fits.fits fitting (silent_keep c me past e tt) (same_cut a.orderer.log m.transfer.number) cuts refl g.fits.changes)
+
+  -- what was kept before is below the low mark
+  all_below : Each (λ x. x.number < cut.low) a.desk.snapshots
+  all_below = below_next a.desk.executed.state.number cut.low a.desk.snapshots ahead below
+    where
+      ahead : a.desk.executed.state.number < cut.low
+      ahead =
+          let above = g.may.ahead in let at = ap (λ (x : State). x.number) g.is.state in let low = low_is in let number = has.number in
+          omega (arith, above, at, low, number)
 
   installed_is : IsDeskOf c (with_state st cut.low a.desk) later
   installed_is = record {
     members_are = g.is.members_are;
     period_is = g.is.period_is;
     state = refl;
-    snapshots = ap (λ (n : ℕ). kept_from n (snapshot_of st ∷ desk.snapshots)) (sym low_is) ∙ ap (λ (xs : List Snapshot). kept_from cut.low (snapshot_of st ∷ xs)) g.is.snapshots;
+    snapshots = ap (λ (n : ℕ). kept_from n (snapshot_of st ∷ desk.snapshots)) (sym low_is) ∙ ap (λ (xs : List Snapshot). kept_from cut.low (snapshot_of st ∷ xs)) g.is.snapshots
+        ∙ kept_alone cut.low (snapshot_of st) a.desk.snapshots all_below;
     transfer = refl;
     rests = λ x there. none_some x _ there;
     frames = refl;
@@ -159,9 +173,10 @@ same_open x y e = some_injective x y e
 
 installs_so : (a b : JoinedData) (d : DeskData) (m : OpenData) (number : Number) (root : List ℕ) → a.desk.transfer ≡ Some m → Installs a.desk d (Some (entry_for number root)) → MovesMarks number.0 (record a { desk = d }) b
     → IsInstalled a m number root d.executed.state b
-installs_so a b d m number root there (o, is_open, entry_is, has, falls, d_is) (x, (claims, cuts, x_is), moves) = record {
+installs_so a b d m number root there (o, is_open, entry_is, has, falls, d_is, below) (x, (claims, cuts, x_is), moves) = record {
   has = subst (λ (y : OpenData). HasPagesAt y.transfer.number y.transfer.held d.executed.state) same has;
   falls = falls;
+  below = below;
   number_is = at;
   root_is = ap (λ (y : CheckpointEntry). y.digest) entry_is ∙ ap (λ (y : OpenData). y.transfer.root) same;
   claims = claims;
@@ -179,7 +194,13 @@ installs_so a b d m number root there (o, is_open, entry_is, has, falls, d_is) (
     at = ap (λ (x : CheckpointEntry). x.number) entry_is ∙ ap (λ (x : OpenData). x.transfer.number) same
 
 installed_party : (a : JoinedData) (n : ℕ) (claims : ClaimsData) (st : State) (low : ℕ) → IsSameParty a (record a { orderer = cut_orderer n claims a.orderer; desk = with_state st low a.desk })
-installed_party a n claims st low = record { orderer = record { endpoint = refl; log = same_cut a.orderer.log n }; me = refl; membership = refl }
+installed_party a n claims st low = record { orderer = record { endpoint = refl; log = same_cut a.orderer.log n; target = refl }; me = refl; membership = refl }
+
+-- The number of what was fetched is reached.
+pub number_reached : (a b : JoinedData) (m : OpenData) (before after : List Output) → a.desk.transfer ≡ Some m → InstallsFetched a before b after true → b.desk.executed.state.number ≡ m.transfer.number
+number_reached a b m before after there (d, number, root, installs, gives, moves) =
+    let i = installs_so a b d m number root there installs moves in
+    ap (λ (r : JoinedData). r.desk.executed.state.number) i.new_is ∙ i.has.number
 
 -- The party is the same.
 pub moved_party : (a b : JoinedData) (m : OpenData) (before after : List Output) → a.desk.transfer ≡ Some m → InstallsFetched a before b after true → IsSameParty a b
@@ -193,14 +214,15 @@ pub installs_fetched : (c : Configuration) (s : Start) (a b : JoinedData) (desk 
 installs_fetched c s a b desk m before after one g voted (d, number, root, installs, gives, moves) =
     let i = installs_so a b d m number root g.is_open installs moves in
     let st = d.executed.state in
-    let is : given (me_of a) after ≡ Installed (me_of a) m.transfer.number m.transfer.root ∷ given (me_of a) before = given_one (me_of a) before after (outputs.Installed number root) gives
-    ∙ ap (λ (n : ℕ). Installed (me_of a) n root ∷ given (me_of a) before) i.number_is ∙ ap (λ (r : List ℕ). Installed (me_of a) m.transfer.number r ∷ given (me_of a) before) i.root_is in
+    let is : GivesOne c (me_of a) before after (Installed (me_of a) m.transfer.number m.transfer.root) =
+    gives_one c (me_of a) before after (outputs.Installed number root) (Installed (me_of a) m.transfer.number m.transfer.root) gives
+    (ap (λ (n : ℕ). Installed (me_of a) n root) i.number_is ∙ ap (λ (r : List ℕ). Installed (me_of a) m.transfer.number r) i.root_is) tt in
     subst (λ (r : JoinedData). Stands c s r.orderer r.desk [] after × IsVotedAll r.orderer.log) (sym i.new_is) (
       record {
         desk = installed_desk desk st (frames_of (forgotten st a.desk.waiting));
-        is = installed_is c s a desk m before after st g i.has i.falls voted i.claims i.cuts is;
+        is = installed_is c s a desk m before after st g i.has i.falls i.below voted i.claims i.cuts is;
         fits = subst (λ (k : ℕ). FitsEvent c k s (cut_orderer m.transfer.number i.claims a.orderer) (installed_desk desk st (frames_of (forgotten st a.desk.waiting))) (forgotten st a.desk.waiting) [] after)
-            (sym one.0) (installed_fits c s a desk m before after st g i.has i.falls voted i.claims i.cuts is);
+            (sym one.0) (installed_fits c s a desk m before after st g i.has i.falls i.below voted i.claims i.cuts is);
       },
       cut_voted a.orderer.log m.transfer.number g.fits.fits.of_log.is_log voted,
     )

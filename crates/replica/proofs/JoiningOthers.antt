@@ -1,12 +1,13 @@
 -- The view that others move a replica to.
-use Rattle.std.proofs.Common.{◌≡◌, ℕ, ◌<◌, ◌^◌, inl, inr, Bool, true, false, not, ◌&&◌, ◌==◌, List, [], ◌∷◌, Option, Some, None, nat_lt, map, refl, subst}
+use Rattle.std.proofs.Common.{◌≡◌, ℕ, ◌≤◌, ◌<◌, length, inl, inr, Bool, true, false, not, ◌&&◌, ◌==◌, List, [], ◌∷◌, Option, Some, None, nat_lt, map, refl, ◌∙◌, subst}
 use Rattle.std.specs.Bool.{then_some}
-use Rattle.std.proofs.lemmas.Bool.{and_parts, ltb-true, lt-ltb}
+use Rattle.std.proofs.lemmas.Bool.{and_parts, ltb-true}
 use Rattle.protocol.specs.System.Trace.{Has}
 use Rattle.protocol.specs.Replica.Selection.{list_of}
-use Rattle.view_change.specs.ReceivedData.{HeldData, later_view, later_views}
-use Rattle.replica.specs.State.{OrdererData}
-use Rattle.replica.specs.Changing.{IsNextView, aimed_view}
+use Rattle.view_change.specs.ReceivedData.{HeldData, later_view, later_views, IsJoined}
+use Rattle.view_change.specs.ReceivedView.{AreReceived}
+use Rattle.replica.specs.State.{OrdererData, IsOrderer}
+use Rattle.replica.specs.Changing.{IsJoinedBy, IsJoinedByNone, aimed_view}
 
 -- a later view is above the target
 pub later_above : (me target view : ℕ) (held : List (Option HeldData)) → Has (λ w. w ≡ view) (later_views me target held) → target < view
@@ -20,5 +21,20 @@ later_above me target view (Some h ∷ held) has = go (later_above me target vie
     go rest true is (inl same) = subst (λ (v : ℕ). target < v) same (ltb-true target h.change.view (and_parts (not (h.sender == me)) (nat_lt target h.change.view) is).1)
     go rest true is (inr has) = rest has
 
-pub number_is_next : (o : OrdererData) (view : ℕ) → aimed_view o < view → view < 2 ^ 48 → IsNextView o view
-number_is_next o view above below = (above, lt-ltb view (2 ^ 48) below)
+-- it is joined
+pub joined_by : (o : OrdererData) (me t v : ℕ) → IsOrderer o → AreReceived o.received → me ≡ o.log.me → t ≡ aimed_view o → IsJoined o.received.sizes.faults (later_views me t o.received.held) v → IsJoinedBy o v
+joined_by o me t v own are mine aimed joined = (
+  are.each,
+  subst (λ (n : ℕ). IsJoined n (later_views o.endpoint.me (aimed_view o) o.received.held) v) own.3
+      (subst (λ (n : ℕ). IsJoined o.received.sizes.faults (later_views n (aimed_view o) o.received.held) v) (mine ∙ own.0)
+      (subst (λ (n : ℕ). IsJoined o.received.sizes.faults (later_views me n o.received.held) v) aimed joined)),
+)
+
+-- or none is
+pub joined_by_none : (o : OrdererData) (me t : ℕ) → IsOrderer o → AreReceived o.received → me ≡ o.log.me → t ≡ aimed_view o → length (later_views me t o.received.held) ≤ o.received.sizes.faults → IsJoinedByNone o
+joined_by_none o me t own are mine aimed few = (
+  are.each,
+  subst (λ (n : ℕ). length (later_views o.endpoint.me (aimed_view o) o.received.held) ≤ n) own.3
+      (subst (λ (n : ℕ). length (later_views n (aimed_view o) o.received.held) ≤ o.received.sizes.faults) (mine ∙ own.0)
+      (subst (λ (n : ℕ). length (later_views me n o.received.held) ≤ o.received.sizes.faults) aimed few)),
+)

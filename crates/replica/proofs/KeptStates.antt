@@ -1,15 +1,21 @@
 -- The states that are kept, those of a number among them, and their parts.
-use Rattle.std.proofs.Common.{◌≡◌, ◌≢◌, ℕ, zero, suc, ◌<◌, ◌⊎◌, Bool, true, false, cond, inl, inr, List, [], ◌∷◌, length, map, filter, get_or, refl, sym, ap, ◌∙◌, subst, arith, nat_le}
+use Rattle.std.proofs.Common.{◌≡◌, ◌≢◌, ℕ, zero, suc, ◌<◌, ◌⊎◌, Bool, true, false, cond, inl, inr, ◌≤◌, List, [], ◌∷◌, length, map, filter, get_or, refl, sym, ap, ◌∙◌, subst, arith, nat_le}
 use Rattle.std.specs.Prelude.{slice_index_or}
 use Rattle.terms.specs.declared.state.Level.{Level}
 use Rattle.terms.specs.declared.state.Level.TheVariants as levels
 use Rattle.wire.specs.Lists.{Each}
-use Rattle.wire.specs.Messages.{meta as Meta, page as Page}
+use Rattle.wire.specs.Messages.{MessageData as Message, meta as Meta, page as Page}
+use Rattle.wire.specs.Spelling.{last_index}
+use Rattle.posting.specs.Endpoint.{FitsFrame}
 use Rattle.partition_tree.specs.Levels.{children_of}
+use Rattle.execution.proofs.Measuring.{pages_are_short}
+use Rattle.execution.proofs.Renewing.{page_there}
 use Rattle.protocol.specs.System.Trace.{Has}
+use Rattle.protocol.specs.Replica.State.{State, IsState, pages_of}
 use Rattle.replica_histories.specs.Desk.{Snapshot, kept_from}
 use Rattle.replica_histories.specs.TransfersAnswers.{answer_by}
 use Rattle.replica.specs.declared.snapshots.KeptState.{KeptState}
+use Rattle.replica.specs.Keeping.{HaveShortPages}
 use Rattle.replica.specs.SnapshotsView.{kept_data}
 
 -- those from a low mark on
@@ -49,3 +55,17 @@ pub page_answer : (pages : List (List ℕ)) (k : ℕ) (level : Level) (index at 
     → Page k index text ≡ answer_by pages k level index
 page_answer pages k level index at text is same text_is =
     subst (λ (l : Level). Page k index text ≡ answer_by pages k l index) (sym is) (ap (Page k index) (text_is ∙ ap (λ (i : ℕ). slice_index_or pages i []) same))
+
+-- ---- the lengths of pages
+
+pub pages_short : (st : State) → IsState st → HaveShortPages (pages_of st)
+pages_short st is i below = subst (λ (text : List ℕ). length text ≤ 66048) (sym (page_there st i below)) (pages_are_short st i is)
+
+-- a page that is short fits a frame
+pub page_fits : (pages : List (List ℕ)) (m : Message) (k : ℕ) (level : Level) (index at : ℕ) (text : List ℕ) → HaveShortPages pages → m ≡ Page k index text → level ≡ levels.Page → index ≤ last_index level
+    → at ≡ index → text ≡ slice_index_or pages at [] → FitsFrame m
+page_fits pages m k level index at text short says is within same text_is =
+    let last : index ≤ 1023 = subst (λ (l : Level). index ≤ last_index l) is within in
+    let l = short at (omega (arith, last, same)) in
+    let e = ap length text_is in
+    subst FitsFrame (sym says) (omega (arith, l, e))

@@ -9,6 +9,7 @@ pub mod Voting
 pub mod Again
 pub mod Checkpointing
 pub mod KeptStates
+pub mod Newest
 pub mod Closing
 pub mod Desking
 pub mod WaitingKept
@@ -37,7 +38,9 @@ pub mod ReadsCome
 pub mod Reacting
 pub mod Ticking
 pub mod ChangingViews
+pub mod Unsayable
 pub mod JoiningOthers
+pub mod Batches
 pub mod ChangesCome
 pub mod EnteringViews
 pub mod NewViews
@@ -54,3 +57,4 @@ pub mod ReadsBeside
 pub mod ReadsDropped
 pub mod ReadsLead
 pub mod PartsLead
+pub mod Prompt

@@ -1,15 +1,12 @@
 -- New views that are said again, and texts that are batches.
-use Rattle.std.proofs.Common.{◌≡◌, ℕ, Bool, true, false, not, ◌==◌, List, [], ◌∷◌, ◌++◌, length, map, Bor, Vec, Option, Some, None, Result, Ok, Err, IfOk, IfSome, MatchOption, refl, sym, ap, ◌∙◌, subst, append_assoc, arith}
+use Rattle.std.proofs.Common.{◌≡◌, ℕ, true, false, List, [], ◌∷◌, ◌++◌, length, map, Vec, Option, Some, None, Result, Ok, Err, IfOk, IfSome, MatchOption, refl, sym, ap, ◌∙◌, subst, append_assoc, arith}
 use Rattle.std.specs.Arc.{arc_value}
 use Rattle.std.specs.Option.{option_map_or}
 use Rattle.std.specs.declared.alloc.Global.{Global}
 use Rattle.std.specs.declared.sync.Arc.{Arc}
 use Rattle.std.proofs.lemmas.List.{append-nil, map-append}
-use Rattle.tuple_tree.specs.Values.{AreBytes}
-use Rattle.wire.specs.Spelling.{IsBatch}
 use Rattle.wire.specs.Views.{batch_text}
 use Rattle.wire.specs.declared.messages.Batch.{Batch}
-use Rattle.wire.specs.Words.{requests_of}
 use Rattle.wire.specs.Messages.{BodyData as Body, MessageData as Message, NewViewData, ViewChangeData, new_view as NewView}
 use Rattle.events.specs.declared.output.Output.{Output}
 use Rattle.posting.specs.Endpoint.{IsOwnSigned}
@@ -31,22 +28,22 @@ use Rattle.replica_histories.specs.Changes.{KeepsChanges, IsOwnView}
 use Rattle.replica_histories.proofs.Changing.{new_views_go_again}
 use Rattle.replica_histories.proofs.ChangesKept.{sent_keep}
 use Rattle.replica.specs.State.{OrdererData}
-use Rattle.replica.specs.Claiming.{SaysFrame}
+use Rattle.replica.specs.Claiming.{MaySign, SaysFrame}
 use Rattle.replica.specs.Desks.{given}
-use Rattle.replica.specs.EnteringViews.{IsSelection, SignsView, new_view_of}
+use Rattle.replica.specs.EnteringViews.{IsSelection, MaySignView, new_view_of}
 use Rattle.replica.specs.Saying.{SaysAgain}
-use Rattle.replica.proofs.Again.{is_batch}
-use Rattle.replica.proofs.Given.{given_one}
+use Rattle.replica.proofs.Again.{nothing_again, never_said, one_below}
+use Rattle.replica.proofs.Given.{GivesOne, gives_one}
 use Rattle.replica.proofs.Parties.{same_log}
 use Rattle.replica.proofs.Staying.{IsBeside, fits_on}
 
-pub no_view_again : (o : OrdererData) (outs : List Output) → SaysAgain true o outs o outs
-no_view_again o outs = record { goes = λ active c s desk w due known f. f; same = refl }
+pub no_view_again : (o : OrdererData) (outs : List Output) → SaysAgain 0 1 o outs o outs
+no_view_again o outs = nothing_again 0 1 o outs (omega arith)
 
 -- a new view of the own view is taken no more
 module _ (c : Configuration) (me v : ℕ) (past : List Entry) (frame : List ℕ) (own : IsOwnView c me v past frame) (here : view c past ≡ v) where
   keeps_all : KeepsChanges c me past (Sent me frame)
-  keeps_all = sent_keep c me past (NewView own.new) frame own.posted.says (let a = own.view in let b = here in omega (arith, a, b))
+  keeps_all = sent_keep c me past (NewView own.new) frame own.posted.says (let a = own.view in let b = here in omega (arith, a, b)) (λ signed. own.sent)
 
   is_beside : IsBeside c me past (Sent me frame)
   is_beside = record {
@@ -55,26 +52,25 @@ module _ (c : Configuration) (me v : ℕ) (past : List Entry) (frame : List ℕ)
     sends = ap (λ (o : Option Body). option_map_or (λ (b : Body). is_pre_prepare b.message) o false) own.posted.says;
   }
 
-pub view_again : (frame : List ℕ) (o : OrdererData) (before after : List Output) → o.new_view ≡ Some frame → SaysFrame o frame before after → SaysAgain true o before o after
+pub view_again : (frame : List ℕ) (o : OrdererData) (before after : List Output) → o.new_view ≡ Some frame → SaysFrame o frame before after → SaysAgain 0 1 o before o after
 view_again frame o before after there says = record {
-  goes = λ active c s desk w due known f.
+  goes = λ active c s desk w known below f.
       let me : ℕ = o.endpoint.me in
       let past : List Entry = behind s (given me before) in
       let own : IsOwnView c me o.log.view past frame = f.changes.own_view frame there in
-      let is : given me after ≡ Sent me frame ∷ given me before = given_one me before after says.output says.given_is ∙ ap (λ (e : Entry). e ∷ given me before) says.sends.sends in
-      fits_on c me s o o desk w due due before after (Sent me frame) is
-      (is_beside c me o.log.view past frame own f.fits.of_log.view) (keeps_all c me o.log.view past frame own f.fits.of_log.view)
-      (same_log o.log) refl refl refl refl f
-      (new_views_go_again c me s desk o.log due (given me before) own.new frame active own.view own.primary own.sent own.posted f.fits);
+      let is : GivesOne c me before after (Sent me frame) =
+      gives_one c me before after says.output (Sent me frame) says.given_is says.sends.sends (says.sends.meant c (NewView own.new) known own.posted) in (
+        fits_on c me s o o desk w [] [] before after (Sent me frame) is
+            (is_beside c me o.log.view past frame own f.fits.of_log.view) (keeps_all c me o.log.view past frame own f.fits.of_log.view)
+            (same_log o.log) refl refl refl refl f
+            (new_views_go_again c me s desk o.log [] (given me before) own.new frame active own.view own.primary own.sent
+            (never_said me 0 (NewView own.new) (given me before) (λ l. absurd (omega (arith, l))) below) own.posted f.fits),
+        one_below me 0 1 (NewView own.new) frame (given me before) (given me after) is.is own.posted.says (omega arith) (omega arith) below,
+      );
   same = refl;
 }
 
 -- ---- texts of batches
-
-pub some_batch : (text : List ℕ) (frames : List (Bor (List ℕ))) (empty : Bool) → AreBytes text → map (λ f. f.now) frames ≡ requests_of text → empty ≡ (length frames == 0) → not empty ≡ true → IsBatch 0 text
-some_batch text frames empty bytes read e h =
-    let b : IsBatch 1 text = is_batch text frames empty bytes read e h in
-    record { requests = b.requests; whole = b.whole; enough = omega arith; few = b.few; each = b.each }
 
 -- one more is hashed
 pub batch_hashed : (old new : List (Arc (List ℕ) Global)) (a : Arc (List ℕ) Global) (items rest : List Batch) (b : Batch) (whole : List (List ℕ)) → new ≡ old ++ a ∷ [] → arc_value a ≡ batch_text b → items ≡ b ∷ rest
@@ -121,12 +117,16 @@ all_hashed old items first batches none is left =
 
 -- ---- a selection is signed
 
-pub signs_view : {E : Type 0} (o : OrdererData) (start : ℕ) (root : List ℕ) (texts : List (List ℕ)) (message : Message) (made : NewViewData) (r : Result (Option (Vec ℕ Global)) E) → made ≡ new_view_of o start root texts
-    → may_select (configuration_of o.received) made ≡ true → message ≡ NewView made → IfOk r (λ x. IfSome x (λ frame. IsOwnSigned o.endpoint message frame.items))
-    → IfOk r (λ x. IfSome x (λ frame. SignsView o (new_view_of o start root texts) frame.items))
-signs_view o start root texts message made (Err e) is right says h = h
-signs_view o start root texts message made (Ok None) is right says h = tt
-signs_view o start root texts message made (Ok (Some frame)) is right says h = record {
-  signed = subst (λ (m : Message). IsOwnSigned o.endpoint m frame.items) (says ∙ ap NewView is) h;
-  right = subst (λ (n : NewViewData). may_select (configuration_of o.received) n ≡ true) is right;
-}
+pub signs_view : {E : Type 0} (o later : OrdererData) (start : ℕ) (root : List ℕ) (texts : List (List ℕ)) (message : Message) (made : NewViewData) (r : Result (Option (Vec ℕ Global)) E) → made ≡ new_view_of o start root texts
+    → may_select (configuration_of o.received) made ≡ true → message ≡ NewView made → IfOk r (MaySign message o later)
+    → IfOk r (MaySignView (new_view_of o start root texts) o later)
+signs_view o later start root texts message made (Err e) is right says h = h
+signs_view o later start root texts message made (Ok None) is right says h = h.0
+signs_view o later start root texts message made (Ok (Some frame)) is right says h = (
+  record {
+    signed = subst (λ (m : Message). IsOwnSigned o.endpoint m frame.items) (says ∙ ap NewView is) h.0;
+    by_leaf = h.1;
+    right = subst (λ (n : NewViewData). may_select (configuration_of o.received) n ≡ true) is right;
+  },
+  h.2,
+)

@@ -21,10 +21,11 @@ use Rattle.protocol.specs.Replica.Certificates.{is_later, new_view_from, taken, 
 use Rattle.protocol.specs.Replica.RightReplica.{with_waiting}
 use Rattle.protocol.specs.Replica.State.{call_in}
 use Rattle.protocol.proofs.Agreement.Marks.{few_batches}
-use Rattle.replica_histories.specs.Questions.{has_question}
+use Rattle.replica_histories.specs.Questions.{AnswersInput, has_question}
 use Rattle.replica_histories.specs.Changes.{IsNoChange, Passes}
 use Rattle.replica_histories.specs.Desk.{desk_from}
 use Rattle.replica_histories.specs.Events as histories
+use Rattle.replica_histories.specs.Events.{IsTaken}
 use Rattle.replica_histories.specs.Inputs.{IsBesideLog, asked}
 use Rattle.replica_histories.specs.Views.{begun_log, start_due}
 use Rattle.replica_histories.proofs.Beginning.{start_small}
@@ -37,7 +38,7 @@ use Rattle.replica_histories.proofs.Questions.{others_owe_none}
 use Rattle.replica.specs.declared.taking.Touched.TheVariants as touched
 use Rattle.replica.specs.State.{JoinedData, AreOne, IsOrderer}
 use Rattle.replica.specs.Desks.{FitsEvent, Stands}
-use Rattle.replica.specs.Entering.{event_of, IsTakenBeside, TakesBytes, TakesMessage}
+use Rattle.replica.specs.Entering.{event_of, IsTakenAnswered, TakesBytes, TakesMessage}
 use Rattle.replica.specs.Joined.{Runs, me_of}
 use Rattle.replica.proofs.Beginning.{changes_kept, heard_by, rests}
 use Rattle.replica.specs.EnteringViews.{Enters}
@@ -134,6 +135,7 @@ module _ (judge : NewViewsAreJudged) (decide : SizesDecide) (r : JoinedData) (on
           (λ passes. got_keep c me past bytes r.orderer.log r.orderer.log passes (record { view = refl; active = refl }) free (λ i within. refl)
           (λ s other. others_bring_none c me s past bytes (subst IsNoChange (sym (hears c known)) tt) other))
           (inputs_enter c me runs.desk runs.desk r.orderer.log r.orderer.log [] past e runs.holds enters);
+      meant = tt;
     }
 
     untaken_stands : Stands c (event_of c r past runs bytes) r.orderer r.desk [] []
@@ -148,7 +150,7 @@ module _ (judge : NewViewsAreJudged) (decide : SizesDecide) (r : JoinedData) (on
     party = one_self r;
     begins = λ c past runs known. (
       untaken_stands c past runs known (refused_untaken judge c me sender past new bytes (hears c known) (λ none. refused (sym (judged c past runs known) ∙ none))),
-      (rests c r past runs, runs.all, others_owe_none c me past e [] runs.holds.of_desk.point (asks_no_part c known), inl refl),
+      (rests c r past runs, runs.all, others_owe_none c me past e [] runs.holds.of_desk.point r.desk.executed.state.number (asks_no_part c known), inl refl),
     );
   }
 
@@ -163,11 +165,15 @@ module _ (judge : NewViewsAreJudged) (decide : SizesDecide) (r : JoinedData) (on
     passes = inputs_enter c me runs.desk (desk_from (begun_log r.orderer.log new).low runs.desk) r.orderer.log (begun_log r.orderer.log new) (start_due runs.desk new) past e runs.holds begins_it
 
     taken_stands : Stands c (event_of c r past runs bytes) n.orderer n.desk [] outs
-    taken_stands = entered_stands c (event_of c r past runs bytes) r runs.desk new None [] past e sender one clients runs.is_desk refl begins_it passes t (hears c known) tt runs.said runs.changes n outs x
+    taken_stands = entered_stands c (event_of c r past runs bytes) r runs.desk new None [] past e sender one clients runs.is_desk refl tt begins_it passes t (hears c known) tt (omega arith, λ sent leaf is now. absurd now, λ leaf l. inl l) runs.said runs.changes n outs x
 
-    taken_beside : IsTakenBeside c (me_of n) (event_of c r past runs bytes)
-    taken_beside =
-        subst (λ (k : EndpointState). IsTakenBeside c k.me (event_of c r past runs bytes)) (sym (entered_party new None r [] n outs x).endpoint) ((body, hears c known, t), asks_no_part c known)
+    taken_answered : IsTakenAnswered c n (event_of c r past runs bytes)
+    taken_answered =
+        let party = entered_party new None r [] n outs x in (
+          subst (λ (k : EndpointState). IsTaken c k.me (event_of c r past runs bytes)) (sym party.endpoint) (body, hears c known, t),
+          λ outputs executed at. subst (λ (k : EndpointState). AnswersInput c k.me past e outputs runs.holds.of_desk.point executed) (sym party.endpoint)
+              (others_owe_none c me past e outputs runs.holds.of_desk.point executed (asks_no_part c known)),
+        )
 
   right_entered : r.desk.executed.clients ≡ r.desk.membership.clients → (n : JoinedData) (outs : List Output) → refusal (configuration_of r.orderer.received) r.orderer.log.view r.orderer.target sender new ≡ None
       → Enters new.view (start_in new) new.batches None r [] n outs → TakesBytes bytes r touched.View n outs
@@ -177,9 +183,9 @@ module _ (judge : NewViewsAreJudged) (decide : SizesDecide) (r : JoinedData) (on
         let t = right_taken judge c me sender past new bytes (hears c known) (judged c past runs known ∙ right) in (
           taken_stands clients n outs x c past runs known t,
           (
-            entered_votes c (event_of c r past runs bytes) r runs.desk new None [] past e sender one clients runs.is_desk refl (begins_it clients n outs x c past runs known t) (passes clients n outs x c past runs known t) t (hears c known) tt
-                runs.said runs.changes n outs x,
-            taken_beside clients n outs x c past runs known t,
+            entered_votes c (event_of c r past runs bytes) r runs.desk new None [] past e sender one clients runs.is_desk refl tt (begins_it clients n outs x c past runs known t) (passes clients n outs x c past runs known t) t (hears c known) tt
+                (omega arith, λ sent leaf is now. absurd now, λ leaf l. inl l) runs.said runs.changes n outs x,
+            taken_answered clients n outs x c past runs known t,
           ),
         );
   }

@@ -1,5 +1,5 @@
 -- The oldest requests without a number get the next one.
-use Rattle.std.proofs.Common.{◌≡◌, ◌≢◌, ℕ, zero, suc, ◌+◌, ◌≤◌, ◌<◌, inl, inr, Bool, true, false, cond, not, List, [], ◌∷◌, length, map, filter, take, drop, refl, sym, ap, ◌∙◌, subst, arith, AllPairs}
+use Rattle.std.proofs.Common.{◌≡◌, ◌≢◌, ℕ, zero, suc, ◌+◌, ◌≤◌, ◌<◌, inl, inr, Bool, true, false, cond, not, List, [], ◌∷◌, length, map, filter, take, drop, max, refl, sym, ap, ◌∙◌, subst, arith, AllPairs}
 use Rattle.std.proofs.lemmas.List.{take-append-drop, length-take, length-map}
 use Rattle.wire.specs.Lists.{Each}
 use Rattle.wire.specs.Spelling.{pieces_spelling}
@@ -10,7 +10,9 @@ use Rattle.ordering.specs.Log as logs
 use Rattle.ordering.specs.Log.{LogData}
 use Rattle.protocol.specs.System.Configuration.{Configuration, members}
 use Rattle.protocol.specs.System.Trace.{Entry, Has, either}
-use Rattle.protocol.specs.Replica.State.{Call}
+use Rattle.protocol.specs.Replica.Certificates.{low, is_in_marks}
+use Rattle.protocol.specs.Replica.State.{State, Call}
+use Rattle.protocol.specs.Replica.RightReplica.{IsFree}
 use Rattle.protocol.specs.Replica.Owed.{IsNumbered, AreDifferent}
 use Rattle.protocol.proofs.Words.Elements.{has_map, has_mapped}
 use Rattle.replica_histories.specs.Desk.{Desk}
@@ -19,14 +21,16 @@ use Rattle.replica_histories.specs.Events.{Start, behind}
 use Rattle.replica_histories.specs.Numbers as numbers
 use Rattle.replica_histories.specs.Numbers.{AreCalls, Waiting, HasNumber, HasNone, IsRightly}
 use Rattle.replica_histories.specs.Outputs.{MayNumber}
+use Rattle.replica_histories.proofs.Words.{marks_are}
+use Rattle.replica_histories.proofs.Numbers.{next_is_free}
 use Rattle.replica_histories.proofs.NumbersLists.{each_where, has_taken, Pairs, pairs_of, all_pairs, pairs_kept, pairs_mapped, pairs_unmapped, pairs_front, IsAt, Spells, spelled_at, Differ, frames_differ}
 use Rattle.replica.specs.declared.waiting.WaitingRequest.{WaitingRequest}
 use Rattle.replica.specs.State.{DeskData, JoinedData, AreOne}
 use Rattle.replica.specs.Waiting.{WaitingData, texts, frames_of, all_unnumbered, unnumbered, count_unnumbered, all_numbered, with_numbered}
-use Rattle.replica.specs.Flags.{FitsFlags, flagged}
+use Rattle.replica.specs.Flags.{FitsFlags, begun_of, flagged}
 use Rattle.replica.specs.Desks.{AreCallsOf, AreOfDifferentClients, given, FitsEvent, Stands}
 use Rattle.replica.specs.Going.{GoesOnWith, IsSameLog, IsSameOrderer, IsSameParty, IsVoted, IsVotedBut, IsVotedAll, Proceeds, Rests}
-use Rattle.replica.specs.Numbering.{IsAllNumbered}
+use Rattle.replica.specs.Numbering.{next_number, IsAllNumbered}
 use Rattle.replica.specs.NumbersNext.{NumbersNext, GivesNumber, NumbersWaiting}
 use Rattle.replica.proofs.WaitingKept.{few_unnumbered}
 use Rattle.replica.proofs.Flags.{calls_unnumbered, calls_taken, are_calls}
@@ -118,7 +122,7 @@ left_numbered (suc n) (r ∷ rs) h = go r.numbered refl (left_numbered (suc n) r
 -- ---- one batch
 
 module _ (c : Configuration) (me number used : ℕ) (log : LogData) (text : List ℕ) (w : WaitingData) (desk : Desk) (history : List Entry) (inside : logs.is_in_marks log number ≡ true)
-    (active : log.active ≡ true) (primary : logs.primary log log.view ≡ log.me) (above : used < number) (reads : requests_of text ≡ texts (unnumbered w)) (frames : desk.frames ≡ frames_of w)
+    (active : log.active ≡ true) (primary : logs.primary log log.view ≡ log.me) (free : IsFree c me history desk.state.number log.view number) (reads : requests_of text ≡ texts (unnumbered w)) (frames : desk.frames ≡ frames_of w)
     (calls : AreCallsOf c w.requests desk.waiting) (of_log : FitsLog c me log history) (f : FitsFlags c me log.view used w desk.state desk.waiting history) where
   abbrev entries : List Waiting
   entries = flagged w.requests desk.waiting
@@ -161,7 +165,7 @@ module _ (c : Configuration) (me number used : ℕ) (log : LogData) (text : List
     within = inside;
     active = active;
     own = primary;
-    free = sym (of_log.batches number inside) ∙ f.free number above;
+    free = free;
     held = subst (Each (λ frame. Has (λ x. x ≡ frame) desk.frames)) (sym reads) (each_where (λ frame. Has (λ x. x ≡ frame) desk.frames) (texts (unnumbered w)) held);
     differ = subst (AllPairs (AreDifferent c)) (sym reads) (all_pairs (AreDifferent c) (texts (unnumbered w)) (frames_differ c (texts (unnumbered w)) oldest spells differ_here));
     fresh = λ client timestamp has. fresh client timestamp (spelled_at c client timestamp (texts (unnumbered w)) oldest spells (subst (Has (Spells c client timestamp)) reads has));
@@ -169,7 +173,7 @@ module _ (c : Configuration) (me number used : ℕ) (log : LogData) (text : List
 
 -- ---- one turn
 
-module _ (number : ℕ) (a b : JoinedData) (x y : List Output) (one : AreOne a.orderer a.desk) (above : a.orderer.used < number) (inside : logs.is_in_marks a.orderer.log number ≡ true)
+module _ (number : ℕ) (a b : JoinedData) (x y : List Output) (one : AreOne a.orderer a.desk) (is_next : number ≡ next_number a.orderer) (near : number ≤ a.desk.executed.state.number + 2) (inside : logs.is_in_marks a.orderer.log number ≡ true)
     (active : a.orderer.log.active ≡ true) (primary : logs.primary a.orderer.log a.orderer.log.view ≡ a.orderer.log.me) (some : 1 ≤ length (unnumbered a.desk.waiting)) (n : NumbersNext number a x b y) where
   abbrev w : WaitingData
   w = a.desk.waiting
@@ -196,10 +200,23 @@ module _ (number : ℕ) (a b : JoinedData) (x y : List Output) (one : AreOne a.o
     fits : FitsEvent c me s a.orderer st.desk w [] x
     fits = subst (λ (m : ℕ). FitsEvent c m s a.orderer st.desk w [] x) one.0 st.fits
 
+    -- the next number by the log is so by the history
+    free : IsFree c me past st.desk.state.number a.orderer.log.view number
+    free =
+        let of_log = fits.fits.of_log in
+        let same : numbers.next_number c me past a.orderer.used ≡ number = ap (λ (l : ℕ). suc (max l a.orderer.used)) of_log.low ∙ sym is_next in
+        let near' : number ≤ st.desk.state.number + 2 = subst (λ (x : State). number ≤ x.number + 2) (sym st.is.state) near in
+        let marks : is_in_marks c (low c me past) number ≡ true = marks_are c me a.orderer.log past number of_log ∙ inside in
+        subst (λ (i : ℕ). IsFree c me past st.desk.state.number a.orderer.log.view i) same
+        (next_is_free c me a.orderer.log.view a.orderer.used (begun_of w.begun) (flagged w.requests st.desk.waiting) st.desk.state st.desk.waiting past (fits.numbers primary) (
+          subst (λ (i : ℕ). is_in_marks c (low c me past) i ≡ true) (sym same) marks,
+          subst (λ (i : ℕ). i ≤ st.desk.state.number + 2) (sym same) near',
+        ))
+
     numbered_fits : FitsEvent c me s b.orderer st.desk more [] y
     numbered_fits =
-        n.says.goes c s st.desk w [] (known ∙ one.1) above st.is.waiting reads
-        (may_number c me number a.orderer.used a.orderer.log text w st.desk past inside active primary above reads st.is.frames st.is.waiting fits.fits.of_log (fits.numbers primary)) fits
+        n.says.goes c s st.desk w [] (known ∙ one.1) st.is.waiting reads
+        (may_number c me number a.orderer.used a.orderer.log text w st.desk past inside active primary free reads st.is.frames st.is.waiting fits.fits.of_log (fits.numbers primary)) fits
 
     next_stands : Stands c s b.orderer b.desk [] y
     next_stands = subst (λ (d : DeskData). Stands c s b.orderer d [] y) (sym n.waits) (record {
@@ -222,6 +239,7 @@ module _ (number : ℕ) (a b : JoinedData) (x y : List Output) (one : AreOne a.o
   same_orderer = record {
     endpoint = n.says.endpoint;
     log = subst (IsSameLog a.orderer.log) (sym n.says.log) (record { me = refl; faults = refl; span = refl; view = refl; active = refl; low = omega arith });
+    target = n.says.target;
   }
 
   voted_but : IsVotedAll a.orderer.log → IsVotedBut number b.orderer.log
@@ -244,6 +262,7 @@ module _ (number : ℕ) (a b : JoinedData) (x y : List Output) (one : AreOne a.o
       me = e.party.me ∙ ap (λ (k : DeskData). k.me) n.waits;
       membership = e.party.membership ∙ ap (λ (k : DeskData). k.membership) n.waits;
     };
+    rises = subst (λ (d0 : DeskData). d0.executed.state.number ≤ d.desk.executed.state.number) n.waits e.rises;
     rests = λ rest. e.rests (voted_but rest.0);
     fewer = let now = fewer in let after = e.waiting in omega (arith, now, after);
   }
@@ -254,16 +273,18 @@ module _ (number : ℕ) (a b : JoinedData) (x y : List Output) (one : AreOne a.o
 pub record NumbersSoFar (count : ℕ) (old : JoinedData) (before : List Output) (new : JoinedData) (after : List Output) : Type 0 where
   pub proceeds : Rests old → Proceeds old before new after
   pub party : IsSameParty old new
+  pub rises : old.desk.executed.state.number ≤ new.desk.executed.state.number
   pub rests : Rests old → Rests new
   pub fewer : count_unnumbered new.desk.waiting + count ≤ count_unnumbered old.desk.waiting
 
 pub none_given : (a : JoinedData) (x : List Output) → NumbersSoFar 0 a x a x
-none_given a x = record { proceeds = λ rest c s known st. st; party = same_party a; rests = λ r. r; fewer = omega arith }
+none_given a x = record { proceeds = λ rest c s known st. st; party = same_party a; rises = omega arith; rests = λ r. r; fewer = omega arith }
 
 pub one_given : (count : ℕ) (a b d : JoinedData) (x y z : List Output) → NumbersSoFar count a x b y → GivesNumber b y d z → NumbersSoFar (count + 1) a x d z
 one_given count a b d x y z f g = record {
   proceeds = λ rest c s known st. g.proceeds (f.rests rest) c s (known ∙ sym f.party.membership) (f.proceeds rest c s known st);
   party = parties_twice a b d f.party g.party;
+  rises = (let first = f.rises in let then = g.rises in omega (arith, first, then));
   rests = λ r. g.rests (f.rests r);
   fewer = let first = f.fewer in let then = g.fewer in omega (arith, first, then);
 }
@@ -271,13 +292,14 @@ one_given count a b d x y z f g = record {
 pub numbers_stop : (count : ℕ) (a b d : JoinedData) (x y z : List Output) → NumbersSoFar count a x b y → (d ≡ b) × (z ≡ y) × IsAllNumbered b → NumbersWaiting a x d z
 numbers_stop count a b d x y z f (same, outs, all) =
     subst (λ (r : JoinedData). NumbersWaiting a x r z) (sym same) (subst (λ (o : List Output). NumbersWaiting a x b o) (sym outs)
-    (record { proceeds = f.proceeds; party = f.party; rests = f.rests; all = all }))
+    (record { proceeds = f.proceeds; party = f.party; rises = f.rises; rests = f.rests; all = all }))
 
 -- behind as many numbers as requests without one, none is left
 pub numbers_end : (count : ℕ) (a b : JoinedData) (x y : List Output) → count ≡ count_unnumbered a.desk.waiting → NumbersSoFar count a x b y → NumbersWaiting a x b y
 numbers_end count a b x y whole f = record {
   proceeds = f.proceeds;
   party = f.party;
+  rises = f.rises;
   rests = f.rests;
   all = λ free. let few = f.fewer in omega (arith, few, whole);
 }

@@ -1,5 +1,5 @@
 -- The replica begins a view by a new view of its own.
-use Rattle.std.proofs.Common.{◌≡◌, ℕ, zero, suc, ◌+◌, ◌^◌, ◌<◌, ◌≤◌, inl, inr, Bool, true, false, cond, ◌&&◌, ◌==◌, nat_lt, nat_le, List, [], ◌∷◌, length, map, Option, Some, None, refl, sym, ap, ◌∙◌, subst, arith, eqb-true, eq-eqb}
+use Rattle.std.proofs.Common.{◌≡◌, ℕ, zero, suc, ◌+◌, ◌^◌, ◌<◌, ◌≤◌, inl, inr, Bool, true, false, cond, ◌&&◌, ◌==◌, nat_lt, nat_le, List, [], ◌∷◌, length, map, Vec, Option, Some, None, refl, sym, ap, ◌∙◌, subst, arith, eqb-true, eq-eqb}
 use Rattle.std.specs.Prelude.{option_and_then}
 use Rattle.std.specs.Arc.{arc_value}
 use Rattle.std.specs.Bool.{then_some}
@@ -39,6 +39,7 @@ use Rattle.replica_histories.proofs.Batches.{begun_view}
 use Rattle.replica_histories.proofs.Beginning.{start_small}
 use Rattle.replica_histories.proofs.ChangesMade.{views_are_begun}
 use Rattle.replica_histories.proofs.ChangesPassing.{outputs_pass}
+use Rattle.replica_histories.proofs.Leaves.{next_leaf_is_own, next_is_spent}
 use Rattle.replica_histories.proofs.NewViews.{new_views_fit}
 use Rattle.replica_histories.proofs.NumbersBegun.{logs_are_of_no_later_view}
 use Rattle.replica_histories.proofs.Seeing.{logged_are_seen}
@@ -48,12 +49,12 @@ use Rattle.replica.specs.Waiting.{with_view}
 use Rattle.replica.specs.Beginning.{BeginsView}
 use Rattle.replica.specs.Claiming.{SaysFrame}
 use Rattle.replica.specs.Desks.{given, changes_of, IsDeskOf, FitsEvent, FitsWaiting, Stands}
-use Rattle.replica.specs.EnteringViews.{Enters, IsSelection, SignsView, new_view_of}
+use Rattle.replica.specs.EnteringViews.{Enters, IsSelection, MaySignView, SignsView, new_view_of}
 use Rattle.replica.specs.Flags.{FitsFlags}
 use Rattle.replica.specs.Going.{Rests}
-use Rattle.replica.proofs.BegunViews.{Begins, begins, begun_orderer, begun_stands, calls_differ, all_voted, one_party, start_of}
+use Rattle.replica.proofs.BegunViews.{Begins, begins, begun_orderer, begun_stands, calls_differ, all_voted, one_party, one_target, start_of}
 use Rattle.replica.proofs.Flags.{flags_begun}
-use Rattle.replica.proofs.Given.{given_one}
+use Rattle.replica.proofs.Given.{GivesOne, gives_one}
 use Rattle.replica.proofs.Staying.{fits_behind}
 
 -- ---- how much it has
@@ -148,10 +149,14 @@ module _ (decide : SizesDecide) (o : OrdererData) (start : ℕ) (root frame : Li
 
 -- ---- all stands behind it
 
+-- the leaf is spent
+abbrev signing : JoinedData → JoinedData
+signing r = record r { orderer = record r.orderer { spent = r.orderer.spent + 1 } }
+
 module _ (decide : SizesDecide) (r : JoinedData) (start : ℕ) (root frame : List ℕ) (texts : List (List ℕ)) (before said after : List Output) (n : JoinedData)
     (one : AreOne r.orderer r.desk) (own : IsOrderer r.orderer) (is_log : IsLog r.orderer.log) (clients : r.desk.executed.clients ≡ r.desk.membership.clients)
     (sel : IsSelection r.orderer start root texts) (signs : SignsView r.orderer (new_view_of r.orderer start root texts) frame) (says : SaysFrame r.orderer frame before said)
-    (enters : Enters r.orderer.target (start_of (new_view_of r.orderer start root texts)) texts (Some frame) r said n after) where
+    (enters : Enters r.orderer.target (start_of (new_view_of r.orderer start root texts)) texts (Some frame) (signing r) said n after) where
   abbrev o : OrdererData
   o = r.orderer
 
@@ -164,11 +169,11 @@ module _ (decide : SizesDecide) (r : JoinedData) (start : ℕ) (root frame : Lis
   small : start < 2 ^ 48
   small = starts_small r.orderer start root frame texts signs
 
-  k : Begins its (Some frame) r said n after
-  k = begins its (Some frame) r said n after is_log small enters
+  k : Begins its (Some frame) (signing r) said n after
+  k = begins its (Some frame) (signing r) said n after is_log small enters
 
   abbrev begun : OrdererData
-  begun = begun_orderer o its (Some frame) k.claims
+  begun = begun_orderer (signing r).orderer its (Some frame) k.claims
 
   abbrev low : ℕ
   low = (begun_log o.log its).low
@@ -201,13 +206,14 @@ module _ (decide : SizesDecide) (r : JoinedData) (start : ℕ) (root frame : Lis
     on : events.Fits c mine s (desk_from low desk) (begun_log o.log its) (start_due desk its) (e ∷ given mine before)
     on =
         new_views_fit c mine s desk o.log (given mine before) its frame (λ i. (rests.0 i).1)
-        (subst (λ (st : State). logs.committed_batch o.log (suc st.number) ≡ None) (sym is.state) rests.1) leads takes seen signed f.fits
+        (subst (λ (st : State). logs.committed_batch o.log (suc st.number) ≡ None) (sym is.state) rests.1) leads takes seen signed
+        (next_leaf_is_own frame o.spent past signs.by_leaf f.changes.leaves) f.fits
 
     changes : FitsChanges c mine (begun_log o.log its) (changes_of begun) (e ∷ past)
     changes =
-        views_are_begun c mine past e o.log (changes_of o) its (Some frame) k.claims mine
+        views_are_begun c mine past e o.log (changes_of o) its (Some frame) k.claims mine (o.spent + 1)
         (outputs_pass c mine s desk (desk_from low desk) o.log (begun_log o.log its) [] (start_due desk its) (given mine before) e f.fits on)
-        takes signed.says k.kept (refl, leads, signed) f.changes
+        takes signed.says k.kept (refl, leads, signed) (next_is_spent mine o.spent past frame signs.by_leaf) f.changes
 
     numbers : FitsWaiting c mine begun (with_view k.calls r.desk.waiting) (desk_from low desk) (e ∷ past)
     numbers own =
@@ -215,36 +221,42 @@ module _ (decide : SizesDecide) (r : JoinedData) (start : ℕ) (root frame : Lis
         (flags_begun c mine r.desk.waiting k.calls desk.state desk.waiting past e its is.waiting takes (logs_are_of_no_later_view c mine o.log past f.fits.of_log)
         (calls_differ c r.desk.waiting.requests desk.waiting is.waiting is.differ) (k.are c (ap (λ m. m.clients) known ∙ sym clients)))
 
-    gives : given mine said ≡ e ∷ given mine before
-    gives = given_one mine before said says.output says.given_is ∙ ap (λ (x : Entry). x ∷ given mine before) says.sends.sends
+    gives : GivesOne c mine before said e
+    gives = gives_one c mine before said says.output e says.given_is says.sends.sends (says.sends.meant c (NewView its) to signed)
 
     fits : FitsEvent c mine s begun (desk_from low desk) (with_view k.calls r.desk.waiting) (start_due desk its) said
     fits =
         fits_behind c mine s o begun desk (desk_from low desk) r.desk.waiting (with_view k.calls r.desk.waiting) [] (start_due desk its) before said e gives refl f on numbers changes
 
     once : Once (λ earlier x. taken c earlier x ≡ Some its) (behind s (given mine said))
-    once = subst (λ (es : List Entry). Once (λ earlier x. taken c earlier x ≡ Some its) (behind s es)) (sym gives) (inl takes)
+    once = subst (λ (es : List Entry). Once (λ earlier x. taken c earlier x ≡ Some its) (behind s es)) (sym gives.is) (inl takes)
 
     stands : Stands c s n.orderer n.desk [] after
-    stands = begun_stands its (Some frame) r said n after k c s desk to one.0 is once fits
+    stands = begun_stands its (Some frame) (signing r) said n after k c s desk to one.0 is once fits
 
   pub own_view_begins : BeginsView r before n after
   own_view_begins = record {
     stands = λ c s known rests st. stands c s st.desk known rests st.is (subst (λ (m : ℕ). FitsEvent c m s o st.desk r.desk.waiting [] before) one.0 st.fits);
-    party = one_party its (Some frame) r said n after k;
-    voted = λ rests. all_voted its (Some frame) r said n after k is_log small;
+    party = let p = one_party its (Some frame) (signing r) said n after k in record { endpoint = p.endpoint; me = p.me; membership = p.membership };
+    target = one_target its (Some frame) (signing r) said n after k;
+    voted = λ rests. all_voted its (Some frame) (signing r) said n after k is_log small;
   }
+
+-- what is signed in a frame that there is
+pub signs_in : (o : OrdererData) (its : NewViewData) (later : OrdererData) (r : Option (Vec ℕ Global)) (frame : Vec ℕ Global) → r ≡ Some frame → MaySignView its o later r → SignsView o its frame.items × (later ≡ record o { spent = o.spent + 1 })
+signs_in o its later r frame is h = subst (MaySignView its o later) is h
 
 -- by equal parts
 pub begins_so : (decide : SizesDecide) (r : JoinedData) (start : ℕ) (root frame : List ℕ) (texts : List (List ℕ)) (before said after : List Output) (n : JoinedData)
     (view : ℕ) (bytes : List ℕ) (signed : OrdererData) (mid : JoinedData)
     → AreOne r.orderer r.desk → IsOrderer r.orderer → IsLog r.orderer.log → r.desk.executed.clients ≡ r.desk.membership.clients
     → IsSelection r.orderer start root texts → SignsView r.orderer (new_view_of r.orderer start root texts) frame
-    → signed ≡ r.orderer → bytes ≡ frame → SaysFrame signed bytes before said
-    → view ≡ r.orderer.target → mid ≡ r → Enters view (start_of (new_view_of r.orderer start root texts)) texts (Some frame) mid said n after
+    → signed ≡ (signing r).orderer → bytes ≡ frame → SaysFrame signed bytes before said
+    → view ≡ r.orderer.target → mid ≡ signing r → Enters view (start_of (new_view_of r.orderer start root texts)) texts (Some frame) mid said n after
     → BeginsView r before n after
 begins_so decide r start root frame texts before said after n view bytes signed mid one own is_log clients sel signs same_orderer same_bytes says same_view same enters =
     own_view_begins decide r start root frame texts before said after n one own is_log clients sel signs
-    (subst (λ (o : OrdererData). SaysFrame o frame before said) same_orderer (subst (λ (b : List ℕ). SaysFrame signed b before said) same_bytes says))
-    (subst (λ (v : ℕ). Enters v (start_of (new_view_of r.orderer start root texts)) texts (Some frame) r said n after) same_view
+    (let k = subst (λ (o : OrdererData). SaysFrame o frame before said) same_orderer (subst (λ (b : List ℕ). SaysFrame signed b before said) same_bytes says) in
+    record { output = k.output; sends = k.sends; given_is = k.given_is })
+    (subst (λ (v : ℕ). Enters v (start_of (new_view_of r.orderer start root texts)) texts (Some frame) (signing r) said n after) same_view
     (subst (λ (m : JoinedData). Enters view (start_of (new_view_of r.orderer start root texts)) texts (Some frame) m said n after) same enters))

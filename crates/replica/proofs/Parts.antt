@@ -1,45 +1,85 @@
 -- A part that comes and is taken: the open transfer has it, and the event goes on.
-use Rattle.std.proofs.Common.{◌≡◌, ℕ, inl, inr, true, false, List, [], Some, None, refl, sym, ap, ◌∙◌, subst, option_map}
-use Rattle.wire.specs.Messages.{BodyData as Body, MessageData as Message, meta as MetaMessage, page as PageMessage}
+use Rattle.std.proofs.Common.{◌≡◌, ◌≢◌, ℕ, ◌/◌, ◌%◌, slice_get, slice_index_or, inl, inr, true, false, List, [], ◌∷◌, Option, Some, None, refl, sym, ap, ◌∙◌, subst, option_map}
+use Rattle.wire.specs.Messages.{BodyData as Body, MessageData, MessageData as Message, fetch as FetchMessage, meta as MetaMessage, page as PageMessage}
+use Rattle.std.specs.Option.{option_map_or}
 use Rattle.wire.specs.declared.messages.Meta.{Meta}
 use Rattle.wire.specs.declared.messages.Page.{Page}
+use Rattle.sha2.specs.Sha256.{sha256}
+use Rattle.terms.specs.declared.state.Level.{Level}
+use Rattle.terms.specs.declared.state.Level.TheVariants as levels
 use Rattle.partition_tree.specs.Digests.{digest_of_children}
 use Rattle.signing.specs.Heard.{heard}
 use Rattle.events.specs.declared.output.Output.{Output}
 use Rattle.state_transfer.specs.declared.place.Place.{Place}
-use Rattle.state_transfer.specs.Transfer.{TransferData, wanted, with_digests, with_page}
+use Rattle.state_transfer.specs.Places.{page_place}
+use Rattle.state_transfer.specs.Transfer.{TransferData, fitting, digest_of_part, pages_of_part, wanted_at, wanted, with_digests, with_page}
 use Rattle.protocol.specs.System.Configuration.{Configuration, members}
-use Rattle.protocol.specs.System.Trace.{Entry}
+use Rattle.protocol.specs.System.Trace.{Entry, Has}
 use Rattle.protocol.specs.System.Trace.Entry.{Got}
 use Rattle.protocol.specs.Replica.Certificates.{new_view_from}
+use Rattle.protocol.specs.Replica.Transfers.{fetch_sent}
 use Rattle.protocol.specs.Replica.Owed.{Counts}
-use Rattle.protocol.proofs.Words.Options.{some_injective}
-use Rattle.replica_histories.specs.Questions.{has_question, is_question}
+use Rattle.protocol.proofs.Words.Options.{some_injective, and_then_some}
+use Rattle.replica_histories.specs.Questions.{is_part, AnswersInput}
 use Rattle.replica_histories.specs.Events as histories
+use Rattle.replica_histories.specs.Events.{IsTaken}
+use Rattle.replica_histories.specs.Fetching.{IsOther}
 use Rattle.replica_histories.specs.Changes.{IsNoChange}
-use Rattle.replica_histories.specs.Transfers.{RestsOn}
+use Rattle.replica_histories.specs.Transfers.{FitsOpen, MayAsk, IsTold, RestsOn}
 use Rattle.replica_histories.proofs.Fetching.{digests_enter, pages_enter, asked_digests_count, asked_pages_count}
-use Rattle.replica_histories.proofs.Questions.{others_owe_none}
+use Rattle.replica_histories.proofs.PartsOwed.{fetches_suffice, other_digests_owe_none, other_pages_owe_none}
+use Rattle.replica_histories.proofs.Transfers.{digests_keep, digests_open, heard_valid}
 use Rattle.replica_histories.proofs.TransfersInstalling.{digests_rest, pages_rest}
 use Rattle.replica.specs.declared.open_transfer.Taken.{Taken}
 use Rattle.replica.specs.declared.taking.Touched.TheVariants as touched
 use Rattle.replica.specs.State.{JoinedData, DeskData, OpenData, AreOne}
 use Rattle.replica.specs.Desks.{given, FitsEvent, IsDeskOf, RestsAt}
-use Rattle.replica.specs.Entering.{event_of, IsTakenBeside, TakesBytes}
+use Rattle.replica.specs.Entering.{event_of, TakesBytes}
 use Rattle.replica.specs.Fetching.{fetch_of, with_transfer, AsksOn, SaysFetch, TakesDigests, TakesPage}
 use Rattle.replica.specs.Joined.{Runs, me_of}
 use Rattle.replica.specs.Saying.{Says}
 use Rattle.replica.specs.Transferring.{TakesDigestsOf, TakesPageOf, AsksPlace}
 use Rattle.replica.proofs.Beginning.{rests}
 use Rattle.replica.proofs.Beside.{IsBeside, changes_beside, heard_so, drops_beside, takes_none}
-use Rattle.replica.proofs.Fetched.{asks_next}
+use Rattle.replica.proofs.Fetched.{asked_number, asks_next}
 use Rattle.replica.proofs.Staying.{numbers_beside, said_on}
+use Rattle.replica.proofs.Voting.{said_in}
 
--- In the event that begins with the bytes, the open transfer is this one, and nothing else changed.
+-- A part below the root is wanted by the digests of the root's children.
+told_below : (t : TransferData) (level : Level) (index : ℕ) (digest : List ℕ) → wanted_at t level index ≡ Some digest → level ≢ levels.Root → IsTold t
+told_below t levels.Root index digest h below = absurd (below refl)
+told_below t levels.Inner index digest h below = let w = and_then_some (λ digests. slice_get digests index) t.part_digests digest h in (w.0, w.1)
+told_below t levels.Page index digest h below =
+    let w = and_then_some (λ digests. slice_get digests (index % 32)) (pages_of_part t (index / 32)) digest h in
+    let v = and_then_some (λ inner. fitting inner (slice_index_or t.page_digests (index / 32) None)) (digest_of_part t (index / 32)) w.0 w.1 in
+    let u = and_then_some (λ digests. slice_get digests (index / 32)) t.part_digests v.0 v.1 in
+    (u.0, u.1)
+
+-- They are known behind digests that were wanted.
+told_with : (t : TransferData) (level : Level) (index : ℕ) (digests : List (List ℕ)) (digest : List ℕ) → wanted_at t level index ≡ Some digest → IsTold (with_digests t (record { level = level; index = index }) digests)
+told_with t levels.Root index digests digest h = (digests, refl)
+told_with t levels.Inner index digests digest h = told_below t levels.Inner index digest h (λ same. cc)
+told_with t levels.Page index digests digest h = told_below t levels.Page index digest h (λ same. cc)
+
+-- In the event that begins with the bytes, which are a part, this transfer may ask on. It is of the open one's number. So
+-- far the event fits with that one open, and nothing else changed.
 pub record Comes (c : Configuration) (r : JoinedData) (past : List Entry) (runs : Runs c r past) (bytes : List ℕ) (n : OpenData) : Type 0 where
   pub is : IsDeskOf c (with_transfer n r.desk) (record runs.desk { transfer = Some n.transfer })
-  pub fits : FitsEvent c (me_of r) (event_of c r past runs bytes) r.orderer (record runs.desk { transfer = Some n.transfer }) r.desk.waiting [] []
-  pub taken : IsTakenBeside c (me_of r) (event_of c r past runs bytes)
+  pub open_one : Option TransferData
+  pub fits : FitsEvent c (me_of r) (event_of c r past runs bytes) r.orderer (record runs.desk { transfer = open_one }) r.desk.waiting [] []
+  pub may : MayAsk c (me_of r) n.transfer runs.desk.state.number (Got (me_of r) bytes ∷ past)
+  pub told : IsTold n.transfer
+  pub taken : IsTaken c (me_of r) (event_of c r past runs bytes)
+  pub was : TransferData
+  pub is_open : runs.desk.transfer ≡ Some was
+  pub number : n.transfer.number ≡ was.number
+  pub body : Body
+  pub heard_is : heard (members c) (me_of r) bytes ≡ Some body
+  pub part : is_part body ≡ true
+
+-- behind the bytes it is open
+abbrev pub IsOpen : (c : Configuration) (r : JoinedData) (past : List Entry) → Runs c r past → List ℕ → OpenData → Type 0
+IsOpen c r past runs bytes n = FitsOpen c (me_of r) (Some n.transfer) runs.desk.state.number (Got (me_of r) bytes ∷ past)
 
 module _ (r : JoinedData) (one : AreOne r.orderer r.desk) (bytes : List ℕ) (sender : ℕ) (o n : OpenData) (there : r.desk.transfer ≡ Some o) (c : Configuration) (past : List Entry)
     (runs : Runs c r past) (known : members c ≡ r.desk.membership) where
@@ -54,9 +94,10 @@ module _ (r : JoinedData) (one : AreOne r.orderer r.desk) (bytes : List ℕ) (se
     abbrev body : Body
     body = record { sender = sender; message = message }
 
-    comes : is_question body ≡ false → new_view_from c body ≡ None → IsNoChange (Some body) → (RestsOn o.transfer r.desk.executed.state → RestsOn t r.desk.executed.state) → Counts c me past runs.holds.of_desk.point bytes sender message
-        → histories.Fits c me (event_of c r past runs bytes) (record runs.desk { transfer = Some t }) r.orderer.log [] [] → Comes c r past runs bytes n
-    comes none views changes rests counts fits = subst (Comes c r past runs bytes) (sym n_is) (record {
+    comes : is_part body ≡ true → t.number ≡ o.transfer.number → new_view_from c body ≡ None → IsNoChange (Some body) → (RestsOn o.transfer r.desk.executed.state → RestsOn t r.desk.executed.state) → Counts c me past runs.holds.of_desk.point bytes sender message
+        → (open_one : Option TransferData) → histories.Fits c me (event_of c r past runs bytes) (record runs.desk { transfer = open_one }) r.orderer.log [] []
+        → MayAsk c me t runs.desk.state.number (Got me bytes ∷ past) → IsTold t → Comes c r past runs bytes n
+    comes part number views changes rests counts open_one fits may told = subst (Comes c r past runs bytes) (sym n_is) (record {
       is = record {
         members_are = runs.is_desk.members_are;
         period_is = runs.is_desk.period_is;
@@ -68,29 +109,58 @@ module _ (r : JoinedData) (one : AreOne r.orderer r.desk) (bytes : List ℕ) (se
         waiting = runs.is_desk.waiting;
         differ = runs.is_desk.differ;
       };
+      open_one = open_one;
+      may = may;
+      told = told;
       fits = record {
         fits = fits;
         numbers = numbers_beside c me r.desk.waiting r.orderer runs.desk past (Got me bytes) runs.holds.of_log.fits.faults runs.holds.of_log.fits.own
             (record { here = refl; none = takes_none r one c past runs bytes body known hears views; sends = refl }) runs.numbers;
         said = said_on me r.orderer.last_checkpoint past (Got me bytes) runs.said;
-        changes = changes_beside r one c past runs bytes body known hears (record runs.desk { transfer = Some t }) [] views changes fits;
+        changes = changes_beside r one c past runs bytes body known hears (record runs.desk { transfer = open_one }) [] views changes fits;
+        meant = tt;
       };
-      taken = ((body, heard_so r one c past runs bytes body known hears, counts), ap has_question (heard_so r one c past runs bytes body known hears) ∙ none);
+      taken = (body, heard_so r one c past runs bytes body known hears, counts);
+      was = o.transfer;
+      is_open = open_there;
+      number = number;
+      body = body;
+      heard_is = heard_so r one c past runs bytes body known hears;
+      part = part;
     })
 
   -- digests are taken
-  pub digests_come : (meta : Meta) → heard r.desk.membership r.desk.me bytes ≡ Some (record { sender = sender; message = MetaMessage meta.number.0 meta.level meta.index meta.digests.items })
-      → TakesDigestsOf o meta n true → Comes c r past runs bytes n
-  digests_come meta hears (number, asked, wants, n_is) =
-      let place : Place = record { level = meta.level; index = meta.index } in
-      let digests = meta.digests.items in
-      let right : wanted o.transfer place ≡ Some (digest_of_children digests) = subst (λ (p : Place). wanted o.transfer p ≡ Some (digest_of_children digests)) asked wants in
-      let heard_it = subst (λ (k : ℕ). heard r.desk.membership r.desk.me bytes ≡ Some (record { sender = sender; message = MetaMessage k meta.level meta.index digests })) number hears in
-      let message = MetaMessage o.transfer.number meta.level meta.index digests in
-      comes message (with_digests o.transfer place digests)
-      (n_is ∙ ap (λ (p : Place). record o { transfer = with_digests o.transfer p digests }) asked) heard_it refl refl tt (digests_rest o.transfer r.desk.executed.state place digests)
-      (asked_digests_count c me runs.desk r.orderer.log past o.transfer sender place digests bytes runs.holds open_there asked right)
-      (digests_enter c me runs.desk r.orderer.log past o.transfer sender place digests bytes runs.holds open_there (heard_so r one c past runs bytes (record { sender = sender; message = message }) known heard_it) right)
+  module _ (meta : Meta) (hears : heard r.desk.membership r.desk.me bytes ≡ Some (record { sender = sender; message = MetaMessage meta.number.0 meta.level meta.index meta.digests.items }))
+      (takes : TakesDigestsOf o meta n true) where
+    abbrev place : Place
+    place = record { level = meta.level; index = meta.index }
+
+    abbrev told : MessageData
+    told = MetaMessage o.transfer.number meta.level meta.index meta.digests.items
+
+    n_is_told : n ≡ record o { transfer = with_digests o.transfer place meta.digests.items }
+    n_is_told = takes.3 ∙ ap (λ (p : Place). record o { transfer = with_digests o.transfer p meta.digests.items }) takes.1
+
+    wants : wanted o.transfer place ≡ Some (digest_of_children meta.digests.items)
+    wants = subst (λ (p : Place). wanted o.transfer p ≡ Some (digest_of_children meta.digests.items)) takes.1 takes.2
+
+    heard_told : heard r.desk.membership r.desk.me bytes ≡ Some (record { sender = sender; message = told })
+    heard_told = subst (λ (k : ℕ). heard r.desk.membership r.desk.me bytes ≡ Some (record { sender = sender; message = MetaMessage k meta.level meta.index meta.digests.items })) takes.0 hears
+
+    heard_here : heard (members c) me bytes ≡ Some (record { sender = sender; message = told })
+    heard_here = heard_so r one c past runs bytes (record { sender = sender; message = told }) known heard_told
+
+    pub digests_come : Comes c r past runs bytes n
+    digests_come =
+        let enters = digests_enter c me runs.desk r.orderer.log past o.transfer sender place meta.digests.items bytes runs.holds open_there heard_here wants in
+        comes told (with_digests o.transfer place meta.digests.items) n_is_told heard_told refl (digests_keep o.transfer meta.level meta.index meta.digests.items).0 refl tt (digests_rest o.transfer r.desk.executed.state place meta.digests.items)
+        (asked_digests_count c me runs.desk r.orderer.log past o.transfer sender place meta.digests.items bytes runs.holds open_there takes.1 wants)
+        (Some (with_digests o.transfer place meta.digests.items)) enters.0 enters.1 (told_with o.transfer meta.level meta.index meta.digests.items (digest_of_children meta.digests.items) wants)
+
+    pub digests_stay : IsOpen c r past runs bytes n
+    digests_stay = subst (IsOpen c r past runs bytes) (sym n_is_told)
+        (digests_open c me o.transfer runs.desk.state.number past bytes sender o.transfer.number place meta.digests.items heard_here wants
+        (subst (λ (t : Option TransferData). FitsOpen c me t runs.desk.state.number past) open_there runs.holds.of_desk.opened))
 
   -- a page is taken
   pub page_comes : (page : Page) (replaced : Taken) → heard r.desk.membership r.desk.me bytes ≡ Some (record { sender = sender; message = PageMessage page.number.0 page.index page.text.items })
@@ -99,27 +169,43 @@ module _ (r : JoinedData) (one : AreOne r.orderer r.desk) (bytes : List ℕ) (se
       let text = page.text.items in
       let heard_it = subst (λ (k : ℕ). heard r.desk.membership r.desk.me bytes ≡ Some (record { sender = sender; message = PageMessage k page.index text })) number hears in
       let message = PageMessage o.transfer.number page.index text in
-      comes message (with_page o.transfer page.index text) n_is heard_it refl refl tt (pages_rest o.transfer r.desk.executed.state page.index text all.1 below)
+      let enters = pages_enter c me runs.desk r.orderer.log past o.transfer sender page.index text bytes runs.holds open_there asked
+      (heard_so r one c past runs bytes (record { sender = sender; message = message }) known heard_it) all.0 all.1 in
+      comes message (with_page o.transfer page.index text) n_is heard_it refl refl refl tt (pages_rest o.transfer r.desk.executed.state page.index text all.1 below)
       (asked_pages_count c me runs.desk r.orderer.log past o.transfer sender page.index text bytes runs.holds open_there asked wants)
-      (pages_enter c me runs.desk r.orderer.log past o.transfer sender page.index text bytes runs.holds open_there (heard_so r one c past runs bytes (record { sender = sender; message = message }) known heard_it) all.0)
+      runs.desk.transfer enters.0 enters.1 (told_below o.transfer levels.Page page.index (sha256 text) wants (λ same. cc))
 
 -- Where more is to be fetched then, the event asks for it.
 module _ (r : JoinedData) (one : AreOne r.orderer r.desk) (bytes : List ℕ) (n : OpenData)
     (comes : (c : Configuration) (past : List Entry) (runs : Runs c r past) → members c ≡ r.desk.membership → Comes c r past runs bytes n) where
+  -- its fetch is given
+  fetch_given : (c : Configuration) → members c ≡ r.orderer.endpoint.membership → (m : OpenData) (outs : List Output) → Says r.orderer (fetch_of m.transfer) [] outs → (k : ℕ) → m.transfer.number ≡ k
+      → Has (λ e. fetch_sent e ≡ k) (given (me_of r) outs)
+  fetch_given c known m outs says k number =
+      let said = said_in c r.orderer (fetch_of m.transfer) [] outs known says in
+      subst (Has (λ e. fetch_sent e ≡ k)) (sym said.is.is)
+      (inl (ap (λ (x : Option Body). option_map_or (λ (b : Body). elim b.message [ FetchMessage n level index ↦ n | _ ↦ 0 ]) x 0) said.posted.says ∙ number))
+
   asks_for : (m : OpenData) (place : Place) (outs : List Output) → AsksPlace r.desk.executed.state n m (Some place) → Says r.orderer (fetch_of m.transfer) [] outs
       → TakesBytes bytes r touched.Nothing (record r { desk = with_transfer m r.desk }) outs
   asks_for m place outs asks says = record {
     party = record { endpoint = refl; me = refl; membership = refl };
     begins = λ c past runs known.
         let came = comes c past runs known in
-        let asked = asks_next c (event_of c r past runs bytes) r.orderer (with_transfer n r.desk) (record runs.desk { transfer = Some n.transfer }) r.desk.waiting n [] refl came.is came.fits m place outs
+        let asked = asks_next c (event_of c r past runs bytes) r.orderer (with_transfer n r.desk) (record runs.desk { transfer = Some n.transfer }) r.desk.waiting n [] refl came.is came.open_one came.fits came.may came.told tt m place outs
         (known ∙ one.1) asks says in (
           record {
             desk = record runs.desk { transfer = Some m.transfer };
             is = asked.0;
             fits = subst (λ (x : ℕ). FitsEvent c x (event_of c r past runs bytes) r.orderer (record runs.desk { transfer = Some m.transfer }) r.desk.waiting [] outs) (sym one.0) asked.1;
           },
-          (rests c r past runs, runs.all, others_owe_none c (me_of r) past (Got (me_of r) bytes) (given (me_of r) outs) runs.holds.of_desk.point came.taken.1, inr came.taken.0),
+          (
+            rests c r past runs,
+            runs.all,
+            fetches_suffice c (me_of r) runs.desk r.orderer.log past came.was came.body bytes (given (me_of r) outs) r.desk.executed.state.number runs.holds came.is_open came.heard_is came.part
+                (fetch_given c (known ∙ one.1) m outs says came.was.number (asked_number r.desk.executed.state n m (Some place) asks ∙ came.number)),
+            inr came.taken,
+          ),
         );
   }
 
@@ -137,22 +223,40 @@ module _ (r : JoinedData) (one : AreOne r.orderer r.desk) (bytes : List ℕ) (n 
 -- ---- what the code does
 
 module _ (r : JoinedData) (one : AreOne r.orderer r.desk) (bytes : List ℕ) (sender : ℕ) (desk : DeskData) (outs : List Output) where
-  -- what is dropped, with a desk that is the same
+  -- what is owed nothing is dropped, with a desk that is the same
   dropped : (message : Message) → heard r.desk.membership r.desk.me bytes ≡ Some (record { sender = sender; message = message }) → ((c : Configuration) → IsBeside c (record { sender = sender; message = message }))
-      → is_question (record { sender = sender; message = message }) ≡ false → desk ≡ r.desk → outs ≡ [] → TakesBytes bytes r touched.Nothing (record r { desk = desk }) outs
-  dropped message hears beside none same silent =
+      → ((c : Configuration) (past : List Entry) (runs : Runs c r past) → members c ≡ r.desk.membership → AnswersInput c (me_of r) past (Got (me_of r) bytes) [] runs.holds.of_desk.point r.desk.executed.state.number)
+      → desk ≡ r.desk → outs ≡ [] → TakesBytes bytes r touched.Nothing (record r { desk = desk }) outs
+  dropped message hears beside answers same silent =
       subst (λ (os : List Output). TakesBytes bytes r touched.Nothing (record r { desk = desk }) os) (sym silent)
-      (subst (λ (d : DeskData). TakesBytes bytes r touched.Nothing (record r { desk = d }) []) (sym same) (drops_beside r one bytes (record { sender = sender; message = message }) hears beside none))
+      (subst (λ (d : DeskData). TakesBytes bytes r touched.Nothing (record r { desk = d }) []) (sym same) (drops_beside r one bytes (record { sender = sender; message = message }) hears beside answers))
+
+  -- the transfer that is open is the one at the desk
+  of_open : (c : Configuration) (past : List Entry) (runs : Runs c r past) (P : TransferData → Type 0) → ((o : OpenData) → r.desk.transfer ≡ Some o → P o.transfer) → (t : TransferData) → runs.desk.transfer ≡ Some t → P t
+  of_open c past runs P each t there = go r.desk.transfer refl (sym runs.is_desk.transfer ∙ there)
+    where
+      go : (x : Option OpenData) → r.desk.transfer ≡ x → option_map (λ (y : OpenData). y.transfer) x ≡ Some t → P t
+      go None e f = absurd cc
+      go (Some o) e f = subst P (some_injective o.transfer t f) (each o e)
 
   pub digests_dropped : (meta : Meta) → heard r.desk.membership r.desk.me bytes ≡ Some (record { sender = sender; message = MetaMessage meta.number.0 meta.level meta.index meta.digests.items })
       → TakesDigests r.desk meta desk false → outs ≡ [] → TakesBytes bytes r touched.Nothing (record r { desk = desk }) outs
-  digests_dropped meta hears same silent =
-      dropped (MetaMessage meta.number.0 meta.level meta.index meta.digests.items) hears (λ c. record { log = tt; call = refl; asks = λ st. refl; views = refl; changes = tt }) refl same silent
+  digests_dropped meta hears (same, others) silent =
+      dropped (MetaMessage meta.number.0 meta.level meta.index meta.digests.items) hears (λ c. record { log = tt; call = refl; asks = λ st. refl; views = refl; changes = tt })
+      (λ c past runs known.
+      let hears_so = heard_so r one c past runs bytes (record { sender = sender; message = MetaMessage meta.number.0 meta.level meta.index meta.digests.items }) known hears in
+      other_digests_owe_none c (me_of r) runs.desk r.orderer.log past sender meta.number.0 r.desk.executed.state.number (record { level = meta.level; index = meta.index }) meta.digests.items bytes [] runs.holds hears_so
+      (of_open c past runs (λ t. IsOther t meta.number.0 (record { level = meta.level; index = meta.index }) (digest_of_children meta.digests.items))
+      (λ o there. others o there (heard_valid c (me_of r) bytes (record { sender = sender; message = MetaMessage meta.number.0 meta.level meta.index meta.digests.items }) hears_so)))) same silent
 
   pub page_dropped : (page : Page) → heard r.desk.membership r.desk.me bytes ≡ Some (record { sender = sender; message = PageMessage page.number.0 page.index page.text.items })
       → TakesPage r.desk page desk None → outs ≡ [] → TakesBytes bytes r touched.Nothing (record r { desk = desk }) outs
-  page_dropped page hears same silent =
-      dropped (PageMessage page.number.0 page.index page.text.items) hears (λ c. record { log = tt; call = refl; asks = λ st. refl; views = refl; changes = tt }) refl same silent
+  page_dropped page hears (same, others) silent =
+      dropped (PageMessage page.number.0 page.index page.text.items) hears (λ c. record { log = tt; call = refl; asks = λ st. refl; views = refl; changes = tt })
+      (λ c past runs known.
+      other_pages_owe_none c (me_of r) runs.desk r.orderer.log past sender page.number.0 page.index r.desk.executed.state.number page.text.items bytes [] runs.holds
+      (heard_so r one c past runs bytes (record { sender = sender; message = PageMessage page.number.0 page.index page.text.items }) known hears)
+      (of_open c past runs (λ t. IsOther t page.number.0 (page_place page.index) (sha256 page.text.items)) others)) same silent
 
   module _ (before : List Output) (first : before ≡ []) (new : JoinedData) (asks : AsksOn (record r { desk = desk }) before new outs true) where
     -- what is taken, behind which more is asked for

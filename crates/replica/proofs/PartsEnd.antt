@@ -1,5 +1,5 @@
 -- The last part of a state came: the state is installed, or it is none.
-use Rattle.std.proofs.Common.{◌≡◌, ℕ, inl, inr, true, false, List, [], Option, Some, None, refl, sym, ap, ◌∙◌, subst}
+use Rattle.std.proofs.Common.{◌≡◌, ℕ, inl, inr, true, false, List, [], Option, Some, None, refl, sym, ap, ◌∙◌, subst, arith}
 use Rattle.wire.specs.Messages.{meta as MetaMessage, page as PageMessage}
 use Rattle.wire.specs.declared.messages.Meta.{Meta}
 use Rattle.wire.specs.declared.messages.Page.{Page}
@@ -14,22 +14,26 @@ use Rattle.protocol.specs.System.Trace.{Entry}
 use Rattle.protocol.specs.System.Trace.Entry.{Got}
 use Rattle.protocol.specs.Replica.State.{State}
 use Rattle.replica_histories.proofs.Transfers.{pages_give_back}
-use Rattle.replica_histories.proofs.Questions.{others_owe_none}
+use Rattle.replica_histories.specs.Events.{IsTaken}
+use Rattle.replica_histories.specs.Fetching.{Reaches}
+use Rattle.replica_histories.specs.Questions.{AnswersInput}
+use Rattle.replica_histories.specs.Transfers.{RestsOn}
+use Rattle.replica_histories.proofs.PartsOwed.{fetched_suffice}
 use Rattle.replica.specs.declared.open_transfer.Taken.{Taken}
 use Rattle.replica.specs.declared.taking.Touched.TheVariants as touched
 use Rattle.replica.specs.State.{DeskData, OpenData, JoinedData, AreOne}
 use Rattle.replica.specs.Desks.{FitsEvent}
-use Rattle.replica.specs.Entering.{event_of, IsTakenBeside, TakesBytes, TakesMessage}
-use Rattle.replica.specs.Fetching.{AsksOn, GivesBack, InstallsFetched, TakesDigests, TakesPage, with_transfer}
+use Rattle.replica.specs.Entering.{event_of, IsAnswered, TakesBytes, TakesMessage}
+use Rattle.replica.specs.Fetching.{AsksOn, CannotInstall, GivesBack, InstallsFetched, TakesDigests, TakesPage, with_transfer}
 use Rattle.replica.specs.Joined.{Runs, me_of}
 use Rattle.replica.specs.Going.{IsOneParty, IsSameParty}
 use Rattle.replica.specs.Transferring.{AsksPlace, IsRestedAt, TakesPageOf}
 use Rattle.replica.proofs.Beginning.{rests}
 use Rattle.replica.proofs.Beside.{drops_beside}
-use Rattle.replica.proofs.Fetched.{rests_now}
-use Rattle.replica.proofs.Installed.{IsFetched, installs_fetched, moved_party, same_open}
+use Rattle.replica.proofs.Fetched.{asked_long, asked_number, rests_now}
+use Rattle.replica.proofs.Installed.{IsFetched, installs_fetched, moved_party, number_reached, same_open}
 use Rattle.replica.proofs.Parties.{one_of_same, parties_twice, same_orderer}
-use Rattle.replica.proofs.Parts.{Comes, digests_come, page_comes}
+use Rattle.replica.proofs.Parts.{Comes, IsOpen, digests_come, digests_stay, page_comes}
 
 some_none : (x : OpenData) (P : Type 0) → Some x ≡ None → P
 some_none x P e = absurd cc
@@ -67,43 +71,74 @@ module _ (r : JoinedData) (one : AreOne r.orderer r.desk) (bytes : List ℕ) (n 
       → IsFetched c (event_of c r past runs bytes) (holding m r) (record runs.desk { transfer = Some m.transfer }) m []
   fetched c past runs known =
       let k = comes c past runs known in
-      let now = rests_now c (event_of c r past runs bytes) r.orderer (with_transfer n r.desk) (record runs.desk { transfer = Some n.transfer }) r.desk.waiting n [] refl k.is k.fits m f.asks in
-      record { is_open = refl; is = now.0; fits = now.1; rests = now.2; root = f.root }
+      let now = rests_now c (event_of c r past runs bytes) r.orderer (with_transfer n r.desk) (record runs.desk { transfer = Some n.transfer }) r.desk.waiting n [] refl k.is k.open_one k.fits k.may k.told tt m f.asks in
+      record { is_open = refl; is = now.0; open_one = k.open_one; fits = k.fits; may = now.1; rests = now.2; root = f.root }
+
+  -- Nothing is owed to the part, if the number is reached wherever the pages are those of a state that can be installed.
+  whole : (c : Configuration) (past : List Entry) (runs : Runs c r past) → members c ≡ r.desk.membership → (given : List Entry) (executed : ℕ) → Reaches r.desk.executed.state m.transfer executed
+      → AnswersInput c (me_of r) past (Got (me_of r) bytes) given runs.holds.of_desk.point executed
+  whole c past runs known given executed reaches =
+      let k = comes c past runs known in
+      let g = fetched c past runs known in
+      fetched_suffice c (me_of r) runs.desk r.orderer.log past k.was m.transfer k.body bytes given executed runs.holds k.is_open k.heard_is k.part (asked_number r.desk.executed.state n m None f.asks ∙ k.number) g.may
+      (subst (λ (st : State). RestsOn m.transfer st) (sym runs.is_desk.state) g.rests) (asked_long r.desk.executed.state n m None f.asks) f.root
+      (subst (λ (st : State). Reaches st m.transfer executed) (sym runs.is_desk.state) reaches)
+
+  -- none can be
+  pub none_owed : CannotInstall a.desk → (c : Configuration) (past : List Entry) (runs : Runs c r past) → members c ≡ r.desk.membership
+      → AnswersInput c (me_of r) past (Got (me_of r) bytes) [] runs.holds.of_desk.point r.desk.executed.state.number
+  none_owed cannot c past runs known =
+      whole c past runs known [] r.desk.executed.state.number
+      (λ st is number pages rises. absurd (subst (λ (x : JoinedData). CannotInstall x.desk) f.new_is cannot m refl f.root st (record { state = is; number = number; pages = pages }) rises))
 
   -- it is a state, which is installed
   pub state_comes : InstallsFetched a mid b outs true → TakesBytes bytes r touched.State b outs
   state_comes installs = record {
     party = party;
     begins = λ c past runs known.
+        let on = taken_on c past runs known in
         let stands = installs_fetched c (event_of c r past runs bytes) (holding m r) b (record runs.desk { transfer = Some m.transfer }) m [] outs one (fetched c past runs known) (rests c r past runs).0 here in (
           stands.0,
-          (stands.1, subst (λ (k : ℕ). IsTakenBeside c k (event_of c r past runs bytes)) (sym (ap (λ e. e.me) party.endpoint)) (comes c past runs known).taken),
+          (stands.1, on.0, on.1),
         );
   }
     where
       here : InstallsFetched (holding m r) [] b outs true
       here = subst (λ (x : JoinedData). InstallsFetched x [] b outs true) f.new_is (subst (λ (os : List Output). InstallsFetched a os b outs true) f.outs_are installs)
 
+      reached : b.desk.executed.state.number ≡ m.transfer.number
+      reached = number_reached (holding m r) b m [] outs refl here
+
       party : IsOneParty r b
       party = one_of_same r b (parties_twice r (holding m r) b (same_holding r m) (moved_party (holding m r) b m [] outs refl here))
 
+      taken_on : (c : Configuration) (past : List Entry) (runs : Runs c r past) → members c ≡ r.desk.membership
+          → IsTaken c (me_of b) (event_of c r past runs bytes) × IsAnswered c (me_of b) (event_of c r past runs bytes) b.desk.executed.state.number
+      taken_on c past runs known =
+          subst (λ (k : ℕ). IsTaken c k (event_of c r past runs bytes) × IsAnswered c k (event_of c r past runs bytes) b.desk.executed.state.number) (sym (ap (λ e. e.me) party.endpoint)) (
+            (comes c past runs known).taken,
+            λ given executed above. whole c past runs known given executed (λ st is number pages rises. let at = reached in omega (arith, at, above)),
+          )
+
   -- it is none, and what is open stays so
-  pub none_comes : InstallsFetched a mid b outs false → TakesBytes bytes r touched.Nothing b outs
-  none_comes (same, none) =
+  pub none_comes : ((c : Configuration) (past : List Entry) (runs : Runs c r past) → members c ≡ r.desk.membership → IsOpen c r past runs bytes n)
+      → InstallsFetched a mid b outs false → TakesBytes bytes r touched.Nothing b outs
+  none_comes opened (same, none, cannot) =
       subst (λ (x : JoinedData). TakesBytes bytes r touched.Nothing x outs) (sym (same ∙ f.new_is))
       (subst (λ (os : List Output). TakesBytes bytes r touched.Nothing (holding m r) os) (sym (none ∙ f.outs_are)) (record {
         party = one_of_same r (holding m r) (same_holding r m);
         begins = λ c past runs known.
-            let g = fetched c past runs known in (
+            let k = comes c past runs known in
+            let now = rests_now c (event_of c r past runs bytes) r.orderer (with_transfer n r.desk) (record runs.desk { transfer = Some n.transfer }) r.desk.waiting n [] refl k.is k.open_one k.fits k.may k.told tt m f.asks in (
               record {
                 desk = record runs.desk { transfer = Some m.transfer };
-                is = g.is;
-                fits = subst (λ (k : ℕ). FitsEvent c k (event_of c r past runs bytes) r.orderer (record runs.desk { transfer = Some m.transfer }) r.desk.waiting [] []) (sym one.0) g.fits;
+                is = now.0;
+                fits = subst (λ (k : ℕ). FitsEvent c k (event_of c r past runs bytes) r.orderer (record runs.desk { transfer = Some m.transfer }) r.desk.waiting [] []) (sym one.0) (now.3 (opened c past runs known));
               },
               (
                 rests c r past runs,
                 runs.all,
-                others_owe_none c (me_of r) past (Got (me_of r) bytes) [] runs.holds.of_desk.point (comes c past runs known).taken.1,
+                none_owed cannot c past runs known,
                 inl refl,
               ),
             );
@@ -148,12 +183,13 @@ desk_back d e o m back there same (inr (k, x, is_open, e_is, gives)) =
 -- So the replica is, and the page is dropped.
 pub page_back : (r : JoinedData) (one : AreOne r.orderer r.desk) (sender : ReplicaId) (page : Page) (bytes : List ℕ) (o n m : OpenData) (back : Taken) (a b : JoinedData) (d : DeskData) (mid outs : List Output)
     → heard r.desk.membership r.desk.me bytes ≡ Some (record { sender = sender.0; message = PageMessage page.number.0 page.index page.text.items })
+    → ((c : Configuration) (past : List Entry) (runs : Runs c r past) → members c ≡ r.desk.membership → AnswersInput c (me_of r) past (Got (me_of r) bytes) [] runs.holds.of_desk.point r.desk.executed.state.number)
     → r.desk.transfer ≡ Some o → TakesPageOf o page n (Some back) → Rested r n m a mid → InstallsFetched a mid b outs false → GivesBack b.desk back d
     → TakesBytes bytes r touched.Nothing (record b { desk = d }) outs
-page_back r one sender page bytes o n m back a b d mid outs hears there takes f (same, none) gives =
+page_back r one sender page bytes o n m back a b d mid outs hears answers there takes f (same, none, cannot) gives =
     subst (λ (x : JoinedData). TakesBytes bytes r touched.Nothing x outs) (sym r_is)
     (subst (λ (os : List Output). TakesBytes bytes r touched.Nothing r os) (sym (none ∙ f.outs_are))
-    (drops_beside r one bytes (record { sender = sender.0; message = PageMessage page.number.0 page.index page.text.items }) hears (λ c. record { log = tt; call = refl; asks = λ st. refl; views = refl; changes = tt }) refl))
+    (drops_beside r one bytes (record { sender = sender.0; message = PageMessage page.number.0 page.index page.text.items }) hears (λ c. record { log = tt; call = refl; asks = λ st. refl; views = refl; changes = tt }) answers))
   where
     b_is : b ≡ holding m r
     b_is = same ∙ f.new_is
@@ -172,6 +208,7 @@ module _ (r : JoinedData) (one : AreOne r.orderer r.desk) (sender : ReplicaId) (
   digests_so : (bytes : List ℕ) → heard r.desk.membership r.desk.me bytes ≡ Some (record { sender = sender.0; message = MetaMessage meta.number.0 meta.level meta.index meta.digests.items })
       → (n : OpenData) × (m : OpenData) × Rested r n m a mid
       × ((c : Configuration) (past : List Entry) (runs : Runs c r past) → members c ≡ r.desk.membership → Comes c r past runs bytes n)
+      × ((c : Configuration) (past : List Entry) (runs : Runs c r past) → members c ≡ r.desk.membership → IsOpen c r past runs bytes n)
   digests_so bytes hears =
       let there = takes.2 in
       let now = rested_so r takes.1 a mid (subst (λ (x : DeskData). AsksOn (record r { desk = x }) [] a mid false) takes.3 asks) in (
@@ -179,13 +216,14 @@ module _ (r : JoinedData) (one : AreOne r.orderer r.desk) (sender : ReplicaId) (
         now.0,
         now.1,
         λ c past runs known. digests_come r one bytes sender.0 takes.0 takes.1 there c past runs known meta hears takes.4,
+        λ c past runs known. digests_stay r one bytes sender.0 takes.0 takes.1 there c past runs known meta hears takes.4,
       )
 
   pub digests_install : InstallsFetched a mid b outs true → TakesMessage sender (MetaMessage meta.number.0 meta.level meta.index meta.digests.items) r touched.State b outs
   digests_install installs bytes hears = let so = digests_so bytes hears in state_comes r one bytes so.0 so.1 so.3 a b mid outs so.2 installs
 
   pub digests_end : InstallsFetched a mid b outs false → TakesMessage sender (MetaMessage meta.number.0 meta.level meta.index meta.digests.items) r touched.Nothing b outs
-  digests_end installs bytes hears = let so = digests_so bytes hears in none_comes r one bytes so.0 so.1 so.3 a b mid outs so.2 installs
+  digests_end installs bytes hears = let so = digests_so bytes hears in none_comes r one bytes so.0 so.1 so.3 a b mid outs so.2 so.4 installs
 
 -- ---- a page
 
@@ -199,4 +237,7 @@ module _ (r : JoinedData) (one : AreOne r.orderer r.desk) (sender : ReplicaId) (
       state_comes r one bytes takes.1 page_so.0 (λ c past runs known. page_comes r one bytes sender.0 takes.0 takes.1 takes.2 c past runs known page back hears takes.4) a b mid outs page_so.1 installs
 
   pub page_ends : (e : DeskData) → InstallsFetched a mid b outs false → GivesBack b.desk back e → TakesMessage sender (PageMessage page.number.0 page.index page.text.items) r touched.Nothing (record b { desk = e }) outs
-  page_ends e installs gives bytes hears = page_back r one sender page bytes takes.0 takes.1 page_so.0 back a b e mid outs hears takes.2 takes.4 page_so.1 installs gives
+  page_ends e installs gives bytes hears =
+      page_back r one sender page bytes takes.0 takes.1 page_so.0 back a b e mid outs hears
+      (none_owed r one bytes takes.1 page_so.0 (λ c past runs known. page_comes r one bytes sender.0 takes.0 takes.1 takes.2 c past runs known page back hears takes.4) a b mid outs page_so.1 installs.2)
+      takes.2 takes.4 page_so.1 installs gives

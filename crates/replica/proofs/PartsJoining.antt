@@ -1,22 +1,22 @@
 -- Desk and orderer together hold of the whole history what a whole replica holds, and the other way round.
-use Rattle.std.proofs.Common.{◌≡◌, ℕ, ◌+◌, ◌*◌, ◌≤◌, inl, inr, Bool, true, false, cond, List, [], ◌∷◌, length, refl, sym, ap, ◌∙◌, subst, arith, Option, Some, None}
+use Rattle.std.proofs.Common.{◌≡◌, ℕ, ◌+◌, ◌*◌, ◌≤◌, ◌<◌, inl, inr, Bool, true, false, cond, List, [], ◌∷◌, length, refl, sym, ap, ◌∙◌, subst, arith, Option, Some, None, is_some}
 use Rattle.std.specs.Prelude.{nat_le, nat_lt, not, ◌&&◌, ◌^◌}
 use Rattle.sha2.specs.Sha256.{sha256}
 use Rattle.quorum.specs.Votes.{has_digest}
 use Rattle.quorum.proofs.Counting.{count_same}
 use Rattle.std.specs.Prelude.{option_and_then}
 use Rattle.std.specs.Bool.{then_some}
-use Rattle.wire.specs.Words.{said}
+use Rattle.wire.specs.Words.{frame_of, said}
 use Rattle.wire.specs.Lists.{Each}
-use Rattle.wire.specs.Messages.{MessageData as Message, NewViewData, CheckpointEntryData as CheckpointEntry, checkpoint as Checkpoint, view_change as ViewChange, new_view as NewView}
+use Rattle.wire.specs.Messages.{FrameData, MessageData as Message, NewViewData, CheckpointEntryData as CheckpointEntry, checkpoint as Checkpoint, view_change as ViewChange, new_view as NewView, request as Request, reply as Reply}
 use Rattle.ordering.specs.Log.{LogData}
 use Rattle.protocol.specs.System.Configuration.{Configuration, primary, replicas, span}
 use Rattle.protocol.specs.System.Trace.{Entry, Once, Has, either}
 use Rattle.protocol.specs.System.Trace.Entry.{Invoke, Got, Tick, Executed, Installed, Sent, Accepted}
-use Rattle.protocol.specs.Replica.RightReplica.{SendsBytes, SentBefore, HasSeen}
+use Rattle.protocol.specs.Replica.RightReplica.{SendsBytes, SentBefore, HasSeen, IsFree}
 use Rattle.protocol.specs.Replica.Certificates.{target, view, taken, is_later, low, is_in_marks, logged, prepare_of, commit_of, Prepared, Committed}
 use Rattle.protocol.specs.Replica.State.{State, Call}
-use Rattle.protocol.specs.Replica.Owed.{IsSaying, BeginsViewWith, IsFree}
+use Rattle.protocol.specs.Replica.Owed.{IsSaying, BeginsViewWith}
 use Rattle.view_change.specs.ClaimsView.{ClaimsData}
 use Rattle.view_change.specs.ReceivedData.{HeldData}
 use Rattle.replica_histories.specs.Logs.{FitsLog, IsVoted, above_mark}
@@ -27,6 +27,10 @@ use Rattle.replica_histories.specs.Events as histories
 use Rattle.replica_histories.specs.Numbers as numbers
 use Rattle.replica.specs.Idle.{IsIdle, IsQuiet, LeavesOut, CertifySame}
 use Rattle.replica.proofs.IdleEntries.{once_over, once_back, parted}
+use Rattle.wire.proofs.Saying.{reads_frames, reads_said}
+use Rattle.wire.specs.Spelling.{is_signed}
+use Rattle.protocol.specs.System.Frames.{leaf_in, leaf_of}
+use Rattle.protocol.proofs.Words.Posting.{unsigned_no_leaf}
 use Rattle.replica.proofs.SameWords.{words_same, taken_same}
 use Rattle.protocol.specs.System.Reads.{without_reads}
 use Rattle.replica.specs.State.{OrdererData, DeskData}
@@ -216,6 +220,31 @@ module _ (c : Configuration) (me : ℕ) (g h : List Entry) (p : LeavesOut c me g
   sent_over : (frame : List ℕ) → SentBefore frame g → SentBefore frame h
   sent_over frame k = once_over c me (SendsBytes frame) (λ e g h p x. sends_so frame g h e x) g h p k
 
+  -- what counts for nothing has no leaf
+  leaf_back : (sent : List ℕ) (leaf : ℕ) → leaf_of sent ≡ Some leaf → SentBefore sent h → SentBefore sent g
+  leaf_back sent leaf by k = once_back c me (SendsBytes sent) (λ e g h p x. sends_so sent h g e x) (λ e past idle x. none e past idle x (frame_of sent) refl) g h p k
+    where
+      unsigned : (m : Message) → IsQuiet m → is_signed m ≡ false
+      unsigned (Request t mode op) q = refl
+      unsigned (Reply client t mode number answer) q = refl
+      unsigned _ q = absurd q
+
+      seen : (e : Entry) (past : List Entry) → SendsBytes sent past e → HasSeen sent past e
+      seen (Sent p text) past x = inl x
+      seen (Got x y) past k = absurd k
+      seen (Invoke x y z) past k = absurd k
+      seen (Tick x) past k = absurd k
+      seen (Executed x y z) past k = absurd k
+      seen (Installed x y z) past k = absurd k
+      seen (Accepted x y z) past k = absurd k
+
+      none : (e : Entry) (past : List Entry) → IsIdle c me e → SendsBytes sent past e → (o : Option FrameData) → frame_of sent ≡ o → ⊥
+      none e past idle x None is = absurd (let bad : None ≡ Some leaf = sym (ap (option_and_then (λ (f : FrameData). leaf_in f.authenticator)) is) ∙ by in cc)
+      none e past idle x (Some frame) is =
+          let says : said sent ≡ Some frame.body = reads_said sent frame ((reads_frames sent frame).0 is) in
+          let quiet : IsQuiet frame.body.message = idle.seen past sent frame.body (seen e past x) says in
+          absurd (let bad : None ≡ Some leaf = sym (unsigned_no_leaf sent frame.body says (unsigned frame.body.message quiet)) ∙ by in cc)
+
   received_over : (held : List (Option HeldData)) → FitsReceived c me g held → FitsReceived c me h held
   received_over held f = record {
     latest = λ x n. words.latest x ∙ f.latest x n;
@@ -238,6 +267,9 @@ module _ (c : Configuration) (me : ℕ) (g h : List Entry) (p : LeavesOut c me g
     begun = λ new k same. f.begun new (taken_back new k) same;
     own_change = λ a. let o = f.own_change a in record { own = o.own; held = o.held; view = o.view; sent = sent_over o.own.frame o.sent; posted = o.posted };
     own_view = λ frame is. let o = f.own_view frame is in record { new = o.new; view = o.view; primary = o.primary; sent = sent_over frame o.sent; posted = o.posted };
+    own_latest = f.own_latest;
+    leaves = λ sent leaf by k. f.leaves sent leaf by (leaf_back sent leaf by k);
+    signed = λ leaf l. let s = f.signed leaf l in (s.0, s.1, sent_over s.0 s.2);
   }
 
   pub changes_back : (log : LogData) (x : Changes) → AreChanges x.held → FitsChanges c me log x h → FitsChanges c me log x g
@@ -249,6 +281,9 @@ module _ (c : Configuration) (me : ℕ) (g h : List Entry) (p : LeavesOut c me g
     begun = λ new k same. f.begun new (taken_over new k) same;
     own_change = λ a. let o = f.own_change a in record { own = o.own; held = o.held; view = o.view; sent = sent_back (ViewChange o.own.change) o.own.frame (λ q. q) o.posted.says o.sent; posted = o.posted };
     own_view = λ frame is. let o = f.own_view frame is in record { new = o.new; view = o.view; primary = o.primary; sent = sent_back (NewView o.new) frame (λ q. q) o.posted.says o.sent; posted = o.posted };
+    own_latest = f.own_latest;
+    leaves = λ sent leaf by k. f.leaves sent leaf by (sent_over sent k);
+    signed = λ leaf l. let s = f.signed leaf l in (s.0, s.1, leaf_back s.0 leaf s.1 s.2);
   }
 
   pub said_over : (last : Option CheckpointEntry) → WasSaid me last g → WasSaid me last h
@@ -263,10 +298,7 @@ module _ (c : Configuration) (me : ℕ) (g h : List Entry) (p : LeavesOut c me g
 pub used_over : (c : Configuration) (me used : ℕ) (g h : List Entry) → CertifySame c me g h → IsUsed c me (view c g) used g → IsUsed c me (view c h) used h
 used_over c me used g h s u = record {
   free = λ j a. s.logged (view c h) j ∙ subst (λ (v : ℕ). logged c me g v j ≡ None) (sym s.view) (u.free j a);
-  top = elim u.top [
-    | inl l ↦ inl (subst (λ (n : ℕ). used ≤ n) (sym s.low) l)
-    | inr b ↦ inr (b.0, s.logged (view c h) used ∙ subst (λ (v : ℕ). logged c me g v used ≡ Some b.0) (sym s.view) b.1)
-  ];
+  full = λ j above below. ap is_some (s.logged (view c h) j) ∙ subst (λ (v : ℕ). is_some (logged c me g v j) ≡ true) (sym s.view) (u.full j (subst (λ (n : ℕ). n < j) s.low above) below);
 }
 
 -- where each has a number, none is flagged as without
@@ -305,7 +337,7 @@ module _ (c : Configuration) (o : OrdererData) (d : DeskData) (h : List Entry) (
       let s = words_same c me (without_reads h) h p in
       let u = used_over c me o.used (without_reads h) h s (ho.used (ap (primary c) (sym s.view) ∙ mine)) in
       subst (λ (v : ℕ). FitsFlags c me v o.used d.waiting hd.desk.state hd.desk.waiting h) fits.view
-      (record { calls = f.1.calls; free = u.free; top = u.top; rightly = f.1.rightly; numbered = f.1.numbered; known = f.1.known; differ = f.1.differ })
+      (record { calls = f.1.calls; free = u.free; full = u.full; rightly = f.1.rightly; numbered = f.1.numbered; known = f.1.known; differ = f.1.differ })
 
   all : IsAllNumbered (joined o d)
   all (own, marks, near, active) =
@@ -314,7 +346,13 @@ module _ (c : Configuration) (o : OrdererData) (d : DeskData) (h : List Entry) (
       let in_marks : is_in_marks c (low c me h) n ≡ true =
       subst (λ (l : ℕ). (nat_lt l n && nat_le n (l + span c) && nat_lt n (2 ^ 48)) ≡ true) (sym fits.low)
       (subst (λ (k : ℕ). (nat_lt o.log.low n && nat_le n (o.log.low + k) && nat_lt n (2 ^ 48)) ≡ true) fits.span marks) in
-      let free : IsFree c me h hd.desk.state.number o.log.view n = (in_marks, subst (λ (st : State). n ≤ st.number + 2) (sym hd.is_desk.state) near, λ j above. f.free j (omega (arith, above))) in
+      let same : low c me h ≡ o.log.low = fits.low in
+      let free : IsFree c me h hd.desk.state.number o.log.view n = record {
+        in_marks = in_marks;
+        near = subst (λ (st : State). n ≤ st.number + 2) (sym hd.is_desk.state) near;
+        used = λ j above below. f.full j above (omega (arith, above, below, same));
+        unused = λ j above. f.free j (omega (arith, above));
+      } in
       let settled = held_are_settled c me hd.desk o.log h holds in
       flags_count c d.waiting hd.desk.waiting hd.is_desk.waiting
       ∙ ap (λ (ws : List numbers.Waiting). length ws) (none_left c me o.log.view h (flagged d.waiting.requests hd.desk.waiting) f.rightly
@@ -344,7 +382,7 @@ holds_part c r h one are runs = (
   },
   record {
     holds = record { fits = log_parts c me g h (parted c me h) r.orderer.log fits; prepares = runs.holds.of_log.prepares; commits = runs.holds.of_log.commits };
-    used = λ mine. let f = flags (ap (primary c) s.view ∙ mine) in used_over c me r.orderer.used h g (turned c me g h s) (record { free = f.free; top = f.top });
+    used = λ mine. let f = flags (ap (primary c) s.view ∙ mine) in used_over c me r.orderer.used h g (turned c me g h s) (record { free = f.free; full = f.full });
     said = said_back c me g h (parted c me h) r.orderer.last_checkpoint runs.said;
     changes = changes_back c me g h (parted c me h) r.orderer.log (changes_of r.orderer) are runs.changes;
     period = runs.is_desk.period_is ∙ sym one.2;

@@ -3,7 +3,7 @@ use Rattle.std.proofs.Common.{◌≡◌, ℕ, zero, suc, ◌+◌, ◌*◌, ◌<�
 use Rattle.std.specs.Prelude.{is_none, IsTrue}
 use Rattle.authenticator.specs.Membership.{Membership}
 use Rattle.events.specs.declared.output.Output.{Output}
-use Rattle.events.specs.Outputs.{after_event}
+use Rattle.events.specs.Outputs.{after_event, AreSentAsMeant}
 use Rattle.wire.specs.Messages.{view_change as ViewChange}
 use Rattle.wire.specs.Words.{said}
 use Rattle.wire.proofs.Saying.{reads_said}
@@ -23,7 +23,7 @@ use Rattle.replica.specs.Desking.{IsNewDesk}
 use Rattle.replica.specs.Taking.{IsNewOrderer}
 use Rattle.replica.specs.Inputs.{input_of}
 use Rattle.replica.specs.Joined as joined_ones
-use Rattle.replica.specs.Parted.{HoldsDesk, HoldsOrderer, FitsDesk, FitsOrderer, FitBoth, AreTogether, BothLead, DeskStops, OrdererStops, Reacts}
+use Rattle.replica.specs.Parted.{HoldsDesk, HoldsOrderer, FitsDesk, FitsOrderer, FitBoth, AreTogether, BothLead, BothSendAsMeant, DeskStops, OrdererStops, Reacts}
 use Rattle.replica.specs.Changing.{AreChanges}
 use Rattle.replica.specs.Joined.{joined}
 use Rattle.replica.proofs.Fitting.{fits_new}
@@ -104,23 +104,35 @@ both_new c m me o d valid few mine membership new_orderer new_desk are =
 module _ (m n : MemberData) (o later_o : OrdererData) (d later_d : DeskData) (event : Event) (outs : List Output) (same : n ≡ m) (mine : o.endpoint.me ≡ m.me) (membership : o.endpoint.membership ≡ m.membership)
     (one : AreOne o d) (later_one : AreOne later_o later_d) (are : AreChanges later_o.received.held) (endpoint : later_o.endpoint ≡ o.endpoint)
     (leads : joined_ones.EventLeads (joined o d) event outs (joined later_o later_d)) where
+  -- the joined replica fits what both fit
+  fits_joined : (c : Configuration) (history : List Entry) → FitBoth c m.me (orders m o) (answers m d) history → joined_ones.Fits c (joined o d) history
+  fits_joined c history (fits_desk, fits_orderer) = record {
+    members_are = fits_desk.members_are ∙ sym membership;
+    right = subst (λ (k : ℕ). IsReplica c k history) (sym mine) fits_desk.right;
+    runs = parts_join c o d history one (subst (λ (k : ℕ). HoldsDesk c k d history) (sym mine) (fits_desk.running d refl))
+        (subst (λ (k : ℕ). HoldsOrderer c k o (without_reads history)) (sym mine) (fits_orderer.running o refl));
+  }
+
   lead_at : (c : Configuration) (history : List Entry) → FitBoth c m.me (orders m o) (answers m d) history
       → FitBoth c m.me (orders m later_o) (answers m later_d) (after_event m.me (input_of m.me event) outs history)
-  lead_at c history (fits_desk, fits_orderer) =
-      both_fit c m later_o later_d (after_event m.me (input_of m.me event) outs history) later_one are (ap (λ e. e.me) endpoint ∙ mine) fits_desk.members_are
-      (subst (λ (k : ℕ). joined_ones.Fits c (joined later_o later_d) (after_event k (input_of k event) outs history)) mine (leads c history (record {
-        members_are = fits_desk.members_are ∙ sym membership;
-        right = subst (λ (k : ℕ). IsReplica c k history) (sym mine) fits_desk.right;
-        runs = parts_join c o d history one (subst (λ (k : ℕ). HoldsDesk c k d history) (sym mine) (fits_desk.running d refl))
-            (subst (λ (k : ℕ). HoldsOrderer c k o (without_reads history)) (sym mine) (fits_orderer.running o refl));
-      })))
+  lead_at c history fits =
+      both_fit c m later_o later_d (after_event m.me (input_of m.me event) outs history) later_one are (ap (λ e. e.me) endpoint ∙ mine) fits.0.members_are
+      (subst (λ (k : ℕ). joined_ones.Fits c (joined later_o later_d) (after_event k (input_of k event) outs history)) mine (leads c history (fits_joined c history fits)).0)
+
+  -- both fit this as parts of one replica
+  fit_at : (c : Configuration) (me : ℕ) (history : List Entry) → FitBoth c me (orders m o) (answers n d) history → FitBoth c m.me (orders m o) (answers m d) history
+  fit_at c me history fits =
+      subst (λ (k : ℕ). FitBoth c k (orders m o) (answers m d) history) (sym fits.1.me_is)
+      (subst (λ (k : MemberData). FitBoth c me (orders m o) (answers k d) history) same fits)
 
   pub both_lead : BothLead (orders m o) (answers n d) event outs (orders m later_o) (answers n later_d)
   both_lead c me history fits =
       subst (λ (k : MemberData). FitBoth c me (orders m later_o) (answers k later_d) (after_event me (input_of me event) outs history)) (sym same)
       (subst (λ (k : ℕ). FitBoth c k (orders m later_o) (answers m later_d) (after_event k (input_of k event) outs history)) fits.1.me_is
-      (lead_at c history (subst (λ (k : ℕ). FitBoth c k (orders m o) (answers m d) history) (sym fits.1.me_is)
-      (subst (λ (k : MemberData). FitBoth c me (orders m o) (answers k d) history) same fits))))
+      (lead_at c history (fit_at c me history fits)))
+
+  pub both_send : BothSendAsMeant (orders m o) (answers n d) outs
+  both_send c me history fits = subst (λ (k : ℕ). AreSentAsMeant c k outs) (mine ∙ fits.1.me_is) (leads c history (fits_joined c history (fit_at c me history fits))).1
 
 -- both step together
 pub steps : (o later_o : OrdererPart) (d later_d : DeskPart) (x later_x : OrdererData) (y later_y : DeskData) (event : Event) (outs : List Output) → o.holds ≡ Some x → d.holds ≡ Some y → o.member ≡ d.member
@@ -131,6 +143,13 @@ steps o later_o d later_d x later_x y later_y event outs o_is d_is same are one 
     (subst (λ (p : OrdererPart). BothLead (orders o.member x) (answers d.member y) event outs p later_d) (sym now_o)
     (subst (λ (q : DeskPart). BothLead (orders o.member x) (answers d.member y) event outs (orders o.member later_x) q) (sym now_d)
     (both_lead o.member d.member x later_x y later_y event outs (sym same) (are x o_is).0 (are x o_is).1 one r.one r.changes r.endpoint r.leads))))
+
+pub steps_send : (o : OrdererPart) (d : DeskPart) (x later_x : OrdererData) (y later_y : DeskData) (event : Event) (outs : List Output) → o.holds ≡ Some x → d.holds ≡ Some y → o.member ≡ d.member
+    → IsOrdererPart o → AreOne x y → Reacts x y event outs later_x later_y → BothSendAsMeant o d outs
+steps_send o d x later_x y later_y event outs o_is d_is same are one r =
+    subst (λ (p : OrdererPart). BothSendAsMeant p d outs) (ap (λ (h : Option OrdererData). let p : OrdererPart = record { member = o.member; holds = h } in p) (sym o_is))
+    (subst (λ (q : DeskPart). BothSendAsMeant (orders o.member x) q outs) (ap (λ (h : Option DeskData). let q : DeskPart = record { member = d.member; holds = h } in q) (sym d_is))
+    (both_send o.member d.member x later_x y later_y event outs (sym same) (are x o_is).0 (are x o_is).1 one r.one r.changes r.endpoint r.leads))
 
 -- parts that are together have checkpoints as often
 pub one_period : (o : OrdererPart) (d : DeskPart) (x : OrdererData) (y : DeskData) → AreTogether o d → o.holds ≡ Some x → d.holds ≡ Some y → x.received.sizes.period ≡ y.period

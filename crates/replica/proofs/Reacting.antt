@@ -1,15 +1,16 @@
 -- A whole event: where nothing is left to do, the history behind it fits.
-use Rattle.std.proofs.Common.{◌≡◌, ℕ, suc, ◌+◌, ◌≤◌, ◌⊎◌, inl, inr, true, false, List, [], ◌∷◌, ◌++◌, reverse, map, None, refl, sym, ap, ◌∙◌, subst, append_assoc, max}
+use Rattle.std.proofs.Common.{◌≡◌, ℕ, suc, ◌+◌, ◌≤◌, ◌⊎◌, inl, inr, true, false, List, [], ◌∷◌, ◌++◌, reverse, map, None, refl, sym, ap, ◌∙◌, subst, append_assoc, arith, max}
 use Rattle.std.proofs.lemmas.List.{reverse-append}
 use Rattle.events.specs.declared.output.Output.{Output}
-use Rattle.events.specs.Outputs.{entry_of, behind, after_event}
+use Rattle.events.specs.Outputs.{entry_of, behind, after_event, AreSentAsMeant}
 use Rattle.ordering.specs.Log as logs
 use Rattle.ordering.specs.Log.{LogData}
 use Rattle.protocol.specs.System.Configuration.{Configuration, members}
 use Rattle.protocol.specs.System.Trace.{Entry, is_output}
+use Rattle.protocol.specs.Replica.Certificates.{target}
 use Rattle.protocol.specs.Replica.State.{State}
 use Rattle.posting.specs.Endpoint.{EndpointState}
-use Rattle.replica_histories.specs.Questions.{AnswersInput, brings_question}
+use Rattle.replica_histories.specs.Questions.{AnswersInput}
 use Rattle.replica_histories.specs.Desk.{Desk}
 use Rattle.replica_histories.specs.Logs.{FitsLog}
 use Rattle.protocol.specs.Replica.Owed.{IsReplica}
@@ -34,7 +35,7 @@ use Rattle.replica.specs.declared.replica.Event.{Event}
 use Rattle.replica.specs.declared.replica.Event.TheVariants as events
 use Rattle.replica.specs.Inputs.{input_of}
 use Rattle.replica.specs.Joined.{Runs, Fits, Leads, me_of}
-use Rattle.replica.specs.Entering.{event_with, IsTakenBeside, TakesInput}
+use Rattle.replica.specs.Entering.{event_with, IsAnswered, IsTakenBeside, TakesInput}
 use Rattle.replica.proofs.Flags.{flags_given}
 use Rattle.replica.proofs.Parties.{same_party, one_of_same, ones_twice}
 
@@ -75,22 +76,25 @@ settled c me r desk history is fits count rest all = record {
 module _ (old new : JoinedData) (one : AreOne old.orderer old.desk) (party : IsOneParty old new) where
   pub ends : (c : Configuration) (past : List Entry) (input : Entry) (outs : List Output) (f : Fits c old past) (runs : Runs c old past) → is_output input ≡ false
       → Stands c (start_at c (me_of old) runs.desk old.orderer.log past runs.holds input) new.orderer new.desk [] outs → Rests new → IsAllNumbered new
-      → AnswersInput c (me_of old) past input (given (me_of old) outs) runs.holds.of_desk.point
+      → AnswersInput c (me_of old) past input (given (me_of old) outs) runs.holds.of_desk.point new.desk.executed.state.number
       → (outs ≡ []) ⊎ IsTaken c (me_of old) (start_at c (me_of old) runs.desk old.orderer.log past runs.holds input)
-      → Fits c new (after_event (me_of old) input outs past)
-  ends c past input outs f runs is st rest all answered why = subst (Fits c new) (behind_is (map (entry_of (me_of old)) outs) (input ∷ past)) (record {
-    members_are = f.members_are ∙ sym (ap (λ (e : EndpointState). e.membership) party.endpoint);
-    right = subst (λ (e : EndpointState). IsReplica c e.me now) (sym party.endpoint) (held_are_replicas c (me_of old) st.desk new.orderer.log now held);
-    runs = record {
-      desk = st.desk;
-      is_desk = st.is;
-      holds = subst (λ (x : EndpointState). histories.Holds c x.me st.desk new.orderer.log now) (sym party.endpoint) held;
-      numbers = subst (λ (x : EndpointState). FitsWaiting c x.me new.orderer new.desk.waiting st.desk now) (sym party.endpoint) event.numbers;
-      said = subst (λ (x : EndpointState). WasSaid x.me new.orderer.last_checkpoint now) (sym party.endpoint) event.said;
-      changes = subst (λ (x : EndpointState). FitsChanges c x.me new.orderer.log (changes_of new.orderer) now) (sym party.endpoint) event.changes;
-      all = all;
-    };
-  })
+      → Fits c new (after_event (me_of old) input outs past) × AreSentAsMeant c (me_of old) outs
+  ends c past input outs f runs is st rest all answered why = (
+    subst (Fits c new) (behind_is (map (entry_of (me_of old)) outs) (input ∷ past)) (record {
+      members_are = f.members_are ∙ sym (ap (λ (e : EndpointState). e.membership) party.endpoint);
+      right = subst (λ (e : EndpointState). IsReplica c e.me now) (sym party.endpoint) (held_are_replicas c (me_of old) st.desk new.orderer.log now held);
+      runs = record {
+        desk = st.desk;
+        is_desk = st.is;
+        holds = subst (λ (x : EndpointState). histories.Holds c x.me st.desk new.orderer.log now) (sym party.endpoint) held;
+        numbers = subst (λ (x : EndpointState). FitsWaiting c x.me new.orderer new.desk.waiting st.desk now) (sym party.endpoint) event.numbers;
+        said = subst (λ (x : EndpointState). WasSaid x.me new.orderer.last_checkpoint now) (sym party.endpoint) event.said;
+        changes = subst (λ (x : EndpointState). FitsChanges c x.me new.orderer.log (changes_of new.orderer) now) (sym party.endpoint) event.changes;
+        all = all;
+      };
+    }),
+    event.meant,
+  )
     where
       s : Start
       s = start_at c (me_of old) runs.desk old.orderer.log past runs.holds input
@@ -110,7 +114,8 @@ module _ (old new : JoinedData) (one : AreOne old.orderer old.desk) (party : IsO
 
       held : histories.Holds c (me_of old) st.desk new.orderer.log now
       held = events_end c (me_of old) runs.desk st.desk old.orderer.log new.orderer.log past (given (me_of old) outs) input runs.holds event.fits
-          (settled c (me_of old) new st.desk now st.is event.fits.of_log event.numbers rest all) answered is (taken_so why)
+          (settled c (me_of old) new st.desk now st.is event.fits.of_log event.numbers rest all)
+          (subst (λ (x : State). AnswersInput c (me_of old) past input (given (me_of old) outs) runs.holds.of_desk.point x.number) (sym st.is.state) answered) is (taken_so why)
 
 -- ---- by what was touched
 
@@ -126,22 +131,22 @@ module _ (input : Entry) (old : JoinedData) (one : AreOne old.orderer old.desk) 
   why c s new outs party (inl e) = inl e
   why c s new outs party (inr t) = inr (taken_then c s new party t)
 
-  -- what is no fetch is owed no answer
-  owes_none : (c : Configuration) (s : Start) (mid : JoinedData) (outs : List Output) → IsOneParty old mid → IsTakenBeside c (me_of mid) s
-      → AnswersInput c (me_of old) s.before s.input (given (me_of old) outs) s.old
-  owes_none c s mid outs party t =
-      others_owe_none c (me_of old) s.before s.input (given (me_of old) outs) s.old (subst (λ (e : EndpointState). brings_question c e.me s.input ≡ false) party.endpoint t.1)
+  -- what is no part, and asks for none, is owed nothing
+  beside_answered : (c : Configuration) (me : ℕ) (s : Start) (number : ℕ) → IsTakenBeside c me s → IsTaken c me s × IsAnswered c me s number
+  beside_answered c me s number t = (t.0, λ outputs executed above. others_owe_none c me s.before s.input outputs s.old executed t.1)
 
   -- an event that ends with numbers for what waits
   ends_numbered : (c : Configuration) (past : List Entry) (mid before new : JoinedData) (x outs : List Output) (f : Fits c old past) (runs : Runs c old past)
-      → IsOneParty old mid → IsSameParty mid before → NumbersWaiting before x new outs → Rests before
-      → Stands c (event_with c old past runs input) before.orderer before.desk [] x → IsTakenBeside c (me_of mid) (event_with c old past runs input)
-      → Fits c new (after_event (me_of old) input outs past)
-  ends_numbered c past mid before new x outs f runs first then n rest st t =
+      → IsOneParty old mid → IsSameParty mid before → NumbersWaiting before x new outs → mid.desk.executed.state.number ≤ before.desk.executed.state.number → Rests before
+      → Stands c (event_with c old past runs input) before.orderer before.desk [] x
+      → IsTaken c (me_of mid) (event_with c old past runs input) × IsAnswered c (me_of mid) (event_with c old past runs input) mid.desk.executed.state.number
+      → Fits c new (after_event (me_of old) input outs past) × AreSentAsMeant c (me_of old) outs
+  ends_numbered c past mid before new x outs f runs first then n above rest st t =
       let party = ones_twice old mid before first (one_of_same mid before then) in
       let p = n.proceeds rest c (event_with c old past runs input) (known c past f ∙ sym party.membership) st in
       ends old new one (ones_twice old before new party (one_of_same before new n.party)) c past input outs f runs is_input p (n.rests rest) n.all
-      (owes_none c (event_with c old past runs input) mid outs first t) (inr (taken_then c (event_with c old past runs input) mid first t.0))
+      (subst (λ (e : EndpointState). AnswersInput c e.me past input (given (me_of old) outs) runs.holds.of_desk.point new.desk.executed.state.number) first.endpoint
+      (t.1 (given (me_of old) outs) new.desk.executed.state.number (let more = n.rises in omega (arith, above, more)))) (inr (taken_then c (event_with c old past runs input) mid first t.0))
 
   -- What an event does, and then what is done behind it, by what it touched.
   leads_nothing : (new : JoinedData) (outs : List Output) → TakesInput input old touched.Nothing new outs → Leads old input outs new
@@ -149,35 +154,46 @@ module _ (input : Entry) (old : JoinedData) (one : AreOne old.orderer old.desk) 
       let runs = f.runs in
       let b = t.begins c past runs (known c past f) in
       ends old new one t.party c past input outs f runs is_input b.0 b.1.0 b.1.1
-      (subst (λ (e : EndpointState). AnswersInput c e.me past input (given e.me outs) runs.holds.of_desk.point) t.party.endpoint b.1.2)
+      (subst (λ (e : EndpointState). AnswersInput c e.me past input (given e.me outs) runs.holds.of_desk.point new.desk.executed.state.number) t.party.endpoint b.1.2)
       (why c (event_with c old past runs input) new outs t.party b.1.3)
 
   leads_waiting : (mid new : JoinedData) (x outs : List Output) → TakesInput input old touched.Waiting mid x → NumbersWaiting mid x new outs → Leads old input outs new
   leads_waiting mid new x outs t n c past f =
       let runs = f.runs in
       let b = t.begins c past runs (known c past f) in
-      ends_numbered c past mid mid new x outs f runs t.party (same_party mid) n b.1.0 b.0 b.1.1
+      ends_numbered c past mid mid new x outs f runs t.party (same_party mid) n (omega arith) b.1.0 b.0
+      (beside_answered c (me_of mid) (event_with c old past runs input) mid.desk.executed.state.number b.1.1)
 
   leads_row : (number : Number) (mid new : JoinedData) (x outs : List Output) → TakesInput input old (touched.Row number) mid x → FollowsUp (touched.Row number) mid x new outs → Leads old input outs new
   leads_row number mid new x outs t (voted, y, g, n) c past f =
       let runs = f.runs in
       let b = t.begins c past runs (known c past f) in
       let st = g.proceeds b.1.0 c (event_with c old past runs input) (known c past f ∙ sym t.party.membership) b.0 in
-      ends_numbered c past mid voted new y outs f runs t.party g.party n (g.rests b.1.0) st b.1.1
+      ends_numbered c past mid voted new y outs f runs t.party g.party n g.rises (g.rests b.1.0) st
+      (beside_answered c (me_of mid) (event_with c old past runs input) mid.desk.executed.state.number b.1.1)
 
   leads_state : (mid new : JoinedData) (x outs : List Output) → TakesInput input old touched.State mid x → ExecutesAndNumbers mid x new outs → Leads old input outs new
   leads_state mid new x outs t (run, y, g, n) c past f =
       let runs = f.runs in
       let b = t.begins c past runs (known c past f) in
       let st = g.proceeds b.1.0 c (event_with c old past runs input) (known c past f ∙ sym t.party.membership) b.0 in
-      ends_numbered c past mid run new y outs f runs t.party g.party n (g.rests b.1.0) st b.1.1
+      ends_numbered c past mid run new y outs f runs t.party g.party n g.rises (g.rests b.1.0) st (b.1.1, b.1.2)
 
   leads_view : (mid new : JoinedData) (x outs : List Output) → TakesInput input old touched.View mid x → ExecutesAndNumbers mid x new outs → Leads old input outs new
   leads_view mid new x outs t (run, y, g, n) c past f =
       let runs = f.runs in
       let b = t.begins c past runs (known c past f) in
-      let st = g.proceeds b.1.0 c (event_with c old past runs input) (known c past f ∙ sym t.party.membership) b.0 in
-      ends_numbered c past mid run new y outs f runs t.party g.party n (g.rests b.1.0) st b.1.1
+      let s = event_with c old past runs input in
+      let first = ones_twice old mid run t.party (one_of_same mid run g.party) in
+      let st = g.proceeds b.1.0 c s (known c past f ∙ sym t.party.membership) b.0 in
+      let whole = ones_twice old run new first (one_of_same run new n.party) in
+      let p = n.proceeds (g.rests b.1.0) c s (known c past f ∙ sym first.membership) st in
+      let there : target (histories.behind s (given (me_of old) outs)) ≡ new.orderer.target =
+      subst (λ (m : ℕ). target (histories.behind s (given m outs)) ≡ new.orderer.target) (whole.me ∙ one.0) p.fits.changes.target in
+      ends old new one whole c past input outs f runs is_input p (n.rests (g.rests b.1.0)) n.all
+      (subst (λ (e : EndpointState). AnswersInput c e.me past input (given (me_of old) outs) runs.holds.of_desk.point new.desk.executed.state.number) t.party.endpoint
+      (b.1.1.1 (given (me_of old) outs) new.desk.executed.state.number (there ∙ n.party.orderer.target ∙ g.party.orderer.target)))
+      (inr (taken_then c s mid t.party b.1.1.0))
 
   -- whatever it touched
   pub leads_on : (what : Touched) (mid new : JoinedData) (x outs : List Output) → TakesInput input old what mid x → FollowsUp what mid x new outs → Leads old input outs new

@@ -1,12 +1,12 @@
 -- A read that is answered beside ordering keeps what the desk holds; no orderer is mentioned.
-use Rattle.std.proofs.Common.{◌≡◌, ℕ, suc, ◌+◌, ◌≤◌, inl, inr, true, false, List, [], ◌∷◌, map, refl, sym, ap, ◌∙◌, subst, arith, Option, Some, None}
+use Rattle.std.proofs.Common.{◌≡◌, ℕ, suc, ◌+◌, ◌≤◌, inl, inr, true, false, List, [], ◌∷◌, map, refl, sym, ap, ◌∙◌, subst, arith, Option, Some, None, is_some, ◌<◌}
 use Rattle.std.specs.Option.{option_map_or}
 use Rattle.std.specs.Prelude.{option_and_then}
 use Rattle.tuple_codec.specs.Operations.{Operation, Outcome}
 use Rattle.space.specs.Applying.{outcome, is_read_only}
 use Rattle.terms.specs.declared.order.Mode.TheVariants as modes
 use Rattle.terms.specs.declared.state.Level.TheVariants as levels
-use Rattle.wire.specs.Messages.{BodyData as Body, AuthenticatorData, macs, signature, request as Request, pre_prepare as PrePrepare, reply as Reply, fetch as Fetch}
+use Rattle.wire.specs.Messages.{BodyData as Body, AuthenticatorData, macs, signature, request as Request, pre_prepare as PrePrepare, reply as Reply, fetch as Fetch, meta as Meta, page as Page, view_change as ViewChange}
 use Rattle.wire.specs.Words.{said, receivers_of}
 use Rattle.signing.specs.Heard.{heard}
 use Rattle.protocol.specs.System.Configuration.{Configuration, members, primary}
@@ -17,7 +17,9 @@ use Rattle.protocol.specs.Replica.Selection.{is_quorum}
 use Rattle.protocol.specs.Replica.Certificates.{view, low, is_in_marks}
 use Rattle.protocol.specs.Replica.State.{Call, call_in, tuples}
 use Rattle.protocol.specs.Replica.RightReplica.{Point, MaySend, IsAddressed, with_waiting, waiting_after, kept_states, Executes}
-use Rattle.protocol.specs.Replica.Owed.{Owes, Proceeds, IsNumbered, fetching}
+use Rattle.protocol.specs.Replica.Transfers.{fetching}
+use Rattle.protocol.specs.Replica.Owed.{Owes, Proceeds, IsNumbered}
+use Rattle.protocol.proofs.Words.Moving.{no_reason}
 use Rattle.protocol.proofs.Words.Options.{some_injective}
 use Rattle.replica_histories.specs.Questions.{read_from, read_reply}
 use Rattle.replica_histories.specs.TransfersQuorums.{QuorumsFetched}
@@ -26,6 +28,7 @@ use Rattle.replica_histories.specs.Desk.{snapshot_of, point_of}
 use Rattle.replica_histories.specs.Events.{FitsFrames, FitsSnapshots, IsFetched, IsReached}
 use Rattle.replica_histories.specs.Transfers.{FitsOpen}
 use Rattle.replica.specs.State.{DeskData}
+use Rattle.protocol.proofs.Words.Posting.{unsigned_have_no_leaf}
 use Rattle.replica.specs.Flags.{FitsFlags}
 use Rattle.replica.specs.Parted.{HoldsDesk}
 use Rattle.replica_histories.proofs.Resting.{Rests, rests}
@@ -100,7 +103,12 @@ module _ (c : Configuration) (me : ℕ) (h : List Entry) (p : Point) (bytes answ
   owes = record {
     numbers = λ v i call active own wait free. numbered v call.client call.timestamp
         (rest.numbers v i call (sym (active_same c me (Got me bytes) h now same v) ∙ active) own (subst (λ (xs : List Call). Has (λ x. x ≡ call) xs) waits wait)
-        (subst (λ (n : ℕ). is_in_marks c n i ≡ true) same.low free.0, free.1, λ j above. sym (same.logged v j) ∙ free.2 j above));
+        (record {
+          in_marks = subst (λ (n : ℕ). is_in_marks c n i ≡ true) same.low free.in_marks;
+          near = free.near;
+          used = λ j above below. ap is_some (sym (same.logged v j)) ∙ free.used j (subst (λ (n : ℕ). n < j) (sym same.low) above) below;
+          unused = λ j above. sym (same.logged v j) ∙ free.unused j above;
+        }));
     numbers_once = (λ v i batch says none. let bad : false ≡ true = reply_only (record { sender = me; message = PrePrepare v i batch }) says in absurd cc, tt);
     prepares = λ v i batch none some active backup. let bad : None ≡ Some batch = sym none ∙ sym (same.logged v i) ∙ some in absurd cc;
     commits = λ v i batch none some active. absurd (none (prepared_same c me h now v i batch same some));
@@ -111,7 +119,10 @@ module _ (c : Configuration) (me : ℕ) (h : List Entry) (p : Point) (bytes answ
     reads = λ a t o other is. inl (same_answer a t o (sym hears ∙ other));
     fetched_digests = λ s k index level is other st kept. let bad : false ≡ true = read_only (record { sender = s; message = Fetch k level index }) other in absurd cc;
     fetched_page = λ s k index other st kept. let bad : false ≡ true = read_only (record { sender = s; message = Fetch k levels.Page index }) other in absurd cc;
+    goes_on_by_digests = λ s k index level digests other awaited. let bad : false ≡ true = read_only (record { sender = s; message = Meta k level index digests }) other in absurd cc;
+    goes_on_by_page = λ s k index text other awaited. let bad : false ≡ true = read_only (record { sender = s; message = Page k index text }) other in absurd cc;
     fetches = λ k root q above later. let most = fetched k root (subst (λ (n : ℕ). is_quorum c n ≡ true) (count_checkpoints_same c h now same.checkpoints (record { number = k; digest = root })) q) above in absurd (omega (arith, most, later));
+    view_changes = λ vc other moves may within says. absurd (no_reason c me h bytes p.waiting vc.view (λ s x asks. let bad : false ≡ true = read_only (record { sender = s; message = ViewChange x }) asks in absurd cc) moves);
     dropped = λ other got drops. let at : bytes ≡ other = cc in
         absurd (drops (read_from client timestamp op) (subst (λ (b : List ℕ). heard (members c) me b ≡ Some (read_from client timestamp op)) at hears) is_read);
   }
@@ -134,6 +145,8 @@ module _ (c : Configuration) (me : ℕ) (h : List Entry) (p : Point) (bytes answ
     seen = tt;
     say = record { op = op; is_read = is_read; heard = inl hears; answer_is = refl; number_is = refl };
     is_sealed = λ f is. let s = frame.is_sealed f is in (s.0, addressed c me (Got me bytes ∷ h) client timestamp p.state.number (outcome (tuples p.state) op) f.authenticator s.1);
+    leaf = unsigned_have_no_leaf (Got me bytes ∷ h) answer (record { sender = me; message = read_reply p.state client timestamp op }) frame.says refl;
+    once = λ here. here;
   }
 
   pub goes_on : Proceeds c me now [] mid mid

@@ -13,7 +13,7 @@ use Rattle.read_only.specs.Hearing.{HearsRead}
 use Rattle.read_only.specs.Answering as answers
 use Rattle.signing.specs.Heard.{heard}
 use Rattle.events.specs.declared.output.Output.{Output}
-use Rattle.events.specs.Outputs.{entry_of}
+use Rattle.events.specs.Outputs.{entry_of, IsSentAsMeant}
 use Rattle.protocol.specs.System.Configuration.{Configuration, members}
 use Rattle.protocol.specs.System.Frames.{IsPosted}
 use Rattle.protocol.specs.System.Trace.{Entry}
@@ -32,7 +32,7 @@ use Rattle.replica.specs.Reading.{AnswersRead, HearsNoRead, AnswersBytes}
 use Rattle.replica.specs.Joined.{Runs, me_of}
 use Rattle.replica.proofs.Beginning.{rests, silence_dropped}
 use Rattle.replica.proofs.Beside.{begins, heard_so}
-use Rattle.replica.proofs.Given.{given_one}
+use Rattle.replica.proofs.Given.{GivesOne, gives_one}
 use Rattle.replica.proofs.Parties.{one_self, same_log}
 use Rattle.replica.proofs.Staying.{fits_on, sent_beside}
 
@@ -51,31 +51,31 @@ module _ (r : JoinedData) (one : AreOne r.orderer r.desk) (client t : ℕ) (op :
 
     abbrev Left : List Output → Type 0
     Left outs = FitsEvent c me (event_of c r past runs bytes) r.orderer runs.desk r.desk.waiting [] outs
-        × AnswersInput c me past (Got me bytes) (given me outs) runs.holds.of_desk.point
+        × AnswersInput c me past (Got me bytes) (given me outs) runs.holds.of_desk.point r.desk.executed.state.number
         × ((outs ≡ []) ⊎ IsTaken c me (event_of c r past runs bytes))
 
     -- what is no read gets nothing
     drops : is_read_only op ≡ false → Left []
-    drops unread = (begun, other_operations_owe_none c me runs.desk r.orderer.log past (Got me bytes) [] client t op runs.holds is_heard unread, inl refl)
+    drops unread = (begun, other_operations_owe_none c me runs.desk r.orderer.log past (Got me bytes) [] client t r.desk.executed.state.number op runs.holds is_heard unread, inl refl)
 
     abbrev reply : Message
     reply = read_reply runs.desk.state client t op
 
     -- and a read its answer
-    gives : is_read_only op ≡ true → (output : Output) (sent : List ℕ) → entry_of me output ≡ Sent me sent → IsPosted c me reply (client ∷ []) sent → Left (output ∷ [])
-    gives is output sent sends posted = (
+    gives : is_read_only op ≡ true → (output : Output) (sent : List ℕ) → entry_of me output ≡ Sent me sent → IsSentAsMeant c me output → IsPosted c me reply (client ∷ []) sent → Left (output ∷ [])
+    gives is output sent sends meant posted = (
       fits_on c me (event_of c r past runs bytes) r.orderer r.orderer runs.desk r.desk.waiting [] [] [] (output ∷ []) (Sent me sent) one_given
           (sent_beside c me reply (client ∷ []) sent (Got me bytes ∷ past) tt posted)
-          (sent_keep c me (Got me bytes ∷ past) reply sent posted.says tt)
+          (sent_keep c me (Got me bytes ∷ past) reply sent posted.says tt (λ signed. absurd cc))
           (same_log r.orderer.log) refl refl refl refl begun
-          (reads_fit c me (event_of c r past runs bytes) runs.desk r.orderer.log [] [] client t op sent (inl is_heard) is posted begun.fits),
-      subst (λ (es : List Entry). AnswersInput c me past (Got me bytes) es runs.holds.of_desk.point) (sym one_given)
-          (reads_suffice c me runs.desk r.orderer.log past (Got me bytes) (Sent me sent ∷ []) client t op runs.holds is_heard (inl posted.says)),
+          (reads_fit c me (event_of c r past runs bytes) runs.desk r.orderer.log [] [] client t op sent (inl is_heard) is (λ given. given) posted begun.fits),
+      subst (λ (es : List Entry). AnswersInput c me past (Got me bytes) es runs.holds.of_desk.point r.desk.executed.state.number) (sym one_given.is)
+          (reads_suffice c me runs.desk r.orderer.log past (Got me bytes) (Sent me sent ∷ []) client t r.desk.executed.state.number op runs.holds is_heard (inl posted.says)),
       inr (read_from client t op, is_heard, is),
     )
       where
-        one_given : given me (output ∷ []) ≡ Sent me sent ∷ []
-        one_given = given_one me [] (output ∷ []) output refl ∙ ap (λ e. e ∷ []) sends
+        one_given : GivesOne c me [] (output ∷ []) (Sent me sent)
+        one_given = gives_one c me [] (output ∷ []) output (Sent me sent) refl sends meant
 
   -- in whatever event, nothing else is left to do
   takes : (outs : List Output)
@@ -104,10 +104,13 @@ module _ (r : JoinedData) (one : AreOne r.orderer r.desk) (bytes : List ℕ) (ou
   takes_read : TakesBytes bytes r touched.Nothing r outs
   takes_read = subst (λ (os : List Output). TakesBytes bytes r touched.Nothing r os) (sym a.says.given_is)
       (takes r one client a.timestamp a.op bytes a.hears (a.says.output ∷ []) (λ c past runs known.
-      gives r one client a.timestamp a.op bytes a.hears c past runs known a.is_read a.says.output a.says.posts.bytes (sends c) (posted c past runs known)))
+      gives r one client a.timestamp a.op bytes a.hears c past runs known a.is_read a.says.output a.says.posts.bytes (sends c) (meant c known) (posted c past runs known)))
     where
       sends : (c : Configuration) → entry_of (me_of r) a.says.output ≡ Sent (me_of r) a.says.posts.bytes
       sends c = subst (λ (m : ℕ). entry_of m a.says.output ≡ Sent m a.says.posts.bytes) one.0 a.says.posts.sends
+
+      meant : (c : Configuration) → members c ≡ r.desk.membership → IsSentAsMeant c (me_of r) a.says.output
+      meant c known = subst (λ (m : ℕ). IsSentAsMeant c m a.says.output) one.0 (a.says.posts.meant c known)
 
       posted : (c : Configuration) (past : List Entry) (runs : Runs c r past) → members c ≡ r.desk.membership
           → IsPosted c (me_of r) (read_reply runs.desk.state client a.timestamp a.op) (client ∷ []) a.says.posts.bytes

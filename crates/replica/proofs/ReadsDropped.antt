@@ -1,12 +1,12 @@
 -- Bytes with the marks of a read that ask for none are dropped, and owe nothing.
-use Rattle.std.proofs.Common.{◌≡◌, ℕ, suc, ◌+◌, inl, inr, true, false, List, [], ◌∷◌, refl, sym, ap, ◌∙◌, subst, arith, Option, Some, None}
+use Rattle.std.proofs.Common.{◌≡◌, ℕ, suc, ◌+◌, inl, inr, true, false, List, [], ◌∷◌, refl, sym, ap, ◌∙◌, subst, arith, Option, Some, None, is_some, ◌<◌}
 use Rattle.std.specs.Option.{option_map_or}
 use Rattle.std.specs.Prelude.{option_and_then}
 use Rattle.tuple_codec.specs.Operations.{Operation}
 use Rattle.space.specs.Applying.{is_read_only}
 use Rattle.terms.specs.declared.order.Mode.TheVariants as modes
 use Rattle.terms.specs.declared.state.Level.TheVariants as levels
-use Rattle.wire.specs.Messages.{BodyData as Body, MessageData as Message, request as Request, fetch as Fetch}
+use Rattle.wire.specs.Messages.{BodyData as Body, MessageData as Message, request as Request, fetch as Fetch, meta as Meta, page as Page, view_change as ViewChange}
 use Rattle.wire.specs.Words.{said}
 use Rattle.signing.specs.Heard.{heard}
 use Rattle.protocol.specs.System.Configuration.{Configuration, members}
@@ -22,6 +22,7 @@ use Rattle.replica_histories.specs.TransfersQuorums.{QuorumsFetched}
 use Rattle.replica_histories.proofs.Resting.{Rests, rests}
 use Rattle.replica.specs.Idle.{IsIdle, CertifySame}
 use Rattle.replica.specs.Reads.{is_read_request}
+use Rattle.protocol.proofs.Words.Moving.{no_reason}
 use Rattle.protocol.proofs.Words.Linking.{heard_said}
 use Rattle.replica.proofs.IdleEntries.{got_idle, read_is_quiet}
 use Rattle.replica.proofs.SameWords.{idle_same, active_same, count_checkpoints_same}
@@ -68,7 +69,12 @@ module _ (c : Configuration) (me : ℕ) (h : List Entry) (p : Point) (bytes : Li
   owes = record {
     numbers = λ v i call active own wait free. numbered v call.client call.timestamp
         (rest.numbers v i call (sym (active_same c me (Got me bytes) h now same v) ∙ active) own (subst (λ (xs : List Call). Has (λ x. x ≡ call) xs) waits wait)
-        (subst (λ (n : ℕ). is_in_marks c n i ≡ true) same.low free.0, free.1, λ j above. sym (same.logged v j) ∙ free.2 j above));
+        (record {
+          in_marks = subst (λ (n : ℕ). is_in_marks c n i ≡ true) same.low free.in_marks;
+          near = free.near;
+          used = λ j above below. ap is_some (sym (same.logged v j)) ∙ free.used j (subst (λ (n : ℕ). n < j) (sym same.low) above) below;
+          unused = λ j above. sym (same.logged v j) ∙ free.unused j above;
+        }));
     numbers_once = tt;
     prepares = λ v i batch none some active backup. let bad : None ≡ Some batch = sym none ∙ sym (same.logged v i) ∙ some in absurd cc;
     commits = λ v i batch none some active. absurd (none (prepared_same c me h now v i batch same some));
@@ -79,7 +85,10 @@ module _ (c : Configuration) (me : ℕ) (h : List Entry) (p : Point) (bytes : Li
     reads = λ a t o other is. absurd (never a t o other is);
     fetched_digests = λ s k index level is other st kept. let bad : false ≡ true = reads (record { sender = s; message = Fetch k level index }) other in absurd cc;
     fetched_page = λ s k index other st kept. let bad : false ≡ true = reads (record { sender = s; message = Fetch k levels.Page index }) other in absurd cc;
+    goes_on_by_digests = λ s k index level digests other awaited. let bad : false ≡ true = reads (record { sender = s; message = Meta k level index digests }) other in absurd cc;
+    goes_on_by_page = λ s k index text other awaited. let bad : false ≡ true = reads (record { sender = s; message = Page k index text }) other in absurd cc;
     fetches = λ k root q above later. let most = fetched k root (subst (λ (n : ℕ). is_quorum c n ≡ true) (count_checkpoints_same c h now same.checkpoints (record { number = k; digest = root })) q) above in absurd (omega (arith, most, later));
+    view_changes = λ vc other moves may within said. absurd (no_reason c me h bytes p.waiting vc.view (λ s x asks. let bad : false ≡ true = reads (record { sender = s; message = ViewChange x }) asks in absurd cc) moves);
     dropped = λ other got drops. refl;
   }
 

@@ -8,7 +8,7 @@ use Rattle.wire.specs.Messages.{BodyData as Body, request as Request}
 use Rattle.wire.specs.Words.{said}
 use Rattle.signing.specs.Heard.{heard}
 use Rattle.events.specs.declared.output.Output.{Output}
-use Rattle.events.specs.Outputs.{entry_of, after_event}
+use Rattle.events.specs.Outputs.{entry_of, after_event, AreSentAsMeant}
 use Rattle.protocol.specs.System.Configuration.{Configuration, members}
 use Rattle.protocol.specs.System.Frames.{IsPosted}
 use Rattle.protocol.specs.System.Reads.{is_beside, without_reads}
@@ -27,7 +27,7 @@ use Rattle.replica_histories.proofs.Transfers.{open_stays, asks_none}
 use Rattle.replica.specs.State.{MemberData, DeskData, DeskPart, IsDeskPart}
 use Rattle.replica.specs.Flags.{FitsFlags}
 use Rattle.replica.specs.Idle.{IsIdle}
-use Rattle.replica.specs.Parted.{HoldsDesk, ReadLeads}
+use Rattle.replica.specs.Parted.{HoldsDesk, ReadLeads, ReadSendsAsMeant}
 use Rattle.replica.specs.Reads.{is_read_request}
 use Rattle.replica.specs.Reading.{AnswersRead, HearsNoRead, AnswersBytes}
 use Rattle.replica.proofs.Flags.{flags_stay}
@@ -66,7 +66,7 @@ module _ (c : Configuration) (me : ℕ) (d : DeskData) (h : List Entry) (bytes :
   flags_on v used past e idle = flags_stay c me v used d.waiting hd.desk.state hd.desk.waiting past e (idle_keeps c me v past e idle)
 
   opened : FitsOpen c me hd.desk.transfer hd.desk.state.number got
-  opened = open_stays c me hd.desk.transfer hd.desk.state.number h (Got me bytes) refl hd.holds.opened
+  opened = open_stays c me hd.desk.transfer hd.desk.state.number h (Got me bytes) refl tt hd.holds.opened
 
   -- the point, but for what ran
   abbrev mid : Point
@@ -91,7 +91,7 @@ module _ (c : Configuration) (me : ℕ) (d : DeskData) (h : List Entry) (bytes :
           (beside.goes_on c me h p bytes answer client t op hd.holds.proceeds fetched hears is_read frame)
           (same_point (beside.waits c me h p bytes answer client t op hd.holds.proceeds fetched hears is_read frame))
           (frames_on c me hd.desk got (Sent me answer) (frames_on c me hd.desk h (Got me bytes) hd.holds.frames))
-          (open_stays c me hd.desk.transfer hd.desk.state.number got (Sent me answer) (asks_none answer me (read_reply p.state client t op) frame.says refl) opened)
+          (open_stays c me hd.desk.transfer hd.desk.state.number got (Sent me answer) (asks_none answer me (read_reply p.state client t op) frame.says refl) tt opened)
           (λ v used f. flags_on v used got (Sent me answer) sent_quiet (flags_on v used h (Got me bytes) got_quiet f)),
       inl (mid, beside.goes_on c me h p bytes answer client t op hd.holds.proceeds fetched hears is_read frame),
       unread (Sent me answer) got (replies_are_marked answer (record { sender = me; message = read_reply p.state client t op }) frame.says refl) ∙ unread (Got me bytes) h marks,
@@ -169,6 +169,13 @@ read_leads part later d bytes outs holds are marks same answers = subst (ReadLea
       where
         l : Left c me d h (after_event me (Got me bytes) outs h)
         l = leaves c me d h bytes (f.running d holds) marks (f.members_are ∙ sym (are d holds).1) ((are d holds).0 ∙ f.me_is) outs answers
+
+-- a read's answer goes to its client
+pub read_sends : (part : DeskPart) (d : DeskData) (bytes : List ℕ) (outs : List Output) → part.holds ≡ Some d → IsDeskPart part → AnswersBytes d bytes [] outs → ReadSendsAsMeant part outs
+read_sends part d bytes outs holds are (inl a) c me h f =
+    subst (λ (os : List Output). AreSentAsMeant c me os) (sym a.says.given_is)
+    (subst (λ (k : ℕ). AreSentAsMeant c k (a.says.output ∷ [])) ((are d holds).0 ∙ f.me_is) (a.says.posts.meant c (f.members_are ∙ sym (are d holds).1), tt))
+read_sends part d bytes outs holds are (inr (none, same)) c me h f = subst (λ (os : List Output). AreSentAsMeant c me os) (sym same) tt
 
 -- and one that stopped before it gave anything
 pub read_stops : (part stopped : DeskPart) (bytes : List ℕ) → stopped.member ≡ part.member → stopped.holds ≡ None → asks_read bytes ≡ true → ReadLeads part bytes [] stopped

@@ -41,12 +41,11 @@ use Rattle.replica.specs.Waiting.{WaitingData, frames_of, is_begun, is_of, reque
 use Rattle.replica.specs.Desks.{IsDeskOf, FitsWaiting, FitsEvent, Stands, given, changes_of}
 use Rattle.replica.specs.Desking.{HasReply, PaysAgain, Waits}
 use Rattle.replica.specs.Arriving.{IsBehind, IsPast, IsWaitingAlready, IsNewer}
-use Rattle.replica.specs.Going.{GoesOn}
-use Rattle.replica.specs.Saying.{AllAgain}
+use Rattle.replica.specs.Saying.{AllAgain, GoesAgain}
 use Rattle.replica.specs.Joined.{Runs, me_of}
 use Rattle.replica.specs.Entering.{event_of, Leaves, TakesBytes, TakesRequest}
 use Rattle.replica.proofs.Beginning.{rests, none_taken, changes_kept}
-use Rattle.replica.proofs.GoingOn.{said_stands}
+use Rattle.replica.proofs.GoingOn.{again_stands}
 use Rattle.replica.proofs.Parties.{one_self, same_log}
 use Rattle.replica.proofs.Flags.{flags_waiting}
 use Rattle.replica.proofs.Staying.{numbers_beside, said_on}
@@ -171,6 +170,7 @@ module _ (old : JoinedData) (client : ClientId) (timestamp : Timestamp) (bytes :
         numbers = counted;
         said = said_on (me_of old) old.orderer.last_checkpoint past input runs.said;
         changes = changes (inputs_enter c (me_of old) runs.desk desk old.orderer.log old.orderer.log (again_for k t (kept_of runs.desk.state k)) past input runs.holds entered);
+        meant = tt;
       });
     }
       where
@@ -207,7 +207,7 @@ module _ (old : JoinedData) (client : ClientId) (timestamp : Timestamp) (bytes :
     unseen : last_time old.desk.executed.state k < t → last_time runs.desk.state k < t
     unseen lt = subst (λ (st : State). last_time st k < t) (sym state_is) lt
 
-    -- it asks for no part of a state
+    -- it is no part of a state, and asks for none
     no_part : brings_question c (me_of old) input ≡ false
     no_part = ap has_question h
 
@@ -216,7 +216,7 @@ module _ (old : JoinedData) (client : ClientId) (timestamp : Timestamp) (bytes :
     leaves outs silent = (
       rests c old past runs,
       runs.all,
-      others_owe_none c (me_of old) past input (given (me_of old) outs) runs.holds.of_desk.point no_part,
+      others_owe_none c (me_of old) past input (given (me_of old) outs) runs.holds.of_desk.point old.desk.executed.state.number no_part,
       silent,
     )
 
@@ -247,11 +247,11 @@ module _ (old : JoinedData) (client : ClientId) (timestamp : Timestamp) (bytes :
   }
 
   -- what waits already makes the replica say again what it said
-  takes_again : (outs : List Output) → due ≡ [] → IsWaitingAlready old.desk k t bytes → GoesOn old.orderer [] old.orderer outs → TakesBytes bytes old touched.Nothing old outs
+  takes_again : (outs : List Output) → due ≡ [] → IsWaitingAlready old.desk k t bytes → GoesAgain 0 old.orderer [] old.orderer outs → TakesBytes bytes old touched.Nothing old outs
   takes_again outs none (lt, r, found, same, says) again = record {
     party = one_self old;
     begins = λ c past runs known. (
-      said_stands old old.orderer [] outs one again c (start c past runs known) known
+      again_stands old outs one again c (start c past runs known) known
           (due_none old.desk c (start c past runs known) old.orderer [] none (stands_waiting c past runs known r found (omega (arith, same)))),
       leaves c past runs known outs (inr (counts c past runs known (inr (
         unseen c past runs known lt,
@@ -349,8 +349,8 @@ module _ (old : JoinedData) (client : ClientId) (timestamp : Timestamp) (bytes :
 -- ---- what a request does
 
 -- what was said again by the same orderer
-pub all_again : (before new : JoinedData) (x y : List Output) → AllAgain before x new y → x ≡ [] → GoesOn before.orderer [] before.orderer y
-all_again before new x y says first = subst (λ (xs : List Output). GoesOn before.orderer xs before.orderer y) first says.1
+pub all_again : (before new : JoinedData) (x y : List Output) → AllAgain before x new y → x ≡ [] → GoesAgain 0 before.orderer [] before.orderer y
+all_again before new x y says first = subst (λ (xs : List Output). GoesAgain 0 before.orderer xs before.orderer y) first says.1
 
 abbrev Silent : JoinedData → ClientId → Timestamp → Type 0
 Silent old client timestamp = again_for client.number timestamp.0 (kept_of old.desk.executed.state client.number) ≡ []
@@ -366,7 +366,7 @@ request_past old client timestamp bytes new outs one same none silent is op hear
     subst (λ (r : JoinedData). TakesBytes bytes old touched.Nothing r outs) (sym same) (takes_past old client timestamp bytes one op hears outs none silent is)
 
 pub request_again : (old : JoinedData) (client : ClientId) (timestamp : Timestamp) (bytes : List ℕ) (new : JoinedData) (outs : List Output) → AreOne old.orderer old.desk → new ≡ old
-    → Silent old client timestamp → IsWaitingAlready old.desk client.number timestamp.0 bytes → GoesOn old.orderer [] old.orderer outs → TakesRequest client timestamp bytes old touched.Nothing new outs
+    → Silent old client timestamp → IsWaitingAlready old.desk client.number timestamp.0 bytes → GoesAgain 0 old.orderer [] old.orderer outs → TakesRequest client timestamp bytes old touched.Nothing new outs
 request_again old client timestamp bytes new outs one same none is says op hears =
     subst (λ (r : JoinedData). TakesBytes bytes old touched.Nothing r outs) (sym same) (takes_again old client timestamp bytes one op hears outs none is says)
 

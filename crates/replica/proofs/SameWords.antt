@@ -10,8 +10,8 @@ use Rattle.protocol.specs.System.Configuration.{Configuration, replicas}
 use Rattle.protocol.specs.System.Trace.{Entry}
 use Rattle.protocol.specs.System.Trace.Entry.{Invoke, Got, Tick, Executed, Installed, Sent, Accepted}
 use Rattle.protocol.specs.Replica.Selection.{is_quorum}
-use Rattle.protocol.specs.Replica.Certificates.{brought, view, view_after, target, taken, is_later, is_active_in, new_view_in, change_sent, checkpoint_in, installed_at, count_checkpoints, says_checkpoint, is_stable, stable_at, started_at, low, is_in_marks, counts_at, checkpoints_of, with_checkpoint, batch_begun, batch_from, begun_proposal, entry_proposal, proposal, logged, prepare_from, prepare_of, commit_from, commit_of, vote_in}
-use Rattle.protocol.specs.Replica.Owed.{fetch_sent, fetching, asked_last, change_taken, change_at, latest_change}
+use Rattle.protocol.specs.Replica.Certificates.{brought, view, view_after, target, taken, is_later, is_active_in, new_view_in, change_sent, checkpoint_in, installed_at, count_checkpoints, says_checkpoint, is_stable, stable_at, started_at, low, is_in_marks, counts_at, checkpoints_of, with_checkpoint, batch_begun, batch_from, begun_proposal, entry_proposal, proposal, logged, prepare_from, prepare_of, commit_from, commit_of, vote_in, change_taken, change_at, latest_change}
+use Rattle.protocol.specs.Replica.Transfers.{fetch_sent, fetching, asked_last}
 use Rattle.replica.specs.Idle.{IsIdle, CertifySame, WordsStay}
 use Rattle.replica.specs.Idle.LeavesOut.{none, both, beside}
 

@@ -10,7 +10,7 @@ use Rattle.protocol.specs.Replica.Certificates.{taken}
 use Rattle.protocol.specs.Replica.State.{State, pages_of}
 use Rattle.replica_histories.specs.Desk.{Desk}
 use Rattle.replica_histories.specs.Events.{Start, behind}
-use Rattle.replica_histories.specs.Transfers.{MayAsk, transfer_to}
+use Rattle.replica_histories.specs.Transfers.{MayAsk, AsksNext, transfer_to}
 use Rattle.replica_histories.proofs.NewViews.{starts_may_ask}
 use Rattle.replica.specs.State.{OrdererData, OpenData, DeskData}
 use Rattle.replica.specs.Waiting.{WaitingData}
@@ -35,8 +35,9 @@ module _ (c : Configuration) (s : Start) (o : OrdererData) (d : DeskData) (desk 
 
   start_may_ask : (due : List Message) → Once (λ past e. taken c past e ≡ Some new) (behind s (given o.endpoint.me before)) → aimed_at d < new.start → FitsEvent c o.endpoint.me s o desk w due before
       → MayAsk c o.endpoint.me (aim_of start_of d).transfer desk.state.number (behind s (given o.endpoint.me before))
+      × AsksNext c o.endpoint.me (aim_of start_of d).transfer desk.state (behind s (given o.endpoint.me before))
   start_may_ask due once ahead f =
-      subst (λ (t : TransferData). MayAsk c o.endpoint.me t desk.state.number (behind s (given o.endpoint.me before)))
+      subst (λ (t : TransferData). MayAsk c o.endpoint.me t desk.state.number (behind s (given o.endpoint.me before)) × AsksNext c o.endpoint.me t desk.state (behind s (given o.endpoint.me before)))
       (ap (λ (t : Option TransferData). transfer_to t new.start new.root (pages_of d.executed.state)) is.transfer ∙ aim_same d.executed.state d.transfer start_of)
       (starts_may_ask c o.endpoint.me s desk o.log due (given o.endpoint.me before) new (pages_of d.executed.state) once
       (subst (λ (n : ℕ). n < new.start) (sym (aimed_is c d desk is)) ahead) f.fits)
@@ -46,6 +47,6 @@ module _ (c : Configuration) (s : Start) (o : OrdererData) (d : DeskData) (desk 
       → Says o (fetch_of (aim_of start_of d).transfer) before after → FitsEvent c o.endpoint.me s o desk w (Fetch new.start levels.Root 0 ∷ rest) before
       → FitsEvent c o.endpoint.me s o (record desk { transfer = Some (aim_of start_of d).transfer }) w rest after
   start_aims rest known once ahead says f =
-      asks_due c s o desk w before after (aim_of start_of d).transfer known says rest
-      (start_may_ask (Fetch new.start levels.Root 0 ∷ rest) once ahead f)
+      let asking = start_may_ask (Fetch new.start levels.Root 0 ∷ rest) once ahead f in
+      asks_due c s o desk w before after (aim_of start_of d).transfer known says rest asking.0 asking.1
       (subst (λ (m : Message). FitsEvent c o.endpoint.me s o desk w (m ∷ rest) before) (sym (aim_root d.executed.state d.transfer start_of)) f)

@@ -25,6 +25,7 @@ use Rattle.replica.specs.Waiting.{WaitingData}
 use Rattle.replica.specs.Flags.{FitsFlags}
 use Rattle.replica.specs.Desks.{given, FitsWaiting, WasSaid, FitsEvent, changes_of}
 use Rattle.replica.specs.Going.{IsSameLog}
+use Rattle.replica.proofs.Given.{GivesOne}
 use Rattle.replica.proofs.Flags.{flags_stay}
 use Rattle.replica_histories.proofs.ChangesPassing.{changes_stay, claims_are_above, outputs_pass}
 
@@ -139,21 +140,22 @@ changes_still c me s old new desk later due rest outputs e f on keeps same low h
 
 -- Where desk and log fit the history behind one output more, and so do the numbers and what is held, all fits it.
 pub fits_behind : (c : Configuration) (me : ℕ) (s : Start) (old new : OrdererData) (desk later : Desk) (w more : WaitingData) (due rest : List Message) (before after : List Output) (e : Entry)
-    → given me after ≡ e ∷ given me before → new.last_checkpoint ≡ old.last_checkpoint → FitsEvent c me s old desk w due before
+    → GivesOne c me before after e → new.last_checkpoint ≡ old.last_checkpoint → FitsEvent c me s old desk w due before
     → events.Fits c me s later new.log rest (e ∷ given me before) → FitsWaiting c me new more later (e ∷ behind s (given me before))
     → FitsChanges c me new.log (changes_of new) (e ∷ behind s (given me before))
     → FitsEvent c me s new later more rest after
-fits_behind c me s old new desk later w more due rest before after e is last f on numbers changes = record {
-  fits = subst (λ (es : List Entry). events.Fits c me s later new.log rest es) (sym is) on;
-  numbers = subst (λ (es : List Entry). FitsWaiting c me new more later (behind s es)) (sym is) numbers;
-  said = subst (λ (es : List Entry). WasSaid me new.last_checkpoint (behind s es)) (sym is)
+fits_behind c me s old new desk later w more due rest before after e gives last f on numbers changes = record {
+  fits = subst (λ (es : List Entry). events.Fits c me s later new.log rest es) (sym gives.is) on;
+  numbers = subst (λ (es : List Entry). FitsWaiting c me new more later (behind s es)) (sym gives.is) numbers;
+  said = subst (λ (es : List Entry). WasSaid me new.last_checkpoint (behind s es)) (sym gives.is)
       (subst (λ (x : Option CheckpointEntry). WasSaid me x (e ∷ behind s (given me before))) (sym last) (said_on me old.last_checkpoint (behind s (given me before)) e f.said));
-  changes = subst (λ (es : List Entry). FitsChanges c me new.log (changes_of new) (behind s es)) (sym is) changes;
+  changes = subst (λ (es : List Entry). FitsChanges c me new.log (changes_of new) (behind s es)) (sym gives.is) changes;
+  meant = gives.meant f.meant;
 }
 
 -- So it is behind an entry that gives no number, where the log stays in its view.
 pub fits_with : (c : Configuration) (me : ℕ) (s : Start) (old new : OrdererData) (desk : Desk) (w : WaitingData) (due rest : List Message) (before after : List Output) (e : Entry)
-    → given me after ≡ e ∷ given me before → IsBeside c me (behind s (given me before)) e
+    → GivesOne c me before after e → IsBeside c me (behind s (given me before)) e
     → IsSameLog old.log new.log → new.used ≡ old.used → new.last_checkpoint ≡ old.last_checkpoint
     → FitsChanges c me new.log (changes_of new) (e ∷ behind s (given me before))
     → FitsEvent c me s old desk w due before → events.Fits c me s desk new.log rest (e ∷ given me before)
@@ -165,7 +167,7 @@ fits_with c me s old new desk w due rest before after e is beside same used last
 
 -- And so where it brings nothing about, and the low mark stays.
 pub fits_on : (c : Configuration) (me : ℕ) (s : Start) (old new : OrdererData) (desk : Desk) (w : WaitingData) (due rest : List Message) (before after : List Output) (e : Entry)
-    → given me after ≡ e ∷ given me before → IsBeside c me (behind s (given me before)) e → KeepsChanges c me (behind s (given me before)) e
+    → GivesOne c me before after e → IsBeside c me (behind s (given me before)) e → KeepsChanges c me (behind s (given me before)) e
     → IsSameLog old.log new.log → new.log.low ≡ old.log.low → new.used ≡ old.used → new.last_checkpoint ≡ old.last_checkpoint → changes_of new ≡ changes_of old
     → FitsEvent c me s old desk w due before → events.Fits c me s desk new.log rest (e ∷ given me before)
     → FitsEvent c me s new desk w rest after

@@ -1,30 +1,48 @@
 -- An event of time: an open transfer asks again, and the replica moves to the next view.
-use Rattle.std.proofs.Common.{◌≡◌, ℕ, inl, inr, true, false, List, [], ◌∷◌, Result, Ok, Err, IfOk, option_map}
-use Rattle.std.proofs.Common.{refl, sym, ap, ◌∙◌, subst}
+use Rattle.std.proofs.Common.{◌≡◌, ◌≢◌, ℕ, suc, ◌+◌, ◌^◌, ◌<◌, ◌≤◌, ◌⊎◌, max, inl, inr, true, false, List, [], ◌∷◌, map, Option, Some, Result, Ok, Err, IfOk, option_map}
+use Rattle.std.proofs.Common.{refl, sym, ap, ap₂, ◌∙◌, subst, arith}
+use Rattle.std.proofs.lemmas.Bool.{leb-false, leb-true, ltb-true}
 use Rattle.events.specs.declared.output.Output.{Output}
 use Rattle.protocol.specs.System.Configuration.{Configuration, members}
 use Rattle.protocol.specs.System.Trace.{Entry}
 use Rattle.protocol.specs.System.Trace.Entry.{Tick}
-use Rattle.replica_histories.specs.Changes.{FitsChanges}
+use Rattle.protocol.specs.Replica.Certificates.{view, target}
+use Rattle.protocol.specs.Replica.RightReplica.{Point, TimesOut, kept_states, sought_view}
+use Rattle.protocol.specs.Replica.Owed.{HasToMove}
+use Rattle.protocol.specs.Replica.State.{Call}
+use Rattle.protocol.proofs.Words.Options.{some_injective}
+use Rattle.posting.specs.Endpoint.{EndpointState}
+use Rattle.view_change.specs.Laws.{ChangesAreJudged}
+use Rattle.replica_histories.specs.Changes.{FitsChanges, Passes}
+use Rattle.replica_histories.specs.Desk.{Snapshot, snapshot_of}
+use Rattle.replica_histories.specs.Questions.{AnswersInput, MovesOn}
+use Rattle.replica_histories.specs.Views.{entries_of}
+use Rattle.replica_histories.specs.Transfers.{FitsOpen}
 use Rattle.replica_histories.specs.Events as histories
-use Rattle.replica_histories.specs.Events.{Start}
+use Rattle.replica_histories.specs.Events.{Start, behind}
 use Rattle.replica_histories.proofs.ChangesKept.{silent_keep}
 use Rattle.replica_histories.proofs.ChangesPassing.{changes_stay, claims_are_above, inputs_enter}
 use Rattle.replica_histories.proofs.Entering.{ticks_fit}
-use Rattle.replica_histories.proofs.Questions.{others_owe_none}
+use Rattle.replica_histories.proofs.Leaves.{all_are_spent}
+use Rattle.replica_histories.proofs.Questions.{others_owe_no_part}
+use Rattle.replica_histories.proofs.Transfers.{ticks_may_ask}
 use Rattle.replica.specs.declared.taking.Touched.{Touched}
 use Rattle.replica.specs.declared.taking.Touched.TheVariants as touched
+use Rattle.state_transfer.specs.Transfer.{TransferData}
 use Rattle.replica.specs.State.{OrdererData, JoinedData, OpenData, AreOne}
 use Rattle.replica.specs.Beginning.{MayBegin}
-use Rattle.replica.specs.Changing.{ChangesView, LeavesView}
-use Rattle.replica.specs.Desks.{given, FitsEvent, Stands, changes_of}
+use Rattle.replica.specs.declared.waiting.WaitingRequest.{WaitingRequest}
+use Rattle.replica.specs.Changing.{ChangesView, HasReason, IsDue, IsNotDue, IsUnsayable, LeavesView, aimed_view, change_for}
+use Rattle.replica.specs.Desks.{given, AreCallsOf, FitsEvent, Stands, changes_of}
 use Rattle.replica.specs.Entering.{event_with, Leaves, TakesTick}
 use Rattle.replica.specs.Fetching.{SaysFetch}
 use Rattle.replica.specs.Joined.{Runs, me_of}
 use Rattle.replica.specs.Going.{Rests}
 use Rattle.replica.specs.Numbering.{IsAllNumbered}
+use Rattle.replica.specs.Receiving.{JudgesAlike}
 use Rattle.replica.proofs.Asking.{asks_again}
 use Rattle.replica.proofs.Beginning.{rests}
+use Rattle.replica.proofs.Unsayable.{unsaid_spent}
 use Rattle.replica.proofs.Parties.{one_self, ones_twice}
 use Rattle.replica.proofs.Staying.{numbers_beside, said_on}
 
@@ -61,7 +79,11 @@ module _ (r : JoinedData) (one : AreOne r.orderer r.desk) where
           runs.holds.of_log.fits.own (record { here = refl; none = refl; sends = refl }) runs.numbers;
       said = said_on me o.last_checkpoint past tick runs.said;
       changes = held;
+      meant = tt;
     }
+
+    open_is : (x : OpenData) → r.desk.transfer ≡ Some x → runs.desk.transfer ≡ Some x.transfer
+    open_is x there = runs.is_desk.transfer ∙ ap (option_map (λ (y : OpenData). y.transfer)) there
 
     -- an open transfer asks again
     goes_on : (outs : List Output) → members c ≡ o.endpoint.membership → SaysFetch r [] outs
@@ -69,8 +91,11 @@ module _ (r : JoinedData) (one : AreOne r.orderer r.desk) where
     goes_on outs known (inl (none, same)) =
         subst (λ (os : List Output). FitsEvent c me start o runs.desk r.desk.waiting [] os) (sym same) begins
     goes_on outs known (inr (x, there, says)) =
-        asks_again c start o runs.desk r.desk.waiting [] outs x.transfer known says []
-        (runs.is_desk.transfer ∙ ap (option_map (λ (y : OpenData). y.transfer)) there) begins
+        let again = ticks_may_ask c me x.transfer runs.desk.state.number runs.desk.state past
+        (subst (λ (t : Option TransferData). FitsOpen c me t runs.desk.state.number past) (open_is x there)
+        runs.holds.of_desk.opened) in
+        asks_again c start o runs.desk r.desk.waiting [] outs x.transfer known says [] (open_is x there) again.0 again.1
+        begins
 
     stands : (outs : List Output) → members c ≡ r.desk.membership → SaysFetch r [] outs
         → Stands c start o r.desk [] outs
@@ -81,34 +106,124 @@ module _ (r : JoinedData) (one : AreOne r.orderer r.desk) where
           (goes_on outs (known ∙ one.1) says);
     }
 
+    -- ---- whether a view change is due
+
+    abbrev point : Point
+    point = runs.holds.of_desk.point
+
+    waits_none : r.desk.waiting.requests ≡ [] → point.waiting ≡ []
+    waits_none none = ap (λ (p : Point). p.waiting) runs.holds.of_desk.is ∙ go r.desk.waiting.requests runs.desk.waiting runs.is_desk.waiting none
+      where
+        go : (rs : List WaitingRequest) (xs : List Call) → AreCallsOf c rs xs → rs ≡ [] → xs ≡ []
+        go [] [] are is = refl
+        go [] (x ∷ xs) are is = absurd are
+        go (t ∷ rs) xs are is = absurd cc
+
+    sought_is : sought_view c past ≡ aimed_view o
+    sought_is = ap₂ (λ (a b : ℕ). max a b) runs.holds.of_log.fits.view runs.changes.target
+
+    -- why it is, and for which view
+    times : (v : ℕ) → HasToMove c me past tick point.waiting v → ((point.waiting ≢ []) ⊎ (view c past < target past)) × (v ≡ suc (sought_view c past))
+    times v (inl t) =
+        let same : past ≡ t.before = ap (λ (x : Entry × List Entry). x.1) (some_injective (tick, past) (Tick me, t.before) t.tick) in
+        subst (λ (b : List Entry). ((point.waiting ≢ []) ⊎ (view c b < target b)) × (v ≡ suc (sought_view c b))) (sym same) (t.waits, t.next)
+    times v (inr (taken, joins)) = absurd taken.2
+
+    -- none is where none is due
+    no_move : IsNotDue r → (outputs : List Entry) → MovesOn c me past tick outputs point
+    no_move (inl (none, active)) outputs vc bytes reason may within says = absurd (go (times vc.view reason).0)
+      where
+        go : (point.waiting ≢ []) ⊎ (view c past < target past) → ⊥
+        go (inl some) = some (waits_none none)
+        go (inr left) =
+            let stays = leb-true (target past) o.log.view (runs.holds.of_log.fits.active ∙ active) in
+            let is = runs.holds.of_log.fits.view in
+            absurd (omega (arith, left, stays, is))
+    no_move (inr most) outputs vc bytes reason may within says =
+        let next = (times vc.view reason).1 in
+        let is = sought_is in
+        let few = ltb-true vc.view (2 ^ 48) may.is_view in
+        absurd (omega (arith, most, next, is, few))
+
+    view_due : (v w : ℕ) → IsDue r v → HasToMove c me past tick point.waiting w → w ≡ v
+    view_due v w due reason = let next = (times w reason).1 in let is = sought_is in let due_is = due.1 in omega (arith, next, is, due_is)
+
+    -- nor where it can't be sent
+    unsaid_move : (v : ℕ) → JudgesAlike o → ChangesAreJudged → members c ≡ r.desk.membership → IsDue r v → IsUnsayable o (change_for v (entries_of r.desk.snapshots) o) → (outputs : List Entry)
+        → MovesOn c me past tick outputs point
+    unsaid_move v alike judge known due unsaid outputs vc bytes reason may within says = inr (all_are_spent c me o.log (changes_of o) past spent runs.changes)
+      where
+        passes : Passes c me past tick o.log o.log
+        passes = inputs_enter c me runs.desk runs.desk o.log o.log [] past tick runs.holds entered
+
+        kept : map snapshot_of (kept_states o.log.low point.snapshots) ≡ runs.desk.snapshots
+        kept = subst (λ (h : ℕ). map snapshot_of (kept_states h point.snapshots) ≡ runs.desk.snapshots) runs.holds.of_log.fits.low runs.holds.of_desk.kept
+
+        spent : o.spent ≡ 64
+        spent =
+            unsaid_spent c me runs.desk o (tick ∷ past) point passes.new v passes.fits_behind passes.goes (rests c r past runs).0 kept held runs.holds.of_log.fits.own refl judge
+            (λ x. sym ((alike c (known ∙ one.1) (runs.is_desk.period_is ∙ sym one.2)).within x))
+            (subst (λ (xs : List Snapshot). IsUnsayable o (change_for v (entries_of xs) o)) (sym runs.is_desk.snapshots) unsaid) vc bytes (view_due v vc.view due reason) may within says
+
+    -- what a tick asks for
+    answers : (outputs : List Entry) (executed : ℕ) → MovesOn c me past tick outputs point → AnswersInput c me past tick outputs point executed
+    answers outputs executed moves = let parts = others_owe_no_part c me past tick outputs point executed refl in (parts.0, parts.1, parts.2, parts.3, moves)
+
     -- where nothing more is to be done
     leaves : (new : JoinedData) (outs : List Output) → Rests new → IsAllNumbered new
+        → AnswersInput c (me_of new) past tick (given (me_of new) outs) point new.desk.executed.state.number
         → Leaves c start touched.Nothing new outs
-    leaves new outs rest all = (
-      rest,
-      all,
-      others_owe_none c (me_of new) past tick (given (me_of new) outs) runs.holds.of_desk.point refl,
-      inr tt,
-    )
+    leaves new outs rest all answered = (rest, all, answered, inr tt)
 
   -- ---- what time going by does
 
-  pub ticks_nothing : (new : JoinedData) (outs : List Output) → new ≡ r → SaysFetch r [] outs
+  pub ticks_nothing : (new : JoinedData) (outs : List Output) → new ≡ r → IsNotDue new → SaysFetch r [] outs
       → TakesTick r touched.Nothing new outs
-  ticks_nothing new outs same says =
+  ticks_nothing new outs same none says =
       subst (λ (d : JoinedData). TakesTick r touched.Nothing d outs) (sym same) (record {
         party = one_self r;
-        begins = λ c past runs known.
-            (stands c past runs outs known says, leaves c past runs r outs (rests c r past runs) runs.all);
+        begins = λ c past runs known. (
+          stands c past runs outs known says,
+          leaves c past runs r outs (rests c r past runs) runs.all
+              (answers c past runs (given me outs) r.desk.executed.state.number (no_move c past runs (subst (λ (d : JoinedData). IsNotDue d) same none) (given me outs))),
+        );
       })
 
-  -- the view stays, since no view change could be signed
-  pub ticks_in_place : (mid new : JoinedData) (x outs : List Output) → mid ≡ r → SaysFetch r [] x
-      → ChangesView mid x new outs false → TakesTick r touched.Nothing new outs
-  ticks_in_place mid new x outs same says stays =
-      ticks_nothing new outs (stays.0 ∙ same) (subst (SaysFetch r []) (sym stays.1) says)
+  -- the view stays, since no view change can be sent
+  pub ticks_in_place : (v : ℕ) (mid new : JoinedData) (x outs : List Output) → JudgesAlike o → ChangesAreJudged → mid ≡ r
+      → SaysFetch r [] x → IsDue mid v → ChangesView v mid x new outs false → TakesTick r touched.Nothing new outs
+  ticks_in_place v mid new x outs alike judge same says due stays =
+      subst (λ (d : JoinedData). TakesTick r touched.Nothing d outs) (sym (stays.0 ∙ same)) (record {
+        party = one_self r;
+        begins = λ c past runs known. (
+          stands c past runs outs known (subst (SaysFetch r []) (sym stays.1) says),
+          leaves c past runs r outs (rests c r past runs) runs.all
+              (answers c past runs (given me outs) r.desk.executed.state.number (unsaid_move c past runs v alike judge known (subst (λ (d : JoinedData). IsDue d v) same due)
+              (subst (λ (d : JoinedData). IsUnsayable d.orderer (change_for v (entries_of d.desk.snapshots) d.orderer)) same stays.2) (given me outs))),
+        );
+      })
 
-  module _ (mid : JoinedData) (x y : List Output) (says : SaysFetch r [] x) (left : LeavesView r x mid y) where
+  -- it has a reason to leave it where it is due to
+  has_reason : (v : ℕ) → IsDue r v → (c : Configuration) (past : List Entry) (runs : Runs c r past) → HasReason c (start c past runs) r v
+  has_reason v due c past runs = inl (refl, either due.0, next)
+    where
+      target_is : target past ≡ o.target
+      target_is = runs.changes.target
+
+      view_is : view c past ≡ o.log.view
+      view_is = runs.holds.of_log.fits.view
+
+      either : (r.desk.waiting.requests ≢ []) ⊎ (o.log.active ≡ false) → (r.desk.waiting.requests ≢ []) ⊎ (view c past < target past)
+      either (inl some) = inl some
+      either (inr off) = inr (let left = leb-false (target past) o.log.view (runs.holds.of_log.fits.active ∙ off) in omega (arith, left, view_is))
+
+      next : v ≡ suc (sought_view c past)
+      next = due.1 ∙ ap (λ (n : ℕ). n + 1) (ap₂ (λ (a b : ℕ). max a b) (sym view_is) (sym target_is)) ∙ one_more (sought_view c past)
+        where
+          one_more : (n : ℕ) → n + 1 ≡ suc n
+          one_more n = omega arith
+
+  module _ (v : ℕ) (due : IsDue r v) (mid : JoinedData) (x y : List Output) (says : SaysFetch r [] x) (left : LeavesView v r x mid y) where
     -- nothing is left to say or to execute, and a replica that isn't active numbers nothing
     at_rest : (c : Configuration) (past : List Entry) → Runs c r past → Rests mid
     at_rest c past runs = let rest = rests c r past runs in (left.voted, left.executed rest.1)
@@ -119,14 +234,31 @@ module _ (r : JoinedData) (one : AreOne r.orderer r.desk) where
     stands_left : (c : Configuration) (past : List Entry) (runs : Runs c r past) → members c ≡ r.desk.membership
         → Stands c (start c past runs) mid.orderer mid.desk [] y
     stands_left c past runs known =
-        left.stands c (start c past runs) known (rests c r past runs).0 (stands c past runs x known says)
+        left.stands c (start c past runs) known (rests c r past runs).0 (has_reason v due c past runs) (stands c past runs x known says)
+
+    -- it was left by a view change for the one that is due
+    moved : (c : Configuration) (past : List Entry) (runs : Runs c r past) (outputs : List Entry) (executed : ℕ)
+        → target (behind (start c past runs) outputs) ≡ v → AnswersInput c me past tick outputs runs.holds.of_desk.point executed
+    moved c past runs outputs executed at = answers c past runs outputs executed (λ vc bytes reason may within says_it.
+        let same = view_due c past runs v vc.view due reason in inl (omega (arith, same, at)))
+
+    mine : mid.desk.me ≡ me
+    mine = left.party.me ∙ one.0
+
+    target_left : (c : Configuration) (past : List Entry) (runs : Runs c r past) → members c ≡ r.desk.membership → target (behind (start c past runs) (given me y)) ≡ v
+    target_left c past runs known =
+        subst (λ (m : ℕ). target (behind (start c past runs) (given m y)) ≡ mid.orderer.target) mine (stands_left c past runs known).fits.changes.target ∙ left.target
 
     -- the view is left, and does not begin
     ticks_left : TakesTick r touched.Nothing mid y
     ticks_left = record {
       party = left.party;
-      begins = λ c past runs known.
-          (stands_left c past runs known, leaves c past runs mid y (at_rest c past runs) none_numbered);
+      begins = λ c past runs known. (
+        stands_left c past runs known,
+        leaves c past runs mid y (at_rest c past runs) none_numbered
+            (subst (λ (e : EndpointState). AnswersInput c e.me past tick (given e.me y) runs.holds.of_desk.point mid.desk.executed.state.number) (sym left.party.endpoint)
+            (moved c past runs (given me y) mid.desk.executed.state.number (target_left c past runs known))),
+      );
     }
 
     -- or the next one begins
@@ -143,13 +275,21 @@ module _ (r : JoinedData) (one : AreOne r.orderer r.desk) where
       begins = λ c past runs known. (
         b.stands c (start c past runs) (known ∙ sym left.party.membership) (at_rest c past runs)
             (stands_left c past runs known),
-        (b.voted (at_rest c past runs), (tt, refl)),
+        (
+          b.voted (at_rest c past runs),
+          (
+            tt,
+            λ outputs executed at. subst (λ (e : EndpointState). AnswersInput c e.me past tick outputs runs.holds.of_desk.point executed) (sym (ones_twice r mid new left.party b.party).endpoint)
+                (moved c past runs outputs executed (at ∙ b.target ∙ left.target)),
+          ),
+        ),
       );
     }
 
-  pub ticks_on : {E : Type 0} (result : Result Touched E) (fetched mid new : JoinedData) (x y outs : List Output)
-      → fetched ≡ r → SaysFetch r [] x → ChangesView fetched x mid y true
+  pub ticks_on : {E : Type 0} (result : Result Touched E) (v : ℕ) (fetched mid new : JoinedData) (x y outs : List Output)
+      → fetched ≡ r → SaysFetch r [] x → IsDue fetched v → ChangesView v fetched x mid y true
       → IfOk result (λ what. MayBegin mid y what new outs) → IfOk result (λ what. TakesTick r what new outs)
-  ticks_on (Err e) fetched mid new x y outs same says left h = h
-  ticks_on (Ok what) fetched mid new x y outs same says left h =
-      begins_then mid x y says (subst (λ (d : JoinedData). LeavesView d x mid y) same left) what new outs h
+  ticks_on (Err e) v fetched mid new x y outs same says due left h = h
+  ticks_on (Ok what) v fetched mid new x y outs same says due left h =
+      begins_then v (subst (λ (d : JoinedData). IsDue d v) same due) mid x y says
+      (subst (λ (d : JoinedData). LeavesView v d x mid y) same left) what new outs h

@@ -8,6 +8,7 @@ use Rattle.terms.specs.declared.state.Level.TheVariants as levels
 use Rattle.wire.specs.Lists.{Each}
 use Rattle.wire.specs.Messages.{MessageData as Message, CheckpointEntryData as CheckpointEntry, NewViewData, new_view as NewView, fetch as Fetch}
 use Rattle.events.specs.declared.output.Output.{Output}
+use Rattle.events.specs.Outputs.{AreSentAsMeant}
 use Rattle.ordering.specs.Log as logs
 use Rattle.ordering.specs.Log.{LogData}
 use Rattle.ordering.specs.Keeping.{IsLog}
@@ -25,7 +26,7 @@ use Rattle.replica_histories.specs.Events as histories
 use Rattle.replica_histories.specs.Events.{Start, behind}
 use Rattle.replica_histories.specs.Transfers.{open_number}
 use Rattle.replica_histories.specs.Views.{begun_log, start_due, with_batches}
-use Rattle.replica_histories.specs.Changes.{AddsBatches, BeginsClaims, FitsChanges, IsOwnFrame, Passes}
+use Rattle.replica_histories.specs.Changes.{AddsBatches, BeginsClaims, FitsChanges, IsOwnFrame, Passes, SpendsLeaves}
 use Rattle.replica_histories.proofs.Batches.{begun_batch, begun_low, begun_view, stays}
 use Rattle.replica_histories.proofs.Beginning.{start_small}
 use Rattle.replica_histories.proofs.ChangesMade.{views_are_begun}
@@ -268,10 +269,10 @@ calls_differ c rs calls h d = all_pairs CallsDiffer calls (pairs_called c rs cal
 -- claimed.
 module _ (c : Configuration) (s : Start) (r : JoinedData) (desk : Desk) (new : NewViewData) (own : Option (List ℕ)) (before : List Output) (past : List Entry) (e : Entry) (sender : ℕ)
     (one : AreOne r.orderer r.desk) (clients : r.desk.executed.clients ≡ r.desk.membership.clients) (is : IsDeskOf c r.desk desk)
-    (at : behind s (given r.orderer.endpoint.me before) ≡ e ∷ past)
+    (at : behind s (given r.orderer.endpoint.me before) ≡ e ∷ past) (meant : AreSentAsMeant c r.orderer.endpoint.me before)
     (fits : histories.Fits c r.orderer.endpoint.me s (desk_from (begun_log r.orderer.log new).low desk) (begun_log r.orderer.log new) (start_due desk new) (given r.orderer.endpoint.me before))
     (passes : Passes c r.orderer.endpoint.me past e r.orderer.log (begun_log r.orderer.log new)) (t : taken c past e ≡ Some new) (brings : brought c e ≡ Some (record { sender = sender; message = NewView new }))
-    (frame : IsOwnFrame c r.orderer.endpoint.me e new own) (was_said : WasSaid r.orderer.endpoint.me r.orderer.last_checkpoint past)
+    (frame : IsOwnFrame c r.orderer.endpoint.me e new own) (spends : SpendsLeaves r.orderer.spent r.orderer.spent past e) (was_said : WasSaid r.orderer.endpoint.me r.orderer.last_checkpoint past)
     (changes : FitsChanges c r.orderer.endpoint.me r.orderer.log (changes_of r.orderer) past) where
   abbrev me : ℕ
   me = r.orderer.endpoint.me
@@ -304,7 +305,8 @@ module _ (c : Configuration) (s : Start) (r : JoinedData) (desk : Desk) (new : N
       numbers = subst (FitsWaiting c me o w later) (sym at) numbers;
       said = subst (WasSaid me o.last_checkpoint) (sym at) (said_on me r.orderer.last_checkpoint past e was_said);
       changes = subst (FitsChanges c me o.log (changes_of o)) (sym at)
-          (views_are_begun c me past e log (changes_of r.orderer) new own x.claims sender passes t brings x.begins frame changes);
+          (views_are_begun c me past e log (changes_of r.orderer) new own x.claims sender r.orderer.spent passes t brings x.begins frame spends changes);
+      meant = meant;
     }
 
     abbrev begun : JoinedData

@@ -26,7 +26,7 @@ use Rattle.replica.specs.Desks.{given, changes_of, FitsEvent}
 use Rattle.replica.specs.Going.{GoesOn}
 use Rattle.replica.specs.Claiming.{claiming, ClaimsLogged}
 use Rattle.replica.specs.Saying.{Says, AddsPrepare, AddsCommit, SaysVote, SaysPrepare, SaysCommit, SaysVotes}
-use Rattle.replica.proofs.Given.{given_one}
+use Rattle.replica.proofs.Given.{GivesOne, gives_one}
 use Rattle.replica.proofs.Parties.{same_orderer, orderers_twice}
 use Rattle.replica_histories.proofs.ChangesKept.{sent_keep}
 use Rattle.replica.proofs.Staying.{sent_beside, same_rows, fits_on, fits_with}
@@ -36,14 +36,14 @@ use Rattle.replica.proofs.Rows.{due_prepare_elsewhere, due_commit_elsewhere, due
 pub record SaidIn (c : Configuration) (o : OrdererData) (message : Message) (before after : List Output) : Type 0 where
   pub bytes : List ℕ
   pub posted : IsPosted c o.endpoint.me message (others c o.endpoint.me) bytes
-  pub is : given o.endpoint.me after ≡ Sent o.endpoint.me bytes ∷ given o.endpoint.me before
+  pub is : GivesOne c o.endpoint.me before after (Sent o.endpoint.me bytes)
 
 pub said_in : (c : Configuration) (o : OrdererData) (message : Message) (before after : List Output) → members c ≡ o.endpoint.membership → Says o message before after
     → SaidIn c o message before after
 said_in c o message before after known s = record {
   bytes = s.posts.bytes;
   posted = posted_for_others o.endpoint.membership o.endpoint.me message s.posts.bytes s.posts.posted c known;
-  is = given_one o.endpoint.me before after s.output s.given_is ∙ ap (λ e. e ∷ given o.endpoint.me before) s.posts.sends;
+  is = gives_one c o.endpoint.me before after s.output (Sent o.endpoint.me s.posts.bytes) s.given_is s.posts.sends (s.posts.meant c known);
 }
 
 -- nothing is asked for, and nothing is said
@@ -71,7 +71,7 @@ prepare_goes number digest vote o before after own due sender same says c s desk
     let k = said_in c o (Prepare o.log.view number digest) before after known says in
     fits_on c o.endpoint.me s o (record o { log = with_prepare o.log number vote }) desk w d d before after (Sent o.endpoint.me k.bytes) k.is
     (sent_beside c o.endpoint.me (Prepare o.log.view number digest) (others c o.endpoint.me) k.bytes (behind s (given o.endpoint.me before)) tt k.posted)
-    (sent_keep c o.endpoint.me (behind s (given o.endpoint.me before)) (Prepare o.log.view number digest) k.bytes k.posted.says tt)
+    (sent_keep c o.endpoint.me (behind s (given o.endpoint.me before)) (Prepare o.log.view number digest) k.bytes k.posted.says tt (λ signed. absurd cc))
     (same_rows o.log (with_prepare o.log number vote).rows) refl refl refl refl f
     (prepares_fit c o.endpoint.me s desk o.log d (given o.endpoint.me before) number digest k.bytes vote due (sender ∙ own) same k.posted f.fits)
 
@@ -81,7 +81,7 @@ says_prepare number digest old new before after is own due says adds =
     subst (λ (x : OrdererData). SaysPrepare number old before x after) (sym adds.new_is) (record {
       says = record {
         goes = prepare_goes number digest adds.vote old before after own.0 due adds.sender adds.digest_is says;
-        same = record { endpoint = refl; log = same_rows old.log (with_prepare old.log number adds.vote).rows };
+        same = record { endpoint = refl; log = same_rows old.log (with_prepare old.log number adds.vote).rows; target = refl };
         low = refl;
         used = refl;
         others = λ i ne v. (due_prepare_elsewhere old.log i number _ inside ne ∙ v.0, due_commit_elsewhere old.log i number _ inside ne ∙ v.1);
@@ -159,7 +159,7 @@ claimed_commit number digest text old new before after is own due hashed says ad
     subst (λ (x : OrdererData). SaysCommit number old before x after) (sym adds.new_is) (record {
       says = record {
         goes = commit_goes number digest text adds.vote old before after own.0 due hashed adds.sender adds.digest_is says;
-        same = record { endpoint = refl; log = same_rows old.log (with_commit old.log number adds.vote).rows };
+        same = record { endpoint = refl; log = same_rows old.log (with_commit old.log number adds.vote).rows; target = refl };
         low = refl;
         used = refl;
         others = λ i ne v. (due_prepare_elsewhere old.log i number _ inside ne ∙ v.0, due_commit_elsewhere old.log i number _ inside ne ∙ v.1);

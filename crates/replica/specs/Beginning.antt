@@ -15,6 +15,7 @@ pub record BeginsView (old : JoinedData) (before : List Output) (new : JoinedDat
     pub stands : (c : Configuration) (s : Start) → members c ≡ old.desk.membership → Rests old
         → Stands c s old.orderer old.desk [] before → Stands c s new.orderer new.desk [] after
     pub party : IsOneParty old new
+    pub target : new.orderer.target ≡ old.orderer.target
     pub voted : Rests old → IsVotedAll new.orderer.log
 
 -- So it does, and the view is touched; or nothing changes.

@@ -1,15 +1,21 @@
 -- The replica's own view changes (Castro and Liskov, TOCS 2002, on view changes).
-use Rattle.std.specs.Prelude.{◌≡◌, ℕ, ◌<◌, Bool, true, false, List, [], Option, Some, None, Vec, max}
+use Rattle.std.specs.Prelude.{◌≡◌, ◌≢◌, ℕ, suc, ◌+◌, ◌^◌, ◌≤◌, ◌<◌, ◌⊎◌, length, Bool, true, false, List, [], Option, Some, None, Vec, max}
 use Rattle.std.specs.declared.alloc.Global.{Global}
 use Rattle.wire.specs.Lists.{ascends}
 use Rattle.wire.specs.Spelling.{checkpoint_entry_before}
-use Rattle.wire.specs.Messages.{CheckpointEntryData as CheckpointEntry, view_change as ViewChange}
+use Rattle.wire.specs.Messages.{CheckpointEntryData as CheckpointEntry, ViewChangeData, view_change as ViewChange}
 use Rattle.wire.specs.Words.{said}
 use Rattle.events.specs.declared.output.Output.{Output}
 use Rattle.posting.specs.Endpoint.{IsOwnSigned}
 use Rattle.protocol.specs.System.Configuration.{Configuration, is_number, members}
+use Rattle.protocol.specs.System.Frames.{leaf_of}
+use Rattle.protocol.specs.System.Trace.Entry.{Tick}
+use Rattle.protocol.specs.Replica.Certificates.{view, target}
+use Rattle.protocol.specs.Replica.RightReplica.{sought_view}
 use Rattle.replica_histories.specs.Events.{Start}
-use Rattle.view_change.specs.ReceivedData.{HeldData, held_of, with_held}
+use Rattle.replica_histories.specs.Views.{entries_of}
+use Rattle.view_change.specs.ReceivedData.{HeldData, held_of, refusal_of, with_held, AreHeldFrom, later_views, IsJoined}
+use Rattle.view_change.specs.ReceivedView.{configuration_of}
 use Rattle.replica.specs.State.{OrdererData, JoinedData}
 use Rattle.replica.specs.Desks.{Stands}
 use Rattle.replica.specs.Going.{IsExecuted, IsOneParty, IsVotedAll}
@@ -22,6 +28,37 @@ aimed_view o = max o.log.view o.target
 abbrev pub IsNextView : OrdererData → ℕ → Type 0
 IsNextView o view = (aimed_view o < view) × (is_number view ≡ true)
 
+-- ---- why a view is left
+
+-- Time moves the replica to the next view while a request waits or it is inactive.
+abbrev pub IsDue : JoinedData → ℕ → Type 0
+IsDue r v = ((r.desk.waiting.requests ≢ []) ⊎ (r.orderer.log.active ≡ false)) × (v ≡ aimed_view r.orderer + 1)
+
+-- It does not, where no request waits and it is active, or no number is left.
+abbrev pub IsNotDue : JoinedData → Type 0
+IsNotDue r =
+    ((r.desk.waiting.requests ≡ []) × (r.orderer.log.active ≡ true)) ⊎ (2 ^ 48 ≤ aimed_view r.orderer + 1)
+
+-- The view changes of more than f others are for later views, of which this is the least. Each is its place's.
+abbrev pub IsJoinedBy : OrdererData → ℕ → Type 0
+IsJoinedBy o v = AreHeldFrom (configuration_of o.received) 0 o.received.held
+    × IsJoined o.endpoint.membership.faults (later_views o.endpoint.me (aimed_view o) o.received.held) v
+
+-- They are not so many.
+abbrev pub IsJoinedByNone : OrdererData → Type 0
+IsJoinedByNone o = AreHeldFrom (configuration_of o.received) 0 o.received.held
+    × (length (later_views o.endpoint.me (aimed_view o) o.received.held) ≤ o.endpoint.membership.faults)
+
+-- In an event with this start the replica has a reason to move to the view.
+abbrev pub HasReason : Configuration → Start → JoinedData → ℕ → Type 0
+HasReason c s old v =
+    ((s.input ≡ Tick old.orderer.endpoint.me)
+    × ((old.desk.waiting.requests ≢ []) ⊎ (view c s.before < target s.before))
+    × (v ≡ suc (sought_view c s.before)))
+    ⊎ IsJoinedBy old.orderer v
+
+-- ---- the view is left
+
 -- the frames that are held say what is held of them
 abbrev pub AreChanges : List (Option HeldData) → Type 0
 AreChanges held =
@@ -32,38 +69,58 @@ AreChanges held =
 abbrev pub is_ascending : List CheckpointEntry → Bool
 is_ascending checkpoints = ascends checkpoint_entry_before checkpoints
 
--- the view change for the view, with these checkpoints and all claims, is signed in this frame, and held
+-- the view change for the view, with these checkpoints and all claims
+abbrev pub change_for : ℕ → List CheckpointEntry → OrdererData → ViewChangeData
+change_for view checkpoints o = record {
+  view = view;
+  low = o.log.low;
+  checkpoints = checkpoints;
+  prepared = o.claims.prepared;
+  pre_prepared = o.claims.logged;
+}
+
+-- It can't be sent: each leaf is spent, or no frame says it, or as another's it would be refused.
+abbrev pub IsUnsayable : OrdererData → ViewChangeData → Type 0
+IsUnsayable o vc =
+    (o.spent ≡ 64)
+    ⊎ (((bytes : List ℕ) → said bytes ≡ Some (record { sender = o.endpoint.me; message = ViewChange vc }) → ⊥)
+    ⊎ (refusal_of (configuration_of o.received) o.log.view o.received.held (o.log.me, vc) ≢ None))
+
+-- the view change is signed in this frame by the next leaf, and held
 pub record SignsChange (view : ℕ) (checkpoints : List CheckpointEntry) (old new : OrdererData)
     (frame : List ℕ) : Type 0 where
   pub own : HeldData
   pub sender : own.sender ≡ old.log.me
   pub frame_is : own.frame ≡ frame
-  pub change : own.change ≡ record {
-    view = view;
-    low = old.log.low;
-    checkpoints = checkpoints;
-    prepared = old.claims.prepared;
-    pre_prepared = old.claims.logged;
-  }
+  pub change : own.change ≡ change_for view checkpoints old
   pub signed : IsOwnSigned old.endpoint (ViewChange own.change) frame
-  pub new_is : new ≡ record old { received = record old.received { held = with_held own old.received.held } }
+  pub by_leaf : leaf_of frame ≡ Some old.spent
+  pub new_is : new ≡ record old {
+    received = record old.received { held = with_held own old.received.held };
+    spent = old.spent + 1;
+  }
 
--- So it is where there is a frame; else nothing changes.
+-- So it is where there is a frame; else it can't be sent, and nothing changes.
 abbrev pub MaySignChange : ℕ → List CheckpointEntry → OrdererData → OrdererData → Option (Vec ℕ Global) → Type 0
-MaySignChange view checkpoints old new None = new ≡ old
+MaySignChange view checkpoints old new None =
+    (new ≡ old) × IsUnsayable old (change_for view checkpoints old)
 MaySignChange view checkpoints old new (Some frame) = SignsChange view checkpoints old new frame.items
 
--- The replica leaves its view by a view change that is said: what stood stands, and the log asks for nothing more.
-pub record LeavesView (old : JoinedData) (before : List Output) (new : JoinedData) (after : List Output) : Type 0
+-- The replica leaves its view by a view change for this one, which is said. Where that has a reason, what stood stands,
+-- and the log asks for nothing more.
+pub record LeavesView (v : ℕ) (old : JoinedData) (before : List Output) (new : JoinedData) (after : List Output) : Type 0
   where
     pub stands : (c : Configuration) (s : Start) → members c ≡ old.desk.membership → IsVotedAll old.orderer.log
-        → Stands c s old.orderer old.desk [] before → Stands c s new.orderer new.desk [] after
+        → HasReason c s old v → Stands c s old.orderer old.desk [] before → Stands c s new.orderer new.desk [] after
     pub party : IsOneParty old new
+    pub target : new.orderer.target ≡ v
     pub inactive : new.orderer.log.active ≡ false
     pub voted : IsVotedAll new.orderer.log
     pub executed : IsExecuted old.orderer.log old.desk → IsExecuted new.orderer.log new.desk
 
--- So it does, or nothing changes.
-abbrev pub ChangesView : JoinedData → List Output → JoinedData → List Output → Bool → Type 0
-ChangesView old before new after true = LeavesView old before new after
-ChangesView old before new after false = (new ≡ old) × (after ≡ before)
+-- So it does; or its view change can't be sent, and nothing changes.
+abbrev pub ChangesView : ℕ → JoinedData → List Output → JoinedData → List Output → Bool → Type 0
+ChangesView v old before new after true = LeavesView v old before new after
+ChangesView v old before new after false =
+    (new ≡ old) × (after ≡ before)
+    × IsUnsayable old.orderer (change_for v (entries_of old.desk.snapshots) old.orderer)

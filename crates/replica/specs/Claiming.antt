@@ -1,8 +1,11 @@
 -- What is kept for view changes to come, and frames that are signed (Castro and Liskov, TOCS 2002, on the sets P and Q of
 -- view changes).
-use Rattle.std.specs.Prelude.{◌≡◌, ℕ, List, [], ◌∷◌, ◌++◌, Some, None}
+use Rattle.std.specs.Prelude.{◌≡◌, ℕ, ◌+◌, ◌⊎◌, List, [], ◌∷◌, ◌++◌, Option, Some, None, Vec}
+use Rattle.std.specs.declared.alloc.Global.{Global}
+use Rattle.wire.specs.Messages.{MessageData as Message}
 use Rattle.events.specs.declared.output.Output.{Output}
-use Rattle.posting.specs.Endpoint.{SendsToOthers}
+use Rattle.posting.specs.Endpoint.{IsOwnSigned, SendsToOthers, SignedExceeds, says}
+use Rattle.protocol.specs.System.Frames.{leaf_of}
 use Rattle.ordering.specs.Log as logs
 use Rattle.view_change.specs.ClaimsView.{ClaimsData, claim_of}
 use Rattle.view_change.specs.Recording.{with_prepared}
@@ -26,6 +29,15 @@ ClaimsLogged number old new = elim (logs.logged_batch old.log number) [
   | Some text ↦ new ≡ claiming number text old
   | None ↦ new ≡ old
 ]
+
+-- The message is signed in this frame by the next leaf, which is spent then. Or it can't be signed, and nothing changes:
+-- each leaf is spent, or the frame would be too long.
+abbrev pub MaySign : Message → OrdererData → OrdererData → Option (Vec ℕ Global) → Type 0
+MaySign message old new None =
+    (new ≡ old) × ((old.spent ≡ 64) ⊎ SignedExceeds (says old.endpoint.me message))
+MaySign message old new (Some frame) =
+    IsOwnSigned old.endpoint message frame.items × (leaf_of frame.items ≡ Some old.spent)
+    × (new ≡ record old { spent = old.spent + 1 })
 
 -- the bytes go to the other replicas behind what was given
 pub record SaysFrame (o : OrdererData) (bytes : List ℕ) (before after : List Output) : Type 0 where

@@ -1,5 +1,5 @@
 -- What a desk does within an event.
-use Rattle.std.specs.Prelude.{◌≡◌, ℕ, suc, ◌%◌, ◌==◌, Bool, true, false, if◌then◌else◌, List, [], ◌∷◌, ◌++◌, map, Option, Some, None, option_and_then, nat_lt, Vec}
+use Rattle.std.specs.Prelude.{◌≡◌, ℕ, suc, ◌%◌, ◌<◌, ◌==◌, Bool, true, false, if◌then◌else◌, List, [], ◌∷◌, ◌++◌, map, Option, Some, None, option_and_then, nat_lt, Vec}
 use Rattle.std.specs.declared.alloc.Global.{Global}
 use Rattle.std.specs.Bool.{then_some}
 use Rattle.terms.specs.declared.parties.ClientId.{ClientId}
@@ -8,6 +8,7 @@ use Rattle.terms.specs.declared.order.Timestamp.{Timestamp}
 use Rattle.wire.specs.Messages.{MessageData as Message, CheckpointEntryData as CheckpointEntry}
 use Rattle.wire.specs.declared.messages.Message.TheVariants as messages
 use Rattle.wire.specs.declared.messages.Reply.{Reply}
+use Rattle.wire.specs.Lists.{Each}
 use Rattle.wire.specs.Views.{message_data}
 use Rattle.partition_tree.specs.Digests.{root_of as root_of_pages}
 use Rattle.reply_cache.specs.Replies.{Kept}
@@ -23,6 +24,7 @@ use Rattle.replica_histories.specs.Desk.{Snapshot, snapshot_of, kept_from}
 use Rattle.replica_histories.specs.Events.{Start}
 use Rattle.replica_histories.specs.Inputs.{again_for}
 use Rattle.replica_histories.specs.Outputs.{checkpoint_due}
+use Rattle.replica.specs.Keeping.{AreDue, newest_with}
 use Rattle.replica.specs.State.{OrdererData, OpenData, DeskData}
 use Rattle.replica.specs.Waiting.{none_waiting, forgotten, with_request, without}
 use Rattle.replica.specs.Desks.{Stands}
@@ -94,7 +96,8 @@ HasReply d client timestamp false =
 
 -- the state is kept where it is to have a checkpoint
 abbrev pub snapshots_with : ℕ → State → List Snapshot → List Snapshot
-snapshots_with period st snapshots = if st.number % period == 0 then snapshot_of st ∷ snapshots else snapshots
+snapshots_with period st snapshots =
+    if st.number % period == 0 then newest_with (snapshot_of st) snapshots else snapshots
 
 -- a transfer of a state that is reached is closed
 abbrev pub above_number : ℕ → Option OpenData → Option OpenData
@@ -123,7 +126,12 @@ RunsWhole old text before new after = RunsBatch old text before new [] after
 
 -- the executed state is kept; and is so where it is to have a checkpoint
 abbrev pub keeping_state : DeskData → DeskData
-keeping_state d = record d { snapshots = snapshot_of d.executed.state ∷ d.snapshots }
+keeping_state d = record d { snapshots = newest_with (snapshot_of d.executed.state) d.snapshots }
+
+-- It may be: it is above all that are kept, and of a multiple of the period, or the first.
+pub record MayKeep (d : DeskData) : Type 0 where
+  pub newer : Each (λ x. x.number < d.executed.state.number) d.snapshots
+  pub due : AreDue d.period (snapshot_of d.executed.state ∷ d.snapshots)
 
 abbrev pub is_due : DeskData → Bool
 is_due d = d.executed.state.number % d.period == 0

@@ -3,7 +3,7 @@ use Rattle.std.specs.Prelude.{◌≡◌, ◌≢◌, ℕ, ◌≤◌, List, [], �
 use Rattle.std.specs.Option.{ForSome}
 use Rattle.wire.specs.Messages.{MessageData as Message, CheckpointEntryData as CheckpointEntry, checkpoint as Checkpoint}
 use Rattle.events.specs.declared.output.Output.{Output}
-use Rattle.events.specs.Outputs.{entry_of}
+use Rattle.events.specs.Outputs.{entry_of, AreSentAsMeant}
 use Rattle.ordering.specs.Log as logs
 use Rattle.protocol.specs.System.Configuration.{Configuration, members}
 use Rattle.protocol.specs.System.Trace.{Entry, Once}
@@ -71,6 +71,7 @@ changes_of o = record {
   new_view = o.new_view;
   claims = o.claims;
   held = o.received.held;
+  spent = o.spent;
 }
 
 -- the last checkpoint was said
@@ -80,13 +81,15 @@ WasSaid me last history =
 
 -- ---- an event
 
--- Desk and orderer fit the history behind what the event gave so far, with these messages due.
+-- Desk and orderer fit the history behind what the event gave so far, with these messages due. Each frame among the
+-- outputs goes to the parties for whom it is.
 pub record FitsEvent (c : Configuration) (me : ℕ) (s : Start) (o : OrdererData) (desk : Desk)
     (w : WaitingData) (due : List Message) (outs : List Output) : Type 0 where
   pub fits : events.Fits c me s desk o.log due (given me outs)
   pub numbers : FitsWaiting c me o w desk (behind s (given me outs))
   pub said : WasSaid me o.last_checkpoint (behind s (given me outs))
   pub changes : FitsChanges c me o.log (changes_of o) (behind s (given me outs))
+  pub meant : AreSentAsMeant c me outs
 
 pub record Stands (c : Configuration) (s : Start) (o : OrdererData) (d : DeskData) (due : List Message)
     (outs : List Output) : Type 0 where

@@ -1,5 +1,5 @@
 -- What bytes that come do, before anything more is said of them.
-use Rattle.std.specs.Prelude.{◌≡◌, ◌+◌, ◌⊎◌, ℕ, false, List, [], Some}
+use Rattle.std.specs.Prelude.{◌≡◌, ◌+◌, ◌≤◌, ◌⊎◌, ℕ, false, List, [], Some}
 use Rattle.tuple_codec.specs.Operations.{Operation}
 use Rattle.terms.specs.declared.parties.ClientId.{ClientId}
 use Rattle.terms.specs.declared.parties.ReplicaId.{ReplicaId}
@@ -11,9 +11,10 @@ use Rattle.events.specs.declared.output.Output.{Output}
 use Rattle.protocol.specs.System.Configuration.{Configuration, members}
 use Rattle.protocol.specs.System.Trace.{Entry}
 use Rattle.protocol.specs.System.Trace.Entry.{Got, Tick}
+use Rattle.protocol.specs.Replica.Certificates.{target}
 use Rattle.replica_histories.specs.Questions.{AnswersInput, brings_question}
 use Rattle.replica_histories.specs.Events as histories
-use Rattle.replica_histories.specs.Events.{Start, IsTaken}
+use Rattle.replica_histories.specs.Events.{Start, behind, IsTaken}
 use Rattle.replica.specs.declared.taking.Touched.{Touched}
 use Rattle.replica.specs.declared.taking.Touched.TheVariants as touched
 use Rattle.replica.specs.State.{JoinedData}
@@ -30,21 +31,34 @@ event_with c r past runs input = histories.start_at c (me_of r) runs.desk r.orde
 abbrev pub event_of : (c : Configuration) (r : JoinedData) (past : List Entry) → Runs c r past → List ℕ → Start
 event_of c r past runs bytes = event_with c r past runs (Got (me_of r) bytes)
 
--- a rule takes the input, which asks for no part of a state
+-- a rule takes the input, which asks nothing and is no part of a state
 abbrev pub IsTakenBeside : Configuration → ℕ → Start → Type 0
 IsTakenBeside c me s = IsTaken c me s × (brings_question c me s.input ≡ false)
+
+-- Whatever the event gives, if its executed number doesn't fall, what its input wants is given.
+abbrev pub IsAnswered : Configuration → ℕ → Start → ℕ → Type 0
+IsAnswered c me s number =
+    (outputs : List Entry) (executed : ℕ) → number ≤ executed
+    → AnswersInput c me s.before s.input outputs s.old executed
+
+-- A rule takes the input, and what it wants is given wherever the target is the replica's.
+abbrev pub IsTakenAnswered : Configuration → JoinedData → Start → Type 0
+IsTakenAnswered c r s = IsTaken c (me_of r) s
+    × ((outputs : List Entry) (executed : ℕ) → target (behind s outputs) ≡ r.orderer.target
+    → AnswersInput c (me_of r) s.before s.input outputs s.old executed)
 
 -- What is left to do, by what was touched: nothing, and what was asked for is given; numbers for what waits; votes for
 -- one number, and what follows; or to execute what is committed, behind a state that was installed or a view that began. What touches
 -- anything, or gives an output, is taken.
 abbrev pub Leaves : Configuration → Start → Touched → JoinedData → List Output → Type 0
 Leaves c s touched.Nothing r outs = Rests r × IsAllNumbered r
-    × AnswersInput c (me_of r) s.before s.input (given (me_of r) outs) s.old
+    × AnswersInput c (me_of r) s.before s.input (given (me_of r) outs) s.old r.desk.executed.state.number
     × ((outs ≡ []) ⊎ IsTaken c (me_of r) s)
 Leaves c s touched.Waiting r outs = Rests r × IsTakenBeside c (me_of r) s
 Leaves c s (touched.Row number) r outs = IsVotedBut number.0 r.orderer.log × IsTakenBeside c (me_of r) s
-Leaves c s touched.State r outs = IsVotedAll r.orderer.log × IsTakenBeside c (me_of r) s
-Leaves c s touched.View r outs = IsVotedAll r.orderer.log × IsTakenBeside c (me_of r) s
+Leaves c s touched.State r outs = IsVotedAll r.orderer.log × IsTaken c (me_of r) s
+    × IsAnswered c (me_of r) s r.desk.executed.state.number
+Leaves c s touched.View r outs = IsVotedAll r.orderer.log × IsTakenAnswered c r s
 
 -- In an event with this input, what holds of the past fits the event, with these outputs.
 pub record TakesInput (input : Entry) (old : JoinedData) (touched : Touched) (new : JoinedData)

@@ -1,6 +1,7 @@
 -- What begins with a new view, part by part (Castro and Liskov, TOCS 2002, on new views).
-use Rattle.std.specs.Prelude.{◌≡◌, ◌⊎◌, true, false, ℕ, suc, ◌+◌, ◌≤◌, ◌<◌, Option}
+use Rattle.std.specs.Prelude.{◌≡◌, ◌⊎◌, true, false, ℕ, suc, ◌+◌, ◌≤◌, ◌<◌, Option, Some, None, Vec}
 use Rattle.std.specs.Prelude.{List, ◌++◌, map, filter_map, length}
+use Rattle.std.specs.declared.alloc.Global.{Global}
 use Rattle.wire.specs.Messages.{CheckpointEntryData as CheckpointEntry, NewViewData, new_view as NewView}
 use Rattle.events.specs.declared.output.Output.{Output}
 use Rattle.posting.specs.Endpoint.{IsOwnSigned}
@@ -11,6 +12,7 @@ use Rattle.view_change.specs.ReceivedView.{configuration_of}
 use Rattle.view_change.specs.Selecting.{meets, AreFrom}
 use Rattle.view_change.specs.Sets.{sized}
 use Rattle.protocol.specs.System.Configuration.{Configuration}
+use Rattle.protocol.specs.System.Frames.{leaf_of}
 use Rattle.protocol.specs.Replica.Selection.{may_select}
 use Rattle.protocol.specs.Replica.State.{call_of}
 use Rattle.replica_histories.specs.Numbers.{BegunCall as HistoryCall, begun_in}
@@ -120,7 +122,13 @@ new_view_of o start root texts = record {
   batches = texts;
 }
 
--- It is signed in this frame, and meets the rules.
+-- It is signed in this frame by the next leaf, and meets the rules.
 pub record SignsView (o : OrdererData) (new : NewViewData) (frame : List ℕ) : Type 0 where
   pub signed : IsOwnSigned o.endpoint (NewView new) frame
+  pub by_leaf : leaf_of frame ≡ Some o.spent
   pub right : may_select (configuration_of o.received) new ≡ true
+
+-- So it is, and the leaf is spent; or it can't be signed, and nothing changes.
+abbrev pub MaySignView : NewViewData → OrdererData → OrdererData → Option (Vec ℕ Global) → Type 0
+MaySignView new old later None = later ≡ old
+MaySignView new old later (Some frame) = SignsView old new frame.items × (later ≡ record old { spent = old.spent + 1 })

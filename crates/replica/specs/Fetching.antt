@@ -1,6 +1,7 @@
 -- What a desk fetches of a state that is ahead, and what it gives of those that it keeps (Castro and Liskov, TOCS 2002, on
 -- state transfer).
 use Rattle.std.specs.Prelude.{◌≡◌, ◌≢◌, ◌⊎◌, ℕ, ◌<◌, ◌≤◌, Bool, true, false, List, [], ◌∷◌, ◌++◌, Option, Some, None}
+use Rattle.std.specs.Option.{ForSome}
 use Rattle.terms.specs.declared.order.Number.{Number}
 use Rattle.terms.specs.declared.parties.Party.TheVariants as parties
 use Rattle.terms.specs.declared.parties.ReplicaId.{ReplicaId}
@@ -17,7 +18,7 @@ use Rattle.events.specs.declared.output.Output.TheVariants as outputs
 use Rattle.partition_tree.specs.Digests.{root_of as root_of_pages}
 use Rattle.state_transfer.specs.declared.place.Place.{Place}
 use Rattle.state_transfer.specs.Transfer.{TransferData}
-use Rattle.execution.specs.Installing.{HasPagesAt, NoneFalls}
+use Rattle.execution.specs.Installing.{HasPagesAt, NoneFalls, NoneReplaces}
 use Rattle.protocol.specs.System.Trace.{Has}
 use Rattle.protocol.specs.Replica.State.{State}
 use Rattle.replica_histories.specs.Desk.{snapshot_of}
@@ -28,7 +29,7 @@ use Rattle.replica.specs.Waiting.{forgotten}
 use Rattle.replica.specs.Desking.{above_number}
 use Rattle.replica.specs.Marking.{MovesMarks}
 use Rattle.replica.specs.Saying.{Says}
-use Rattle.replica.specs.Transferring.{started, moved, TakesDigestsOf, TakesPageOf, is_given_back, AsksPlace}
+use Rattle.replica.specs.Transferring.{started, moved, AreOtherDigests, IsOtherPage, TakesDigestsOf, TakesPageOf, is_given_back, AsksPlace}
 
 -- ---- answers
 
@@ -96,12 +97,12 @@ with_transfer o d = record d { transfer = Some o }
 abbrev pub TakesDigests : DeskData → Meta → DeskData → Bool → Type 0
 TakesDigests old meta new true = (o : OpenData) × (n : OpenData) × (old.transfer ≡ Some o)
     × (new ≡ with_transfer n old) × TakesDigestsOf o meta n true
-TakesDigests old meta new false = new ≡ old
+TakesDigests old meta new false = (new ≡ old) × ForSome old.transfer (λ o. AreOtherDigests o meta)
 
 abbrev pub TakesPage : DeskData → Page → DeskData → Option Taken → Type 0
 TakesPage old page new (Some taken) = (o : OpenData) × (n : OpenData) × (old.transfer ≡ Some o)
     × (new ≡ with_transfer n old) × TakesPageOf o page n (Some taken)
-TakesPage old page new None = new ≡ old
+TakesPage old page new None = (new ≡ old) × ForSome old.transfer (λ o. IsOtherPage o page)
 
 abbrev pub GivesBack : DeskData → Taken → DeskData → Type 0
 GivesBack old taken new = ((old.transfer ≡ None) × (new ≡ old))
@@ -130,7 +131,13 @@ AsksOn old before new after asks =
 
 -- ---- a state is installed
 
--- The state of the pages that are held is installed and kept, and nothing is open any more; or there is none that may be.
+-- Where the pages that are held have the root, no state of them may take the executed one's place.
+abbrev pub CannotInstall : DeskData → Type 0
+CannotInstall d = ForSome d.transfer (λ o. root_of_pages o.transfer.held ≡ o.transfer.root
+    → NoneReplaces d.executed.state o.transfer.number o.transfer.held)
+
+-- The state of the pages that are held is installed and kept alone, since what was kept is not above the executed number,
+-- and nothing is open any more; or there is none that may be.
 abbrev pub Installs : DeskData → DeskData → Option CheckpointEntry → Type 0
 Installs old new (Some entry) =
     (o : OpenData) × (old.transfer ≡ Some o)
@@ -139,11 +146,12 @@ Installs old new (Some entry) =
     × NoneFalls old.executed.state new.executed.state
     × (new ≡ record old {
       executed = record old.executed { state = new.executed.state };
-      snapshots = snapshot_of new.executed.state ∷ old.snapshots;
+      snapshots = snapshot_of new.executed.state ∷ [];
       transfer = None;
       waiting = forgotten new.executed.state old.waiting;
     })
-Installs old new None = new ≡ old
+    × Each (λ x. x.number ≤ old.executed.state.number) old.snapshots
+Installs old new None = (new ≡ old) × CannotInstall old
 
 -- That is told, and the marks move up to it.
 abbrev pub InstallsFetched : JoinedData → List Output → JoinedData → List Output → Bool → Type 0
@@ -152,4 +160,4 @@ InstallsFetched old before new after true =
     × Installs old.desk desk (Some (record { number = number.0; digest = root }))
     × (after ≡ before ++ outputs.Installed number root ∷ [])
     × MovesMarks number.0 (record old { desk = desk }) new
-InstallsFetched old before new after false = (new ≡ old) × (after ≡ before)
+InstallsFetched old before new after false = (new ≡ old) × (after ≡ before) × CannotInstall old.desk

@@ -1,6 +1,6 @@
 -- The relation between a replica and its history.
 use Rattle.std.specs.Prelude.{ℕ, List}
-use Rattle.events.specs.Outputs.{after_event}
+use Rattle.events.specs.Outputs.{after_event, AreSentAsMeant}
 use Rattle.events.specs.declared.output.Output.{Output}
 use Rattle.protocol.specs.System.Configuration.{Configuration}
 use Rattle.protocol.specs.System.Trace.{Entry}
@@ -26,3 +26,8 @@ Leads old input outs new =
 -- an event leads to what the step gives
 abbrev pub EventLeads : ReplicaData → Event → List Output → ReplicaData → Type 0
 EventLeads old event outs new = Leads old (input_of (me_of old) event) outs new
+
+-- If the replica fits some history, each frame among the outputs goes exactly to the parties for whom it is.
+abbrev pub SendsAsMeant : ReplicaData → List Output → Type 0
+SendsAsMeant r outs =
+    (c : Configuration) (history : List Entry) → Fits c r history → AreSentAsMeant c (me_of r) outs

@@ -46,6 +46,7 @@ CommitsNoMore old new =
 pub record IsSameOrderer (old new : OrdererData) : Type 0 where
   pub endpoint : new.endpoint ≡ old.endpoint
   pub log : IsSameLog old.log new.log
+  pub target : new.target ≡ old.target
 
 -- ---- both parts
 
@@ -97,6 +98,7 @@ pub record ExecutesAll (old : JoinedData) (before : List Output) (new : JoinedDa
   where
     pub proceeds : IsVotedAll old.orderer.log → Proceeds old before new after
     pub party : IsSameParty old new
+    pub rises : old.desk.executed.state.number ≤ new.desk.executed.state.number
     pub used : new.orderer.used ≡ old.orderer.used
     pub waiting : count_unnumbered new.desk.waiting ≤ count_unnumbered old.desk.waiting
     pub rests : IsVotedAll old.orderer.log → Rests new
@@ -106,6 +108,7 @@ pub record GoesOnWith (number : ℕ) (old : JoinedData) (before : List Output) (
     (after : List Output) : Type 0 where
   pub proceeds : IsVotedBut number old.orderer.log → Proceeds old before new after
   pub party : IsSameParty old new
+  pub rises : old.desk.executed.state.number ≤ new.desk.executed.state.number
   pub used : new.orderer.used ≡ old.orderer.used
   pub waiting : count_unnumbered new.desk.waiting ≤ count_unnumbered old.desk.waiting
   pub rests : IsVotedBut number old.orderer.log → Rests new

@@ -5,8 +5,9 @@ use Rattle.protocol.specs.Replica.RightReplica.{HasSeen}
 use Rattle.wire.specs.Messages.{BodyData as Body, MessageData as Message, request as Request, reply as Reply}
 use Rattle.protocol.specs.System.Configuration.{Configuration}
 use Rattle.protocol.specs.System.Trace.{Entry}
-use Rattle.protocol.specs.Replica.Certificates.{view, target, low, logged, prepare_of, commit_of, checkpoints_of, brought, new_view_in, change_sent, checkpoint_in, installed_at, batch_from, prepare_from, commit_from}
-use Rattle.protocol.specs.Replica.Owed.{fetch_sent, fetching, asked_last, change_at, latest_change, IsSaying}
+use Rattle.protocol.specs.Replica.Certificates.{view, target, low, logged, prepare_of, commit_of, checkpoints_of, brought, new_view_in, change_sent, checkpoint_in, installed_at, batch_from, prepare_from, commit_from, change_at, latest_change}
+use Rattle.protocol.specs.Replica.Transfers.{fetch_sent, fetching, asked_last}
+use Rattle.protocol.specs.Replica.Owed.{IsSaying}
 use Rattle.protocol.specs.System.Reads.{without_reads}
 
 -- requests and replies order nothing

@@ -1,6 +1,6 @@
 -- The relation between a replica whose parts are joined, as they are within an event, and its history.
 use Rattle.std.specs.Prelude.{◌≡◌, ℕ, List}
-use Rattle.events.specs.Outputs.{after_event}
+use Rattle.events.specs.Outputs.{after_event, AreSentAsMeant}
 use Rattle.events.specs.declared.output.Output.{Output}
 use Rattle.protocol.specs.System.Configuration.{Configuration, members}
 use Rattle.protocol.specs.System.Trace.{Entry}
@@ -38,11 +38,12 @@ pub record Fits (c : Configuration) (r : JoinedData) (history : List Entry) : Ty
   pub right : IsReplica c (me_of r) history
   pub runs : Runs c r history
 
--- Whatever history the replica fits, it fits that behind the event then.
+-- Whatever history the replica fits, it fits that behind the event then. Each frame that it sends goes exactly to the
+-- parties for whom it is.
 abbrev pub Leads : JoinedData → Entry → List Output → JoinedData → Type 0
 Leads old input outs new =
     (c : Configuration) (history : List Entry) → Fits c old history
-    → Fits c new (after_event (me_of old) input outs history)
+    → Fits c new (after_event (me_of old) input outs history) × AreSentAsMeant c (me_of old) outs
 
 -- an event leads to what the step gives
 abbrev pub EventLeads : JoinedData → Event → List Output → JoinedData → Type 0

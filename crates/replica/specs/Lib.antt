@@ -1,5 +1,6 @@
 pub mod Waiting
 pub mod Flags
+pub mod Keeping
 pub mod State
 pub mod OrdererView
 pub mod DeskView

@@ -1,5 +1,5 @@
 -- What giving numbers does.
-use Rattle.std.specs.Prelude.{◌≡◌, ℕ, ◌<◌, Bool, true, false, List, length}
+use Rattle.std.specs.Prelude.{◌≡◌, ℕ, ◌<◌, ◌≤◌, Bool, true, false, List, length}
 use Rattle.wire.specs.Lists.{Each}
 use Rattle.wire.specs.Spelling.{IsCarried, is_ordered_request, pieces_spelling}
 use Rattle.events.specs.declared.output.Output.{Output}
@@ -24,6 +24,7 @@ pub record GivesNumber (old : JoinedData) (before : List Output) (new : JoinedDa
   where
     pub proceeds : Rests old → Proceeds old before new after
     pub party : IsSameParty old new
+    pub rises : old.desk.executed.state.number ≤ new.desk.executed.state.number
     pub rests : Rests old → Rests new
     pub fewer : count_unnumbered new.desk.waiting < count_unnumbered old.desk.waiting
 
@@ -38,5 +39,6 @@ pub record NumbersWaiting (old : JoinedData) (before : List Output) (new : Joine
     (after : List Output) : Type 0 where
   pub proceeds : Rests old → Proceeds old before new after
   pub party : IsSameParty old new
+  pub rises : old.desk.executed.state.number ≤ new.desk.executed.state.number
   pub rests : Rests old → Rests new
   pub all : IsAllNumbered new

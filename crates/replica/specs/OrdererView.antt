@@ -4,7 +4,7 @@ use Rattle.wire.specs.Views.{checkpoint_entry_data}
 use Rattle.replica.specs.declared.orderer.Orderer.TheInside.{Inside}
 use Rattle.replica.specs.State.{OrdererData}
 
--- how many keys are spent is left out
+-- how many keys are spent stands beside the endpoint
 abbrev pub orderer_data : Inside → OrdererData
 orderer_data o = record {
   endpoint = record o.endpoint { used = 0 };
@@ -16,4 +16,5 @@ orderer_data o = record {
   claims = o.claims;
   received = o.received;
   last_checkpoint = option_map checkpoint_entry_data o.last_checkpoint;
+  spent = o.endpoint.used;
 }

@@ -1,8 +1,8 @@
 -- A replica in two parts, and how each meets the history: the desk the whole of it, the orderer the part without reads
 -- (Castro and Liskov, TOCS 2002, on read-only operations).
-use Rattle.std.specs.Prelude.{◌≡◌, ℕ, ◌<◌, ◌≤◌, ◌⊎◌, List, [], Some, None}
+use Rattle.std.specs.Prelude.{◌≡◌, ℕ, ◌<◌, ◌≤◌, true, List, [], Some, None, is_some}
 use Rattle.std.specs.Option.{ForSome}
-use Rattle.events.specs.Outputs.{after_event}
+use Rattle.events.specs.Outputs.{after_event, AreSentAsMeant}
 use Rattle.events.specs.declared.output.Output.{Output}
 use Rattle.protocol.specs.System.Configuration.{Configuration, members, primary}
 use Rattle.protocol.specs.System.Reads.{without_reads}
@@ -36,10 +36,10 @@ pub record HoldsDesk (c : Configuration) (me : ℕ) (d : DeskData) (history : Li
   pub low : histories.IsReached c me (low c me history) desk.state.number [] history
   pub flags : primary c (view c history) ≡ me → HasFlags c me d desk history
 
--- Nothing is logged above the number that is used last, which is not above the low mark, or has a batch.
+-- Each number above the low mark has a batch up to the one that is used last, and none above it has one.
 pub record IsUsed (c : Configuration) (me v used : ℕ) (history : List Entry) : Type 0 where
   pub free : (j : ℕ) → used < j → logged c me history v j ≡ None
-  pub top : (used ≤ low c me history) ⊎ ((batch : List ℕ) × (logged c me history v used ≡ Some batch))
+  pub full : (j : ℕ) → low c me history < j → j ≤ used → is_some (logged c me history v j) ≡ true
 
 -- The orderer holds what the entries of ordering certify. It knows of no point and no state.
 pub record HoldsOrderer (c : Configuration) (me : ℕ) (o : OrdererData) (history : List Entry) : Type 0 where
@@ -82,6 +82,16 @@ ReadLeads d bytes outs later =
     (c : Configuration) (me : ℕ) (history : List Entry) → FitsDesk c me d history
     → FitsDesk c me later (after_event me (Got me bytes) outs history)
     × (without_reads (after_event me (Got me bytes) outs history) ≡ without_reads history)
+
+-- If both fit some history, each frame among the outputs goes exactly to the parties for whom it is.
+abbrev pub BothSendAsMeant : OrdererPart → DeskPart → List Output → Type 0
+BothSendAsMeant o d outs =
+    (c : Configuration) (me : ℕ) (history : List Entry) → FitBoth c me o d history → AreSentAsMeant c me outs
+
+-- So does each frame among the outputs of a read, if the desk fits some history.
+abbrev pub ReadSendsAsMeant : DeskPart → List Output → Type 0
+ReadSendsAsMeant d outs =
+    (c : Configuration) (me : ℕ) (history : List Entry) → FitsDesk c me d history → AreSentAsMeant c me outs
 
 -- A part that stopped goes with any history: the desk with one that is a correct replica's.
 abbrev pub DeskStops : DeskPart → DeskPart → Type 0

@@ -1,12 +1,14 @@
 -- Laws of a replica in two parts.
-use Rattle.std.specs.Prelude.{List}
+use Rattle.std.specs.Prelude.{◌≡◌, ℕ, false, List, is_none}
 use Rattle.protocol.specs.System.Configuration.{Configuration}
 use Rattle.protocol.specs.System.Reads.{without_reads}
 use Rattle.protocol.specs.System.Trace.{Entry}
-use Rattle.replica.specs.State.{OrdererData, DeskData, JoinedData, AreOne}
+use Rattle.protocol.specs.Replica.Owed.{IsPromptReplica}
+use Rattle.replica.specs.State.{OrdererData, DeskData, DeskPart, JoinedData, ReplicaData, AreOne, has_stopped}
 use Rattle.replica.specs.Changing.{AreChanges}
 use Rattle.replica.specs.Joined.{Runs, joined, me_of}
-use Rattle.replica.specs.Parted.{HoldsDesk, HoldsOrderer}
+use Rattle.replica.specs.Parted.{HoldsDesk, HoldsOrderer, FitsDesk}
+use Rattle.replica.specs.Fits as replica_fits
 
 -- Together they hold of the whole history.
 abbrev pub PartsJoin : Type 0
@@ -21,3 +23,15 @@ HoldsPart =
     (c : Configuration) (r : JoinedData) (history : List Entry) → AreOne r.orderer r.desk
     → AreChanges r.orderer.received.held → Runs c r history
     → HoldsDesk c (me_of r) r.desk history × HoldsOrderer c (me_of r) r.orderer (without_reads history)
+
+-- A replica whose desk has not stopped is prompt to the end of its history,
+abbrev pub DesksArePrompt : Type 0
+DesksArePrompt =
+    (c : Configuration) (me : ℕ) (d : DeskPart) (history : List Entry) → FitsDesk c me d history
+    → is_none d.holds ≡ false → IsPromptReplica c me history
+
+-- and so is one of which neither part has stopped.
+abbrev pub ReplicasArePrompt : Type 0
+ReplicasArePrompt =
+    (c : Configuration) (r : ReplicaData) (history : List Entry) → replica_fits.Fits c r history
+    → has_stopped r ≡ false → IsPromptReplica c (replica_fits.me_of r) history

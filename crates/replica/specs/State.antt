@@ -1,21 +1,24 @@
 -- What a replica holds, as plain data: what orders, and what is executed, kept, fetched and waits.
-use Rattle.std.specs.Prelude.{◌≡◌, ℕ, ◌<◌, ◌≤◌, Bool, ◌||◌, List, Option, is_none}
+use Rattle.std.specs.Prelude.{◌≡◌, ℕ, ◌<◌, ◌≤◌, Bool, ◌||◌, List, Option, Some, is_none}
 use Rattle.std.specs.Option.{ForSome}
 use Rattle.authenticator.specs.Membership.{Membership}
+use Rattle.wire.specs.Lists.{Each}
 use Rattle.wire.specs.Messages.{CheckpointEntryData as CheckpointEntry}
+use Rattle.wire.specs.Spelling.{IsBatch}
 use Rattle.posting.specs.Endpoint.{EndpointState}
-use Rattle.ordering.specs.Log.{LogData}
+use Rattle.ordering.specs.Log.{LogData, logged_batch}
 use Rattle.execution.specs.Executed.{ExecutedData}
 use Rattle.view_change.specs.ClaimsView.{ClaimsData}
 use Rattle.view_change.specs.ReceivedView.{ReceivedState}
 use Rattle.state_transfer.specs.Transfer.{TransferData}
 use Rattle.replica_histories.specs.Desk.{Snapshot}
+use Rattle.replica.specs.Keeping.{AreKept}
 use Rattle.replica.specs.Waiting.{WaitingData}
 
 -- What orders: the endpoint, without how many keys it has spent; the log; the greatest number that has a batch by the new
 -- view with which the view began, or by the replica as its primary; the greatest number that the new view gave; the
 -- greatest view that a view change was said for; the frame of the new view, where it is the own one; what was claimed,
--- and the view changes that are held; and the last checkpoint that it said.
+-- and the view changes that are held; the last checkpoint that it said; and how many leaves have signed.
 pub record OrdererData : Type 0 where
   pub endpoint : EndpointState
   pub log : LogData
@@ -26,6 +29,7 @@ pub record OrdererData : Type 0 where
   pub claims : ClaimsData
   pub received : ReceivedState
   pub last_checkpoint : Option CheckpointEntry
+  pub spent : ℕ
 
 -- an open transfer, and the number of the executed state whose pages stand where none were fetched
 pub record OpenData : Type 0 where
@@ -50,15 +54,22 @@ pub record JoinedData : Type 0 where
 
 -- ---- what each keeps
 
+-- Each claimed text is a batch, and each that is logged above the new view's last number has a request.
+pub record HoldsBatches (begun : ℕ) (log : LogData) (texts : List (List ℕ)) : Type 0 where
+  pub logged : (i : ℕ) (text : List ℕ) → begun < i → logged_batch log i ≡ Some text → IsBatch 1 text
+  pub claimed : Each (IsBatch 0) texts
+
 -- The log is the replica's own, of as many faults; the keys by which view changes are judged are the members', and they
--- are as many.
+-- are as many; and what it holds as batches are batches.
 abbrev pub IsOrderer : OrdererData → Type 0
 IsOrderer o = (o.log.me ≡ o.endpoint.me) × (o.log.faults ≡ o.endpoint.membership.faults)
     × (o.received.seed ≡ o.endpoint.membership.seed) × (o.received.sizes.faults ≡ o.endpoint.membership.faults)
+    × HoldsBatches o.begun o.log o.claims.texts
 
--- the state is one of as many clients, the replica may seal for them, and there are checkpoints
+-- the state is one of as many clients, the replica may seal for them, and there are checkpoints, of which it keeps these
 abbrev pub IsDesk : DeskData → Type 0
 IsDesk d = (d.executed.clients ≡ d.membership.clients) × (d.me < 10) × (1 ≤ d.period)
+    × AreKept d.period d.executed.state.number d.snapshots
 
 -- both are of one replica, with checkpoints as often
 abbrev pub AreOne : OrdererData → DeskData → Type 0

@@ -29,6 +29,7 @@ IsNewOrderer c me o = (o ≡ record {
     held = replicate (replicas c) None;
   };
   last_checkpoint = None;
+  spent = 0;
 }) × (o.received.sizes.faults ≡ c.faults) × (o.received.sizes.period ≡ c.period)
 
 -- A batch is taken where the log has no fault for it and its requests are genuine. What isn't taken changes nothing.

@@ -1,7 +1,8 @@
 -- What an open transfer does (Castro and Liskov, TOCS 2002, on state transfer).
 use Rattle.std.specs.Prelude.{◌≡◌, ◌⊎◌, ◌<◌, ℕ, Bool, true, false, length, Option, Some, None}
 use Rattle.sha2.specs.Sha256.{sha256}
-use Rattle.wire.specs.Messages.{CheckpointEntryData as CheckpointEntry}
+use Rattle.wire.specs.Messages.{CheckpointEntryData as CheckpointEntry, meta as MetaMessage}
+use Rattle.wire.specs.Spelling.{IsMessage}
 use Rattle.wire.specs.declared.messages.Meta.{Meta}
 use Rattle.wire.specs.declared.messages.Page.{Page}
 use Rattle.partition_tree.specs.Digests.{digest_of_children}
@@ -9,6 +10,7 @@ use Rattle.state_transfer.specs.declared.place.Place.{Place}
 use Rattle.state_transfer.specs.Places.{page_place}
 use Rattle.state_transfer.specs.Transfer.{TransferData, RestsOn as IsRested, new_transfer, moved_to, next_place, asking, wanted, with_digests, with_page, replaced_at, given_back}
 use Rattle.protocol.specs.Replica.State.{State, pages_of}
+use Rattle.replica_histories.specs.Fetching.{IsOther}
 use Rattle.replica.specs.declared.open_transfer.Taken.{Taken}
 use Rattle.replica.specs.State.{OpenData}
 
@@ -21,13 +23,24 @@ moved o entry = record o { transfer = moved_to o.transfer entry.number entry.dig
 
 -- ---- parts
 
--- Digests are taken that have the wanted digest at the place that was asked for last.
+-- digests, or a page, that the transfer doesn't await
+abbrev pub AreOtherDigests : OpenData → Meta → Type 0
+AreOtherDigests o meta =
+    IsMessage (MetaMessage meta.number.0 meta.level meta.index meta.digests.items)
+    → IsOther o.transfer meta.number.0 (record { level = meta.level; index = meta.index })
+    (digest_of_children meta.digests.items)
+
+abbrev pub IsOtherPage : OpenData → Page → Type 0
+IsOtherPage o page = IsOther o.transfer page.number.0 (page_place page.index) (sha256 page.text.items)
+
+-- Digests are taken that have the wanted digest at the place that was asked for last, and no others. They are those of a
+-- message that may be said.
 abbrev pub TakesDigestsOf : OpenData → Meta → OpenData → Bool → Type 0
 TakesDigestsOf old meta new true =
     (meta.number.0 ≡ old.transfer.number) × (old.transfer.asked ≡ record { level = meta.level; index = meta.index })
     × (wanted old.transfer old.transfer.asked ≡ Some (digest_of_children meta.digests.items))
     × (new ≡ record old { transfer = with_digests old.transfer old.transfer.asked meta.digests.items })
-TakesDigestsOf old meta new false = new ≡ old
+TakesDigestsOf old meta new false = (new ≡ old) × AreOtherDigests old meta
 
 -- there are 1,024 pages
 abbrev pub AreAllPages : TransferData → Type 0
@@ -44,7 +57,7 @@ TakesPageOf old page new (Some taken) =
     × (wanted old.transfer (page_place page.index) ≡ Some (sha256 page.text.items))
     × (new ≡ record old { transfer = with_page old.transfer page.index page.text.items })
     × IsTakenFrom old page.index taken × AreAllPages old.transfer × (page.index < 1024)
-TakesPageOf old page new None = new ≡ old
+TakesPageOf old page new None = (new ≡ old) × IsOtherPage old page
 
 -- what was taken is given back
 abbrev pub is_given_back : OpenData → Taken → OpenData → Type 0

@@ -1,12 +1,12 @@
 //! The replica's own view changes.
 
-ghost use Rattle.std.specs.Prelude.{◌≡◌, ◌≤◌, [], false, length, map, IfOk, IfSome, IsTrue, OnOk};
+ghost use Rattle.std.specs.Prelude.{◌≡◌, ◌+◌, ◌^◌, ◌≤◌, [], false, length, map, IfNone, IfOk, IfSome, IsTrue, OnOk};
 ghost use Rattle.wire.specs.Views.{checkpoint_entries_data, checkpoint_entry_data};
 ghost use Rattle.ordering.specs.Log.{left};
 ghost use Rattle.replica_histories.specs.Views.{entries_of};
-ghost use Rattle.replica.specs.Changing.{ChangesView, IsNextView, MaySignChange, aimed_view, is_ascending};
+ghost use Rattle.replica.specs.Changing.{ChangesView, IsDue, IsNotDue, IsNextView, MaySignChange, aimed_view, is_ascending};
 ghost use Rattle.replica.specs.Entering.{TakesTick};
-ghost use Rattle.replica.specs.Saying.{SaysAgain};
+ghost use Rattle.replica.specs.Saying.{SaysLastAgain};
 
 use crate::desk::Desk;
 use crate::joined::Joined;
@@ -35,6 +35,7 @@ impl Joined {
         ensures endpoint { self.new.orderer.endpoint ≡ self.old.orderer.endpoint }
     {
         self.are_one();
+        self.judges_changes();
         self.say_fetch(alloc, outputs)?;
         let Some(view) = self.due_view() else {
             return Ok(Touched::Nothing);
@@ -47,7 +48,9 @@ impl Joined {
 
     // The view that time going by moves the replica to, if any.
     fn due_view(&self) -> Option<View>
-        ensures { IfSome result (λ view. IsNextView self.now.orderer view.0) }
+        ensures above { IfSome result (λ view. IsNextView self.now.orderer view.0) }
+        ensures due { IfSome result (λ view. IsDue self.now view.0) }
+        ensures none { IfNone result (IsNotDue self.now) }
     {
         if self.orderer.log.is_active() && self.desk.waiting.is_empty() {
             return None;
@@ -64,9 +67,10 @@ impl Joined {
         outputs: &mut Outputs,
     ) -> Result<bool, Stop>
         requires { IsNextView self.old.orderer view.0 }
-        ensures ok { IfOk result (ChangesView self.old outputs.old.items self.new outputs.new.items) }
+        ensures ok { IfOk result (ChangesView view.0 self.old outputs.old.items self.new outputs.new.items) }
         ensures endpoint { self.new.orderer.endpoint ≡ self.old.orderer.endpoint }
     {
+        self.orderer.keeps();
         let checkpoints = self.desk.entries(alloc)?;
         let Some(frame) = self.orderer.sign_change(alloc, view, checkpoints)? else {
             return Ok(false);
@@ -80,7 +84,9 @@ impl Joined {
 impl Desk {
     // What a view change lists of the kept states.
     fn entries(&self, alloc: Global) -> Result<Vec<CheckpointEntry>, NoMemory>
-        ensures { IfOk result (λ entries. checkpoint_entries_data entries ≡ entries_of self.now.snapshots) }
+        ensures are { IfOk result (λ entries. checkpoint_entries_data entries ≡ entries_of self.now.snapshots) }
+        ensures few { length (entries_of self.now.snapshots) ≤ 3 }
+        ensures order { IsTrue (is_ascending (entries_of self.now.snapshots)) }
     {
         self.snapshots.entries(alloc)
     }
@@ -96,7 +102,9 @@ impl Orderer {
 
     // The view above that, where there is one.
     fn next_view(&self) -> Option<View>
-        ensures { IfSome result (λ view. IsNextView self.now view.0) }
+        ensures above { IfSome result (λ view. IsNextView self.now view.0) }
+        ensures next { IfSome result (λ view. view.0 ≡ aimed_view self.now + 1) }
+        ensures none { IfNone result (2 ^ 48 ≤ aimed_view self.now + 1) }
     {
         let next = self.aimed_view().0.checked_add(1)?;
         if next < VIEWS_END {
@@ -106,23 +114,21 @@ impl Orderer {
         }
     }
 
-    // Signs the view change for the view, with these checkpoints, and holds it beside those of the others. Its frame;
-    // none, where it can't be signed.
+    // Signs the view change for the view, with these checkpoints, at most three, ascending, and holds it beside those of
+    // the others. Its frame; none, where it can't be signed.
     fn sign_change(
         &mut self,
         alloc: Global,
         view: View,
         checkpoints: Vec<CheckpointEntry>,
     ) -> Result<Option<Vec<u8>>, Stop>
+        requires few { length (checkpoint_entries_data checkpoints) ≤ 3 }
+        requires order { IsTrue (is_ascending (checkpoint_entries_data checkpoints)) }
         ensures ok { IfOk result (MaySignChange view.0 (checkpoint_entries_data checkpoints) self.old self.new) }
         ensures endpoint { self.new.endpoint ≡ self.old.endpoint }
         ensures sizes { self.new.received.sizes ≡ self.old.received.sizes }
     {
         self.keeps();
-        // A replica keeps three states at the most, in order; the proof is told so by a look at them.
-        if !are_listable(&checkpoints) {
-            return Ok(None);
-        }
         let low = self.log.low();
         let Some(change) = make(alloc, view, low, checkpoints, &self.claims)? else {
             return Ok(None);
@@ -131,12 +137,16 @@ impl Orderer {
             sender: self.log.me(),
             change,
         };
+        // What would be refused isn't signed: so each key that is spent has signed a frame that is said.
+        if self.received.refusal(self.log.view(), &held).is_some() {
+            return Ok(None);
+        }
         let said = copy_change(alloc, &held)?;
         let Some(frame) = self.sign(alloc, view_change_message(said.change))? else {
             return Ok(None);
         };
         if !self.receive(alloc, held, &frame)? {
-            return Ok(None);
+            unreachable!();
         }
         Ok(Some(frame))
     }
@@ -156,7 +166,7 @@ impl Orderer {
         outputs: &mut Outputs,
     ) -> Result<(), Stop>
         ensures ok { OnOk result
-            (SaysAgain false self.old outputs.old.items self.new outputs.new.items) }
+            (SaysLastAgain false 0 self.old outputs.old.items self.new outputs.new.items) }
         ensures same { self.new ≡ self.old }
     {
         let this = &*self;
@@ -164,20 +174,5 @@ impl Orderer {
             Some(frame) => this.say_frame(alloc, frame, outputs),
             None => Ok(()),
         }
-    }
-}
-
-// Whether a view change may list these.
-fn are_listable(checkpoints: &[CheckpointEntry]) -> bool
-    ensures few { IsTrue result → length checkpoints.now ≤ 3 }
-    ensures order { IsTrue result → IsTrue (is_ascending (map checkpoint_entry_data checkpoints.now)) }
-{
-    match checkpoints {
-        [] | [_] => true,
-        [first, second] => first.number.0 < second.number.0,
-        [first, second, third] => {
-            first.number.0 < second.number.0 && second.number.0 < third.number.0
-        }
-        _ => false,
     }
 }

@@ -1,7 +1,8 @@
 //! What the replica keeps for its own view changes: what it logged and what it prepared.
 
-ghost use Rattle.std.specs.Prelude.{◌≡◌, true, OnOk};
+ghost use Rattle.std.specs.Prelude.{◌≡◌, ◌<◌, true, OnOk};
 ghost use Rattle.std.specs.Arc.{arc_value};
+ghost use Rattle.wire.specs.Spelling.{IsBatch};
 ghost use Rattle.ordering.specs.Log.{is_in_marks};
 ghost use Rattle.replica.specs.Claiming.{ClaimsLogged, LogsBatch};
 
@@ -14,12 +15,15 @@ use terms::Number;
 impl Orderer {
     /// Logs a batch, and notes it for view changes to come.
     pub(crate) fn log_batch(&mut self, number: Number, batch: Arc<HashedBatch>) -> Result<(), Stop>
-        requires { is_in_marks self.old.log number.0 ≡ true }
+        requires within { is_in_marks self.old.log number.0 ≡ true }
+        requires batch { IsBatch 0 (arc_value batch) }
+        requires some { self.old.begun < number.0 → IsBatch 1 (arc_value batch) }
         ensures ok { OnOk result (LogsBatch number.0 (arc_value batch) self.old self.new) }
         ensures endpoint { self.new.endpoint ≡ self.old.endpoint }
         ensures sizes { self.new.received.sizes ≡ self.old.received.sizes }
         ensures received { self.new.received ≡ self.old.received }
     {
+        self.log.keeps();
         let view = self.log.view();
         let noted = Arc::try_clone(&batch)?;
         self.claims.note_logged(number, view, noted)?;

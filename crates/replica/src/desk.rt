@@ -10,10 +10,11 @@ ghost use Rattle.replica.specs.State.{IsDesk};
 ghost use Rattle.replica.specs.Waiting.{count_unnumbered, texts, unnumbered, with_numbered};
 ghost use Rattle.replica.specs.Desking.{IsNewDesk, HasReply, PaysAgain, PaysAll, RunsBatch, RunsWhole, SaysTo, Waits, message_of, replies_for};
 
+use crate::keeping::pages_of;
 use crate::open_transfer::OpenTransfer;
 use crate::snapshots::Snapshots;
 use crate::waiting::Waiting;
-use authenticator::Ring;
+use authenticator::{Ring, SealFault};
 use events::{Config, Output, Outputs, Stop, give};
 use execution::{Executed, Ran};
 use posting::{reply_message, seal_for_one};
@@ -61,7 +62,7 @@ impl Desk {
         let ring = Ring::new(alloc, config.seed(), config.faults(), config.clients());
         let mut executed = Executed::new(alloc, config.clients())?;
         let mut snapshots = Snapshots::new(alloc);
-        snapshots.keep(Number(0), executed.checkpoint()?)?;
+        snapshots.keep(Number(0), pages_of(&mut executed)?)?;
         Ok(Desk {
             me,
             ring,
@@ -107,6 +108,10 @@ impl Desk {
         ensures membership { self.new.membership ≡ self.old.membership }
         ensures period { self.new.period ≡ self.old.period }
     {
+        self.snapshots.are_few();
+        // Tells a proof that the state has a place for the reply to each client, so no request runs twice.
+        self.executed.is_state();
+        let _clients = self.executed.clients();
         let ran = self.executed.execute(text)?;
         self.keep_due()?;
         let copy = Vec::from_slice(alloc, text)?;
@@ -249,7 +254,9 @@ impl Desk {
         let party = Party::Client(client);
         match seal_for_one(&mut self.ring, alloc, self.me, message, party) {
             Ok(output) => give(outputs, output),
-            Err(_) => Err(Stop::NoMemory),
+            Err(SealFault::NoMemory) => Err(Stop::NoMemory),
+            // Each reply fits a frame.
+            Err(SealFault::TooLarge) => unreachable!(),
         }
     }
 }

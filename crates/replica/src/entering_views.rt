@@ -1,6 +1,8 @@
 //! What begins with a new view.
 
 ghost use Rattle.std.specs.Prelude.{◌≡◌, ◌+◌, ◌^◌, ◌<◌, ◌≤◌, suc, length, map, option_map, OnOk};
+ghost use Rattle.wire.specs.Lists.{Each};
+ghost use Rattle.wire.specs.Spelling.{IsBatch};
 ghost use Rattle.wire.specs.Views.{checkpoint_entry_data};
 ghost use Rattle.wire.specs.Words.{requests_of};
 ghost use Rattle.view_change.specs.Sets.{texts_of};
@@ -33,6 +35,7 @@ impl Joined {
     ) -> Result<(), Stop>
         requires start { selection.start.0 < 2 ^ 48 }
         requires few { length selection.batches.items ≤ 32 }
+        requires batches { Each (IsBatch 0) (texts_of selection.batches.items) }
         ensures ok { OnOk result (Enters view.0 (record { number = selection.start.0; digest = selection.root })
             (texts_of selection.batches.items) (option_map (λ frame. frame.items) own)
             self.old outputs.old.items self.new outputs.new.items) }
@@ -75,6 +78,7 @@ impl Orderer {
     fn enter(&mut self, view: View, last: Number, own: Option<Vec<u8>>)
         ensures { self.new ≡ entering view.0 last.0 (option_map (λ frame. frame.items) own) self.old }
     {
+        self.log.keeps();
         self.log.enter(view);
         self.used = last;
         self.begun = last;
@@ -83,7 +87,9 @@ impl Orderer {
 
     // Logs the batches behind the start that are within the marks.
     fn log_begun(&mut self, start: Number, batches: Vec<Arc<HashedBatch>>) -> Result<(), Stop>
-        requires { start.0 + length batches.items < 2 ^ 64 }
+        requires fits { start.0 + length batches.items < 2 ^ 64 }
+        requires begun { start.0 + length batches.items ≤ self.old.begun }
+        requires batches { Each (IsBatch 0) (texts_of batches.items) }
         ensures ok { OnOk result (LogsBatches (suc start.0) (texts_of batches.items) self.old self.new) }
         ensures endpoint { self.new.endpoint ≡ self.old.endpoint }
         ensures sizes { self.new.received.sizes ≡ self.old.received.sizes }

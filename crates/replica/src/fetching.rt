@@ -3,11 +3,13 @@
 ghost use Rattle.std.specs.Prelude.{◌≡◌, ◌≤◌, false, IfOk, IfSome, OnOk, option_map};
 ghost use Rattle.wire.specs.Views.{checkpoint_entry_data, message_data};
 ghost use Rattle.wire.specs.Spelling.{IsMessage, is_signed, last_index};
+ghost use Rattle.posting.specs.Endpoint.{FitsFrame};
 ghost use Rattle.state_transfer.specs.Places.{IsPlace};
 ghost use Rattle.replica.specs.Fetching.{AimsAt, AsksPart, GivesBack, GivesPart, HasPart, Installs, IsAskedFor, TakesDigests, TakesPage, aimed_at, closing_reached};
 
 use crate::desk::Desk;
 use crate::open_transfer::{OpenTransfer, Taken};
+use authenticator::SealFault;
 use events::{Outputs, Stop, give};
 use posting::{meta_message, page_message, seal_for_one};
 use state_transfer::Place;
@@ -34,7 +36,9 @@ impl Desk {
         let party = Party::Replica(asker);
         match seal_for_one(&mut self.ring, alloc, self.me, message, party) {
             Ok(output) => give(outputs, output),
-            Err(_) => Err(Stop::NoMemory),
+            Err(SealFault::NoMemory) => Err(Stop::NoMemory),
+            // Each part of a state fits a frame.
+            Err(SealFault::TooLarge) => unreachable!(),
         }
     }
 
@@ -45,6 +49,7 @@ impl Desk {
         ensures may { IfOk result (λ part. IfSome part (λ message. IsMessage (message_data message))) }
         ensures unsigned { IfOk result
             (λ part. IfSome part (λ message. is_signed (message_data message) ≡ false)) }
+        ensures fits { IfOk result (λ part. IfSome part (λ message. FitsFrame (message_data message))) }
     {
         let Some(pages) = self.snapshots.of(fetch.number) else {
             return Ok(None);
@@ -146,7 +151,7 @@ impl Desk {
         Ok(true)
     }
 
-    /// Puts the state that was fetched in the place of the executed one, keeps it as a checkpoint, and closes the
+    /// Puts the state that was fetched in the place of the executed one, keeps it alone, as a checkpoint, and closes the
     /// transfer; nothing, if what was fetched is no state of that number, or one that is behind in some client's
     /// timestamp. Tells which state it is. NoMemory where memory runs out.
     pub(crate) fn install(&mut self) -> Result<Option<CheckpointEntry>, NoMemory>
@@ -163,6 +168,7 @@ impl Desk {
         }
         let entry = open.entry();
         self.transfer = None;
+        self.snapshots.clear();
         self.keep_state()?;
         self.waiting.forget(&self.executed);
         Ok(Some(entry))

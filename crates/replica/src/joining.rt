@@ -1,18 +1,17 @@
 //! View changes that come.
 
-ghost use Rattle.std.specs.Prelude.{◌≡◌, ◌<◌, [], Some, IfOk, IfSome};
+ghost use Rattle.std.specs.Prelude.{◌≡◌, ◌<◌, [], Some, IfNone, IfOk, IfSome};
 ghost use Rattle.wire.specs.Messages.{view_change};
 ghost use Rattle.wire.specs.Views.{view_change_data};
 ghost use Rattle.protocol.specs.Replica.Selection.{signed_change};
 ghost use Rattle.view_change.specs.Laws.{ChangesAreJudged};
 ghost use Rattle.view_change.specs.ReceivedView.{configuration_of, held_as};
 ghost use Rattle.view_change.specs.Sets.{change_pair};
-ghost use Rattle.replica.specs.Changing.{IsNextView};
+ghost use Rattle.replica.specs.Changing.{IsJoinedBy, IsJoinedByNone, IsNextView};
 ghost use Rattle.replica.specs.Entering.{TakesBytes};
 ghost use Rattle.replica.specs.Receiving.{JudgesAlike, Receives};
 ghost use Rattle.signing.specs.Heard.{heard};
 
-use crate::changing::VIEWS_END;
 use crate::joined::Joined;
 use crate::orderer::Orderer;
 use crate::taking::Touched;
@@ -54,6 +53,14 @@ impl Joined {
         }
         self.begin_view(alloc, outputs)
     }
+
+    // Tells a proof by what view changes are judged.
+    pub(crate) fn judges_changes(&self)
+        ensures alike { JudgesAlike self.now.orderer }
+        ensures changes { ChangesAreJudged }
+    {
+        self.orderer.judges();
+    }
 }
 
 impl Orderer {
@@ -89,10 +96,11 @@ impl Orderer {
 
     // The view that f + 1 others move the replica to, if they are that many.
     fn joined_view(&self) -> Option<View>
-        ensures { IfSome result (λ view. IsNextView self.now view.0) }
+        ensures above { IfSome result (λ view. IsNextView self.now view.0) }
+        ensures joined { IfSome result (λ view. IsJoinedBy self.now view.0) }
+        ensures none { IfNone result (IsJoinedByNone self.now) }
     {
-        let view = self.received.joined_view(self.log.me(), self.aimed_view())?;
-        // View changes that are held are for views below the end; the proof is told so by a look.
-        if view.0 < VIEWS_END { Some(view) } else { None }
+        self.received.note_held();
+        self.received.joined_view(self.log.me(), self.aimed_view())
     }
 }

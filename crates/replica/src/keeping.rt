@@ -1,19 +1,27 @@
 //! The states that the desk keeps at checkpoints.
 
-ghost use Rattle.std.specs.Prelude.{◌≡◌, OnErr, OnOk, option_map, IfOk};
+ghost use Rattle.std.specs.Prelude.{◌≡◌, ◌<◌, OnErr, OnOk, option_map, IfOk};
+ghost use Rattle.wire.specs.Lists.{Each};
 ghost use Rattle.wire.specs.Views.{checkpoint_entry_data};
-ghost use Rattle.replica.specs.Desking.{desk_above, due_entry, is_due, keeping_due, keeping_state};
+ghost use Rattle.protocol.specs.Replica.State.{pages_of};
+ghost use Rattle.replica.specs.Keeping.{HaveShortPages};
+ghost use Rattle.replica.specs.Desking.{MayKeep, desk_above, due_entry, is_due, keeping_due, keeping_state};
 
 use crate::desk::Desk;
+use execution::Executed;
+use partition_tree::Snapshot;
 use terms::{NoMemory, Number};
 use wire::CheckpointEntry;
 
 impl Desk {
-    /// Keeps the executed state, where it is to have a checkpoint. NoMemory where memory runs out.
+    /// Keeps the executed state, which is above all that are kept, where it is to have a checkpoint. NoMemory where
+    /// memory runs out.
     pub(crate) fn keep_due(&mut self) -> Result<(), NoMemory>
+        requires newer { Each (λ x. x.number < self.old.executed.state.number) self.old.snapshots }
         ensures ok { OnOk result (self.new ≡ keeping_due self.old) }
         ensures err { OnErr result (self.new ≡ self.old) }
     {
+        self.keeps();
         if !self.is_checkpoint_due() {
             return Ok(());
         }
@@ -23,11 +31,12 @@ impl Desk {
     /// Keeps the executed state. Only pages that requests may have changed since the last checkpoint are written and
     /// hashed. NoMemory where memory runs out.
     pub(crate) fn keep_state(&mut self) -> Result<(), NoMemory>
+        requires may { MayKeep self.old }
         ensures ok { OnOk result (self.new ≡ keeping_state self.old) }
         ensures err { OnErr result (self.new ≡ self.old) }
     {
         let number = self.executed.number();
-        let pages = self.executed.checkpoint()?;
+        let pages = pages_of(&mut self.executed)?;
         self.snapshots.keep(number, pages)
     }
 
@@ -54,4 +63,14 @@ impl Desk {
     {
         self.snapshots.drop_below(low);
     }
+}
+
+/// The pages of the executed state. NoMemory where memory runs out.
+pub(crate) fn pages_of(executed: &mut Executed) -> Result<Snapshot, NoMemory>
+    ensures pages { IfOk result (λ pages. pages ≡ pages_of executed.old.state) }
+    ensures short { IfOk result (λ pages. HaveShortPages pages) }
+    ensures same { executed.new ≡ executed.old }
+{
+    executed.is_state();
+    executed.checkpoint()
 }

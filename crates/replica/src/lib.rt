@@ -39,10 +39,11 @@
 //! Whatever history fits a replica, the longer one behind an event fits it afterwards: [`Replica::new`] fits the empty
 //! history, and [`Replica::step`] hands it on by what it gives, also where it stops. A history that fits is that of a
 //! correct replica (`IsReplica`): safe, with all that is owed of it, in each view: numbers, prepares, commits,
-//! executions, replies and checkpoints, states that are fetched and parts that are asked for, answers of reads, what
-//! goes again and what is dropped. Where memory runs out the replica has stopped: it gives nothing, then and later. The
-//! parts hand on the same histories, steps and reads in any order: the desk fits the whole of one, the orderer fits it
-//! without what stands beside ordering.
+//! executions, replies and checkpoints, states that are fetched part by part until they are installed and parts that
+//! are asked for, answers of reads, what goes again and what is dropped. Where memory runs out the replica has stopped:
+//! it gives nothing, then and later. The parts hand on the same histories, steps and reads in any order: the desk fits
+//! the whole of one, the orderer fits it without what stands beside ordering. Each frame that a step or a read sends
+//! goes exactly to the parties for whom it is.
 #![tactic(auto)]
 
 mod arriving;
@@ -75,5 +76,7 @@ mod votes;
 mod waiting;
 
 pub use parted::{Desk, Orderer};
-pub use parted_laws::{marks_tell_reads, parts_are_whole, reads_are_idle};
+pub use parted_laws::{
+    marks_tell_reads, parts_are_whole, reads_are_idle, running_replicas_are_prompt,
+};
 pub use replica::{Event, Replica};

@@ -1,12 +1,12 @@
 //! What the orderer knows of checkpoints, and its marks.
 
-ghost use Rattle.std.specs.Prelude.{◌≡◌, ◌*◌, ◌+◌, ◌^◌, ◌<◌, Some, OnOk, nat_le, option_map, true};
+ghost use Rattle.std.specs.Prelude.{◌≡◌, ℕ, ◌*◌, ◌+◌, ◌^◌, ◌<◌, Some, OnOk, nat_le, option_map, true};
 ghost use Rattle.wire.specs.Messages.{checkpoint};
 ghost use Rattle.wire.specs.Views.{checkpoint_entry_data};
 ghost use Rattle.ordering.specs.Log.{count_checkpoints};
 ghost use Rattle.replica.specs.Claiming.{CutsLog};
 ghost use Rattle.replica.specs.Checkpoints.{SaysCheckpoint, TakesCheckpoint, said_entry};
-ghost use Rattle.replica.specs.Saying.{Says, SaysAgain};
+ghost use Rattle.replica.specs.Saying.{Says, SaysLastAgain};
 
 use crate::orderer::Orderer;
 use events::{Outputs, Stop};
@@ -57,7 +57,7 @@ impl Orderer {
         outputs: &mut Outputs,
     ) -> Result<(), Stop>
         ensures ok { OnOk result
-            (SaysAgain true self.old outputs.old.items self.new outputs.new.items) }
+            ((place : ℕ) → SaysLastAgain true place self.old outputs.old.items self.new outputs.new.items) }
         ensures same { self.new ≡ self.old }
     {
         match self.last_checkpoint {
@@ -93,6 +93,7 @@ impl Orderer {
         requires { low.0 < 2 ^ 48 }
         ensures { CutsLog low.0 self.old self.new }
     {
+        self.log.keeps();
         self.log.cut(low);
         self.claims.cut(self.log.low());
     }

@@ -10,7 +10,7 @@ ghost use Rattle.view_change.specs.ReceivedView.{configuration_of};
 ghost use Rattle.view_change.specs.Sets.{texts_of};
 ghost use Rattle.replica.specs.Beginning.{MayBegin};
 ghost use Rattle.replica.specs.Entering.{TakesMessage};
-ghost use Rattle.replica.specs.EnteringViews.{IsSelection, SignsView, new_view_of};
+ghost use Rattle.replica.specs.EnteringViews.{IsSelection, MaySignView, new_view_of};
 ghost use Rattle.replica.specs.Saying.{SaysAgain};
 
 use crate::joined::Joined;
@@ -25,7 +25,7 @@ use terms::{NoMemory, ReplicaId};
 use view_change::{
     NewViewFault, Selection, assemble, check_new_view, refusals_decide, select, sizes_decide,
 };
-use wire::{NewView, requests};
+use wire::NewView;
 
 impl Joined {
     /// Begins the view that the replica moves to, if it is its primary and the view changes that it has allow it.
@@ -63,6 +63,7 @@ impl Joined {
         outputs: &mut Outputs,
     ) -> Result<Touched, Stop>
         requires first { outputs.old.items ≡ [] }
+        requires batches { Each (IsBatch 0) (new_view_data message).batches }
         ensures ok { IfOk result (λ touched. TakesMessage sender (new_view (new_view_data message))
             self.old touched self.new outputs.new.items) }
         ensures endpoint { self.new.orderer.endpoint ≡ self.old.orderer.endpoint }
@@ -84,8 +85,9 @@ impl Joined {
 impl Orderer {
     // The selection for the view that the replica moves to, where it is its primary and there is one.
     fn selection(&self, alloc: Global) -> Result<Option<Selection>, NoMemory>
-        ensures { IfOk result (λ o. IfSome o
+        ensures selects { IfOk result (λ o. IfSome o
             (λ s. IsSelection self.now s.start.0 s.root (texts_of s.batches.items))) }
+        ensures batches { IfOk result (λ o. IfSome o (λ s. Each (IsBatch 0) (texts_of s.batches.items))) }
     {
         let view = self.target;
         if self.log.is_active() || self.log.primary(view).0 != self.log.me().0 {
@@ -102,17 +104,13 @@ impl Orderer {
         alloc: Global,
         selection: &Selection,
     ) -> Result<Option<Vec<u8>>, Stop>
-        requires { IsSelection self.old selection.now.start.0 selection.now.root
+        requires selects { IsSelection self.old selection.now.start.0 selection.now.root
             (texts_of selection.now.batches.items) }
-        ensures signs { IfOk result (λ o. IfSome o (λ frame. SignsView self.old
-            (new_view_of self.old selection.now.start.0 selection.now.root
-            (texts_of selection.now.batches.items)) frame.items)) }
-        ensures same { self.new ≡ self.old }
+        requires batches { Each (IsBatch 0) (texts_of selection.now.batches.items) }
+        ensures signs { IfOk result (MaySignView (new_view_of self.old selection.now.start.0 selection.now.root
+            (texts_of selection.now.batches.items)) self.old self.new) }
+        ensures same { self.new ≡ record self.old { spent = self.new.spent } }
     {
-        // The replica has claimed these texts, which are batches; the proof is told so by a look at them.
-        if !are_batches(&selection.batches) {
-            return Ok(None);
-        }
         let message = assemble(alloc, &self.received, self.target, selection)?;
         self.sign(alloc, new_view_message(message))
     }
@@ -137,7 +135,7 @@ impl Orderer {
         outputs: &mut Outputs,
     ) -> Result<(), Stop>
         ensures ok { OnOk result
-            (SaysAgain true self.old outputs.old.items self.new outputs.new.items) }
+            (SaysAgain 0 1 self.old outputs.old.items self.new outputs.new.items) }
         ensures same { self.new ≡ self.old }
     {
         let own = &*self;
@@ -169,26 +167,4 @@ fn selection_in(alloc: Global, new: NewView) -> Result<Selection, NoMemory>
         root,
         batches: hashed,
     })
-}
-
-// Whether all of these are texts of batches.
-fn are_batches(batches: &[Arc<HashedBatch>]) -> bool
-    ensures { IsTrue result → Each (IsBatch 0) (texts_of batches.now) }
-{
-    for batch in batches {
-        if !is_batch(batch.text()) {
-            return false;
-        }
-    }
-    true
-}
-
-// Whether the text is the null batch, or one with a request.
-fn is_batch(text: &[u8]) -> bool
-    ensures { IsTrue result → IsBatch 0 text.now }
-{
-    match text {
-        [0] => true,
-        _ => !requests(text).is_empty(),
-    }
 }

@@ -1,10 +1,10 @@
 //! A transfer that is open: the state of a checkpoint is fetched, part by part.
 
-ghost use Rattle.std.specs.Prelude.{◌≡◌, true, IfNone, IfOk, IfSome, OnErr, OnOk};
+ghost use Rattle.std.specs.Prelude.{◌≡◌, true, false, IfNone, IfOk, IfSome, OnErr, OnOk};
 ghost use Rattle.wire.specs.Views.{checkpoint_entry_data};
 ghost use Rattle.partition_tree.specs.Digests.{root_of};
 ghost use Rattle.state_transfer.specs.Places.{IsPlace};
-ghost use Rattle.execution.specs.Installing.{HasPagesAt, NoneFalls};
+ghost use Rattle.execution.specs.Installing.{HasPagesAt, NoneFalls, NoneReplaces};
 ghost use Rattle.replica.specs.Transferring.{AsksPlace, IsRestedAt, TakesDigestsOf, TakesPageOf, is_given_back, moved, started};
 
 use execution::Executed;
@@ -95,6 +95,7 @@ impl OpenTransfer {
             level: meta.level,
             index: meta.index,
         };
+        self.transfer.keeps();
         self.transfer.on_meta(meta.number, place, digests).is_ok()
     }
 
@@ -148,6 +149,8 @@ impl OpenTransfer {
         ensures installed { (result ≡ Ok true)
             → HasPagesAt self.now.transfer.number self.now.transfer.held executed.new.state }
         ensures rises { (result ≡ Ok true) → NoneFalls executed.old.state executed.new.state }
+        ensures none { (result ≡ Ok false) → root_of self.now.transfer.held ≡ self.now.transfer.root
+            → NoneReplaces executed.old.state self.now.transfer.number self.now.transfer.held }
         ensures same { ¬ (result ≡ Ok true) → executed.new ≡ executed.old }
         ensures clients { executed.new.clients ≡ executed.old.clients }
     {

@@ -2,6 +2,7 @@
 //! posted with.
 
 ghost use Rattle.std.specs.Prelude.{◌≡◌, ◌+◌, ◌*◌, ◌<◌, IfOk};
+ghost use Rattle.wire.specs.Spelling.{IsBatch};
 ghost use Rattle.posting.specs.Endpoint.{Hears};
 ghost use Rattle.replica.specs.Changing.{AreChanges};
 ghost use Rattle.replica.specs.Taking.{IsNewOrderer, TakesBatch, TakesPrepare, TakesCommit};
@@ -113,6 +114,7 @@ impl Orderer {
         sender: ReplicaId,
         message: PrePrepare,
     ) -> Result<bool, Stop>
+        requires batch { IsBatch 1 message.batch.text.items }
         ensures takes { IfOk result (TakesBatch self.old sender message self.new) }
         ensures endpoint { self.new.endpoint ≡ self.old.endpoint }
         ensures sizes { self.new.received.sizes ≡ self.old.received.sizes }
@@ -134,6 +136,7 @@ impl Orderer {
     pub(crate) fn take_prepare(&mut self, sender: ReplicaId, message: &Prepare) -> bool
         ensures takes { TakesPrepare self.old sender message.now self.new result }
     {
+        self.log.keeps();
         self.log.on_prepare(sender, message).is_ok()
     }
 
@@ -141,6 +144,7 @@ impl Orderer {
     pub(crate) fn take_commit(&mut self, sender: ReplicaId, message: &Commit) -> bool
         ensures takes { TakesCommit self.old sender message.now self.new result }
     {
+        self.log.keeps();
         self.log.on_commit(sender, message).is_ok()
     }
 }

@@ -7,7 +7,7 @@ ghost use Rattle.std.specs.Prelude.{◌≡◌, ◌⊎◌, ◌↔◌, true, false
 ghost use Rattle.events.specs.declared.output.Stop.TheVariants as Stop;
 ghost use Rattle.replica.specs.State.{AreOne};
 ghost use Rattle.replica.specs.MemberView.{member_data};
-ghost use Rattle.replica.specs.Parted.{AreTogether, BothLead, DeskStops, OrdererStops, Reacts, ReadLeads};
+ghost use Rattle.replica.specs.Parted.{AreTogether, BothLead, BothSendAsMeant, DeskStops, OrdererStops, Reacts, ReadLeads, ReadSendsAsMeant};
 ghost use Rattle.wire.specs.Marks.{asks_read};
 
 use crate::desk::Desk as DeskState;
@@ -103,6 +103,7 @@ impl Orderer {
         event: Event<'_>,
     ) -> Result<Outputs, Stop>
         ensures leads { IfOk result (λ outs. BothLead self.old desk.old event.entry outs.items self.new desk.new) }
+        ensures meant { IfOk result (λ outs. BothSendAsMeant self.old desk.old outs.items) }
         ensures stops { OnErr result (BothLead self.old desk.old event.entry [] self.new desk.new) }
         ensures runs { IfOk result (λ _. is_none self.new.holds ≡ false) }
         ensures desk_runs { IfOk result (λ _. is_none desk.new.holds ≡ false) }
@@ -142,6 +143,7 @@ impl Orderer {
     ) -> Result<Outputs, Stop>
         requires together { AreTogether self.old desk.old }
         ensures leads { IfOk result (λ outs. BothLead self.old desk.old event.entry outs.items self.new desk.new) }
+        ensures meant { IfOk result (λ outs. BothSendAsMeant self.old desk.old outs.items) }
         ensures runs { IfOk result (λ _. is_none self.new.holds ≡ false) }
         ensures desk_runs { IfOk result (λ _. is_none desk.new.holds ≡ false) }
         ensures refused { OnErr result (result ≡ Err Stop.NoMemory) }
@@ -246,6 +248,7 @@ impl Desk {
     pub fn read(&mut self, alloc: Global, bytes: &[u8], arena: &mut Bump) -> Result<Outputs, Stop>
         ensures leads { asks_read bytes.now ≡ true
             → IfOk result (λ outs. ReadLeads self.old bytes.now outs.items self.new) }
+        ensures meant { IfOk result (λ outs. ReadSendsAsMeant self.old outs.items) }
         ensures stops { asks_read bytes.now ≡ true → OnErr result (ReadLeads self.old bytes.now [] self.new) }
         ensures others { asks_read bytes.now ≡ false → IfOk result (λ outs. outs.items ≡ []) }
         ensures same { IfOk result (λ _. self.new ≡ self.old) }
@@ -275,6 +278,7 @@ impl Desk {
         requires first { outputs.old.items ≡ [] }
         ensures leads { asks_read bytes.now ≡ true → is_none self.old.holds ≡ false
             → OnOk result (ReadLeads self.old bytes.now outputs.new.items self.new) }
+        ensures meant { OnOk result (ReadSendsAsMeant self.old outputs.new.items) }
         ensures others { asks_read bytes.now ≡ false → OnOk result (outputs.new.items ≡ []) }
         ensures same { self.new ≡ self.old }
     {

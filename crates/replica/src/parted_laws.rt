@@ -1,7 +1,7 @@
 //! Laws of a replica in two parts: what stands beside ordering counts for nothing, and the parts are the whole.
 
 ghost use Rattle.replica.specs.Idle.{ReadsAreIdle, WordsStay};
-ghost use Rattle.replica.specs.PartedLaws.{HoldsPart, PartsJoin};
+ghost use Rattle.replica.specs.PartedLaws.{DesksArePrompt, HoldsPart, PartsJoin, ReplicasArePrompt};
 ghost use Rattle.replica.specs.Reads.{MarkedAreReplies, MarkedAreRequests, RepliesAreMarked};
 
 /// Bytes with the marks of a read, or of a reply to one, say that, if anything; and such a reply has its marks.
@@ -21,4 +21,10 @@ pub fn reads_are_idle()
 pub fn parts_are_whole()
     ensures join { PartsJoin }
     ensures part { HoldsPart }
+{}
+
+/// A replica that has not stopped does all that it owes, to the end of the history that it fits.
+pub fn running_replicas_are_prompt()
+    ensures desks { DesksArePrompt }
+    ensures replicas { ReplicasArePrompt }
 {}

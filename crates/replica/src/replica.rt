@@ -3,7 +3,7 @@
 ghost use Rattle.std.specs.Prelude.{◌≡◌, ◌↔◌, ◌+◌, ◌*◌, ◌<◌, true, false, [], Err, IfOk, OnErr};
 ghost use Rattle.events.specs.declared.output.Stop.TheVariants as Stop;
 ghost use Rattle.replica.specs.State.{IsReplicaData, has_stopped};
-ghost use Rattle.replica.specs.Fits.{EventLeads, Fits, me_of};
+ghost use Rattle.replica.specs.Fits.{EventLeads, Fits, SendsAsMeant, me_of};
 
 use crate::desk::Desk as DeskState;
 use crate::member::Member;
@@ -89,6 +89,7 @@ impl Replica {
     /// Nothing is given then.
     pub fn step(&mut self, alloc: Global, event: Event<'_>) -> Result<Outputs, Stop>
         ensures leads { IfOk result (λ outs. EventLeads self.old event.entry outs.items self.new) }
+        ensures meant { IfOk result (λ outs. SendsAsMeant self.old outs.items) }
         ensures stops { OnErr result (EventLeads self.old event.entry [] self.new) }
         ensures runs { IfOk result (λ _. has_stopped self.new ≡ false) }
         ensures stopped { OnErr result (has_stopped self.new ≡ true) }

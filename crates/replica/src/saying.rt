@@ -1,16 +1,17 @@
 //! What is said to the other replicas, and what is said again where a client asks again.
 
-ghost use Rattle.std.specs.Prelude.{◌≡◌, ◌≤◌, ◌<◌, ◌^◌, true, false, length, OnOk, IsTrue};
-ghost use Rattle.tuple_tree.specs.Values.{AreBytes};
+ghost use Rattle.std.specs.Prelude.{◌≡◌, ◌+◌, ◌≤◌, ◌<◌, ◌^◌, true, false, length, OnOk};
 ghost use Rattle.wire.specs.Lists.{Each};
 ghost use Rattle.wire.specs.Messages.{fetch, pre_prepare};
 ghost use Rattle.wire.specs.Spelling.{IsBatch, IsCarried, IsMessage, is_ordered_request, is_signed, pieces_spelling};
 ghost use Rattle.ordering.specs.Log.{is_in_marks};
 ghost use Rattle.wire.specs.Views.{message_data, texts_of};
+ghost use Rattle.posting.specs.Endpoint.{FitsFrame};
 ghost use Rattle.state_transfer.specs.Places.{IsPlace};
-ghost use Rattle.replica.specs.Saying.{Says, SaysAgain, SaysBatch};
+ghost use Rattle.replica.specs.Saying.{Says, SaysAgain, SaysBatch, SaysLastAgain, row_place};
 
 use crate::orderer::Orderer;
+use authenticator::SealFault;
 use events::{Outputs, Stop, give};
 use ordering::HashedBatch;
 use posting::{fetch_message, pre_prepare_message};
@@ -18,7 +19,7 @@ use state_transfer::Place;
 use std::alloc::Global;
 use std::sync::Arc;
 use terms::Number;
-use wire::{Batch, Message, requests};
+use wire::{Batch, Message};
 
 impl Orderer {
     /// Gives a number to these request frames, 1 to 16, as the primary.
@@ -56,7 +57,7 @@ impl Orderer {
     ) -> Result<(), Stop>
         requires { executed.0 < 2 ^ 48 }
         ensures ok { OnOk result
-            (SaysAgain true self.old outputs.old.items self.new outputs.new.items) }
+            (SaysLastAgain true 0 self.old outputs.old.items self.new outputs.new.items) }
         ensures same { self.new ≡ self.old }
     {
         self.say_new_view_again(alloc, outputs)?;
@@ -74,8 +75,8 @@ impl Orderer {
         number: Number,
         outputs: &mut Outputs,
     ) -> Result<(), Stop>
-        ensures ok { OnOk result
-            (SaysAgain true self.old outputs.old.items self.new outputs.new.items) }
+        ensures ok { OnOk result (SaysAgain (row_place number.0) (row_place number.0 + 3)
+            self.old outputs.old.items self.new outputs.new.items) }
         ensures same { self.new ≡ self.old }
     {
         self.say_batch_again(alloc, number, outputs)?;
@@ -89,8 +90,8 @@ impl Orderer {
         number: Number,
         outputs: &mut Outputs,
     ) -> Result<(), Stop>
-        ensures ok { OnOk result
-            (SaysAgain true self.old outputs.old.items self.new outputs.new.items) }
+        ensures ok { OnOk result (SaysAgain (row_place number.0) (row_place number.0 + 1)
+            self.old outputs.old.items self.new outputs.new.items) }
         ensures same { self.new ≡ self.old }
     {
         self.keeps();
@@ -102,10 +103,6 @@ impl Orderer {
             return Ok(());
         };
         let batch = Arc::try_clone(batch)?;
-        // What is logged is a batch; the proof is told so by a look at it.
-        if !is_batch(batch.text()) {
-            return Ok(());
-        }
         self.say_pre_prepare(alloc, number, batch.text(), outputs)
     }
 
@@ -115,8 +112,8 @@ impl Orderer {
         number: Number,
         outputs: &mut Outputs,
     ) -> Result<(), Stop>
-        ensures ok { OnOk result
-            (SaysAgain true self.old outputs.old.items self.new outputs.new.items) }
+        ensures ok { OnOk result (SaysAgain (row_place number.0 + 1) (row_place number.0 + 2)
+            self.old outputs.old.items self.new outputs.new.items) }
         ensures same { self.new ≡ self.old }
     {
         self.keeps();
@@ -133,8 +130,8 @@ impl Orderer {
         number: Number,
         outputs: &mut Outputs,
     ) -> Result<(), Stop>
-        ensures ok { OnOk result
-            (SaysAgain true self.old outputs.old.items self.new outputs.new.items) }
+        ensures ok { OnOk result (SaysAgain (row_place number.0 + 2) (row_place number.0 + 3)
+            self.old outputs.old.items self.new outputs.new.items) }
         ensures same { self.new ≡ self.old }
     {
         self.keeps();
@@ -179,7 +176,7 @@ impl Orderer {
         self.say(alloc, message, outputs)
     }
 
-    /// Says a message to all other replicas.
+    /// Says a message that fits a frame to all other replicas.
     pub(crate) fn say(
         &mut self,
         alloc: Global,
@@ -188,28 +185,15 @@ impl Orderer {
     ) -> Result<(), Stop>
         requires may { IsMessage (message_data message) }
         requires unsigned { is_signed (message_data message) ≡ false }
+        requires fits { FitsFrame (message_data message) }
         ensures said { OnOk result
             (Says self.old (message_data message) outputs.old.items outputs.new.items) }
         ensures same { self.new ≡ self.old }
     {
         match self.endpoint.post_to_others(alloc, message) {
             Ok(output) => give(outputs, output),
-            Err(_) => Err(Stop::NoMemory),
+            Err(SealFault::NoMemory) => Err(Stop::NoMemory),
+            Err(SealFault::TooLarge) => unreachable!(),
         }
     }
-}
-
-// Whether the text is a batch with a request.
-fn is_batch(text: &[u8]) -> bool
-    ensures { IsTrue result → IsBatch 1 text.now }
-{
-    note_bytes(text);
-    !requests(text).is_empty()
-}
-
-// Each of the bytes that the program holds is one.
-fn note_bytes(bytes: &[u8])
-    ensures { AreBytes bytes.now }
-{
-    let _len = bytes.len();
 }

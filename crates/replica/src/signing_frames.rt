@@ -1,10 +1,9 @@
 //! Frames that are signed.
 
-ghost use Rattle.std.specs.Prelude.{◌≡◌, true, IfOk, IfSome, OnOk};
+ghost use Rattle.std.specs.Prelude.{◌≡◌, true, IfOk, OnOk};
 ghost use Rattle.wire.specs.Spelling.{IsMessage, is_signed};
 ghost use Rattle.wire.specs.Views.{message_data};
-ghost use Rattle.posting.specs.Endpoint.{IsOwnSigned};
-ghost use Rattle.replica.specs.Claiming.{SaysFrame};
+ghost use Rattle.replica.specs.Claiming.{MaySign, SaysFrame};
 
 use crate::orderer::Orderer;
 use events::{Outputs, Stop, give};
@@ -13,18 +12,19 @@ use std::alloc::Global;
 use wire::Message;
 
 impl Orderer {
-    /// The frame of a message that is signed; none, where the keys are spent or the frame would be too long.
+    /// The frame of a message that is signed by the next leaf; none, where the keys are spent or the frame would be too
+    /// long.
     pub(crate) fn sign(&mut self, alloc: Global, message: Message) -> Result<Option<Vec<u8>>, Stop>
         requires said { IsMessage (message_data message) }
         requires signed { is_signed (message_data message) ≡ true }
-        ensures frame { IfOk result (λ o. IfSome o
-            (λ frame. IsOwnSigned self.old.endpoint (message_data message) frame.items)) }
-        ensures same { self.new ≡ self.old }
+        ensures ok { IfOk result (MaySign (message_data message) self.old self.new) }
+        ensures same { self.new ≡ record self.old { spent = self.new.spent } }
     {
         match self.endpoint.sign(alloc, message) {
             Ok(frame) => Ok(Some(frame)),
             Err(PostFault::NoMemory) => Err(Stop::NoMemory),
-            Err(_) => Ok(None),
+            Err(PostFault::KeysSpent) => Ok(None),
+            Err(PostFault::TooLarge) => Ok(None),
         }
     }
 

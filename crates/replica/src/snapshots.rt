@@ -1,12 +1,14 @@
 //! The states that are kept for those that fetch them.
 
-ghost use Rattle.std.specs.Prelude.{◌≡◌, ◌≢◌, ◌∷◌, [], IfNone, IfOk, IfSome, OnErr, OnOk, option_map};
+ghost use Rattle.std.specs.Prelude.{◌≡◌, ◌≢◌, ◌<◌, ◌≤◌, [], length, IfNone, IfOk, IfSome, IsTrue, OnErr, OnOk, option_map};
 ghost use Rattle.wire.specs.Lists.{Each};
 ghost use Rattle.wire.specs.Views.{checkpoint_entries_data, checkpoint_entry_data};
 ghost use Rattle.protocol.specs.System.Trace.{Has};
 ghost use Rattle.replica_histories.specs.Desk.{kept_from};
 ghost use Rattle.replica_histories.specs.Views.{entries_of};
+ghost use Rattle.replica.specs.Changing.{is_ascending};
 ghost use Rattle.replica.specs.Desking.{newest_entry};
+ghost use Rattle.replica.specs.Keeping.{AreFew, HaveShortPages, newest_with};
 
 use partition_tree::Snapshot;
 use std::alloc::Global;
@@ -19,11 +21,16 @@ use wire::CheckpointEntry;
 pub(crate) struct KeptState {
     pub(crate) number: Number,
     pub(crate) pages: Snapshot,
+    ghost short: { HaveShortPages pages },
 }
 
-/// The states at checkpoints from the low mark on, the newest first. They share the pages that are the same in them.
+/// So many states are kept at the most.
+const KEPT: usize = 3;
+
+/// The states at checkpoints from the low mark on, at most three, the newest first. They share the pages that are the
+/// same in them.
 ///
-/// Their numbers are those of checkpoints within the marks, and the low mark, so there are at most three.
+/// Their numbers are those of checkpoints within the marks, and the low mark, so none is given up for want of room.
 #[derive(Drop)]
 pub(crate) struct Snapshots {
     kept: Vec<KeptState>,
@@ -37,6 +44,10 @@ impl Model for Snapshots {
     ghost Value = { List SnapshotData };
 
     ghost view = { snapshots_data };
+
+    ghost use Rattle.replica.specs.Keeping.{AreFew};
+
+    ghost invariant = { λ s. AreFew (snapshots_data s) };
 }
 
 impl Snapshots {
@@ -49,19 +60,38 @@ impl Snapshots {
         }
     }
 
-    /// Keeps the state of a number. NoMemory where memory runs out, and nothing changes then.
+    /// Tells a proof that they are few. It does nothing.
+    pub(crate) fn are_few(&self)
+        ensures { AreFew self.now }
+    {
+        let _count = self.kept.len();
+    }
+
+    /// Keeps the state of a number above all that are kept, beside the newest two. NoMemory where memory runs out, and
+    /// nothing changes then.
     pub(crate) fn keep(&mut self, number: Number, pages: Snapshot) -> Result<(), NoMemory>
-        ensures ok { OnOk result (self.new ≡ (record { number = number.0; pages = pages }) ∷ self.old) }
+        requires newer { Each (λ x. x.number < number.0) self.old }
+        requires short { HaveShortPages pages }
+        ensures ok { OnOk result (self.new ≡ newest_with (record { number = number.0; pages = pages }) self.old) }
         ensures err { OnErr result (self.new ≡ self.old) }
     {
         self.kept.insert(0, KeptState { number, pages })?;
+        self.kept.truncate(KEPT);
         Ok(())
+    }
+
+    /// Drops all.
+    pub(crate) fn clear(&mut self)
+        ensures { self.new ≡ [] }
+    {
+        self.kept.clear();
     }
 
     /// The pages of the state of this number, if it is kept. Takes no memory.
     pub(crate) fn of(&self, number: Number) -> Option<&Snapshot>
         ensures some { IfSome result
             (λ pages. Has (λ x. x ≡ record { number = number.0; pages = pages.now }) self.now) }
+        ensures short { IfSome result (λ pages. HaveShortPages pages.now) }
         ensures none { IfNone result (Each (λ x. x.number ≢ number.0) self.now) }
     {
         for state in &self.kept {
@@ -87,7 +117,9 @@ impl Snapshots {
 
     /// The numbers and roots of all, ascending. The error is want of memory.
     pub(crate) fn entries(&self, alloc: Global) -> Result<Vec<CheckpointEntry>, NoMemory>
-        ensures { IfOk result (λ entries. checkpoint_entries_data entries ≡ entries_of self.now) }
+        ensures are { IfOk result (λ entries. checkpoint_entries_data entries ≡ entries_of self.now) }
+        ensures few { length (entries_of self.now) ≤ 3 }
+        ensures order { IsTrue (is_ascending (entries_of self.now)) }
     {
         let mut entries = Vec::new(alloc);
         for state in &self.kept {

@@ -2,6 +2,7 @@
 
 ghost use Rattle.std.specs.Prelude.{◌≡◌, ◌+◌, ◌<◌, [], Some, IfOk};
 ghost use Rattle.wire.specs.Messages.{pre_prepare, prepare, commit};
+ghost use Rattle.wire.specs.Spelling.{IsBatch};
 ghost use Rattle.wire.specs.Views.{message_data};
 ghost use Rattle.signing.specs.Heard.{heard};
 ghost use Rattle.read_only.specs.Hearing.{HearsNoRead};
@@ -134,6 +135,7 @@ impl Joined {
         sender: ReplicaId,
         message: PrePrepare,
     ) -> Result<Touched, Stop>
+        requires batch { IsBatch 1 message.batch.text.items }
         ensures ok { IfOk result (λ touched. TakesMessage sender
             (pre_prepare message.view.0 message.number.0 message.batch.text.items)
             self.old touched self.new []) }

@@ -1,6 +1,6 @@
 //! Transfers of states: parts that are asked for, and parts that come.
 
-ghost use Rattle.std.specs.Prelude.{◌≡◌, ◌≤◌, ◌<◌, [], IfOk, IsFalse, IsTrue, OnOk};
+ghost use Rattle.std.specs.Prelude.{◌≡◌, ◌≤◌, [], IfOk, OnOk};
 ghost use Rattle.wire.specs.Messages.{fetch, meta, page};
 ghost use Rattle.wire.specs.Spelling.{last_index};
 ghost use Rattle.replica.specs.Entering.{TakesMessage};
@@ -10,7 +10,7 @@ use crate::joined::Joined;
 use crate::taking::Touched;
 use events::{Output, Outputs, Stop, give};
 use std::alloc::Global;
-use terms::{Level, ReplicaId};
+use terms::ReplicaId;
 use wire::{Fetch, Meta, Page};
 
 impl Joined {
@@ -34,16 +34,13 @@ impl Joined {
         outputs: &mut Outputs,
     ) -> Result<Touched, Stop>
         requires first { outputs.old.items ≡ [] }
+        requires place { message.now.index ≤ last_index message.now.level }
         ensures ok { IfOk result (λ touched. TakesMessage sender
             (fetch message.now.number.0 message.now.level message.now.index)
             self.old touched self.new outputs.new.items) }
         ensures endpoint { self.new.orderer.endpoint ≡ self.old.orderer.endpoint }
     {
         self.are_one();
-        // What is heard asks for a place; the proof is told so by a look at it.
-        if !is_place(message) {
-            return Ok(Touched::Nothing);
-        }
         self.desk.give_part(alloc, sender, message, outputs)?;
         Ok(Touched::Nothing)
     }
@@ -129,17 +126,4 @@ impl Joined {
         self.move_marks(entry.number);
         Ok(true)
     }
-}
-
-// Whether there is a place of this index at the level.
-fn is_place(fetch: &Fetch) -> bool
-    ensures within { IsTrue result → fetch.now.index ≤ last_index fetch.now.level }
-    ensures beyond { IsFalse result → last_index fetch.now.level < fetch.now.index }
-{
-    let last = match fetch.level {
-        Level::Root => 0,
-        Level::Inner => 31,
-        Level::Page => 1023,
-    };
-    fetch.index <= last
 }

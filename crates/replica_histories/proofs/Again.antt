@@ -32,6 +32,7 @@ use Rattle.replica_histories.proofs.Taking.{takes_nothing, none_there}
 use Rattle.replica_histories.proofs.Ending.{steps_leave}
 use Rattle.replica_histories.proofs.TransfersQuorums.{no_root, own_root}
 use Rattle.replica_histories.proofs.Logging.{beside_placed}
+use Rattle.replica_histories.proofs.SaidOnce.{unsent, pays_none, pays_alone, no_reply}
 use Rattle.replica_histories.proofs.Giving.{sent_fits, no_proposal, placed, never_rests, prepare_placed, commit_placed}
 
 leaves_now : (c : Configuration) (me : ℕ) (s : Start) (desk : Desk) (log : LogData) (due : List Message) (outputs : List Entry) (f : Fits c me s desk log due outputs)
@@ -39,11 +40,12 @@ leaves_now : (c : Configuration) (me : ℕ) (s : Start) (desk : Desk) (log : Log
 leaves_now c me s desk log due outputs f = steps_leave c me s outputs (point_of desk f.of_desk.states f.of_desk.ran) f.of_desk.leaves f.of_desk.steps
 
 pub prepares_go_again : PreparesGoAgain
-prepares_go_again c me s desk log due outputs i digest bytes is_active there posted f =
+prepares_go_again c me s desk log due outputs i digest bytes is_active there none posted f =
     sent_fits c me s desk log log due due outputs bytes (others c me) (Prepare log.view i digest) f posted refl tt
     (record { is_backup = backup; active = active c me log past f.of_log ∙ is_active; batch = l.batch; is_logged = l.is_logged; digest_is = l.digest })
     tt takes (prepare_placed c me me i digest log is_active within)
-    refl (no_root c (behind s outputs) bytes me (Prepare log.view i digest) desk.state.number posted.says refl) (λ x h. inl h) (λ x h. h) (no_proposal c me past bytes (Prepare log.view i digest) posted.says tt)
+    refl (no_root c (behind s outputs) bytes me (Prepare log.view i digest) desk.state.number posted.says refl) (pays_none c me s desk log outputs (Prepare log.view i digest) bytes posted.says due refl f)
+    (unsent me s (Prepare log.view i digest) bytes outputs f.says.begins posted.says none) (no_proposal c me past bytes (Prepare log.view i digest) posted.says tt)
   where
     past : List Entry
     past = behind s outputs
@@ -73,11 +75,12 @@ prepares_go_again c me s desk log due outputs i digest bytes is_active there pos
         spoken_logged c me log.view i digest past (point_of desk f.of_desk.states f.of_desk.ran) leaves (prepare_spoken c me log.view i digest past (point_of desk f.of_desk.states f.of_desk.ran) leaves own)
 
 pub commits_go_again : CommitsGoAgain
-commits_go_again c me s desk log due outputs i digest bytes is_active there posted f =
+commits_go_again c me s desk log due outputs i digest bytes is_active there none posted f =
     sent_fits c me s desk log log due due outputs bytes (others c me) (Commit log.view i digest) f posted refl tt
     (record { active = active c me log past f.of_log ∙ is_active; batch = l.batch; prepared = l.prepared; digest_is = l.digest_is })
     tt takes (commit_placed c me me i digest log is_active within)
-    refl (no_root c (behind s outputs) bytes me (Commit log.view i digest) desk.state.number posted.says refl) (λ x h. inl h) (λ x h. h) (no_proposal c me past bytes (Commit log.view i digest) posted.says tt)
+    refl (no_root c (behind s outputs) bytes me (Commit log.view i digest) desk.state.number posted.says refl) (pays_none c me s desk log outputs (Commit log.view i digest) bytes posted.says due refl f)
+    (unsent me s (Commit log.view i digest) bytes outputs f.says.begins posted.says none) (no_proposal c me past bytes (Commit log.view i digest) posted.says tt)
   where
     past : List Entry
     past = behind s outputs
@@ -192,11 +195,12 @@ batch_proposed c me v i batch past point leaves own none h =
     (once_right c me (λ past e. (proposal c me past e v i ≡ Some batch) × (BegunAt c v i batch past e → ⊥)) past (point, leaves) but))
 
 pub batches_go_again : BatchesGoAgain
-batches_go_again c me s desk log due outputs i batch bytes is_active own there below posted f =
+batches_go_again c me s desk log due outputs i batch bytes is_active own there below none posted f =
     sent_fits c me s desk log log due due outputs bytes (others c me) (PrePrepare log.view i batch) f posted refl proposed.1
-    (record { is_primary = primary_is; active = active c me log past f.of_log ∙ is_active; in_marks = marks_are c me log past i f.of_log ∙ within; genuine = proposed.0; one = logged_stays c me log.view i batch (Sent me bytes) past logs_it })
+    (record { is_primary = primary_is; active = active c me log past f.of_log ∙ is_active; in_marks = marks_are c me log past i f.of_log ∙ within; genuine = proposed.0; one = logged_stays c me log.view i batch (Sent me bytes) past logs_it; next = λ none. absurd (given_not (logged c me past log.view i) batch logs_it none) })
     tt takes (record { batch = place; votes = λ v j x other. (refl, refl); resting = λ rests j x. never_rests log is_active rests })
-    refl (no_root c (behind s outputs) bytes me (PrePrepare log.view i batch) desk.state.number posted.says refl) (λ x h. inl h) (λ x h. h) once
+    refl (no_root c (behind s outputs) bytes me (PrePrepare log.view i batch) desk.state.number posted.says refl) (pays_none c me s desk log outputs (PrePrepare log.view i batch) bytes posted.says due refl f)
+    (unsent me s (PrePrepare log.view i batch) bytes outputs f.says.begins posted.says none) once
   where
     past : List Entry
     past = behind s outputs
@@ -241,20 +245,21 @@ batches_go_again c me s desk log due outputs i batch bytes is_active own there b
 -- ---- an own checkpoint
 
 pub checkpoints_go_again : CheckpointsGoAgain
-checkpoints_go_again c me s desk log due outputs k root bytes once posted f =
-    sent_fits c me s desk log log due due outputs bytes (others c me) (Checkpoint k root) f posted refl tt
+checkpoints_go_again c me s desk log outputs k root bytes once none posted f =
+    sent_fits c me s desk log log [] [] outputs bytes (others c me) (Checkpoint k root) f posted refl tt
     may
     tt takes (beside_placed c me log me (Checkpoint k root) tt)
-    refl (own_root c past bytes me k root desk.state.number posted.says executed) (λ x h. inl h) (λ x h. h) (no_proposal c me past bytes (Checkpoint k root) posted.says tt)
+    refl (own_root c past bytes me k root desk.state.number posted.says executed) (pays_alone c me s desk log outputs (Checkpoint k root) bytes posted.says (λ j kept same. no_reply (Checkpoint k root) j kept refl same) f)
+    (unsent me s (Checkpoint k root) bytes outputs f.says.begins posted.says none) (no_proposal c me past bytes (Checkpoint k root) posted.says tt)
   where
     past : List Entry
     past = behind s outputs
 
     may : MayCheckpoint c past (point_of desk f.of_desk.states f.of_desk.ran) k root
-    may = said_may c me k root past (point_of desk f.of_desk.states f.of_desk.ran) (leaves_now c me s desk log due outputs f) once
+    may = said_may c me k root past (point_of desk f.of_desk.states f.of_desk.ran) (leaves_now c me s desk log [] outputs f) once
 
     executed : k ≤ desk.state.number
-    executed = executed_at_most c me k past (point_of desk f.of_desk.states f.of_desk.ran) (leaves_now c me s desk log due outputs f) may.executed
+    executed = executed_at_most c me k past (point_of desk f.of_desk.states f.of_desk.ran) (leaves_now c me s desk log [] outputs f) may.executed
 
     -- the history has it, or three of larger numbers
     adds_nothing : (x : ℕ) → with_checkpoint x (checkpoint_from (record { sender = me; message = Checkpoint k root })) (checkpoints_of c past x) ≡ checkpoints_of c past x

@@ -1,11 +1,11 @@
 -- The parts of kept snapshots that others fetch, and the answers of reads, over what the replica holds.
-use Rattle.std.proofs.Common.{◌≡◌, ℕ, Bool, true, false, List, [], ◌∷◌, refl, sym, ap, ◌∙◌, subst, Option, None, Some, inl}
+use Rattle.std.proofs.Common.{◌≡◌, ℕ, Bool, true, false, List, [], ◌∷◌, refl, sym, ap, ◌∙◌, subst, Option, None, Some}
 use Rattle.std.specs.Prelude.{⊤}
 use Rattle.tuple_codec.specs.Operations.{Operation}
 use Rattle.space.specs.Applying.{is_read_only}
 use Rattle.terms.specs.declared.state.Level.{Level}
 use Rattle.terms.specs.declared.state.Level.TheVariants as levels
-use Rattle.wire.specs.Messages.{BodyData as Body, MessageData as Message, request as Request, meta as Meta, page as Page}
+use Rattle.wire.specs.Messages.{BodyData as Body, MessageData as Message, request as Request, meta as Meta, page as Page, fetch as Fetch}
 use Rattle.ordering.specs.Log.{LogData}
 use Rattle.protocol.specs.System.Configuration.{Configuration}
 use Rattle.protocol.specs.System.Frames.{IsPosted}
@@ -25,9 +25,10 @@ use Rattle.replica_histories.specs.Events.{Start, behind, Fits, Holds}
 use Rattle.replica_histories.specs.Answering.{PartsFit, KeptFetchesCount, PartsSuffice, OtherNumbersOweNone, ReadsFit, ReadsSuffice, OtherOperationsOweNone}
 use Rattle.replica_histories.proofs.Taking.{takes_nothing}
 use Rattle.replica_histories.proofs.Logging.{beside_placed}
+use Rattle.replica_histories.proofs.SaidOnce.{unsent, pays_none}
 use Rattle.replica_histories.proofs.Giving.{sent_fits, no_proposal}
 use Rattle.replica_histories.proofs.TransfersAnswering.{IsPart, hears_one, snapshots_are_kept, kept_have_snapshots, answers_may_go, answers_suffice, none_is_owed}
-use Rattle.replica_histories.proofs.Questions.{fetches_owe_no_read, reads_owe_no_part}
+use Rattle.replica_histories.proofs.Questions.{fetches_owe_no_read, others_bring_no_part, reads_owe_no_part, hears_no_move}
 use Rattle.replica_histories.proofs.TransfersQuorums.{no_root}
 
 -- ---- a part is given
@@ -38,23 +39,25 @@ is_part pages k levels.Inner index = tt
 is_part pages k levels.Page index = tt
 
 part_goes : (c : Configuration) (me : ℕ) (s : Start) (desk : Desk) (log : LogData) (due : List Message) (outputs : List Entry) (receivers bytes : List ℕ) (message : Message) (f : Fits c me s desk log due outputs) → IsPart message
-    → IsPosted c me message receivers bytes → IsFor c me (behind s outputs) message receivers → MaySay c me (behind s outputs) (point_of desk f.of_desk.states f.of_desk.ran) (Sent me bytes) bytes message
+    → IsPosted c me message receivers bytes → IsFor c me (behind s outputs) message receivers → MaySay c me (behind s outputs) (point_of desk f.of_desk.states f.of_desk.ran) (Sent me bytes) bytes message → (Gives me message outputs → ⊥)
     → Fits c me s desk log due (Sent me bytes ∷ outputs)
-part_goes c me s desk log due outputs receivers bytes (Meta k level index digests) f is posted for say =
+part_goes c me s desk log due outputs receivers bytes (Meta k level index digests) f is posted for say none =
     sent_fits c me s desk log log due due outputs bytes receivers (Meta k level index digests) f posted for tt say
     tt
     (takes_nothing c me (Some (record { sender = me; message = Meta k level index digests })) log f.of_log.is_log (λ i w h. refl) (λ i x w h. refl) (λ i x w h. refl) (λ x. refl)) (beside_placed c me log me (Meta k level index digests) tt)
-    refl (no_root c (behind s outputs) bytes me (Meta k level index digests) desk.state.number posted.says refl) (λ x h. inl h) (λ x h. h) (no_proposal c me (behind s outputs) bytes (Meta k level index digests) posted.says tt)
-part_goes c me s desk log due outputs receivers bytes (Page k index text) f is posted for say =
+    refl (no_root c (behind s outputs) bytes me (Meta k level index digests) desk.state.number posted.says refl) (pays_none c me s desk log outputs (Meta k level index digests) bytes posted.says due refl f)
+    (unsent me s (Meta k level index digests) bytes outputs f.says.begins posted.says none) (no_proposal c me (behind s outputs) bytes (Meta k level index digests) posted.says tt)
+part_goes c me s desk log due outputs receivers bytes (Page k index text) f is posted for say none =
     sent_fits c me s desk log log due due outputs bytes receivers (Page k index text) f posted for tt say
     tt
     (takes_nothing c me (Some (record { sender = me; message = Page k index text })) log f.of_log.is_log (λ i w h. refl) (λ i x w h. refl) (λ i x w h. refl) (λ x. refl)) (beside_placed c me log me (Page k index text) tt)
-    refl (no_root c (behind s outputs) bytes me (Page k index text) desk.state.number posted.says refl) (λ x h. inl h) (λ x h. h) (no_proposal c me (behind s outputs) bytes (Page k index text) posted.says tt)
-part_goes c me s desk log due outputs receivers bytes _ f is posted for say = absurd is
+    refl (no_root c (behind s outputs) bytes me (Page k index text) desk.state.number posted.says refl) (pays_none c me s desk log outputs (Page k index text) bytes posted.says due refl f)
+    (unsent me s (Page k index text) bytes outputs f.says.begins posted.says none) (no_proposal c me (behind s outputs) bytes (Page k index text) posted.says tt)
+part_goes c me s desk log due outputs receivers bytes _ f is posted for say none = absurd is
 
 pub parts_fit : PartsFit
-parts_fit c me s desk log due outputs snapshot asker index level bytes has asked posted f =
-    part_goes c me s desk log due outputs (asker ∷ []) bytes (answer_by snapshot.pages snapshot.number level index) f (is_part snapshot.pages snapshot.number level index) posted may.1 may.0
+parts_fit c me s desk log due outputs snapshot asker index level bytes has asked none posted f =
+    part_goes c me s desk log due outputs (asker ∷ []) bytes (answer_by snapshot.pages snapshot.number level index) f (is_part snapshot.pages snapshot.number level index) posted may.1 may.0 none
   where
     point : Point
     point = point_of desk f.of_desk.states f.of_desk.ran
@@ -76,17 +79,25 @@ held_leaves : (c : Configuration) (me : ℕ) (desk : Desk) (log : LogData) (past
 held_leaves c me desk log past held = proceeds_leaves c me past [] held.of_desk.point held.of_desk.point held.of_desk.proceeds
 
 pub parts_suffice : PartsSuffice
-parts_suffice c me desk log past input outputs snapshot asker index level held has hears given = (
-  answers_suffice c me past input outputs held.of_desk.point asker snapshot.number index level snapshot.pages (held_leaves c me desk log past held) hears
-      (snapshots_are_kept c me past held.of_desk.point desk.snapshots snapshot held.of_desk.kept has) given,
-  fetches_owe_no_read c me asker snapshot.number index level past input outputs held.of_desk.point hears,
-)
+parts_suffice c me desk log past input outputs snapshot asker index executed level held has hears given =
+    let none = others_bring_no_part c me (record { sender = asker; message = Fetch snapshot.number level index }) past input hears outputs held.of_desk.point executed refl in (
+      answers_suffice c me past input outputs held.of_desk.point asker snapshot.number index level snapshot.pages (held_leaves c me desk log past held) hears
+          (snapshots_are_kept c me past held.of_desk.point desk.snapshots snapshot held.of_desk.kept has) given,
+      fetches_owe_no_read c me asker snapshot.number index level past input outputs held.of_desk.point hears,
+      none.0,
+      none.1,
+      hears_no_move c me (record { sender = asker; message = Fetch snapshot.number level index }) past input outputs held.of_desk.point hears refl,
+    )
 
 pub other_numbers_owe_none : OtherNumbersOweNone
-other_numbers_owe_none c me desk log past input outputs asker k index level held hears none = (
-  none_is_owed c me past input outputs held.of_desk.point asker k index level hears (λ kept. none (kept_have_snapshots c me past held.of_desk.point desk.snapshots k held.of_desk.kept kept)),
-  fetches_owe_no_read c me asker k index level past input outputs held.of_desk.point hears,
-)
+other_numbers_owe_none c me desk log past input outputs asker k index executed level held hears none =
+    let no_part = others_bring_no_part c me (record { sender = asker; message = Fetch k level index }) past input hears outputs held.of_desk.point executed refl in (
+      none_is_owed c me past input outputs held.of_desk.point asker k index level hears (λ kept. none (kept_have_snapshots c me past held.of_desk.point desk.snapshots k held.of_desk.kept kept)),
+      fetches_owe_no_read c me asker k index level past input outputs held.of_desk.point hears,
+      no_part.0,
+      no_part.1,
+      hears_no_move c me (record { sender = asker; message = Fetch k level index }) past input outputs held.of_desk.point hears refl,
+    )
 
 -- ---- a read
 
@@ -98,17 +109,20 @@ abbrev is_read_only_of : Body → Bool
 is_read_only_of body = elim body.message [ Request t mode op ↦ is_read_only op | _ ↦ false ]
 
 pub reads_fit : ReadsFit
-reads_fit c me s desk log due outputs client t op bytes heard_it is posted f =
+reads_fit c me s desk log due outputs client t op bytes heard_it is none posted f =
     sent_fits c me s desk log log due due outputs bytes (client ∷ []) reply f posted refl tt (record { op = op; is_read = is; heard = heard_it; answer_is = refl; number_is = refl })
     tt
     (takes_nothing c me (Some (record { sender = me; message = reply })) log f.of_log.is_log (λ i w h. refl) (λ i x w h. refl) (λ i x w h. refl) (λ x. refl)) (beside_placed c me log me reply tt)
-    refl (no_root c (behind s outputs) bytes me reply desk.state.number posted.says refl) (λ x h. inl h) (λ x h. h) (no_proposal c me (behind s outputs) bytes reply posted.says tt)
+    refl (no_root c (behind s outputs) bytes me reply desk.state.number posted.says refl) (pays_none c me s desk log outputs reply bytes posted.says due refl f)
+    (unsent me s reply bytes outputs f.says.begins posted.says none) (no_proposal c me (behind s outputs) bytes reply posted.says tt)
   where
     reply : Message
     reply = read_reply desk.state client t op
 
 pub reads_suffice : ReadsSuffice
-reads_suffice c me desk log past input outputs client t op held hears given = (reads_owe_no_part c me client t op past input outputs held.of_desk.point hears, each)
+reads_suffice c me desk log past input outputs client t executed op held hears given =
+    let none = others_bring_no_part c me (read_from client t op) past input hears outputs held.of_desk.point executed refl in
+    (reads_owe_no_part c me client t op past input outputs held.of_desk.point hears, each, none.0, none.1, hears_no_move c me (read_from client t op) past input outputs held.of_desk.point hears refl)
   where
     from : State
     from = held.of_desk.point.state
@@ -126,7 +140,9 @@ reads_suffice c me desk log past input outputs client t op held hears given = (r
         subst (λ (m : Message). Gives me m outputs) (some_injective (read_reply from client t op) (read_reply from k u other) same) given_there
 
 pub other_operations_owe_none : OtherOperationsOweNone
-other_operations_owe_none c me desk log past input outputs client t op held hears not_read = (reads_owe_no_part c me client t op past input outputs held.of_desk.point hears, each)
+other_operations_owe_none c me desk log past input outputs client t executed op held hears not_read =
+    let none = others_bring_no_part c me (read_from client t op) past input hears outputs held.of_desk.point executed refl in
+    (reads_owe_no_part c me client t op past input outputs held.of_desk.point hears, each, none.0, none.1, hears_no_move c me (read_from client t op) past input outputs held.of_desk.point hears refl)
   where
     each : (k u : ℕ) (other : Operation) → Hears c me (read_from k u other) past input → is_read_only other ≡ true → Gives me (read_reply held.of_desk.point.state k u other) outputs
     each k u other h is =

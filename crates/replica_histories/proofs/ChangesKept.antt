@@ -17,8 +17,7 @@ use Rattle.protocol.specs.System.Frames.{IsSealed}
 use Rattle.protocol.specs.System.Trace.{Entry}
 use Rattle.protocol.specs.System.Trace.Entry.{Invoke, Got, Tick, Executed, Installed, Sent, Accepted}
 use Rattle.protocol.specs.Replica.Selection.{may_select, change_in, signed_change}
-use Rattle.protocol.specs.Replica.Certificates.{brought, view, target, taken, is_later, new_view_from, change_sent, change_from, is_active_in, low, is_in_marks, proposal, logged, commit_from, commit_of}
-use Rattle.protocol.specs.Replica.Owed.{change_taken, latest_change}
+use Rattle.protocol.specs.Replica.Certificates.{brought, view, target, taken, is_later, new_view_from, change_sent, change_from, is_active_in, low, is_in_marks, proposal, logged, commit_from, commit_of, change_taken, latest_change}
 use Rattle.protocol.proofs.Words.Options.{some_injective, or_else_second, and_then_some}
 use Rattle.protocol.proofs.Words.Plain.{IsPlain, Plain, heard_plain, plain_low}
 use Rattle.protocol.proofs.Agreement.Executing.{commit_stays}
@@ -32,15 +31,25 @@ use Rattle.replica_histories.proofs.Logging.{none_taken, proposal_quiet}
 use Rattle.replica_histories.proofs.Speaking.{heard_other}
 use Rattle.replica_histories.proofs.NumbersKept.{proposal_said, logged_same}
 use Rattle.replica_histories.proofs.Received.{sent_bring_none, unsigned_bring_none, taken_is}
+use Rattle.protocol.specs.System.Frames.{leaf_of}
+use Rattle.protocol.specs.Replica.RightReplica.{SendsBytes, SentBefore}
 use Rattle.replica_histories.proofs.ChangesPassing.{commit_quiet}
+use Rattle.replica_histories.proofs.Leaves.{unsigned_sends_none}
 
 -- ---- what is said again
 
 pub sent_keep : SentKeep
-sent_keep c me past message bytes says news = record { none = none; target = same_target; logged = same_logged; commits = same_commits; changes = λ s other. sent_bring_none c me s bytes past }
+sent_keep c me past message bytes says news again = record { none = none; target = same_target; logged = same_logged; commits = same_commits; changes = λ s other. sent_bring_none c me s bytes past; leaves = leaves }
   where
     e : Entry
     e = Sent me bytes
+
+    leaves : (sent : List ℕ) (leaf : ℕ) → leaf_of sent ≡ Some leaf → SendsBytes sent past e → SentBefore sent past
+    leaves sent leaf is now = go (is_signed message) refl
+      where
+        go : (b : Bool) → is_signed message ≡ b → SentBefore sent past
+        go true signed = subst (λ (x : List ℕ). SentBefore x past) now (again signed)
+        go false unsigned = unsigned_sends_none c past e (record { sender = me; message = message }) says unsigned sent leaf is now
 
     no_view : (m : Message) → IsNoNews c me past m
         → option_and_then (λ (new : NewViewData). then_some (is_later (view c past) (target past) new) new) (new_view_from c (record { sender = me; message = m })) ≡ None
@@ -87,22 +96,23 @@ sent_keep c me past message bytes says news = record { none = none; target = sam
 
 -- ---- what brings nothing
 
-nothing_keeps : (c : Configuration) (me : ℕ) (past : List Entry) (e : Entry) → brought c e ≡ None → change_sent e ≡ 0 → ((s : ℕ) → latest_change c (e ∷ past) s ≡ latest_change c past s) → KeepsChanges c me past e
-nothing_keeps c me past e nothing still changes = record {
+nothing_keeps : (c : Configuration) (me : ℕ) (past : List Entry) (e : Entry) → brought c e ≡ None → change_sent e ≡ 0 → ((s : ℕ) → latest_change c (e ∷ past) s ≡ latest_change c past s) → ((sent : List ℕ) → SendsBytes sent past e → ⊥) → KeepsChanges c me past e
+nothing_keeps c me past e nothing still changes sends = record {
   none = none;
   target = omega arith;
   logged = λ v i. logged_same c me v i past e (λ batch h free. let s = proposal_said c me v i batch past e none h in given_not (brought c e) s.0 s.1 nothing);
   commits = λ v i. commit_quiet c me past e v i (ap (option_and_then (commit_from me v i)) nothing);
   changes = λ s other. changes s;
+  leaves = λ sent leaf is now. absurd (sends sent now);
 }
   where
     none : taken c past e ≡ None
     none = none_taken c past e (ap (option_and_then (new_view_from c)) nothing)
 
 pub silent_keep : SilentKeep
-silent_keep c me past (Executed p k batch) h = nothing_keeps c me past (Executed p k batch) refl refl (λ s. omega arith)
-silent_keep c me past (Installed p k root) h = nothing_keeps c me past (Installed p k root) refl refl (λ s. omega arith)
-silent_keep c me past (Tick p) h = nothing_keeps c me past (Tick p) refl refl (λ s. omega arith)
+silent_keep c me past (Executed p k batch) h = nothing_keeps c me past (Executed p k batch) refl refl (λ s. omega arith) (λ sent now. now)
+silent_keep c me past (Installed p k root) h = nothing_keeps c me past (Installed p k root) refl refl (λ s. omega arith) (λ sent now. now)
+silent_keep c me past (Tick p) h = nothing_keeps c me past (Tick p) refl refl (λ s. omega arith) (λ sent now. now)
 silent_keep c me past (Invoke x y z) h = absurd h
 silent_keep c me past (Got x y) h = absurd h
 silent_keep c me past (Sent x y) h = absurd h
@@ -131,6 +141,7 @@ got_keep c me past bytes log after p same none batches changes = record {
   logged = λ v i. logged_same c me v i past e (λ batch h free. fresh v i batch h free);
   commits = λ v i. commit_quiet c me past e v i (no_own c me v i bytes (heard (members c) me bytes) refl);
   changes = changes;
+  leaves = λ sent leaf is now. absurd now;
 }
   where
     e : Entry
@@ -161,6 +172,7 @@ heard_keep c me past bytes none no_batch changes = record {
       subst (λ (m : Message). IsNoBatch (Some (record { sender = s.0.sender; message = m }))) s.2 (subst IsNoBatch s.1 no_batch));
   commits = λ v i. commit_quiet c me past (Got me bytes) v i (no_own c me v i bytes (heard (members c) me bytes) refl);
   changes = changes;
+  leaves = λ sent leaf is now. absurd now;
 }
 
 -- ---- view changes

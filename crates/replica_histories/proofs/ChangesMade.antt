@@ -32,6 +32,7 @@ use Rattle.replica_histories.proofs.Batches.{stays, begun_low, begun_view, begun
 use Rattle.replica_histories.proofs.Beginning.{Still, still_brings, still_commit, new_small, logged_cases, logged_here}
 use Rattle.replica_histories.proofs.Changing.{same_logged}
 use Rattle.replica_histories.proofs.ClaimsAdding.{no_batch_adds, no_commit_adds}
+use Rattle.replica_histories.proofs.Leaves.{leaves_stay, leaves_remain, leaves_sent, leaves_spent}
 use Rattle.replica_histories.proofs.Received.{put_there, put_elsewhere, received_stays, received_takes, received_own}
 use Rattle.replica_histories.proofs.ChangesPassing.{claims_are_above, claims_pass, begun_before, own_stays, own_view_stays, changes_nothing, sends_none}
 use Rattle.replica_histories.proofs.ChangesKept.{heard_are_signed}
@@ -39,7 +40,10 @@ use Rattle.replica_histories.proofs.ChangesKept.{heard_are_signed}
 -- ---- a view change is sent
 
 pub changes_are_sent : ChangesAreSent
-changes_are_sent c me past log x own p known mine posted above f = record {
+changes_are_sent c me spent past log x own p known mine posted above spends f = record {
+  leaves = leaves_spent x.spent spent past e spends f.leaves;
+  signed = leaves_sent x.spent spent past e spends f.signed;
+  own_latest = λ last is. let same : own ≡ last = some_injective own last (sym held_there ∙ is) in subst (λ (h : HeldData). h.change.view ≤ own.change.view) same (omega arith);
   target = (let newer = above in let was = f.target in let says = says_view in omega arith);
   claims = claims_pass c me past e log (logs.left log) x.claims x.claims [] [] p (no_commit_adds c me past e (λ v i. still_commit c me past e q v i me)) (no_batch_adds c me past e (same_logged c me past e q none))
       cuts.prepared cuts.logged (λ text has. inl has) f.claims;
@@ -75,6 +79,9 @@ changes_are_sent c me past log x own p known mine posted above f = record {
 
 pub changes_are_taken : ChangesAreTaken
 changes_are_taken c me past log x s vc bytes p hears refused f = record {
+  leaves = leaves_stay x.spent past e (λ sent leaf is now. absurd now) f.leaves;
+  signed = leaves_remain x.spent past e f.signed;
+  own_latest = λ own is. f.own_latest own (sym (put_elsewhere x.held s me (Some h) (λ same. signed.1 (sym same))) ∙ is);
   target = (let was = f.target in omega arith);
   claims = claims_pass c me past e log log x.claims x.claims [] [] p (no_commit_adds c me past e (λ v i. still_commit c me past e q v i me)) (no_batch_adds c me past e (same_logged c me past e q none))
       cuts.prepared cuts.logged (λ text has. inl has) f.claims;
@@ -230,7 +237,10 @@ module _ (c : Configuration) (me : ℕ) (past : List Entry) (e : Entry) (log : L
   text_logged text h = let r = text_there cut_log new.view (suc new.start) new.batches text h in (new.view, r.number, (begun_here r.number r.inside).0 ∙ r.is)
 
 pub views_are_begun : ViewsAreBegun
-views_are_begun c me past e log x new frame claims s p t brings begins own f = record {
+views_are_begun c me past e log x new frame claims s spent p t brings begins own spends f = record {
+  leaves = leaves_spent x.spent spent past e spends f.leaves;
+  signed = leaves_sent x.spent spent past e spends f.signed;
+  own_latest = f.own_latest;
   target = (let still = sends_none c e s (NewView new) brings refl in let was = f.target in omega arith);
   claims = claims_pass c me past e log (begun_log log new) x.claims claims [] (claims_from (cut_log c me past e log new p t q) new.view (suc new.start) new.batches) p
       (no_commit_adds c me past e (λ v i. still_commit c me past e q v i me)) (batches_add c me past e log new p t q)

@@ -16,8 +16,7 @@ use Rattle.protocol.specs.System.Configuration.{Configuration, replicas, span, m
 use Rattle.protocol.specs.System.Trace.{Entry, Once, Has}
 use Rattle.protocol.specs.System.Trace.Entry.{Invoke, Got, Tick, Executed, Installed, Sent, Accepted}
 use Rattle.protocol.specs.Replica.Selection.{change_in, signed_change}
-use Rattle.protocol.specs.Replica.Certificates.{brought, taken, new_view_from, change_sent, change_from, counts_at, low, is_in_marks, logged, commit_from, commit_of, vote_in}
-use Rattle.protocol.specs.Replica.Owed.{latest_change}
+use Rattle.protocol.specs.Replica.Certificates.{brought, taken, new_view_from, change_sent, change_from, counts_at, low, is_in_marks, logged, commit_from, commit_of, vote_in, latest_change}
 use Rattle.protocol.proofs.Words.Options.{some_injective, or_else_alone, or_else_second}
 use Rattle.protocol.proofs.Words.Elements.{each_has}
 use Rattle.protocol.proofs.Words.Plain.{Plain, said_plain, taken_none, plain_target, plain_low}
@@ -38,7 +37,8 @@ use Rattle.replica_histories.proofs.Ending.{steps_leave}
 use Rattle.replica_histories.proofs.NumbersKept.{view_of, number_of, proposal_said, logged_same}
 use Rattle.replica_histories.proofs.Claims.{claims_begin, claims_grow}
 use Rattle.replica_histories.proofs.ClaimsAdding.{no_batch_adds, no_commit_adds, batch_adds, commit_adds}
-use Rattle.replica_histories.proofs.Received.{received_begin, received_stays, sent_bring_none, unsigned_bring_none}
+use Rattle.replica_histories.proofs.Leaves.{leaves_stay, leaves_remain, unsigned_sends_none}
+use Rattle.replica_histories.proofs.Received.{none_held, received_begin, received_stays, sent_bring_none, unsigned_bring_none}
 
 -- ---- the logs, at an entry
 
@@ -130,6 +130,9 @@ changes_begin c me = record {
   begun = λ new once at. absurd once;
   own_change = λ rests. absurd cc;
   own_view = λ frame is. absurd cc;
+  leaves = λ sent leaf is before. absurd before;
+  signed = λ leaf l. absurd (omega (arith, l));
+  own_latest = λ own is. let bad : None ≡ Some own = sym (none_held (replicas c) me) ∙ is in absurd cc;
 }
 
 pub changes_stay : ChangesStay
@@ -142,6 +145,9 @@ changes_stay c me past e log after x claims p same k cuts f = record {
   begun = λ new once at. f.begun new (begun_before c past e new k.none once) (at ∙ same.view);
   own_change = λ rests. own_stays c me past e x (record x { claims = claims }) refl refl (f.own_change (sym same.active ∙ rests));
   own_view = λ frame is. own_view_stays c me past e log.view after.view frame same.view (f.own_view frame is);
+  leaves = leaves_stay x.spent past e k.leaves f.leaves;
+  signed = leaves_remain x.spent past e f.signed;
+  own_latest = f.own_latest;
 }
 
 -- ---- what a body brings
@@ -219,6 +225,9 @@ commits_are_claimed c me past log after x i digest bytes p same low_same due say
   begun = λ new once at. f.begun new (begun_before c past e new none once) (at ∙ same.view);
   own_change = λ rests. own_stays c me past e x (record x { claims = record x.claims { prepared = with_prepared claim x.claims.prepared } }) refl refl (f.own_change (sym same.active ∙ rests));
   own_view = λ frame is. own_view_stays c me past e log.view after.view frame same.view (f.own_view frame is);
+  leaves = leaves_stay x.spent past e (unsigned_sends_none c past e (record { sender = me; message = Commit log.view i digest }) says refl) f.leaves;
+  signed = leaves_remain x.spent past e f.signed;
+  own_latest = f.own_latest;
 }
   where
     e : Entry
@@ -273,6 +282,9 @@ batches_are_claimed c me past e log x claims s i text p inside free brings adds 
   begun = λ new once at. f.begun new (begun_before c past e new none once) at;
   own_change = λ rests. own_stays c me past e x (record x { claims = claims }) refl refl (f.own_change rests);
   own_view = λ frame is. own_view_stays c me past e log.view log.view frame refl (f.own_view frame is);
+  leaves = leaves_stay x.spent past e (unsigned_sends_none c past e (record { sender = s; message = PrePrepare log.view i text }) brings refl) f.leaves;
+  signed = leaves_remain x.spent past e f.signed;
+  own_latest = f.own_latest;
 }
   where
     none : taken c past e ≡ None

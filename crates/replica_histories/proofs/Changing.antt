@@ -17,18 +17,21 @@ use Rattle.protocol.specs.System.Trace.Entry.{Invoke, Got, Tick, Executed, Insta
 use Rattle.protocol.specs.Replica.Selection.{may_select}
 use Rattle.protocol.specs.Replica.Certificates.{view, target, taken, is_later, new_view_from, change_sent, change_from, is_stable, stable_at, started_at, low, proposal, logged, commit_of, Prepared, Committed, is_active_in}
 use Rattle.protocol.specs.Replica.State.{State}
-use Rattle.protocol.specs.Replica.RightReplica.{HasSeen, SendsBytes, SentBefore, checkpoint_of, kept_states, IsNewViewChange}
+use Rattle.protocol.specs.Replica.RightReplica.{HasSeen, SendsBytes, SentBefore, HasOwnLeaf, checkpoint_of, kept_states, IsNewViewChange}
 use Rattle.protocol.proofs.Words.Temporal.{once_weaker}
 use Rattle.protocol.proofs.Words.Options.{or_else_alone}
 use Rattle.protocol.proofs.Agreement.Executing.{commit_stays, committed_later}
-use Rattle.replica_histories.specs.Desk.{snapshot_of, point_of}
+use Rattle.protocol.proofs.Words.Posting.{leaf_signs_once}
+use Rattle.replica_histories.specs.Desk.{Desk, snapshot_of, point_of}
 use Rattle.replica_histories.specs.Logs.{above_mark, FitsLog, IsVoted}
-use Rattle.replica_histories.specs.Events.{behind, IsReached, IsFetched}
+use Rattle.replica_histories.specs.Events.{Start, behind, IsReached, IsFetched, Fits}
 use Rattle.replica_histories.specs.Views.{entry_of, entries_of, ViewChangesFit, ViewChangesGoAgain, NewViewsGoAgain, ViewChangesCount}
 use Rattle.replica_histories.proofs.Certified.{active, prepared_there}
 use Rattle.replica_histories.proofs.Settling.{own_commit, voted_goes}
 use Rattle.replica_histories.proofs.Logging.{none_taken, view_quiet, proposal_quiet, begun_quiet}
 use Rattle.replica_histories.proofs.Giving.{no_proposal, signed_may_send, sent_goes}
+use Rattle.replica_histories.proofs.SaidOnce.{unsent, pays_none, change_is_new}
+use Rattle.replica_histories.proofs.Ending.{steps_leave}
 use Rattle.replica_histories.proofs.Transfers.{open_stays, asks_none}
 use Rattle.replica_histories.proofs.TransfersQuorums.{no_root}
 use Rattle.replica_histories.proofs.Beginning.{Still, still_brings, still_prepare, still_commit, still_checkpoints, still_prepared, still_committed}
@@ -140,7 +143,7 @@ entries_mapped : (xs : List State) → map entry_of (map snapshot_of xs) ≡ map
 entries_mapped [] = refl
 entries_mapped (x ∷ xs) = ap (λ (ys : List CheckpointEntry). checkpoint_of x ∷ ys) (entries_mapped xs)
 
-entries_are : (xs : List State) → entries_of (map snapshot_of xs) ≡ map checkpoint_of (reverse xs)
+pub entries_are : (xs : List State) → entries_of (map snapshot_of xs) ≡ map checkpoint_of (reverse xs)
 entries_are xs = ap (λ (ys : List CheckpointEntry). reverse ys) (entries_mapped xs) ∙ sym (turned_mapped xs [])
 
 -- ---- a view change
@@ -153,13 +156,13 @@ not_at_most a b l = go (nat_le a b) refl
     go false e = refl
 
 pub view_changes_fit : ViewChangesFit
-view_changes_fit c me s desk log due outputs vc bytes none_due change posted f =
+view_changes_fit c me s desk log due outputs vc bytes none_due change posted leaf f =
     sent_goes c me s desk log (logs.left log) due due outputs bytes desk.snapshots desk.transfer f
-    (signed_may_send c me past (point_of desk f.of_desk.states f.of_desk.ran) (Sent me bytes) bytes (ViewChange vc) refl posted tt (inl may))
+    (signed_may_send c me past (point_of desk f.of_desk.states f.of_desk.ran) (Sent me bytes) bytes (ViewChange vc) refl posted tt (inl may) leaf (change_is_new me vc bytes past posted.says change.newer))
     (still_fits c me log past e f.of_log q none false (not_at_most (target (e ∷ past)) log.view (let above = change.above in let says = says_view in omega arith)) (λ a. absurd cc) (λ a i. none_due i))
     (ap (λ (h : ℕ). map snapshot_of (kept_states h f.of_desk.states)) (sym f.of_log.low) ∙ f.of_desk.kept) (same_reached c me past e q none log.low desk.state.number due f.low)
-    (open_stays c me desk.transfer desk.state.number past e (asks_none bytes me (ViewChange vc) posted.says refl) f.of_desk.opened) (no_root c past bytes me (ViewChange vc) desk.state.number posted.says refl)
-    (λ x h. inl h) (λ x h. h) (no_proposal c me past bytes (ViewChange vc) posted.says tt)
+    (open_stays c me desk.transfer desk.state.number past e (asks_none bytes me (ViewChange vc) posted.says refl) tt f.of_desk.opened) (no_root c past bytes me (ViewChange vc) desk.state.number posted.says refl)
+    (pays_none c me s desk log outputs (ViewChange vc) bytes posted.says due refl f) (no_proposal c me past bytes (ViewChange vc) posted.says tt)
   where
     past : List Entry
     past = behind s outputs
@@ -186,6 +189,7 @@ view_changes_fit c me s desk log due outputs vc bytes none_due change posted f =
           ∙ ap (λ (h : ℕ). map checkpoint_of (reverse (kept_states h f.of_desk.states))) (f.of_log.low ∙ sym change.low);
       prepared = change.prepared;
       proposed = change.pre_prepared;
+      reason = change.reason;
     }
 
 -- ---- what goes again
@@ -213,14 +217,21 @@ seen_again me message bytes past says before =
     seen frame has earlier (Installed x y z) h = absurd h
     seen frame has earlier (Accepted x y z) h = absurd h
 
+-- a frame that was sent before has its leaf still
+leaf_again : (c : Configuration) (me : ℕ) (s : Start) (desk : Desk) (log : LogData) (due : List Message) (outputs : List Entry) (bytes : List ℕ) (f : Fits c me s desk log due outputs) → SentBefore bytes (behind s outputs)
+    → HasOwnLeaf bytes (behind s outputs)
+leaf_again c me s desk log due outputs bytes f before leaf sent is was earlier =
+    leaf_signs_once c me leaf sent bytes was is (behind s outputs) (point_of desk f.of_desk.states f.of_desk.ran)
+    (steps_leave c me s outputs (point_of desk f.of_desk.states f.of_desk.ran) f.of_desk.leaves f.of_desk.steps) earlier before
+
 pub view_changes_go_again : ViewChangesGoAgain
-view_changes_go_again c me s desk log due outputs vc bytes left last before posted f =
+view_changes_go_again c me s desk log due outputs vc bytes left last before fresh posted f =
     sent_goes c me s desk log log due due outputs bytes desk.snapshots desk.transfer f
-    (signed_may_send c me past (point_of desk f.of_desk.states f.of_desk.ran) (Sent me bytes) bytes (ViewChange vc) refl posted tt (inr (subst (λ (v : ℕ). v < target past) (sym f.of_log.view) left, last, before)))
+    (signed_may_send c me past (point_of desk f.of_desk.states f.of_desk.ran) (Sent me bytes) bytes (ViewChange vc) refl posted tt (inr (subst (λ (v : ℕ). v < target past) (sym f.of_log.view) left, last, before)) (leaf_again c me s desk log due outputs bytes f before) (unsent me s (ViewChange vc) bytes outputs f.says.begins posted.says fresh))
     (still_fits c me log past e f.of_log q none log.active (ap (λ (n : ℕ). nat_le n log.view) same ∙ f.of_log.active) (λ a. a) (λ a i. rw a refl))
     (ap (λ (h : ℕ). map snapshot_of (kept_states h f.of_desk.states)) (sym f.of_log.low) ∙ f.of_desk.kept) (same_reached c me past e q none log.low desk.state.number due f.low)
-    (open_stays c me desk.transfer desk.state.number past e (asks_none bytes me (ViewChange vc) posted.says refl) f.of_desk.opened) (no_root c past bytes me (ViewChange vc) desk.state.number posted.says refl)
-    (λ x h. inl h) (λ x h. h) (no_proposal c me past bytes (ViewChange vc) posted.says tt)
+    (open_stays c me desk.transfer desk.state.number past e (asks_none bytes me (ViewChange vc) posted.says refl) tt f.of_desk.opened) (no_root c past bytes me (ViewChange vc) desk.state.number posted.says refl)
+    (pays_none c me s desk log outputs (ViewChange vc) bytes posted.says due refl f) (no_proposal c me past bytes (ViewChange vc) posted.says tt)
   where
     past : List Entry
     past = behind s outputs
@@ -238,14 +249,15 @@ view_changes_go_again c me s desk log due outputs vc bytes left last before post
     same = let says : change_sent e ≡ vc.view = ap (λ (o : Option Body). option_map_or change_from o 0) posted.says in let is = last in omega arith
 
 pub new_views_go_again : NewViewsGoAgain
-new_views_go_again c me s desk log due outputs new bytes is_active own primary_is before posted f =
+new_views_go_again c me s desk log due outputs new bytes is_active own primary_is before fresh posted f =
     sent_goes c me s desk log log due due outputs bytes desk.snapshots desk.transfer f
     (signed_may_send c me past (point_of desk f.of_desk.states f.of_desk.ran) (Sent me bytes) bytes (NewView new) refl posted (seen_again me (NewView new) bytes past posted.says before)
-    (primary_is, inr (subst (λ (v : ℕ). is_active_in c past v ≡ true) (sym own) (active c me log past f.of_log ∙ is_active), before)))
+    (primary_is, inr (subst (λ (v : ℕ). is_active_in c past v ≡ true) (sym own) (active c me log past f.of_log ∙ is_active), before)) (leaf_again c me s desk log due outputs bytes f before)
+    (unsent me s (NewView new) bytes outputs f.says.begins posted.says fresh))
     (still_fits c me log past e f.of_log q none log.active (ap (λ (n : ℕ). nat_le n log.view) same ∙ f.of_log.active) (λ a. a) (λ a i. rw a refl))
     (ap (λ (h : ℕ). map snapshot_of (kept_states h f.of_desk.states)) (sym f.of_log.low) ∙ f.of_desk.kept) (same_reached c me past e q none log.low desk.state.number due f.low)
-    (open_stays c me desk.transfer desk.state.number past e (asks_none bytes me (NewView new) posted.says refl) f.of_desk.opened) (no_root c past bytes me (NewView new) desk.state.number posted.says refl)
-    (λ x h. inl h) (λ x h. h) (no_proposal c me past bytes (NewView new) posted.says tt)
+    (open_stays c me desk.transfer desk.state.number past e (asks_none bytes me (NewView new) posted.says refl) tt f.of_desk.opened) (no_root c past bytes me (NewView new) desk.state.number posted.says refl)
+    (pays_none c me s desk log outputs (NewView new) bytes posted.says due refl f) (no_proposal c me past bytes (NewView new) posted.says tt)
   where
     past : List Entry
     past = behind s outputs

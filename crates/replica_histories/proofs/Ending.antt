@@ -14,8 +14,9 @@ use Rattle.protocol.specs.System.Trace.{Entry, is_output, Once, Has, either, Hea
 use Rattle.protocol.specs.System.Trace.Entry.{Got}
 use Rattle.protocol.specs.Replica.Certificates.{is_active_in, logged, prepare_of, commit_of, Prepared, Committed}
 use Rattle.protocol.specs.Replica.State.{State, Call, root_of, page_text}
-use Rattle.protocol.specs.Replica.RightReplica.{Point, Leaves, Executes, reply_of, KeptState, digests_at}
-use Rattle.protocol.specs.Replica.Owed.{IsSaying, Gives, GivesTo, fetching, AtOutputs, NumbersOnce, IsFree, IsNumbered, IsDropped, Owes, Proceeds}
+use Rattle.protocol.specs.Replica.RightReplica.{Point, Leaves, Executes, reply_of, KeptState, digests_at, IsFree}
+use Rattle.protocol.specs.Replica.Transfers.{fetch_sent, fetching}
+use Rattle.protocol.specs.Replica.Owed.{IsSaying, Gives, GivesTo, AtOutputs, NumbersOnce, IsNumbered, IsDropped, TransferGoesOn, Owes, Proceeds}
 use Rattle.protocol.proofs.Words.Options.{some_injective}
 use Rattle.protocol.proofs.Words.Elements.{has_weaker, has_reverse, has_reversed}
 use Rattle.protocol.proofs.Words.Linking.{Speaks}
@@ -142,7 +143,7 @@ module _ (c : Configuration) (me : ℕ) (s : Start) (desk : Desk) (log : LogData
       × ((k : ℕ) (root : List ℕ) → HasQuorum c now k root → desk.state.number < k → fetching s.before < k → Gives me (Fetch k levels.Root 0) outputs)
   fetched = quorums_end c me s desk.state.number outputs f.of_desk.fetches
 
-  pub owes : AnswersInput c me s.before s.input outputs s.old → (outputs ≡ []) ⊎ IsTaken c me s → Owes c me s.before s.input (reverse outputs) now s.old reached
+  pub owes : AnswersInput c me s.before s.input outputs s.old desk.state.number → (outputs ≡ []) ⊎ IsTaken c me s → Owes c me s.before s.input (reverse outputs) now s.old reached
   owes answered taken = record {
     numbers = numbers;
     numbers_once = at_outputs (NumbersOnce c me) s outputs [] f.once tt;
@@ -156,6 +157,9 @@ module _ (c : Configuration) (me : ℕ) (s : Start) (desk : Desk) (log : LogData
     fetched_digests = parts.0;
     fetched_page = parts.1;
     fetches = λ k root h above fresh. given (Fetch k levels.Root 0) (fetched.1 k root h above fresh);
+    goes_on_by_digests = λ p k index level digests hears awaited. goes_on k (answered.2 p k index level digests hears awaited);
+    goes_on_by_page = λ p k index text hears awaited. goes_on k (answered.3 p k index text hears awaited);
+    view_changes = answered.4;
     dropped = λ bytes got drops. dropped taken bytes got drops;
   }
     where
@@ -164,6 +168,10 @@ module _ (c : Configuration) (me : ℕ) (s : Start) (desk : Desk) (log : LogData
           × ((p k index : ℕ) → Hears c me (record { sender = p; message = Fetch k levels.Page index }) s.before s.input → (st : State) → KeptState c me s.before s.old k (λ x. x ≡ st)
           → GivesTo me p (Page k index (page_text st index)) (reverse outputs))
       parts = answers_in_parts c me s.before s.input (reverse outputs) s.old (answers_turn c me s.before s.input outputs s.old answered.0)
+
+      goes_on : (k : ℕ) → TransferGoesOn c me (s.input ∷ s.before) s.old outputs desk.state.number k → TransferGoesOn c me (s.input ∷ s.before) s.old (reverse outputs) desk.state.number k
+      goes_on k (inl h) = inl (has_reversed (λ e. fetch_sent e ≡ k) outputs h)
+      goes_on k (inr h) = inr h
 
       dropped : (outputs ≡ []) ⊎ IsTaken c me s → (bytes : List ℕ) → s.input ≡ Got me bytes → IsDropped c me s.before s.old bytes → reverse outputs ≡ []
       dropped (inl none) bytes got drops = ap reverse none

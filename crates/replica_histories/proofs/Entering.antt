@@ -1,10 +1,11 @@
 -- An event begins: what is held behind the input fits.
-use Rattle.std.proofs.Common.{◌≡◌, ℕ, ◌+◌, ◌-◌, ◌*◌, ◌≤◌, ◌<◌, ◌⊎◌, inl, inr, Bool, true, false, cond, ◌&&◌, slice_index_or, List, [], ◌∷◌, map, refl, sym, ap, ◌∙◌, subst, arith, Option, Some, None, is_some, eq-eqb}
+use Rattle.std.proofs.Common.{◌≡◌, ℕ, ◌+◌, ◌-◌, ◌*◌, ◌≤◌, ◌<◌, ◌⊎◌, inl, inr, Bool, true, false, cond, ◌&&◌, slice_index_or, List, [], ◌∷◌, map, refl, sym, ap, ◌∙◌, subst, arith, Option, Some, None, is_some, eqb-true, eq-eqb}
 use Rattle.std.specs.Prelude.{◌==◌, nat_le, nat_lt, option_and_then, ⊤}
 use Rattle.std.specs.Option.{option_map_or}
-use Rattle.std.proofs.lemmas.Bool.{and_parts, le-leb, ltb-true, ltb-false}
+use Rattle.std.proofs.lemmas.Bool.{and_parts, le-leb, leb-true, ltb-true, ltb-false}
 use Rattle.ordering.specs.Log as logs
 use Rattle.ordering.specs.Log.{LogData}
+use Rattle.tuple_codec.specs.Operations.{Operation}
 use Rattle.terms.specs.declared.order.Mode.TheVariants as modes
 use Rattle.terms.specs.declared.state.Level.TheVariants as levels
 use Rattle.wire.specs.Messages.{BodyData as Body, MessageData as Message, CheckpointEntryData as CheckpointEntry, request as Request, checkpoint as Checkpoint, fetch as Fetch}
@@ -15,9 +16,9 @@ use Rattle.protocol.specs.System.Trace.{Entry, Once, Has}
 use Rattle.protocol.specs.System.Trace.Entry.{Got, Tick}
 use Rattle.protocol.specs.Replica.Selection.{is_quorum}
 use Rattle.protocol.specs.Replica.Certificates.{count_checkpoints, says_checkpoint, checkpoints_of, is_stable}
-use Rattle.protocol.specs.Replica.State.{State, Call, call_in, kept_of}
+use Rattle.protocol.specs.Replica.State.{State, Call, call_in, kept_of, last_time}
 use Rattle.protocol.specs.Replica.RightReplica.{Point, Leaves, IsStep, kept_states, HasSeen, reply_of, with_waiting, waiting_after}
-use Rattle.protocol.specs.Replica.Owed.{fetching}
+use Rattle.protocol.specs.Replica.Transfers.{fetching}
 use Rattle.protocol.proofs.Words.Plain.{Plain, plain_low}
 use Rattle.protocol.proofs.Words.Options.{some_injective}
 use Rattle.protocol.proofs.Words.Reacting.{proceeds_leaves}
@@ -25,7 +26,7 @@ use Rattle.replica_histories.specs.Desk.{snapshot_of, point_of}
 use Rattle.state_transfer.specs.Transfer.{TransferData}
 use Rattle.replica_histories.specs.Logs.{above_mark, FitsLog}
 use Rattle.replica_histories.specs.Marks.{checked_log, BringsCheckpoint}
-use Rattle.replica_histories.specs.Events.{Start, IsAsked, MaySayDue, IsFetched, IsReached}
+use Rattle.replica_histories.specs.Events.{Start, IsOnItsWay, IsAsked, MaySayDue, AreUnsaid, SaysOnce, IsFetched, IsReached}
 use Rattle.replica_histories.specs.Transfers.{HasQuorum, FitsOpen, open_number}
 use Rattle.replica_histories.specs.TransfersQuorums.{BringsRoot, QuorumsFetched}
 use Rattle.replica_histories.specs.Inputs.{again_for, asked_by, asked, fetch_due, InputsFit, CheckpointsEnter, TicksFit}
@@ -35,6 +36,7 @@ use Rattle.replica_histories.proofs.Logging.{log_goes, got_read, silent_read}
 use Rattle.replica_histories.proofs.Reaching.{reached_goes}
 use Rattle.replica_histories.proofs.Cutting.{marked, alike, checked, checked_up, checked_reached}
 use Rattle.replica_histories.proofs.Giving.{kept_on}
+use Rattle.replica_histories.proofs.SaidOnce.{time_of, reply_client, fetch_once}
 use Rattle.replica_histories.proofs.Counting.{CheckpointFree, checkpoint_free}
 use Rattle.replica_histories.proofs.Words.{apart}
 use Rattle.replica_histories.proofs.Transfers.{open_stays, open_above, quorums_want, lower_are_fetched}
@@ -58,27 +60,69 @@ module _ (c : Configuration) (me : ℕ) (past : List Entry) (bytes : List ℕ) (
       at : (n : ℕ) → n ≡ k → (b : Bool) → b ≡ true → Has (λ x. x ≡ reply_of k kept) (cond b (again_for n a.0 (kept_of old.state n)) [])
       at n e b tests = rw (tests, e, kept_is, eq-eqb kept.timestamp a.0 a.4) (inl refl)
 
-  due_is_right : (history : List Entry) (point : Point) → point.state ≡ old.state → (message : Message) → Has (λ x. x ≡ message) (asked old.state (heard (members c) me bytes)) → MaySayDue c history point message
-  due_is_right history point same message h = go (heard (members c) me bytes) h
+  abbrev got : List Entry
+  got = Got me bytes ∷ past
+
+  due_is_right : (point : Point) → point.state ≡ old.state → (message : Message) → Has (λ x. x ≡ message) (asked old.state (heard (members c) me bytes)) → MaySayDue c me got point message
+  due_is_right point same message h = go (heard (members c) me bytes) refl h
     where
-      ordered : (k t : ℕ) (b : Bool) (o : Option Kept) → kept_of old.state k ≡ o → Has (λ x. x ≡ message) (cond b (again_for k t o) []) → MaySayDue c history point message
-      ordered k t false o is h = absurd h
-      ordered k t true None is h = absurd h
-      ordered k t true (Some kept) is h = at (kept.timestamp == t) h
+      Says : ℕ → Message → Type 0
+      Says = λ sender m. heard (members c) me bytes ≡ Some (record { sender = sender; message = m })
+
+      ordered : (sender t : ℕ) (op : Operation) → Says sender (Request t modes.Ordered op) → (b : Bool) → nat_le 256 sender ≡ b → (o : Option Kept) → kept_of old.state (sender - 256) ≡ o
+          → Has (λ x. x ≡ message) (cond b (again_for (sender - 256) t o) []) → MaySayDue c me got point message
+      ordered sender t op says false client o is h = absurd h
+      ordered sender t op says true client None is h = absurd h
+      ordered sender t op says true client (Some kept) is h = at (kept.timestamp == t) refl h
         where
-          at : (b : Bool) → Has (λ x. x ≡ message) (cond b (reply_of k kept ∷ []) []) → MaySayDue c history point message
-          at false h = absurd h
-          at true (inr h) = absurd h
-          at true (inl h) = subst (MaySayDue c history point) h (inr (k, kept, ap (λ (st : State). kept_of st k) same ∙ is, refl))
+          k : ℕ
+          k = sender - 256
 
-      of : (sender : ℕ) (m : Message) → Has (λ x. x ≡ message) (asked_by old.state (record { sender = sender; message = m })) → MaySayDue c history point message
-      of sender (Request t modes.Ordered op) h = ordered (sender - 256) t (nat_le 256 sender) (kept_of old.state (sender - 256)) refl h
-      of sender (Request t modes.ReadOnly op) h = absurd h
-      of sender _ h = absurd h
+          its_own : sender ≡ 256 + k
+          its_own = let least = leb-true 256 sender client in omega (arith, least)
 
-      go : (o : Option Body) → Has (λ x. x ≡ message) (asked old.state o) → MaySayDue c history point message
-      go None h = absurd h
-      go (Some body) h = of body.sender body.message h
+          at : (b : Bool) → (kept.timestamp == t) ≡ b → Has (λ x. x ≡ message) (cond b (reply_of k kept ∷ []) []) → MaySayDue c me got point message
+          at false e h = absurd h
+          at true e (inr h) = absurd h
+          at true e (inl h) =
+              let time : t ≡ kept.timestamp = sym (eqb-true kept.timestamp t e) in
+              let asks : Says (256 + k) (Request kept.timestamp modes.Ordered op) = subst (λ (n : ℕ). Says n (Request kept.timestamp modes.Ordered op)) its_own (subst (λ (n : ℕ). Says sender (Request n modes.Ordered op)) time says) in
+              subst (MaySayDue c me got point) h (inr (k, kept, ap (λ (st : State). kept_of st k) same ∙ is, refl, (op, asks)))
+
+      of : (sender : ℕ) (m : Message) → Says sender m → Has (λ x. x ≡ message) (asked_by old.state (record { sender = sender; message = m })) → MaySayDue c me got point message
+      of sender (Request t modes.Ordered op) says h = ordered sender t op says (nat_le 256 sender) refl (kept_of old.state (sender - 256)) refl h
+      of sender (Request t modes.ReadOnly op) says h = absurd h
+      of sender _ says h = absurd h
+
+      go : (o : Option Body) → heard (members c) me bytes ≡ o → Has (λ x. x ≡ message) (asked old.state o) → MaySayDue c me got point message
+      go None says h = absurd h
+      go (Some body) says h = of body.sender body.message says h
+
+-- it is one reply at the most
+again_unsaid : (me k timestamp : ℕ) (o : Option Kept) → AreUnsaid me (again_for k timestamp o) []
+again_unsaid me k timestamp None = tt
+again_unsaid me k timestamp (Some kept) = go (kept.timestamp == timestamp)
+  where
+    alone : IsOnItsWay me [] [] (reply_of k kept) → ⊥
+    alone (inl h) = h
+    alone (inr h) = h
+
+    go : (b : Bool) → AreUnsaid me (cond b (reply_of k kept ∷ []) []) []
+    go true = (λ other way. alone way, tt)
+    go false = tt
+
+asked_unsaid : (me : ℕ) (st : State) (o : Option Body) → AreUnsaid me (asked st o) []
+asked_unsaid me st None = tt
+asked_unsaid me st (Some body) = of body.sender body.message
+  where
+    ordered : (sender t : ℕ) (b : Bool) → AreUnsaid me (cond b (again_for (sender - 256) t (kept_of st (sender - 256))) []) []
+    ordered sender t true = again_unsaid me (sender - 256) t (kept_of st (sender - 256))
+    ordered sender t false = tt
+
+    of : (sender : ℕ) (message : Message) → AreUnsaid me (asked_by st (record { sender = sender; message = message })) []
+    of sender (Request t modes.Ordered op) = ordered sender t (nat_le 256 sender)
+    of sender (Request t modes.ReadOnly op) = tt
+    of sender _ = tt
 
 -- ---- the event begins
 
@@ -100,15 +144,20 @@ inputs_fit c me desk new log after due past bytes held none e = record {
     asked = λ k kept a. inl (subst (λ (xs : List Message). Has (λ x. x ≡ reply_of k kept) xs) (sym due_is) (asked_is_due c me past bytes old k kept a));
     checkpoints = λ k h multiple. absurd h;
     opened = subst (λ (o : Option TransferData). FitsOpen c me o new.state.number (Got me bytes ∷ past)) (sym e.transfer)
-        (subst (λ (st : State). FitsOpen c me desk.transfer st.number (Got me bytes ∷ past)) (sym e.state) (open_stays c me desk.transfer desk.state.number past (Got me bytes) refl held.of_desk.opened));
+        (subst (λ (st : State). FitsOpen c me desk.transfer st.number (Got me bytes ∷ past)) (sym e.state) (open_stays c me desk.transfer desk.state.number past (Got me bytes) refl tt held.of_desk.opened));
     fetches = quorums_begin c me (record { before = past; input = Got me bytes; old = old }) new.state.number due (subst (λ (st : State). QuorumsFetched c st.number past) (sym e.state) held.of_desk.fetches)
         (λ k root b quorum above. inl (below_fetched k (unchanged_bring_none c log.low past (Got me bytes) k root unchanged b) (let number = ap (λ (st : State). st.number) e.state in omega arith) held.low));
-    rightly = λ message k. due_is_right c me past bytes old (Got me bytes ∷ past) (point_of new old.snapshots []) (e.state ∙ sym state_is) message (subst (λ (xs : List Message). Has (λ x. x ≡ message) xs) due_is k);
+    rightly = λ message k. due_is_right c me past bytes old (point_of new old.snapshots []) (e.state ∙ sym state_is) message (subst (λ (xs : List Message). Has (λ x. x ≡ message) xs) due_is k);
   };
   of_log = fits;
   low = subst (λ (n : ℕ). IsReached c me n new.state.number due (Got me bytes ∷ past)) (sym e.takes.stays.low) (subst (λ (st : State). IsReached c me log.low st.number due (Got me bytes ∷ past)) (sym e.state)
       (reached_goes c me desk.state.number [] due log past (Got me bytes) (got_read c me log past bytes held.of_log.fits none) (λ x k. absurd k) held.low));
   once = tt;
+  says = record {
+    begins = refl;
+    unsaid = subst (λ (xs : List Message). AreUnsaid me xs []) (sym due_is) (asked_unsaid me old.state (heard (members c) me bytes));
+    replies = λ k kept way. replies k kept way;
+  };
 }
   where
     old : Point
@@ -149,6 +198,21 @@ inputs_fit c me desk new log after due past bytes held none e = record {
     due_is : due ≡ asked old.state (heard (members c) me bytes)
     due_is = e.due_is ∙ ap (λ (st : State). asked st (heard (members c) me bytes)) (sym state_is)
 
+    -- the kept reply that is asked for is of its client's last timestamp
+    replies : (k : ℕ) (kept : Kept) → IsOnItsWay me due [] (reply_of k kept) → kept.timestamp ≤ last_time new.state k
+    replies k kept (inr h) = absurd h
+    replies k kept (inl h) =
+        last (due_is_right c me past bytes old (point_of new old.snapshots []) (e.state ∙ sym state_is) (reply_of k kept) (subst (λ (xs : List Message). Has (λ x. x ≡ reply_of k kept) xs) due_is h))
+      where
+        last : MaySayDue c me (Got me bytes ∷ past) (point_of new old.snapshots []) (reply_of k kept) → kept.timestamp ≤ last_time new.state k
+        last (inl h) = absurd h
+        last (inr h) =
+            let same = reply_client h.0 k h.1 kept h.3 in
+            let time : last_time new.state h.0 ≡ h.1.timestamp = ap time_of h.2 in
+            let here : last_time new.state k ≡ h.1.timestamp = subst (λ (n : ℕ). last_time new.state n ≡ h.1.timestamp) same.0 time in
+            let stamp : h.1.timestamp ≡ kept.timestamp = same.1 in
+            omega (arith, here, stamp)
+
     kept_frame : (frame : List ℕ) → Has (λ x. x ≡ frame) desk.frames ⊎ ((frame ≡ bytes) × (is_some (heard (members c) me bytes) ≡ true)) → Once (HasSeen frame) (Got me bytes ∷ past) × (is_some (heard (members c) me frame) ≡ true)
     kept_frame frame (inl k) = let f = held.of_desk.frames frame k in (inr f.0, f.1)
     kept_frame frame (inr k) = (inl (inl (sym k.0)), subst (λ (x : List ℕ). is_some (heard (members c) me x) ≡ true) (sym k.0) k.1)
@@ -173,13 +237,14 @@ checkpoints_enter c me desk log past s entry bytes held h none = record {
     replies = λ r k. absurd k;
     asked = λ k kept a. absurd (asks_nothing k kept a);
     checkpoints = λ k x multiple. absurd x;
-    opened = open_stays c me desk.transfer desk.state.number past (Got me bytes) refl held.of_desk.opened;
+    opened = open_stays c me desk.transfer desk.state.number past (Got me bytes) refl tt held.of_desk.opened;
     fetches = quorums_begin c me (record { before = past; input = Got me bytes; old = old }) desk.state.number (fetch_due desk more entry) held.of_desk.fetches fetched;
     rightly = λ message k. rightly message k;
   };
   of_log = fits;
   low = checked_reached c me log past (Got me bytes) s entry f brings known desk.state.number [] (fetch_due desk more entry) (λ x k. absurd k) held.low executed;
   once = tt;
+  says = said (logs.is_stable more entry);
 }
   where
     old : Point
@@ -266,11 +331,15 @@ checkpoints_enter c me desk log past s entry bytes held h none = record {
         number : entry.number ≡ k
         number = ap (λ (x : CheckpointEntry). x.number) this
 
+    said : (a : Bool) → SaysOnce me (record { before = past; input = Got me bytes; old = old }) desk.state (cond a [] (cond (has_quorum && is_ahead) (Fetch entry.number levels.Root 0 ∷ []) [])) []
+    said true = fetch_once me (record { before = past; input = Got me bytes; old = old }) desk.state entry.number [] false refl (λ k kept given. absurd given)
+    said false = fetch_once me (record { before = past; input = Got me bytes; old = old }) desk.state entry.number [] (has_quorum && is_ahead) refl (λ k kept given. absurd given)
+
     -- the fetch that is due may be said
-    rightly : (message : Message) → Has (λ x. x ≡ message) (fetch_due desk more entry) → MaySayDue c (Got me bytes ∷ past) new message
+    rightly : (message : Message) → Has (λ x. x ≡ message) (fetch_due desk more entry) → MaySayDue c me (Got me bytes ∷ past) new message
     rightly message h = go (logs.is_stable more entry) has_quorum is_ahead refl refl h
       where
-        go : (a b d : Bool) → has_quorum ≡ b → is_ahead ≡ d → Has (λ x. x ≡ message) (cond a [] (cond (b && d) (Fetch entry.number levels.Root 0 ∷ []) [])) → MaySayDue c (Got me bytes ∷ past) new message
+        go : (a b d : Bool) → has_quorum ≡ b → is_ahead ≡ d → Has (λ x. x ≡ message) (cond a [] (cond (b && d) (Fetch entry.number levels.Root 0 ∷ []) [])) → MaySayDue c me (Got me bytes ∷ past) new message
         go true b d x y h = absurd h
         go false false d x y h = absurd h
         go false true false x y h = absurd h
@@ -278,7 +347,7 @@ checkpoints_enter c me desk log past s entry bytes held h none = record {
         go false true true x y (inl h) =
             let least = open_above c me desk.transfer desk.state.number past held.of_desk.opened in
             let over = ltb-true (open_number desk.state.number desk.transfer) entry.number y in
-            subst (λ (z : Message). MaySayDue c (Got me bytes ∷ past) new z) h (entry.digest, (omega arith, quorums_want c (Got me bytes ∷ past) entry.number entry.digest (counted ∙ x)))
+            subst (λ (z : Message). MaySayDue c me (Got me bytes ∷ past) new z) h (entry.digest, (omega arith, quorums_want c (Got me bytes ∷ past) entry.number entry.digest (counted ∙ x)))
 
 -- a tick alone owes nothing
 pub ticks_fit : TicksFit
@@ -293,7 +362,7 @@ ticks_fit c me desk log past held = record {
     replies = λ r k. absurd k;
     asked = λ k kept a. absurd a.2;
     checkpoints = λ k h multiple. absurd h;
-    opened = open_stays c me desk.transfer desk.state.number past (Tick me) refl held.of_desk.opened;
+    opened = open_stays c me desk.transfer desk.state.number past (Tick me) refl tt held.of_desk.opened;
     fetches = quorums_begin c me (record { before = past; input = Tick me; old = old }) desk.state.number [] held.of_desk.fetches
         (λ k root b quorum above. absurd (let bad : None ≡ Some (b.sender, (let x : CheckpointEntry = record { number = k; digest = root } in x)) = b.brings in cc));
     rightly = λ message k. absurd k;
@@ -302,6 +371,7 @@ ticks_fit c me desk log past held = record {
   of_log = log_goes c me log log past (Tick me) held.of_log.fits (silent_read c me log past (Tick me) plain refl)
       (takes_nothing c me None log held.of_log.fits.is_log (λ i w h. refl) (λ i x w h. refl) (λ i x w h. refl) (λ x. refl));
   once = tt;
+  says = fetch_once me (record { before = past; input = Tick me; old = old }) desk.state 0 [] false refl (λ k kept given. absurd given);
 }
   where
     old : Point

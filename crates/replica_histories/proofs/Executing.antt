@@ -11,26 +11,33 @@ use Rattle.protocol.specs.System.Configuration.{is_number}
 use Rattle.protocol.specs.System.Trace.{Entry, Has}
 use Rattle.protocol.specs.System.Trace.Entry.{Executed}
 use Rattle.protocol.specs.Replica.Certificates.{low, Committed}
-use Rattle.protocol.specs.Replica.State.{State, Ran, execute, ran_in, root_of}
+use Rattle.reply_cache.specs.Replies.{Kept}
+use Rattle.protocol.specs.Replica.State.{State, Ran, last_time, execute, ran_in, root_of}
 use Rattle.protocol.specs.Replica.RightReplica.{Point, Executes, kept_states, reply_of, snapshots_after}
 use Rattle.protocol.proofs.Words.Elements.{has_either, has_left, has_right, has_map, has_mapped, has_weaker, has_some}
 use Rattle.protocol.proofs.Words.Leaving.{executed_number}
+use Rattle.protocol.proofs.Points.Keeping.{executed_times}
 use Rattle.protocol.proofs.Words.Plain.{Plain, plain_low}
 use Rattle.replica_histories.specs.Desk.{Desk, Snapshot, snapshot_of, point_of}
-use Rattle.replica_histories.specs.Events.{behind, IsOnItsWay, MaySayDue}
+use Rattle.replica_histories.specs.Events.{behind, IsOnItsWay, MaySayDue, AreUnsaid}
+use Rattle.replica_histories.specs.Transfers.{FitsOpen, still_open}
 use Rattle.replica_histories.specs.Outputs.{replies_to, checkpoint_due, executed_desk, ExecutesFit}
 use Rattle.replica_histories.proofs.Words.{apart, passed}
 use Rattle.replica_histories.proofs.Certified.{committed_here}
+use Rattle.replica_histories.proofs.Checking.{said_may, executed_at_most}
+use Rattle.replica_histories.proofs.Ending.{steps_leave}
+use Rattle.replica_histories.proofs.NumbersWaiting.{executions_raise}
+use Rattle.replica_histories.proofs.SaidOnce.{said_so_far, no_reply, ran_times, unsaid_replies}
 use Rattle.replica_histories.proofs.Taking.{takes_nothing}
 use Rattle.replica_histories.proofs.Logging.{log_goes, silent_read}
-use Rattle.replica_histories.proofs.Transfers.{open_stays, open_ends}
+use Rattle.replica_histories.proofs.Transfers.{open_executes}
 use Rattle.replica_histories.proofs.TransfersQuorums.{quorums_go_on}
 
 abbrev reply_to : Ran → Message
 reply_to r = reply_of r.call.client r.kept
 
 pub executes_fit : ExecutesFit
-executes_fit c me s desk log outputs batch frames commits fewer f = record {
+executes_fit c me s desk log outputs batch frames is_state few commits fewer f = record {
   of_desk = record {
     states = snapshots_after c st f.of_desk.states;
     ran = f.of_desk.ran ++ more;
@@ -41,7 +48,7 @@ executes_fit c me s desk log outputs batch frames commits fewer f = record {
     replies = λ r h. reply r (has_either (λ x. x ≡ r) f.of_desk.ran more h);
     asked = λ k kept h. sent (reply_of k kept) (f.of_desk.asked k kept h);
     checkpoints = λ j h multiple. checked j (st.number % c.period == 0) refl h multiple;
-    opened = open_ends c me desk.transfer desk.state.number st.number (e ∷ past) grows (open_stays c me desk.transfer desk.state.number past e refl f.of_desk.opened);
+    opened = subst (λ (n : ℕ). FitsOpen c me (still_open n desk.transfer) n (e ∷ past)) (sym number_is) (open_executes c me desk.transfer desk.state.number k past batch (omega arith) f.of_desk.opened);
     fetches = quorums_go_on c me s desk.state.number st.number [] (replies_to more ++ checkpoint_due c st) outputs e grows
         (λ i root b. absurd (let bad : None ≡ Some (b.sender, (let x : CheckpointEntry = record { number = i; digest = root } in x)) = b.brings in cc)) (λ x h. absurd h) f.of_desk.fetches;
     rightly = λ message h. rightly message (has_either (λ x. x ≡ message) (replies_to more) (checkpoint_due c st) h);
@@ -49,6 +56,12 @@ executes_fit c me s desk log outputs batch frames commits fewer f = record {
   of_log = log_goes c me log log past e f.of_log (silent_read c me log past e plain refl) (takes_nothing c me None log f.of_log.is_log (λ i w h. refl) (λ i x w h. refl) (λ i x w h. refl) (λ x. refl));
   low = inl (let l = above_low log k within in let n = number_is in omega arith);
   once = (tt, f.once);
+  says = record {
+    begins = f.says.begins;
+    unsaid = unsaid_replies c few k me (requests_of batch) desk.state (checkpoint_due c st) (e ∷ outputs) is_state.replies.all (checkpoint_unsaid (st.number % c.period == 0))
+        (λ j kept way. older (st.number % c.period == 0) j kept way);
+    replies = λ j kept way. replies j kept way;
+  };
 }
   where
     past : List Entry
@@ -94,6 +107,41 @@ executes_fit c me s desk log outputs batch frames commits fewer f = record {
         inl (has_left (λ x. x ≡ reply_to r) (replies_to more) (checkpoint_due c st)
         (has_mapped (λ x. x ≡ reply_to r) reply_to more (has_weaker (λ x. x ≡ r) (λ x. reply_to x ≡ reply_to r) (λ x is. ap reply_to is) more h)))
 
+    -- the checkpoint of the new state was not said: none was that is above the executed number
+    checkpoint_unsaid : (b : Bool) → AreUnsaid me (cond b (Checkpoint st.number (root_of st) ∷ []) []) (e ∷ outputs)
+    checkpoint_unsaid false = tt
+    checkpoint_unsaid true = (λ other way. never way, tt)
+      where
+        never : IsOnItsWay me [] (e ∷ outputs) (Checkpoint st.number (root_of st)) → ⊥
+        never (inl h) = h
+        never (inr (inl h)) = h
+        never (inr (inr given)) =
+            let leaves = steps_leave c me s outputs (point_of desk f.of_desk.states f.of_desk.ran) f.of_desk.leaves f.of_desk.steps in
+            let may = said_may c me st.number (root_of st) past (point_of desk f.of_desk.states f.of_desk.ran) leaves (said_so_far me s (Checkpoint st.number (root_of st)) outputs given) in
+            let most : st.number ≤ desk.state.number = executed_at_most c me st.number past (point_of desk f.of_desk.states f.of_desk.ran) leaves may.executed in
+            let n = number_is in
+            absurd (omega (arith, most, n))
+
+    -- the other replies of the event are no newer than the last timestamps before
+    older : (b : Bool) (j : ℕ) (kept : Kept) → IsOnItsWay me (cond b (Checkpoint st.number (root_of st) ∷ []) []) (e ∷ outputs) (reply_of j kept) → kept.timestamp ≤ last_time desk.state j
+    older true j kept (inl (inl same)) = absurd (no_reply (Checkpoint st.number (root_of st)) j kept refl same)
+    older true j kept (inl (inr h)) = absurd h
+    older false j kept (inl h) = absurd h
+    older b j kept (inr (inl h)) = absurd h
+    older b j kept (inr (inr given)) = f.says.replies j kept (inr given)
+
+    raised : (j : ℕ) → last_time desk.state j ≤ last_time st j
+    raised j = executions_raise c desk.state batch j
+
+    replies : (j : ℕ) (kept : Kept) → IsOnItsWay me (replies_to more ++ checkpoint_due c st) (e ∷ outputs) (reply_of j kept) → kept.timestamp ≤ last_time st j
+    replies j kept (inl has) = due (has_either (λ x. x ≡ reply_of j kept) (replies_to more) (checkpoint_due c st) has)
+      where
+        due : Has (λ x. x ≡ reply_of j kept) (replies_to more) ⊎ Has (λ x. x ≡ reply_of j kept) (checkpoint_due c st) → kept.timestamp ≤ last_time st j
+        due (inl h) = let most = (ran_times c few k (requests_of batch) desk.state j kept is_state.replies.all h).1 in let same = executed_times c desk.state batch j in omega (arith, most, same)
+        due (inr h) = let was = older (st.number % c.period == 0) j kept (inl h) in let more_now = raised j in omega (arith, was, more_now)
+    replies j kept (inr (inl h)) = absurd h
+    replies j kept (inr (inr given)) = let was = f.says.replies j kept (inr given) in let more_now = raised j in omega (arith, was, more_now)
+
     -- the checkpoint of each state that was executed
     checked : (j : ℕ) (b : Bool) → (st.number % c.period == 0) ≡ b → (k ≡ j) ⊎ Has (λ x. Executes j [] x) outputs → j % c.period ≡ 0
         → Has (λ x. (x.number ≡ j) × IsOnItsWay me (replies_to more ++ cond b (Checkpoint st.number (root_of st) ∷ []) []) (e ∷ outputs) (Checkpoint j (root_of x))) (cond b (st ∷ f.of_desk.states) f.of_desk.states)
@@ -135,9 +183,9 @@ executes_fit c me s desk log outputs batch frames commits fewer f = record {
     point : Point
     point = point_of new (snapshots_after c st f.of_desk.states) (f.of_desk.ran ++ more)
 
-    right : (message : Message) → (r : Ran) × Has (λ x. x ≡ r) more × (reply_to r ≡ message) → MaySayDue c (e ∷ past) point message
+    right : (message : Message) → (r : Ran) × Has (λ x. x ≡ r) more × (reply_to r ≡ message) → MaySayDue c me (e ∷ past) point message
     right message r =
-        subst (λ (x : Message). MaySayDue c (e ∷ past) point x) r.2
+        subst (λ (x : Message). MaySayDue c me (e ∷ past) point x) r.2
         (inl (has_right (λ x. reply_to x ≡ reply_to r.0) f.of_desk.ran more (has_weaker (λ x. x ≡ r.0) (λ x. reply_to x ≡ reply_to r.0) (λ x is. ap reply_to is) more r.1)))
 
     numbered : is_number st.number ≡ true
@@ -145,13 +193,13 @@ executes_fit c me s desk log outputs batch frames commits fewer f = record {
 
     -- the checkpoint of the new state may be said
     may : (b : Bool) → (st.number % c.period == 0) ≡ b → (message : Message) → Has (λ x. x ≡ message) (cond b (Checkpoint st.number (root_of st) ∷ []) [])
-        → MaySayDue c (e ∷ past) (point_of new (cond b (st ∷ f.of_desk.states) f.of_desk.states) (f.of_desk.ran ++ more)) message
+        → MaySayDue c me (e ∷ past) (point_of new (cond b (st ∷ f.of_desk.states) f.of_desk.states) (f.of_desk.ran ++ more)) message
     may false is message h = absurd h
     may true is message (inr h) = absurd h
     may true is message (inl h) =
-        subst (λ (x : Message). MaySayDue c (e ∷ past) (point_of new (st ∷ f.of_desk.states) (f.of_desk.ran ++ more)) x) h
+        subst (λ (x : Message). MaySayDue c me (e ∷ past) (point_of new (st ∷ f.of_desk.states) (f.of_desk.ran ++ more)) x) h
         (record { multiple = eqb-true (st.number % c.period) 0 is; executed = inl (sym number_is); state = inl (refl, refl) }, numbered)
 
-    rightly : (message : Message) → Has (λ x. x ≡ message) (replies_to more) ⊎ Has (λ x. x ≡ message) (checkpoint_due c st) → MaySayDue c (e ∷ past) point message
+    rightly : (message : Message) → Has (λ x. x ≡ message) (replies_to more) ⊎ Has (λ x. x ≡ message) (checkpoint_due c st) → MaySayDue c me (e ∷ past) point message
     rightly message (inl h) = right message (has_some (λ r. reply_to r ≡ message) more (has_map (λ x. x ≡ message) reply_to more h))
     rightly message (inr h) = may (st.number % c.period == 0) refl message h

@@ -1,27 +1,25 @@
 -- What the replica holds that fetches: its fetches, and the parts that come.
-use Rattle.std.proofs.Common.{◌≡◌, ℕ, ◌+◌, ◌*◌, ◌≤◌, ◌<◌, ◌⊎◌, inl, inr, Bool, true, false, cond, ◌&&◌, List, [], ◌∷◌, map, refl, sym, ap, ◌∙◌, subst, arith, Option, Some, None}
+use Rattle.std.proofs.Common.{◌≡◌, ℕ, ◌+◌, ◌*◌, ◌≤◌, ◌<◌, inl, Bool, true, false, cond, ◌&&◌, List, [], ◌∷◌, map, refl, sym, ap, ◌∙◌, subst, arith, Option, Some, None}
 use Rattle.std.specs.Prelude.{nat_le, nat_lt, option_and_then}
 use Rattle.std.specs.Option.{option_map_or}
 use Rattle.std.proofs.lemmas.Bool.{le-leb, ltb-true}
 use Rattle.terms.specs.declared.state.Level.TheVariants as levels
 use Rattle.wire.specs.Messages.{BodyData as Body, MessageData as Message, fetch as Fetch, meta as Meta, page as Page}
-use Rattle.wire.specs.Words.{said}
 use Rattle.signing.specs.Heard.{heard}
 use Rattle.ordering.specs.Log as logs
 use Rattle.ordering.specs.Log.{LogData}
 use Rattle.protocol.specs.System.Configuration.{Configuration, members}
 use Rattle.protocol.specs.System.Frames.{IsPosted}
-use Rattle.protocol.specs.System.Trace.{Entry, Has}
+use Rattle.protocol.specs.System.Trace.{Entry}
 use Rattle.protocol.specs.System.Trace.Entry.{Got, Sent}
 use Rattle.protocol.specs.Replica.Certificates.{new_view_from}
 use Rattle.protocol.specs.Replica.State.{State, Call, call_in}
-use Rattle.protocol.specs.Replica.RightReplica.{Point, kept_states, others, with_waiting}
-use Rattle.protocol.specs.Replica.Owed.{IsSaying}
-use Rattle.state_transfer.specs.Transfer.{TransferData, with_digests, with_page}
+use Rattle.protocol.specs.Replica.RightReplica.{Point, MayFetch, kept_states, others, with_waiting}
+use Rattle.state_transfer.specs.Transfer.{TransferData, with_digests}
 use Rattle.protocol.proofs.Words.Posting.{may_send}
 use Rattle.replica_histories.specs.Desk.{Desk, snapshot_of, point_of}
 use Rattle.replica_histories.specs.Logs.{FitsLog}
-use Rattle.replica_histories.specs.Transfers.{HasQuorum, MayAsk, FitsOpen, open_number}
+use Rattle.replica_histories.specs.Transfers.{HasQuorum, MayAsk, AsksNext, FitsOpen, open_number}
 use Rattle.replica_histories.specs.Events.{Start, behind, Fits, Holds, start_at}
 use Rattle.replica_histories.specs.Inputs.{asked, Enters, IsBesideLog}
 use Rattle.replica_histories.specs.Fetching.{FetchesFit, DueFetchesFit, QuorumsMayAsk, HeldOweNoFetch, DigestsEnter, PagesEnter, AskedDigestsCount, AskedPagesCount, TransfersChange}
@@ -30,9 +28,10 @@ use Rattle.replica_histories.proofs.Logging.{none_taken, IsPlaced, beside_placed
 use Rattle.replica_histories.proofs.Reaching.{reached_open}
 use Rattle.replica_histories.proofs.Checking.{quorum_counted}
 use Rattle.replica_histories.proofs.Counting.{others_drop}
+use Rattle.replica_histories.proofs.SaidOnce.{Pays, pays_first, pays_fetch, fetch_is_new}
 use Rattle.replica_histories.proofs.Giving.{sent_goes, log_sent, reached_sent, no_proposal}
 use Rattle.replica_histories.proofs.Entering.{inputs_fit}
-use Rattle.replica_histories.proofs.Transfers.{digests_count, pages_count, digests_open, pages_open, quorums_open, transfers_may_fetch, transfers_ask, open_above, fetched_most}
+use Rattle.replica_histories.proofs.Transfers.{digests_count, pages_count, digests_open, digests_may_ask, pages_may_ask, open_stays, quorums_open, transfers_may_fetch, transfers_ask, open_above, fetched_most}
 use Rattle.replica_histories.proofs.TransfersAnswering.{IsPart}
 use Rattle.replica_histories.proofs.TransfersQuorums.{no_root}
 
@@ -42,18 +41,21 @@ abbrev fetch_of : TransferData → Message
 fetch_of t = Fetch t.number t.asked.level t.asked.index
 
 -- a fetch that may be asked, with what was due paid so far
-fetch_goes : (c : Configuration) (me : ℕ) (s : Start) (desk : Desk) (log : LogData) (due rest : List Message) (outputs : List Entry) (t : TransferData) (bytes : List ℕ) → MayAsk c me t desk.state.number (behind s outputs)
-    → IsPosted c me (fetch_of t) (others c me) bytes → ((x : Message) → Has (λ y. y ≡ x) due → Has (λ y. y ≡ x) rest ⊎ IsSaying me x (Sent me bytes)) → ((x : Message) → Has (λ y. y ≡ x) rest → Has (λ y. y ≡ x) due)
+fetch_goes : (c : Configuration) (me : ℕ) (s : Start) (desk : Desk) (log : LogData) (due rest : List Message) (outputs : List Entry) (t : TransferData) (bytes : List ℕ) → MayAsk c me t desk.state.number (behind s outputs) → AsksNext c me t desk.state (behind s outputs)
+    → IsPosted c me (fetch_of t) (others c me) bytes → Pays me s desk.state due rest outputs bytes
     → Fits c me s desk log due outputs → Fits c me s (record desk { transfer = Some t }) log rest (Sent me bytes ∷ outputs)
-fetch_goes c me s desk log due rest outputs t bytes m posted paid fewer f =
+fetch_goes c me s desk log due rest outputs t bytes m next posted pays f =
     sent_goes c me s desk log log due rest outputs bytes desk.snapshots (Some t) f
-    (may_send c me past (point_of desk f.of_desk.states f.of_desk.ran) (Sent me bytes) bytes (others c me) (fetch_of t) posted refl tt (transfers_may_fetch c me t past (point_of desk f.of_desk.states f.of_desk.ran) m)) fits
+    (may_send c me past (point_of desk f.of_desk.states f.of_desk.ran) (Sent me bytes) bytes (others c me) (fetch_of t) posted refl tt may (λ signed. absurd cc) (fetch_is_new c me past (point_of desk f.of_desk.states f.of_desk.ran) t.number t.asked.level t.asked.index bytes posted.says may)) fits
     (ap (λ (h : ℕ). map snapshot_of (kept_states h f.of_desk.states)) (sym f.of_log.low) ∙ f.of_desk.kept)
-    (reached_sent c me desk.state.number due rest log log past bytes (others c me) (fetch_of t) posted tt placed refl paid f.low)
-    (transfers_ask c me t desk.state.number past bytes posted.says m) (no_root c past bytes me (fetch_of t) desk.state.number posted.says refl) paid fewer (no_proposal c me past bytes (fetch_of t) posted.says tt)
+    (reached_sent c me desk.state.number due rest log log past bytes (others c me) (fetch_of t) posted tt placed refl pays.paid f.low)
+    (transfers_ask c me t desk.state.number past bytes posted.says m) (no_root c past bytes me (fetch_of t) desk.state.number posted.says refl) pays (no_proposal c me past bytes (fetch_of t) posted.says tt)
   where
     past : List Entry
     past = behind s outputs
+
+    may : MayFetch c me past (point_of desk f.of_desk.states f.of_desk.ran) t.number t.asked.level t.asked.index
+    may = transfers_may_fetch c me t past (point_of desk f.of_desk.states f.of_desk.ran) m next
 
     placed : IsPlaced c me log (record { sender = me; message = fetch_of t })
     placed = beside_placed c me log me (fetch_of t) tt
@@ -63,20 +65,16 @@ fetch_goes c me s desk log due rest outputs t bytes m posted paid fewer f =
         (takes_nothing c me (Some (record { sender = me; message = fetch_of t })) log f.of_log.is_log (λ i w h. refl) (λ i x w h. refl) (λ i x w h. refl) (λ x. refl)) placed
 
 pub fetches_fit : FetchesFit
-fetches_fit c me s desk log due outputs t bytes m posted f = fetch_goes c me s desk log due due outputs t bytes m posted (λ x h. inl h) (λ x h. h) f
+fetches_fit c me s desk log due outputs t bytes m next posted f = fetch_goes c me s desk log due due outputs t bytes m next posted (pays_fetch c me s desk log outputs (fetch_of t) bytes posted.says due refl f) f
 
 pub due_fetches_fit : DueFetchesFit
-due_fetches_fit c me s desk log rest outputs t bytes m posted f = fetch_goes c me s desk log (fetch_of t ∷ rest) rest outputs t bytes m posted paid (λ x h. inr h) f
-  where
-    paid : (x : Message) → (fetch_of t ≡ x) ⊎ Has (λ y. y ≡ x) rest → Has (λ y. y ≡ x) rest ⊎ IsSaying me x (Sent me bytes)
-    paid x (inl e) = inr (subst (λ (y : Message). said bytes ≡ Some (record { sender = me; message = y })) e posted.says)
-    paid x (inr h) = inl h
+due_fetches_fit c me s desk log rest outputs t bytes m next posted f = fetch_goes c me s desk log (fetch_of t ∷ rest) rest outputs t bytes m next posted (pays_first c me s desk log outputs (fetch_of t) bytes posted.says rest f) f
 
 -- ---- quorums
 
 pub quorums_may_ask : QuorumsMayAsk
 quorums_may_ask c me s desk log due outputs entry pages enough over above f =
-    quorums_open c me desk.transfer desk.state.number entry.number entry.digest pages (behind s outputs)
+    quorums_open c me desk.transfer desk.state.number entry.number entry.digest pages desk.state (behind s outputs)
     (quorum_counted c log (behind s outputs) entry f.of_log.faults over f.of_log.checkpoints
     ∙ le-leb (2 * log.faults + 1) (logs.count_checkpoints log entry) enough)
     above f.of_desk.opened
@@ -125,6 +123,7 @@ transfers_change c me s desk log due outputs open_one o f = record {
   of_log = f.of_log;
   low = f.low;
   once = f.once;
+  says = f.says;
 }
 
 -- what a desk holds open
@@ -177,13 +176,17 @@ enters c me desk log past s message bytes open_one held is h o =
 
 pub digests_enter : DigestsEnter
 digests_enter c me desk log past t s place digests bytes held is h wants =
-    enters c me desk log past s (Meta t.number place.level place.index digests) bytes (Some (with_digests t place digests)) held tt h
-    (digests_open c me t desk.state.number past bytes s t.number place digests h wants (open_at c me desk t desk.state.number past is held.of_desk.opened))
+    let opened = open_at c me desk t desk.state.number past is held.of_desk.opened in (
+      enters c me desk log past s (Meta t.number place.level place.index digests) bytes (Some (with_digests t place digests)) held tt h
+          (digests_open c me t desk.state.number past bytes s t.number place digests h wants opened),
+      digests_may_ask c me t desk.state.number past bytes s t.number place digests h wants opened,
+    )
 
 pub pages_enter : PagesEnter
-pages_enter c me desk log past t s index text bytes held is h long =
-    enters c me desk log past s (Page t.number index text) bytes (Some (with_page t index text)) held tt h
-    (pages_open c me t desk.state.number past bytes s t.number index text h long (open_at c me desk t desk.state.number past is held.of_desk.opened))
+pages_enter c me desk log past t s index text bytes held is asks h long known = (
+  enters c me desk log past s (Page t.number index text) bytes desk.transfer held tt h (open_stays c me desk.transfer desk.state.number past (Got me bytes) refl tt held.of_desk.opened),
+  pages_may_ask c me t desk.state.number past bytes s index text h asks long known (open_at c me desk t desk.state.number past is held.of_desk.opened),
+)
 
 -- ---- which count
 

@@ -1,9 +1,10 @@
 -- One output more that is sent: what is held behind it fits.
 use Rattle.std.proofs.Common.{◌≡◌, ◌≢◌, ℕ, ◌+◌, ◌≤◌, ◌<◌, ◌%◌, ◌⊎◌, inl, inr, Bool, true, false, cond, ◌&&◌, not, List, [], ◌∷◌, map, refl, sym, ap, ◌∙◌, subst, arith, Option, Some, None, is_some, is_none, eqb-true, eq-eqb}
 use Rattle.std.specs.Bool.{then_some}
-use Rattle.std.specs.Prelude.{◌==◌, nat_le, ⊤, AllPairs}
+use Rattle.std.specs.Prelude.{◌==◌, nat_le, option_and_then, ⊤, AllPairs}
 use Rattle.std.proofs.lemmas.Bool.{and_parts, eqb-false, ne_eqb, not-true, leb-true, leb-false}
 use Rattle.sha2.specs.Sha256.{sha256}
+use Rattle.quorum.specs.Votes.{or_else}
 use Rattle.terms.specs.declared.order.Mode.TheVariants as modes
 use Rattle.wire.specs.Messages.{BodyData as Body, MessageData as Message, AuthenticatorData as Authenticator, macs, signature, request as Request, pre_prepare as PrePrepare, prepare as Prepare, commit as Commit, checkpoint as Checkpoint, view_change as ViewChange, new_view as NewView, reply as Reply, fetch as Fetch, meta as Meta, page as Page}
 use Rattle.wire.specs.Spelling.{is_signed, authenticator_is_signed}
@@ -17,10 +18,11 @@ use Rattle.protocol.specs.System.Configuration.{Configuration, primary, is_numbe
 use Rattle.protocol.specs.System.Frames.{IsPosted}
 use Rattle.protocol.specs.System.Trace.{Entry, Once, Has}
 use Rattle.protocol.specs.System.Trace.Entry.{Sent}
-use Rattle.protocol.specs.Replica.Certificates.{are_genuine, logged, batch_from}
+use Rattle.protocol.specs.Replica.Certificates.{are_genuine, logged, batch_from, begun_proposal, entry_proposal, proposal, prepare_from, commit_from, vote_in, prepare_of, commit_of}
 use Rattle.protocol.specs.Replica.State.{State, root_of}
-use Rattle.protocol.specs.Replica.RightReplica.{Point, Executes, kept_states, others, reply_of, IsFor, IsAddressed, HasSeen, MaySay, MaySend, MayCheckpoint}
-use Rattle.protocol.specs.Replica.Owed.{place_from, IsSaying, HasRequest, IsNumbered, AreDifferent, NumbersOnce}
+use Rattle.protocol.specs.Replica.RightReplica.{Point, Executes, kept_states, others, reply_of, IsFor, IsAddressed, HasSeen, HasOwnLeaf, SentInEvent, MaySay, MaySend, MayCheckpoint}
+use Rattle.protocol.specs.Replica.Transfers.{place_from}
+use Rattle.protocol.specs.Replica.Owed.{IsSaying, HasRequest, IsNumbered, AreDifferent, NumbersOnce}
 use Rattle.protocol.proofs.Words.Options.{some_injective, then_some_gives, or_else_second}
 use Rattle.protocol.proofs.Words.Elements.{has_weaker, all_of_each, each_weaker}
 use Rattle.protocol.proofs.Words.Posting.{may_send}
@@ -40,6 +42,7 @@ use Rattle.replica_histories.proofs.Logging.{KeepsView, IsPlaced, beside_placed,
 use Rattle.replica_histories.proofs.Reaching.{reached_goes}
 use Rattle.replica_histories.proofs.Cutting.{checked, checked_up, checked_reached}
 use Rattle.replica_histories.proofs.Ending.{steps_leave}
+use Rattle.replica_histories.proofs.SaidOnce.{Pays, pays_none, pays_first, first_unsent, new_by}
 use Rattle.replica_histories.proofs.Transfers.{root_later, open_stays, asks_none}
 use Rattle.replica_histories.proofs.TransfersQuorums.{quorums_go_on, no_root, own_root}
 
@@ -54,20 +57,20 @@ on_way me due rest outputs e paid x (inl h) = go (paid x h)
     go (inr k) = inr (inl k)
 on_way me due rest outputs e paid x (inr h) = inr (inr h)
 
--- what may be said as a reply, a checkpoint or a fetch may be said behind one more output
-pub due_stays : (c : Configuration) (past : List Entry) (e : Entry) (point : Point) (message : Message) → MaySayDue c past point message → MaySayDue c (e ∷ past) point message
-due_stays c past e point (Reply client timestamp modes.Ordered number answer) h = h
-due_stays c past e point (Reply client timestamp modes.ReadOnly number answer) h = h
-due_stays c past e point (Checkpoint k root) h = (record { multiple = h.0.multiple; executed = inr h.0.executed; state = h.0.state }, h.1)
-due_stays c past e point (Request t mode op) h = absurd h
-due_stays c past e point (PrePrepare v i batch) h = absurd h
-due_stays c past e point (Prepare v i digest) h = absurd h
-due_stays c past e point (Commit v i digest) h = absurd h
-due_stays c past e point (ViewChange vc) h = absurd h
-due_stays c past e point (NewView new) h = absurd h
-due_stays c past e point (Fetch k level index) h = (h.0, (h.1.0, root_later c k h.0 past e h.1.1))
-due_stays c past e point (Meta k level index digests) h = absurd h
-due_stays c past e point (Page k index text) h = absurd h
+-- what may be said as a reply, a checkpoint or a fetch may be said behind one more frame
+pub due_stays : (c : Configuration) (me : ℕ) (past : List Entry) (bytes : List ℕ) (point : Point) (message : Message) → MaySayDue c me past point message → MaySayDue c me (Sent me bytes ∷ past) point message
+due_stays c me past bytes point (Reply client timestamp modes.Ordered number answer) h = h
+due_stays c me past bytes point (Reply client timestamp modes.ReadOnly number answer) h = h
+due_stays c me past bytes point (Checkpoint k root) h = (record { multiple = h.0.multiple; executed = inr h.0.executed; state = h.0.state }, h.1)
+due_stays c me past bytes point (Request t mode op) h = absurd h
+due_stays c me past bytes point (PrePrepare v i batch) h = absurd h
+due_stays c me past bytes point (Prepare v i digest) h = absurd h
+due_stays c me past bytes point (Commit v i digest) h = absurd h
+due_stays c me past bytes point (ViewChange vc) h = absurd h
+due_stays c me past bytes point (NewView new) h = absurd h
+due_stays c me past bytes point (Fetch k level index) h = (h.0, (h.1.0, root_later c k h.0 past (Sent me bytes) h.1.1))
+due_stays c me past bytes point (Meta k level index digests) h = absurd h
+due_stays c me past bytes point (Page k index text) h = absurd h
 
 -- a signed frame of the own that says what may be said may be sent, as it is for all
 signed_addressed : (c : Configuration) (me : ℕ) (past : List Entry) (message : Message) (a : Authenticator) → authenticator_is_signed a ≡ true → IsAddressed c me past message a
@@ -75,8 +78,10 @@ signed_addressed c me past message (macs entries) h = absurd cc
 signed_addressed c me past message (signature s) h = tt
 
 pub signed_may_send : (c : Configuration) (me : ℕ) (past : List Entry) (point : Point) (e : Entry) (bytes : List ℕ) (message : Message) → is_signed message ≡ true → IsPosted c me message [] bytes
-    → Each (λ frame. Once (HasSeen frame) past) (carried message) → MaySay c me past point e bytes message → MaySend c me past point e bytes
-signed_may_send c me past point e bytes message signed posted seen say = record {
+    → Each (λ frame. Once (HasSeen frame) past) (carried message) → MaySay c me past point e bytes message → HasOwnLeaf bytes past → (SentInEvent bytes past → ⊥) → MaySend c me past point e bytes
+signed_may_send c me past point e bytes message signed posted seen say leaf once = record {
+  leaf = leaf;
+  once = once;
   body = record { sender = me; message = message };
   says = posted.says;
   own = refl;
@@ -95,11 +100,10 @@ pub sent_goes : (c : Configuration) (me : ℕ) (s : Start) (desk : Desk) (log af
     → IsReached c me after.low desk.state.number rest (Sent me bytes ∷ behind s outputs)
     → FitsOpen c me transfer desk.state.number (Sent me bytes ∷ behind s outputs)
     → ((k : ℕ) (root : List ℕ) → BringsRoot c (behind s outputs) (Sent me bytes) k root → k ≤ desk.state.number)
-    → ((x : Message) → Has (λ y. y ≡ x) due → Has (λ y. y ≡ x) rest ⊎ IsSaying me x (Sent me bytes))
-    → ((x : Message) → Has (λ y. y ≡ x) rest → Has (λ y. y ≡ x) due)
+    → Pays me s desk.state due rest outputs bytes
     → NumbersOnce c me (behind s outputs) (Sent me bytes)
     → Fits c me s (record desk { snapshots = snapshots; transfer = transfer }) after rest (Sent me bytes ∷ outputs)
-sent_goes c me s desk log after due rest outputs bytes snapshots transfer f may fits kept reached opened roots paid fewer once = record {
+sent_goes c me s desk log after due rest outputs bytes snapshots transfer f may fits kept reached opened roots pays once = record {
   of_desk = record {
     states = f.of_desk.states;
     ran = f.of_desk.ran;
@@ -107,16 +111,17 @@ sent_goes c me s desk log after due rest outputs bytes snapshots transfer f may 
     steps = (point_of desk f.of_desk.states f.of_desk.ran, f.of_desk.steps, record { own = refl; may = may; moves = refl }, refl);
     kept = ap (λ (h : ℕ). map snapshot_of (kept_states h f.of_desk.states)) fits.low ∙ kept;
     frames = λ frame h. let k = f.of_desk.frames frame h in (inr k.0, k.1);
-    replies = λ r h. on_way me due rest outputs (Sent me bytes) paid (reply_of r.call.client r.kept) (f.of_desk.replies r h);
-    asked = λ k kept h. on_way me due rest outputs (Sent me bytes) paid (reply_of k kept) (f.of_desk.asked k kept h);
+    replies = λ r h. on_way me due rest outputs (Sent me bytes) pays.paid (reply_of r.call.client r.kept) (f.of_desk.replies r h);
+    asked = λ k kept h. on_way me due rest outputs (Sent me bytes) pays.paid (reply_of k kept) (f.of_desk.asked k kept h);
     checkpoints = λ k h multiple. checkpoints k h multiple;
     opened = opened;
-    fetches = quorums_go_on c me s desk.state.number desk.state.number due rest outputs (Sent me bytes) (omega arith) roots paid f.of_desk.fetches;
-    rightly = λ x h. due_stays c past (Sent me bytes) (point_of desk f.of_desk.states f.of_desk.ran) x (f.of_desk.rightly x (fewer x h));
+    fetches = quorums_go_on c me s desk.state.number desk.state.number due rest outputs (Sent me bytes) (omega arith) roots pays.paid f.of_desk.fetches;
+    rightly = λ x h. due_stays c me past bytes (point_of desk f.of_desk.states f.of_desk.ran) x (f.of_desk.rightly x (pays.fewer x h));
   };
   of_log = fits;
   low = reached;
   once = (once, f.once);
+  says = pays.says;
 }
   where
     past : List Entry
@@ -127,7 +132,7 @@ sent_goes c me s desk log after due rest outputs bytes snapshots transfer f may 
     checkpoints k (inl h) multiple = absurd h
     checkpoints k (inr h) multiple =
         has_weaker (λ st. (st.number ≡ k) × IsOnItsWay me due outputs (Checkpoint k (root_of st))) (λ st. (st.number ≡ k) × IsOnItsWay me rest (Sent me bytes ∷ outputs) (Checkpoint k (root_of st)))
-        (λ st w. (w.0, on_way me due rest outputs (Sent me bytes) paid (Checkpoint k (root_of st)) w.1)) f.of_desk.states (f.of_desk.checkpoints k h multiple)
+        (λ st w. (w.0, on_way me due rest outputs (Sent me bytes) pays.paid (Checkpoint k (root_of st)) w.1)) f.of_desk.states (f.of_desk.checkpoints k h multiple)
 
 -- the log behind it
 pub log_sent : (c : Configuration) (me : ℕ) (log after : LogData) (past : List Entry) (bytes receivers : List ℕ) (message : Message) → FitsLog c me log past → IsPosted c me message receivers bytes → KeepsView message
@@ -143,6 +148,12 @@ reached_sent c me number due rest log after past bytes receivers message posted 
     subst (λ (n : ℕ). IsReached c me n number rest (Sent me bytes ∷ past)) (sym same)
     (reached_goes c me number due rest log past (Sent me bytes) (sent_read c me log past bytes me message posted.says keeps place) paid h)
 
+-- view changes and new views alone are signed
+never_signed : {A : Type 0} (message : Message) → KeepsView message → is_signed message ≡ true → A
+never_signed (ViewChange vc) keeps h = absurd keeps
+never_signed (NewView new) keeps h = absurd keeps
+never_signed _ keeps h = absurd cc
+
 -- Where the marks stay and no part is asked for, nothing but the log and what is due changes.
 pub sent_fits : (c : Configuration) (me : ℕ) (s : Start) (desk : Desk) (log after : LogData) (due rest : List Message) (outputs : List Entry) (bytes receivers : List ℕ) (message : Message)
     (f : Fits c me s desk log due outputs) → IsPosted c me message receivers bytes → IsFor c me (behind s outputs) message receivers
@@ -151,17 +162,16 @@ pub sent_fits : (c : Configuration) (me : ℕ) (s : Start) (desk : Desk) (log af
     → KeepsView message → Takes c me (Some (record { sender = me; message = message })) log after → IsPlaced c me log (record { sender = me; message = message })
     → place_from (record { sender = me; message = message }) ≡ None
     → ((k : ℕ) (root : List ℕ) → BringsRoot c (behind s outputs) (Sent me bytes) k root → k ≤ desk.state.number)
-    → ((x : Message) → Has (λ y. y ≡ x) due → Has (λ y. y ≡ x) rest ⊎ IsSaying me x (Sent me bytes))
-    → ((x : Message) → Has (λ y. y ≡ x) rest → Has (λ y. y ≡ x) due)
+    → Pays me s desk.state due rest outputs bytes → (SentInEvent bytes (behind s outputs) → ⊥)
     → NumbersOnce c me (behind s outputs) (Sent me bytes)
     → Fits c me s desk after rest (Sent me bytes ∷ outputs)
-sent_fits c me s desk log after due rest outputs bytes receivers message f posted for seen say keeps takes place none roots paid fewer once =
+sent_fits c me s desk log after due rest outputs bytes receivers message f posted for seen say keeps takes place none roots pays new once =
     sent_goes c me s desk log after due rest outputs bytes desk.snapshots desk.transfer f
-    (may_send c me (behind s outputs) (point_of desk f.of_desk.states f.of_desk.ran) (Sent me bytes) bytes receivers message posted for seen say)
+    (may_send c me (behind s outputs) (point_of desk f.of_desk.states f.of_desk.ran) (Sent me bytes) bytes receivers message posted for seen say (λ signed. never_signed message keeps signed) new)
     (log_sent c me log after (behind s outputs) bytes receivers message f.of_log posted keeps takes place)
     (ap (λ (h : ℕ). map snapshot_of (kept_states h f.of_desk.states)) (takes.stays.low ∙ sym f.of_log.low) ∙ f.of_desk.kept)
-    (reached_sent c me desk.state.number due rest log after (behind s outputs) bytes receivers message posted keeps place takes.stays.low paid f.low)
-    (open_stays c me desk.transfer desk.state.number (behind s outputs) (Sent me bytes) (asks_none bytes me message posted.says none) f.of_desk.opened) roots paid fewer once
+    (reached_sent c me desk.state.number due rest log after (behind s outputs) bytes receivers message posted keeps place takes.stays.low pays.paid f.low)
+    (open_stays c me desk.transfer desk.state.number (behind s outputs) (Sent me bytes) (asks_none bytes me message posted.says none) tt f.of_desk.opened) roots pays once
 
 -- a prepare is placed where its number is in the marks and the replica is active, and so is a commit
 differ : (log : LogData) (v i j : ℕ) → logs.is_in_marks log i ≡ true → (v ≢ log.view) ⊎ (logs.is_in_marks log j ≡ false) → ((log.view == v) && (i == j)) ≡ false
@@ -213,20 +223,33 @@ no_proposal c me past bytes message h none v i batch says free =
 
 -- ---- the own votes
 
+none_is : {A : Type 0} (o : Option A) → is_none o ≡ true → o ≡ None
+none_is None h = refl
+none_is (Some x) h = absurd cc
+
 -- who is asked for a prepare is active, and a backup
 backup_of : (log : LogData) (b : Bool) → (log.active && not (log.me == logs.primary log log.view) && b) ≡ true → (log.active ≡ true) × (log.me ≢ logs.primary log log.view)
 backup_of log b h =
     let p = and_parts log.active (not (log.me == logs.primary log log.view)) (and_parts (log.active && not (log.me == logs.primary log log.view)) b h).0 in
     (p.0, eqb-false log.me (logs.primary log log.view) (not-true (log.me == logs.primary log log.view) p.1))
 
+-- who is asked for a vote has not voted
+fresh_prepare : (log : LogData) (i : ℕ) → (log.active && not (log.me == logs.primary log log.view) && is_none (logs.prepare_of log i log.me)) ≡ true → logs.prepare_of log i log.me ≡ None
+fresh_prepare log i h = none_is (logs.prepare_of log i log.me) (and_parts (log.active && not (log.me == logs.primary log log.view)) (is_none (logs.prepare_of log i log.me)) h).1
+
+fresh_commit : (log : LogData) (i : ℕ) → (log.active && logs.is_prepared log i && is_none (logs.commit_of log i log.me)) ≡ true → logs.commit_of log i log.me ≡ None
+fresh_commit log i h = none_is (logs.commit_of log i log.me) (and_parts (log.active && logs.is_prepared log i) (is_none (logs.commit_of log i log.me)) h).1
+
 pub prepares_fit : PreparesFit
+unfolding prepare_of
 prepares_fit c me s desk log due outputs i digest bytes vote asks sender same posted f =
     sent_fits c me s desk log (logs.with_prepare log i vote) due due outputs bytes (others c me) (Prepare log.view i digest) f posted refl tt
     (record { is_backup = backup; active = active c me log (behind s outputs) f.of_log ∙ is_active; batch = b.batch; is_logged = f.of_log.batches i b.within ∙ b.logged; digest_is = b.digest_is })
     tt
     (prepare_taken c me me i digest vote log f.of_log.is_log is_active b.within (subst (λ (x : ℕ). x < logs.replicas log) f.of_log.own f.of_log.is_log.me) (ap not (ne_eqb me (primary c log.view) (λ e. backup (sym e)))) sender same)
     (prepare_placed c me me i digest log is_active b.within)
-    refl (no_root c (behind s outputs) bytes me (Prepare log.view i digest) desk.state.number posted.says refl) (λ x h. inl h) (λ x h. h) (no_proposal c me (behind s outputs) bytes (Prepare log.view i digest) posted.says tt)
+    refl (no_root c (behind s outputs) bytes me (Prepare log.view i digest) desk.state.number posted.says refl) (pays_none c me s desk log outputs (Prepare log.view i digest) bytes posted.says due refl f) new
+    (no_proposal c me (behind s outputs) bytes (Prepare log.view i digest) posted.says tt)
   where
     test : ((log.active && not (log.me == logs.primary log log.view) && is_none (logs.prepare_of log i log.me)) ≡ true) × (logs.logged_digest log i ≡ Some digest)
     test = passed (log.active && not (log.me == logs.primary log log.view) && is_none (logs.prepare_of log i log.me)) (logs.logged_digest log i) digest asks
@@ -240,14 +263,26 @@ prepares_fit c me s desk log due outputs i digest bytes vote asks sender same po
     backup : primary c log.view ≢ me
     backup e = (backup_of log (is_none (logs.prepare_of log i log.me)) test.0).1 (f.of_log.own ∙ sym e ∙ sym (primary_same c log log.view f.of_log.faults))
 
+    -- the own prepare would have counted
+    none : prepare_of c me (behind s outputs) log.view i me ≡ None
+    none = f.of_log.prepares i me b.within ∙ ap (logs.prepare_of log i) (sym f.of_log.own) ∙ fresh_prepare log i test.0
+
+    new : SentInEvent bytes (behind s outputs) → ⊥
+    new = new_by (λ earlier e. vote_in c me earlier e (prepare_from c me log.view i) log.view i) bytes (λ past p. (digest, ap (option_and_then (prepare_from c me log.view i)) posted.says ∙ prepared)) (behind s outputs) none
+      where
+        prepared : prepare_from c me log.view i (record { sender = me; message = Prepare log.view i digest }) ≡ Some digest
+        prepared = rw (eq-eqb me me refl, eq-eqb log.view log.view refl, eq-eqb i i refl, ne_eqb me (primary c log.view) (λ e. backup (sym e))) refl
+
 pub commits_fit : CommitsFit
+unfolding commit_of
 commits_fit c me s desk log due outputs i digest bytes vote asks sender same posted f =
     sent_fits c me s desk log (logs.with_commit log i vote) due due outputs bytes (others c me) (Commit log.view i digest) f posted refl tt
     (record { active = active c me log (behind s outputs) f.of_log ∙ is_active; batch = p.0; prepared = prepared_here c me log (behind s outputs) i p.0 f.of_log p.1; digest_is = digest_is })
     tt
     (commit_taken c me me i digest vote log f.of_log.is_log is_active b.within (subst (λ (x : ℕ). x < logs.replicas log) f.of_log.own f.of_log.is_log.me) sender same)
     (commit_placed c me me i digest log is_active b.within)
-    refl (no_root c (behind s outputs) bytes me (Commit log.view i digest) desk.state.number posted.says refl) (λ x h. inl h) (λ x h. h) (no_proposal c me (behind s outputs) bytes (Commit log.view i digest) posted.says tt)
+    refl (no_root c (behind s outputs) bytes me (Commit log.view i digest) desk.state.number posted.says refl) (pays_none c me s desk log outputs (Commit log.view i digest) bytes posted.says due refl f) new
+    (no_proposal c me (behind s outputs) bytes (Commit log.view i digest) posted.says tt)
   where
     test : ((log.active && logs.is_prepared log i && is_none (logs.commit_of log i log.me)) ≡ true) × (logs.logged_digest log i ≡ Some digest)
     test = passed (log.active && logs.is_prepared log i && is_none (logs.commit_of log i log.me)) (logs.logged_digest log i) digest asks
@@ -269,6 +304,16 @@ commits_fit c me s desk log due outputs i digest bytes vote asks sender same pos
         let row : logs.logged_batch log i ≡ Some p.0 = batch_read log i b.within ∙ p.1.row in
         ap sha256 (some_injective p.0 b.batch (sym row ∙ b.logged)) ∙ b.digest_is
 
+    none : commit_of c me (behind s outputs) log.view i me ≡ None
+    none = f.of_log.commits i me b.within ∙ ap (logs.commit_of log i) (sym f.of_log.own) ∙ fresh_commit log i test.0
+
+    -- the own commit would have counted
+    new : SentInEvent bytes (behind s outputs) → ⊥
+    new = new_by (λ earlier e. vote_in c me earlier e (commit_from me log.view i) log.view i) bytes (λ past p. (digest, ap (option_and_then (commit_from me log.view i)) posted.says ∙ committed)) (behind s outputs) none
+      where
+        committed : commit_from me log.view i (record { sender = me; message = Commit log.view i digest }) ≡ Some digest
+        committed = rw (eq-eqb me me refl, eq-eqb log.view log.view refl, eq-eqb i i refl) refl
+
 -- ---- a batch of the primary's own
 
 -- the place that a pre-prepare is for
@@ -285,12 +330,17 @@ each_held : (c : Configuration) (me : ℕ) (desk : Desk) (history : List Entry) 
     → Each (λ frame. Once (HasSeen frame) history × (is_some (heard (members c) me frame) ≡ true)) frames
 each_held c me desk history frames f h = each_weaker (λ frame. Has (λ x. x ≡ frame) desk.frames) (λ frame. Once (HasSeen frame) history × (is_some (heard (members c) me frame) ≡ true)) (λ frame k. f frame k) frames h
 
+or_else_given : {A : Type 0} (o later : Option A) (x : A) → later ≡ Some x → (y : A) × (or_else o later ≡ Some y)
+or_else_given None later x h = (x, h)
+or_else_given (Some y) later x h = (y, refl)
+
 pub batches_fit : BatchesFit
+unfolding logged
 batches_fit c me s desk log due outputs i batch bytes p posted f =
     sent_fits c me s desk log (logs.with_batch log i batch) due due outputs bytes (others c me) (PrePrepare log.view i batch) f posted refl
     (each_weaker (λ frame. Once (HasSeen frame) past × (is_some (heard (members c) me frame) ≡ true)) (λ frame. Once (HasSeen frame) past) (λ frame k. k.0) (requests_of batch) seen)
-    (record { is_primary = primary_is; active = active c me log past f.of_log ∙ p.active; in_marks = marks_are c me log past i f.of_log ∙ p.within; genuine = genuine; one = one })
-    tt takes is_placed refl (no_root c (behind s outputs) bytes me (PrePrepare log.view i batch) desk.state.number posted.says refl) (λ x h. inl h) (λ x h. h) once
+    (record { is_primary = primary_is; active = active c me log past f.of_log ∙ p.active; in_marks = marks_are c me log past i f.of_log ∙ p.within; genuine = genuine; one = one; next = λ none. p.free })
+    tt takes is_placed refl (no_root c (behind s outputs) bytes me (PrePrepare log.view i batch) desk.state.number posted.says refl) (pays_none c me s desk log outputs (PrePrepare log.view i batch) bytes posted.says due refl f) new once
   where
     past : List Entry
     past = behind s outputs
@@ -304,8 +354,11 @@ batches_fit c me s desk log due outputs i batch bytes p posted f =
     genuine : are_genuine c me batch ≡ true
     genuine = all_of_each (λ frame. Once (HasSeen frame) past × (is_some (heard (members c) me frame) ≡ true)) (λ request. is_some (heard (members c) me request)) (λ frame k. k.1) (requests_of batch) seen
 
+    free : logs.logged_batch log i ≡ None
+    free = sym (f.of_log.batches i p.within) ∙ p.free.unused i (omega arith)
+
     takes : Takes c me (Some (record { sender = me; message = PrePrepare log.view i batch })) log (logs.with_batch log i batch)
-    takes = batch_taken c me me i batch log f.of_log.is_log p.active p.within (eq-eqb me (primary c log.view) (sym primary_is)) genuine p.free
+    takes = batch_taken c me me i batch log f.of_log.is_log p.active p.within (eq-eqb me (primary c log.view) (sym primary_is)) genuine free
 
     place : (v j : ℕ) (b : List ℕ) → batch_from c me v j (record { sender = me; message = PrePrepare log.view i batch }) ≡ Some b → (v ≡ log.view) × (logs.is_in_marks log j ≡ true)
     place v j b h = let w = placed c me log.view i v j me batch b h in (sym w.0, subst (λ (x : ℕ). logs.is_in_marks log x ≡ true) w.1 p.within)
@@ -319,8 +372,15 @@ batches_fit c me s desk log due outputs i batch bytes p posted f =
     proposed : batch_from c me log.view i (record { sender = me; message = PrePrepare log.view i batch }) ≡ Some batch
     proposed = rw (eq-eqb log.view log.view refl, eq-eqb i i refl, eq-eqb me (primary c log.view) (sym primary_is), genuine) refl
 
+    -- the own batch would have counted
+    given : (earlier : List Entry) (q : ℕ) → (x : List ℕ) × (proposal c me earlier (Sent q bytes) log.view i ≡ Some x)
+    given earlier q = or_else_given (begun_proposal c me earlier (Sent q bytes) log.view i) (entry_proposal c me earlier (Sent q bytes) log.view i) batch (ap (option_and_then (batch_from c me log.view i)) posted.says ∙ proposed)
+
+    new : SentInEvent bytes past → ⊥
+    new = new_by (λ earlier e. proposal c me earlier e log.view i) bytes given past (p.free.unused i (omega arith))
+
     one : logged c me (Sent me bytes ∷ past) log.view i ≡ Some batch
-    one = fits.batches i p.within ∙ takes.batch i p.within ∙ or_else_second (logs.logged_batch log i) _ p.free ∙ ap (λ (b : Bool). cond b (batch_from c me log.view i (record { sender = me; message = PrePrepare log.view i batch })) None) p.active ∙ proposed
+    one = fits.batches i p.within ∙ takes.batch i p.within ∙ or_else_second (logs.logged_batch log i) _ free ∙ ap (λ (b : Bool). cond b (batch_from c me log.view i (record { sender = me; message = PrePrepare log.view i batch })) None) p.active ∙ proposed
 
     once : NumbersOnce c me past (Sent me bytes)
     once v j b says free = subst (λ (x : List ℕ). AllPairs (AreDifferent c) (requests_of x) × ((client t : ℕ) → HasRequest c client t x → IsNumbered c me past v client t → ⊥)) same
@@ -348,11 +408,8 @@ replies_fit c me s desk log rest outputs k kept bytes posted f =
     sent_fits c me s desk log log (reply_of k kept ∷ rest) rest outputs bytes ((256 + k) ∷ []) (reply_of k kept) f posted refl tt (f.of_desk.rightly (reply_of k kept) (inl refl))
     tt
     (takes_nothing c me (Some (record { sender = me; message = reply_of k kept })) log f.of_log.is_log (λ i w h. refl) (λ i x w h. refl) (λ i x w h. refl) (λ x. refl)) (beside_placed c me log me (reply_of k kept) tt)
-    refl (no_root c (behind s outputs) bytes me (reply_of k kept) desk.state.number posted.says refl) paid (λ x h. inr h) (no_proposal c me (behind s outputs) bytes (reply_of k kept) posted.says tt)
-  where
-    paid : (x : Message) → (reply_of k kept ≡ x) ⊎ Has (λ y. y ≡ x) rest → Has (λ y. y ≡ x) rest ⊎ IsSaying me x (Sent me bytes)
-    paid x (inl e) = inr (subst (λ (y : Message). said bytes ≡ Some (record { sender = me; message = y })) e posted.says)
-    paid x (inr h) = inl h
+    refl (no_root c (behind s outputs) bytes me (reply_of k kept) desk.state.number posted.says refl) (pays_first c me s desk log outputs (reply_of k kept) bytes posted.says rest f)
+    (first_unsent c me s desk log outputs (reply_of k kept) bytes posted.says rest refl f) (no_proposal c me (behind s outputs) bytes (reply_of k kept) posted.says tt)
 
 -- ---- a checkpoint that is due
 
@@ -379,11 +436,12 @@ kept_are_above c me desk log states history fits kept =
 pub checkpoints_fit : CheckpointsFit
 checkpoints_fit c me s desk log rest outputs entry bytes prepares commits posted f =
     sent_goes c me s desk log (checked_log log me entry) (Checkpoint entry.number entry.digest ∷ rest) rest outputs bytes (kept_from (checked_log log me entry).low desk.snapshots) desk.transfer f
-    (may_send c me past (point_of desk f.of_desk.states f.of_desk.ran) (Sent me bytes) bytes (others c me) (Checkpoint entry.number entry.digest) posted refl tt may.0) fits
+    (may_send c me past (point_of desk f.of_desk.states f.of_desk.ran) (Sent me bytes) bytes (others c me) (Checkpoint entry.number entry.digest) posted refl tt may.0 (λ signed. absurd cc)
+    (first_unsent c me s desk log outputs (Checkpoint entry.number entry.digest) bytes posted.says rest refl f)) fits
     (kept_on log.low (checked_log log me entry).low f.of_desk.states desk.snapshots up (ap (λ (h : ℕ). map snapshot_of (kept_states h f.of_desk.states)) (sym f.of_log.low) ∙ f.of_desk.kept))
-    (checked_reached c me log past (Sent me bytes) me entry f.of_log brings known desk.state.number (Checkpoint entry.number entry.digest ∷ rest) rest paid f.low (λ stable. executed))
-    (open_stays c me desk.transfer desk.state.number past (Sent me bytes) (asks_none bytes me (Checkpoint entry.number entry.digest) posted.says refl) f.of_desk.opened)
-    (own_root c past bytes me entry.number entry.digest desk.state.number posted.says executed) paid (λ x h. inr h) (no_proposal c me past bytes (Checkpoint entry.number entry.digest) posted.says tt)
+    (checked_reached c me log past (Sent me bytes) me entry f.of_log brings known desk.state.number (Checkpoint entry.number entry.digest ∷ rest) rest pays.paid f.low (λ stable. executed))
+    (open_stays c me desk.transfer desk.state.number past (Sent me bytes) (asks_none bytes me (Checkpoint entry.number entry.digest) posted.says refl) tt f.of_desk.opened)
+    (own_root c past bytes me entry.number entry.digest desk.state.number posted.says executed) pays (no_proposal c me past bytes (Checkpoint entry.number entry.digest) posted.says tt)
   where
     past : List Entry
     past = behind s outputs
@@ -407,6 +465,5 @@ checkpoints_fit c me s desk log rest outputs entry bytes prepares commits posted
     executed = executed_at_most c me entry.number past (point_of desk f.of_desk.states f.of_desk.ran)
         (steps_leave c me s outputs (point_of desk f.of_desk.states f.of_desk.ran) f.of_desk.leaves f.of_desk.steps) may.0.executed
 
-    paid : (x : Message) → (Checkpoint entry.number entry.digest ≡ x) ⊎ Has (λ y. y ≡ x) rest → Has (λ y. y ≡ x) rest ⊎ IsSaying me x (Sent me bytes)
-    paid x (inl e) = inr (subst (λ (y : Message). said bytes ≡ Some (record { sender = me; message = y })) e posted.says)
-    paid x (inr h) = inl h
+    pays : Pays me s desk.state (Checkpoint entry.number entry.digest ∷ rest) rest outputs bytes
+    pays = pays_first c me s desk log outputs (Checkpoint entry.number entry.digest) bytes posted.says rest f

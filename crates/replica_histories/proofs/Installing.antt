@@ -1,28 +1,28 @@
 -- An installation: what is held behind it fits.
-use Rattle.std.proofs.Common.{◌≡◌, ℕ, ◌%◌, ◌≤◌, ◌<◌, ◌⊎◌, inl, inr, Bool, true, false, cond, List, [], ◌∷◌, map, refl, sym, ap, ◌∙◌, subst, arith, Option, Some, None}
+use Rattle.std.proofs.Common.{◌≡◌, ℕ, ◌%◌, ◌≤◌, ◌<◌, ◌⊎◌, inl, inr, Bool, true, false, cond, List, [], ◌∷◌, map, refl, sym, ap, ◌∙◌, arith, Some, None}
 use Rattle.std.specs.Prelude.{nat_le}
 use Rattle.wire.specs.Messages.{MessageData as Message, CheckpointEntryData as CheckpointEntry, checkpoint as Checkpoint}
 use Rattle.ordering.specs.Log as logs
 use Rattle.ordering.specs.Log.{LogData}
 use Rattle.protocol.specs.System.Trace.{Entry, Has}
 use Rattle.protocol.specs.System.Trace.Entry.{Installed}
-use Rattle.protocol.specs.Replica.State.{root_of}
+use Rattle.reply_cache.specs.Replies.{Kept}
+use Rattle.protocol.specs.Replica.State.{last_time, root_of}
 use Rattle.protocol.specs.Replica.RightReplica.{Point, IsStep, Executes, kept_states, reply_of}
 use Rattle.protocol.proofs.Words.Elements.{has_weaker}
 use Rattle.replica_histories.specs.Desk.{Snapshot, snapshot_of, kept_from, point_of}
-use Rattle.state_transfer.specs.Transfer.{TransferData}
 use Rattle.replica_histories.specs.Logs.{FitsLog}
 use Rattle.replica_histories.specs.Transfers.{FitsOpen, installed_point}
 use Rattle.replica_histories.specs.Events.{behind, IsOnItsWay}
 use Rattle.replica_histories.specs.Outputs.{InstallationsFit}
 use Rattle.replica_histories.proofs.Cutting.{cut_low, installations_move}
-use Rattle.replica_histories.proofs.Reaching.{reached_open}
+use Rattle.replica_histories.proofs.Reaching.{reached_asking}
 use Rattle.replica_histories.proofs.Giving.{kept_on}
 use Rattle.replica_histories.proofs.TransfersInstalling.{transfers_install}
 use Rattle.replica_histories.proofs.TransfersQuorums.{quorums_go_on}
 
 pub installations_fit : InstallationsFit
-installations_fit c me s desk log outputs t st frames is_open rests root_is is number pages small prepares commits fewer f = record {
+installations_fit c me s desk log outputs t st frames may rests root_is is number pages small rises prepares commits fewer f = record {
   of_desk = record {
     states = st ∷ f.of_desk.states;
     ran = f.of_desk.ran;
@@ -41,6 +41,7 @@ installations_fit c me s desk log outputs t st frames is_open rests root_is is n
   of_log = fits;
   low = inl (let l = low_is in let n = number in omega arith);
   once = (tt, f.once);
+  says = record { begins = f.says.begins; unsaid = tt; replies = λ j kept way. replies j kept way };
 }
   where
     past : List Entry
@@ -49,20 +50,17 @@ installations_fit c me s desk log outputs t st frames is_open rests root_is is n
     old : Point
     old = point_of desk f.of_desk.states f.of_desk.ran
 
-    opened : FitsOpen c me (Some t) desk.state.number past
-    opened = subst (λ (o : Option TransferData). FitsOpen c me o desk.state.number past) is_open f.of_desk.opened
-
     later : desk.state.number < t.number
-    later = opened.1
+    later = may.ahead
 
     installed : IsStep c me past old (Installed me t.number t.root) (installed_point old st) × FitsOpen c me None st.number (Installed me t.number t.root ∷ past)
-    installed = transfers_install c me t past old st opened rests root_is is number pages
+    installed = transfers_install c me t past old st may rests root_is is number pages
 
     fits : FitsLog c me (logs.cut_to log t.number) (Installed me t.number t.root ∷ past)
     fits = installations_move c me log past t.number t.root f.of_log small (λ i l. (prepares i, commits i))
 
     up : log.low ≤ t.number
-    up = reached_open c me log.low desk.state.number (Some t) past f.low opened
+    up = reached_asking c me log.low desk.state.number t past f.low may
 
     low_is : (logs.cut_to log t.number).low ≡ t.number
     low_is = cut_low log t.number up
@@ -74,6 +72,11 @@ installations_fit c me s desk log outputs t st frames is_open rests root_is is n
         ≡ cond b (snapshot_of st ∷ kept_from st.number desk.snapshots) (kept_from st.number desk.snapshots)
     keeps true = ap (λ (xs : List Snapshot). snapshot_of st ∷ xs) was
     keeps false = was
+
+    replies : (j : ℕ) (kept : Kept) → IsOnItsWay me [] (Installed me t.number t.root ∷ outputs) (reply_of j kept) → kept.timestamp ≤ last_time st j
+    replies j kept (inl h) = absurd h
+    replies j kept (inr (inl h)) = absurd h
+    replies j kept (inr (inr given)) = let was = f.says.replies j kept (inr given) in let more = rises j in omega (arith, was, more)
 
     sent : (x : Message) → IsOnItsWay me [] outputs x → IsOnItsWay me [] (Installed me t.number t.root ∷ outputs) x
     sent x (inl h) = absurd h

@@ -10,6 +10,7 @@ pub mod Reaching
 pub mod Cutting
 pub mod Asking
 pub mod Ending
+pub mod SaidOnce
 pub mod Giving
 pub mod Executing
 pub mod Installing
@@ -18,7 +19,9 @@ pub mod Entering
 pub mod Counting
 pub mod Resting
 pub mod Starting
+pub mod TransfersTaking
 pub mod Transfers
+pub mod TransfersSeeking
 pub mod TransfersInstalling
 pub mod TransfersAnswering
 pub mod Questions
@@ -31,6 +34,7 @@ pub mod NumbersGiven
 pub mod NumbersWaiting
 pub mod Numbers
 pub mod Fetching
+pub mod PartsOwed
 pub mod Answering
 pub mod Batches
 pub mod Beginning
@@ -39,7 +43,10 @@ pub mod NewViews
 pub mod Claims
 pub mod ClaimsAdding
 pub mod Seeing
+pub mod Leaves
 pub mod Received
+pub mod Reasons
 pub mod ChangesPassing
 pub mod ChangesKept
 pub mod ChangesMade
+pub mod OneChange

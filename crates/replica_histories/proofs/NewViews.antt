@@ -15,7 +15,8 @@ use Rattle.protocol.specs.System.Configuration.{Configuration, members}
 use Rattle.protocol.specs.System.Trace.{Entry, Has}
 use Rattle.protocol.specs.System.Trace.Entry.{Got, Sent}
 use Rattle.protocol.specs.Replica.Certificates.{view, target, taken, is_later, new_view_in, change_sent, change_from, checkpoint_in, commit_of, Committed}
-use Rattle.protocol.specs.Replica.State.{State, call_in, root_of}
+use Rattle.protocol.specs.Replica.State.{State, call_in, last_time, root_of}
+use Rattle.protocol.specs.Replica.Owed.{IsSaying, Gives}
 use Rattle.protocol.specs.Replica.RightReplica.{Point, MaySend, Executes, kept_states, reply_of, with_waiting, waiting_after, StartsAt, IsRootWanted}
 use Rattle.protocol.proofs.Words.Options.{some_injective, and_then_some, then_some_gives}
 use Rattle.protocol.proofs.Words.Elements.{has_weaker}
@@ -24,15 +25,17 @@ use Rattle.state_transfer.specs.Transfer.{TransferData}
 use Rattle.protocol.proofs.Words.Reacting.{proceeds_leaves}
 use Rattle.replica_histories.specs.Desk.{Desk, snapshot_of, point_of}
 use Rattle.replica_histories.specs.Logs.{FitsLog}
-use Rattle.replica_histories.specs.Transfers.{FitsOpen, MayAsk, transfer_to, open_number}
+use Rattle.replica_histories.specs.Transfers.{FitsOpen, MayAsk, AsksNext, transfer_to, open_number}
 use Rattle.replica_histories.specs.Events.{behind, IsOnItsWay, IsAsked, MaySayDue, IsReached, IsFetched}
 use Rattle.replica_histories.specs.Views.{begun_log, start_due, NewViewsEnter, NewViewsFit, StartsMayAsk}
 use Rattle.replica_histories.proofs.Words.{given_not}
 use Rattle.replica_histories.proofs.Certified.{committed_there}
+use Rattle.replica_histories.proofs.Ending.{steps_leave}
+use Rattle.replica_histories.proofs.SaidOnce.{saying, no_reply, fetch_once, view_is_new}
 use Rattle.replica_histories.proofs.Giving.{kept_on, on_way, no_proposal, signed_may_send}
 use Rattle.replica_histories.proofs.Entering.{same_point}
 use Rattle.replica_histories.proofs.Resting.{rests}
-use Rattle.replica_histories.proofs.Transfers.{open_stays, open_above, lower_are_fetched, asks_none, transfers_start, transfers_move}
+use Rattle.replica_histories.proofs.Transfers.{open_stays, open_above, lower_are_fetched, asks_none, start_may_ask, move_may_ask}
 use Rattle.replica_histories.proofs.TransfersQuorums.{quorums_begin, quorums_go_on, no_root}
 use Rattle.replica_histories.proofs.Batches.{begun_low}
 use Rattle.replica_histories.proofs.Beginning.{Still, still_brings, still_commit, still_committed, new_above, new_small, begun_high, logged_before, begun_fits}
@@ -109,17 +112,17 @@ module _ (c : Configuration) (me : ℕ) (log : LogData) (past : List Entry) (e :
         go false l = inr (fetched (leb-false (begun_log log new).low desk.state.number l) (nat_lt log.low new.start) refl, none was)
 
     -- the fetch that is due may be said
-    start_rightly : (states : List State) (point : Point) → point.state ≡ desk.state → (message : Message) → Has (λ x. x ≡ message) (start_due desk new) → MaySayDue c (e ∷ past) point message
+    start_rightly : (states : List State) (point : Point) → point.state ≡ desk.state → (message : Message) → Has (λ x. x ≡ message) (start_due desk new) → MaySayDue c me (e ∷ past) point message
     start_rightly states point same message h = go (nat_lt (open_number desk.state.number desk.transfer) new.start) refl h
       where
-        go : (b : Bool) → nat_lt (open_number desk.state.number desk.transfer) new.start ≡ b → Has (λ x. x ≡ message) (cond b (Fetch new.start levels.Root 0 ∷ []) []) → MaySayDue c (e ∷ past) point message
+        go : (b : Bool) → nat_lt (open_number desk.state.number desk.transfer) new.start ≡ b → Has (λ x. x ≡ message) (cond b (Fetch new.start levels.Root 0 ∷ []) []) → MaySayDue c me (e ∷ past) point message
         go false l k = absurd k
         go true l (inr k) = absurd k
         go true l (inl k) =
             let least = open_above c me desk.transfer desk.state.number past opened in
             let over = ltb-true (open_number desk.state.number desk.transfer) new.start l in
             let number = ap (λ (st : State). st.number) same in
-            subst (λ (x : Message). MaySayDue c (e ∷ past) point x) k (new.root, (omega arith, inr (inl (new, t, refl, refl))))
+            subst (λ (x : Message). MaySayDue c me (e ∷ past) point x) k (new.root, (omega arith, inr (inl (new, t, refl, refl))))
 
 -- ---- a new view is got
 
@@ -143,7 +146,7 @@ new_views_enter c me desk log past s new bytes held h t = record {
     replies = λ r k. absurd k;
     asked = λ k kept a. absurd (asks_nothing k kept a);
     checkpoints = λ k x multiple. absurd x;
-    opened = open_stays c me desk.transfer desk.state.number past e refl held.of_desk.opened;
+    opened = open_stays c me desk.transfer desk.state.number past e refl tt held.of_desk.opened;
     fetches = quorums_begin c me (record { before = past; input = e; old = old }) desk.state.number (start_due desk new) held.of_desk.fetches
         (λ k root b quorum above. absurd (given_not (checkpoint_in c e) _ b.brings q.checkpoint));
     rightly = λ message k. start_rightly c me log past e new f q t desk held.of_desk.opened old.snapshots (point_of desk old.snapshots []) refl message k;
@@ -151,6 +154,7 @@ new_views_enter c me desk log past s new bytes held h t = record {
   of_log = fits;
   low = begun_reached c me log past e new f q t desk held.of_desk.opened held.low (λ l. next);
   once = tt;
+  says = fetch_once me (record { before = past; input = e; old = old }) desk.state new.start [] (nat_lt (open_number desk.state.number desk.transfer) new.start) refl (λ k kept given. absurd given);
 }
   where
     e : Entry
@@ -186,7 +190,7 @@ new_views_enter c me desk log past s new bytes held h t = record {
 -- ---- a new view is sent
 
 pub new_views_fit : NewViewsFit
-new_views_fit c me s desk log outputs new bytes none_due none_next primary_is t seen posted f = record {
+new_views_fit c me s desk log outputs new bytes none_due none_next primary_is t seen posted leaf f = record {
   of_desk = record {
     states = f.of_desk.states;
     ran = f.of_desk.ran;
@@ -198,13 +202,14 @@ new_views_fit c me s desk log outputs new bytes none_due none_next primary_is t 
     replies = λ r h. on_way me [] (start_due desk new) outputs e (λ x k. absurd k) (reply_of r.call.client r.kept) (f.of_desk.replies r h);
     asked = λ k kept h. on_way me [] (start_due desk new) outputs e (λ x k. absurd k) (reply_of k kept) (f.of_desk.asked k kept h);
     checkpoints = λ k h multiple. checkpoints k h multiple;
-    opened = open_stays c me desk.transfer desk.state.number past e (asks_none bytes me (NewView new) posted.says refl) f.of_desk.opened;
+    opened = open_stays c me desk.transfer desk.state.number past e (asks_none bytes me (NewView new) posted.says refl) tt f.of_desk.opened;
     fetches = quorums_go_on c me s desk.state.number desk.state.number [] (start_due desk new) outputs e (omega arith) (no_root c past bytes me (NewView new) desk.state.number posted.says refl) (λ x k. absurd k) f.of_desk.fetches;
     rightly = λ message k. start_rightly c me log past e new f.of_log q t desk f.of_desk.opened f.of_desk.states point refl message k;
   };
   of_log = fits;
   low = begun_reached c me log past e new f.of_log q t desk f.of_desk.opened f.low next;
   once = (no_proposal c me past bytes (NewView new) posted.says tt, f.once);
+  says = fetch_once me s desk.state new.start (e ∷ outputs) (nat_lt (open_number desk.state.number desk.transfer) new.start) f.says.begins (λ k kept given. older k kept given);
 }
   where
     past : List Entry
@@ -225,12 +230,17 @@ new_views_fit c me s desk log outputs new bytes none_due none_next primary_is t 
         (let says : change_sent e ≡ 0 = ap (λ (o : Option Body). option_map_or change_from o 0) posted.says in let most = targets_at_most c past e new t in omega arith) none_due
 
     may : MaySend c me past point e bytes
-    may = signed_may_send c me past point e bytes (NewView new) refl posted seen (primary_is, inl t)
+    may = signed_may_send c me past point e bytes (NewView new) refl posted seen (primary_is, inl t) leaf
+        (view_is_new c me past point new bytes (steps_leave c me s outputs point f.of_desk.leaves f.of_desk.steps) posted.says t)
 
     next : log.low ≤ desk.state.number → (v : ℕ) (batch : List ℕ) → Committed c me past v (suc desk.state.number) batch → ⊥
     next l v batch k =
         let known = committed_there c me log past v (suc desk.state.number) batch f.of_log (omega arith) k in
         given_not (logs.committed_batch log (suc desk.state.number)) known.0 known.1 none_next
+
+    older : (k : ℕ) (kept : Kept) → IsSaying me (reply_of k kept) e ⊎ Gives me (reply_of k kept) outputs → kept.timestamp ≤ last_time desk.state k
+    older k kept (inr given) = f.says.replies k kept (inr given)
+    older k kept (inl now) = absurd (no_reply (NewView new) k kept refl (saying me (NewView new) (reply_of k kept) bytes posted.says now))
 
     checkpoints : (k : ℕ) → Executes k [] e ⊎ Has (λ x. Executes k [] x) outputs → k % c.period ≡ 0
         → Has (λ st. (st.number ≡ k) × IsOnItsWay me (start_due desk new) (e ∷ outputs) (Checkpoint k (root_of st))) f.of_desk.states
@@ -250,9 +260,7 @@ starts_may_ask c me s desk log due outputs new pages once above f = go desk.tran
     wanted : IsRootWanted c history new.start new.root
     wanted = inr (once_weaker (λ past e. taken c past e ≡ Some new) (StartsAt c new.start new.root) (λ past e h. (new, h, refl, refl)) history once)
 
-    go : (o : Option TransferData) → open_number desk.state.number o < new.start → FitsOpen c me o desk.state.number history → MayAsk c me (transfer_to o new.start new.root pages) desk.state.number history
-    go None l o = (transfers_start c me new.start new.root pages history wanted, omega arith, l)
-    go (Some t) l o =
-        let newest = o.0.newest in
-        let own = o.1 in
-        (transfers_move c me new.start new.root t history wanted o.0.aims, omega arith, omega arith)
+    go : (o : Option TransferData) → open_number desk.state.number o < new.start → FitsOpen c me o desk.state.number history
+        → MayAsk c me (transfer_to o new.start new.root pages) desk.state.number history × AsksNext c me (transfer_to o new.start new.root pages) desk.state history
+    go None l o = let most = o.0 in (start_may_ask c me desk.state.number new.start new.root pages history wanted l o, inl (omega arith))
+    go (Some t) l o = let newest = o.0.newest in (move_may_ask c me desk.state.number new.start new.root t history wanted l o, inl (omega arith))

@@ -1,5 +1,5 @@
 -- Where a history begins, and where nothing is left without a number.
-use Rattle.std.proofs.Common.{◌≡◌, ℕ, ◌+◌, ◌^◌, ◌≤◌, ◌<◌, ◌⊎◌, inl, inr, Bool, true, false, ◌&&◌, List, [], length, nat_lt, nat_le, refl, ap, subst, arith, Some}
+use Rattle.std.proofs.Common.{◌≡◌, ℕ, ◌+◌, ◌^◌, ◌≤◌, ◌<◌, ◌⊎◌, inl, inr, Bool, true, false, ◌&&◌, List, [], length, nat_lt, nat_le, refl, sym, ap, ◌∙◌, subst, arith, None, is_some}
 use Rattle.std.proofs.lemmas.Bool.{and_parts, and_from, lt-ltb, ltb-true, ltb-false, le-leb, leb-true}
 use Rattle.std.proofs.lemmas.List.{length-drop}
 use Rattle.wire.specs.Lists.{Each}
@@ -7,10 +7,10 @@ use Rattle.protocol.specs.System.Configuration.{Configuration, span}
 use Rattle.protocol.specs.System.Trace.{Entry}
 use Rattle.protocol.specs.Replica.Certificates.{low, is_in_marks, logged}
 use Rattle.protocol.specs.Replica.State.{State}
-use Rattle.protocol.specs.Replica.Owed.{IsFree, IsNumbered}
+use Rattle.protocol.specs.Replica.RightReplica.{IsFree}
+use Rattle.protocol.specs.Replica.Owed.{IsNumbered}
 use Rattle.protocol.proofs.Words.Elements.{each_has, each_mapped}
-use Rattle.replica_histories.specs.Numbers.{unnumbered, HasNumber, HasNone, FirstNumbersFit, next_number, IsNextFree, NumbersAreGiven, NumbersLeaveFewer}
-use Rattle.replica_histories.proofs.Words.{given_not}
+use Rattle.replica_histories.specs.Numbers.{unnumbered, HasNumber, HasNone, FirstNumbersFit, next_number, IsNextFree, NextIsFree, NumbersAreGiven, NumbersLeaveFewer}
 use Rattle.replica_histories.proofs.NumbersFlags.{left_unnumbered, all_numbered}
 
 -- ---- where it begins
@@ -25,7 +25,7 @@ unfolding logged
 first_numbers_fit c me v st = record {
   calls = refl;
   free = λ j above. refl;
-  top = inl (omega arith);
+  full = λ j above below. absurd (omega (arith, above, below));
   rightly = tt;
   numbered = tt;
   known = λ client timestamp h. absurd (nothing_numbered c me v client timestamp h);
@@ -35,7 +35,7 @@ first_numbers_fit c me v st = record {
 -- ---- the next number
 
 -- a smaller number above the low mark is in the marks too
-lower_in_marks : (c : Configuration) (h i j : ℕ) → is_in_marks c h j ≡ true → h < i → i ≤ j → is_in_marks c h i ≡ true
+pub lower_in_marks : (c : Configuration) (h i j : ℕ) → is_in_marks c h j ≡ true → h < i → i ≤ j → is_in_marks c h i ≡ true
 lower_in_marks c h i j e above below =
     let p = and_parts (nat_lt h j && nat_le j (h + span c)) (nat_lt j (2 ^ 48)) e in
     let q = and_parts (nat_lt h j) (nat_le j (h + span c)) p.0 in
@@ -51,26 +51,36 @@ above_low c h j e =
     ltb-true h j (and_parts (nat_lt h j) (nat_le j (h + span c)) p.0).0
 
 -- where a number is free, all that were used are below it
-used_below : (c : Configuration) (me v used : ℕ) (st : State) (history : List Entry) (i : ℕ) → (used ≤ low c me history) ⊎ ((batch : List ℕ) × (logged c me history v used ≡ Some batch)) → IsFree c me history st.number v i → used < i
-used_below c me v used st history i (inl below) free = let above = above_low c (low c me history) i free.0 in omega (arith, below, above)
-used_below c me v used st history i (inr (batch, there)) free = go (nat_lt used i) refl
+used_below : (c : Configuration) (me v used : ℕ) (st : State) (history : List Entry) (i : ℕ) → ((j : ℕ) → low c me history < j → j ≤ used → is_some (logged c me history v j) ≡ true) → IsFree c me history st.number v i → used < i
+used_below c me v used st history i full free = go (nat_lt used i) refl
   where
     go : (b : Bool) → nat_lt used i ≡ b → used < i
     go true e = ltb-true used i e
-    go false e = absurd (given_not (logged c me history v used) batch there (free.2 used (ltb-false used i e)))
+    go false e =
+        let none = free.unused i (omega arith) in
+        let some = full i (above_low c (low c me history) i free.in_marks) (ltb-false used i e) in
+        absurd (let bad : false ≡ true = ap is_some (sym none) ∙ some in cc)
 
 next_free : (c : Configuration) (me v used : ℕ) (st : State) (history : List Entry) (i : ℕ) → used < i → IsFree c me history st.number v i → IsNextFree c me history used st.number
 next_free c me v used st history i below free =
-    let above = above_low c (low c me history) i free.0 in
-    let most = free.1 in
+    let above = above_low c (low c me history) i free.in_marks in
+    let most = free.near in
     let next : next_number c me history used ≤ i = omega (arith, above, below) in
-    (lower_in_marks c (low c me history) (next_number c me history used) i free.0 (omega arith) next, omega (arith, next, most))
+    (lower_in_marks c (low c me history) (next_number c me history used) i free.in_marks (omega arith) next, omega (arith, next, most))
+
+pub next_is_free : NextIsFree
+next_is_free c me v used begun entries st waiting history f next = record {
+  in_marks = next.0;
+  near = next.1;
+  used = λ j above below. f.full j above (omega (arith, above, below));
+  unused = λ j above. f.free j (omega (arith, above));
+}
 
 -- ---- all that waits has a number
 
 pub numbers_are_given : NumbersAreGiven
 numbers_are_given c me v used begun entries st waiting history f all i call has free =
-    let none = all (next_free c me v used st history i (used_below c me v used st history i f.top free) free) in
+    let none = all (next_free c me v used st history i (used_below c me v used st history i f.full free) free) in
     let each = each_mapped (HasNumber c me v history) (λ w. w.call) entries (all_numbered (HasNumber c me v history) (HasNone c me v history) entries none f.rightly) in
     each_has (HasNumber c me v history) waiting call (subst (Each (HasNumber c me v history)) f.calls each) has
 

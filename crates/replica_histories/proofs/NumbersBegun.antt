@@ -1,5 +1,5 @@
 -- A new view begins a view: the requests in its batches have numbers in it, and no others.
-use Rattle.std.proofs.Common.{◌≡◌, ℕ, zero, suc, ◌+◌, ◌-◌, ◌^◌, ◌≤◌, ◌<◌, ◌⊎◌, inl, inr, Bool, true, false, ◌&&◌, List, [], ◌∷◌, length, map, slice_get, refl, sym, ap, ◌∙◌, subst, arith, Option, Some, None, eq-eqb}
+use Rattle.std.proofs.Common.{◌≡◌, ℕ, zero, suc, ◌+◌, ◌-◌, ◌^◌, ◌≤◌, ◌<◌, ◌⊎◌, inl, inr, Bool, true, false, ◌&&◌, List, [], ◌∷◌, length, map, slice_get, is_some, refl, sym, ap, ◌∙◌, subst, arith, Option, Some, None, eq-eqb}
 use Rattle.std.specs.Prelude.{◌==◌, nat_lt, nat_le, option_and_then}
 use Rattle.std.specs.List.{filter_map, flat_map, cons_option}
 use Rattle.std.proofs.lemmas.Bool.{and_from, lt-ltb, le-leb, leb-true, leb-false}
@@ -161,29 +161,23 @@ module _ (c : Configuration) (me : ℕ) (past : List Entry) (e : Entry) (new : N
           let within = p.within in
           absurd (omega (arith, higher, start, within))
 
-  -- whose number is up to the low mark, or it is logged
-  top : (used ≤ low c me now) ⊎ ((batch : List ℕ) × (logged c me now new.view used ≡ Some batch))
-  top = go (nat_le used (low c me now)) refl
+  -- each number above the low mark up to it is logged
+  full : (j : ℕ) → low c me now < j → j ≤ used → is_some (logged c me now new.view j) ≡ true
+  full j over upto =
+      let start = start_low in
+      let most = few.0 in
+      let batch = given_at new.batches (j - new.start - 1) (omega (arith, over, start, upto)) in
+      let small = few.1 j (omega (arith, over, start)) (omega (arith, over, start, upto)) in
+      let marks : is_in_marks c (low c me now) j ≡ true =
+      and_from (nat_lt (low c me now) j && nat_le j (low c me now + span c)) (nat_lt j (2 ^ 48))
+      (and_from (nat_lt (low c me now) j) (nat_le j (low c me now + span c)) (lt-ltb (low c me now) j over) (le-leb j (low c me now + span c) (omega (arith, start, most, upto))))
+      (lt-ltb j (2 ^ 48) small) in
+      let begun : batch_begun new.view j new ≡ Some batch.0 = rw (eq-eqb new.view new.view refl, lt-ltb new.start j (omega (arith, over, start))) batch.1 in
+      let there : begun_proposal c me past e new.view j ≡ Some batch.0 = rw marks (ap (option_and_then (batch_begun new.view j)) enters ∙ begun) in
+      ap is_some (logged_begun j ∙ there)
     where
       few : (length new.batches ≤ span c) × ((i : ℕ) → new.start < i → i - new.start - 1 < length new.batches → i < 2 ^ 48)
       few = few_batches c new (selected_in c e new (takes c me past e new enters).brought)
-
-      here : low c me now < used → (batch : List ℕ) × (logged c me now new.view used ≡ Some batch)
-      here over =
-          let start = start_low in
-          let most = few.0 in
-          let last = given_at new.batches (used - new.start - 1) (omega (arith, over, start)) in
-          let small = few.1 used (omega (arith, over, start)) (omega (arith, over, start)) in
-          let marks : is_in_marks c (low c me now) used ≡ true =
-          and_from (nat_lt (low c me now) used && nat_le used (low c me now + span c)) (nat_lt used (2 ^ 48))
-          (and_from (nat_lt (low c me now) used) (nat_le used (low c me now + span c)) (lt-ltb (low c me now) used over) (le-leb used (low c me now + span c) (omega (arith, start, most))))
-          (lt-ltb used (2 ^ 48) small) in
-          let begun : batch_begun new.view used new ≡ Some last.0 = rw (eq-eqb new.view new.view refl, lt-ltb new.start used (omega (arith, over, start))) last.1 in
-          (last.0, logged_begun used ∙ rw marks (ap (option_and_then (batch_begun new.view used)) enters ∙ begun))
-
-      go : (b : Bool) → nat_le used (low c me now) ≡ b → (used ≤ low c me now) ⊎ ((batch : List ℕ) × (logged c me now new.view used ≡ Some batch))
-      go true h = inl (leb-true used (low c me now) h)
-      go false h = let over = leb-false used (low c me now) h in inr (here (omega (arith, over)))
 
   -- ---- what has a number
 
@@ -225,7 +219,7 @@ pub views_begin : ViewsBegin
 views_begin c me st waiting past e new enters none differ = record {
   calls = calls_arrived (begun_in c new.batches) waiting;
   free = free c me past e new enters none;
-  top = top c me past e new enters none;
+  full = full c me past e new enters none;
   rightly = each_mapped (IsRightly c me new.view (e ∷ past)) (arrived (begun_in c new.batches)) waiting
       (each_where (λ call. IsRightly c me new.view (e ∷ past) (arrived (begun_in c new.batches) call)) waiting (λ call has. rightly c me past e new enters none call));
   numbered = each_begun c me past e new enters none;

@@ -1,5 +1,5 @@
 -- The oldest requests without a number get the next one.
-use Rattle.std.proofs.Common.{◌≡◌, ◌≢◌, ℕ, ◌<◌, ◌⊎◌, inl, inr, Bool, true, false, not, List, ◌∷◌, ◌++◌, take, drop, refl, sym, ap, ◌∙◌, subst, arith, Some, None, eqb-true, eq-eqb, AllPairs}
+use Rattle.std.proofs.Common.{◌≡◌, ◌≢◌, ℕ, ◌≤◌, ◌<◌, ◌⊎◌, inl, inr, Bool, true, false, not, List, ◌∷◌, ◌++◌, take, drop, refl, sym, ap, ◌∙◌, subst, arith, Some, None, is_some, eqb-true, eq-eqb, AllPairs}
 use Rattle.std.specs.Prelude.{◌==◌, option_and_then}
 use Rattle.std.proofs.lemmas.Bool.{eqb-false}
 use Rattle.std.proofs.lemmas.List.{take-append-drop}
@@ -11,6 +11,8 @@ use Rattle.protocol.specs.System.Trace.{Entry, Has}
 use Rattle.protocol.specs.System.Trace.Entry.{Sent}
 use Rattle.protocol.specs.Replica.Certificates.{taken, low, is_in_marks, are_genuine, batch_from, batch_begun, begun_proposal, entry_proposal, proposal, logged}
 use Rattle.protocol.specs.Replica.State.{State, Call}
+use Rattle.protocol.specs.Replica.RightReplica.{IsFree}
+use Rattle.protocol.proofs.Agreement.Marks.{low_grows}
 use Rattle.protocol.specs.Replica.Owed.{IsNumbered, HasRequest, AreDifferent, NumbersOnce}
 use Rattle.protocol.proofs.Words.Options.{some_injective, or_else_second}
 use Rattle.protocol.proofs.Words.Elements.{has_some, has_weaker, has_filter, has_map, has_mapped, each_has, each_weaker}
@@ -37,7 +39,7 @@ logged_here c me v i batch bytes past own genuine says free =
     proposed = rw (eq-eqb v v refl, eq-eqb i i refl, eq-eqb me (primary c v) (sym own), genuine) refl
 
 module _ (c : Configuration) (me v used i most : ℕ) (begun : List BegunCall) (entries : List Waiting) (st : State) (waiting : List Call) (batch bytes : List ℕ) (past : List Entry)
-    (own : primary c v ≡ me) (above : used < i) (genuine : are_genuine c me batch ≡ true) (spells : AreCalls c (requests_of batch) (calls_of (take most (unnumbered entries))))
+    (own : primary c v ≡ me) (next : IsFree c me past st.number v i) (genuine : are_genuine c me batch ≡ true) (spells : AreCalls c (requests_of batch) (calls_of (take most (unnumbered entries))))
     (says : said bytes ≡ Some (record { sender = me; message = PrePrepare v i batch })) (f : FitsNumbers c me v used begun entries st waiting past) where
   abbrev oldest : List Waiting
   oldest = take most (unnumbered entries)
@@ -70,7 +72,7 @@ module _ (c : Configuration) (me v used i most : ℕ) (begun : List BegunCall) (
   -- ---- the history
 
   there : logged c me now v i ≡ Some batch
-  there = logged_here c me v i batch bytes past own genuine says (f.free i above)
+  there = logged_here c me v i batch bytes past own genuine says (next.unused i (omega arith))
 
   elsewhere : (j : ℕ) → j ≢ i → logged c me now v j ≡ logged c me past v j
   elsewhere j ne = logged_elsewhere c me v i j batch bytes past says (λ free. ne)
@@ -140,13 +142,24 @@ module _ (c : Configuration) (me v used i most : ℕ) (begun : List BegunCall) (
       (has_weaker (λ (w : Waiting). IsAt client timestamp w.call) (λ w. Covers client timestamp w.call) (λ w at. (at.0, let same = at.1 in omega (arith, same))) oldest
       (has_map (IsAt client timestamp) (λ (w : Waiting). w.call) oldest new)))))))
 
+  -- no number is left out
+  full : (j : ℕ) → low c me now < j → j ≤ i → is_some (logged c me now v j) ≡ true
+  full j over upto = go (j == i) refl
+    where
+      go : (b : Bool) → (j == i) ≡ b → is_some (logged c me now v j) ≡ true
+      go true e = ap is_some (ap (logged c me now v) (eqb-true j i e) ∙ there)
+      go false e =
+          let more = low_grows c me (Sent me bytes) past in
+          let other = eqb-false j i e in
+          ap is_some (elsewhere j other) ∙ next.used j (omega (arith, over, more)) (omega (arith, upto, other))
+
   pub given : NumbersOnce c me past (Sent me bytes) × FitsNumbers c me v i begun (with_numbered most entries) st waiting now
   given = (
     once,
     record {
       calls = calls_numbered most entries ∙ f.calls;
-      free = λ j higher. elsewhere j (λ e. absurd (omega (arith, e, higher))) ∙ f.free j (omega (arith, above, higher));
-      top = inr (batch, there);
+      free = λ j higher. elsewhere j (λ e. absurd (omega (arith, e, higher))) ∙ next.unused j (omega (arith, higher));
+      full = full;
       rightly = rightly;
       numbered = each_weaker (λ b. IsNumbered c me past v b.client b.timestamp) (λ b. IsNumbered c me now v b.client b.timestamp) (λ b. stays b.client b.timestamp) begun f.numbered;
       known = λ client timestamp h. known client timestamp (numbered_back client timestamp h);
@@ -155,4 +168,4 @@ module _ (c : Configuration) (me v used i most : ℕ) (begun : List BegunCall) (
   )
 
 pub numbers_fit : NumbersFit
-numbers_fit c me v used i most begun entries st waiting batch bytes past own above genuine spells says f = given c me v used i most begun entries st waiting batch bytes past own above genuine spells says f
+numbers_fit c me v used i most begun entries st waiting batch bytes past own next genuine spells says f = given c me v used i most begun entries st waiting batch bytes past own next genuine spells says f

@@ -1,5 +1,5 @@
 -- Entries that give no number.
-use Rattle.std.proofs.Common.{◌≡◌, ◌≢◌, ℕ, ◌≤◌, ◌⊎◌, inl, inr, true, false, ◌&&◌, List, [], ◌∷◌, refl, sym, arith, ap, ◌∙◌, subst, Option, Some, None, eqb-true}
+use Rattle.std.proofs.Common.{◌≡◌, ◌≢◌, ℕ, ◌≤◌, ◌⊎◌, inl, inr, true, false, ◌&&◌, List, [], ◌∷◌, refl, sym, arith, ap, ◌∙◌, subst, Option, Some, None, is_some, eqb-true}
 use Rattle.std.specs.Prelude.{◌==◌, option_and_then}
 use Rattle.std.specs.Option.{option_map_or}
 use Rattle.std.proofs.lemmas.Bool.{and_parts}
@@ -77,17 +77,13 @@ pub numbers_stay : NumbersStay
 numbers_stay c me v used begun entries st waiting past e k f = record {
   calls = f.calls;
   free = λ j above. k.batches j ∙ f.free j above;
-  top = top f.top;
+  full = λ j above below. let more = low_grows c me e past in ap is_some (k.batches j) ∙ f.full j (omega (arith, above, more)) below;
   rightly = each_weaker (IsRightly c me v past) (IsRightly c me v (e ∷ past))
       (λ w. either_weaker w.numbered (k.numbered w.call.client w.call.timestamp).1 (λ none h. none ((k.numbered w.call.client w.call.timestamp).0 h))) entries f.rightly;
   numbered = each_weaker (λ b. IsNumbered c me past v b.client b.timestamp) (λ b. IsNumbered c me (e ∷ past) v b.client b.timestamp) (λ b. (k.numbered b.client b.timestamp).1) begun f.numbered;
   known = λ client timestamp h. f.known client timestamp ((k.numbered client timestamp).0 h);
   differ = f.differ;
 }
-  where
-    top : (used ≤ low c me past) ⊎ ((batch : List ℕ) × (logged c me past v used ≡ Some batch)) → (used ≤ low c me (e ∷ past)) ⊎ ((batch : List ℕ) × (logged c me (e ∷ past) v used ≡ Some batch))
-    top (inl below) = let more = low_grows c me e past in inl (omega (arith, below, more))
-    top (inr (batch, there)) = inr (batch, k.batches used ∙ there)
 
 -- ---- what is no pre-prepare that is sent
 

@@ -89,7 +89,7 @@ module _ (c : Configuration) (me v used : ℕ) (begun : List BegunCall) (entries
     calls = map-append (λ (w : Waiting). w.call) (filter (λ w. is_other w.call) entries) (arrived begun call ∷ [])
         ∙ ap (λ (calls : List Call). calls ++ call ∷ []) (mapped_kept (λ (w : Waiting). w.call) is_other entries);
     free = f.free;
-    top = f.top;
+    full = f.full;
     rightly = each_with (IsRightly c me v history) (filter (λ w. is_other w.call) entries) (arrived begun call)
         (each_filtered (IsRightly c me v history) (IsRightly c me v history) (λ w. is_other w.call) (λ w e h. h) entries f.rightly) rightly;
     numbered = f.numbered;
@@ -152,7 +152,7 @@ pub states_fit : StatesFit
 states_fit c me v used begun entries old new waiting history grows f = record {
   calls = mapped_kept (λ (w : Waiting). w.call) (waits_on new) entries ∙ ap (still_waiting new) f.calls;
   free = f.free;
-  top = f.top;
+  full = f.full;
   rightly = each_filtered (IsRightly c me v history) (IsRightly c me v history) (λ w. waits_on new w.call) (λ w e h. h) entries f.rightly;
   numbered = f.numbered;
   known = λ client timestamp h. either_known (f.known client timestamp h) (known_behind old new waiting client timestamp grows);
@@ -167,7 +167,7 @@ states_leave_no_more new entries = fewer_unnumbered (λ w. waits_on new w.call) 
 abbrev time_of : Option Kept → ℕ
 time_of o = option_map_or (λ (kept : Kept). kept.timestamp) o 0
 
-call_raises : (st : State) (number : ℕ) (call : Call) → NoneFalls st (run_call st number call)
+pub call_raises : (st : State) (number : ℕ) (call : Call) → NoneFalls st (run_call st number call)
 call_raises st number call client = go (runs st call) refl
   where
     ran : runs st call ≡ true
@@ -187,7 +187,7 @@ call_raises st number call client = go (runs st call) refl
     go true e = ran e (last_put st.replies call.client client (kept_by st number call))
     go false e = omega arith
 
-frames_raise : (c : Configuration) (number : ℕ) (frames : List (List ℕ)) (st : State) → NoneFalls st (fold (run_frame c number) st frames)
+pub frames_raise : (c : Configuration) (number : ℕ) (frames : List (List ℕ)) (st : State) → NoneFalls st (fold (run_frame c number) st frames)
 frames_raise c number [] st client = omega arith
 frames_raise c number (frame ∷ frames) st client =
     let first : last_time st client ≤ last_time (run_frame c number st frame) client = one (call_of c frame) in

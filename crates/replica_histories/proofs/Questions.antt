@@ -1,14 +1,19 @@
--- What an input asks: a part or a read.
-use Rattle.std.proofs.Common.{◌≡◌, ℕ, true, false, List, None, Some, sym, ap, ◌∙◌}
+-- What an input asks: a part, a read, or whether the replica has to move.
+use Rattle.std.proofs.Common.{◌≡◌, ℕ, inl, inr, Bool, true, false, List, Option, None, Some, refl, sym, ap, ◌∙◌}
 use Rattle.tuple_codec.specs.Operations.{Operation}
 use Rattle.terms.specs.declared.state.Level.{Level}
-use Rattle.wire.specs.Messages.{BodyData as Body, fetch as Fetch}
-use Rattle.protocol.specs.System.Configuration.{Configuration}
+use Rattle.wire.specs.Messages.{BodyData as Body, fetch as Fetch, meta as Meta, page as Page, MessageData as Message, request as Request, view_change as ViewChange}
+use Rattle.signing.specs.Heard.{heard}
+use Rattle.protocol.specs.System.Configuration.{Configuration, members}
 use Rattle.protocol.specs.System.Trace.{Entry, Hears}
 use Rattle.protocol.specs.System.Trace.Entry.{Invoke, Got, Tick, Executed, Installed, Sent, Accepted}
+use Rattle.protocol.specs.Replica.Owed.{HasToMove}
 use Rattle.protocol.specs.Replica.RightReplica.{Point}
-use Rattle.protocol.specs.Replica.Owed.{place_from}
-use Rattle.replica_histories.specs.Questions.{is_question, has_question, brings_question, OthersOweNone, AnswersReads, read_from}
+use Rattle.protocol.specs.Replica.State.{Call}
+use Rattle.protocol.specs.Replica.Transfers.{place_from}
+use Rattle.protocol.proofs.Words.Moving.{no_time}
+use Rattle.protocol.proofs.Words.Options.{some_injective}
+use Rattle.replica_histories.specs.Questions.{is_question, is_part, has_question, brings_question, OthersOweNone, AnswersReads, AnswersDigests, AnswersPages, read_from, asks_part, has_part, brings_part, MovesOn, OthersOweNoPart}
 use Rattle.replica_histories.specs.TransfersAnswers.{AnswersFetches}
 use Rattle.replica_histories.proofs.TransfersAnswering.{hears_one}
 
@@ -22,11 +27,104 @@ asks_so c me body before (Installed x y z) h = absurd h
 asks_so c me body before (Sent x y) h = absurd h
 asks_so c me body before (Accepted x y z) h = absurd h
 
-pub others_owe_none : OthersOweNone
-others_owe_none c me before input outputs old none = (
-  λ s k index level hears st is. absurd (let bad : false ≡ true = sym none ∙ asks_so c me (record { sender = s; message = Fetch k level index }) before input hears in cc),
-  λ client t op hears is. absurd (let bad : false ≡ true = sym none ∙ asks_so c me (read_from client t op) before input hears in cc),
+-- a body is a view change
+abbrev pub is_change : Body → Bool
+is_change body = elim body.message [ ViewChange vc ↦ true | _ ↦ false ]
+
+-- or whether it asks for a part or a read
+part_so : (c : Configuration) (me : ℕ) (body : Body) (before : List Entry) (input : Entry) → Hears c me body before input → brings_part c me input ≡ asks_part body
+part_so c me body before (Got p bytes) h = ap has_part h
+part_so c me body before (Invoke x y z) h = absurd h
+part_so c me body before (Tick x) h = absurd h
+part_so c me body before (Executed x y z) h = absurd h
+part_so c me body before (Installed x y z) h = absurd h
+part_so c me body before (Sent x y) h = absurd h
+part_so c me body before (Accepted x y z) h = absurd h
+
+pub others_owe_no_part : OthersOweNoPart
+others_owe_no_part c me before input outputs old executed none = (
+  λ s k index level hears st is. absurd (let bad : false ≡ true = sym none ∙ part_so c me (record { sender = s; message = Fetch k level index }) before input hears in cc),
+  λ client t op hears is. absurd (let bad : false ≡ true = sym none ∙ part_so c me (read_from client t op) before input hears in cc),
+  λ s k index level digests hears awaited. absurd (let bad : false ≡ true = sym none ∙ part_so c me (record { sender = s; message = Meta k level index digests }) before input hears in cc),
+  λ s k index text hears awaited. absurd (let bad : false ≡ true = sym none ∙ part_so c me (record { sender = s; message = Page k index text }) before input hears in cc),
 )
+
+-- Bytes that are heard to ask nothing give no reason to move.
+no_question : (c : Configuration) (me p : ℕ) (before : List Entry) (bytes : List ℕ) (waiting : List Call) (v : ℕ) → has_question (heard (members c) me bytes) ≡ false → HasToMove c me before (Got p bytes) waiting v → ⊥
+no_question c me p before bytes waiting v none (inl t) = no_time c me p before bytes waiting v t
+no_question c me p before bytes waiting v none (inr (taken, joins)) = absurd (let bad : false ≡ true = sym none ∙ ap has_question taken.2 in cc)
+
+pub no_move_owed : (c : Configuration) (me : ℕ) (before : List Entry) (input : Entry) (outputs : List Entry) (old : Point) → brings_question c me input ≡ false → MovesOn c me before input outputs old
+no_move_owed c me before (Got p bytes) outputs old none = λ vc other reason may within says. absurd (no_question c me p before bytes old.waiting vc.view none reason)
+no_move_owed c me before (Invoke x y z) outputs old none = absurd cc
+no_move_owed c me before (Tick x) outputs old none = absurd cc
+no_move_owed c me before (Executed x y z) outputs old none = absurd cc
+no_move_owed c me before (Installed x y z) outputs old none = absurd cc
+no_move_owed c me before (Sent x y) outputs old none = absurd cc
+no_move_owed c me before (Accepted x y z) outputs old none = absurd cc
+
+-- what asks nothing asks for no part
+part_of : (sender : ℕ) (message : Message) → is_question (record { sender = sender; message = message }) ≡ false → asks_part (record { sender = sender; message = message }) ≡ false
+part_of sender (Request t mode op) h = h
+part_of sender (Fetch k level index) h = h
+part_of sender (Meta k level index digests) h = h
+part_of sender (Page k index text) h = h
+part_of sender _ h = refl
+
+no_part : (c : Configuration) (me : ℕ) (input : Entry) → brings_question c me input ≡ false → brings_part c me input ≡ false
+no_part c me (Got p bytes) none = go (heard (members c) me bytes) none
+  where
+    go : (o : Option Body) → has_question o ≡ false → has_part o ≡ false
+    go None h = refl
+    go (Some body) h = part_of body.sender body.message h
+no_part c me _ none = refl
+
+pub others_owe_none : OthersOweNone
+others_owe_none c me before input outputs old executed none =
+    let parts = others_owe_no_part c me before input outputs old executed (no_part c me input none) in (parts.0, parts.1, parts.2, parts.3, no_move_owed c me before input outputs old none)
+
+-- Where a part or a read is asked for, no move is.
+no_change_heard : (c : Configuration) (me p : ℕ) (body : Body) (before : List Entry) (bytes : List ℕ) (waiting : List Call) (v : ℕ) → heard (members c) me bytes ≡ Some body → is_change body ≡ false
+    → HasToMove c me before (Got p bytes) waiting v → ⊥
+no_change_heard c me p body before bytes waiting v hears none (inl t) = no_time c me p before bytes waiting v t
+no_change_heard c me p body before bytes waiting v hears none (inr (taken, joins)) =
+    absurd (let bad : false ≡ true = sym none ∙ ap is_change (some_injective body (record { sender = taken.0; message = ViewChange taken.1 }) (sym hears ∙ taken.2)) in cc)
+
+pub hears_no_move : (c : Configuration) (me : ℕ) (body : Body) (before : List Entry) (input : Entry) (outputs : List Entry) (old : Point) → Hears c me body before input → is_change body ≡ false
+    → MovesOn c me before input outputs old
+hears_no_move c me body before (Got p bytes) outputs old hears none = λ vc other reason may within says. absurd (no_change_heard c me p body before bytes old.waiting vc.view hears none reason)
+hears_no_move c me body before _ outputs old hears none = absurd hears
+
+-- ---- what is no part owes nothing to a transfer
+
+module _ (c : Configuration) (me : ℕ) (body : Body) (before : List Entry) (input : Entry) (hears : Hears c me body before input) where
+  -- what else the input brings is a part or none as that is
+  same_kind : (other : Body) → Hears c me other before input → is_part body ≡ is_part other
+  same_kind other h = ap is_part (hears_one c me body other before input hears h)
+
+  pub others_bring_no_part : (outputs : List Entry) (old : Point) (executed : ℕ) → is_part body ≡ false → AnswersDigests c me before input outputs old executed × AnswersPages c me before input outputs old executed
+  others_bring_no_part outputs old executed none = (
+    λ s k index level digests h awaited. absurd (let bad : false ≡ true = sym none ∙ same_kind (record { sender = s; message = Meta k level index digests }) h in cc),
+    λ s k index text h awaited. absurd (let bad : false ≡ true = sym none ∙ same_kind (record { sender = s; message = Page k index text }) h in cc),
+  )
+
+  -- and a part asks for nothing else
+  part_only : (b : Body) → is_part b ≡ true → is_change b ≡ false
+  part_only b part = go b.sender b.message part
+    where
+      go : (sender : ℕ) (message : Message) → is_part (record { sender = sender; message = message }) ≡ true → is_change (record { sender = sender; message = message }) ≡ false
+      go sender (Meta k level index digests) h = refl
+      go sender (Page k index text) h = refl
+      go sender _ h = absurd cc
+
+  pub parts_ask_nothing : (outputs : List Entry) (old : Point) → is_part body ≡ true → AnswersFetches c me before input outputs old × AnswersReads c me before input outputs old × MovesOn c me before input outputs old
+  parts_ask_nothing outputs old part = (
+    λ s k index level h st is. absurd (let bad : true ≡ false = sym part ∙ same_kind (record { sender = s; message = Fetch k level index }) h in cc),
+    λ client t op h is. absurd (let bad : true ≡ false = sym part ∙ same_kind (read_from client t op) h in cc),
+    hears_no_move c me body before input outputs old hears (part_only body part),
+  )
+
+-- ---- fetches and reads
 
 -- a fetch is no read, and a read is no fetch
 pub fetches_owe_no_read : (c : Configuration) (me s k index : ℕ) (level : Level) (before : List Entry) (input : Entry) (outputs : List Entry) (old : Point) → Hears c me (record { sender = s; message = Fetch k level index }) before input

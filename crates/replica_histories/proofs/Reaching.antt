@@ -9,7 +9,7 @@ use Rattle.protocol.specs.System.Configuration.{Configuration}
 use Rattle.protocol.specs.System.Trace.{Entry, Has}
 use Rattle.protocol.specs.Replica.Owed.{IsSaying}
 use Rattle.state_transfer.specs.Transfer.{TransferData}
-use Rattle.replica_histories.specs.Transfers.{FitsOpen, open_number}
+use Rattle.replica_histories.specs.Transfers.{MayAsk, FitsOpen, open_number}
 use Rattle.replica_histories.specs.Events.{IsFetched, IsReached}
 use Rattle.replica_histories.proofs.Words.{below_marks}
 use Rattle.replica_histories.proofs.Certified.{Same, committed_back}
@@ -49,4 +49,13 @@ reached_open c me mark number open_one history (inr h) f = go h.0
   where
     go : IsFetched mark [] history → mark ≤ open_number number open_one
     go (inl l) = let most = fetched_most c me open_one number history f in omega arith
+    go (inr d) = absurd d
+
+-- nor is a transfer that may ask
+pub reached_asking : (c : Configuration) (me mark number : ℕ) (t : TransferData) (history : List Entry) → IsReached c me mark number [] history → MayAsk c me t number history → mark ≤ t.number
+reached_asking c me mark number t history (inl l) m = let above = m.ahead in omega arith
+reached_asking c me mark number t history (inr h) m = go h.0
+  where
+    go : IsFetched mark [] history → mark ≤ t.number
+    go (inl l) = let most = m.newest in omega arith
     go (inr d) = absurd d

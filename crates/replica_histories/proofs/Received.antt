@@ -8,9 +8,8 @@ use Rattle.protocol.specs.System.Configuration.{Configuration}
 use Rattle.protocol.specs.System.Trace.{Once}
 use Rattle.protocol.specs.System.Trace.Entry.{Got, Sent}
 use Rattle.protocol.specs.Replica.Selection.{is_within, signed_change}
-use Rattle.protocol.specs.Replica.Certificates.{view}
+use Rattle.protocol.specs.Replica.Certificates.{view, change_taken, latest_change}
 use Rattle.protocol.specs.Replica.RightReplica.{HasSeen}
-use Rattle.protocol.specs.Replica.Owed.{change_taken, latest_change}
 use Rattle.protocol.proofs.Words.Options.{some_injective}
 use Rattle.view_change.specs.declared.change_fault.ChangeFault.{ChangeFault}
 use Rattle.view_change.specs.declared.change_fault.ChangeFault.TheVariants.{WrongView, OutOfBounds, Duplicate}
@@ -19,7 +18,7 @@ use Rattle.replica_histories.specs.Received.{held_view, ReceivedBegin, ReceivedS
 
 -- ---- places
 
-none_held : (n s : ℕ) → held_of (replicate n None) s ≡ None
+pub none_held : (n s : ℕ) → held_of (replicate n None) s ≡ None
 none_held zero s = refl
 none_held (suc n) zero = refl
 none_held (suc n) (suc s) = none_held n s

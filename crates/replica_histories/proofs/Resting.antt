@@ -1,5 +1,5 @@
 -- Between events nothing is left owed, and an input that changes nothing passes.
-use Rattle.std.proofs.Common.{◌≡◌, ℕ, suc, inl, inr, true, List, [], ◌∷◌, ◌++◌, refl, sym, ap, ◌∙◌, subst, Option, Some, None, reverse}
+use Rattle.std.proofs.Common.{◌≡◌, ℕ, suc, ◌<◌, inl, inr, true, List, [], ◌∷◌, ◌++◌, refl, sym, ap, ◌∙◌, subst, arith, Option, Some, None, is_some, reverse}
 use mathlib.Core.List.{reverse-cons}
 use Rattle.std.proofs.lemmas.List.{append_assoc}
 use Rattle.ordering.specs.Log as logs
@@ -9,19 +9,19 @@ use Rattle.protocol.specs.System.Trace.{Entry, is_output, Has}
 use Rattle.protocol.specs.System.Trace.Entry.{Got, Tick}
 use Rattle.protocol.specs.Replica.Certificates.{is_active_in, low, is_in_marks, logged, Committed}
 use Rattle.protocol.specs.Replica.State.{State, Call}
-use Rattle.protocol.specs.Replica.RightReplica.{Point, first_point}
-use Rattle.protocol.specs.Replica.Owed.{IsFree, IsOfView, IsNumbered, Owes, Proceeds}
+use Rattle.protocol.specs.Replica.RightReplica.{Point, first_point, IsFree}
+use Rattle.protocol.specs.Replica.Owed.{IsOfView, IsNumbered, Owes, Proceeds}
 use Rattle.protocol.proofs.Words.Reacting.{one_of}
 use Rattle.protocol.proofs.Agreement.Voting.{logged_stays}
 use Rattle.replica_histories.specs.Logs.{FitsLog}
 use Rattle.replica_histories.specs.Desk.{Desk}
 use Rattle.replica_histories.specs.Events.{Fits, IsSettled, start_at, HeldAreSettled}
 use Rattle.replica_histories.specs.Inputs.{InputsPass, TicksPass}
-use Rattle.replica_histories.proofs.Words.{given_not, primary_same}
+use Rattle.replica_histories.proofs.Words.{given_not, marks_are, primary_same}
+use Rattle.replica_histories.proofs.Numbers.{lower_in_marks}
 use Rattle.replica_histories.proofs.Certified.{active, committed_here}
 use Rattle.replica_histories.proofs.Ending.{events_end}
 use Rattle.replica_histories.proofs.Entering.{inputs_fit, ticks_fit}
-use Rattle.replica_histories.proofs.Questions.{others_owe_none}
 
 -- ---- what an event leaves
 
@@ -94,18 +94,36 @@ held_are_settled c me desk log history held = record {
 
 -- ---- inputs that pass
 
--- what is settled stays so behind an entry that leaves the low mark
-settled_goes : (c : Configuration) (me : ℕ) (desk : Desk) (log : LogData) (past : List Entry) (e : Entry) → low c me (e ∷ past) ≡ low c me past → IsSettled c me desk log past → IsSettled c me desk log (e ∷ past)
-settled_goes c me desk log past e same s = record {
+-- what is settled stays so behind an entry that leaves the log
+settled_goes : (c : Configuration) (me : ℕ) (desk : Desk) (log : LogData) (past : List Entry) (e : Entry) → FitsLog c me log past → FitsLog c me log (e ∷ past) → IsSettled c me desk log past → IsSettled c me desk log (e ∷ past)
+settled_goes c me desk log past e f g s = record {
   prepares = s.prepares;
   commits = s.commits;
   executes = s.executes;
-  numbers = λ i call is_active own waits free. on call (s.numbers i call is_active own waits (ap (λ (h : ℕ). is_in_marks c h i) (sym same) ∙ free.0, free.1, λ j above. none j (free.2 j above) (logged c me past log.view j) refl));
+  numbers = λ i call is_active own waits free. on call (s.numbers i call is_active own waits (was_free i free));
 }
   where
+    same : low c me (e ∷ past) ≡ low c me past
+    same = g.low ∙ sym f.low
+
+    -- what is logged in the marks is what the log has, before and behind
+    in_log : (i j : ℕ) → IsFree c me (e ∷ past) desk.state.number log.view i → low c me past < j → j < i → is_some (logged c me past log.view j) ≡ true
+    in_log i j free above below =
+        let over : low c me (e ∷ past) < j = subst (λ (h : ℕ). h < j) (sym same) above in
+        let inside : logs.is_in_marks log j ≡ true = sym (marks_are c me log (e ∷ past) j g) ∙ lower_in_marks c (low c me (e ∷ past)) j i free.in_marks over (omega (arith, below)) in
+        ap is_some (f.batches j inside ∙ sym (g.batches j inside)) ∙ free.used j over below
+
     none : (j : ℕ) → logged c me (e ∷ past) log.view j ≡ None → (o : Option (List ℕ)) → logged c me past log.view j ≡ o → o ≡ None
     none j h None k = refl
     none j h (Some batch) k = absurd (given_not (logged c me (e ∷ past) log.view j) batch (logged_stays c me log.view j batch e past k) h)
+
+    was_free : (i : ℕ) → IsFree c me (e ∷ past) desk.state.number log.view i → IsFree c me past desk.state.number log.view i
+    was_free i free = record {
+      in_marks = ap (λ (h : ℕ). is_in_marks c h i) (sym same) ∙ free.in_marks;
+      near = free.near;
+      used = λ j above below. in_log i j free above below;
+      unused = λ j above. none j (free.unused j above) (logged c me past log.view j) refl;
+    }
 
     of_view : (batch : List ℕ) → IsOfView c me past log.view batch → IsOfView c me (e ∷ past) log.view batch
     of_view batch (inl l) = inl (l.0, logged_stays c me log.view l.0 batch e past l.1)
@@ -117,10 +135,10 @@ settled_goes c me desk log past e same s = record {
 pub inputs_pass : InputsPass
 inputs_pass c me desk log past bytes held none e answered =
     let f : Fits c me (start_at c me desk log past held (Got me bytes)) desk log [] [] = inputs_fit c me desk desk log log [] past bytes held none e in
-    events_end c me desk desk log log past [] (Got me bytes) held f (settled_goes c me desk log past (Got me bytes) (f.of_log.low ∙ sym held.of_log.fits.low) (held_are_settled c me desk log past held)) answered refl (inl refl)
+    events_end c me desk desk log log past [] (Got me bytes) held f (settled_goes c me desk log past (Got me bytes) held.of_log.fits f.of_log (held_are_settled c me desk log past held)) answered refl (inl refl)
 
 pub ticks_pass : TicksPass
-ticks_pass c me desk log past held =
+ticks_pass c me desk log past held answered =
     let f : Fits c me (start_at c me desk log past held (Tick me)) desk log [] [] = ticks_fit c me desk log past held in
-    events_end c me desk desk log log past [] (Tick me) held f (settled_goes c me desk log past (Tick me) (f.of_log.low ∙ sym held.of_log.fits.low) (held_are_settled c me desk log past held))
-    (others_owe_none c me past (Tick me) [] held.of_desk.point refl) refl (inl refl)
+    events_end c me desk desk log log past [] (Tick me) held f (settled_goes c me desk log past (Tick me) held.of_log.fits f.of_log (held_are_settled c me desk log past held))
+    answered refl (inl refl)

@@ -14,6 +14,7 @@ use Rattle.replica_histories.specs.Logs.{above_mark, AreLatest, FitsViews, FitsL
 use Rattle.replica_histories.specs.Histories.{first_desk, FirstHold, HeldAreReplicas}
 use Rattle.replica_histories.proofs.Words.{gated}
 use Rattle.replica_histories.proofs.Latest.{none_latest}
+use Rattle.replica_histories.proofs.TransfersTaking.{nothing_at_first}
 use Rattle.replica_histories.proofs.TransfersQuorums.{quorums_first}
 
 empty : (n i : ℕ) → slice_index_or (replicate n no_row) i no_row ≡ no_row
@@ -91,7 +92,7 @@ first_hold c me some few mine fits = record {
     is = refl;
     kept = refl;
     frames = λ frame h. absurd h;
-    opened = omega arith;
+    opened = (omega arith, nothing_at_first c me);
     fetches = quorums_first c first_desk.state.number;
   };
   of_log = record {

@@ -1,10 +1,9 @@
 -- What a transfer wants and has is what its replica's history says.
-use Rattle.std.proofs.Common.{◌≡◌, ◌≢◌, ℕ, zero, suc, ◌+◌, ◌*◌, ◌/◌, ◌%◌, ◌≤◌, ◌<◌, ◌⊎◌, inl, inr, Bool, true, false, List, [], ◌∷◌, length, replicate, set, get_or, refl, sym, ap, ◌∙◌, subst, arith, Option, Some, None, eqb-true, slice_get}
-use Rattle.std.specs.Prelude.{◌==◌, nat_lt, bytes_eq, option_and_then}
+use Rattle.std.proofs.Common.{◌≡◌, ℕ, zero, suc, ◌+◌, ◌*◌, ◌/◌, ◌%◌, ◌≤◌, ◌<◌, ◌⊎◌, inl, inr, Bool, true, false, List, [], ◌∷◌, length, replicate, set, get_or, refl, sym, ap, ◌∙◌, subst, arith, Option, Some, None, eqb-true, slice_get}
+use Rattle.std.specs.Prelude.{nat_lt, bytes_eq, option_and_then}
 use Rattle.std.specs.Bool.{then_some}
 use Rattle.std.specs.Option.{option_map_or}
-use Rattle.std.proofs.lemmas.Bool.{eqb-false, ltb-true, ltb-false, leb-true}
-use Rattle.std.proofs.lemmas.List.{get_or-set_same, get_or-set_other, get_or_past}
+use Rattle.std.proofs.lemmas.Bool.{ltb-true, ltb-false, leb-true}
 use Rattle.std.proofs.lemmas.Slice.Eq.{bytes_eq-Decides}
 use Rattle.sha2.specs.Sha256.{sha256}
 use Rattle.quorum.specs.Quorum.{count_below}
@@ -19,17 +18,20 @@ use Rattle.wire.specs.Words.{said}
 use Rattle.wire.proofs.Saying.{says_what_is_spelled}
 use Rattle.signing.specs.Heard.{heard}
 use Rattle.protocol.specs.System.Configuration.{Configuration, members, replicas}
-use Rattle.protocol.specs.System.Trace.{Entry, Once}
+use Rattle.protocol.specs.System.Trace.{Entry}
 use Rattle.protocol.specs.System.Trace.Entry.{Invoke, Got, Tick, Executed, Installed, Sent, Accepted}
 use Rattle.protocol.specs.Replica.Selection.{is_quorum}
 use Rattle.protocol.specs.Replica.Certificates.{checkpoints_of, says_checkpoint, count_checkpoints}
-use Rattle.protocol.specs.Replica.RightReplica.{GetsPage, IsRootWanted}
-use Rattle.protocol.specs.Replica.Owed.{place_from, fetch_sent, fetching, asked_last, GotBelow, IsInnerWanted, IsPageWanted}
+use Rattle.protocol.specs.Replica.RightReplica.{IsRootWanted}
+use Rattle.protocol.specs.Replica.Transfers.{place_from, fetch_sent, fetching, asked_last, GotBelow}
+use Rattle.protocol.specs.Replica.Owed.{IsInnerWanted, IsPageWanted}
 use Rattle.protocol.proofs.Words.Options.{some_injective, and_then_some, or_else_second}
 use Rattle.protocol.proofs.Words.Linking.{heard_said}
 use Rattle.state_transfer.specs.declared.place.Place.{Place}
-use Rattle.state_transfer.specs.Transfer.{TransferData, none_fetched, none_told, fitting, digest_of_part, pages_of_part, digest_of_page, wanted_at, with_part_digests, with_page_digests, with_digests, with_page}
-use Rattle.replica_histories.specs.Transfers.{page_held, is_fetched, known_below, Aims, FitsTransfer, FitsOpen, open_number, place_sent, WantedByHistory, DigestsCount, PagesCount, AimsStay, AskedStays, OpenStays, MayAskStays, OpenEnds, DigestsTaken, DigestsOpen, PagesTaken, PagesOpen, PagesGiveBack, PagesRested, QuorumsWant, TransfersStart, TransfersMove, QuorumsOpen, LowerAreFetched, OpenMayAsk, TransfersMayFetch, TransfersAsk}
+use Rattle.state_transfer.specs.Transfer.{TransferData, none_told, new_transfer, moved_to, asking, fitting, digest_of_part, pages_of_part, digest_of_page, wanted_at, with_part_digests, with_page_digests, with_digests, with_page}
+use Rattle.replica_histories.specs.Transfers.{known_below, Aims, FitsTransfer, MayAsk, FitsOpen, LeavesState, AreTaken, open_number, place_sent, WantedByHistory, DigestsCount, PagesCount, AimsStay, AskedStays, OpenStays, OpenExecutes, DigestsTaken, DigestsOpen, DigestsMayAsk, PagesMayAsk, TicksMayAsk, PagesGiveBack, PagesRested, QuorumsWant, TransfersStart, TransfersMove, QuorumsOpen, LowerAreFetched, MayAskAny, TransfersMayFetch, TransfersAsk}
+use Rattle.replica_histories.proofs.TransfersTaking.{newer_takes_nothing, newer_taken, took_stays, started_taken, rested_taken, page_taken, meta_taken, tick_taken, fetch_taken, execution_leaves, execution_ends}
+use Rattle.replica_histories.proofs.TransfersTaking as Taking
 use Rattle.replica_histories.proofs.Words.{passed}
 
 -- ---- lists
@@ -59,7 +61,7 @@ part_wanted c me t history j digest a h =
     (t.root, w.0, a.root_wanted, a.inner w.0 w.1, w.2)
 
 -- what fits is got below the place
-fitting_got : (c : Configuration) (me : ℕ) (history : List Entry) (j : ℕ) (digest : List ℕ) (o : Option (List (List ℕ))) (digests : List (List ℕ)) → ((others : List (List ℕ)) → o ≡ Some others → GotBelow c me history levels.Inner j (digest_of_children others) others)
+pub fitting_got : (c : Configuration) (me : ℕ) (history : List Entry) (j : ℕ) (digest : List ℕ) (o : Option (List (List ℕ))) (digests : List (List ℕ)) → ((others : List (List ℕ)) → o ≡ Some others → GotBelow c me history levels.Inner j (digest_of_children others) others)
     → fitting digest o ≡ Some digests → GotBelow c me history levels.Inner j digest digests
 fitting_got c me history j digest None digests got h = absurd cc
 fitting_got c me history j digest (Some others) digests got h =
@@ -103,7 +105,6 @@ aims_stay c me t past e a = record {
   root_wanted = root_later c t.number t.root past e a.root_wanted;
   inner = λ digests h. below_later c me past e levels.Root 0 t.root digests (a.inner digests h);
   parts = λ j digests h. below_later c me past e levels.Inner j (digest_of_children digests) digests (a.parts j digests h);
-  fetched = λ i h. inr (a.fetched i h);
 }
 
 -- what asks for no place has no number of a fetch
@@ -140,21 +141,31 @@ pub asked_stays : AskedStays
 asked_stays past e h = (let none = fetches_none e h in omega arith, last_same past e h)
 
 pub open_stays : OpenStays
-open_stays c me None number past e h f = let same = (asked_stays past e h).0 in omega arith
-open_stays c me (Some t) number past e h f =
+open_stays c me None number past e h l f = let same = (asked_stays past e h).0 in let most = f.0 in (omega arith, λ i within. took_stays c me i past e h l ∙ f.1 i within)
+open_stays c me (Some t) number past e h l f =
     let same = asked_stays past e h in
-    (record { aims = aims_stay c me t past e f.0.aims; asked = same.1 ∙ f.0.asked; newest = same.0 ∙ f.0.newest }, f.1)
+    (record { aims = aims_stay c me t past e f.0.aims; asked = same.1 ∙ f.0.asked; newest = same.0 ∙ f.0.newest; taken = λ i within. took_stays c me i past e h l ∙ f.0.taken i within }, f.1)
 
-pub may_ask_stays : MayAskStays
-may_ask_stays c me t number past e h m = let same = (asked_stays past e h).0 in let most = m.1 in (aims_stay c me t past e m.0, omega arith, m.2)
-
-pub open_ends : OpenEnds
-open_ends c me None number later history grows f = omega arith
-open_ends c me (Some t) number later history grows f = go (nat_lt later t.number) refl
+pub open_executes : OpenExecutes
+open_executes c me None number later past batch grows f = let most = f.0 in (omega arith, execution_ends c me later None batch past (omega arith))
+open_executes c me (Some t) number later past batch grows f = go (nat_lt later t.number) refl
   where
-    go : (b : Bool) → nat_lt later t.number ≡ b → FitsOpen c me (then_some b t) later history
-    go true e = (f.0, ltb-true later t.number e)
-    go false e = let same = f.0.newest in let least = ltb-false later t.number e in omega arith
+    go : (b : Bool) → nat_lt later t.number ≡ b → FitsOpen c me (then_some b t) later (Executed me later batch ∷ past)
+    go true e =
+        let above = ltb-true later t.number e in
+        let newest = f.0.newest in (
+          record {
+            aims = aims_stay c me t past (Executed me later batch) f.0.aims;
+            asked = f.0.asked;
+            newest = omega arith;
+            taken = execution_leaves c me later None batch t past (omega arith) f.0.taken;
+          },
+          above,
+        )
+    go false e =
+        let least = ltb-false later t.number e in
+        let newest = f.0.newest in
+        (omega arith, execution_ends c me later None batch past (omega arith))
 
 -- ---- what is taken
 
@@ -172,7 +183,6 @@ parts_told c me t past bytes s n index digests hears is a = record {
   inner = λ others same. subst (λ (x : List (List ℕ)). GotBelow c me (Got me bytes ∷ past) levels.Root 0 t.root x) (some_injective digests others same)
       (sym (some_injective t.root (digest_of_children digests) is), (s, n, inl (subst (λ (x : ℕ). heard (members c) me bytes ≡ Some (record { sender = s; message = Meta n levels.Root x digests })) first hears)));
   parts = later.parts;
-  fetched = later.fetched;
 }
   where
     later : Aims c me t (Got me bytes ∷ past)
@@ -188,7 +198,6 @@ pages_told c me t past bytes s n index digests hears a = record {
   root_wanted = later.root_wanted;
   inner = later.inner;
   parts = λ j others same. put j others (set_cases t.page_digests index j (Some digests) None) same;
-  fetched = later.fetched;
 }
   where
     later : Aims c me t (Got me bytes ∷ past)
@@ -212,15 +221,16 @@ pub digests_taken : DigestsTaken
 digests_taken c me t past bytes s n place digests hears is a = taken_at c me t past bytes s n place.level place.index digests hears is a
 
 -- the same transfer with more to it
-more_fits : (c : Configuration) (me : ℕ) (t new : TransferData) (past : List Entry) (e : Entry) → place_sent e ≡ None → new.number ≡ t.number → new.asked ≡ t.asked → Aims c me new (e ∷ past) → FitsTransfer c me t past → FitsTransfer c me new (e ∷ past)
-more_fits c me t new past e none number place a f = let same = asked_stays past e none in record {
+more_fits : (c : Configuration) (me : ℕ) (t new : TransferData) (past : List Entry) (e : Entry) → place_sent e ≡ None → new.number ≡ t.number → new.asked ≡ t.asked → Aims c me new (e ∷ past) → AreTaken c me None new (e ∷ past) → FitsTransfer c me t past → FitsTransfer c me new (e ∷ past)
+more_fits c me t new past e none number place a taken f = let same = asked_stays past e none in record {
   aims = a;
   asked = same.1 ∙ f.asked ∙ ap (λ (n : ℕ). Some (n, (t.asked.level, t.asked.index))) (sym number) ∙ ap (λ (x : Place). Some (new.number, (x.level, x.index))) (sym place);
   newest = same.0 ∙ f.newest ∙ sym number;
+  taken = taken;
 }
 
 -- which digests it has changes neither its number nor its place
-digests_keep : (t : TransferData) (level : Level) (index : ℕ) (digests : List (List ℕ))
+pub digests_keep : (t : TransferData) (level : Level) (index : ℕ) (digests : List (List ℕ))
     → ((with_digests t (record { level = level; index = index }) digests).number ≡ t.number) × ((with_digests t (record { level = level; index = index }) digests).asked ≡ t.asked)
 digests_keep t levels.Root index digests = (refl, refl)
 digests_keep t levels.Inner index digests = (refl, refl)
@@ -230,36 +240,54 @@ pub digests_open : DigestsOpen
 digests_open c me t number past bytes s n place digests hears is f =
     let keep = digests_keep t place.level place.index digests in
     let above = f.1 in
-    let own = keep.0 in
-    (more_fits c me t (with_digests t place digests) past (Got me bytes) refl keep.0 keep.1 (digests_taken c me t past bytes s n place digests hears is f.0.aims) f.0, subst (λ (x : ℕ). number < x) (sym own) above)
+    let own = keep.0 in (
+      more_fits c me t (with_digests t place digests) past (Got me bytes) refl keep.0 keep.1 (digests_taken c me t past bytes s n place digests hears is f.0.aims)
+          (Taking.digests_taken c me None place.level place.index digests t (Got me bytes ∷ past) (λ i within. took_stays c me i past (Got me bytes) refl tt ∙ f.0.taken i within)) f.0,
+      subst (λ (x : ℕ). number < x) (sym own) above,
+    )
 
-pub pages_taken : PagesTaken
-pages_taken c me t past bytes s n index text hears long a = record {
-  root_wanted = later.root_wanted;
-  inner = later.inner;
-  parts = later.parts;
-  fetched = λ i is. at i (i == index) refl is;
+pub digests_may_ask : DigestsMayAsk
+digests_may_ask c me t number past bytes s n place digests hears is f =
+    let own = (digests_keep t place.level place.index digests).0 in
+    let newest = f.0.newest in
+    let above = f.1 in
+    record {
+      aims = digests_taken c me t past bytes s n place digests hears is f.0.aims;
+      newest = omega arith;
+      ahead = omega arith;
+      taken = Taking.digests_taken c me (Some (with_digests t place digests).number) place.level place.index digests t (Got me bytes ∷ past)
+          (meta_taken c me (with_digests t place digests).number s n place.index place.level digests t past bytes hears f.0.taken);
+    }
+
+-- the same of a transfer with other pages
+aims_alike : (c : Configuration) (me : ℕ) (t new : TransferData) (history : List Entry) → new.number ≡ t.number → new.root ≡ t.root → new.part_digests ≡ t.part_digests → new.page_digests ≡ t.page_digests → Aims c me t history → Aims c me new history
+aims_alike c me t new history number root parts pages a = record {
+  root_wanted = rw (number, root) a.root_wanted;
+  inner = λ digests is. rw root (a.inner digests (sym parts ∙ is));
+  parts = λ j digests is. a.parts j digests (ap (λ (xs : List (Option (List (List ℕ)))). get_or xs j None) (sym pages) ∙ is);
 }
+
+pub pages_may_ask : PagesMayAsk
+pages_may_ask c me t number past bytes s index text hears asks long known f =
+    let newest = f.0.newest in
+    let above = f.1 in
+    record {
+      aims = aims_alike c me t (with_page t index text) (Got me bytes ∷ past) refl refl refl refl (aims_stay c me t past (Got me bytes) f.0.aims);
+      newest = omega arith;
+      ahead = above;
+      taken = page_taken c me s index t past bytes text hears (f.0.asked ∙ ap (λ (x : Place). Some (t.number, (x.level, x.index))) asks) long known within f.0.taken;
+    }
   where
-    later : Aims c me t (Got me bytes ∷ past)
-    later = aims_stay c me t past (Got me bytes) a
+    within : index < 1024
+    within = let valid = heard_valid c me bytes (record { sender = s; message = Page t.number index text }) hears in let most : index ≤ 1023 = valid.1 in omega arith
 
-    within : index < length t.held
-    within = let valid = heard_valid c me bytes (record { sender = s; message = Page n index text }) hears in let most : index ≤ 1023 = valid.1 in omega arith
-
-    at : (i : ℕ) (b : Bool) → (i == index) ≡ b → is_fetched (with_page t index text) i ≡ true → Once (GetsPage c me i (page_held (with_page t index text) i)) (Got me bytes ∷ past)
-    at i true e is =
-        let same : i ≡ index = eqb-true i index e in
-        subst (λ (x : ℕ). Once (GetsPage c me x (page_held (with_page t index text) x)) (Got me bytes ∷ past)) (sym same)
-        (subst (λ (x : List ℕ). Once (GetsPage c me index x) (Got me bytes ∷ past)) (sym (get_or-set_same t.held index text [] within)) (inl (s, n, hears)))
-    at i false e is =
-        let other : i ≢ index = eqb-false i index e in
-        subst (λ (x : List ℕ). Once (GetsPage c me i x) (Got me bytes ∷ past)) (sym (get_or-set_other t.held index i text [] other))
-        (later.fetched i (sym (get_or-set_other t.fetched index i true false other) ∙ is))
-
-pub pages_open : PagesOpen
-pages_open c me t number past bytes s n index text hears long f =
-    (more_fits c me t (with_page t index text) past (Got me bytes) refl refl refl (pages_taken c me t past bytes s n index text hears long f.0.aims) f.0, f.1)
+pub ticks_may_ask : TicksMayAsk
+ticks_may_ask c me t number st past f =
+    let newest = f.0.newest in
+    let above = f.1 in (
+      record { aims = aims_stay c me t past (Tick me) f.0.aims; newest = omega arith; ahead = above; taken = tick_taken c me (Some t.number) t past f.0.taken },
+      inr (f.0.asked, tt, tt),
+    )
 
 put_back : (xs : List Bool) (i : ℕ) → set (set xs i true) i (get_or xs i false) ≡ xs
 put_back [] i = refl
@@ -269,31 +297,27 @@ put_back (x ∷ xs) (suc i) = ap (λ (ys : List Bool). x ∷ ys) (put_back xs i)
 pub pages_give_back : PagesGiveBack
 pages_give_back t index text = ap (λ (xs : List Bool). let new : TransferData = record t { fetched = xs } in new) (put_back t.fetched index)
 
--- what was fetched is one of the pages
-fetched_within : (t : TransferData) (i : ℕ) → length t.fetched ≡ 1024 → is_fetched t i ≡ true → i < 1024
-fetched_within t i long is = go (nat_lt i 1024) refl
-  where
-    go : (b : Bool) → nat_lt i 1024 ≡ b → i < 1024
-    go true e = ltb-true i 1024 e
-    go false e =
-        let past : 1024 ≤ i = ltb-false i 1024 e in
-        let beyond : length t.fetched ≤ i = omega arith in
-        absurd (let bad : false ≡ true = sym (get_or_past t.fetched i false beyond) ∙ is in cc)
-
 pub pages_rested : PagesRested
-pages_rested c me pages old new number history long r f = subst (λ (x : TransferData). FitsTransfer c me x history × (number < x.number)) (sym r.same) (
-  record {
-    aims = record {
-      root_wanted = f.0.aims.root_wanted;
-      inner = f.0.aims.inner;
-      parts = f.0.aims.parts;
-      fetched = λ i is. subst (λ (x : List ℕ). Once (GetsPage c me i x) history) (sym (r.fetched i (fetched_within old i long is) is)) (f.0.aims.fetched i is);
-    };
-    asked = f.0.asked;
-    newest = f.0.newest;
-  },
-  f.1,
-)
+pages_rested c me pages old new number history r = (open_one, ask)
+  where
+    open_one : FitsOpen c me (Some old) number history → FitsOpen c me (Some new) number history
+    open_one f = subst (λ (x : TransferData). FitsTransfer c me x history × (number < x.number)) (sym r.same) (
+      record {
+        aims = record { root_wanted = f.0.aims.root_wanted; inner = f.0.aims.inner; parts = f.0.aims.parts };
+        asked = f.0.asked;
+        newest = f.0.newest;
+        taken = subst (λ (x : TransferData). AreTaken c me None x history) r.same (rested_taken c me None pages old new history r f.0.taken);
+      },
+      f.1,
+    )
+
+    ask : MayAsk c me old number history → MayAsk c me new number history
+    ask m = subst (λ (x : TransferData). MayAsk c me x number history) (sym r.same) (record {
+      aims = record { root_wanted = m.aims.root_wanted; inner = m.aims.inner; parts = m.aims.parts };
+      newest = m.newest;
+      ahead = m.ahead;
+      taken = subst (λ (x : TransferData). AreTaken c me (Some old.number) x history) r.same (rested_taken c me (Some old.number) pages old new history r m.taken);
+    })
 
 -- ---- a transfer starts, moves, and asks
 
@@ -310,46 +334,64 @@ quorums_want c [] k root h = absurd (no_quorum c (record { number = k; digest = 
 quorums_want c (e ∷ past) k root h = inl (inl h)
 
 pub transfers_start : TransfersStart
-unfolding none_fetched none_told
+unfolding none_told
 transfers_start c me k root pages history w = record {
   root_wanted = w;
   inner = λ digests is. absurd cc;
   parts = λ j digests is. absurd (let bad : None ≡ Some digests = sym (all_default 32 j None) ∙ is in cc);
-  fetched = λ i is. absurd (let bad : false ≡ true = sym (all_default 1024 i false) ∙ is in cc);
 }
 
 pub transfers_move : TransfersMove
-transfers_move c me k root t history w a = record { root_wanted = w; inner = λ digests is. absurd cc; parts = a.parts; fetched = a.fetched }
+transfers_move c me k root t history w a = record { root_wanted = w; inner = λ digests is. absurd cc; parts = a.parts }
+
+-- above all that was fetched a transfer may start, and the open one may move
+pub start_may_ask : (c : Configuration) (me number k : ℕ) (root : List ℕ) (pages : List (List ℕ)) (history : List Entry) → IsRootWanted c history k root → number < k → FitsOpen c me None number history → MayAsk c me (new_transfer k root pages) number history
+start_may_ask c me number k root pages history w above f = let most = f.0 in record {
+  aims = transfers_start c me k root pages history w;
+  newest = omega arith;
+  ahead = above;
+  taken = started_taken c me k (Some k) root pages history (λ i within. newer_takes_nothing c me k i history (omega arith) ∙ f.1 i within);
+}
+
+pub move_may_ask : (c : Configuration) (me number k : ℕ) (root : List ℕ) (t : TransferData) (history : List Entry) → IsRootWanted c history k root → t.number < k → FitsOpen c me (Some t) number history → MayAsk c me (moved_to t k root) number history
+move_may_ask c me number k root t history w above f = let newest = f.0.newest in let own = f.1 in record {
+  aims = transfers_move c me k root t history w f.0.aims;
+  newest = omega arith;
+  ahead = omega arith;
+  taken = newer_taken c me k t history (omega arith) f.0.taken;
+}
 
 pub quorums_open : QuorumsOpen
-quorums_open c me None number k root pages history q above f = (transfers_start c me k root pages history (quorums_want c history k root q), omega arith, above)
-quorums_open c me (Some t) number k root pages history q above f =
-    let newest = f.0.newest in
-    let own = f.1 in
-    (transfers_move c me k root t history (quorums_want c history k root q) f.0.aims, omega arith, omega arith)
+quorums_open c me None number k root pages st history q above f =
+    let most = f.0 in (start_may_ask c me number k root pages history (quorums_want c history k root q) above f, inl (omega arith))
+quorums_open c me (Some t) number k root pages st history q above f =
+    let newest = f.0.newest in (move_may_ask c me number k root t history (quorums_want c history k root q) above f, inl (omega arith))
 
 pub lower_are_fetched : LowerAreFetched
 lower_are_fetched c me None number k history above l f = absurd (omega arith)
 lower_are_fetched c me (Some t) number k history above l f = let newest = f.0.newest in omega arith
 
-pub open_may_ask : OpenMayAsk
-open_may_ask c me t None number history f = let newest = f.0.newest in (f.0.aims, omega arith, f.1)
-open_may_ask c me t (Some place) number history f =
-    let newest = f.0.newest in
-    let a = f.0.aims in
-    (record { root_wanted = a.root_wanted; inner = a.inner; parts = a.parts; fetched = a.fetched }, omega arith, f.1)
+pub may_ask_any : MayAskAny
+may_ask_any c me t None number history m = m
+may_ask_any c me t (Some place) number history m = record {
+  aims = aims_alike c me t (asking (Some place) t) history refl refl refl refl m.aims;
+  newest = m.newest;
+  ahead = m.ahead;
+  taken = m.taken;
+}
 
 pub transfers_may_fetch : TransfersMayFetch
-transfers_may_fetch c me t past point m = (t.root, (m.2, m.0.root_wanted))
+transfers_may_fetch c me t past point m next = record { root = t.root; may = (m.ahead, m.aims.root_wanted); newest = m.newest; next = next }
 
 pub transfers_ask : TransfersAsk
 transfers_ask c me t number past bytes says m = (
   record {
-    aims = aims_stay c me t past (Sent me bytes) m.0;
+    aims = aims_stay c me t past (Sent me bytes) m.aims;
     asked = ap (λ (o : Option Body). or_else (option_and_then place_from o) (asked_last past)) says;
-    newest = let sent : fetch_sent (Sent me bytes) ≡ t.number = ap (λ (o : Option Body). option_map_or number_of o 0) says in let most = m.1 in omega arith;
+    newest = let sent : fetch_sent (Sent me bytes) ≡ t.number = ap (λ (o : Option Body). option_map_or number_of o 0) says in let most = m.newest in omega arith;
+    taken = fetch_taken c me t.asked.index t.asked.level None t past bytes says m.taken;
   },
-  m.2,
+  m.ahead,
 )
 
 -- ---- the number that is open
@@ -361,7 +403,7 @@ open_above c me (Some t) number history f = let above = f.1 in omega arith
 
 -- and nothing above it was fetched
 pub fetched_most : (c : Configuration) (me : ℕ) (open_one : Option TransferData) (number : ℕ) (history : List Entry) → FitsOpen c me open_one number history → fetching history ≤ open_number number open_one
-fetched_most c me None number history f = f
+fetched_most c me None number history f = f.0
 fetched_most c me (Some t) number history f = let newest = f.0.newest in omega arith
 
 -- a frame that asks for no part

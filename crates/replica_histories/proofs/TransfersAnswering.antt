@@ -15,7 +15,8 @@ use Rattle.protocol.specs.System.Trace.Entry.{Invoke, Got, Tick, Executed, Insta
 use Rattle.protocol.specs.Replica.Certificates.{low}
 use Rattle.protocol.specs.Replica.State.{State, opening, execute, pages_of, page_text}
 use Rattle.protocol.specs.Replica.RightReplica.{Point, Leaves, IsStep, KeptState, kept_states, executed_point, MaySay, IsFor, WasAsked, digests_at}
-use Rattle.protocol.specs.Replica.Owed.{place_from, IsSayingTo, GivesTo}
+use Rattle.protocol.specs.Replica.Transfers.{place_from}
+use Rattle.protocol.specs.Replica.Owed.{IsSayingTo, GivesTo}
 use Rattle.protocol.proofs.Words.Options.{some_injective}
 use Rattle.protocol.proofs.Words.Elements.{has_weaker, has_some, has_filter, has_map, has_mapped, has_reversed}
 use Rattle.protocol.proofs.Words.Leaving.{executed_number}

@@ -1,5 +1,5 @@
 -- The pages that are held are the state's own, and those that were got: a state of them may be installed.
-use Rattle.std.proofs.Common.{◌≡◌, ◌≢◌, ℕ, ◌<◌, inl, inr, Bool, true, false, List, [], length, map, get_or, refl, sym, ap, ◌∙◌, subst, arith, eqb-true}
+use Rattle.std.proofs.Common.{◌≡◌, ◌≢◌, ℕ, ◌<◌, inl, inr, Bool, true, false, List, [], length, map, get_or, refl, sym, ap, ◌∙◌, subst, arith, None, eqb-true}
 use Rattle.std.specs.Prelude.{◌==◌, slice_index_or}
 use Rattle.std.specs.List.{range_with_len}
 use Rattle.std.proofs.lemmas.Bool.{eqb-false}
@@ -8,15 +8,14 @@ use Rattle.std.proofs.lemmas.List.FromFn.{get_or-map-range_with_len}
 use Rattle.terms.specs.declared.state.Level.{Level}
 use Rattle.terms.specs.declared.state.Level.TheVariants as levels
 use Rattle.partition_tree.specs.Digests.{root_of as root_of_pages}
-use Rattle.protocol.specs.System.Trace.{Once}
 use Rattle.protocol.specs.Replica.State.{State, page_text, all_pages, pages_of}
-use Rattle.protocol.specs.Replica.RightReplica.{GetsPage, IsHeld}
 use Rattle.state_transfer.specs.Transfer.{TransferData, with_digests, with_page}
 use Rattle.replica_histories.specs.Transfers.{page_held, is_fetched, RestsOn, StartedRests, DigestsRest, PagesRest, RestedRests, TransfersInstall}
+use Rattle.replica_histories.proofs.TransfersTaking.{installed_in_place, installation_ends}
 
 -- ---- pages of a state
 
-page_at : (page : ℕ → List ℕ) (n i : ℕ) → i < n → get_or (map page (range_with_len 0 n)) i [] ≡ page i
+pub page_at : (page : ℕ → List ℕ) (n i : ℕ) → i < n → get_or (map page (range_with_len 0 n)) i [] ≡ page i
 page_at page n i l = get_or-map-range_with_len page 0 n i i [] l (omega arith)
 
 pub pages_read : (st : State) (i : ℕ) → i < 1024 → slice_index_or (pages_of st) i [] ≡ page_text st i
@@ -56,26 +55,22 @@ rested_rests old new st r i l is = r.own i l (sym (ap (λ (x : TransferData). is
 -- ---- a state is installed
 
 pub transfers_install : TransfersInstall
-transfers_install c me t past point st f rests root_is is number pages = (
+transfers_install c me t past point st m rests root_is is number pages = (
   record {
     own = refl;
-    may = (f.1, f.0.aims.root_wanted);
+    may = (m.ahead, m.aims.root_wanted);
     moves = record {
       is_state = is;
       number = number;
       root_is = ap root_of_pages pages ∙ root_is;
-      pages = λ i l. held i l (is_fetched t i) refl;
+      pages = installed_in_place c me t past point.state st m.taken rests text_is;
       snapshots = refl;
       ran = refl;
       waiting = refl;
     };
   },
-  let newest = f.0.newest in omega arith,
+  (let newest = m.newest in omega arith, installation_ends c me t.number None t.root past),
 )
   where
     text_is : (i : ℕ) → i < 1024 → page_held t i ≡ page_text st i
     text_is i l = ap (λ (xs : List (List ℕ)). slice_index_or xs i []) (sym pages) ∙ pages_read st i l
-
-    held : (i : ℕ) → i < 1024 → (b : Bool) → is_fetched t i ≡ b → IsHeld c me past point.state i (page_text st i)
-    held i l true e = inr (subst (λ (x : List ℕ). Once (GetsPage c me i x) past) (text_is i l) (f.0.aims.fetched i e))
-    held i l false e = inl (sym (text_is i l) ∙ rests i l e)

@@ -15,7 +15,8 @@ use Rattle.protocol.specs.System.Trace.{Entry, Has}
 use Rattle.protocol.specs.System.Trace.Entry.{Invoke, Got, Tick, Executed, Installed, Sent, Accepted}
 use Rattle.protocol.specs.Replica.Selection.{is_quorum}
 use Rattle.protocol.specs.Replica.Certificates.{brought, checkpoint_from, checkpoint_in, insert_checkpoint, with_checkpoint, checkpoints_of, says_checkpoint, count_checkpoints}
-use Rattle.protocol.specs.Replica.Owed.{IsSaying, Gives, fetch_sent, fetching, has_number}
+use Rattle.protocol.specs.Replica.Transfers.{fetch_sent, fetching}
+use Rattle.protocol.specs.Replica.Owed.{IsSaying, Gives, has_number}
 use Rattle.protocol.specs.Evidence.RefusedMarks.{BringsCheckpoint}
 use Rattle.protocol.proofs.Evidence.RefusingMarksCheckpoints.{first_checkpoint_counts}
 use Rattle.protocol.proofs.Words.Options.{and_then_some, then_some_gives}

@@ -17,13 +17,14 @@ use Rattle.replica_histories.specs.TransfersAnswers.{answer_by}
 use Rattle.replica_histories.specs.Questions.{AnswersInput, read_from, read_reply}
 use Rattle.replica_histories.specs.Events.{Start, behind, Fits, Holds}
 
--- The part of a kept snapshot that was asked for, to whoever asked.
+-- The part of a kept snapshot that was asked for, to whoever asked, where the event has not sent it.
 abbrev pub PartsFit : Type 0
 PartsFit =
     (c : Configuration) (me : ℕ) (s : Start) (desk : Desk) (log : LogData) (due : List Message) (outputs : List Entry)
     (snapshot : Snapshot) (asker index : ℕ) (level : Level) (bytes : List ℕ)
     → Has (λ x. x ≡ snapshot) desk.snapshots
     → WasAsked c me (behind s outputs) asker snapshot.number level index
+    → (Gives me (answer_by snapshot.pages snapshot.number level index) outputs → ⊥)
     → IsPosted c me (answer_by snapshot.pages snapshot.number level index) (asker ∷ []) bytes
     → Fits c me s desk log due outputs → Fits c me s desk log due (Sent me bytes ∷ outputs)
 
@@ -39,26 +40,28 @@ KeptFetchesCount =
 abbrev pub PartsSuffice : Type 0
 PartsSuffice =
     (c : Configuration) (me : ℕ) (desk : Desk) (log : LogData) (past : List Entry) (input : Entry)
-    (outputs : List Entry) (snapshot : Snapshot) (asker index : ℕ) (level : Level) (held : Holds c me desk log past)
+    (outputs : List Entry) (snapshot : Snapshot) (asker index executed : ℕ) (level : Level)
+    (held : Holds c me desk log past)
     → Has (λ x. x ≡ snapshot) desk.snapshots
     → Hears c me (record { sender = asker; message = Fetch snapshot.number level index }) past input
     → GivesTo me asker (answer_by snapshot.pages snapshot.number level index) outputs
-    → AnswersInput c me past input outputs held.of_desk.point
+    → AnswersInput c me past input outputs held.of_desk.point executed
 
 abbrev pub OtherNumbersOweNone : Type 0
 OtherNumbersOweNone =
     (c : Configuration) (me : ℕ) (desk : Desk) (log : LogData) (past : List Entry) (input : Entry)
-    (outputs : List Entry) (asker k index : ℕ) (level : Level) (held : Holds c me desk log past)
+    (outputs : List Entry) (asker k index executed : ℕ) (level : Level) (held : Holds c me desk log past)
     → Hears c me (record { sender = asker; message = Fetch k level index }) past input
     → (Has (λ x. x.number ≡ k) desk.snapshots → ⊥)
-    → AnswersInput c me past input outputs held.of_desk.point
+    → AnswersInput c me past input outputs held.of_desk.point executed
 
--- The reply to a read that was heard, from the executed state.
+-- The reply to a read that was heard, from the executed state, where the event has not sent it.
 abbrev pub ReadsFit : Type 0
 ReadsFit =
     (c : Configuration) (me : ℕ) (s : Start) (desk : Desk) (log : LogData) (due : List Message) (outputs : List Entry)
     (client timestamp : ℕ) (op : Operation) (bytes : List ℕ)
     → Once (Hears c me (read_from client timestamp op)) (behind s outputs) → is_read_only op ≡ true
+    → (Gives me (read_reply desk.state client timestamp op) outputs → ⊥)
     → IsPosted c me (read_reply desk.state client timestamp op) (client ∷ []) bytes
     → Fits c me s desk log due outputs → Fits c me s desk log due (Sent me bytes ∷ outputs)
 
@@ -66,14 +69,14 @@ ReadsFit =
 abbrev pub ReadsSuffice : Type 0
 ReadsSuffice =
     (c : Configuration) (me : ℕ) (desk : Desk) (log : LogData) (past : List Entry) (input : Entry)
-    (outputs : List Entry) (client timestamp : ℕ) (op : Operation) (held : Holds c me desk log past)
+    (outputs : List Entry) (client timestamp executed : ℕ) (op : Operation) (held : Holds c me desk log past)
     → Hears c me (read_from client timestamp op) past input
     → Gives me (read_reply desk.state client timestamp op) outputs
-    → AnswersInput c me past input outputs held.of_desk.point
+    → AnswersInput c me past input outputs held.of_desk.point executed
 
 abbrev pub OtherOperationsOweNone : Type 0
 OtherOperationsOweNone =
     (c : Configuration) (me : ℕ) (desk : Desk) (log : LogData) (past : List Entry) (input : Entry)
-    (outputs : List Entry) (client timestamp : ℕ) (op : Operation) (held : Holds c me desk log past)
+    (outputs : List Entry) (client timestamp executed : ℕ) (op : Operation) (held : Holds c me desk log past)
     → Hears c me (read_from client timestamp op) past input → is_read_only op ≡ false
-    → AnswersInput c me past input outputs held.of_desk.point
+    → AnswersInput c me past input outputs held.of_desk.point executed

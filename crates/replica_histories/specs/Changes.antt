@@ -3,19 +3,20 @@
 use Rattle.std.specs.Prelude.{◌≡◌, ◌≢◌, ℕ, suc, ◌+◌, ◌≤◌, ◌<◌, ◌⊎◌, true, false, List, [], ◌∷◌, length, replicate, if◌then◌else◌, Option, Some, None, ⊤}
 use Rattle.std.specs.Option.{ForSome}
 use Rattle.wire.specs.Messages.{BodyData as Body, MessageData as Message, BatchEntryData as Claim, ViewChangeData, NewViewData, pre_prepare as PrePrepare, commit as Commit, view_change as ViewChange, new_view as NewView}
+use Rattle.wire.specs.Spelling.{is_signed}
 use Rattle.wire.specs.Words.{said}
 use Rattle.wire.specs.Lists.{Each}
 use Rattle.signing.specs.Heard.{heard}
 use Rattle.ordering.specs.Log as logs
 use Rattle.ordering.specs.Log.{LogData}
 use Rattle.protocol.specs.System.Configuration.{Configuration, primary, replicas, members, span}
-use Rattle.protocol.specs.System.Frames.{IsPosted}
+use Rattle.protocol.specs.System.Frames.{IsPosted, leaf_of}
 use Rattle.protocol.specs.System.Trace.{Entry, Once}
 use Rattle.protocol.specs.System.Trace.Entry.{Got, Sent, Executed, Installed, Tick}
 use Rattle.protocol.specs.Replica.Selection.{signed_change}
-use Rattle.protocol.specs.Replica.Certificates.{brought, view, target, taken, logged, commit_of}
-use Rattle.protocol.specs.Replica.RightReplica.{Point, Leaves, SentBefore}
-use Rattle.protocol.specs.Replica.Owed.{latest_change}
+use Rattle.protocol.specs.Replica.Certificates.{brought, view, target, taken, logged, commit_of, latest_change}
+use Rattle.protocol.specs.Replica.RightReplica.{Point, Leaves, SendsBytes, SentBefore, HasOwnLeaf}
+use Rattle.protocol.specs.Replica.Owed.{AreKeysSpent}
 use Rattle.view_change.specs.ClaimsView.{ClaimsData, no_claims, claim_of, IsAmong}
 use Rattle.view_change.specs.Recording.{with_prepared, with_logged, with_all, above_mark}
 use Rattle.view_change.specs.ReceivedData.{HeldData, held_of, refusal_of, with_held}
@@ -27,18 +28,38 @@ use Rattle.replica_histories.specs.Received.{FitsReceived}
 use Rattle.replica_histories.specs.Views.{begun_log}
 
 -- the greatest view that a view change was sent for; the number up to which the new view of the own view has batches;
--- the frame of that new view, where it is the replica's own; what it claims; and the view changes that it has, one
--- place for each replica
+-- the frame of that new view, where it is the replica's own; what it claims; the view changes that it has, one place
+-- for each replica; and how many leaves have signed
 pub record Changes : Type 0 where
   pub target : ℕ
   pub begun : ℕ
   pub new_view : Option (List ℕ)
   pub claims : ClaimsData
   pub held : List (Option HeldData)
+  pub spent : ℕ
 
 abbrev pub first_changes : Configuration → Changes
 first_changes c =
-    record { target = 0; begun = 0; new_view = None; claims = no_claims; held = replicate (replicas c) None }
+    record { target = 0; begun = 0; new_view = None; claims = no_claims; held = replicate (replicas c) None; spent = 0 }
+
+-- ---- leaves
+
+-- each frame that was sent by a leaf has one below the number
+abbrev pub AreLeavesBelow : ℕ → List Entry → Type 0
+AreLeavesBelow spent history =
+    (sent : List ℕ) (leaf : ℕ) → leaf_of sent ≡ Some leaf → SentBefore sent history → leaf < spent
+
+-- and each leaf below the number has signed a frame that was sent
+abbrev pub AreLeavesSent : ℕ → List Entry → Type 0
+AreLeavesSent spent history =
+    (leaf : ℕ) → leaf < spent → (sent : List ℕ) × (leaf_of sent ≡ Some leaf) × SentBefore sent history
+
+-- So many are spent after the entry: no fewer than before, more than the leaf of what it sends, and no other.
+abbrev pub SpendsLeaves : ℕ → ℕ → List Entry → Entry → Type 0
+SpendsLeaves old new past e =
+    (old ≤ new) × ((sent : List ℕ) (leaf : ℕ) → leaf_of sent ≡ Some leaf → SendsBytes sent past e → leaf < new)
+    × ((leaf : ℕ) → leaf < new
+    → (leaf < old) ⊎ ((sent : List ℕ) × (leaf_of sent ≡ Some leaf) × SendsBytes sent past e))
 
 -- ---- what fits
 
@@ -59,7 +80,8 @@ pub record IsOwnView (c : Configuration) (me v : ℕ) (history : List Entry) (fr
   pub posted : IsPosted c me (NewView new) [] frame
 
 -- What is held is what the history says: the target; the claims; the view changes of others; how far the new view of
--- the log's view goes; where the replica is active no more, its own view change; and its own new view.
+-- the log's view goes; where the replica is active no more, its own view change, which is never for a view above the
+-- target; its own new view; and how many leaves are spent.
 pub record FitsChanges (c : Configuration) (me : ℕ) (log : LogData) (x : Changes) (history : List Entry) : Type 0 where
   pub target : target history ≡ x.target
   pub claims : FitsClaims c me history x.claims
@@ -68,7 +90,10 @@ pub record FitsChanges (c : Configuration) (me : ℕ) (log : LogData) (x : Chang
   pub begun : (new : NewViewData) → Once (λ past e. taken c past e ≡ Some new) history → new.view ≡ log.view
       → new.start + length new.batches ≤ x.begun
   pub own_change : log.active ≡ false → HasOwnChange c me x history
+  pub own_latest : (own : HeldData) → held_of x.held me ≡ Some own → own.change.view ≤ x.target
   pub own_view : ForSome x.new_view (IsOwnView c me log.view history)
+  pub leaves : AreLeavesBelow x.spent history
+  pub signed : AreLeavesSent x.spent history
 
 -- ---- one entry more
 
@@ -103,13 +128,14 @@ pub record IsSameView (old new : LogData) : Type 0 where
 -- ---- entries that bring nothing about
 
 -- It takes no view and sends no later view change, logs nothing, is no new own commit, and brings no view change of
--- others that is newer.
+-- others that is newer. A signed frame goes again.
 pub record KeepsChanges (c : Configuration) (me : ℕ) (past : List Entry) (e : Entry) : Type 0 where
   pub none : taken c past e ≡ None
   pub target : target (e ∷ past) ≡ target past
   pub logged : (v i : ℕ) → logged c me (e ∷ past) v i ≡ logged c me past v i
   pub commits : (v i : ℕ) → commit_of c me (e ∷ past) v i me ≡ commit_of c me past v i me
   pub changes : (s : ℕ) → s ≢ me → latest_change c (e ∷ past) s ≡ latest_change c past s
+  pub leaves : (sent : List ℕ) (leaf : ℕ) → leaf_of sent ≡ Some leaf → SendsBytes sent past e → SentBefore sent past
 
 -- what is said brings nothing about that it hadn't before
 abbrev pub IsNoNews : Configuration → ℕ → List Entry → Message → Type 0
@@ -125,6 +151,7 @@ abbrev pub SentKeep : Type 0
 SentKeep =
     (c : Configuration) (me : ℕ) (past : List Entry) (message : Message) (bytes : List ℕ)
     → said bytes ≡ Some (record { sender = me; message = message }) → IsNoNews c me past message
+    → (is_signed message ≡ true → SentBefore bytes past)
     → KeepsChanges c me past (Sent me bytes)
 
 -- an execution, an installation and time that goes by
@@ -267,12 +294,12 @@ BatchesAreClaimed =
 -- The own view change is held once it is sent.
 abbrev pub ChangesAreSent : Type 0
 ChangesAreSent =
-    (c : Configuration) (me : ℕ) (past : List Entry) (log : LogData) (x : Changes) (own : HeldData)
+    (c : Configuration) (me spent : ℕ) (past : List Entry) (log : LogData) (x : Changes) (own : HeldData)
     → Passes c me past (Sent me own.frame) log (logs.left log) → me < replicas c → own.sender ≡ me
     → IsPosted c me (ViewChange own.change) [] own.frame → target past < own.change.view
-    → FitsChanges c me log x past
-    → FitsChanges c me (logs.left log) (record x { target = own.change.view; held = with_held own x.held })
-    (Sent me own.frame ∷ past)
+    → SpendsLeaves x.spent spent past (Sent me own.frame) → FitsChanges c me log x past
+    → FitsChanges c me (logs.left log)
+    (record x { target = own.change.view; held = with_held own x.held; spent = spent }) (Sent me own.frame ∷ past)
 
 -- So is another's that is taken.
 abbrev pub ChangesAreTaken : Type 0
@@ -296,9 +323,22 @@ IsOwnFrame c me e new (Some frame) =
 abbrev pub ViewsAreBegun : Type 0
 ViewsAreBegun =
     (c : Configuration) (me : ℕ) (past : List Entry) (e : Entry) (log : LogData) (x : Changes) (new : NewViewData)
-    (frame : Option (List ℕ)) (claims : ClaimsData) (s : ℕ)
+    (frame : Option (List ℕ)) (claims : ClaimsData) (s spent : ℕ)
     → Passes c me past e log (begun_log log new) → taken c past e ≡ Some new
     → brought c e ≡ Some (record { sender = s; message = NewView new })
-    → BeginsClaims log new x.claims claims → IsOwnFrame c me e new frame → FitsChanges c me log x past
+    → BeginsClaims log new x.claims claims → IsOwnFrame c me e new frame → SpendsLeaves x.spent spent past e
+    → FitsChanges c me log x past
     → FitsChanges c me (begun_log log new)
-    (record x { begun = new.start + length new.batches; new_view = frame; claims = claims }) (e ∷ past)
+    (record x { begun = new.start + length new.batches; new_view = frame; claims = claims; spent = spent }) (e ∷ past)
+
+-- Where 64 leaves are spent, the keys are.
+abbrev pub AllAreSpent : Type 0
+AllAreSpent =
+    (c : Configuration) (me : ℕ) (log : LogData) (x : Changes) (history : List Entry) → x.spent ≡ 64
+    → FitsChanges c me log x history → AreKeysSpent history
+
+-- A frame by the next leaf has a leaf of its own.
+abbrev pub NextLeafIsOwn : Type 0
+NextLeafIsOwn =
+    (bytes : List ℕ) (spent : ℕ) (history : List Entry) → leaf_of bytes ≡ Some spent → AreLeavesBelow spent history
+    → HasOwnLeaf bytes history

@@ -1,5 +1,5 @@
 -- How what a replica holds meets its history: in the midst of an event, and between two.
-use Rattle.std.specs.Prelude.{◌≡◌, ℕ, suc, ◌%◌, ◌+◌, ◌≤◌, ◌⊎◌, true, false, List, [], ◌∷◌, ◌++◌, Some, None, is_some, ⊤, map}
+use Rattle.std.specs.Prelude.{◌≡◌, ℕ, suc, ◌%◌, ◌+◌, ◌≤◌, ◌⊎◌, Bool, true, false, List, [], ◌∷◌, ◌++◌, Some, None, is_some, ⊤, map}
 use Rattle.tuple_codec.specs.Operations.{Operation}
 use Rattle.terms.specs.declared.order.Mode.TheVariants as modes
 use Rattle.terms.specs.declared.state.Level.TheVariants as levels
@@ -12,9 +12,10 @@ use Rattle.protocol.specs.System.Configuration.{Configuration, is_number, member
 use Rattle.protocol.specs.System.Trace.{Entry, Once, Has, is_output, Hears}
 use Rattle.protocol.specs.System.Trace.Entry.{Got, Tick}
 use Rattle.protocol.specs.Replica.Certificates.{low, Committed}
-use Rattle.protocol.specs.Replica.State.{State, Call, Ran, kept_of, root_of}
-use Rattle.protocol.specs.Replica.RightReplica.{Point, Leaves, Executes, kept_states, HasSeen, MayReplyOrdered, MayCheckpoint, MayFetch, reply_of}
-use Rattle.protocol.specs.Replica.Owed.{IsFree, IsNumbered, NumbersOnce, Counts, fetching, Proceeds}
+use Rattle.protocol.specs.Replica.State.{State, Call, Ran, kept_of, last_time, root_of}
+use Rattle.protocol.specs.Replica.RightReplica.{Point, Leaves, Executes, kept_states, HasSeen, MayReplyOrdered, MayCheckpoint, MayInstall, reply_of, IsFree}
+use Rattle.protocol.specs.Replica.Transfers.{fetching}
+use Rattle.protocol.specs.Replica.Owed.{IsNumbered, NumbersOnce, Counts, Proceeds}
 use Rattle.replica_histories.specs.Desk.{Desk, snapshot_of, point_of, desk_from}
 use Rattle.replica_histories.specs.Logs.{FitsLog}
 use Rattle.replica_histories.specs.Transfers.{FitsOpen}
@@ -31,14 +32,31 @@ IsAsked c me s k kept =
     × Hears c me (record { sender = 256 + k; message = Request timestamp modes.Ordered op }) s.before s.input
     × (kept_of s.old.state k ≡ Some kept) × (kept.timestamp ≡ timestamp)
 
--- What is due may be said: it is a reply to what ran in the event, or one that is kept, or a checkpoint of a state that
--- was executed, or a fetch of a state that may be installed.
-abbrev pub MaySayDue : Configuration → List Entry → Point → Message → Type 0
-MaySayDue c past point (Reply client timestamp modes.Ordered number answer) =
-    MayReplyOrdered point client timestamp number answer
-MaySayDue c past point (Checkpoint k root) = MayCheckpoint c past point k root × (is_number k ≡ true)
-MaySayDue c past point (Fetch k level index) = MayFetch c past point k
-MaySayDue c past point _ = ⊥
+-- What is due may be said. It is a reply to what ran in the event, or the kept reply to the event's input. Or it is a
+-- checkpoint of a state that was executed, or a fetch of a state that may be installed.
+abbrev pub MaySayDue : Configuration → ℕ → List Entry → Point → Message → Type 0
+MaySayDue c me past point (Reply client timestamp modes.Ordered number answer) =
+    MayReplyOrdered c me past point client timestamp number answer
+MaySayDue c me past point (Checkpoint k root) = MayCheckpoint c past point k root × (is_number k ≡ true)
+MaySayDue c me past point (Fetch k level index) = (root : List ℕ) × MayInstall c past point k root
+MaySayDue c me past point _ = ⊥
+
+-- a fetch
+abbrev pub is_fetching : Message → Bool
+is_fetching message = elim message [ Fetch k level index ↦ true | _ ↦ false ]
+
+-- Each message that is due, but a fetch, is due once and was not sent in the event.
+abbrev pub AreUnsaid : ℕ → List Message → List Entry → Type 0
+AreUnsaid me [] outputs = ⊤
+AreUnsaid me (message ∷ due) outputs =
+    (is_fetching message ≡ false → IsOnItsWay me due outputs message → ⊥) × AreUnsaid me due outputs
+
+-- The event says nothing twice. Its replies, sent or due, are no newer than their clients' last timestamps; those to
+-- requests that run next are newer.
+pub record SaysOnce (me : ℕ) (s : Start) (st : State) (due : List Message) (outputs : List Entry) : Type 0 where
+  pub begins : is_output s.input ≡ false
+  pub unsaid : AreUnsaid me due outputs
+  pub replies : (k : ℕ) (kept : Kept) → IsOnItsWay me due outputs (reply_of k kept) → kept.timestamp ≤ last_time st k
 
 -- each frame that is held was seen and is genuine
 abbrev pub FitsFrames : Configuration → ℕ → Desk → List Entry → Type 0
@@ -67,7 +85,7 @@ pub record FitsDesk (c : Configuration) (me : ℕ) (s : Start) (desk : Desk) (du
   pub opened : FitsOpen c me desk.transfer desk.state.number (behind s outputs)
   pub fetches : FetchesQuorums c me s desk.state.number due outputs
   pub rightly : (message : Message) → Has (λ x. x ≡ message) due
-      → MaySayDue c (behind s outputs) (point_of desk states ran) message
+      → MaySayDue c me (behind s outputs) (point_of desk states ran) message
 
 -- a state of this number, or of a greater one, was fetched, or its root is to be fetched
 abbrev pub IsFetched : ℕ → List Message → List Entry → Type 0
@@ -81,14 +99,15 @@ IsReached c me mark number due history =
     ⊎ (IsFetched mark due history
     × ((v : ℕ) (batch : List ℕ) → Committed c me history v (suc number) batch → ⊥))
 
--- Desk and log fit the history behind the outputs, each on its own, the low mark is reached, and no request was numbered
--- twice.
+-- Desk and log fit the history behind the outputs, each on its own, the low mark is reached, no request was numbered
+-- twice, and nothing is said twice.
 pub record Fits (c : Configuration) (me : ℕ) (s : Start) (desk : Desk) (log : LogData) (due : List Message)
     (outputs : List Entry) : Type 0 where
   pub of_desk : FitsDesk c me s desk due outputs
   pub of_log : FitsLog c me log (behind s outputs)
   pub low : IsReached c me log.low desk.state.number due (behind s outputs)
   pub once : AtEach (NumbersOnce c me) s outputs
+  pub says : SaysOnce me s desk.state due outputs
 
 -- ---- nothing is left owed
 
@@ -149,7 +168,7 @@ EventsEnd =
     (c : Configuration) (me : ℕ) (desk new : Desk) (log after : LogData) (past outputs : List Entry) (input : Entry)
     (held : Holds c me desk log past)
     → Fits c me (start_at c me desk log past held input) new after [] outputs
-    → IsSettled c me new after (outputs ++ input ∷ past) → AnswersInput c me past input outputs held.of_desk.point
+    → IsSettled c me new after (outputs ++ input ∷ past) → AnswersInput c me past input outputs held.of_desk.point new.state.number
     → is_output input ≡ false
     → (outputs ≡ []) ⊎ IsTaken c me (start_at c me desk log past held input)
     → Holds c me new after (outputs ++ input ∷ past)

@@ -1,23 +1,27 @@
 -- The replica that fetches: what its fetches and the parts that come do to what it holds (Castro and Liskov, TOCS 2002,
 -- on state transfer).
-use Rattle.std.specs.Prelude.{◌≡◌, ℕ, ◌+◌, ◌*◌, ◌≤◌, ◌<◌, List, [], ◌∷◌, length, Option, Some}
+use Rattle.std.specs.Prelude.{◌≡◌, ℕ, ◌+◌, ◌*◌, ◌≤◌, ◌<◌, true, List, [], ◌∷◌, length, Option, Some}
+use Rattle.std.specs.Option.{ForSome}
 use Rattle.sha2.specs.Sha256.{sha256}
-use Rattle.partition_tree.specs.Digests.{digest_of_children}
-use Rattle.wire.specs.Messages.{MessageData as Message, CheckpointEntryData as CheckpointEntry, fetch as Fetch, meta as Meta, page as Page}
+use Rattle.partition_tree.specs.Digests.{digest_of_children, root_of as root_of_pages}
+use Rattle.wire.specs.Messages.{BodyData as Body, MessageData as Message, CheckpointEntryData as CheckpointEntry, fetch as Fetch, meta as Meta, page as Page}
 use Rattle.signing.specs.Heard.{heard}
 use Rattle.ordering.specs.Log as logs
 use Rattle.ordering.specs.Log.{LogData}
 use Rattle.protocol.specs.System.Configuration.{Configuration, members}
 use Rattle.protocol.specs.System.Frames.{IsPosted}
-use Rattle.protocol.specs.System.Trace.{Entry}
+use Rattle.protocol.specs.System.Trace.{Entry, Has}
 use Rattle.protocol.specs.System.Trace.Entry.{Got, Sent}
+use Rattle.protocol.specs.Replica.State.{State, IsState, last_time, pages_of}
 use Rattle.protocol.specs.Replica.RightReplica.{others}
+use Rattle.protocol.specs.Replica.Transfers.{fetch_sent}
 use Rattle.protocol.specs.Replica.Owed.{Counts}
 use Rattle.state_transfer.specs.declared.place.Place.{Place}
 use Rattle.state_transfer.specs.Places.{page_place}
 use Rattle.state_transfer.specs.Transfer.{TransferData, wanted, with_digests, with_page}
 use Rattle.replica_histories.specs.Desk.{Desk}
-use Rattle.replica_histories.specs.Transfers.{MayAsk, FitsOpen, transfer_to, open_number}
+use Rattle.replica_histories.specs.Transfers.{MayAsk, AsksNext, FitsOpen, RestsOn, transfer_to, open_number}
+use Rattle.replica_histories.specs.Questions.{is_part, AnswersInput}
 use Rattle.replica_histories.specs.Events.{Start, behind, Fits, Holds, start_at}
 use Rattle.replica_histories.specs.Inputs.{fetch_due}
 
@@ -29,7 +33,7 @@ abbrev pub FetchesFit : Type 0
 FetchesFit =
     (c : Configuration) (me : ℕ) (s : Start) (desk : Desk) (log : LogData) (due : List Message) (outputs : List Entry)
     (t : TransferData) (bytes : List ℕ)
-    → MayAsk c me t desk.state.number (behind s outputs)
+    → MayAsk c me t desk.state.number (behind s outputs) → AsksNext c me t desk.state (behind s outputs)
     → IsPosted c me (Fetch t.number t.asked.level t.asked.index) (others c me) bytes
     → Fits c me s desk log due outputs
     → Fits c me s (record desk { transfer = Some t }) log due (Sent me bytes ∷ outputs)
@@ -38,7 +42,7 @@ abbrev pub DueFetchesFit : Type 0
 DueFetchesFit =
     (c : Configuration) (me : ℕ) (s : Start) (desk : Desk) (log : LogData) (rest : List Message) (outputs : List Entry)
     (t : TransferData) (bytes : List ℕ)
-    → MayAsk c me t desk.state.number (behind s outputs)
+    → MayAsk c me t desk.state.number (behind s outputs) → AsksNext c me t desk.state (behind s outputs)
     → IsPosted c me (Fetch t.number t.asked.level t.asked.index) (others c me) bytes
     → Fits c me s desk log (Fetch t.number t.asked.level t.asked.index ∷ rest) outputs
     → Fits c me s (record desk { transfer = Some t }) log rest (Sent me bytes ∷ outputs)
@@ -53,6 +57,7 @@ QuorumsMayAsk =
     → open_number desk.state.number desk.transfer < entry.number
     → Fits c me s desk log due outputs
     → MayAsk c me (transfer_to desk.transfer entry.number entry.digest pages) desk.state.number (behind s outputs)
+    × AsksNext c me (transfer_to desk.transfer entry.number entry.digest pages) desk.state (behind s outputs)
 
 -- Between events no fetch is due.
 abbrev pub HeldOweNoFetch : Type 0
@@ -63,7 +68,7 @@ HeldOweNoFetch =
 -- ---- a part comes
 
 -- Digests that are heard, of the number and with the digest that their place is to have, begin an event: the open
--- transfer has them.
+-- transfer has them, and may ask on.
 abbrev pub DigestsEnter : Type 0
 DigestsEnter =
     (c : Configuration) (me : ℕ) (desk : Desk) (log : LogData) (past : List Entry) (t : TransferData) (s : ℕ)
@@ -74,17 +79,19 @@ DigestsEnter =
     → wanted t place ≡ Some (digest_of_children digests)
     → Fits c me (start_at c me desk log past held (Got me bytes))
     (record desk { transfer = Some (with_digests t place digests) }) log [] []
+    × MayAsk c me (with_digests t place digests) desk.state.number (Got me bytes ∷ past)
 
--- So does a page, of whatever digest: before anything is installed, all that is held is compared with the root.
+-- So does a page that was asked for last, of whatever digest: before anything is installed, all that is held is compared
+-- with the root. Until the transfer asks on with it, or its state is installed, the replica has not taken it.
 abbrev pub PagesEnter : Type 0
 PagesEnter =
     (c : Configuration) (me : ℕ) (desk : Desk) (log : LogData) (past : List Entry) (t : TransferData) (s index : ℕ)
     (text bytes : List ℕ) (held : Holds c me desk log past)
-    → desk.transfer ≡ Some t
+    → desk.transfer ≡ Some t → t.asked ≡ page_place index
     → heard (members c) me bytes ≡ Some (record { sender = s; message = Page t.number index text })
-    → length t.held ≡ 1024
-    → Fits c me (start_at c me desk log past held (Got me bytes))
-    (record desk { transfer = Some (with_page t index text) }) log [] []
+    → length t.held ≡ 1024 → length t.fetched ≡ 1024
+    → Fits c me (start_at c me desk log past held (Got me bytes)) desk log [] []
+    × MayAsk c me (with_page t index text) desk.state.number (Got me bytes ∷ past)
 
 -- Digests, or a page, count that the open transfer asked for and that have the digest that is wanted.
 abbrev pub AskedDigestsCount : Type 0
@@ -101,9 +108,59 @@ AskedPagesCount =
     → desk.transfer ≡ Some t → t.asked ≡ page_place index → wanted t (page_place index) ≡ Some (sha256 text)
     → Counts c me past held.of_desk.point bytes s (Page t.number index text)
 
+-- ---- what is owed to a part that comes
+
+-- The part of this number, place and digest is another one than the transfer awaits.
+abbrev pub IsOther : TransferData → ℕ → Place → List ℕ → Type 0
+IsOther t number place digest =
+    (awaited : List ℕ) × (wanted t t.asked ≡ Some awaited)
+    × (t.number ≡ number → t.asked ≡ place → awaited ≡ digest → ⊥)
+
+-- Nothing is owed to digests, or to a page, that no open transfer awaits.
+abbrev pub OtherDigestsOweNone : Type 0
+OtherDigestsOweNone =
+    (c : Configuration) (me : ℕ) (desk : Desk) (log : LogData) (past : List Entry) (s k executed : ℕ) (place : Place)
+    (digests : List (List ℕ)) (bytes : List ℕ) (outputs : List Entry) (held : Holds c me desk log past)
+    → heard (members c) me bytes ≡ Some (record { sender = s; message = Meta k place.level place.index digests })
+    → ForSome desk.transfer (λ t. IsOther t k place (digest_of_children digests))
+    → AnswersInput c me past (Got me bytes) outputs held.of_desk.point executed
+
+abbrev pub OtherPagesOweNone : Type 0
+OtherPagesOweNone =
+    (c : Configuration) (me : ℕ) (desk : Desk) (log : LogData) (past : List Entry) (s k index executed : ℕ)
+    (text bytes : List ℕ) (outputs : List Entry) (held : Holds c me desk log past)
+    → heard (members c) me bytes ≡ Some (record { sender = s; message = Page k index text })
+    → ForSome desk.transfer (λ t. IsOther t k (page_place index) (sha256 text))
+    → AnswersInput c me past (Got me bytes) outputs held.of_desk.point executed
+
+-- To any part it suffices that a fetch of the open transfer's number is sent.
+abbrev pub FetchesSuffice : Type 0
+FetchesSuffice =
+    (c : Configuration) (me : ℕ) (desk : Desk) (log : LogData) (past : List Entry) (t : TransferData) (body : Body)
+    (bytes : List ℕ) (outputs : List Entry) (executed : ℕ) (held : Holds c me desk log past)
+    → desk.transfer ≡ Some t → heard (members c) me bytes ≡ Some body → is_part body ≡ true
+    → Has (λ e. fetch_sent e ≡ t.number) outputs
+    → AnswersInput c me past (Got me bytes) outputs held.of_desk.point executed
+
+-- Or that the transfer's number is reached, if these pages are those of a state that can be installed.
+abbrev pub Reaches : State → TransferData → ℕ → Type 0
+Reaches old t executed =
+    (st : State) → IsState st → st.number ≡ t.number → pages_of st ≡ t.held
+    → ((client : ℕ) → last_time old client ≤ last_time st client) → t.number ≤ executed
+
+-- So it is where the pages that it holds, with the part, have the root.
+abbrev pub FetchedSuffice : Type 0
+FetchedSuffice =
+    (c : Configuration) (me : ℕ) (desk : Desk) (log : LogData) (past : List Entry) (t new : TransferData) (body : Body)
+    (bytes : List ℕ) (outputs : List Entry) (executed : ℕ) (held : Holds c me desk log past)
+    → desk.transfer ≡ Some t → heard (members c) me bytes ≡ Some body → is_part body ≡ true
+    → new.number ≡ t.number → MayAsk c me new desk.state.number (Got me bytes ∷ past) → RestsOn new desk.state
+    → length new.held ≡ 1024 → root_of_pages new.held ≡ new.root → Reaches desk.state new executed
+    → AnswersInput c me past (Got me bytes) outputs held.of_desk.point executed
+
 -- ---- the open transfer
 
--- In an event the transfer may be another that fits: it rests on other pages, or a page is given back.
+-- In an event the transfer may be another that fits: it rests on other pages.
 abbrev pub TransfersChange : Type 0
 TransfersChange =
     (c : Configuration) (me : ℕ) (s : Start) (desk : Desk) (log : LogData) (due : List Message) (outputs : List Entry)

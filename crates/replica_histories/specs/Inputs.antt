@@ -207,16 +207,17 @@ OthersDrop =
 -- ---- inputs that pass
 
 -- Bytes that change neither desk nor log, make nothing due and fetch nothing that is kept leave both as they hold, with
--- no output; so does a tick.
+-- no output; so does a tick by which the replica need not move.
 abbrev pub InputsPass : Type 0
 InputsPass =
     (c : Configuration) (me : ℕ) (desk : Desk) (log : LogData) (past : List Entry) (bytes : List ℕ)
     (held : Holds c me desk log past)
     → taken c past (Got me bytes) ≡ None → Enters c me bytes desk desk log log []
-    → AnswersInput c me past (Got me bytes) [] held.of_desk.point
+    → AnswersInput c me past (Got me bytes) [] held.of_desk.point desk.state.number
     → Holds c me desk log (Got me bytes ∷ past)
 
 abbrev pub TicksPass : Type 0
 TicksPass =
     (c : Configuration) (me : ℕ) (desk : Desk) (log : LogData) (past : List Entry)
-    → Holds c me desk log past → Holds c me desk log (Tick me ∷ past)
+    (held : Holds c me desk log past) → AnswersInput c me past (Tick me) [] held.of_desk.point desk.state.number
+    → Holds c me desk log (Tick me ∷ past)

@@ -1,7 +1,7 @@
 -- Which of the requests that wait have a number in the view of their primary (Castro and Liskov, TOCS 2002, on
 -- normal-case operation, garbage collection and view changes). All is said of the history, which forgets nothing: a
 -- request that still waits where its row is cut keeps its number.
-use Rattle.std.specs.Prelude.{◌≡◌, ◌≢◌, ◌↔◌, ℕ, zero, suc, ◌+◌, ◌≤◌, ◌<◌, ◌⊎◌, Bool, true, false, ◌&&◌, not, List, [], ◌∷◌, ◌++◌, length, map, take, filter, max, nat_lt, ◌==◌, if◌then◌else◌, Some, None, option_and_then, AllPairs}
+use Rattle.std.specs.Prelude.{◌≡◌, ◌≢◌, ◌↔◌, ℕ, zero, suc, ◌+◌, ◌≤◌, ◌<◌, ◌⊎◌, Bool, true, false, ◌&&◌, not, List, [], ◌∷◌, ◌++◌, length, map, take, filter, max, nat_lt, ◌==◌, if◌then◌else◌, Some, None, option_and_then, is_some, AllPairs}
 use Rattle.std.specs.List.{list_all, list_any, filter_map, flat_map}
 use Rattle.std.specs.Option.{option_map_or}
 use Rattle.wire.specs.Messages.{MessageData as Message, NewViewData, pre_prepare as PrePrepare}
@@ -14,8 +14,8 @@ use Rattle.protocol.specs.System.Trace.{Entry, party_of, Once, Has, either}
 use Rattle.protocol.specs.System.Trace.Entry.{Sent}
 use Rattle.protocol.specs.Replica.Certificates.{view, taken, low, is_in_marks, are_genuine, logged}
 use Rattle.protocol.specs.Replica.State.{State, Call, call_in, call_of, last_time, execute}
-use Rattle.protocol.specs.Replica.RightReplica.{Point, is_newer, with_waiting, waiting_after, still_waiting}
-use Rattle.protocol.specs.Replica.Owed.{BeginsViewWith, IsNumbered, IsFree, NumbersOnce}
+use Rattle.protocol.specs.Replica.RightReplica.{Point, is_newer, with_waiting, waiting_after, still_waiting, IsFree}
+use Rattle.protocol.specs.Replica.Owed.{BeginsViewWith, IsNumbered, NumbersOnce}
 use Rattle.replica_histories.specs.Logs.{FitsLog}
 
 -- ---- what waits
@@ -86,14 +86,14 @@ HasNone c me v history call = HasNumber c me v history call → ⊥
 abbrev pub IsRightly : Configuration → ℕ → ℕ → List Entry → Waiting → Type 0
 IsRightly c me v history w = either w.numbered (HasNumber c me v history w.call) (HasNone c me v history w.call)
 
--- In the view v nothing is logged above the number that was used last, which is not above the low mark, or has a batch.
+-- In the view v each number above the low mark has a batch up to the one that was used last, and none above it has one.
 -- Of the requests that wait, each of another client, each is flagged rightly. Those that began the view have numbers;
 -- and any other that has one is known, so that a newer one has none.
 pub record FitsNumbers (c : Configuration) (me v used : ℕ) (begun : List BegunCall) (entries : List Waiting)
     (st : State) (waiting : List Call) (history : List Entry) : Type 0 where
   pub calls : calls_of entries ≡ waiting
   pub free : (j : ℕ) → used < j → logged c me history v j ≡ None
-  pub top : (used ≤ low c me history) ⊎ ((batch : List ℕ) × (logged c me history v used ≡ Some batch))
+  pub full : (j : ℕ) → low c me history < j → j ≤ used → is_some (logged c me history v j) ≡ true
   pub rightly : Each (IsRightly c me v history) entries
   pub numbered : Each (λ b. IsNumbered c me history v b.client b.timestamp) begun
   pub known : (client timestamp : ℕ) → IsNumbered c me history v client timestamp
@@ -178,12 +178,12 @@ BatchesKeepNumbers =
 abbrev pub AreCalls : Configuration → List (List ℕ) → List Call → Type 0
 AreCalls c frames calls = map (call_of c) frames ≡ map Some calls
 
--- The oldest requests without a number, up to so many as are asked for, get one above all that were used.
+-- The oldest requests without a number, up to so many as are asked for, get the next one.
 abbrev pub NumbersFit : Type 0
 NumbersFit =
     (c : Configuration) (me v used i most : ℕ) (begun : List BegunCall) (entries : List Waiting) (st : State)
     (waiting : List Call) (batch bytes : List ℕ) (past : List Entry)
-    → primary c v ≡ me → used < i → are_genuine c me batch ≡ true
+    → primary c v ≡ me → IsFree c me past st.number v i → are_genuine c me batch ≡ true
     → AreCalls c (requests_of batch) (calls_of (take most (unnumbered entries)))
     → said bytes ≡ Some (record { sender = me; message = PrePrepare v i batch })
     → FitsNumbers c me v used begun entries st waiting past
@@ -262,6 +262,14 @@ abbrev pub IsNextFree : Configuration → ℕ → List Entry → ℕ → ℕ →
 IsNextFree c me history used executed =
     (is_in_marks c (low c me history) (next_number c me history used) ≡ true)
     × (next_number c me history used ≤ executed + 2)
+
+-- Then it is free.
+abbrev pub NextIsFree : Type 0
+NextIsFree =
+    (c : Configuration) (me v used : ℕ) (begun : List BegunCall) (entries : List Waiting) (st : State)
+    (waiting : List Call) (history : List Entry)
+    → FitsNumbers c me v used begun entries st waiting history → IsNextFree c me history used st.number
+    → IsFree c me history st.number v (next_number c me history used)
 
 -- Where the next number may not be given, or all that waits has one, what is owed of numbers holds.
 abbrev pub NumbersAreGiven : Type 0

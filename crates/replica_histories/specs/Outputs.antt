@@ -1,6 +1,6 @@
 -- What each output does to what a replica holds, and when it may be given (Castro and Liskov, TOCS 2002, on
 -- normal-case operation, garbage collection and state transfer). What asks for an output is an answer of the log.
-use Rattle.std.specs.Prelude.{◌≡◌, ℕ, suc, ◌+◌, ◌%◌, ◌^◌, ◌<◌, true, List, [], ◌∷◌, ◌++◌, length, map, ◌==◌, if◌then◌else◌, Some, None, AllPairs}
+use Rattle.std.specs.Prelude.{◌≡◌, ℕ, suc, ◌+◌, ◌%◌, ◌^◌, ◌≤◌, ◌<◌, true, List, [], ◌∷◌, ◌++◌, length, map, ◌==◌, if◌then◌else◌, Some, None, AllPairs}
 use Rattle.partition_tree.specs.Digests.{root_of as root_of_pages}
 use Rattle.wire.specs.Messages.{MessageData as Message, NewViewData, CheckpointEntryData as CheckpointEntry, pre_prepare as PrePrepare, prepare as Prepare, commit as Commit, checkpoint as Checkpoint}
 use Rattle.wire.specs.Words.{requests_of}
@@ -14,13 +14,13 @@ use Rattle.protocol.specs.System.Frames.{IsPosted}
 use Rattle.protocol.specs.System.Trace.{Entry, Once, Has}
 use Rattle.protocol.specs.System.Trace.Entry.{Executed, Installed, Sent}
 use Rattle.protocol.specs.Replica.Certificates.{taken}
-use Rattle.protocol.specs.Replica.State.{State, IsState, Ran, execute, ran_in, root_of, pages_of}
-use Rattle.protocol.specs.Replica.RightReplica.{others, reply_of, still_waiting}
-use Rattle.protocol.specs.Replica.Owed.{IsSaying, HasRequest, IsNumbered, AreDifferent}
+use Rattle.protocol.specs.Replica.State.{State, IsState, Ran, last_time, execute, ran_in, root_of, pages_of}
+use Rattle.protocol.specs.Replica.RightReplica.{others, IsFree, reply_of, still_waiting}
+use Rattle.protocol.specs.Replica.Owed.{IsSaying, Gives, HasRequest, IsNumbered, AreDifferent}
 use Rattle.state_transfer.specs.Transfer.{TransferData}
 use Rattle.replica_histories.specs.Desk.{Desk, Snapshot, snapshot_of, kept_from, desk_from}
 use Rattle.replica_histories.specs.Marks.{checked_log}
-use Rattle.replica_histories.specs.Transfers.{RestsOn, still_open}
+use Rattle.replica_histories.specs.Transfers.{RestsOn, MayAsk, still_open}
 use Rattle.replica_histories.specs.Events.{Start, behind, Fits}
 
 -- ---- votes
@@ -45,14 +45,14 @@ CommitsFit =
 
 -- ---- a batch of the primary's own
 
--- The number is free at the active primary, and the batch is of different requests that are held, none of which has a
--- number.
+-- The number is the next one of the active primary, and the batch is of different requests that are held, none of which
+-- has a number.
 pub record MayNumber (c : Configuration) (me : ℕ) (desk : Desk) (log : LogData) (history : List Entry) (i : ℕ)
     (batch : List ℕ) : Type 0 where
   pub within : logs.is_in_marks log i ≡ true
   pub active : log.active ≡ true
   pub own : logs.primary log log.view ≡ log.me
-  pub free : logs.logged_batch log i ≡ None
+  pub free : IsFree c me history desk.state.number log.view i
   pub held : Each (λ frame. Has (λ x. x ≡ frame) desk.frames) (requests_of batch)
   pub differ : AllPairs (AreDifferent c) (requests_of batch)
   pub fresh : (client timestamp : ℕ) → HasRequest c client timestamp batch
@@ -92,11 +92,12 @@ executed_desk c desk batch frames = record {
 }
 
 -- The execution of the batch that the log has committed for the next number, once nothing is due. Its replies are due
--- then, and the checkpoint of the new state.
+-- then, and the checkpoint of the new state. A state has a place for each client's reply, so no request runs twice.
 abbrev pub ExecutesFit : Type 0
 ExecutesFit =
     (c : Configuration) (me : ℕ) (s : Start) (desk : Desk) (log : LogData) (outputs : List Entry)
     (batch : List ℕ) (frames : List (List ℕ))
+    → IsState desk.state → c.clients ≤ 256
     → logs.committed_batch log (suc desk.state.number) ≡ Some batch
     → ((frame : List ℕ) → Has (λ x. x ≡ frame) frames → Has (λ x. x ≡ frame) desk.frames)
     → Fits c me s desk log [] outputs
@@ -139,14 +140,15 @@ installed_desk desk st frames = record {
   transfer = None;
 }
 
--- The installation of the state whose pages the open transfer holds, where they have the root that is wanted, once
--- nothing is due and where the log asks for no vote: the log is cut at its number.
+-- The installation of the state whose pages a transfer holds that may ask, if they have the root that is wanted, once
+-- nothing is due and if the log asks for no vote: the log is cut at its number. No client's last timestamp falls.
 abbrev pub InstallationsFit : Type 0
 InstallationsFit =
     (c : Configuration) (me : ℕ) (s : Start) (desk : Desk) (log : LogData) (outputs : List Entry) (t : TransferData)
     (st : State) (frames : List (List ℕ))
-    → desk.transfer ≡ Some t → RestsOn t desk.state → root_of_pages t.held ≡ t.root
+    → MayAsk c me t desk.state.number (behind s outputs) → RestsOn t desk.state → root_of_pages t.held ≡ t.root
     → IsState st → st.number ≡ t.number → pages_of st ≡ t.held → t.number < 2 ^ 48
+    → ((client : ℕ) → last_time desk.state client ≤ last_time st client)
     → ((i : ℕ) → logs.due_prepare log i ≡ None)
     → ((i : ℕ) → logs.due_commit log i ≡ None)
     → ((frame : List ℕ) → Has (λ x. x ≡ frame) frames → Has (λ x. x ≡ frame) desk.frames)
@@ -157,12 +159,13 @@ InstallationsFit =
 -- ---- what goes again
 
 -- A replica that is active may send again its own prepare of a number, its own commit, and its own batch, which no new
--- view began; a checkpoint that was said may always be sent again. All change nothing.
+-- view began; a checkpoint that was said may always be sent again. The event has not sent it. All change nothing.
 abbrev pub PreparesGoAgain : Type 0
 PreparesGoAgain =
     (c : Configuration) (me : ℕ) (s : Start) (desk : Desk) (log : LogData) (due : List Message) (outputs : List Entry)
     (i : ℕ) (digest bytes : List ℕ)
     → log.active ≡ true → logs.prepare_of log i me ≡ Some digest
+    → (Gives me (Prepare log.view i digest) outputs → ⊥)
     → IsPosted c me (Prepare log.view i digest) (others c me) bytes
     → Fits c me s desk log due outputs → Fits c me s desk log due (Sent me bytes ∷ outputs)
 
@@ -171,6 +174,7 @@ CommitsGoAgain =
     (c : Configuration) (me : ℕ) (s : Start) (desk : Desk) (log : LogData) (due : List Message) (outputs : List Entry)
     (i : ℕ) (digest bytes : List ℕ)
     → log.active ≡ true → logs.commit_of log i me ≡ Some digest
+    → (Gives me (Commit log.view i digest) outputs → ⊥)
     → IsPosted c me (Commit log.view i digest) (others c me) bytes
     → Fits c me s desk log due outputs → Fits c me s desk log due (Sent me bytes ∷ outputs)
 
@@ -186,13 +190,15 @@ BatchesGoAgain =
     (i : ℕ) (batch bytes : List ℕ)
     → log.active ≡ true → logs.primary log log.view ≡ me → logs.logged_batch log i ≡ Some batch
     → IsBegunBelow c log.view i (behind s outputs)
+    → (Gives me (PrePrepare log.view i batch) outputs → ⊥)
     → IsPosted c me (PrePrepare log.view i batch) (others c me) bytes
     → Fits c me s desk log due outputs → Fits c me s desk log due (Sent me bytes ∷ outputs)
 
 abbrev pub CheckpointsGoAgain : Type 0
 CheckpointsGoAgain =
-    (c : Configuration) (me : ℕ) (s : Start) (desk : Desk) (log : LogData) (due : List Message) (outputs : List Entry)
+    (c : Configuration) (me : ℕ) (s : Start) (desk : Desk) (log : LogData) (outputs : List Entry)
     (k : ℕ) (root bytes : List ℕ)
     → Once (λ earlier e. IsSaying me (Checkpoint k root) e) (behind s outputs)
+    → (Gives me (Checkpoint k root) outputs → ⊥)
     → IsPosted c me (Checkpoint k root) (others c me) bytes
-    → Fits c me s desk log due outputs → Fits c me s desk log due (Sent me bytes ∷ outputs)
+    → Fits c me s desk log [] outputs → Fits c me s desk log [] (Sent me bytes ∷ outputs)

@@ -1,19 +1,27 @@
--- Questions that an input may put to what a replica holds: for a part of a state that it keeps, or for a read. What an
--- event owes to them (Castro and Liskov, TOCS 2002, on state transfer and on read-only operations).
-use Rattle.std.specs.Prelude.{◌≡◌, ℕ, Bool, true, false, List, Option}
+-- What an input may want of a replica: a part of a state that it keeps, or a read; that it goes on with a part that
+-- comes; or that it moves to another view. What an event owes to it (Castro and Liskov, TOCS 2002, on state transfer,
+-- on read-only operations, and on view changes).
+use Rattle.std.specs.Prelude.{◌≡◌, ℕ, ◌≤◌, ◌⊎◌, Bool, true, false, List, ◌∷◌, ◌++◌, Option, Some}
 use Rattle.std.specs.Option.{option_map_or}
 use Rattle.tuple_codec.specs.Operations.{Operation}
 use Rattle.space.specs.Applying.{outcome, is_read_only}
+use Rattle.sha2.specs.Sha256.{sha256}
+use Rattle.partition_tree.specs.Digests.{digest_of_children}
+use Rattle.terms.specs.declared.state.Level.{Level}
+use Rattle.terms.specs.declared.state.Level.TheVariants as levels
 use Rattle.terms.specs.declared.order.Mode.TheVariants as modes
-use Rattle.wire.specs.Messages.{BodyData as Body, MessageData as Message, request as Request, reply as Reply, fetch as Fetch}
+use Rattle.wire.specs.Messages.{BodyData as Body, MessageData as Message, request as Request, reply as Reply, fetch as Fetch, meta as Meta, page as Page, ViewChangeData, view_change as ViewChange}
+use Rattle.wire.specs.Words.{said}
 use Rattle.signing.specs.Heard.{heard}
 use Rattle.protocol.specs.System.Configuration.{Configuration, members}
 use Rattle.protocol.specs.System.Frames.{same_mode}
 use Rattle.protocol.specs.System.Trace.{Entry, Hears}
 use Rattle.protocol.specs.System.Trace.Entry.{Got}
+use Rattle.protocol.specs.Replica.Selection.{is_within}
+use Rattle.protocol.specs.Replica.Certificates.{target}
 use Rattle.protocol.specs.Replica.State.{State, tuples}
-use Rattle.protocol.specs.Replica.RightReplica.{Point}
-use Rattle.protocol.specs.Replica.Owed.{Gives}
+use Rattle.protocol.specs.Replica.RightReplica.{Point, IsNewViewChange}
+use Rattle.protocol.specs.Replica.Owed.{Gives, IsAwaitedAlone, TransferGoesOn, HasToMove, AreKeysSpent}
 use Rattle.replica_histories.specs.TransfersAnswers.{AnswersFetches}
 
 -- the reply to a read: the outcome in a state, with that state's number
@@ -30,32 +38,89 @@ AnswersReads c me before input outputs old =
     (client timestamp : ℕ) (op : Operation) → Hears c me (read_from client timestamp op) before input
     → is_read_only op ≡ true → Gives me (read_reply old.state client timestamp op) outputs
 
--- What it owes to whatever is asked.
-abbrev pub AnswersInput : Configuration → ℕ → List Entry → Entry → List Entry → Point → Type 0
-AnswersInput c me before input outputs old =
-    AnswersFetches c me before input outputs old × AnswersReads c me before input outputs old
+-- What it owes to digests, or to a page, as its input: that the transfer which awaits them goes on. executed: the number
+-- of the state behind the event.
+abbrev pub AnswersDigests : Configuration → ℕ → List Entry → Entry → List Entry → Point → ℕ → Type 0
+AnswersDigests c me before input outputs old executed =
+    (s k index : ℕ) (level : Level) (digests : List (List ℕ))
+    → Hears c me (record { sender = s; message = Meta k level index digests }) before input
+    → IsAwaitedAlone c me before old k level index (digest_of_children digests)
+    → TransferGoesOn c me (input ∷ before) old outputs executed k
 
--- a message asks for a part, or for a read
-abbrev pub is_question : Body → Bool
-is_question body = elim body.message [
+abbrev pub AnswersPages : Configuration → ℕ → List Entry → Entry → List Entry → Point → ℕ → Type 0
+AnswersPages c me before input outputs old executed =
+    (s k index : ℕ) (text : List ℕ) → Hears c me (record { sender = s; message = Page k index text }) before input
+    → IsAwaitedAlone c me before old k levels.Page index (sha256 text)
+    → TransferGoesOn c me (input ∷ before) old outputs executed k
+
+-- What an event owes where the replica has to move to a view: it has sent a view change for that view, or for a later
+-- one. Its keys may be spent, or no frame may say what it has to say.
+abbrev pub MovesOn : Configuration → ℕ → List Entry → Entry → List Entry → Point → Type 0
+MovesOn c me before input outputs old =
+    (vc : ViewChangeData) (bytes : List ℕ) → HasToMove c me before input old.waiting vc.view
+    → IsNewViewChange c me (input ∷ before) old vc → is_within c vc ≡ true
+    → said bytes ≡ Some (record { sender = me; message = ViewChange vc })
+    → (vc.view ≤ target (outputs ++ input ∷ before)) ⊎ AreKeysSpent before
+
+-- What it owes to whatever comes.
+abbrev pub AnswersInput : Configuration → ℕ → List Entry → Entry → List Entry → Point → ℕ → Type 0
+AnswersInput c me before input outputs old executed =
+    AnswersFetches c me before input outputs old × AnswersReads c me before input outputs old
+    × AnswersDigests c me before input outputs old executed × AnswersPages c me before input outputs old executed
+    × MovesOn c me before input outputs old
+
+-- a message asks for a part, or for a read, or is a part
+abbrev pub asks_part : Body → Bool
+asks_part body = elim body.message [
   | Fetch k level index ↦ true
+  | Meta k level index digests ↦ true
+  | Page k index text ↦ true
   | Request t mode op ↦ same_mode mode modes.ReadOnly
   | _ ↦ false
 ]
 
--- what is heard, if anything, asks so
+-- or it is a view change, which may make the replica move
+abbrev pub is_question : Body → Bool
+is_question body = elim body.message [
+  | Fetch k level index ↦ true
+  | Meta k level index digests ↦ true
+  | Page k index text ↦ true
+  | Request t mode op ↦ same_mode mode modes.ReadOnly
+  | ViewChange vc ↦ true
+  | _ ↦ false
+]
+
+abbrev pub is_part : Body → Bool
+is_part body = elim body.message [ Meta k level index digests ↦ true | Page k index text ↦ true | _ ↦ false ]
+
+-- what is heard, if anything, is so
+abbrev pub has_part : Option Body → Bool
+has_part body = option_map_or asks_part body false
+
 abbrev pub has_question : Option Body → Bool
 has_question body = option_map_or is_question body false
 
--- an input is heard to ask so
+-- bytes are heard to be so; whatever else comes may make the replica move
+abbrev pub brings_part : Configuration → ℕ → Entry → Bool
+brings_part c me (Got p bytes) = has_part (heard (members c) me bytes)
+brings_part c me _ = false
+
 abbrev pub brings_question : Configuration → ℕ → Entry → Bool
 brings_question c me (Got p bytes) = has_question (heard (members c) me bytes)
-brings_question c me _ = false
+brings_question c me _ = true
 
 -- ---- laws
+
+-- An input that is heard to ask for no part and no read, and to be no part, owes none of these.
+abbrev pub OthersOweNoPart : Type 0
+OthersOweNoPart =
+    (c : Configuration) (me : ℕ) (before : List Entry) (input : Entry) (outputs : List Entry) (old : Point)
+    (executed : ℕ) → brings_part c me input ≡ false
+    → AnswersFetches c me before input outputs old × AnswersReads c me before input outputs old
+    × AnswersDigests c me before input outputs old executed × AnswersPages c me before input outputs old executed
 
 -- An input that is heard to ask nothing owes no answer.
 abbrev pub OthersOweNone : Type 0
 OthersOweNone =
     (c : Configuration) (me : ℕ) (before : List Entry) (input : Entry) (outputs : List Entry) (old : Point)
-    → brings_question c me input ≡ false → AnswersInput c me before input outputs old
+    (executed : ℕ) → brings_question c me input ≡ false → AnswersInput c me before input outputs old executed

@@ -3,15 +3,14 @@
 use Rattle.std.specs.Prelude.{◌≡◌, ◌≢◌, ℕ, ◌<◌, List, [], ◌∷◌, length, replicate, Option, Some, None}
 use Rattle.std.specs.Option.{option_map_or}
 use Rattle.wire.specs.Messages.{ViewChangeData}
-use Rattle.protocol.specs.System.Configuration.{Configuration}
+use Rattle.protocol.specs.System.Configuration.{Configuration, replicas}
 use Rattle.protocol.specs.System.Trace.{Entry, Once}
 use Rattle.protocol.specs.System.Trace.Entry.{Got, Sent}
 use Rattle.protocol.specs.Replica.Selection.{signed_change}
-use Rattle.protocol.specs.Replica.Certificates.{view}
-use Rattle.protocol.specs.Replica.RightReplica.{HasSeen}
-use Rattle.protocol.specs.Replica.Owed.{latest_change}
+use Rattle.protocol.specs.Replica.Certificates.{view, latest_change}
+use Rattle.protocol.specs.Replica.RightReplica.{HasSeen, sought_view, JoinsOthers}
 use Rattle.view_change.specs.declared.change_fault.ChangeFault.{ChangeFault}
-use Rattle.view_change.specs.ReceivedData.{HeldData, held_of, refusal_of, with_held}
+use Rattle.view_change.specs.ReceivedData.{HeldData, held_of, refusal_of, with_held, AreHeldFrom, later_views, IsJoined}
 
 -- the view of what is held of a replica, else 0
 abbrev pub held_view : List (Option HeldData) → ℕ → ℕ
@@ -69,3 +68,18 @@ ReceivedOwn =
     (c : Configuration) (me : ℕ) (past : List Entry) (held : List (Option HeldData)) (h : HeldData)
     → h.sender ≡ me → me < length held → FitsReceived c me past held
     → FitsReceived c me (Sent me h.frame ∷ past) (with_held h held)
+
+-- More than f of the others that are held are for views above the sought one: the least of these is joined.
+abbrev pub HeldAreJoined : Type 0
+HeldAreJoined =
+    (c judged : Configuration) (me v : ℕ) (history : List Entry) (held : List (Option HeldData))
+    → length held ≡ replicas c → AreHeldFrom judged 0 held
+    → IsJoined c.faults (later_views me (sought_view c history) held) v → FitsReceived c me history held
+    → JoinsOthers c me history v
+
+-- And who is ahead in the history is so by what is held.
+abbrev pub AheadAreHeld : Type 0
+AheadAreHeld =
+    (c judged : Configuration) (me v : ℕ) (history : List Entry) (held : List (Option HeldData))
+    → length held ≡ replicas c → AreHeldFrom judged 0 held → JoinsOthers c me history v
+    → FitsReceived c me history held → IsJoined c.faults (later_views me (sought_view c history) held) v

@@ -1,6 +1,6 @@
 -- How a transfer of a state by its parts meets the history of the replica that asks for them (Castro and Liskov, TOCS
 -- 2002, on hierarchical state partitions and state transfer).
-use Rattle.std.specs.Prelude.{◌≡◌, ℕ, ◌≤◌, ◌<◌, Bool, true, false, List, [], ◌∷◌, length, nat_lt, Option, Some, None, slice_index_or, option_and_then}
+use Rattle.std.specs.Prelude.{◌≡◌, ℕ, ◌≤◌, ◌<◌, ◌⊎◌, Bool, true, false, List, [], ◌∷◌, length, nat_lt, Option, Some, None, slice_index_or, option_and_then, ⊤}
 use Rattle.std.specs.Bool.{then_some}
 use Rattle.sha2.specs.Sha256.{sha256}
 use Rattle.terms.specs.declared.state.Level.{Level}
@@ -10,16 +10,17 @@ use Rattle.wire.specs.Messages.{fetch as Fetch, meta as Meta, page as Page}
 use Rattle.wire.specs.Words.{said}
 use Rattle.signing.specs.Heard.{heard}
 use Rattle.protocol.specs.System.Configuration.{Configuration, members}
-use Rattle.protocol.specs.System.Trace.{Entry, Once}
-use Rattle.protocol.specs.System.Trace.Entry.{Got, Installed, Sent}
+use Rattle.protocol.specs.System.Trace.{Entry}
+use Rattle.protocol.specs.System.Trace.Entry.{Got, Tick, Executed, Installed, Sent}
 use Rattle.protocol.specs.Replica.Selection.{is_quorum}
 use Rattle.protocol.specs.Replica.Certificates.{count_checkpoints}
 use Rattle.protocol.specs.Replica.State.{State, IsState, pages_of, page_text}
-use Rattle.protocol.specs.Replica.RightReplica.{Point, IsStep, GetsPage, IsRootWanted, MayFetch, still_waiting}
-use Rattle.protocol.specs.Replica.Owed.{place_from, fetching, asked_last, GotBelow, IsWanted, Counts}
+use Rattle.protocol.specs.Replica.RightReplica.{Point, IsStep, IsRootWanted, IsAskedAgain, MayFetch, still_waiting}
+use Rattle.protocol.specs.Replica.Transfers.{place_from, fetching, asked_last, took, in_place, GotBelow, NoneAsked, IsNext}
+use Rattle.protocol.specs.Replica.Owed.{IsWanted, Counts}
 use Rattle.state_transfer.specs.declared.place.Place.{Place}
 use Rattle.state_transfer.specs.Places.{page_place}
-use Rattle.state_transfer.specs.Transfer.{TransferData, new_transfer, moved_to, wanted_at, wanted, asking, with_digests, with_page, replaced_at, given_back, RestsOn as IsRested}
+use Rattle.state_transfer.specs.Transfer.{TransferData, new_transfer, moved_to, wanted_at, wanted, next_place, asking, with_digests, with_page, replaced_at, given_back, RestsOn as IsRested}
 
 -- ---- a transfer and a history
 
@@ -37,29 +38,54 @@ known_below t j = slice_index_or t.page_digests j None
 abbrev pub HasQuorum : Configuration → List Entry → ℕ → List ℕ → Type 0
 HasQuorum c history k root = is_quorum c (count_checkpoints c history (record { number = k; digest = root })) ≡ true
 
--- The root may be fetched, and what is known and held was got: digests below each place whose digest is theirs, and
--- pages for their own places.
+-- The root may be fetched, and the digests that are known were got: those below each place whose digest is theirs.
 pub record Aims (c : Configuration) (me : ℕ) (t : TransferData) (history : List Entry) : Type 0 where
   pub root_wanted : IsRootWanted c history t.number t.root
   pub inner : (digests : List (List ℕ)) → t.part_digests ≡ Some digests
       → GotBelow c me history levels.Root 0 t.root digests
   pub parts : (j : ℕ) (digests : List (List ℕ)) → known_below t j ≡ Some digests
       → GotBelow c me history levels.Inner j (digest_of_children digests) digests
-  pub fetched : (i : ℕ) → is_fetched t i ≡ true → Once (GetsPage c me i (page_held t i)) history
 
--- And its place was asked for last, for its number, which is the greatest that anything was fetched for.
+-- The pages that the transfer fetched are those that the replica took by its history, if the newest event goes on for
+-- the number next. Between events none goes on; an event that goes on for the transfer's number may ask, or install.
+abbrev pub AreTaken : Configuration → ℕ → Option ℕ → TransferData → List Entry → Type 0
+AreTaken c me next t history =
+    (i : ℕ) → i < 1024 → took c me next history i ≡ then_some (is_fetched t i) (page_held t i)
+
+-- no page was taken
+abbrev pub NoneTaken : Configuration → ℕ → Option ℕ → List Entry → Type 0
+NoneTaken c me next history = (i : ℕ) → i < 1024 → took c me next history i ≡ None
+
+-- Its place was asked for last, for its number, which is the greatest that anything was fetched for; and what it
+-- fetched was taken.
 pub record FitsTransfer (c : Configuration) (me : ℕ) (t : TransferData) (history : List Entry) : Type 0 where
   pub aims : Aims c me t history
   pub asked : asked_last history ≡ Some (t.number, (t.asked.level, t.asked.index))
   pub newest : fetching history ≡ t.number
+  pub taken : AreTaken c me None t history
 
--- It is above the executed number, and nothing above it was fetched: its next place may be asked for.
-abbrev pub MayAsk : Configuration → ℕ → TransferData → ℕ → List Entry → Type 0
-MayAsk c me t number history = Aims c me t history × (fetching history ≤ t.number) × (number < t.number)
+-- It is above the executed number, nothing above it was fetched, and what it fetched is taken by an event that goes on
+-- for its number: so its next place may be asked for, or its state installed.
+pub record MayAsk (c : Configuration) (me : ℕ) (t : TransferData) (number : ℕ) (history : List Entry) : Type 0 where
+  pub aims : Aims c me t history
+  pub newest : fetching history ≤ t.number
+  pub ahead : number < t.number
+  pub taken : AreTaken c me (Some t.number) t history
 
--- What is open at a replica of this executed number: a transfer above it; or none, and nothing above it was fetched.
+-- The place that it asks for is the next part, over the state st, or is asked for again.
+abbrev pub AsksNext : Configuration → ℕ → TransferData → State → List Entry → Type 0
+AsksNext c me t st history =
+    IsNext c me history (in_place c me t.number history st) t.number t.root t.asked.level t.asked.index
+    ⊎ IsAskedAgain history t.number t.asked.level t.asked.index
+
+-- the digests of the root's children are known
+abbrev pub IsTold : TransferData → Type 0
+IsTold t = (digests : List (List ℕ)) × (t.part_digests ≡ Some digests)
+
+-- The transfer that is open at a replica of this executed number is above it; if none is, nothing above it was fetched,
+-- and no page is taken.
 abbrev pub FitsOpen : Configuration → ℕ → Option TransferData → ℕ → List Entry → Type 0
-FitsOpen c me None number history = fetching history ≤ number
+FitsOpen c me None number history = (fetching history ≤ number) × NoneTaken c me None history
 FitsOpen c me (Some t) number history = FitsTransfer c me t history × (number < t.number)
 
 -- The pages that were not fetched are those of the state.
@@ -126,23 +152,24 @@ AskedStays =
     (past : List Entry) (e : Entry) → place_sent e ≡ None
     → (fetching (e ∷ past) ≡ fetching past) × (asked_last (e ∷ past) ≡ asked_last past)
 
--- So what is open stays so, and what may ask may still.
+-- an entry that executes nothing and installs nothing
+abbrev pub LeavesState : Entry → Type 0
+LeavesState e = elim e [ Executed r n batch ↦ ⊥ | Installed r n root ↦ ⊥ | _ ↦ ⊤ ]
+
+-- If it leaves the state too, what is open stays so.
 abbrev pub OpenStays : Type 0
 OpenStays =
     (c : Configuration) (me : ℕ) (open_one : Option TransferData) (number : ℕ) (past : List Entry) (e : Entry)
-    → place_sent e ≡ None → FitsOpen c me open_one number past → FitsOpen c me open_one number (e ∷ past)
+    → place_sent e ≡ None → LeavesState e → FitsOpen c me open_one number past
+    → FitsOpen c me open_one number (e ∷ past)
 
-abbrev pub MayAskStays : Type 0
-MayAskStays =
-    (c : Configuration) (me : ℕ) (t : TransferData) (number : ℕ) (past : List Entry) (e : Entry)
-    → place_sent e ≡ None → MayAsk c me t number past → MayAsk c me t number (e ∷ past)
-
--- Where the executed number grows, a transfer up to it ends.
-abbrev pub OpenEnds : Type 0
-OpenEnds =
-    (c : Configuration) (me : ℕ) (open_one : Option TransferData) (number later : ℕ) (history : List Entry)
-    → number ≤ later → FitsOpen c me open_one number history
-    → FitsOpen c me (still_open later open_one) later history
+-- An execution ends a transfer up to its number, and leaves one above it.
+abbrev pub OpenExecutes : Type 0
+OpenExecutes =
+    (c : Configuration) (me : ℕ) (open_one : Option TransferData) (number later : ℕ) (past : List Entry)
+    (batch : List ℕ)
+    → number ≤ later → FitsOpen c me open_one number past
+    → FitsOpen c me (still_open later open_one) later (Executed me later batch ∷ past)
 
 -- ---- laws: what is taken
 
@@ -166,21 +193,33 @@ DigestsOpen =
     → FitsOpen c me (Some t) number past
     → FitsOpen c me (Some (with_digests t place digests)) number (Got me bytes ∷ past)
 
--- A page that is heard.
-abbrev pub PagesTaken : Type 0
-PagesTaken =
-    (c : Configuration) (me : ℕ) (t : TransferData) (past : List Entry) (bytes : List ℕ) (s n index : ℕ)
-    (text : List ℕ)
-    → heard (members c) me bytes ≡ Some (record { sender = s; message = Page n index text })
-    → length t.held ≡ 1024 → Aims c me t past → Aims c me (with_page t index text) (Got me bytes ∷ past)
+-- Behind them the transfer may ask for any place: no page came.
+abbrev pub DigestsMayAsk : Type 0
+DigestsMayAsk =
+    (c : Configuration) (me : ℕ) (t : TransferData) (number : ℕ) (past : List Entry) (bytes : List ℕ) (s n : ℕ)
+    (place : Place) (digests : List (List ℕ))
+    → heard (members c) me bytes
+    ≡ Some (record { sender = s; message = Meta n place.level place.index digests })
+    → wanted t place ≡ Some (digest_of_children digests)
+    → FitsOpen c me (Some t) number past
+    → MayAsk c me (with_digests t place digests) number (Got me bytes ∷ past)
 
-abbrev pub PagesOpen : Type 0
-PagesOpen =
+-- A page that is heard, and was asked for last, is taken by an event that goes on.
+abbrev pub PagesMayAsk : Type 0
+PagesMayAsk =
     (c : Configuration) (me : ℕ) (t : TransferData) (number : ℕ) (past : List Entry) (bytes : List ℕ)
-    (s n index : ℕ) (text : List ℕ)
-    → heard (members c) me bytes ≡ Some (record { sender = s; message = Page n index text })
-    → length t.held ≡ 1024 → FitsOpen c me (Some t) number past
-    → FitsOpen c me (Some (with_page t index text)) number (Got me bytes ∷ past)
+    (s index : ℕ) (text : List ℕ)
+    → heard (members c) me bytes ≡ Some (record { sender = s; message = Page t.number index text })
+    → t.asked ≡ page_place index → length t.held ≡ 1024 → length t.fetched ≡ 1024
+    → FitsOpen c me (Some t) number past
+    → MayAsk c me (with_page t index text) number (Got me bytes ∷ past)
+
+-- Behind a tick the open transfer may ask again.
+abbrev pub TicksMayAsk : Type 0
+TicksMayAsk =
+    (c : Configuration) (me : ℕ) (t : TransferData) (number : ℕ) (st : State) (past : List Entry)
+    → FitsOpen c me (Some t) number past
+    → MayAsk c me t number (Tick me ∷ past) × AsksNext c me t st (Tick me ∷ past)
 
 -- A page that is given back leaves the transfer as it was.
 abbrev pub PagesGiveBack : Type 0
@@ -193,8 +232,9 @@ abbrev pub PagesRested : Type 0
 PagesRested =
     (c : Configuration) (me : ℕ) (pages : List (List ℕ)) (old new : TransferData) (number : ℕ)
     (history : List Entry)
-    → length old.fetched ≡ 1024 → IsRested old pages new → FitsOpen c me (Some old) number history
-    → FitsOpen c me (Some new) number history
+    → IsRested old pages new
+    → (FitsOpen c me (Some old) number history → FitsOpen c me (Some new) number history)
+    × (MayAsk c me old number history → MayAsk c me new number history)
 
 -- ---- laws: a transfer starts, moves, and asks
 
@@ -219,27 +259,37 @@ TransfersMove =
 abbrev pub QuorumsOpen : Type 0
 QuorumsOpen =
     (c : Configuration) (me : ℕ) (open_one : Option TransferData) (number k : ℕ) (root : List ℕ)
-    (pages : List (List ℕ)) (history : List Entry)
+    (pages : List (List ℕ)) (st : State) (history : List Entry)
     → HasQuorum c history k root → open_number number open_one < k → FitsOpen c me open_one number history
     → MayAsk c me (transfer_to open_one k root pages) number history
+    × AsksNext c me (transfer_to open_one k root pages) st history
 
 abbrev pub LowerAreFetched : Type 0
 LowerAreFetched =
     (c : Configuration) (me : ℕ) (open_one : Option TransferData) (number k : ℕ) (history : List Entry)
     → number < k → k ≤ open_number number open_one → FitsOpen c me open_one number history → k ≤ fetching history
 
--- What is open may ask again, or for another place.
-abbrev pub OpenMayAsk : Type 0
-OpenMayAsk =
+-- A transfer that may ask may ask for any place.
+abbrev pub MayAskAny : Type 0
+MayAskAny =
     (c : Configuration) (me : ℕ) (t : TransferData) (place : Option Place) (number : ℕ) (history : List Entry)
-    → FitsOpen c me (Some t) number history → MayAsk c me (asking place t) number history
+    → MayAsk c me t number history → MayAsk c me (asking place t) number history
 
--- A transfer that may ask asks for a part of a state that may be installed; and behind the fetch of its place it is
--- open.
+-- If a transfer may ask, and no fetch was sent in the event, the first place that is missing is the next part.
+abbrev pub NextsAreFirst : Type 0
+NextsAreFirst =
+    (c : Configuration) (me : ℕ) (t : TransferData) (st : State) (history : List Entry) (place : Place)
+    → MayAsk c me t st.number history → RestsOn t st → length t.held ≡ 1024 → NoneAsked history → IsTold t
+    → next_place t ≡ Some place
+    → IsNext c me history (in_place c me t.number history st) t.number t.root place.level place.index
+
+-- A transfer that may ask for its place asks for a part of a state that may be installed; and behind the fetch of its
+-- place it is open.
 abbrev pub TransfersMayFetch : Type 0
 TransfersMayFetch =
     (c : Configuration) (me : ℕ) (t : TransferData) (past : List Entry) (point : Point)
-    → MayAsk c me t point.state.number past → MayFetch c past point t.number
+    → MayAsk c me t point.state.number past → AsksNext c me t point.state past
+    → MayFetch c me past point t.number t.asked.level t.asked.index
 
 abbrev pub TransfersAsk : Type 0
 TransfersAsk =
@@ -272,12 +322,12 @@ abbrev pub installed_point : Point → State → Point
 installed_point old st =
     record { state = st; snapshots = st ∷ old.snapshots; ran = old.ran; waiting = still_waiting st old.waiting }
 
--- Where all that is held has the root, and is the pages of a state of the number, that state may be installed, and
--- nothing above it was fetched.
+-- If a transfer may ask, and all that it holds has the root and is the pages of a state of its number, that state may be
+-- installed, and nothing above it was fetched.
 abbrev pub TransfersInstall : Type 0
 TransfersInstall =
     (c : Configuration) (me : ℕ) (t : TransferData) (past : List Entry) (point : Point) (st : State)
-    → FitsOpen c me (Some t) point.state.number past → RestsOn t point.state → root_of_pages t.held ≡ t.root
+    → MayAsk c me t point.state.number past → RestsOn t point.state → root_of_pages t.held ≡ t.root
     → IsState st → st.number ≡ t.number → pages_of st ≡ t.held
     → IsStep c me past point (Installed me t.number t.root) (installed_point point st)
     × FitsOpen c me None st.number (Installed me t.number t.root ∷ past)

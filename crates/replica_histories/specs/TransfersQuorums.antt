@@ -6,7 +6,8 @@ use Rattle.wire.specs.Messages.{MessageData as Message, CheckpointEntryData as C
 use Rattle.protocol.specs.System.Configuration.{Configuration}
 use Rattle.protocol.specs.System.Trace.{Entry, Has}
 use Rattle.protocol.specs.Replica.Certificates.{checkpoint_in, checkpoints_of, count_checkpoints}
-use Rattle.protocol.specs.Replica.Owed.{IsSaying, Gives, fetching, has_number}
+use Rattle.protocol.specs.Replica.Transfers.{fetching}
+use Rattle.protocol.specs.Replica.Owed.{IsSaying, Gives, has_number}
 use Rattle.replica_histories.specs.Running.{Start, behind, IsOnItsWay}
 use Rattle.replica_histories.specs.Transfers.{HasQuorum}
 

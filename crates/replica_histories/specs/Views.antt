@@ -1,10 +1,10 @@
 -- How a replica moves from view to view: it leaves its view by a view change, and a new view that it takes or sends
 -- begins a later one (Castro and Liskov, TOCS 2002, on view changes).
-use Rattle.std.specs.Prelude.{◌≡◌, ℕ, suc, ◌<◌, true, List, [], ◌∷◌, map, reverse, nat_lt, if◌then◌else◌, Some, None}
+use Rattle.std.specs.Prelude.{◌≡◌, ◌≢◌, ℕ, suc, ◌<◌, ◌⊎◌, true, List, [], ◌∷◌, map, reverse, nat_lt, if◌then◌else◌, Some, None}
 use Rattle.terms.specs.declared.state.Level.TheVariants as levels
 use Rattle.partition_tree.specs.Digests.{root_of as root_of_pages}
 use Rattle.wire.specs.Messages.{MessageData as Message, ViewChangeData, NewViewData, CheckpointEntryData as CheckpointEntry, view_change as ViewChange, new_view as NewView, fetch as Fetch}
-use Rattle.wire.specs.Words.{carried}
+use Rattle.wire.specs.Words.{carried, said}
 use Rattle.wire.specs.Lists.{Each}
 use Rattle.signing.specs.Heard.{heard}
 use Rattle.ordering.specs.Log as logs
@@ -12,14 +12,16 @@ use Rattle.ordering.specs.Log.{LogData}
 use Rattle.protocol.specs.System.Configuration.{Configuration, primary, is_number, members}
 use Rattle.protocol.specs.System.Frames.{IsPosted}
 use Rattle.protocol.specs.System.Trace.{Entry, Once}
-use Rattle.protocol.specs.System.Trace.Entry.{Got, Sent}
+use Rattle.protocol.specs.System.Trace.Entry.{Got, Tick, Sent}
 use Rattle.protocol.specs.Replica.Selection.{is_within}
-use Rattle.protocol.specs.Replica.Certificates.{target, taken}
-use Rattle.protocol.specs.Replica.RightReplica.{Point, HasSeen, SentBefore, IsPreparedList, IsPrePreparedList}
-use Rattle.protocol.specs.Replica.Owed.{Counts, latest_change}
-use Rattle.replica_histories.specs.Desk.{Desk, Snapshot, desk_from}
+use Rattle.protocol.specs.Replica.Certificates.{view, target, taken, latest_change}
+use Rattle.protocol.specs.Replica.RightReplica.{Point, HasSeen, SentBefore, HasOwnLeaf, IsPreparedList, IsPrePreparedList, TimesOut, JoinsOthers, sought_view, Leaves, IsNewViewChange, kept_states}
+use Rattle.protocol.specs.Replica.Owed.{Gives, Counts}
+use Rattle.view_change.specs.ClaimsView.{ClaimsData}
+use Rattle.replica_histories.specs.Claims.{FitsClaims}
+use Rattle.replica_histories.specs.Desk.{Desk, Snapshot, desk_from, snapshot_of}
 use Rattle.replica_histories.specs.Logs.{FitsLog}
-use Rattle.replica_histories.specs.Transfers.{MayAsk, transfer_to, open_number}
+use Rattle.replica_histories.specs.Transfers.{MayAsk, AsksNext, transfer_to, open_number}
 use Rattle.replica_histories.specs.Events.{Start, behind, Fits, Holds, start_at}
 
 -- ---- leaving a view
@@ -31,7 +33,8 @@ entry_of snapshot = record { number = snapshot.number; digest = root_of_pages sn
 abbrev pub entries_of : List Snapshot → List CheckpointEntry
 entries_of snapshots = reverse (map entry_of snapshots)
 
--- The view change says what the history says, for a view above the own one and above those that were said before.
+-- The view change says what the history says, for a view above the own one and above those that were said before. It
+-- has a reason.
 pub record IsChange (c : Configuration) (me : ℕ) (desk : Desk) (log : LogData) (history : List Entry)
     (vc : ViewChangeData) : Type 0 where
   pub above : log.view < vc.view
@@ -41,24 +44,50 @@ pub record IsChange (c : Configuration) (me : ℕ) (desk : Desk) (log : LogData)
   pub checkpoints : vc.checkpoints ≡ entries_of desk.snapshots
   pub prepared : IsPreparedList c me history vc.prepared
   pub pre_prepared : IsPrePreparedList c me history vc.pre_prepared
+  pub reason : TimesOut c me history desk.waiting vc.view ⊎ JoinsOthers c me history vc.view
 
--- Where the log asks for no commit, such a view change may be sent, and the replica leaves its view.
+-- A tick began the event, and a request waits or the replica was inactive: this is a reason to move to the next view.
+abbrev pub TicksAreReasons : Type 0
+TicksAreReasons =
+    (c : Configuration) (me v : ℕ) (s : Start) (desk : Desk) (log : LogData) (due : List Message) (outputs : List Entry)
+    → s.input ≡ Tick me → (desk.waiting ≢ []) ⊎ (view c s.before < target s.before) → v ≡ suc (sought_view c s.before)
+    → Fits c me s desk log due outputs → TimesOut c me (behind s outputs) desk.waiting v
+
+-- Where the log asks for no commit, such a view change may be sent, by a leaf of its own, and the replica leaves its
+-- view.
 abbrev pub ViewChangesFit : Type 0
 ViewChangesFit =
     (c : Configuration) (me : ℕ) (s : Start) (desk : Desk) (log : LogData) (due : List Message) (outputs : List Entry)
     (vc : ViewChangeData) (bytes : List ℕ)
     → ((i : ℕ) → logs.due_commit log i ≡ None)
     → IsChange c me desk log (behind s outputs) vc
-    → IsPosted c me (ViewChange vc) [] bytes
+    → IsPosted c me (ViewChange vc) [] bytes → HasOwnLeaf bytes (behind s outputs)
     → Fits c me s desk log due outputs → Fits c me s desk (logs.left log) due (Sent me bytes ∷ outputs)
 
--- The last one goes again while the replica is active no more.
+-- A new view change that a frame says is the one of what is held.
+abbrev pub NewChangesAreOne : Type 0
+NewChangesAreOne =
+    (c : Configuration) (me : ℕ) (desk : Desk) (log : LogData) (history : List Entry) (point now : Point)
+    (claims : ClaimsData) (sender : ℕ) (vc : ViewChangeData) (bytes : List ℕ)
+    → FitsLog c me log history → Leaves c me history now → ((i : ℕ) → logs.due_commit log i ≡ None)
+    → map snapshot_of (kept_states log.low point.snapshots) ≡ desk.snapshots → FitsClaims c me history claims
+    → IsNewViewChange c me history point vc
+    → said bytes ≡ Some (record { sender = sender; message = ViewChange vc })
+    → vc ≡ record {
+      view = vc.view;
+      low = log.low;
+      checkpoints = entries_of desk.snapshots;
+      prepared = claims.prepared;
+      pre_prepared = claims.logged;
+    }
+
+-- The last one goes again while the replica is active no more, where the event has not sent it.
 abbrev pub ViewChangesGoAgain : Type 0
 ViewChangesGoAgain =
     (c : Configuration) (me : ℕ) (s : Start) (desk : Desk) (log : LogData) (due : List Message) (outputs : List Entry)
     (vc : ViewChangeData) (bytes : List ℕ)
     → log.view < target (behind s outputs) → vc.view ≡ target (behind s outputs)
-    → SentBefore bytes (behind s outputs)
+    → SentBefore bytes (behind s outputs) → (Gives me (ViewChange vc) outputs → ⊥)
     → IsPosted c me (ViewChange vc) [] bytes
     → Fits c me s desk log due outputs → Fits c me s desk log due (Sent me bytes ∷ outputs)
 
@@ -89,8 +118,8 @@ NewViewsEnter =
     → Fits c me (start_at c me desk log past held (Got me bytes)) (desk_from (begun_log log new).low desk)
     (begun_log log new) (start_due desk new) []
 
--- The primary of a view sends one where, got, it would be taken, over view changes and requests that it has seen, where
--- nothing is due, the log asks for no commit, and no batch is committed for the next number.
+-- The primary of a view sends one where, got, it would be taken, over view changes and requests that it has seen, by a
+-- leaf of its own, where nothing is due, the log asks for no commit, and no batch is committed for the next number.
 abbrev pub NewViewsFit : Type 0
 NewViewsFit =
     (c : Configuration) (me : ℕ) (s : Start) (desk : Desk) (log : LogData) (outputs : List Entry) (new : NewViewData)
@@ -99,18 +128,18 @@ NewViewsFit =
     → primary c new.view ≡ me
     → taken c (behind s outputs) (Sent me bytes) ≡ Some new
     → Each (λ frame. Once (HasSeen frame) (behind s outputs)) (carried (NewView new))
-    → IsPosted c me (NewView new) [] bytes
+    → IsPosted c me (NewView new) [] bytes → HasOwnLeaf bytes (behind s outputs)
     → Fits c me s desk log [] outputs
     → Fits c me s (desk_from (begun_log log new).low desk) (begun_log log new) (start_due desk new)
     (Sent me bytes ∷ outputs)
 
--- It goes again while the replica is active in its view.
+-- It goes again while the replica is active in its view, where the event has not sent it.
 abbrev pub NewViewsGoAgain : Type 0
 NewViewsGoAgain =
     (c : Configuration) (me : ℕ) (s : Start) (desk : Desk) (log : LogData) (due : List Message) (outputs : List Entry)
     (new : NewViewData) (bytes : List ℕ)
     → log.active ≡ true → new.view ≡ log.view → primary c new.view ≡ me
-    → SentBefore bytes (behind s outputs)
+    → SentBefore bytes (behind s outputs) → (Gives me (NewView new) outputs → ⊥)
     → IsPosted c me (NewView new) [] bytes
     → Fits c me s desk log due outputs → Fits c me s desk log due (Sent me bytes ∷ outputs)
 
@@ -123,6 +152,7 @@ StartsMayAsk =
     → open_number desk.state.number desk.transfer < new.start
     → Fits c me s desk log due outputs
     → MayAsk c me (transfer_to desk.transfer new.start new.root pages) desk.state.number (behind s outputs)
+    × AsksNext c me (transfer_to desk.transfer new.start new.root pages) desk.state (behind s outputs)
 
 -- ---- which messages count
 

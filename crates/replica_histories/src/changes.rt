@@ -1,6 +1,6 @@
 //! Laws of what a replica holds for changes of its view.
 
-ghost use Rattle.replica_histories.specs.Changes.{ChangesBegin, ChangesStay, CommitsAreClaimed, BatchesAreClaimed, ChangesAreSent, ChangesAreTaken, ViewsAreBegun, SentKeep, SilentKeep, GotKeep, HeardKeep, OthersBringNone, HeardAreSigned, OwnAreSigned, ClaimsAreAbove, OutputsPass, InputsEnter};
+ghost use Rattle.replica_histories.specs.Changes.{ChangesBegin, ChangesStay, CommitsAreClaimed, BatchesAreClaimed, ChangesAreSent, ChangesAreTaken, ViewsAreBegun, SentKeep, SilentKeep, GotKeep, HeardKeep, OthersBringNone, HeardAreSigned, OwnAreSigned, ClaimsAreAbove, OutputsPass, InputsEnter, AllAreSpent, NextLeafIsOwn};
 
 /// The logs fit the histories before each entry and behind it.
 pub fn entries_pass()
@@ -36,4 +36,11 @@ pub fn changes_are_made()
     ensures sent { ChangesAreSent }
     ensures taken { ChangesAreTaken }
     ensures begun { ViewsAreBegun }
+{}
+
+/// Leaves sign in their order: the next one has signed no frame that was sent. Each one before it has signed a frame that
+/// was sent; so the keys are spent once 64 are.
+pub fn leaves_are_spent()
+    ensures all { AllAreSpent }
+    ensures next { NextLeafIsOwn }
 {}

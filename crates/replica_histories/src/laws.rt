@@ -5,13 +5,13 @@ ghost use Rattle.replica_histories.specs.Outputs.{PreparesFit, CommitsFit, Batch
 ghost use Rattle.replica_histories.specs.Inputs.{InputsFit, CheckpointsEnter, TicksFit, BatchesCount, PreparesCount, CommitsCount, CheckpointsCount, RequestsCount, BatchesDrop, PreparesDrop, CommitsDrop, CheckpointsDrop, EarlyCheckpointsDrop, OthersDrop, InputsPass, TicksPass};
 ghost use Rattle.replica_histories.specs.Marks.{MarksMove, InstallationsMove, CutsAskNoMore, StableAreLow, StableAreCut};
 ghost use Rattle.replica_histories.specs.Histories.{FirstHold, HeldAreReplicas};
-ghost use Rattle.replica_histories.specs.Transfers.{WantedByHistory, DigestsCount, PagesCount, AimsStay, AskedStays, OpenStays, MayAskStays, OpenEnds, DigestsTaken, DigestsOpen, PagesTaken, PagesOpen, PagesGiveBack, PagesRested, QuorumsWant, TransfersStart, TransfersMove, QuorumsOpen, LowerAreFetched, OpenMayAsk, TransfersMayFetch, TransfersAsk, StartedRests, DigestsRest, PagesRest, RestedRests, TransfersInstall};
+ghost use Rattle.replica_histories.specs.Transfers.{WantedByHistory, DigestsCount, PagesCount, AimsStay, AskedStays, OpenStays, OpenExecutes, DigestsTaken, DigestsOpen, DigestsMayAsk, PagesMayAsk, TicksMayAsk, PagesGiveBack, PagesRested, QuorumsWant, TransfersStart, TransfersMove, QuorumsOpen, LowerAreFetched, MayAskAny, NextsAreFirst, TransfersMayFetch, TransfersAsk, StartedRests, DigestsRest, PagesRest, RestedRests, TransfersInstall};
 ghost use Rattle.replica_histories.specs.TransfersAnswers.{KeptAreOne, SnapshotsAreKept, KeptHaveSnapshots, FetchesCount, AnswersMayGo, PostedToOne, AnswersSuffice, NoneIsOwed, AnswersStay, AnswersTurn, AnswersInParts};
-ghost use Rattle.replica_histories.specs.Questions.{OthersOweNone};
+ghost use Rattle.replica_histories.specs.Questions.{OthersOweNoPart, OthersOweNone};
 ghost use Rattle.replica_histories.specs.TransfersQuorums.{QuorumsGrow, CountsStay, UnchangedBringNone, QuorumsFirst, QuorumsStay, QuorumsBegin, QuorumsGoOn, QuorumsEnd};
-ghost use Rattle.replica_histories.specs.Fetching.{FetchesFit, DueFetchesFit, QuorumsMayAsk, HeldOweNoFetch, DigestsEnter, PagesEnter, AskedDigestsCount, AskedPagesCount, TransfersChange};
+ghost use Rattle.replica_histories.specs.Fetching.{FetchesFit, DueFetchesFit, QuorumsMayAsk, HeldOweNoFetch, DigestsEnter, PagesEnter, AskedDigestsCount, AskedPagesCount, OtherDigestsOweNone, OtherPagesOweNone, FetchesSuffice, FetchedSuffice, TransfersChange};
 ghost use Rattle.replica_histories.specs.Answering.{PartsFit, KeptFetchesCount, PartsSuffice, OtherNumbersOweNone, ReadsFit, ReadsSuffice, OtherOperationsOweNone};
-ghost use Rattle.replica_histories.specs.Numbers.{FirstNumbersFit, LogsAreOfNoLaterView, LaterNumberNothing, ViewsBegin, NumbersStay, OthersKeepNumbers, BatchesKeepNumbers, NumbersFit, RequestsFit, InputsKeepNumbers, StatesFit, ExecutionsRaise, NumbersAreGiven, NumbersLeaveFewer, StatesLeaveNoMore};
+ghost use Rattle.replica_histories.specs.Numbers.{FirstNumbersFit, LogsAreOfNoLaterView, LaterNumberNothing, ViewsBegin, NumbersStay, OthersKeepNumbers, BatchesKeepNumbers, NumbersFit, NextIsFree, RequestsFit, InputsKeepNumbers, StatesFit, ExecutionsRaise, NumbersAreGiven, NumbersLeaveFewer, StatesLeaveNoMore};
 
 /// Where desk and log fit the history behind an event's outputs, nothing is due, nothing is left owed and what was asked
 /// is answered, they hold of that history, and so on at the next event. Between events nothing is left owed.
@@ -103,23 +103,23 @@ pub fn parts_count()
     ensures pages { PagesCount }
 {}
 
-/// Whatever comes leaves what is wanted and was got. An entry that asks for no part leaves what is open, and a transfer
-/// ends where the executed number reaches its own.
+/// Whatever comes leaves what is wanted and was got. An entry that asks for no part and leaves the state leaves what is
+/// open; an execution ends a transfer if it reaches the transfer's number.
 pub fn transfers_stay()
     ensures aims { AimsStay }
     ensures asked { AskedStays }
     ensures open_ones { OpenStays }
-    ensures may { MayAskStays }
-    ensures ends { OpenEnds }
+    ensures executes { OpenExecutes }
 {}
 
-/// Parts that are heard are taken, and leave a transfer open; a page that is given back leaves all as it was, and pages
-/// that were not fetched may be put anew, where the replica's own state changed.
+/// Digests that are heard are taken, and leave a transfer open that may ask on. A page that was asked for last is taken
+/// by an event that goes on; one that is given back leaves all as it was. Pages that were not fetched may be put anew,
+/// if the replica's own state changed.
 pub fn parts_are_taken()
     ensures digests { DigestsTaken }
     ensures digests_open { DigestsOpen }
-    ensures pages { PagesTaken }
-    ensures pages_open { PagesOpen }
+    ensures digests_ask { DigestsMayAsk }
+    ensures pages { PagesMayAsk }
     ensures back { PagesGiveBack }
     ensures rested { PagesRested }
 {}
@@ -134,10 +134,12 @@ pub fn transfers_begin()
     ensures lower { LowerAreFetched }
 {}
 
-/// A transfer asks for parts of a state that may be installed, and is open behind the fetch of its place, also where it
-/// asks again.
+/// A transfer asks for parts of a state that may be installed, each the first that differs from what is in place, and is
+/// open behind the fetch of its place, also if it asks again at a tick.
 pub fn transfers_ask()
-    ensures again { OpenMayAsk }
+    ensures again { TicksMayAsk }
+    ensures any { MayAskAny }
+    ensures first { NextsAreFirst }
     ensures may { TransfersMayFetch }
     ensures ask { TransfersAsk }
 {}
@@ -196,14 +198,24 @@ pub fn fetches_fit()
     ensures none { HeldOweNoFetch }
 {}
 
-/// A part that is heard begins an event in which the open transfer has it, and it counts where the transfer asked for
-/// it. In an event another transfer that fits may take the open one's place.
+/// A part that is heard begins an event in which the open transfer may ask on with it, and it counts if the transfer asked
+/// for it. In an event another transfer that fits may take the open one's place.
 pub fn parts_enter()
     ensures digests { DigestsEnter }
     ensures pages { PagesEnter }
     ensures digests_count { AskedDigestsCount }
     ensures pages_count { AskedPagesCount }
     ensures change { TransfersChange }
+{}
+
+/// Nothing is owed to a part that no open transfer awaits. To any other it suffices that the next one is asked for; or,
+/// where all that is held has the root, that the state's number is reached, if the state can be installed (Castro and
+/// Liskov, TOCS 2002, on state transfer).
+pub fn parts_bring_on()
+    ensures digests { OtherDigestsOweNone }
+    ensures pages { OtherPagesOweNone }
+    ensures fetches { FetchesSuffice }
+    ensures fetched { FetchedSuffice }
 {}
 
 /// The part of a kept snapshot may be given to whoever fetches it, whose fetch counts, and is all that is owed. Where
@@ -222,6 +234,7 @@ pub fn reads_fit()
     ensures reads { ReadsFit }
     ensures suffice { ReadsSuffice }
     ensures operations { OtherOperationsOweNone }
+    ensures parts { OthersOweNoPart }
     ensures others { OthersOweNone }
 {}
 
@@ -239,11 +252,12 @@ pub fn numbers_stay()
     ensures batches { BatchesKeepNumbers }
 {}
 
-/// A number above all that were used, given to the oldest requests without one, numbers none of them twice; and where
-/// no number may be given, or all that waits has one, nothing is owed of numbers (Castro and Liskov, TOCS 2002, on
-/// normal-case operation). All have one after as many numbers as requests wait.
+/// The next number, given to the oldest requests without one, numbers none of them twice; and where it may not be given,
+/// or all that waits has one, nothing is owed of numbers (Castro and Liskov, TOCS 2002, on normal-case operation). All
+/// have one after as many numbers as requests wait.
 pub fn numbers_are_given()
     ensures fit { NumbersFit }
+    ensures free { NextIsFree }
     ensures all { NumbersAreGiven }
     ensures fewer { NumbersLeaveFewer }
 {}

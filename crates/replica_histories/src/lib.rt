@@ -20,8 +20,9 @@
 //! asks for one place at a time ([`fetches_fit`], [`parts_enter`]). Its root is wanted, and what it has was got
 //! ([`parts_count`], [`parts_are_taken`], [`transfers_stay`]); a later quorum moves it, and what is executed may reach
 //! it ([`transfers_begin`], [`transfers_ask`], [`quorums_are_fetched`]); and where all pages have the root, their state
-//! may be installed ([`transfers_install`]). Whoever fetches a part of a kept state, of which no two have one number,
-//! gets it ([`parts_fit`], [`kept_are_one`], [`fetches_are_answered`]).
+//! may be installed ([`transfers_install`]). A part that it awaits brings it on ([`parts_bring_on`]). Whoever fetches a
+//! part of a kept state, of which no two have one number, gets it ([`parts_fit`], [`kept_are_one`],
+//! [`fetches_are_answered`]).
 //!
 //! What such a replica owes is all but one part of what the crate `protocol` asks of a correct replica
 //! ([`owed_in_parts`]): reads are the other.
@@ -33,7 +34,9 @@
 //! counted ([`changes_are_held`]). All that it holds for changes of its view goes from entry to entry
 //! ([`entries_pass`]): it stays where an entry brings nothing about ([`entries_keep_changes`]), claims what is logged and committed
 //! ([`changes_stay`]), and has the view changes that are sent and taken, and the new view that begins the view
-//! ([`changes_are_made`]). That a replica moves on where it has to is beyond these laws.
+//! ([`changes_are_made`]). The view change that it has to say is one ([`views_change`]), others move it to a view exactly
+//! where the history says so ([`changes_are_held`]), and each key that is spent signed what was sent. That it sends a new
+//! view where it may is beyond these laws.
 #![tactic(auto)]
 
 mod changes;
@@ -44,8 +47,8 @@ pub use changes::{changes_are_made, changes_stay, entries_keep_changes, entries_
 pub use laws::{
     events_end, fetches_are_answered, fetches_fit, histories_are_replicas, inputs_fit, inputs_pass,
     kept_are_one, marks_move, messages_count, messages_drop, numbers_are_given, numbers_stay,
-    outputs_fit, own_go_again, parts_are_taken, parts_count, parts_enter, parts_fit,
-    quorums_are_fetched, reads_fit, transfers_ask, transfers_begin, transfers_install,
+    outputs_fit, own_go_again, parts_are_taken, parts_bring_on, parts_count, parts_enter,
+    parts_fit, quorums_are_fetched, reads_fit, transfers_ask, transfers_begin, transfers_install,
     transfers_stay, waiting_keeps_numbers,
 };
 pub use views::{changes_are_held, claims_are_kept, views_begin, views_change};

@@ -1,14 +1,16 @@
 //! Laws of views: how a replica leaves its view and begins a later one.
 
 ghost use Rattle.replica_histories.specs.Claims.{ClaimsBegin, ClaimsGrow, ClaimsAreLists, NoBatchAdds, NoCommitAdds, BatchAdds, CommitAdds, LoggedAreSeen};
-ghost use Rattle.replica_histories.specs.Received.{ReceivedBegin, ReceivedStays, SentBringNone, UnsignedBringNone, RefusedBringNone, ReceivedTakes, ReceivedOwn};
-ghost use Rattle.replica_histories.specs.Views.{ViewChangesFit, ViewChangesGoAgain, NewViewsEnter, NewViewsFit, NewViewsGoAgain, StartsMayAsk, ViewChangesCount};
+ghost use Rattle.replica_histories.specs.Received.{ReceivedBegin, ReceivedStays, SentBringNone, UnsignedBringNone, RefusedBringNone, ReceivedTakes, ReceivedOwn, HeldAreJoined, AheadAreHeld};
+ghost use Rattle.replica_histories.specs.Views.{TicksAreReasons, ViewChangesFit, NewChangesAreOne, ViewChangesGoAgain, NewViewsEnter, NewViewsFit, NewViewsGoAgain, StartsMayAsk, ViewChangesCount};
 
-/// A view change that says what the history says may be sent where the log asks for no commit, and the replica is
-/// active no more; the last one may go again until a view begins. One that is got counts where it is within its bounds,
+/// A view change that says what the history says, and has a reason, may be sent where the log asks for no commit, and the
+/// replica is active no more. A tick is a reason while a request waits or the replica is inactive; the last one may go again until a view begins. One that is got counts where it is within its bounds,
 /// above the own view, and newer than its sender's last (Castro and Liskov, TOCS 2002, on view changes).
 pub fn views_change()
+    ensures ticks { TicksAreReasons }
     ensures changes { ViewChangesFit }
+    ensures one { NewChangesAreOne }
     ensures again { ViewChangesGoAgain }
     ensures count { ViewChangesCount }
 {}
@@ -39,8 +41,8 @@ pub fn claims_are_kept()
 {}
 
 /// Of each other replica the latest view change that counted is held, in a frame that was seen; one that is taken is
-/// held in its sender's place, and what is refused, or is none, changes nothing (Castro and Liskov, TOCS 2002, on view
-/// changes).
+/// held in its sender's place, and what is refused, or is none, changes nothing. Once f + 1 others are ahead, the least
+/// of their views is joined (Castro and Liskov, TOCS 2002, on view changes).
 pub fn changes_are_held()
     ensures begin { ReceivedBegin }
     ensures stay { ReceivedStays }
@@ -49,4 +51,6 @@ pub fn changes_are_held()
     ensures refused { RefusedBringNone }
     ensures takes { ReceivedTakes }
     ensures own { ReceivedOwn }
+    ensures joined { HeldAreJoined }
+    ensures ahead { AheadAreHeld }
 {}

@@ -9,10 +9,11 @@ use Rattle.protocol.specs.System.Trace.{Entry, party_of, is_output, history_of}
 use Rattle.protocol.specs.System.Trace.Entry.{Invoke}
 use Rattle.protocol.specs.Client.RightClient.{last_call, open_call}
 use Rattle.protocol.specs.Replica.Owed.{IsReplica}
+use Rattle.protocol.specs.System.Run.{GaveNothingLast}
 use Rattle.events.specs.declared.output.Output.{Output}
 use Rattle.events.specs.declared.output.Output.TheVariants as outputs
 use Rattle.events.specs.Outputs.{entry_of, behind, after_event}
-use Rattle.replica.specs.State.{ReplicaData}
+use Rattle.replica.specs.State.{ReplicaData, has_stopped}
 use Rattle.replica.specs.Fits as replica_fits
 use Rattle.replica.specs.Inputs as replica_inputs
 use Rattle.replica.specs.declared.replica.Event.{Event as ReplicaEvent}
@@ -22,11 +23,11 @@ use Rattle.client_cert.specs.Steps as client_steps
 use Rattle.client_cert.specs.declared.client.Event.{Event as ClientEvent}
 use Rattle.client_cert.specs.declared.client.Event.TheVariants as client_events
 use Rattle.schedule_world.specs.declared.stage.Seat.{Seat}
-use Rattle.schedule_world.specs.Stages.{Attend, FitsSeat}
+use Rattle.schedule_world.specs.Stages.{Attend, FitsReplica, FitsSeat}
 use Rattle.schedule_world.specs.Moving.{AreOf, Moves, MovesClient, Calls}
 use Rattle.schedule_world.proofs.Projecting.{own_entry, other_entry, own_entries, other_entries}
 
-differ : (b : Bool) → b ≡ false → b ≡ true → ⊥
+pub differ : (b : Bool) → b ≡ false → b ≡ true → ⊥
 differ true f t = cc
 differ false f t = cc
 
@@ -54,7 +55,7 @@ pub are_replicas : (c : Configuration) (trace : List Entry) (rs : List ReplicaDa
     → (q : ℕ) → is_correct_replica c q ≡ true → IsReplica c q (history_of q trace)
 are_replicas c trace rs seats d numbered attend q correct =
     let below = replica_below c q correct in
-    subst (λ n. IsReplica c n (history_of q trace)) (numbered.1 q d (omega (arith, numbered.0, below))) (attend.replicas q d correct).0.right
+    subst (λ n. IsReplica c n (history_of q trace)) (numbered.1 q d (omega (arith, numbered.0, below))) (attend.replicas q d correct).0.0.right
 
 pub attend_replica : (c : Configuration) (trace : List Entry) (rs new : List ReplicaData) (seats : List Seat) (p : ℕ) (event : ReplicaEvent) (outs : List Output)
     → IsConfiguration c → AreNumbered c rs → Attend c trace rs seats → is_correct_replica c p ≡ true → Moves rs p event outs new → AreOf p (map (entry_of p) outs)
@@ -95,15 +96,18 @@ attend_replica c trace rs new seats p event outs valid numbered attend correct m
     others : (q : ℕ) → p ≢ q → history_of q after ≡ history_of q trace
     others q apart = other_entries p q entries (input ∷ trace) apart of ∙ other_entry q input trace (λ e. apart (sym is.0 ∙ e))
 
-    fits : (q : ℕ) (e : ReplicaData) → is_correct_replica c q ≡ true → (b : Bool) → (q == p) ≡ b → replica_fits.Fits c (get_or new q e) (history_of q after)
+    silent : has_stopped m.after ≡ true → GaveNothingLast (behind entries (input ∷ history_of p trace))
+    silent stopped = subst (λ (xs : List Output). GaveNothingLast (behind (map (entry_of p) xs) (input ∷ history_of p trace))) (sym (m.silent stopped)) is.1
+
+    fits : (q : ℕ) (e : ReplicaData) → is_correct_replica c q ≡ true → (b : Bool) → (q == p) ≡ b → FitsReplica c (get_or new q e) (history_of q after)
     fits q e h true same =
-        let fit : replica_fits.Fits c m.before (history_of p trace) = subst (λ r. replica_fits.Fits c r (history_of p trace)) (m.was m.before) (attend.replicas p m.before correct) in
+        let fit : replica_fits.Fits c m.before (history_of p trace) = subst (λ r. replica_fits.Fits c r (history_of p trace)) (m.was m.before) (attend.replicas p m.before correct).0 in
         let leads : replica_fits.Leads m.before input outs m.after = subst (λ n. replica_fits.Leads m.before (replica_inputs.input_of n event) outs m.after) number m.leads in
         let led : replica_fits.Fits c m.after (behind entries (input ∷ history_of p trace)) =
         subst (λ n. replica_fits.Fits c m.after (after_event n input outs (history_of p trace))) number (leads c (history_of p trace) fit) in
         let got : get_or new p e ≡ m.after = ap (λ xs. get_or xs p e) m.becomes ∙ get_or-set_same rs p m.after e within in
-        let there : replica_fits.Fits c (get_or new p e) (history_of p after) = rw (got, mine) led in
-        subst (λ n. replica_fits.Fits c (get_or new n e) (history_of n after)) (sym (eqb-true q p same)) there
+        let there : FitsReplica c (get_or new p e) (history_of p after) = rw (got, mine) (led, silent) in
+        subst (λ n. FitsReplica c (get_or new n e) (history_of n after)) (sym (eqb-true q p same)) there
     fits q e h false same =
         let apart : q ≢ p = apart_from p q same in
         let kept : get_or new q e ≡ get_or rs q e = ap (λ xs. get_or xs q e) m.becomes ∙ get_or-set_other rs p q m.after e apart in
@@ -135,7 +139,7 @@ attend_seat c trace rs seats new k input entries after valid attend within becom
       replicas = λ q e h.
           let below = replica_below c q h in
           let most = valid.most in
-          subst (replica_fits.Fits c (get_or rs q e)) (sym (others q (λ z. omega (arith, z, below, most)))) (attend.replicas q e h);
+          subst (FitsReplica c (get_or rs q e)) (sym (others q (λ z. omega (arith, z, below, most)))) (attend.replicas q e h);
       clients = λ j d h. fits j d h (j == k) refl;
     }
   where
@@ -161,7 +165,7 @@ pub attend_client : (c : Configuration) (trace : List Entry) (rs : List ReplicaD
     → Attend c (behind (map (entry_of (256 + k)) outs) (client_steps.input_of (256 + k) event ∷ trace)) rs new
 attend_client c trace rs seats new k event outs valid attend within numbers correct m of =
     attend_seat c trace rs seats new k (client_steps.input_of (256 + k) event) (map (entry_of (256 + k)) outs) m.after valid attend within m.becomes is.0 of
-    (led, last_behind (256 + k) outs (client_steps.input_of (256 + k) event ∷ history) ∙ is.2 history ∙ fit.1 ∙ sym m.calls)
+    (led, last_behind (256 + k) outs (client_steps.input_of (256 + k) event ∷ history) ∙ is.2 history ∙ fit.1 ∙ sym m.calls, silent)
   where
     is : IsBesideCalls (256 + k) (client_steps.input_of (256 + k) event)
     is = client_input (256 + k) event
@@ -174,6 +178,10 @@ attend_client c trace rs seats new k event outs valid attend within numbers corr
 
     fit : FitsSeat c m.before history
     fit = subst (λ (s : Seat). FitsSeat c s history) (m.was m.before) (attend.clients k m.before correct)
+
+    silent : m.after.client.stopped ≡ true → GaveNothingLast (behind (map (entry_of (256 + k)) outs) (client_steps.input_of (256 + k) event ∷ history))
+    silent stopped =
+        subst (λ (xs : List Output). GaveNothingLast (behind (map (entry_of (256 + k)) xs) (client_steps.input_of (256 + k) event ∷ history))) (sym (m.silent stopped)) is.1
 
     led : client_fits.Fits c m.after.client (behind (map (entry_of (256 + k)) outs) (client_steps.input_of (256 + k) event ∷ history))
     led = subst (λ n. client_fits.Fits c m.after.client (after_event (256 + n) (client_steps.input_of (256 + n) event) outs history)) number (m.leads c history fit.0)
@@ -188,7 +196,7 @@ pub attend_call : (c : Configuration) (trace : List Entry) (rs : List ReplicaDat
     → Attend c (behind (map (entry_of (256 + k)) outs) (Invoke k timestamp op ∷ trace)) rs new
 attend_call c trace rs seats new k op timestamp outs valid attend within numbers correct none m of =
     attend_seat c trace rs seats new k (Invoke k timestamp op) (map (entry_of (256 + k)) outs) m.after valid attend within m.becomes refl of
-    (led, last_behind (256 + k) outs (Invoke k timestamp op ∷ history) ∙ sym m.calls)
+    (led, last_behind (256 + k) outs (Invoke k timestamp op ∷ history) ∙ sym m.calls, silent)
   where
     history : List Entry
     history = history_of (256 + k) trace
@@ -204,6 +212,10 @@ attend_call c trace rs seats new k op timestamp outs valid attend within numbers
 
     next : suc m.before.client.calls ≡ timestamp
     next = ap suc (sym fit.0.last_is ∙ fit.1) ∙ sym m.timestamp_is
+
+    silent : m.after.client.stopped ≡ true → GaveNothingLast (behind (map (entry_of (256 + k)) outs) (Invoke k timestamp op ∷ history))
+    silent stopped =
+        subst (λ (xs : List Output). GaveNothingLast (behind (map (entry_of (256 + k)) xs) (Invoke k timestamp op ∷ history))) (sym (m.silent is_closed stopped)) refl
 
     led : client_fits.Fits c m.after.client (behind (map (entry_of (256 + k)) outs) (Invoke k timestamp op ∷ history))
     led = subst (λ n. client_fits.Fits c m.after.client (after_event (256 + n) (Invoke n timestamp op) outs history)) number

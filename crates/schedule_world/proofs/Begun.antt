@@ -6,7 +6,8 @@ use Rattle.protocol.specs.System.Schedule.{new_world}
 use Rattle.schedule_world.specs.declared.stage.Stage.{Stage}
 use Rattle.schedule_world.specs.Opening.{AreNewReplicas, AreNewSeats}
 use Rattle.schedule_world.specs.Stages.{IsSeated, At}
-use Rattle.schedule_world.proofs.Attending.{replica_below, apart_from}
+use Rattle.replica.specs.State.{has_stopped}
+use Rattle.schedule_world.proofs.Attending.{differ, replica_below, apart_from}
 use Rattle.schedule_world.proofs.Pools.{pool_new}
 use Rattle.schedule_world.proofs.Reached.{reaches_first}
 use Rattle.schedule_world.proofs.Standing.{client_below}
@@ -54,7 +55,10 @@ at_first c s rs seats pool trace accepted = record {
   stands = record {
     shows = record { past = rw trace refl; frames = rw pool (pool_new c); accepted = rw accepted refl };
     attend = record {
-      replicas = λ p d h. let below = replica_below c p h in (rs.each p d (omega (arith, below, rs.count))).fits;
+      replicas = λ p d h.
+          let below = replica_below c p h in
+          let new = rs.each p d (omega (arith, below, rs.count)) in
+          (new.fits, λ stopped. absurd (differ (has_stopped (get_or s.replicas.items p d)) new.runs stopped));
       clients = λ k d h. let below = client_below c k h in (seats.each k d (omega (arith, below, seats.count))).fits;
     };
     orderly = record { parties = tt; events = tt };

@@ -18,10 +18,12 @@ use Rattle.schedule_world.specs.declared.report.Report.{Report}
 use Rattle.schedule_world.specs.declared.stage.Seat.{Seat}
 use Rattle.schedule_world.specs.declared.stage.Stage.{Stage}
 use Rattle.schedule_world.specs.Stages.{IsSeated, Stands, At, acceptance_of}
+use Rattle.schedule_world.specs.Reporting.{IsReportOf}
 use Rattle.schedule_world.specs.Reports.{Tells, StopsHere}
 use Rattle.schedule_world.proofs.Attending.{are_replicas, replica_below}
 use Rattle.schedule_world.proofs.Standing.{client_within, client_of}
 use Rattle.schedule_world.proofs.Reached.{reaches_end}
+use Rattle.schedule_world.proofs.Stopping.{only_these, parties_ascend}
 use Rattle.schedule_world.proofs.Taking.{one_of_them}
 
 module _ (c : Configuration) (s : Stage) (seated : IsSeated c s) (w : World) (st : Stands c w s) where
@@ -50,32 +52,36 @@ module _ (c : Configuration) (s : Stage) (seated : IsSeated c s) (w : World) (st
     events = st.orderly.events;
   }
 
-pub tells : (c : Configuration) (steps : List Step) (s : Stage) (report : Report) → IsSeated c s → At c (map step_of steps) [] s → report.trace ≡ s.trace → report.accepted ≡ s.accepted
-    → items_of report.points.items ≡ points c (reverse s.trace.items) → Tells c steps report
-tells c steps s report seated at trace accepted found =
-    let shown : reverse s.trace.items ≡ at.world.past = at.stands.shows.past in
-    let same : reverse report.trace.items ≡ at.world.past = ap (λ v. reverse v.items) trace ∙ shown in
+shown : (c : Configuration) (s : Stage) (w : World) (report : Report) → Stands c w s → IsReportOf c s report → reverse report.trace.items ≡ w.past
+shown c s w report st of = ap (λ v. reverse v.items) of.trace ∙ st.shows.past
+
+pub tells : (c : Configuration) (steps : List Step) (s : Stage) (report : Report) → IsSeated c s → At c (map step_of steps) [] s → IsReportOf c s report → Tells c steps report
+tells c steps s report seated at of =
+    let same : reverse report.trace.items ≡ at.world.past = shown c s at.world report at.stands of in
     let run : IsRun c at.world.past = is_run c s seated at.world at.stands in
-    let are : items_of report.points.items ≡ points c at.world.past = found ∙ ap (points c) shown in
+    let are : items_of report.points.items ≡ points c at.world.past = of.points ∙ ap (points c) at.stands.shows.past in
     record {
       feeds = rw same (at.world, reaches_end c (map step_of steps) at.world at.reaches);
       run = rw same run;
-      accepted = rw same (ap (λ v. map acceptance_of v.items) accepted ∙ at.stands.shows.accepted);
+      stopped = rw (same, of.stopped) (only_these c s seated at.world at.stands);
+      ascend = rw of.stopped (parties_ascend c s seated.valid);
+      accepted = rw same (ap (λ v. map acceptance_of v.items) of.accepted ∙ at.stands.shows.accepted);
       points = rw same are;
       linear = rw (same, are) (λ unforged apart. points_are_linear c seated.valid at.world.past run unforged apart);
     }
 
-pub stops_here : (c : Configuration) (steps : List Step) (n : ℕ) (s : Stage) (step : Step) → IsSeated c s → At c (map step_of (take n steps)) [] s → slice_get steps n ≡ Some step
-    → ((w : World) → Stands c w s → IsAllowed c w (step_of step) → ⊥) → StopsHere c steps n
-stops_here c steps n s step seated at is refused = record {
-  trace = at.world.past;
-  run = is_run c s seated at.world at.stands;
-  world = at.world;
-  goes = reaches_end c (map step_of (take n steps)) at.world at.reaches;
-  step = step;
-  is_step = is;
-  refused = refused at.world at.stands;
-}
+pub stops_here : (c : Configuration) (steps : List Step) (n : ℕ) (s : Stage) (step : Step) (report : Report) → IsSeated c s → At c (map step_of (take n steps)) [] s → slice_get steps n ≡ Some step
+    → ((w : World) → Stands c w s → IsAllowed c w (step_of step) → ⊥) → IsReportOf c s report → StopsHere c steps n report
+stops_here c steps n s step report seated at is refused of =
+    let same : reverse report.trace.items ≡ at.world.past = shown c s at.world report at.stands of in
+    record {
+      tells = tells c (take n steps) s report seated at of;
+      world = at.world;
+      goes = rw same (reaches_end c (map step_of (take n steps)) at.world at.reaches);
+      step = step;
+      is_step = is;
+      refused = refused at.world at.stands;
+    }
 
 -- ---- the loop over the steps
 

@@ -10,4 +10,6 @@ pub mod Standing
 pub mod Begun
 pub mod Flushed
 pub mod Taking
+pub mod Stopping
+pub mod FirstFrame
 pub mod Concluding

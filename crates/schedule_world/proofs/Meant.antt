@@ -18,7 +18,8 @@ use Rattle.wire.specs.declared.frames.ReceiverMac.{ReceiverMac}
 use Rattle.wire.proofs.Saying.{reads_frames}
 use Rattle.protocol.specs.System.Configuration.{Configuration, is_correct}
 use Rattle.protocol.specs.System.Schedule.{meant_for, is_party, AreReceivers}
-use Rattle.schedule_world.specs.Receiving.{receivers_in, correct_in}
+use Rattle.events.specs.Outputs.{receivers_in}
+use Rattle.schedule_world.specs.Receiving.{correct_in}
 
 -- ---- one after another
 
@@ -83,7 +84,7 @@ above x (y ∷ ys) l a (suc j) d b =
     let high = above y ys parts.0 parts.1 j d (omega (arith, b)) in
     omega (arith, low, high)
 
-pairs_from : (xs : List ℕ) → ascends nat_lt xs ≡ true → AllPairs (λ p q. p < q) xs
+pub pairs_from : (xs : List ℕ) → ascends nat_lt xs ≡ true → AllPairs (λ p q. p < q) xs
 pairs_from [] a i j d l b = absurd (omega (arith, b))
 pairs_from (x ∷ xs) a zero zero d l b = absurd (omega (arith, l))
 pairs_from (x ∷ xs) a zero (suc j) d l b =

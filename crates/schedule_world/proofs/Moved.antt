@@ -1,11 +1,11 @@
 -- What a step does to the list of the parties.
-use Rattle.std.proofs.Common.{◌≡◌, ℕ, suc, ◌<◌, false, List, length, get_or, set, sym, ap, ◌∙◌}
+use Rattle.std.proofs.Common.{◌≡◌, ℕ, suc, ◌<◌, Bool, true, false, List, [], length, get_or, set, sym, ap, ◌∙◌}
 use Rattle.std.specs.Prelude.{is_some}
 use Rattle.std.proofs.lemmas.List.{get_or_default}
 use Rattle.tuple_codec.specs.Operations.{Operation}
 use Rattle.protocol.specs.System.Trace.Entry.{Invoke}
 use Rattle.events.specs.declared.output.Output.{Output}
-use Rattle.replica.specs.State.{ReplicaData}
+use Rattle.replica.specs.State.{ReplicaData, has_stopped}
 use Rattle.replica.specs.Fits as replica_fits
 use Rattle.replica.specs.declared.replica.Event.{Event as ReplicaEvent}
 use Rattle.client_cert.specs.Steps as client_steps
@@ -17,19 +17,22 @@ was : {X : Type 0} (xs : List X) (i p : ℕ) (x : X) → i ≡ p → p < length 
 was xs i p x same within is d = get_or_default xs p d x within ∙ ap (λ j. get_or xs j x) (sym same) ∙ sym is
 
 pub moves : (rs : List ReplicaData) (i p : ℕ) (before after : ReplicaData) (event : ReplicaEvent) (outs : List Output) → i ≡ p → p < length rs → before ≡ get_or rs i before
-    → replica_fits.me_of after ≡ replica_fits.me_of before → replica_fits.EventLeads before event outs after → Moves rs p event outs (set rs i after)
-moves rs i p before after event outs same within is number leads = record {
+    → replica_fits.me_of after ≡ replica_fits.me_of before → replica_fits.EventLeads before event outs after
+    → (has_stopped after ≡ true → outs ≡ []) → Moves rs p event outs (set rs i after)
+moves rs i p before after event outs same within is number leads silent = record {
   before = before;
   after = after;
   was = was rs i p before same within is;
   becomes = ap (λ j. set rs j after) same;
   number = number;
   leads = leads;
+  silent = silent;
 }
 
 pub moves_client : (seats : List Seat) (i k : ℕ) (before after : Seat) (event : ClientEvent) (outs : List Output) → i ≡ k → k < length seats → before ≡ get_or seats i before
-    → after.client.number ≡ before.client.number → after.calls ≡ before.calls → client_steps.EventLeads before.client event outs after.client → MovesClient seats k event outs (set seats i after)
-moves_client seats i k before after event outs same within is number calls leads = record {
+    → after.client.number ≡ before.client.number → after.calls ≡ before.calls → client_steps.EventLeads before.client event outs after.client
+    → (after.client.stopped ≡ true → outs ≡ []) → MovesClient seats k event outs (set seats i after)
+moves_client seats i k before after event outs same within is number calls leads silent = record {
   before = before;
   after = after;
   was = was seats i k before same within is;
@@ -37,13 +40,15 @@ moves_client seats i k before after event outs same within is number calls leads
   number = number;
   calls = calls;
   leads = leads;
+  silent = silent;
 }
 
 pub makes_call : (seats : List Seat) (i k : ℕ) (before after : Seat) (op : Operation) (timestamp : ℕ) (outs : List Output) → i ≡ k → k < length seats → before ≡ get_or seats i before
     → after.client.number ≡ before.client.number → timestamp ≡ suc before.calls → after.calls ≡ timestamp
     → (is_some before.client.call ≡ false → client_steps.Leads before.client (Invoke before.client.number (suc before.client.calls) op) outs after.client)
+    → (is_some before.client.call ≡ false → after.client.stopped ≡ true → outs ≡ [])
     → Calls seats k op timestamp outs (set seats i after)
-makes_call seats i k before after op timestamp outs same within is number next calls leads = record {
+makes_call seats i k before after op timestamp outs same within is number next calls leads silent = record {
   before = before;
   after = after;
   was = was seats i k before same within is;
@@ -52,4 +57,5 @@ makes_call seats i k before after op timestamp outs same within is number next c
   timestamp_is = next;
   calls = calls;
   leads = leads;
+  silent = silent;
 }

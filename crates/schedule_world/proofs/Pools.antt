@@ -8,7 +8,8 @@ use Rattle.protocol.specs.System.Trace.Entry.{Got, Sent}
 use Rattle.protocol.specs.System.Schedule.{Made, World, made_by, new_world, with_entry, with_frame, is_delivered, next_receiver, next_pair, pending}
 use Rattle.schedule_world.specs.Pooled.{Frame, added, others, noted, IsServed, IsNext, HasBytes}
 use Rattle.schedule_world.specs.Pooling.{is_due, pooled, pooled_from, IsPool}
-use Rattle.schedule_world.specs.Receiving.{receivers_in, correct_in}
+use Rattle.events.specs.Outputs.{receivers_in}
+use Rattle.schedule_world.specs.Receiving.{correct_in}
 
 -- ---- filters
 

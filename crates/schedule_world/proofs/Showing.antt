@@ -9,13 +9,12 @@ use Rattle.protocol.specs.System.Trace.Entry.{Invoke, Got, Tick, Executed, Insta
 use Rattle.protocol.specs.System.Schedule as schedules
 use Rattle.protocol.specs.System.Schedule.{World, with_entry, made_by, acceptances}
 use Rattle.events.specs.declared.output.Output.{Output}
-use Rattle.events.specs.Outputs.{entry_of}
+use Rattle.events.specs.Outputs.{entry_of, receivers_in}
 use Rattle.schedule_world.specs.declared.report.Acceptance.{Acceptance}
 use Rattle.schedule_world.specs.declared.stage.Stage.{Stage}
 use Rattle.schedule_world.specs.Pooled.{Frame, added}
 use Rattle.schedule_world.specs.Pooling.{IsPool}
 use Rattle.schedule_world.specs.Stages.{Shows, acceptance_of, with_entries}
-use Rattle.schedule_world.specs.Receiving.{receivers_in}
 use Rattle.schedule_world.specs.Moving.{Adds, AddsAll, AreOf, IsOutputOf, IsPlain, KeepsRecords}
 use Rattle.schedule_world.proofs.Pools.{pool_kept, pool_sent}
 

@@ -1,3 +1,4 @@
+pub mod Laws
 pub mod Making
 pub mod Moving
 pub mod Opening
@@ -6,5 +7,7 @@ pub mod Pooled
 pub mod Pooling
 pub mod Reaching
 pub mod Receiving
+pub mod Reporting
 pub mod Reports
 pub mod Stages
+pub mod Stopped

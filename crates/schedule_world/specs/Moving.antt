@@ -15,7 +15,7 @@ use Rattle.protocol.specs.System.Schedule.{Step, Made, World, with_entry, with_f
 use Rattle.protocol.specs.System.Schedule.Step.{calls, seal, sign}
 use Rattle.events.specs.declared.output.Output.{Output}
 use Rattle.events.specs.Outputs.{entry_of}
-use Rattle.replica.specs.State.{ReplicaData}
+use Rattle.replica.specs.State.{ReplicaData, has_stopped}
 use Rattle.replica.specs.Fits as replica_fits
 use Rattle.replica.specs.declared.replica.Event.{Event as ReplicaEvent}
 use Rattle.client_cert.specs.Steps as client_steps
@@ -77,7 +77,8 @@ AreOf p entries = Each (IsOutputOf p) entries
 
 -- ---- the parties' steps
 
--- the replica of this number takes the event, gives the outputs, and no other moves
+-- The replica of this number takes the event, gives the outputs, and no other moves. If it has stopped then, it gives
+-- nothing.
 pub record Moves (old : List ReplicaData) (p : ℕ) (event : ReplicaEvent) (outs : List Output)
     (new : List ReplicaData) : Type 0 where
   pub before : ReplicaData
@@ -86,6 +87,7 @@ pub record Moves (old : List ReplicaData) (p : ℕ) (event : ReplicaEvent) (outs
   pub becomes : new ≡ slice_set old p after
   pub number : replica_fits.me_of after ≡ replica_fits.me_of before
   pub leads : replica_fits.EventLeads before event outs after
+  pub silent : has_stopped after ≡ true → outs ≡ []
 
 -- the client of this number takes the event, gives the outputs, and no other moves
 pub record MovesClient (old : List Seat) (k : ℕ) (event : ClientEvent) (outs : List Output)
@@ -97,6 +99,7 @@ pub record MovesClient (old : List Seat) (k : ℕ) (event : ClientEvent) (outs :
   pub number : after.client.number ≡ before.client.number
   pub calls : after.calls ≡ before.calls
   pub leads : client_steps.EventLeads before.client event outs after.client
+  pub silent : after.client.stopped ≡ true → outs ≡ []
 
 -- the client of this number calls the operation, with the timestamp, gives the outputs, and no other moves
 pub record Calls (old : List Seat) (k : ℕ) (op : Operation) (timestamp : ℕ) (outs : List Output)
@@ -110,6 +113,7 @@ pub record Calls (old : List Seat) (k : ℕ) (op : Operation) (timestamp : ℕ) 
   pub calls : after.calls ≡ timestamp
   pub leads : is_some before.client.call ≡ false
       → client_steps.Leads before.client (Invoke before.client.number (suc before.client.calls) op) outs after.client
+  pub silent : is_some before.client.call ≡ false → after.client.stopped ≡ true → outs ≡ []
 
 -- the same of the world that they are in
 abbrev pub StepsReplica : Stage → ℕ → ReplicaEvent → List Output → Stage → Type 0

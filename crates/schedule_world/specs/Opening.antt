@@ -1,7 +1,7 @@
 -- What the world begins with.
-use Rattle.std.specs.Prelude.{◌≡◌, ℕ, ◌<◌, List, [], length, slice_index_or}
+use Rattle.std.specs.Prelude.{◌≡◌, ℕ, ◌<◌, false, List, [], length, slice_index_or}
 use Rattle.protocol.specs.System.Configuration.{Configuration, replicas}
-use Rattle.replica.specs.State.{ReplicaData}
+use Rattle.replica.specs.State.{ReplicaData, has_stopped}
 use Rattle.replica.specs.Fits as replica_fits
 use Rattle.schedule_world.specs.declared.stage.Seat.{Seat}
 use Rattle.schedule_world.specs.Stages.{FitsSeat}
@@ -10,6 +10,7 @@ use Rattle.schedule_world.specs.Stages.{FitsSeat}
 pub record IsNewReplica (c : Configuration) (p : ℕ) (r : ReplicaData) : Type 0 where
   pub number : replica_fits.me_of r ≡ p
   pub fits : replica_fits.Fits c r []
+  pub runs : has_stopped r ≡ false
 
 -- so is a client
 pub record IsNewSeat (c : Configuration) (k : ℕ) (seat : Seat) : Type 0 where

@@ -1,16 +1,9 @@
--- Whom frames are for.
-use Rattle.std.specs.Prelude.{◌≡◌, ℕ, List, [], ◌++◌, map, filter, Vec, Result, OnOk}
-use Rattle.std.specs.Option.{option_map_or}
+-- The correct ones of those for whom frames are.
+use Rattle.std.specs.Prelude.{◌≡◌, ℕ, List, ◌++◌, map, filter, Vec, Result, OnOk}
 use Rattle.std.specs.declared.alloc.Global.{Global}
 use Rattle.terms.specs.Parties.{party_number}
 use Rattle.terms.specs.declared.parties.Party.{Party}
-use Rattle.wire.specs.Words.{frame_of}
 use Rattle.protocol.specs.System.Configuration.{Configuration, is_correct}
-use Rattle.protocol.specs.System.Schedule.{meant_for}
-
--- whom the frame of these bytes is for; bytes that are no frame are for nobody
-abbrev pub receivers_in : Configuration → ℕ → List ℕ → List ℕ
-receivers_in c sender bytes = option_map_or (λ frame. meant_for c sender frame.authenticator) (frame_of bytes) []
 
 -- the correct ones of these parties
 abbrev pub correct_in : Configuration → List ℕ → List ℕ

@@ -1,10 +1,13 @@
 -- What a run comes to, and what a refusal tells.
-use Rattle.std.specs.Prelude.{◌≡◌, ℕ, List, map, take, reverse, slice_get, Some, ⊤}
+use Rattle.std.specs.Prelude.{◌≡◌, ◌<◌, ℕ, List, map, take, reverse, slice_get, Some, AllPairs, Vec, ⊤}
+use Rattle.std.specs.declared.alloc.Global.{Global}
+use Rattle.terms.specs.Parties.{party_number}
+use Rattle.terms.specs.declared.parties.Party.{Party}
 use Rattle.protocol.specs.System.Configuration.{Configuration}
 use Rattle.protocol.specs.System.Trace.{Entry, Unforged}
 use Rattle.protocol.specs.System.Texts.{NoCollision}
 use Rattle.protocol.specs.System.Schedule.{World, Goes, Feeds, IsAllowed, new_world, acceptances}
-use Rattle.protocol.specs.System.Run.{IsRun}
+use Rattle.protocol.specs.System.Run.{IsRun, OnlyTheseStopped}
 use Rattle.protocol.specs.Space.Linear.{points, IsLinear}
 use Rattle.points.specs.PointView.{items_of}
 use Rattle.schedule_text.specs.declared.step.Step.{Step}
@@ -18,27 +21,34 @@ use Rattle.schedule_world.specs.Stages.{acceptance_of}
 abbrev pub trace_of : Report → List Entry
 trace_of report = reverse report.trace.items
 
--- The steps feed the trace, which is a run's; its acceptances are reported with their positions, and its points. Where
--- the trace is unforged and its texts do not collide, the points are those of one sequential tuple space: they are legal,
--- cover the trace and are placed in it.
+-- the numbers of parties
+abbrev pub numbers_of : Vec Party Global → List ℕ
+numbers_of parties = map party_number parties.items
+
+-- The steps feed the trace, which is a run's. Only the parties that are reported as stopped did stop: each other correct
+-- party does all that it owes. The acceptances are reported with their positions, and the points. Where the trace is
+-- unforged and its texts do not collide, the points are those of one sequential tuple space: they are legal, cover the
+-- trace and are placed in it.
 pub record Tells (c : Configuration) (steps : List Step) (report : Report) : Type 0 where
   pub feeds : Feeds c (map step_of steps) (trace_of report)
   pub run : IsRun c (trace_of report)
+  pub stopped : OnlyTheseStopped c (numbers_of report.stopped) (trace_of report)
+  pub ascend : AllPairs (λ p q. p < q) (numbers_of report.stopped)
   pub accepted : map acceptance_of report.accepted.items ≡ reverse (acceptances (trace_of report))
   pub points : items_of report.points.items ≡ points c (trace_of report)
   pub linear : Unforged c (trace_of report) → NoCollision c (trace_of report)
       → IsLinear c (items_of report.points.items) (trace_of report)
 
--- In the world that a run has made of the steps before it, the step of this index may not come.
-pub record StopsHere (c : Configuration) (steps : List Step) (n : ℕ) : Type 0 where
-  pub trace : List Entry
-  pub run : IsRun c trace
+-- The report tells the run of the steps before this index. The step of this index may not come in the world to which they
+-- led in that run.
+pub record StopsHere (c : Configuration) (steps : List Step) (n : ℕ) (before : Report) : Type 0 where
+  pub tells : Tells c (take n steps) before
   pub world : World
-  pub goes : Goes c new_world (map step_of (take n steps)) (reverse trace) world
+  pub goes : Goes c new_world (map step_of (take n steps)) (reverse (trace_of before)) world
   pub step : Step
   pub is_step : slice_get steps n ≡ Some step
   pub refused : IsAllowed c world (step_of step) → ⊥
 
 abbrev pub TellsFault : Configuration → List Step → RunFault → Type 0
-TellsFault c steps (faults.BadSchedule n) = StopsHere c steps n
+TellsFault c steps (faults.BadSchedule n before) = StopsHere c steps n before
 TellsFault c steps faults.NoMemory = ⊤

@@ -3,11 +3,11 @@ use Rattle.std.specs.Prelude.{◌≡◌, ℕ, ◌+◌, ◌<◌, true, List, [], 
 use Rattle.tuple_codec.specs.OperationView.{outcome_of}
 use Rattle.protocol.specs.System.Configuration.{Configuration, IsConfiguration, replicas, is_correct, is_correct_replica, is_correct_client}
 use Rattle.protocol.specs.System.Trace.{Entry, party_of, history_of, Always}
-use Rattle.protocol.specs.System.Run.{Follows}
+use Rattle.protocol.specs.System.Run.{Follows, GaveNothingLast}
 use Rattle.protocol.specs.System.Schedule as schedules
 use Rattle.protocol.specs.System.Schedule.{Step, World, with_entry, acceptances, meant_for}
 use Rattle.protocol.specs.Client.RightClient.{last_call}
-use Rattle.replica.specs.State.{ReplicaData}
+use Rattle.replica.specs.State.{ReplicaData, has_stopped}
 use Rattle.replica.specs.Fits as replica_fits
 use Rattle.client_cert.specs.Fits as client_fits
 use Rattle.schedule_world.specs.declared.report.Acceptance.{Acceptance}
@@ -54,15 +54,21 @@ with_entries c w (e ∷ entries) = with_entries c (with_entry c w e) entries
 
 -- ---- between events
 
--- the client fits the history, and its seat knows the last call
+-- The replica fits the history. If it has stopped, it gave nothing for its last input.
+abbrev pub FitsReplica : Configuration → ReplicaData → List Entry → Type 0
+FitsReplica c r history = replica_fits.Fits c r history × (has_stopped r ≡ true → GaveNothingLast history)
+
+-- So does the client, and its seat knows the last call.
 abbrev pub FitsSeat : Configuration → Seat → List Entry → Type 0
-FitsSeat c seat history = client_fits.Fits c seat.client history × (last_call history ≡ seat.calls)
+FitsSeat c seat history =
+    client_fits.Fits c seat.client history × (last_call history ≡ seat.calls)
+    × (seat.client.stopped ≡ true → GaveNothingLast history)
 
 -- Each correct replica and each correct client fits its history of the trace.
 pub record Attend (c : Configuration) (trace : List Entry) (rs : List ReplicaData)
     (seats : List Seat) : Type 0 where
   pub replicas : (p : ℕ) (d : ReplicaData) → is_correct_replica c p ≡ true
-      → replica_fits.Fits c (slice_index_or rs p d) (history_of p trace)
+      → FitsReplica c (slice_index_or rs p d) (history_of p trace)
   pub clients : (k : ℕ) (d : Seat) → is_correct_client c (256 + k) ≡ true
       → FitsSeat c (slice_index_or seats k d) (history_of (256 + k) trace)
 

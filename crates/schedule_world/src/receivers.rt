@@ -10,7 +10,8 @@ ghost use Rattle.wire.specs.Views.{macs_of};
 ghost use Rattle.wire.specs.Words.{receivers_of};
 ghost use Rattle.protocol.specs.System.Configuration.{is_correct, is_replica};
 ghost use Rattle.protocol.specs.System.Schedule.{is_party, AreReceivers, meant_for};
-ghost use Rattle.schedule_world.specs.Receiving.{receivers_in, AreCorrectOf, AddsCorrect};
+ghost use Rattle.events.specs.Outputs.{receivers_in};
+ghost use Rattle.schedule_world.specs.Receiving.{AreCorrectOf, AddsCorrect};
 
 use events::Config;
 use std::alloc::Global;

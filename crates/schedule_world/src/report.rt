@@ -3,7 +3,7 @@
 use events::Entry;
 use points::Point;
 use std::alloc::Global;
-use terms::{ClientId, Timestamp};
+use terms::{ClientId, Party, Timestamp};
 use tuple_codec::Answer;
 
 /// An answer that a client accepted.
@@ -25,4 +25,6 @@ pub struct Report {
     pub accepted: Vec<Acceptance>,
     /// What acted, in the order of one sequential space.
     pub points: Vec<Point>,
+    /// The correct parties that stopped for want of memory, ascending by number.
+    pub stopped: Vec<Party>,
 }

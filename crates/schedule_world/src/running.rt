@@ -9,6 +9,7 @@ ghost use Rattle.protocol.specs.System.Schedule.Step.{calls, ticks};
 ghost use Rattle.protocol.specs.System.Schedule.Step.{deliver as deliver_step, feed as feed_step};
 ghost use Rattle.schedule_text.specs.StepView.{step_of};
 ghost use Rattle.schedule_world.specs.Moving.{Takes, seal_of, sign_of};
+ghost use Rattle.schedule_world.specs.Reporting.{IsReportOf};
 ghost use Rattle.schedule_world.specs.Reports.{Tells, TellsFault};
 ghost use Rattle.schedule_world.specs.Stages.{IsSeated, IsStanding};
 
@@ -21,19 +22,29 @@ use points::points;
 use schedule_text::Step;
 use signing::LEAVES;
 use std::alloc::Global;
+use std::fmt;
 use terms::{ClientId, NoMemory, Party};
 use thiserror::Error;
 use tuple_codec::Op;
 use tuple_tree::{Template, Tuple};
 
 /// Why a schedule was not run.
-#[derive(Clone, Copy, Debug, PartialEq, Eq, Error)]
+#[derive(Drop, Error)]
 pub enum RunFault {
-    /// The step of this index, from 0, may not come where it stands.
-    #[error("step {0} may not come")]
-    BadSchedule(usize),
+    /// The step of this index, from 0, may not come where it stands. The report tells the run of the steps before it.
+    #[error("step {step} may not come")]
+    BadSchedule { step: usize, before: Report },
     #[error("out of memory")]
     NoMemory,
+}
+
+impl fmt::Debug for RunFault {
+    fn fmt<W: fmt::Write>(&self, f: &mut fmt::Formatter<W>) -> fmt::Result {
+        match self {
+            RunFault::BadSchedule { step, .. } => write!(f, "BadSchedule {{ step: {step}, .. }}"),
+            RunFault::NoMemory => write!(f, "NoMemory"),
+        }
+    }
 }
 
 impl From<NoMemory> for RunFault {
@@ -52,9 +63,12 @@ impl From<NoMemory> for RunFault {
 /// answers, in which each operation acts at most once, an accepted one exactly once, at a position between its invocation
 /// and its acceptance (Herlihy and Wing, Linearizability, TOPLAS 1990).
 ///
+/// The report names the correct parties that stopped for want of memory. Each other one does all that it owes.
+///
 /// # Errors
 ///
-/// BadSchedule with the first step that may not come, and NoMemory where memory runs out.
+/// BadSchedule with the first step that may not come and the report of the steps before it, and NoMemory where memory
+/// runs out.
 pub fn run(alloc: Global, config: &Config, steps: &[Step]) -> Result<Report, RunFault>
     ensures tells { IfOk result (Tells config.now steps.now) }
     ensures stops { IfErr result (TellsFault config.now steps.now) }
@@ -63,9 +77,19 @@ pub fn run(alloc: Global, config: &Config, steps: &[Step]) -> Result<Report, Run
     let mut keys = Vec::new(alloc);
     for (i, step) in steps.iter().enumerate() {
         if !take_step(&mut stage, alloc, config, &mut keys, step)? {
-            return Err(RunFault::BadSchedule(i));
+            let before = report_of(stage, alloc, config)?;
+            return Err(RunFault::BadSchedule { step: i, before });
         }
     }
+    Ok(report_of(stage, alloc, config)?)
+}
+
+// What the steps came to that led here.
+fn report_of(stage: Stage, alloc: Global, config: &Config) -> Result<Report, NoMemory>
+    requires { IsSeated config.now stage }
+    ensures { IfOk result (IsReportOf config.now stage) }
+{
+    let stopped = stage.stopped(alloc, config)?;
     let Stage {
         trace,
         accepted,
@@ -76,6 +100,7 @@ pub fn run(alloc: Global, config: &Config, steps: &[Step]) -> Result<Report, Run
         trace,
         accepted,
         points,
+        stopped,
     })
 }
 

@@ -1,6 +1,6 @@
 //! The world between steps.
 
-ghost use Rattle.std.specs.Prelude.{◌≡◌, ◌↔◌, ◌<◌, ◌+◌, true, [], length, All};
+ghost use Rattle.std.specs.Prelude.{◌≡◌, ◌↔◌, ◌<◌, ◌+◌, true, [], ◌∷◌, length, map, filter, All};
 ghost use Rattle.std.specs.Prelude.{IfOk, MatchOption, OnOk};
 ghost use Rattle.terms.specs.Parties.{party_number};
 ghost use Rattle.tuple_codec.specs.OperationView.{operation_of};
@@ -15,6 +15,8 @@ ghost use Rattle.schedule_world.specs.Moving.{CallComes, Comes, Delivers, Frames
 ghost use Rattle.schedule_world.specs.Moving.{Invokes, KeepsRecords, StepsClient, StepsReplica};
 ghost use Rattle.schedule_world.specs.Pooled.{HasBytes, IsServed};
 ghost use Rattle.schedule_world.specs.Stages.{At, IsOpen, IsSeated, IsStanding};
+ghost use Rattle.schedule_world.specs.Stopped.{AddsParties, is_stopped_client, is_stopped_replica};
+ghost use Rattle.schedule_world.specs.Stopped.{stopped_clients, stopped_parties, stopped_replicas};
 
 use crate::pool::Pool;
 use crate::receivers::{correct_of, correct_receivers};
@@ -209,6 +211,91 @@ impl Stage {
             }
         }
         Err(NoMemory)
+    }
+
+    /// The correct parties that have stopped, ascending by number.
+    pub(crate) fn stopped(&self, alloc: Global, config: &Config) -> Result<Vec<Party>, NoMemory>
+        requires seated { IsSeated config.now self.now }
+        ensures { IfOk result (λ parties. map party_number parties.items ≡ stopped_parties config.now self.now) }
+    {
+        let mut parties = Vec::new(alloc);
+        self.add_stopped_replicas(config, &mut parties)?;
+        self.add_stopped_clients(config, &mut parties)?;
+        Ok(parties)
+    }
+
+    // Adds the correct replicas that have stopped.
+    fn add_stopped_replicas(
+        &self,
+        config: &Config,
+        parties: &mut Vec<Party>,
+    ) -> Result<(), NoMemory>
+        requires seated { IsSeated config.now self.now }
+        ensures { AddsParties (stopped_replicas config.now self.now) parties.old parties.new result }
+    {
+        for number in 0..config.replicas() {
+            self.add_stopped_replica(config, number, parties)?;
+        }
+        Ok(())
+    }
+
+    fn add_stopped_replica(
+        &self,
+        config: &Config,
+        number: u8,
+        parties: &mut Vec<Party>,
+    ) -> Result<(), NoMemory>
+        requires known { number < length self.now.replicas.items }
+        ensures { AddsParties (filter (is_stopped_replica config.now self.now.replicas.items) (number ∷ []))
+            parties.old parties.new result }
+    {
+        if self.is_stopped_replica(config, number) {
+            parties.push(Party::Replica(ReplicaId(number)))?;
+        }
+        Ok(())
+    }
+
+    fn is_stopped_replica(&self, config: &Config, number: u8) -> bool
+        requires known { number < length self.now.replicas.items }
+        ensures { result ≡ is_stopped_replica config.now self.now.replicas.items number }
+    {
+        config.is_correct_replica(u16::from(number))
+            && self.replicas[usize::from(number)].is_stopped()
+    }
+
+    // Adds the correct clients that have stopped.
+    fn add_stopped_clients(&self, config: &Config, parties: &mut Vec<Party>) -> Result<(), NoMemory>
+        requires seated { IsSeated config.now self.now }
+        ensures { AddsParties (stopped_clients config.now self.now) parties.old parties.new result }
+    {
+        for number in 0..config.clients() {
+            self.add_stopped_client(config, ClientId { number }, parties)?;
+        }
+        Ok(())
+    }
+
+    fn add_stopped_client(
+        &self,
+        config: &Config,
+        client: ClientId,
+        parties: &mut Vec<Party>,
+    ) -> Result<(), NoMemory>
+        requires known { client.number < length self.now.seats.items }
+        ensures { AddsParties (filter (is_stopped_client config.now self.now.seats.items) ((256 + client.number) ∷ []))
+            parties.old parties.new result }
+    {
+        if self.is_stopped_client(config, client) {
+            parties.push(Party::Client(client))?;
+        }
+        Ok(())
+    }
+
+    fn is_stopped_client(&self, config: &Config, client: ClientId) -> bool
+        requires known { client.number < length self.now.seats.items }
+        ensures { result ≡ is_stopped_client config.now self.now.seats.items (256 + client.number) }
+    {
+        config.is_correct_client(Party::Client(client).number())
+            && self.seats[usize::from(client.number)].client.is_stopped()
     }
 
     // The first frame that a party waits for, and the first party that does.

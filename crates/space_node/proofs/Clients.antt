@@ -1,10 +1,10 @@
 -- Clients and their histories, behind an event.
-use Rattle.std.proofs.Common.{◌≡◌, ℕ, suc, ◌+◌, false, List, [], ◌∷◌, map, refl, sym, ap, ◌∙◌, subst, arith}
+use Rattle.std.proofs.Common.{◌≡◌, ℕ, suc, ◌+◌, Bool, true, false, List, [], ◌∷◌, map, refl, sym, ap, ◌∙◌, subst, arith}
 use Rattle.tuple_codec.specs.Operations.{Operation}
 use Rattle.protocol.specs.System.Configuration.{Configuration}
 use Rattle.protocol.specs.System.Trace.{Entry}
 use Rattle.protocol.specs.System.Trace.Entry.{Invoke}
-use Rattle.protocol.specs.Client.RightClient.{IsClient, last_call}
+use Rattle.protocol.specs.Client.RightClient.{IsClient, IsPromptClient, last_call}
 use Rattle.events.specs.Outputs.{behind, entry_of}
 use Rattle.events.specs.declared.output.Output.{Output}
 use Rattle.events.specs.declared.output.Output.TheVariants as outputs
@@ -47,6 +47,21 @@ last_outputs : (p : ℕ) (outs : List Output) (past : List Entry) → last_call 
 last_outputs p [] past = refl
 last_outputs p (output ∷ outs) past = last_outputs p outs (entry_of p output ∷ past) ∙ last_output p output past
 
+-- ---- a client that stops, and its share
+
+pub client_stops : (c : Configuration) (id calls : ℕ) (client later : ClientState) (share kept : Part) (was : Bool) → SeatsClient c id client calls was share → later.number ≡ client.number
+    → kept ≡ share → SeatsClient c id later calls true kept
+client_stops c id calls client later share kept was seats same is =
+    let seat : SeatsClient c id later calls true share = record {
+      party_is = seats.party_is;
+      no_replica = seats.no_replica;
+      calls_are = seats.calls_are;
+      number_is = same ∙ seats.number_is;
+      fits = λ off. absurd cc;
+      prompt = seats.prompt;
+    } in
+    subst (SeatsClient c id later calls true) (sym is) seat
+
 -- ---- a client that did not stop, and its share
 
 module _ (c : Configuration) (id calls : ℕ) (client later : ClientState) (share : Part) (seats : SeatsClient c id client calls false share) (same : later.number ≡ client.number) where
@@ -58,13 +73,14 @@ module _ (c : Configuration) (id calls : ℕ) (client later : ClientState) (shar
       right_client c share.party (behind es share.history) seats.no_replica
       (subst (λ (p : ℕ). IsClient c p (behind es share.history)) (ap (λ (k : ℕ). 256 + k) (same ∙ seats.number_is) ∙ sym seats.party_is) after.right)
 
-  pub client_after : (es : List Entry) (timestamp : ℕ) → last_call (behind es share.history) ≡ timestamp → Fits c later (behind es share.history) → SeatsClient c id later timestamp false (longer_part share es)
-  client_after es timestamp last after = record {
+  pub client_after : (es : List Entry) (timestamp : ℕ) → last_call (behind es share.history) ≡ timestamp → Fits c later (behind es share.history) → later.stopped ≡ false → SeatsClient c id later timestamp false (longer_part share es)
+  client_after es timestamp last after on = record {
     party_is = seats.party_is;
     no_replica = seats.no_replica;
     calls_are = last;
     number_is = same ∙ seats.number_is;
     fits = λ _. after;
+    prompt = subst (λ (p : ℕ). IsPromptClient c p (behind es share.history)) (ap (λ (k : ℕ). 256 + k) (same ∙ seats.number_is) ∙ sym seats.party_is) (after.running on).gave;
   }
 
   -- ---- a call

@@ -12,3 +12,4 @@ pub mod Parts
 pub mod SeatSends
 pub mod Sends
 pub mod StateSends
+pub mod Stopped

@@ -1,15 +1,19 @@
 -- Parts of a replica behind an event.
-use Rattle.std.proofs.Common.{◌≡◌, ℕ, List, ◌∷◌, map, sym, ap, subst}
+use Rattle.std.proofs.Common.{◌≡◌, ◌<◌, ℕ, false, List, [], ◌∷◌, map, Option, Some, None, refl, sym, ap, ◌∙◌, subst}
+use Rattle.std.specs.Prelude.{is_none, Result, Ok, Err}
 use Rattle.protocol.specs.System.Configuration.{Configuration}
 use Rattle.protocol.specs.System.Reads.{without_reads}
 use Rattle.protocol.specs.System.Trace.{Entry}
 use Rattle.protocol.specs.System.Trace.Entry.{Got}
+use Rattle.protocol.specs.Replica.Owed.{IsPromptReplica}
+use Rattle.protocol.specs.Replica.RightReplica.{first_point}
 use Rattle.events.specs.Outputs.{behind, entry_of, after_event}
 use Rattle.events.specs.declared.output.Output.{Output}
 use Rattle.journal.specs.Histories.{IsRight}
-use Rattle.journal.specs.Parts.{Part, AreAlike, longer_part}
-use Rattle.replica.specs.Parted.{FitBoth, FitsDesk, FitsOrderer, ReadLeads}
-use Rattle.replica.specs.State.{DeskPart, OrdererPart}
+use Rattle.journal.specs.Parts.{Part, AreAlike, fresh, longer_part}
+use Rattle.replica.specs.Parted.{DeskStops, FitBoth, FitsDesk, FitsOrderer, ReadLeads}
+use Rattle.replica.specs.State.{DeskData, DeskPart, OrdererPart}
+use Rattle.replica.proofs.Prompt.{desks_are_prompt}
 use Rattle.space_node.specs.declared.input.Input.{Input}
 use Rattle.space_node.specs.Seats.{InputLeads, SeatsDesk, input_of}
 use Rattle.space_node.proofs.Events.{ordering_behind, right_replica}
@@ -31,10 +35,11 @@ module _ (c : Configuration) (o later_o : OrdererPart) (d later_d : DeskPart) (s
   pub order_right : IsRight c share.party (behind es share.history)
   order_right = subst (IsRight c share.party) (sym after) (right_replica c share.party _ seats.replica both.0.right)
 
-  pub desk_after : SeatsDesk c later_d (longer_part share es)
-  desk_after = record {
+  pub desk_after : is_none later_d.holds ≡ false → SeatsDesk c later_d (longer_part share es)
+  desk_after on = record {
     replica = seats.replica;
     fits = subst (FitsDesk c share.party later_d) (sym after) both.0;
+    prompt = desks_are_prompt c share.party later_d (behind es share.history) (subst (FitsDesk c share.party later_d) (sym after) both.0) on;
   }
 
   pub orderer_after : FitsOrderer c order.party later_o (behind (without_reads es) order.history)
@@ -54,5 +59,41 @@ module _ (c : Configuration) (d later : DeskPart) (share : Part) (bytes : List �
   pub read_right : IsRight c share.party (behind es share.history)
   read_right = right_replica c share.party _ seats.replica read_fits.right
 
-  pub desk_after_read : SeatsDesk c later (longer_part share es)
-  desk_after_read = record { replica = seats.replica; fits = read_fits }
+  pub desk_after_read : is_none later.holds ≡ false → SeatsDesk c later (longer_part share es)
+  desk_after_read on = record {
+    replica = seats.replica;
+    fits = read_fits;
+    prompt = desks_are_prompt c share.party later (behind es share.history) read_fits on;
+  }
+
+-- ---- a desk that was stopped
+
+-- a part that did not stop: what it answers with is no refusal
+pub runs_on : {A E : Type 0} (d : DeskPart) (result : Result A E) (stop : E) (x : A) → (d.holds ≡ None → result ≡ Err stop) → result ≡ Ok x → is_none d.holds ≡ false
+runs_on d result stop x before is = go d.holds refl
+  where
+    go : (o : Option DeskData) → d.holds ≡ o → is_none o ≡ false
+    go None none = let bad : Ok x ≡ Err stop = sym is ∙ before none in absurd cc
+    go (Some y) some = refl
+
+-- a replica that has done nothing is prompt
+pub fresh_prompt : (c : Configuration) (p : ℕ) → IsPromptReplica c p []
+fresh_prompt c p = (first_point, (refl, refl))
+
+-- so is the history that a stopped desk is left with
+pub desk_left : (c : Configuration) (d stopped : DeskPart) (share left : Part) → SeatsDesk c d share → DeskStops d stopped → left ≡ fresh share.party → SeatsDesk c stopped left
+desk_left c d stopped share left seats stops is =
+    let seat : SeatsDesk c stopped (fresh share.party) = record {
+      replica = seats.replica;
+      fits = stops c share.party share.history [] seats.fits tt;
+      prompt = fresh_prompt c share.party;
+    } in
+    subst (SeatsDesk c stopped) (sym is) seat
+
+-- and that of a new one
+pub new_desk : (c : Configuration) (d : DeskPart) (share : Part) → share.party < 256 → FitsDesk c share.party d share.history → share.history ≡ [] → SeatsDesk c d share
+new_desk c d share replica fits new = record {
+  replica = replica;
+  fits = fits;
+  prompt = subst (IsPromptReplica c share.party) (sym new) (fresh_prompt c share.party);
+}

@@ -1,11 +1,14 @@
 -- What a cluster comes to. A trace and a history have the newest entry first.
-use Rattle.std.specs.Prelude.{◌≡◌, ℕ, List, [], All, map, reverse, slice_get, Some, ◌⊎◌, ⊤}
+use Rattle.std.specs.Prelude.{◌≡◌, ℕ, true, List, [], All, map, reverse, slice_get, Some, ◌⊎◌, ⊤}
 use Rattle.std.specs.List.{range_with_len}
 use Rattle.terms.specs.Parties.{party_number}
+use Rattle.quorum.specs.Quorum.{member}
 use Rattle.protocol.specs.System.Configuration.{Configuration, IsConfiguration, replicas}
 use Rattle.protocol.specs.System.Run.{IsRun}
 use Rattle.protocol.specs.System.Texts.{NoCollision}
 use Rattle.protocol.specs.System.Trace.{Entry, Unforged, history_of}
+use Rattle.protocol.specs.Client.RightClient.{IsPromptClient}
+use Rattle.protocol.specs.Replica.Owed.{IsPromptReplica}
 use Rattle.protocol.specs.Space.Linear.{points, IsLinear}
 use Rattle.journal.specs.Carrying.{Carried}
 use Rattle.journal.specs.Parts.{Part}
@@ -53,13 +56,30 @@ pub record IsWhole (c : Configuration) (trace : List Entry) (shares : List Part)
   pub shares_are : HasShares trace shares
   pub clients_are : HasClients trace clients
 
+-- Each replica is prompt to the end of its share,
+abbrev pub ReplicasArePrompt : Configuration → List Part → Type 0
+ReplicasArePrompt c shares = All (λ s. IsPromptReplica c s.party s.history) shares
+
+-- and so is each client that was handed in.
+abbrev pub ClientsArePrompt : Configuration → List Seated → Type 0
+ClientsArePrompt c clients = All (λ s. IsPromptClient c s.party s.history) clients
+
+-- Each of these clients that has stopped is among the parties of these numbers.
+abbrev pub StoppedAreNamed : List ℕ → List Seated → Type 0
+StoppedAreNamed stopped clients = All (λ s. s.stopped ≡ true → member stopped s.party ≡ true) clients
+
 -- The trace is a run's, in which each frame that was got was sent before. It has just the histories of the shares, one
--- of each replica, and of the clients that were handed in. It is unforged, and where its texts do not collide it is
--- linear: the answers that clients accept, of reads and writes alike, are those of one sequential tuple space, in which
--- each operation acts at most once, an accepted one exactly once, at a position between its invocation and its
--- acceptance.
-pub record IsFinished (c : Configuration) (trace : List Entry) (shares : List Part) (clients : List Seated) : Type 0 where
+-- of each replica, and of the clients that were handed in; each of these parties does all that it owes in it. What a
+-- party got after it had stopped is not in the trace; the clients that stopped are named. The trace is unforged, and where
+-- its texts do not collide it is linear: the answers that clients accept, of reads and writes alike, are those of one
+-- sequential tuple space, in which each operation acts at most once, an accepted one exactly once, at a position between
+-- its invocation and its acceptance.
+pub record IsFinished (c : Configuration) (trace : List Entry) (shares : List Part) (stopped : List ℕ)
+    (clients : List Seated) : Type 0 where
   pub whole : IsWhole c trace shares clients
+  pub replicas_prompt : ReplicasArePrompt c shares
+  pub clients_prompt : ClientsArePrompt c clients
+  pub named : StoppedAreNamed stopped clients
   pub replicas_are : map (λ s. s.party) shares ≡ range_with_len 0 (replicas c)
   pub unforged : Unforged c trace
   pub linear : NoCollision c trace → IsLinear c (points c trace) trace

@@ -5,7 +5,8 @@ use Rattle.protocol.specs.System.Configuration.{Configuration, is_correct_replic
 use Rattle.protocol.specs.System.Reads.{without_reads}
 use Rattle.protocol.specs.System.Trace.{Entry, party_of, is_output}
 use Rattle.protocol.specs.System.Trace.Entry.{Got, Tick}
-use Rattle.protocol.specs.Client.RightClient.{last_call}
+use Rattle.protocol.specs.Client.RightClient.{last_call, IsPromptClient}
+use Rattle.protocol.specs.Replica.Owed.{IsPromptReplica}
 use Rattle.events.specs.Outputs.{after_event, entry_of}
 use Rattle.events.specs.declared.output.Output.{Output}
 use Rattle.journal.specs.Parts.{Part, longer_part}
@@ -59,12 +60,14 @@ seat_after s input outs = record {
 
 -- ---- what seats keep
 
--- The desk goes with the history of a replica.
+-- The desk goes with the history of a replica, which is prompt to its end: an event in which the replica stops is not in it.
 pub record SeatsDesk (c : Configuration) (desk : DeskPart) (share : Part) : Type 0 where
   pub replica : share.party < 256
   pub fits : FitsDesk c share.party desk share.history
+  pub prompt : IsPromptReplica c share.party share.history
 
--- Unless it stopped, the client of this number goes with the history, which has as many calls.
+-- Unless it stopped, the client of this number goes with the history, which has as many calls. The history is prompt to
+-- its end.
 pub record SeatsClient (c : Configuration) (number : ℕ) (client : ClientState) (calls : ℕ) (stopped : Bool)
     (share : Part) : Type 0 where
   pub party_is : share.party ≡ 256 + number
@@ -72,6 +75,7 @@ pub record SeatsClient (c : Configuration) (number : ℕ) (client : ClientState)
   pub calls_are : last_call share.history ≡ calls
   pub number_is : client.number ≡ number
   pub fits : stopped ≡ false → Fits c client share.history
+  pub prompt : IsPromptClient c share.party share.history
 
 -- ---- steps
 

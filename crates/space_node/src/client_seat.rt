@@ -3,6 +3,7 @@
 ghost use Rattle.std.specs.Prelude.{◌≡◌, ◌↔◌, ◌+◌, [], false, IfOk, OnErr, IsTrue};
 ghost use Rattle.tuple_codec.specs.OperationView.{operation_of};
 ghost use Rattle.protocol.specs.System.Configuration.{is_correct_replica};
+ghost use Rattle.protocol.specs.Client.RightClient.{IsPromptClient};
 ghost use Rattle.client_cert.specs.Fits.{Fits};
 ghost use Rattle.space_node.specs.Calls.{Begins, Comes, IsSpent};
 ghost use Rattle.space_node.specs.Seats.{ClientLeads, stopped_at};
@@ -84,6 +85,14 @@ impl<N: Naming> ClientSeat<N> {
         self.stopped = true;
     }
 
+    /// Whether the client has stopped. To the end of its history it does all that it owes.
+    pub(crate) fn is_stopped(&self) -> bool
+        ensures value { result ≡ self.now.stopped }
+        ensures prompt { IsPromptClient N.config self.now.party self.now.history }
+    {
+        self.stopped
+    }
+
     /// Whether the client has stopped, or made 2^62 calls.
     pub(crate) fn is_spent(&self) -> bool
         ensures { IsTrue result ↔ IsSpent self.now }
@@ -162,6 +171,7 @@ impl<N: Naming> ClientSeat<N> {
 // What the client gives.
 fn step_client(client: &mut Client, alloc: Global, input: &Input) -> Result<Outputs, Stop>
     ensures leads { IfOk result (λ outs. ClientLeads client.old input.now outs.items client.new) }
+    ensures runs { IfOk result (λ _. client.new.stopped ≡ false) }
     ensures number { client.new.number ≡ client.old.number }
 {
     match input {

@@ -1,6 +1,7 @@
 //! A running cluster.
 
-ghost use Rattle.std.specs.Prelude.{◌≡◌, ◌↔◌, ◌+◌, Err, IfSome, IfOk, IfErr, reverse};
+ghost use Rattle.std.specs.Prelude.{◌≡◌, ◌↔◌, ◌+◌, Err, IfSome, IfOk, IfErr, map, reverse};
+ghost use Rattle.terms.specs.Parties.{party_number};
 ghost use Rattle.space_node.specs.declared.fault.StartFault.TheVariants as StartFault;
 ghost use Rattle.space_node.specs.Places.{HandleAt};
 ghost use Rattle.space_node.specs.Runs.{IsFaultless, IsFinished, Serves, TellsFault};
@@ -87,7 +88,8 @@ impl<N: Naming + Send + Sync + 'static> Cluster<N> {
     }
 
     /// Ends the nodes and joins them, takes out the journal, and compares it with the replicas' shares and with the
-    /// clients that are handed in. A call that is waiting on another handle is refused.
+    /// clients that are handed in. A call that is waiting on another handle is refused. In the trace each of these
+    /// parties does all that it owes; the run names those that stopped, of which the trace has no later event.
     ///
     /// # Errors
     ///
@@ -100,7 +102,8 @@ impl<N: Naming + Send + Sync + 'static> Cluster<N> {
         clients: Vec<ClientHandle<N>>,
     ) -> Result<Run<N>, FinishFault<N>>
         ensures finished { IfOk result
-            (λ run. IsFinished N.config (reverse run.trace.items) run.shares.items clients.items) }
+            (λ run. IsFinished N.config (reverse run.trace.items) run.shares.items
+            (map party_number run.stopped.items) clients.items) }
         ensures fault { IfErr result (λ fault. TellsFault fault clients.items) }
     {
         let Cluster {
@@ -111,11 +114,19 @@ impl<N: Naming + Send + Sync + 'static> Cluster<N> {
         } = self;
         stop(rt, &shared, threads);
         drop(handles);
-        let Ok(shares) = shares_of(rt, alloc, &shared, replicas) else {
+        let mut stopped = Vec::new(alloc);
+        let Ok(shares) = shares_of(rt, alloc, &shared, replicas, &mut stopped) else {
             return Err(FinishFault::NoMemory);
         };
         let mut journal = shared.journal.lock(rt);
-        settle(alloc, &mut journal, replicas, shares, clients.as_slice())
+        settle(
+            alloc,
+            &mut journal,
+            replicas,
+            shares,
+            stopped,
+            clients.as_slice(),
+        )
     }
 }
 

@@ -1,6 +1,7 @@
 //! What lies behind a node's shelf lock.
 
 ghost use Rattle.std.specs.Prelude.{◌≡◌, ◌<◌, [], IfSome, IfNone};
+ghost use Rattle.protocol.specs.Replica.Owed.{IsPromptReplica};
 ghost use Rattle.protocol.specs.System.Trace.Entry.{Got};
 ghost use Rattle.replica.specs.Parted.{FitsDesk};
 ghost use Rattle.space_node.specs.Seats.{seat_after, stopped_at};
@@ -47,14 +48,23 @@ impl<N: Naming> DeskSeat<N> {
     pub(crate) fn new(desk: Desk, share: Share<N>) -> DeskSeat<N>
         requires replica { share.party < 256 }
         requires fits { FitsDesk N.config share.party desk share.history }
+        requires new { share.history ≡ [] }
     {
         DeskSeat { desk, share }
+    }
+
+    /// Whether the desk has stopped.
+    pub(crate) fn is_stopped(&self) -> bool
+        ensures { result ≡ self.now.stopped }
+    {
+        self.desk.is_stopped()
     }
 
     /// Stops the desk and gives the share out.
     pub(crate) fn give_up(&mut self, alloc: Global) -> Share<N>
         ensures party { result.party ≡ self.old.party }
         ensures history { result.history ≡ self.old.history }
+        ensures prompt { IsPromptReplica N.config result.party result.history }
     {
         self.desk.stop();
         let share = self.share.take(alloc);

@@ -1,10 +1,12 @@
 //! A cluster's end: what its journal has is compared with what its parties kept.
 
-ghost use Rattle.std.specs.Prelude.{◌≡◌, ◌<◌, true, map, reverse, IfOk, IfErr, MatchOption};
+ghost use Rattle.std.specs.Prelude.{◌≡◌, ◌<◌, true, map, reverse, IfOk, IfErr, OnOk, MatchOption};
 ghost use Rattle.std.specs.List.{range_with_len};
 ghost use Rattle.terms.specs.Parties.{party_number};
 ghost use Rattle.protocol.specs.System.Configuration.{is_correct};
-ghost use Rattle.space_node.specs.Runs.{HasClients, HasShares, IsFinished, LacksClient, LacksShare, Serves, TellsFault};
+ghost use Rattle.protocol.specs.Replica.Owed.{IsPromptReplica};
+ghost use Rattle.space_node.specs.Runs.{ClientsArePrompt, HasClients, HasShares, IsFinished, LacksClient};
+ghost use Rattle.space_node.specs.Runs.{LacksShare, ReplicasArePrompt, Serves, StoppedAreNamed, TellsFault};
 
 use crate::handle::ClientHandle;
 use crate::run::{FinishFault, Run};
@@ -15,40 +17,50 @@ use std::alloc::Global;
 use std::sync::Wait;
 use terms::{NoMemory, Party, ReplicaId};
 
-/// The share of each replica. Their desks stop.
+/// The share of each replica, whose desk stops then. Those whose desk had stopped are added to the stopped parties.
 pub(crate) fn shares_of<N: Naming, R: Wait>(
     rt: &R,
     alloc: Global,
     shared: &Shared<N>,
     replicas: u8,
+    stopped: &mut Vec<Party>,
 ) -> Result<Vec<Share<N>>, NoMemory>
     requires serves { Serves N.config replicas }
-    ensures { IfOk result (λ shares. map (λ s. s.party) shares.items ≡ range_with_len 0 replicas) }
+    ensures parties { IfOk result (λ shares. map (λ s. s.party) shares.items ≡ range_with_len 0 replicas) }
+    ensures prompt { IfOk result
+        (λ shares. ReplicasArePrompt N.config shares.items) }
 {
     let mut shares = Vec::new(alloc);
     for number in 0..replicas {
-        shares.push(share_of(rt, alloc, shared, ReplicaId(number)))?;
+        let (share, has_stopped) = share_of(rt, alloc, shared, ReplicaId(number));
+        if has_stopped {
+            stopped.push(Party::Replica(ReplicaId(number)))?;
+        }
+        shares.push(share)?;
     }
     Ok(shares)
 }
 
-// The share that lies in the replica's seat.
+// The share that lies in the replica's seat, and whether the replica has stopped.
 fn share_of<N: Naming, R: Wait>(
     rt: &R,
     alloc: Global,
     shared: &Shared<N>,
     replica: ReplicaId,
-) -> Share<N>
+) -> (Share<N>, bool)
     requires correct { is_correct N.config replica.0 ≡ true }
-    ensures { result.party ≡ replica.0 }
+    ensures party { result.0.party ≡ replica.0 }
+    ensures prompt { IsPromptReplica N.config result.0.party result.0.history }
 {
     if let Some(node) = shared.nodes.get(usize::from(replica.0)) {
-        let share = node.shelf.lock(rt).give_up(alloc);
+        let mut shelf = node.shelf.lock(rt);
+        let stopped = shelf.is_stopped();
+        let share = shelf.give_up(alloc);
         if share.party().number() == u16::from(replica.0) {
-            return share;
+            return (share, stopped);
         }
     }
-    Share::empty(alloc, Party::Replica(replica))
+    (Share::empty(alloc, Party::Replica(replica)), false)
 }
 
 /// Compares the journal with the shares, one of each replica, and with the clients, and takes its trace.
@@ -57,21 +69,28 @@ pub(crate) fn settle<N: Naming>(
     journal: &mut Journal<N>,
     replicas: u8,
     shares: Vec<Share<N>>,
+    mut stopped: Vec<Party>,
     clients: &[ClientHandle<N>],
 ) -> Result<Run<N>, FinishFault<N>>
     requires serves { Serves N.config replicas }
     requires replicas_are { map (λ s. s.party) shares.items ≡ range_with_len 0 replicas }
+    requires prompt { ReplicasArePrompt N.config shares.items }
     ensures finished { IfOk result
-        (λ run. IsFinished N.config (reverse run.trace.items) run.shares.items clients.now) }
+        (λ run. IsFinished N.config (reverse run.trace.items) run.shares.items
+        (map party_number run.stopped.items) clients.now) }
     ensures fault { IfErr result (λ fault. TellsFault fault clients.now) }
 {
     let share_off = first_share_off(journal, shares.as_slice());
     let client_off = first_client_off(journal, clients);
+    if add_stopped(clients, &mut stopped).is_err() {
+        return Err(FinishFault::NoMemory);
+    }
     carried_is_unforged();
     points_are_linear();
     let run = Run {
         trace: journal.take(alloc),
         shares,
+        stopped,
     };
     match (share_off, client_off) {
         (Some(party), _) => Err(FinishFault::NotInJournal(run, party)),
@@ -104,4 +123,20 @@ fn first_client_off<N: Naming>(journal: &Journal<N>, clients: &[ClientHandle<N>]
         }
     }
     None
+}
+
+// Adds the clients that have stopped. Each does all that it owes to the end of its history.
+fn add_stopped<N: Naming>(
+    clients: &[ClientHandle<N>],
+    stopped: &mut Vec<Party>,
+) -> Result<(), NoMemory>
+    ensures prompt { OnOk result (ClientsArePrompt N.config clients.now) }
+    ensures named { OnOk result (StoppedAreNamed (map party_number stopped.new.items) clients.now) }
+{
+    for client in clients {
+        if client.is_stopped() {
+            stopped.push(client.party())?;
+        }
+    }
+    Ok(())
 }

@@ -3,6 +3,7 @@
 ghost use Rattle.std.specs.Prelude.{◌≡◌, ◌↔◌, ◌+◌, Err, false, IfOk, OnErr, IsTrue};
 ghost use Rattle.tuple_codec.specs.OperationView.{operation_of, outcome_of};
 ghost use Rattle.terms.specs.Parties.{party_number};
+ghost use Rattle.protocol.specs.Client.RightClient.{IsPromptClient};
 ghost use Rattle.space_node.specs.declared.fault.CallFault.TheVariants as CallFault;
 ghost use Rattle.space_node.specs.Calls.{Called, Ends, IsSpent, Refused};
 
@@ -69,6 +70,14 @@ impl<N: Naming> ClientHandle<N> {
             Party::Client(client) => client.number == number,
             Party::Replica(_) => false,
         }
+    }
+
+    /// Whether the client has stopped. To the end of its history it does all that it owes.
+    pub(crate) fn is_stopped(&self) -> bool
+        ensures value { result ≡ self.now.stopped }
+        ensures prompt { IsPromptClient N.config self.now.party self.now.history }
+    {
+        self.seat.is_stopped()
     }
 
     pub(crate) fn share(&self) -> &Share<N>

@@ -12,7 +12,9 @@
 //! does each client. So whatever a node or a client appends is right, and the trace is a run's. [`ClientHandle::call`]
 //! says what an answer stands on in the client's history, and exactly when it is refused as stopped.
 //! [`Cluster::finish`] says that the trace is a run's, in which each frame that was got was sent; that it has each
-//! replica's and each handed client's history; and that it is linearizable, unless two texts have one digest.
+//! replica's and each handed client's history; that in it each of these parties does all that it owes; and that it is
+//! linearizable, unless two texts have one digest. What a party got after it had stopped is not in the trace, and the run
+//! names the parties that stopped.
 //!
 //! # What is not
 //!

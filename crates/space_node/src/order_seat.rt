@@ -96,6 +96,7 @@ fn step_parts(
     ensures leads { IfOk result
         (λ outs. InputLeads orderer.old desk.old input.now outs.items orderer.new desk.new) }
     ensures stopped { OnErr result (orderer.new.holds ≡ None) }
+    ensures desk_runs { IfOk result (λ _. is_none desk.new.holds ≡ false) }
     ensures desk_stopped { OnErr result (desk.new.holds ≡ None) }
     ensures member { orderer.new.member ≡ orderer.old.member }
     ensures desk_member { desk.new.member ≡ desk.old.member }

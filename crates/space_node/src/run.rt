@@ -11,6 +11,10 @@ pub struct Run<N: Naming> {
     pub trace: Vec<Entry>,
     /// The share of each replica, in the order of their numbers.
     pub shares: Vec<Share<N>>,
+    /// The replicas that stopped, by number, and then those of the handed clients, in the order of their handles. A
+    /// party stops where memory runs out or the journal refuses its event, and a client also if the cluster ends in its
+    /// call. The trace has nothing of that event, nor of later ones.
+    pub stopped: Vec<Party>,
 }
 
 /// Why a cluster's run is not whole. Its threads have ended.

@@ -19,6 +19,10 @@ pub record IsAsked (t : TransferData) (number : ℕ) (place : Place) : Type 0 wh
 abbrev pub IsMetaAsked : TransferData → ℕ → Place → Type 0
 IsMetaAsked t number place = IsAsked t number place × (place.level ≢ Page)
 
+-- It is known which digest that place is to have.
+abbrev pub IsKnown : TransferData → Type 0
+IsKnown t = (digest : List ℕ) × (wanted t t.asked ≡ Some digest)
+
 -- Digests of children are refused for this fault. They take no memory.
 abbrev pub RefusesMeta : TransferData → ℕ → Place → List (List ℕ) → PartFault → Type 0
 RefusesMeta t number place digests NotAsked = IsMetaAsked t number place → ⊥

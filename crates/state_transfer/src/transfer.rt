@@ -5,7 +5,7 @@ ghost use Rattle.sha2.specs.Sha256.{sha256};
 ghost use Rattle.partition_tree.specs.Digests.{digest_of_children, root_of};
 ghost use Rattle.state_transfer.specs.Places.{IsPlace, page_place};
 ghost use Rattle.state_transfer.specs.Seeking.{IsFirstMissing};
-ghost use Rattle.state_transfer.specs.Taking.{IsAsked, IsMetaAsked, RefusesMeta, RefusesPage};
+ghost use Rattle.state_transfer.specs.Taking.{IsAsked, IsKnown, IsMetaAsked, RefusesMeta, RefusesPage};
 ghost use Rattle.state_transfer.specs.Transfer as spec;
 ghost use Rattle.state_transfer.specs.Transfer.{wanted, RestsOn};
 
@@ -125,6 +125,7 @@ impl Transfer {
         ensures pages { length self.now.held ≡ PAGES }
         ensures fetched { length self.now.fetched ≡ PAGES }
         ensures place { IsPlace self.now.asked }
+        ensures wanted { IsKnown self.now }
     {
         let _number = &self.number;
     }

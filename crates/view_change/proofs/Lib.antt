@@ -12,6 +12,6 @@ mod Larger
 mod Mapped
 pub mod Opening
 mod Placing
-mod Ranking
+pub mod Ranking
 mod Sizing
 mod Starting

@@ -11,3 +11,5 @@ mod encoding;
 mod frames;
 #[cfg(test)]
 mod limits;
+#[cfg(test)]
+mod longest;

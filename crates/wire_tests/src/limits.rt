@@ -58,9 +58,14 @@ fn put_batch_entries(body: &mut Vec<u8>, count: u16) -> Result<(), AllocError> {
     Ok(())
 }
 
-// The signed frame of a view change of 16,606 bytes, 40 for each checkpoint entry and 48 for each batch entry.
-fn long_change(alloc: Global, checkpoints: u8, prepared: u16) -> Result<Vec<u8>, AllocError> {
-    let mut body = joined(alloc, &[b"\x46\x00\x02", ONE, ONE, &[checkpoints]])?;
+// The signed frame of a sender's view change: 16,606 bytes, 40 for each checkpoint entry and 48 for each batch entry.
+fn long_change(
+    alloc: Global,
+    sender: u8,
+    checkpoints: u8,
+    prepared: u16,
+) -> Result<Vec<u8>, AllocError> {
+    let mut body = joined(alloc, &[b"\x46\x00", &[sender], ONE, ONE, &[checkpoints]])?;
     put_checkpoint_entries(&mut body, checkpoints)?;
     body.extend_from_slice(&prepared.to_be_bytes())?;
     put_batch_entries(&mut body, prepared)?;
@@ -84,10 +89,15 @@ fn is_too_large_carried(alloc: Global, change: &[u8]) -> Result<bool, AllocError
     Ok(is_too_large(alloc, &frame))
 }
 
+// The longest view change of a sender.
+pub fn longest_change(alloc: Global, sender: u8) -> Result<Vec<u8>, AllocError> {
+    long_change(alloc, sender, 0, 5115)
+}
+
 // 262,144 is between the lengths of this one and the next, which are as near to it as view changes come.
 #[test]
 fn the_longest_view_change(rt: HostRuntime) -> Result<(), Fail> {
-    let longest = long_change(rt.alloc(), 0, 5115)?;
+    let longest = longest_change(rt.alloc(), 2)?;
     assert_eq!(rt; longest.len(), 262_126);
     assert!(rt; comes_back(rt.alloc(), &longest)?);
     assert!(rt; comes_back_carried(rt.alloc(), &longest)?);
@@ -96,7 +106,7 @@ fn the_longest_view_change(rt: HostRuntime) -> Result<(), Fail> {
 
 #[test]
 fn a_view_change_too_long(rt: HostRuntime) -> Result<(), Fail> {
-    let longer = long_change(rt.alloc(), 3, 5113)?;
+    let longer = long_change(rt.alloc(), 2, 3, 5113)?;
     assert_eq!(rt; longer.len(), 262_150);
     assert!(rt; is_too_large(rt.alloc(), &longer));
     assert!(rt; is_too_large_carried(rt.alloc(), &longer)?);

@@ -72,7 +72,8 @@ fn is_right_or_refused(alloc: Global) -> bool {
     match (config(alloc), steps(alloc)) {
         (Some(config), Some(steps)) => match run(alloc, &config, steps.as_slice()) {
             Ok(report) => are_right(alloc, &report),
-            Err(fault) => fault == RunFault::NoMemory,
+            Err(RunFault::NoMemory) => true,
+            Err(RunFault::BadSchedule { .. }) => false,
         },
         _ => false,
     }

@@ -1,9 +1,10 @@
 //! Steps that may not come.
 
+use crate::reports::accepts;
 use crate::worlds::{SEED, report_of, steps_of, world};
 use events::Config;
 use schedule_text::Step;
-use schedule_world::{RunFault, run};
+use schedule_world::{Report, RunFault, run};
 use std::alloc::Global;
 use terms::{Party, ReplicaId};
 
@@ -89,12 +90,12 @@ static TAKEN: [&[&str]; 7] = [
     ],
 ];
 
-// The first step that may not come, if there is one.
+// The first step that may not come, if there is one, where no party has stopped.
 fn refused_step(alloc: Global, config: &Config, steps: &[Step]) -> Option<usize> {
-    match run(alloc, config, steps) {
-        Err(RunFault::BadSchedule(step)) => Some(step),
-        _ => None,
-    }
+    let Err(RunFault::BadSchedule { step, before }) = run(alloc, config, steps) else {
+        return None;
+    };
+    before.stopped.is_empty().then_some(step)
 }
 
 fn refused_line(alloc: Global, lines: &[&str]) -> Option<usize> {
@@ -165,4 +166,28 @@ fn is_refused_for_none(alloc: Global) -> bool {
 #[test]
 fn a_frame_for_nobody(rt: HostRuntime) {
     assert!(rt; is_refused_for_none(rt.alloc()));
+}
+
+// The report that comes with the refusal of the last step.
+fn report_before(alloc: Global, lines: &[&str]) -> Option<Report> {
+    let config = config(alloc)?;
+    let steps = steps_of(alloc, lines)?;
+    match run(alloc, &config, steps.as_slice()) {
+        Err(RunFault::BadSchedule { before, .. }) => Some(before),
+        _ => None,
+    }
+}
+
+// Client 0's call was answered before the step that may not come.
+fn tells_the_call(alloc: Global) -> bool {
+    let lines = ["invoke 0 out (1)", "flush", "tick r3"];
+    match report_before(alloc, &lines) {
+        Some(before) => { accepts(alloc, &before, &[(0, 1, "done")]) && before.points.len() == 1 }
+        None => false,
+    }
+}
+
+#[test]
+fn tells_what_came_before(rt: HostRuntime) {
+    assert!(rt; tells_the_call(rt.alloc()));
 }

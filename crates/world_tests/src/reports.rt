@@ -39,7 +39,7 @@ pub fn is_accepted(
         && is_text(alloc, &acceptance.answer, text)
 }
 
-/// Whether these were accepted, in this order, and nothing else.
+/// Whether these were accepted, in this order, and nothing else, and no party stopped.
 pub fn accepts(alloc: Global, report: &Report, rows: &[Row<'_>]) -> bool {
     let accepted = report.accepted.as_slice();
     for (acceptance, row) in accepted.iter().zip(rows) {
@@ -47,7 +47,7 @@ pub fn accepts(alloc: Global, report: &Report, rows: &[Row<'_>]) -> bool {
             return false;
         }
     }
-    accepted.len() == rows.len()
+    accepted.len() == rows.len() && report.stopped.is_empty()
 }
 
 /// Whether the answers were accepted at these positions.

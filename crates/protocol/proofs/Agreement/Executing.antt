@@ -10,9 +10,9 @@ use Rattle.protocol.specs.System.Trace.{Entry, party_of, history_of, Once, Alway
 use Rattle.protocol.specs.System.Trace.Entry.{Invoke, Got, Tick, Executed, Installed, Sent, Accepted}
 use Rattle.protocol.specs.Replica.Certificates.{proposal, logged, commit_of, commit_from, vote_in, Committed, batch_begun}
 use Rattle.quorum.specs.Votes.{has_digest}
-use Rattle.protocol.specs.System.Texts.{IsText, HasBatch, batches_of, ExecutesBatch}
+use Rattle.protocol.specs.System.Texts.{IsText, HasBatch, batches_of}
 use Rattle.protocol.specs.System.Texts.IsText.{batch}
-use Rattle.protocol.specs.Laws.Histories.{AreReplicasSafe, ExecutedAgree}
+use Rattle.protocol.specs.Laws.Histories.{AreReplicasSafe, ExecutesBatch, ExecutedAgree}
 use Rattle.protocol.proofs.Words.Temporal.{once_weaker, once_stays, once_in_trace, once_in_history}
 use Rattle.protocol.proofs.Words.Options.{given_stays, given_once, then_some_gives}
 use Rattle.protocol.proofs.Words.Linking.{heard_said}

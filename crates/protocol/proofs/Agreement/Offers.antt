@@ -142,10 +142,10 @@ offer_by c me v i batch past point p bytes sender (PrePrepare view number b) who
     let q = and_parts (view == v) (number == i) g.0 in
     let ev : view ≡ v = eqb-true view v q.0 in
     let ei : number ≡ i = eqb-true number i q.1 in
-    let m : MayPrePrepare c me past (Sent p bytes) v i batch =
-    subst (λ (x : ℕ). MayPrePrepare c me past (Sent p bytes) x i batch) ev
-    (subst (λ (x : ℕ). MayPrePrepare c me past (Sent p bytes) view x batch) ei
-    (subst (λ (x : List ℕ). MayPrePrepare c me past (Sent p bytes) view number x) g.1 say)) in
+    let m : MayPrePrepare c me past point (Sent p bytes) v i batch =
+    subst (λ (x : ℕ). MayPrePrepare c me past point (Sent p bytes) x i batch) ev
+    (subst (λ (x : ℕ). MayPrePrepare c me past point (Sent p bytes) view x batch) ei
+    (subst (λ (x : List ℕ). MayPrePrepare c me past point (Sent p bytes) view number x) g.1 say)) in
     fresh m.active m.in_marks m.one
 offer_by c me v i batch past point p bytes sender (NewView new) whole h say = go say.1
   where

@@ -1,5 +1,5 @@
 -- Each state of a correct replica is the state of the executed batches.
-use Rattle.std.proofs.Common.{◌≡◌, ℕ, zero, suc, ◌+◌, ◌*◌, ◌%◌, ◌^◌, ◌≤◌, ◌<◌, ◌⊎◌, inl, inr, Bool, true, false, cond, List, [], ◌∷◌, ◌++◌, length, take, map, reverse, refl, sym, ap, ◌∙◌, subst, arith, ◌&&◌, ◌||◌, Option, Some, None, eqb-true, eq-eqb, bytes_eq, append_assoc, not}
+use Rattle.std.proofs.Common.{◌≡◌, ℕ, zero, suc, ◌+◌, ◌*◌, ◌%◌, ◌^◌, ◌≤◌, ◌<◌, ◌⊎◌, inl, inr, Bool, true, false, cond, List, [], ◌∷◌, ◌++◌, length, take, map, reverse, refl, sym, ap, ◌∙◌, subst, arith, ◌&&◌, ◌||◌, Option, Some, None, eqb-true, bytes_eq, append_assoc, not}
 use Rattle.std.specs.Prelude.{◌==◌, nat_lt, nat_le}
 use Rattle.std.proofs.lemmas.Bool.{and_parts, and_from, or_cases, leb-true, lt-ltb, not_from_false}
 use Rattle.std.proofs.lemmas.Slice.Eq.{bytes_eq-Decides}
@@ -13,10 +13,12 @@ use Rattle.protocol.specs.Replica.Certificates.{checkpoint_from, checkpoint_in, 
 use Rattle.protocol.specs.Replica.Selection.{is_quorum, changes_of, passes_by, count_in, may_select}
 use Rattle.std.specs.List.{list_any}
 use Rattle.protocol.specs.Replica.State.{State, IsState, opening, execute, after_batches, page_text, root_of}
+use Rattle.protocol.specs.Replica.Transfers.{in_place}
 use Rattle.protocol.specs.Replica.RightReplica.{Point, first_point, Leaves, SafeReplica, May, MaySay, MayCheckpoint, MayInstall, Moves, GetsPage, StartsAt, kept_states, checkpoint_of, waiting_after, HadQuorum, executed_point}
-use Rattle.protocol.specs.System.Texts.{NoCollision, IsText, Holds, HasPart, AreExecuted, ExecutesBatch}
-use Rattle.protocol.specs.System.Texts.IsText.{part, held, page_of, under}
-use Rattle.protocol.specs.Laws.Histories.{AreReplicasSafe, Takes, IsRootOf, IsStateOf, Installs, Had}
+use Rattle.protocol.specs.System.Texts.{NoCollision, IsText, IsUnder, InstallsOver, HasPart, AreFirst}
+use Rattle.protocol.specs.System.Texts.IsText.{part, page_of, under, installed}
+use Rattle.protocol.specs.Space.Linear.{reached}
+use Rattle.protocol.specs.Laws.Histories.{AreReplicasSafe, ExecutesBatch, AreExecuted, Takes, IsRootOf, IsStateOf, Installs, Had}
 use Rattle.protocol.proofs.Words.Temporal.{once_weaker, once_always, once_stays, once_in_trace}
 use Rattle.protocol.proofs.Words.Options.{and_then_some, then_some_gives, some_injective}
 use Rattle.protocol.proofs.Words.Linking.{Speaks, heard_said}
@@ -29,7 +31,10 @@ use Rattle.protocol.proofs.Agreement.Agreeing.{once_some}
 use Rattle.protocol.proofs.Words.Roots.{same_pages}
 use Rattle.protocol.proofs.Words.Paging.{pages_determine}
 use Rattle.protocol.proofs.Words.Leaving.{batches_leave_states}
+use Rattle.protocol.proofs.Words.Taking.{is_own_or_got, under_same}
+use Rattle.protocol.proofs.Points.Levels.{reached_history, number_reached}
 use Rattle.protocol.proofs.Agreement.Executing.{executor, executed_committed}
+use Rattle.protocol.proofs.Agreement.Firsts.{executed_first}
 use Rattle.protocol.proofs.Agreement.Changes.{NewChangeAt, change_is_new, logged_within}
 use Rattle.protocol.proofs.Words.Elements.{has_some, some_of_has, has_filter, has_map, has_reverse}
 
@@ -361,12 +366,17 @@ executed_leave c setting trace right batches h =
 -- ---- the induction over the trace
 
 module _ (c : Configuration) (setting : IsConfiguration c) (trace : List Entry) (right : AreReplicasSafe c trace) (unforged : Unforged c trace) (apart : NoCollision c trace) where
-  -- a held state with the root of a state of executed batches is that state
-  same_state : (st : State) → IsStateOf c trace st → (other : State) → IsState other → Holds c trace (page_text other) → ((i : ℕ) → i < 1024 → IsText c trace (page_text other i)) → root_of st ≡ root_of other → IsStateOf c trace other
-  same_state st is other state holds texts root =
+  -- the batches of a state are the first
+  firsts : (st : State) → (is : IsStateOf c trace st) → AreFirst c trace 1 is.batches
+  firsts st is = executed_first c setting trace right unforged apart 1 is.batches is.executed
+
+  -- a state with the root of a state of executed batches, whose texts are apart, is that state
+  same_state : (st : State) → IsStateOf c trace st → (other : State) → IsState other → ((text : List ℕ) → IsUnder (page_text other) text → IsText c trace text)
+      → ((i : ℕ) → i < 1024 → IsText c trace (page_text other i)) → root_of st ≡ root_of other → IsStateOf c trace other
+  same_state st is other state unders texts root =
       let pages = same_pages c trace (page_text (after_batches c opening is.batches)) (page_text other) apart
-      (λ text u. under is.batches text is.executed u) (λ text u. held (page_text other) text holds u)
-      (λ i l. page_of is.batches i is.executed) texts
+      (λ text u. under is.batches text (firsts st is) u) unders
+      (λ i l. page_of is.batches i l (firsts st is)) texts
       (subst (λ (x : State). root_of x ≡ root_of other) is.is root) in
       let e : after_batches c opening is.batches ≡ other = pages_determine (after_batches c opening is.batches) other (executed_leave c setting trace right is.batches is.executed) state pages in
       record { batches = is.batches; executed = is.executed; is = sym e }
@@ -379,7 +389,7 @@ module _ (c : Configuration) (setting : IsConfiguration c) (trace : List Entry) 
 
   good_step : (pre ys : List Entry) (e : Entry) → trace ≡ pre ++ e ∷ ys → (r : ℕ) → is_correct_replica c r ≡ true → party_of e ≡ r
       → ((s : ℕ) → is_correct_replica c s ≡ true → GoodAll c trace s (history_of s ys))
-      → (old point : Point) → Leaves c r (e ∷ history_of r ys) point → Good c trace old → May c r (history_of r ys) old e → Moves c r (history_of r ys) old e point → Good c trace point
+      → (old point : Point) → Leaves c r (history_of r ys) old → Good c trace old → May c r (history_of r ys) old e → Moves c r (history_of r ys) old e point → Good c trace point
   good_step pre ys (Got p bytes) is r correct own good old point leaves was may move = good_moved old point (record old { ran = []; waiting = waiting_after c r old bytes }) move refl refl was
   good_step pre ys (Tick p) is r correct own good old point leaves was may move = good_moved old point (record old { ran = [] }) move refl refl was
   good_step pre ys (Sent p bytes) is r correct own good old point leaves was may move = subst (Good c trace) (sym move) was
@@ -422,37 +432,40 @@ module _ (c : Configuration) (setting : IsConfiguration c) (trace : List Entry) 
       known = installed_known c setting trace ys right_ys unforged_ys good r correct k root old may
 
       next : IsStateOf c trace point.state
-      next = same_state known.state known.is_state point.state move.is_state holds texts (known.root_is ∙ sym move.root_is)
+      next = same_state known.state known.is_state point.state move.is_state unders texts (known.root_is ∙ sym move.root_is)
         where
           texts : (i : ℕ) → i < 1024 → IsText c trace (page_text point.state i)
-          texts i l = pick (move.pages i l)
+          texts i l = pick (is_own_or_got c r k i (history_of r ys) old.state (page_text point.state i) (move.pages i l))
             where
               pick : (page_text point.state i ≡ page_text old.state i) ⊎ Once (GetsPage c r i (page_text point.state i)) (history_of r ys) → IsText c trace (page_text point.state i)
               pick (inl same) =
-                  subst (IsText c trace) (sym same) (subst (λ (x : State). IsText c trace (page_text x i)) (sym was.state.is) (page_of was.state.batches i was.state.executed))
+                  subst (IsText c trace) (sym same) (subst (λ (x : State). IsText c trace (page_text x i)) (sym was.state.is) (page_of was.state.batches i l (firsts old.state was.state)))
               pick (inr got) =
                   let parts : Once (HasPart (page_text point.state i)) ys =
                   once_weaker (λ past e. (party_of e ≡ r) × GetsPage c r i (page_text point.state i) (history_of r past) e) (HasPart (page_text point.state i))
                   (λ past e t. got_part c r i (page_text point.state i) (history_of r past) past e t.1) ys (once_in_trace (GetsPage c r i (page_text point.state i)) r ys got) in
                   part (page_text point.state i) (subst (λ (t : List Entry). Once (HasPart (page_text point.state i)) t) (sym is) (once_append (HasPart (page_text point.state i)) pre (Installed p k root ∷ ys) (inr parts)))
 
-          holds : Holds c trace (page_text point.state)
-          holds = record {
-            at = record {
-              replica = r;
-              later = history_of r pre;
-              past = Installed p k root ∷ history_of r ys;
-              is_correct = correct;
-              splits = ap (history_of r) is ∙ history_append r pre (Installed p k root ∷ ys) ∙ ap (λ t. history_of r pre ++ t) (here (party_of (Installed p k root) == r) (eq-eqb p r own));
-              point = point;
-              leaves = leaves;
-            };
-            each = λ i l. inl refl;
-          }
-            where
-              here : (b : Bool) → b ≡ true → cond b (Installed p k root ∷ history_of r ys) (history_of r ys) ≡ Installed p k root ∷ history_of r ys
-              here true x = refl
-              here false x = absurd cc
+          number : length was.state.batches ≡ reached ys r
+          number =
+              let n = number_after c opening was.state.batches in
+              let m : old.state.number ≡ (after_batches c opening was.state.batches).number = ap (λ (x : State). x.number) was.state.is in
+              let h = number_reached c r (history_of r ys) old leaves in
+              let t = reached_history r ys in
+              omega arith
+
+          same : (i : ℕ) → i < 1024 → page_text point.state i ≡ in_place c r k (history_of r ys) (after_batches c opening was.state.batches) i
+          same i l = subst (λ (x : State). page_text point.state i ≡ in_place c r k (history_of r ys) x i) was.state.is (move.pages i l)
+
+          over : (text : List ℕ) → IsUnder (page_text point.state) text → InstallsOver c was.state.batches text ys (Installed r k root)
+          over text u = (correct, number, under_same (page_text point.state) (in_place c r k (history_of r ys) (after_batches c opening was.state.batches)) text same u)
+
+          unders : (text : List ℕ) → IsUnder (page_text point.state) text → IsText c trace text
+          unders text u =
+              installed was.state.batches text (firsts old.state was.state)
+              (subst (λ (t : List Entry). Once (InstallsOver c was.state.batches text) t) (sym is)
+              (once_append (InstallsOver c was.state.batches text) pre (Installed p k root ∷ ys)
+              (inl (subst (λ (q : ℕ). InstallsOver c was.state.batches text ys (Installed q k root)) (sym own) (over text u)))))
 
       each : (st : State) → Has (λ x. x ≡ st) point.snapshots → IsStateOf c trace st
       each st h = go (subst (λ (x : List State). Has (λ y. y ≡ st) x) move.snapshots h)
@@ -469,7 +482,7 @@ module _ (c : Configuration) (setting : IsConfiguration c) (trace : List Entry) 
       go : (b : Bool) → (party_of e == r) ≡ b → ((s : ℕ) → is_correct_replica c s ≡ true → GoodAll c trace s (history_of s ys)) → GoodAll c trace r (cond b (e ∷ history_of r ys) (history_of r ys))
       go true own below =
           let was = below r correct in
-          (λ point h. good_step pre ys e is r correct (eqb-true (party_of e) r own) below h.0 point h (was.0 h.0 h.1) h.2.may h.2.moves, was)
+          (λ point h. good_step pre ys e is r correct (eqb-true (party_of e) r own) below h.0 point h.1 (was.0 h.0 h.1) h.2.may h.2.moves, was)
       go false own below = below r correct
 
   -- each state of a correct replica, and each of its snapshots, is that of the executed batches

@@ -3,8 +3,8 @@ use Rattle.std.proofs.Common.{◌≡◌, ℕ, ◌+◌, List, [], ◌∷◌, leng
 use Rattle.protocol.specs.System.Configuration.{Configuration, IsConfiguration}
 use Rattle.protocol.specs.System.Trace.{Entry, Unforged}
 use Rattle.protocol.specs.Replica.State.{State, opening, after_batches}
-use Rattle.protocol.specs.System.Texts.{NoCollision, AreExecuted}
-use Rattle.protocol.specs.Laws.Histories.{AreReplicasSafe, IsStateOf, StatesAreExecuted, StatesAgree}
+use Rattle.protocol.specs.System.Texts.{NoCollision}
+use Rattle.protocol.specs.Laws.Histories.{AreReplicasSafe, AreExecuted, IsStateOf, StatesAreExecuted, StatesAgree}
 use Rattle.protocol.proofs.Agreement.Executing.{executed_agree}
 use Rattle.protocol.proofs.Agreement.States.{number_after, had_executed}
 

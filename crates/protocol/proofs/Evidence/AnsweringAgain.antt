@@ -6,7 +6,7 @@ use Rattle.tuple_codec.specs.Operations.{Operation}
 use Rattle.reply_cache.specs.Replies.{Kept, no_replies}
 use Rattle.terms.specs.declared.order.Mode.TheVariants as modes
 use Rattle.terms.specs.declared.state.Level.TheVariants as levels
-use Rattle.wire.specs.Messages.{BodyData as Body, CheckpointEntryData as CheckpointEntry, request as Request, reply as Reply, fetch as Fetch}
+use Rattle.wire.specs.Messages.{BodyData as Body, CheckpointEntryData as CheckpointEntry, request as Request, reply as Reply, fetch as Fetch, meta as Meta, page as Page, view_change as ViewChange}
 use Rattle.protocol.specs.System.Configuration.{Configuration, members}
 use Rattle.signing.specs.Heard.{heard}
 use Rattle.protocol.specs.System.Trace.{Entry}
@@ -19,6 +19,7 @@ use Rattle.protocol.specs.Replica.Owed.{Gives, IsDropped, Owes, Proceeds, IsRepl
 use Rattle.protocol.specs.Evidence.Examples.{four}
 use Rattle.protocol.specs.Evidence.FirstOperation.{FirstFrames, first_answer}
 use Rattle.protocol.specs.Evidence.ExamplesOfKept.{KeptReplyGoesAgain}
+use Rattle.protocol.proofs.Words.Moving.{no_reason}
 use Rattle.protocol.proofs.Points.Keeping.{executed_kept}
 use Rattle.protocol.proofs.Words.Options.{some_injective}
 use Rattle.protocol.proofs.Evidence.FirstReplicasStages.{Stage, got, sent, stage_request, stage_reply}
@@ -146,7 +147,10 @@ module _ (o : Part) where
       reads = λ s t other asks read_only. absurd (let bad : modes.ReadOnly ≡ modes.Ordered = (is_ordered (record { sender = s; message = Request t modes.ReadOnly other }) asks).1 in cc);
       fetched_digests = λ s n index level children asks state kept. absurd (is_ordered (record { sender = s; message = Fetch n level index }) asks);
       fetched_page = λ s n index asks state kept. absurd (is_ordered (record { sender = s; message = Fetch n levels.Page index }) asks);
+      goes_on_by_digests = λ s n index level digests brings awaited. absurd (is_ordered (record { sender = s; message = Meta n level index digests }) brings);
+      goes_on_by_page = λ s n index text brings awaited. absurd (is_ordered (record { sender = s; message = Page n index text }) brings);
       fetches = λ n root quorum above newer. absurd (no_quorum (record { number = n; digest = root }) quorum);
+      view_changes = λ vc bytes moves may within says. absurd (no_reason c me past w.request (done c batch).waiting vc.view (λ s x asks. is_ordered (record { sender = s; message = ViewChange x }) asks) moves);
       dropped = λ bytes same drops. absurd (not_dropped (subst (λ (bs : List ℕ). IsDropped c me past (done c batch) bs) (sym (same_bytes bytes same)) drops));
     }
 
@@ -155,7 +159,7 @@ module _ (o : Part) where
     may : MaySend c me asked (done c batch) (Sent me (w.reply me)) (w.reply me)
     may =
         steps.may_send o asked (done c batch) (w.reply me) (Reply 256 1 modes.Ordered 1 (first_answer op)) (256 ∷ []) (o.are_frames.replies me o.within) (λ rs is. is) tt
-        (inr (0, the_kept, kept_is, refl))
+        (inr (0, the_kept, kept_is, refl, (op, hears))) (λ here. here)
 
     gets : IsStep c me past (done c batch) (Got me w.request) (done c batch)
     gets = record { own = refl; may = tt; moves = quiet }

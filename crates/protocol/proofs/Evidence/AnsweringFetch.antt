@@ -6,7 +6,7 @@ use Rattle.protocol.specs.System.Configuration.{Configuration, members}
 use Rattle.terms.specs.declared.order.Mode.TheVariants as modes
 use Rattle.terms.specs.declared.state.Level.{Level}
 use Rattle.terms.specs.declared.state.Level.TheVariants as levels
-use Rattle.wire.specs.Messages.{BodyData as Body, FrameData as Frame, AuthenticatorData as Authenticator, CheckpointEntryData as CheckpointEntry, macs, signature, request as Request, pre_prepare as PrePrepare, fetch as Fetch, meta as Meta}
+use Rattle.wire.specs.Messages.{BodyData as Body, FrameData as Frame, AuthenticatorData as Authenticator, CheckpointEntryData as CheckpointEntry, macs, signature, request as Request, pre_prepare as PrePrepare, fetch as Fetch, meta as Meta, page as Page, view_change as ViewChange}
 use Rattle.signing.specs.Heard.{heard}
 use Rattle.wire.specs.Words.{receivers_of, frame_of}
 use Rattle.protocol.specs.System.Trace.{Entry, Has}
@@ -18,11 +18,13 @@ use Rattle.protocol.specs.Replica.RightReplica.{Point, first_point, with_waiting
 use Rattle.protocol.specs.Replica.Owed.{Owes, IsReplica, GivesTo}
 use Rattle.protocol.specs.Evidence.Examples.{four}
 use Rattle.protocol.specs.Evidence.ExamplesOfAnswers.{IsAnswer, FirstFetchIsAnswered}
+use Rattle.protocol.proofs.Words.Moving.{no_reason}
 use Rattle.protocol.proofs.Evidence.FirstBatch.{still}
 use Rattle.protocol.proofs.Words.Options.{some_injective}
 use Rattle.protocol.proofs.Evidence.FirstReplicasStages.{none, Stage, first_stage, got, sent, stage_fetch, stage_meta}
 use Rattle.protocol.proofs.Evidence.FirstReplicasOwing.{logs_it, is_prepared}
 use Rattle.quorum.proofs.Counting.{count_same}
+use Rattle.protocol.proofs.Words.Posting.{unsigned_have_no_leaf}
 
 low_first : (c : Configuration) (me : ℕ) → low c me [] ≡ 0
 unfolding low
@@ -110,7 +112,10 @@ module _ (clients : ℕ) (seed : List ℕ) (me other : ℕ) (fetch digests : Lis
       reads = λ s t o asks read_only. absurd (only_fetch (record { sender = s; message = Request t modes.ReadOnly o }) asks);
       fetched_digests = λ s k index level children asks st kept. gives s k index level st (only_fetch (record { sender = s; message = Fetch k level index }) asks) (kept_is k st kept);
       fetched_page = λ s k index asks st kept. absurd (root_page (only_fetch (record { sender = s; message = Fetch k levels.Page index }) asks).2);
+      goes_on_by_digests = λ s n index level digests brings awaited. absurd (only_fetch (record { sender = s; message = Meta n level index digests }) brings);
+      goes_on_by_page = λ s n index text brings awaited. absurd (only_fetch (record { sender = s; message = Page n index text }) brings);
       fetches = λ k root quorum above newer. absurd (no_quorum (record { number = k; digest = root }) quorum);
+      view_changes = λ vc bytes moves may within says. absurd (no_reason c me [] fetch [] vc.view (λ s x asks. only_fetch (record { sender = s; message = ViewChange x }) asks) moves);
       dropped = λ bytes same drops. absurd (drops asked (subst (λ (bs : List ℕ). heard (members c) me bs ≡ Some asked) (same_bytes bytes same) hears) (kept_at [] (low_first c me) (λ st. Rattle.std.specs.Prelude.⊤) tt));
     }
 
@@ -131,6 +136,8 @@ module _ (clients : ℕ) (seed : List ℕ) (me other : ℕ) (fetch digests : Lis
       seen = tt;
       say = (kept_at (Got me fetch ∷ []) (still c me (Got me fetch ∷ []) behind.plain).low_is (λ st. digests_at opening levels.Root 0 ≡ digests_at st levels.Root 0) refl, (other, inl hears));
       is_sealed = λ f is. let s = a.is_sealed f is in (s.0, addressed f.authenticator s.1);
+      leaf = unsigned_have_no_leaf (Got me fetch ∷ []) digests (answer) (a.says) refl;
+      once = λ here. here;
     }
 
     gets : IsStep c me [] first_point (Got me fetch) first_point

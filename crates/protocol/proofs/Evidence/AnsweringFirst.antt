@@ -7,7 +7,7 @@ use Rattle.space.specs.Applying.{outcome, is_read_only}
 use Rattle.protocol.specs.System.Configuration.{Configuration, members}
 use Rattle.terms.specs.declared.order.Mode.TheVariants as modes
 use Rattle.terms.specs.declared.state.Level.TheVariants as levels
-use Rattle.wire.specs.Messages.{BodyData as Body, MessageData as Message, AuthenticatorData as Authenticator, CheckpointEntryData as CheckpointEntry, macs, signature, request as Request, pre_prepare as PrePrepare, reply as Reply, fetch as Fetch}
+use Rattle.wire.specs.Messages.{BodyData as Body, MessageData as Message, AuthenticatorData as Authenticator, CheckpointEntryData as CheckpointEntry, macs, signature, request as Request, pre_prepare as PrePrepare, reply as Reply, fetch as Fetch, meta as Meta, page as Page, view_change as ViewChange}
 use Rattle.signing.specs.Heard.{heard}
 use Rattle.wire.specs.Words.{receivers_of}
 use Rattle.protocol.specs.System.Trace.{Entry, Has}
@@ -19,10 +19,12 @@ use Rattle.protocol.specs.Replica.RightReplica.{Point, first_point, with_waiting
 use Rattle.protocol.specs.Replica.Owed.{Owes, IsReplica}
 use Rattle.protocol.specs.Evidence.Examples.{four}
 use Rattle.protocol.specs.Evidence.ExamplesOfAnswers.{IsAnswer, FirstReadIsAnswered}
+use Rattle.protocol.proofs.Words.Moving.{no_reason}
 use Rattle.protocol.proofs.Words.Options.{some_injective}
 use Rattle.protocol.proofs.Evidence.FirstReplicasStages.{none, Stage, first_stage, got, sent, stage_request, stage_reply}
 use Rattle.protocol.proofs.Evidence.FirstReplicasOwing.{logs_it, is_prepared}
 use Rattle.quorum.proofs.Counting.{count_same}
+use Rattle.protocol.proofs.Words.Posting.{unsigned_have_no_leaf}
 
 module _ (clients : ℕ) (seed : List ℕ) (me client timestamp : ℕ) (op : Operation) (read reply : List ℕ) where
   abbrev c : Configuration
@@ -84,7 +86,10 @@ module _ (clients : ℕ) (seed : List ℕ) (me client timestamp : ℕ) (op : Ope
       reads = λ s t o asks read_only. inl (a.says ∙ ap (λ (x : Body). let y : Body = record { sender = me; message = answered x } in Some y) (heard_is (record { sender = s; message = Request t modes.ReadOnly o }) asks));
       fetched_digests = λ s k index level children asks st kept. absurd (only_read (record { sender = s; message = Fetch k level index }) asks);
       fetched_page = λ s k index asks st kept. absurd (only_read (record { sender = s; message = Fetch k levels.Page index }) asks);
+      goes_on_by_digests = λ s n index level digests brings awaited. absurd (only_read (record { sender = s; message = Meta n level index digests }) brings);
+      goes_on_by_page = λ s n index text brings awaited. absurd (only_read (record { sender = s; message = Page n index text }) brings);
       fetches = λ k root quorum above newer. absurd (no_quorum (record { number = k; digest = root }) quorum);
+      view_changes = λ vc bytes moves may within says. absurd (no_reason c me [] read [] vc.view (λ s x asks. only_read (record { sender = s; message = ViewChange x }) asks) moves);
       dropped = λ bytes same drops. absurd (drops asked (subst (λ (bs : List ℕ). heard (members c) me bs ≡ Some asked) (same_bytes bytes same) hears) is);
     }
 
@@ -105,6 +110,8 @@ module _ (clients : ℕ) (seed : List ℕ) (me client timestamp : ℕ) (op : Ope
       seen = tt;
       say = record { op = op; is_read = is; heard = inl hears; answer_is = refl; number_is = refl };
       is_sealed = λ frame spells. let s = a.is_sealed frame spells in (s.0, addressed frame.authenticator s.1);
+      leaf = unsigned_have_no_leaf (Got me read ∷ []) reply (answer) (a.says) refl;
+      once = λ here. here;
     }
 
     gets : IsStep c me [] first_point (Got me read) first_point

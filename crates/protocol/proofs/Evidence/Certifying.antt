@@ -98,7 +98,7 @@ no_view_heard c p bytes body hears other = ap (option_and_then (new_view_from c)
 proposed_in_marks : (c : Configuration) (me v i : ℕ) (batch : List ℕ) (past : List Entry) (point : Point) (e : Entry) (bytes : List ℕ) (sender : ℕ) (message : Message)
     → MaySay c me past point e bytes message → batch_from c me v i (record { sender = sender; message = message }) ≡ Some batch → is_in_marks c (low c me past) i ≡ true
 proposed_in_marks c me v i batch past point e bytes sender (PrePrepare w number b) say h =
-    let m : MayPrePrepare c me past e w number b = say in
+    let m : MayPrePrepare c me past point e w number b = say in
     let g = then_some_gives ((w == v) && (number == i) && (sender == primary c v) && are_genuine c me b) b batch h in
     let p = and_parts ((w == v) && (number == i) && (sender == primary c v)) (are_genuine c me b) g.0 in
     let q = and_parts ((w == v) && (number == i)) (sender == primary c v) p.0 in

@@ -19,6 +19,7 @@ use Rattle.protocol.proofs.Agreement.Voting.{logged_stays}
 use Rattle.protocol.proofs.Agreement.Commits.{prepare_stays, prepared_stays}
 use Rattle.protocol.proofs.Agreement.Executing.{commit_stays}
 use Rattle.protocol.proofs.Words.Plain.{Plain, heard_plain, said_plain, taken_none, plain_view, plain_target, plain_low}
+use Rattle.protocol.proofs.Words.Posting.{unsigned_have_no_leaf}
 
 pub same_digest : (d : List ℕ) → has_digest d (Some d) ≡ true
 same_digest d = (bytes_eq-Decides d d).1 refl
@@ -241,6 +242,8 @@ module _ (clients : ℕ) (seed batch a b d e f g : List ℕ) (x : IsFirstBatch (
     seen = tt;
     say = record { is_backup = λ z. cc; active = active h1 plain1; batch = batch; is_logged = logged1; digest_is = refl };
     is_sealed = λ frame is. let s = x.prepare_sealed frame is in (s.0, for_others h1 (Prepare 0 1 (sha256 batch)) frame.authenticator (λ rs e. e) s.1);
+    leaf = unsigned_have_no_leaf (h1) b (record { sender = 1; message = Prepare 0 1 (sha256 batch) }) (x.prepares) refl;
+    once = λ sent. sent;
   }
 
   may_commit : (point : Point) → MaySend c 1 h3 point (Sent 1 e) e
@@ -251,6 +254,8 @@ module _ (clients : ℕ) (seed batch a b d e f g : List ℕ) (x : IsFirstBatch (
     seen = tt;
     say = record { active = active h3 plain3; batch = batch; prepared = prepared; digest_is = refl };
     is_sealed = λ frame is. let s = x.commit_sealed frame is in (s.0, for_others h3 (Commit 0 1 (sha256 batch)) frame.authenticator (λ rs e. e) s.1);
+    leaf = unsigned_have_no_leaf (h3) e (record { sender = 1; message = Commit 0 1 (sha256 batch) }) (x.commits) refl;
+    once = λ sent. sent;
   }
 
   abbrev p1 : Point

@@ -172,7 +172,7 @@ module _ (clients : ℕ) (seed : List ℕ) (op : Operation) (batch : List ℕ) (
   may_prepare : MaySend c me h2 (waits op) (Sent me (w.prepare me)) (w.prepare me)
   may_prepare =
       steps.may_send self h2 (waits op) (w.prepare me) (Prepare 0 1 (sha256 batch)) (others c me) (x.prepares me order.within) (λ rs is. is) tt
-      (record { is_backup = λ zero. not_primary (sym zero); active = events.active self h2 s2.plain; batch = batch; is_logged = s2.logged_is 0 1; digest_is = refl })
+      (record { is_backup = λ zero. not_primary (sym zero); active = events.active self h2 s2.plain; batch = batch; is_logged = s2.logged_is 0 1; digest_is = refl }) (λ here. here)
 
   due_request : Due clients seed batch me [] w.request [] h1 first_point (waits op) false false none none none
   due_request = record {
@@ -231,7 +231,7 @@ module _ (clients : ℕ) (seed : List ℕ) (op : Operation) (batch : List ℕ) (
   to_commit : Proceeds c me h5 [] (waits op) (waits op)
   to_commit = (
     waits op,
-    events.step_commit self h4 p2 none s4 order.two_prepares,
+    events.step_commit self h4 p2 none s4 order.two_prepares (λ here. here),
     (
       waits op,
       events.step_quiet self h3 (w.prepare a) (prepares batch a) (events.hears_prepare self a order.sender_a) refl,
@@ -268,7 +268,7 @@ module _ (clients : ℕ) (seed : List ℕ) (op : Operation) (batch : List ℕ) (
   to_reply : Proceeds c me h10 [] (ran c op batch) (ran c op batch)
   to_reply = (
     ran c op batch,
-    events.step_reply self (Executed me 1 batch ∷ h8),
+    events.step_reply self (Executed me 1 batch ∷ h8) (events.behind_execution self h8 (λ here. here)),
     (
       waits op,
       events.step_executed self h8 p3 k3 s8 order.three_prepares order.three_commits order.own_commit,

@@ -15,7 +15,7 @@ use Rattle.protocol.specs.System.Trace.{Entry, Has}
 use Rattle.protocol.specs.System.Trace.Entry.{Got, Executed, Sent}
 use Rattle.protocol.specs.Replica.Certificates.{low, is_active_in, is_in_marks, prepare_from, commit_from}
 use Rattle.protocol.specs.Replica.State.{Call, Ran, opening, call_in}
-use Rattle.protocol.specs.Replica.RightReplica.{Point, others, reply_of, Executes, MaySend, IsStep}
+use Rattle.protocol.specs.Replica.RightReplica.{Point, others, reply_of, Executes, MaySend, IsStep, SentInEvent}
 use Rattle.protocol.specs.Replica.Owed.{IsNumbered, NumbersOnce, Gives, Owes}
 use Rattle.protocol.specs.Evidence.Examples.{four}
 use Rattle.protocol.specs.Evidence.FirstOperation.{FirstFrames, first_answer}
@@ -104,13 +104,13 @@ module _ (o : Part) where
   step_last past r s =
       record { own = refl; may = tt; moves = moves_quiet o (ran c op batch).state (ran c op batch).ran [] (w.commit r) (commits batch r) (hears_commit r s) refl }
 
-  may_commit : (past : List Entry) (p k : ℕ → Bool) → At past true p k → ready true p ≡ true → MaySend c me past (waits op) (Sent me (w.commit me)) (w.commit me)
-  may_commit past p k st enough =
+  may_commit : (past : List Entry) (p k : ℕ → Bool) → At past true p k → ready true p ≡ true → (SentInEvent (w.commit me) past → ⊥) → MaySend c me past (waits op) (Sent me (w.commit me)) (w.commit me)
+  may_commit past p k st enough once =
       may_send o past (waits op) (w.commit me) (Commit 0 1 (sha256 batch)) (others c me) (o.are_frames.commits me o.within) (λ rs is. is) tt
-      (record { active = active past st.plain; batch = batch; prepared = prepared_ready clients seed batch me past true p k st enough; digest_is = refl })
+      (record { active = active past st.plain; batch = batch; prepared = prepared_ready clients seed batch me past true p k st enough; digest_is = refl }) once
 
-  pub step_commit : (past : List Entry) (p k : ℕ → Bool) → At past true p k → ready true p ≡ true → IsStep c me past (waits op) (Sent me (w.commit me)) (waits op)
-  step_commit past p k st enough = record { own = refl; may = may_commit past p k st enough; moves = refl }
+  pub step_commit : (past : List Entry) (p k : ℕ → Bool) → At past true p k → ready true p ≡ true → (SentInEvent (w.commit me) past → ⊥) → IsStep c me past (waits op) (Sent me (w.commit me)) (waits op)
+  step_commit past p k st enough once = record { own = refl; may = may_commit past p k st enough once; moves = refl }
 
   pub step_executed : (past : List Entry) (p k : ℕ → Bool) → At past true p k → ready true p ≡ true → full k ≡ true → k me ≡ true → IsStep c me past (waits op) (Executed me 1 batch) (ran c op batch)
   step_executed past p k st enough most own = record {
@@ -119,12 +119,17 @@ module _ (o : Part) where
     moves = moves_executed o;
   }
 
-  may_reply : (past : List Entry) → MaySend c me past (ran c op batch) (Sent me (w.reply me)) (w.reply me)
-  may_reply past =
-      may_send o past (ran c op batch) (w.reply me) (Reply 256 1 modes.Ordered 1 (first_answer op)) (256 ∷ []) (o.are_frames.replies me o.within) (λ rs is. is) tt (inl (inl refl))
+  may_reply : (past : List Entry) → (SentInEvent (w.reply me) past → ⊥) → MaySend c me past (ran c op batch) (Sent me (w.reply me)) (w.reply me)
+  may_reply past once =
+      may_send o past (ran c op batch) (w.reply me) (Reply 256 1 modes.Ordered 1 (first_answer op)) (256 ∷ []) (o.are_frames.replies me o.within) (λ rs is. is) tt (inl (inl refl)) once
 
-  pub step_reply : (past : List Entry) → IsStep c me past (ran c op batch) (Sent me (w.reply me)) (ran c op batch)
-  step_reply past = record { own = refl; may = may_reply past; moves = refl }
+  pub step_reply : (past : List Entry) → (SentInEvent (w.reply me) past → ⊥) → IsStep c me past (ran c op batch) (Sent me (w.reply me)) (ran c op batch)
+  step_reply past once = record { own = refl; may = may_reply past once; moves = refl }
+
+  -- an execution sends nothing
+  pub behind_execution : (past : List Entry) → (SentInEvent (w.reply me) past → ⊥) → SentInEvent (w.reply me) (Executed me 1 batch ∷ past) → ⊥
+  behind_execution past none (inl here) = here
+  behind_execution past none (inr before) = none before
 
   -- ---- what is due
 

@@ -9,7 +9,7 @@ use Rattle.quorum.specs.Votes.{has_digest}
 use Rattle.protocol.specs.System.Configuration.{Configuration, primary, members}
 use Rattle.terms.specs.declared.order.Mode.TheVariants as modes
 use Rattle.terms.specs.declared.state.Level.TheVariants as levels
-use Rattle.wire.specs.Messages.{BodyData as Body, MessageData as Message, CheckpointEntryData as CheckpointEntry, request as Request, pre_prepare as PrePrepare, prepare as Prepare, commit as Commit, fetch as Fetch}
+use Rattle.wire.specs.Messages.{BodyData as Body, MessageData as Message, CheckpointEntryData as CheckpointEntry, request as Request, pre_prepare as PrePrepare, prepare as Prepare, commit as Commit, fetch as Fetch, meta as Meta, page as Page, view_change as ViewChange}
 use Rattle.signing.specs.Heard.{heard}
 use Rattle.protocol.specs.System.Trace.{Entry, Has}
 use Rattle.protocol.specs.System.Trace.Entry.{Got}
@@ -19,6 +19,7 @@ use Rattle.protocol.specs.Replica.RightReplica.{Point, reply_of, Executes}
 use Rattle.protocol.specs.Replica.Owed.{Gives, AtOutputs, IsNumbered, NumbersOnce, IsDropped, Owes}
 use Rattle.protocol.specs.Replica.Selection.{is_quorum}
 use Rattle.protocol.specs.Evidence.Examples.{four}
+use Rattle.protocol.proofs.Words.Moving.{no_reason}
 use Rattle.protocol.proofs.Evidence.FirstBatch.{still, same_digest}
 use Rattle.protocol.proofs.Evidence.FirstReplicasStages.{here, only_here, Stage}
 use Rattle.protocol.proofs.Words.Options.{some_injective, then_some_gives}
@@ -179,7 +180,13 @@ module _ (clients : ℕ) (seed batch : List ℕ) (me : ℕ) where
         absurd (subst (λ (x : Body). IsUnanswered old x.message) (heard_is bytes due.body (record { sender = s; message = Fetch n level index }) due.hears asks) due.unanswered);
     fetched_page = λ s n index asks st kept.
         absurd (subst (λ (x : Body). IsUnanswered old x.message) (heard_is bytes due.body (record { sender = s; message = Fetch n levels.Page index }) due.hears asks) due.unanswered);
+    goes_on_by_digests = λ s n index level digests brings awaited.
+        absurd (subst (λ (x : Body). IsUnanswered old x.message) (heard_is bytes due.body (record { sender = s; message = Meta n level index digests }) due.hears brings) due.unanswered);
+    goes_on_by_page = λ s n index text brings awaited.
+        absurd (subst (λ (x : Body). IsUnanswered old x.message) (heard_is bytes due.body (record { sender = s; message = Page n index text }) due.hears brings) due.unanswered);
     fetches = λ n root quorum above later. absurd (no_checkpoints now l' p' k' st (record { number = n; digest = root }) quorum);
+    view_changes = λ vc other moves may within says.
+        absurd (no_reason c me before bytes old.waiting vc.view (λ s x asks. subst (λ (y : Body). IsUnanswered old y.message) (heard_is bytes due.body (record { sender = s; message = ViewChange x }) due.hears asks) due.unanswered) moves);
     dropped = λ other is drops. due.dropped (subst (λ (bs : List ℕ). IsDropped c me before old bs) (sym (same_bytes other is)) drops);
   }
     where

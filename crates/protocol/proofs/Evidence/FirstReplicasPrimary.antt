@@ -1,6 +1,7 @@
 -- The primary of the first operation is a right replica.
 use Rattle.std.proofs.Common.{◌≡◌, ℕ, ◌<◌, inl, inr, Bool, true, false, List, [], ◌∷◌, refl, sym, ◌∙◌, subst, arith, Some, None}
-use Rattle.std.specs.Prelude.{AllPairs, ⊤}
+use Rattle.std.specs.Prelude.{AllPairs, ⊤, ◌&&◌}
+use Rattle.std.specs.Bool.{then_some}
 use Rattle.std.proofs.lemmas.Bool.{both_ways}
 use Rattle.tuple_codec.specs.Operations.{Operation}
 use Rattle.reply_cache.specs.Replies.{no_replies}
@@ -13,12 +14,12 @@ use Rattle.protocol.specs.System.Trace.{Entry, Once, Has}
 use Rattle.protocol.specs.System.Trace.Entry.{Got, Executed, Sent}
 use Rattle.protocol.specs.Replica.Certificates.{are_genuine, Committed}
 use Rattle.protocol.specs.Replica.State.{Call, call_of, opening, last_time}
-use Rattle.protocol.specs.Replica.RightReplica.{first_point, others, HasSeen, MaySend, IsStep}
+use Rattle.protocol.specs.Replica.RightReplica.{first_point, others, HasSeen, IsFree, MaySend, IsStep}
 use Rattle.protocol.specs.Replica.Owed.{IsOfView, BeginsViewWith, HasRequest, IsNumbered, AreDifferent, NumbersOnce, Proceeds, IsReplica}
 use Rattle.protocol.specs.Evidence.Examples.{four}
 use Rattle.protocol.specs.Evidence.FirstOperation.{FirstFrames, AreFirstFrames}
 use Rattle.protocol.proofs.Words.Options.{some_injective}
-use Rattle.protocol.proofs.Evidence.FirstReplicasStages.{none, and_of, Stage, first_stage, got, sent, stage_request, stage_pre_prepare}
+use Rattle.protocol.proofs.Evidence.FirstReplicasStages.{here, none, and_of, Stage, first_stage, got, sent, stage_request, stage_pre_prepare}
 use Rattle.protocol.proofs.Evidence.FirstReplicasOwing.{Due, logs_it, committed_full}
 use Rattle.protocol.proofs.Evidence.FirstReplicasSteps as steps
 use Rattle.protocol.proofs.Evidence.FirstReplicasSteps.{Part, asks, proposes, prepares, commits, the_call, waits, ran, done}
@@ -184,11 +185,19 @@ module _ (clients : ℕ) (seed : List ℕ) (op : Operation) (batch : List ℕ) (
   step_request : IsStep c 0 [] first_point (Got 0 w.request) (waits op)
   step_request = record { own = refl; may = tt; moves = steps.moves_request self }
 
+  -- the first number is the next one
+  is_free : IsFree c 0 h1 (waits op).state.number 0 1
+  is_free = record { in_marks = events.marked self h1 s1.plain; near = omega arith; used = λ j above below. absurd (omega (arith, above, below)); unused = λ j above. s1.logged_is 0 j ∙ never (here 0 j) batch }
+    where
+      never : (b : Bool) (d : List ℕ) → then_some (b && false) d ≡ None
+      never true d = refl
+      never false d = refl
+
   may_propose : MaySend c 0 h1 (waits op) (Sent 0 w.pre_prepare) w.pre_prepare
   may_propose =
       steps.may_send self h1 (waits op) w.pre_prepare (PrePrepare 0 1 batch) (others c 0) x.proposes (λ rs is. is)
       (subst (λ (frames : List (List ℕ)). Each (λ frame. Once (HasSeen frame) h1) frames) (sym x.requests) (inl (inl refl), tt))
-      (record { is_primary = refl; active = events.active self h1 s1.plain; in_marks = events.marked self h1 s1.plain; genuine = genuine; one = s2.logged_is 0 1 })
+      (record { is_primary = refl; active = events.active self h1 s1.plain; in_marks = events.marked self h1 s1.plain; genuine = genuine; one = s2.logged_is 0 1; next = λ free. is_free }) (λ here. here)
 
   due_request : Due clients seed batch 0 [] w.request (Sent 0 w.pre_prepare ∷ []) h2 first_point (waits op) false true none none none
   unfolding no_replies
@@ -236,7 +245,7 @@ module _ (clients : ℕ) (seed : List ℕ) (op : Operation) (batch : List ℕ) (
   to_commit : Proceeds c 0 h5 [] (waits op) (waits op)
   to_commit = (
     waits op,
-    events.step_commit self h4 p2 none s4 refl,
+    events.step_commit self h4 p2 none s4 refl (λ here. here),
     (
       waits op,
       events.step_quiet self h3 (w.prepare 2) (prepares batch 2) (events.hears_prepare self 2 second_sender) refl,
@@ -273,7 +282,7 @@ module _ (clients : ℕ) (seed : List ℕ) (op : Operation) (batch : List ℕ) (
   to_reply : Proceeds c 0 h10 [] (ran c op batch) (ran c op batch)
   to_reply = (
     ran c op batch,
-    events.step_reply self (Executed 0 1 batch ∷ h8),
+    events.step_reply self (Executed 0 1 batch ∷ h8) (events.behind_execution self h8 (λ here. here)),
     (
       waits op,
       events.step_executed self h8 p3 k3 s8 refl refl refl,

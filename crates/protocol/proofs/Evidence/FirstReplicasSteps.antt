@@ -17,7 +17,7 @@ use Rattle.protocol.specs.System.Trace.{Entry, Once, Has}
 use Rattle.protocol.specs.System.Trace.Entry.{Sent}
 use Rattle.protocol.specs.Replica.Certificates.{are_genuine}
 use Rattle.protocol.specs.Replica.State.{State, Call, Ran, call_in, call_of, opening, execute, kept_by, last_time, run_frame, run_call, ran_in, ran_by}
-use Rattle.protocol.specs.Replica.RightReplica.{Point, first_point, waiting_after, with_waiting, still_waiting, snapshots_after, executed_point, IsFor, IsAddressed, HasSeen, MaySay, MaySend}
+use Rattle.protocol.specs.Replica.RightReplica.{Point, first_point, waiting_after, with_waiting, still_waiting, snapshots_after, executed_point, IsFor, IsAddressed, HasSeen, MaySay, MaySend, SentInEvent}
 use Rattle.protocol.specs.Evidence.Examples.{four}
 use Rattle.protocol.specs.Evidence.FirstOperation.{FirstFrames, IsFrom, AreFirstFrames, first_answer}
 use Rattle.protocol.proofs.Points.Keeping.{executed_times}
@@ -25,6 +25,7 @@ use Rattle.protocol.proofs.Words.Options.{some_injective}
 use Rattle.protocol.proofs.Words.Elements.{has_of_any}
 use Rattle.wire.specs.Lists.{Each}
 use Rattle.protocol.proofs.Words.Leaving.{executed_number}
+use Rattle.protocol.proofs.Words.Posting.{macs_have_no_leaf}
 
 abbrev pub point_of : State → List Ran → List Call → Point
 point_of st ran waiting = record { state = st; snapshots = opening ∷ []; ran = ran; waiting = waiting }
@@ -168,8 +169,8 @@ module _ (o : Part) where
 
   pub may_send : (past : List Entry) (point : Point) (bytes : List ℕ) (message : Message) (receivers : List ℕ) → IsFrom c me message receivers bytes
       → ((rs : List ℕ) → rs ≡ receivers → IsFor c me past message rs) → Each (λ frame. Once (HasSeen frame) past) (carried message)
-      → MaySay c me past point (Sent me bytes) bytes message → MaySend c me past point (Sent me bytes) bytes
-  may_send past point bytes message receivers f for seen say = record {
+      → MaySay c me past point (Sent me bytes) bytes message → (SentInEvent bytes past → ⊥) → MaySend c me past point (Sent me bytes) bytes
+  may_send past point bytes message receivers f for seen say once = record {
     body = record { sender = me; message = message };
     says = f.says;
     own = refl;
@@ -178,6 +179,8 @@ module _ (o : Part) where
     is_sealed = λ frame is.
         let same : f.frame ≡ frame = some_injective f.frame frame (sym f.spells ∙ is) in
         subst (λ (y : Frame). IsSealed c y × IsAddressed c me past message y.authenticator) same (f.is_sealed, addressed);
+    leaf = macs_have_no_leaf past bytes f.frame f.entries f.spells f.has_macs;
+    once = once;
   }
     where
       addressed : IsAddressed c me past message f.frame.authenticator

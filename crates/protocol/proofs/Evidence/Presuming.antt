@@ -1,7 +1,7 @@
 -- What the premises of the laws leave open.
-use Rattle.std.proofs.Common.{◌≡◌, ℕ, zero, suc, ◌+◌, ◌-◌, ◌≤◌, ◌<◌, ◌⊎◌, inl, inr, Bool, true, false, cond, ◌||◌, not, List, [], ◌∷◌, ◌++◌, map, Option, Some, None, refl, sym, ap, ap₂, ◌∙◌, subst, arith, eqb-true, eq-eqb}
+use Rattle.std.proofs.Common.{◌≡◌, ℕ, suc, ◌+◌, ◌-◌, ◌≤◌, ◌<◌, ◌⊎◌, inl, inr, Bool, true, false, cond, ◌||◌, not, List, [], ◌∷◌, Option, Some, None, refl, sym, ap, ◌∙◌, subst, arith, eqb-true, eq-eqb}
 use Rattle.std.specs.Prelude.{◌==◌, nat_lt, nat_le}
-use Rattle.std.specs.List.{concat, range_with_len}
+use Rattle.std.specs.List.{concat}
 use Rattle.std.specs.Option.{option_map_or}
 use Rattle.std.proofs.lemmas.Bool.{and_parts, and_from, ltb-true, lt-ltb, leb-true, le-leb}
 use Rattle.std.proofs.Math.Nat.{mod-eq_of_lt, add-mod_right}
@@ -13,18 +13,20 @@ use Rattle.protocol.specs.System.Configuration.{Configuration, IsConfiguration, 
 use Rattle.signing.specs.Heard.{heard, signed_body}
 use Rattle.protocol.specs.System.Trace.{Entry, party_of, is_output, history_of, Always, Has, Once, SendsBody, IsFromSender, frames_in}
 use Rattle.protocol.specs.System.Trace.Entry.{Invoke, Got, Tick, Executed, Installed, Sent, Accepted}
-use Rattle.protocol.specs.Replica.State.{State, opening, page_text, all_pages}
-use Rattle.protocol.specs.Replica.RightReplica.{waiting_after, Point, Leaves, May, Moves, IsHeld, GetsPage}
-use Rattle.protocol.specs.System.Texts.{IsUnder, Holds, ExecutesBatch, HasBatch, HasPart, batches_of, parts_of}
-use Rattle.protocol.specs.System.Texts.IsText.{null, batch, part, held, page_of, under}
+use Rattle.protocol.specs.Replica.State.{opening, page_text}
+use Rattle.protocol.specs.Replica.RightReplica.{waiting_after}
+use Rattle.protocol.specs.System.Texts.{IsUnder, InstallsOver, HasBatch, HasPart, batches_of, parts_of, first_batch}
+use Rattle.protocol.specs.System.Texts.IsText.{null, batch, part, page_of, under, installed}
+use Rattle.protocol.specs.Laws.Histories.{ExecutesBatch}
+use Rattle.protocol.proofs.Words.Taking.{same_all}
+use Rattle.protocol.proofs.Agreement.Firsts.{first_executes}
 use Rattle.protocol.specs.System.Texts.IsUnder.{inner, top}
 use Rattle.protocol.specs.Client.RightClient.{open_call, last_call, MayInput, IsClient}
 use Rattle.protocol.specs.Replica.Owed.{IsReplica}
 use Rattle.protocol.specs.System.Run.{IsRun}
 use Rattle.protocol.specs.Evidence.Premises.{WidestIsValid, NarrowestIsValid, ReplicasAreCorrect, ClientsAreCorrect, CorrectAreBoth, EachIsPrimary, PrimariesReturn, RunsHaveReplicas, RunsHaveClients, RunsGoOn, ReplicasGoOn, RunsTakeCalls, OthersAreUnforged, MayBeTaken, MayBeGot, FramesMayBeGot, FaultyHearAnything, IsOpeningText, HasText, BringsText, is_page, is_quiet, TextsAreFew}
-use Rattle.protocol.proofs.Words.Temporal.{once_weaker, always_weaker, always_in_history, input_follows}
+use Rattle.protocol.proofs.Words.Temporal.{once_weaker, input_follows}
 use Rattle.protocol.proofs.Words.Options.{some_injective}
-use Rattle.protocol.proofs.Words.Linking.{heard_said}
 use Rattle.wire.specs.Lists.{Each}
 
 -- ---- configurations
@@ -265,74 +267,11 @@ faulty_hear_anything c me bytes trace unforged faulty = (λ correct. let bad : f
 
 -- ---- the texts whose digests must differ
 
-same_on_range : (g h : ℕ → List ℕ) (a n : ℕ) → ((i : ℕ) → a ≤ i → i < a + n → g i ≡ h i) → map g (range_with_len a n) ≡ map h (range_with_len a n)
-same_on_range g h a zero same = refl
-same_on_range g h a (suc n) same =
-    let l : a ≤ a = omega arith in
-    let m : a < a + suc n = omega arith in
-    ap₂ (λ (x : List ℕ) (xs : List (List ℕ)). x ∷ xs) (same a l m)
-    (same_on_range g h (a + 1) n (λ i j k. let l : a ≤ i = omega arith in let m : i < a + suc n = omega arith in same i l m))
-
-same_pages : (g h : ℕ → List ℕ) → ((i : ℕ) → i < 1024 → g i ≡ h i) → all_pages g ≡ all_pages h
-unfolding all_pages
-same_pages g h same = same_on_range g h 0 1024 (λ i l m. same i m)
-
 -- what is under the pages of the opening state
 under_opening : (page : ℕ → List ℕ) (text : List ℕ) → ((i : ℕ) → i < 1024 → page i ≡ page_text opening i) → IsUnder page text → IsOpeningText text
 under_opening page _ same (inner j l) =
-    inr (inr (j, l, ap (λ (pages : List (List ℕ)). concat (page_digests pages j)) (same_pages page (page_text opening) same)))
-under_opening page _ same top = inr (inl (ap (λ (pages : List (List ℕ)). concat (inner_digests pages)) (same_pages page (page_text opening) same)))
-
-quiet_behind : (later past : List Entry) → Always (λ past e. is_quiet e ≡ true) (later ++ past) → Always (λ past e. is_quiet e ≡ true) past
-quiet_behind [] past h = h
-quiet_behind (e ∷ later) past h = quiet_behind later past h.1
-
-quiet_at : (p : ℕ) (trace : List Entry) → Always (λ past e. is_quiet e ≡ true) trace → Always (λ past e. is_quiet e ≡ true) (history_of p trace)
-quiet_at p trace h =
-    always_in_history (λ e. is_quiet e ≡ true) p trace (always_weaker (λ past e. is_quiet e ≡ true) (λ past e. party_of e ≡ p → is_quiet e ≡ true) (λ past e q is. q) trace h)
-
--- a quiet history leaves the opening state
-stays_opening : (c : Configuration) (me : ℕ) (xs : List Entry) (point : Point) → Leaves c me xs point → Always (λ past e. is_quiet e ≡ true) xs → point.state ≡ opening
-stays_opening c me [] point h quiet = ap (λ (p : Point). p.state) h
-stays_opening c me (e ∷ past) point h quiet = go e h.2.may h.2.moves quiet.0 (stays_opening c me past h.0 h.1 quiet.1)
-  where
-    go : (e : Entry) → May c me past h.0 e → Moves c me past h.0 e point → is_quiet e ≡ true → h.0.state ≡ opening → point.state ≡ opening
-    go (Got p bytes) may move quiet was = ap (λ (q : Point). q.state) move ∙ was
-    go (Tick p) may move quiet was = ap (λ (q : Point). q.state) move ∙ was
-    go (Sent p bytes) may move quiet was = ap (λ (q : Point). q.state) move ∙ was
-    go (Invoke x y z) may move quiet was = absurd may
-    go (Accepted x y z) may move quiet was = absurd may
-    go (Installed p k root) may move quiet was = absurd cc
-    go (Executed p k b) may move quiet was = absurd cc
-
--- nor does it get a page
-gets_no_page : (c : Configuration) (me i : ℕ) (text : List ℕ) (xs : List Entry) → Always (λ past e. is_quiet e ≡ true) xs → Once (GetsPage c me i text) xs → ⊥
-gets_no_page c me i text [] quiet h = h
-gets_no_page c me i text (e ∷ past) quiet (inr h) = gets_no_page c me i text past quiet.1 h
-gets_no_page c me i text (e ∷ past) quiet (inl h) = go e quiet.0 h
-  where
-    go : (e : Entry) → is_quiet e ≡ true → GetsPage c me i text past e → ⊥
-    go (Got p bytes) quiet (s, n, is) =
-        let says = heard_said c me bytes (record { sender = s; message = Page n i text }) is in
-        let bad : false ≡ true = sym (ap (λ (o : Option Body). not (option_map_or is_page o false)) says) ∙ quiet in
-        absurd cc
-    go (Tick p) quiet h = h
-    go (Sent p bytes) quiet h = h
-    go (Invoke x y z) quiet h = h
-    go (Accepted x y z) quiet h = h
-    go (Installed p k root) quiet h = h
-    go (Executed p k b) quiet h = h
-
-held_opening : (c : Configuration) (trace : List Entry) (page : ℕ → List ℕ) → Always (λ past e. is_quiet e ≡ true) trace → Holds c trace page
-    → (i : ℕ) → i < 1024 → page i ≡ page_text opening i
-held_opening c trace page quiet h i l = go (h.each i l)
-  where
-    behind : Always (λ past e. is_quiet e ≡ true) h.at.past
-    behind = quiet_behind h.at.later h.at.past (subst (Always (λ past e. is_quiet e ≡ true)) h.at.splits (quiet_at h.at.replica trace quiet))
-
-    go : IsHeld c h.at.replica h.at.past h.at.point.state i (page i) → page i ≡ page_text opening i
-    go (inl own) = own ∙ ap (λ (st : State). page_text st i) (stays_opening c h.at.replica h.at.past h.at.point h.at.leaves behind)
-    go (inr got) = absurd (gets_no_page c h.at.replica i (page i) h.at.past behind got)
+    inr (inr (j, l, ap (λ (pages : List (List ℕ)). concat (page_digests pages j)) (same_all page (page_text opening) same)))
+under_opening page _ same top = inr (inl (ap (λ (pages : List (List ℕ)). concat (inner_digests pages)) (same_all page (page_text opening) same)))
 
 executes_none : (c : Configuration) (k : ℕ) (text : List ℕ) (xs : List Entry) → Always (λ past e. is_quiet e ≡ true) xs → Once (ExecutesBatch c k text) xs → ⊥
 executes_none c k text [] quiet h = h
@@ -347,6 +286,23 @@ executes_none c k text (e ∷ past) quiet (inl h) = go e quiet.0 h
     go (Invoke x y z) quiet h = h
     go (Accepted x y z) quiet h = h
     go (Installed p n root) quiet h = h
+
+none_first : (c : Configuration) (k : ℕ) (text : List ℕ) (xs : List Entry) → Always (λ past e. is_quiet e ≡ true) xs → first_batch c xs k ≡ Some text → ⊥
+none_first c k text xs quiet h = executes_none c k text xs quiet (first_executes c k text xs h)
+
+installs_none : (c : Configuration) (batches : List (List ℕ)) (text : List ℕ) (xs : List Entry) → Always (λ past e. is_quiet e ≡ true) xs → Once (InstallsOver c batches text) xs → ⊥
+installs_none c batches text [] quiet h = h
+installs_none c batches text (e ∷ past) quiet (inr h) = installs_none c batches text past quiet.1 h
+installs_none c batches text (e ∷ past) quiet (inl h) = go e quiet.0 h
+  where
+    go : (e : Entry) → is_quiet e ≡ true → InstallsOver c batches text past e → ⊥
+    go (Installed p n root) quiet h = absurd cc
+    go (Executed p n b) quiet h = h
+    go (Got p bytes) quiet h = h
+    go (Tick p) quiet h = h
+    go (Sent p bytes) quiet h = h
+    go (Invoke x y z) quiet h = h
+    go (Accepted x y z) quiet h = h
 
 -- ---- what frames bring
 
@@ -413,8 +369,8 @@ pub texts_are_few : TextsAreFew
 texts_are_few c trace _ quiet null = inl refl
 texts_are_few c trace text quiet (batch _ h) = inr (inr (once_weaker (HasBatch text) (BringsText text) (brings_batch text) trace h))
 texts_are_few c trace text quiet (part _ h) = inr (inr (brings_part text trace quiet h))
-texts_are_few c trace text quiet (held page _ h u) = inr (inl (under_opening page text (held_opening c trace page quiet h) u))
-texts_are_few c trace _ quiet (page_of [] i h) = inr (inl (inl (i, refl)))
-texts_are_few c trace _ quiet (page_of (x ∷ xs) i h) = absurd (executes_none c 1 x trace quiet h.0)
+texts_are_few c trace _ quiet (page_of [] i l h) = inr (inl (inl (i, refl)))
+texts_are_few c trace _ quiet (page_of (x ∷ xs) i l h) = absurd (none_first c 1 x trace quiet h.0)
 texts_are_few c trace text quiet (under [] _ h u) = inr (inl (under_opening (page_text opening) text (λ i l. refl) u))
-texts_are_few c trace text quiet (under (x ∷ xs) _ h u) = absurd (executes_none c 1 x trace quiet h.0)
+texts_are_few c trace text quiet (under (x ∷ xs) _ h u) = absurd (none_first c 1 x trace quiet h.0)
+texts_are_few c trace text quiet (installed batches _ h u) = absurd (installs_none c batches text trace quiet u)

@@ -1,6 +1,6 @@
 -- The definitions refuse what wrong bodies would do.
 use Rattle.std.specs.List.{list_all, range_with_len}
-use Rattle.std.proofs.Common.{drop, ◌≢◌, ◌^◌, ◌≡◌, ℕ, zero, suc, not, filter, ◌+◌, ◌-◌, ◌*◌, ◌≤◌, ◌<◌, ◌⊎◌, inl, inr, Bool, true, false, cond, List, [], bytes_eq, None, ◌∷◌, length, slice_get, refl, sym, ap, ◌∙◌, subst, arith, ◌&&◌, ◌||◌, Option, Some, eqb-true, eq-eqb}
+use Rattle.std.proofs.Common.{drop, ◌≢◌, ◌^◌, ◌≡◌, ℕ, zero, suc, not, filter, ◌+◌, ◌-◌, ◌*◌, ◌≤◌, ◌<◌, ◌⊎◌, inl, inr, Bool, true, false, cond, List, [], bytes_eq, None, ◌∷◌, ◌++◌, length, slice_get, refl, sym, ap, ◌∙◌, subst, arith, ◌&&◌, ◌||◌, Option, Some, eqb-true, eq-eqb}
 use Rattle.std.specs.Prelude.{◌==◌, nat_le, nat_lt, is_some, All, ⊤}
 use Rattle.std.proofs.lemmas.Bool.{eqb-false, and_parts, or_cases, leb-true, ltb-true}
 use Rattle.std.proofs.lemmas.Slice.Eq.{bytes_eq-Decides}
@@ -14,15 +14,15 @@ use Rattle.terms.specs.declared.order.Mode.TheVariants as modes
 use Rattle.wire.specs.Messages.{fetch as Fetch, BodyData as Body, FrameData as Frame, AuthenticatorData as Authenticator, MacData, macs, signature, ViewChangeData, NewViewData, BatchEntryData as BatchEntry, pre_prepare as PrePrepare, prepare as Prepare, commit as Commit, checkpoint as Checkpoint, view_change as ViewChange, new_view as NewView, reply as Reply, meta as Meta, page as Page}
 use Rattle.authenticator.specs.Authentic.{mac_of}
 use Rattle.signing.specs.Heard.{has_signature, heard}
-use Rattle.protocol.specs.System.Trace.{Entry, party_of, Once, Always, Has, Hears}
+use Rattle.protocol.specs.System.Trace.{Entry, party_of, Once, Always, Has, AreOutputs, Hears}
 use Rattle.protocol.specs.System.Trace.Entry.{Invoke, Got, Tick, Executed, Installed, Sent, Accepted}
 use Rattle.protocol.specs.Replica.Selection.{is_quorum, is_weak_quorum, passes_by, count_in, vouches, agrees, may_stand_at, may_be_null, null_batch, is_null, is_within, changes_of, how_many}
 use Rattle.protocol.specs.Replica.Certificates.{target, view, is_active_in, is_later, new_view_in, logged, low}
 use Rattle.reply_cache.specs.Replies.{Kept}
 use Rattle.protocol.specs.Replica.State.{State, Ran, opening, kept_of, page_text}
-use Rattle.protocol.specs.Replica.RightReplica.{MayNewView, MayFetch, MayMeta, MayPage, kept_states, digests_at, IsAddressed, Point, Leaves, SafeReplica, May, Moves, MaySay, MaySend, MayCheckpoint, MayPrepare, MayCommit, MayPrePrepare, MayReply, MayReplyRead, MayViewChange, SendsBytes, reply_of, GetsPage}
+use Rattle.protocol.specs.Replica.RightReplica.{MayNewView, IsRootWanted, MayFetch, MayMeta, MayPage, kept_states, digests_at, IsAddressed, Point, Leaves, SafeReplica, May, Moves, MaySay, MaySend, MayCheckpoint, MayPrepare, MayCommit, MayPrePrepare, MayReply, MayReplyRead, MayViewChange, SendsBytes, SentInEvent, reply_of, GetsPage}
 use Rattle.protocol.specs.Client.RightClient.{SafeClient, Vote, latest, is_alike, count_alike}
-use Rattle.protocol.specs.Evidence.Refused.{SealsWell, SignsWell, PrePreparesAsPrimary, PrePreparesInMarks, NoPrePrepareAfterChange, CheckpointsMultiples, BeginsAsPrimary, ReadsWhatWasAsked, DigestsToWhoAsked, PagesToWhoAsked, IsReplyOf, ExecutesWhatIsCommitted, GivesKeptDigests, GivesKeptPages, GivesAskedDigests, GivesAskedPages, RepliesWhatRan, DropsUnaskedDigests, DropsUnaskedPages, ProposesAuthentic, ReadsNewest, NoChangeWhileActive, DropsReplies, DropsOwnFrames, FetchesWhatIsWanted, FetchesAbove, RepliesToItsClient, CommitsToAll, NoExecution, newest_number, SoManyHave, HasFrom, SaysNothingAgainst, SaysForIt, SaysNothing, RepliesAfterExecution, NoCommitAfterChange, NoPrepareAfterChange, NoEarlyCheckpoint, OnePrePrepare, NoPrepareByPrimary, ExecutesNext, KeepsPrepared, InstallsWhatItHas, InstallsWithHeader, TakesWellSelected, TakesNoLower, AcceptsAtQuorum}
+use Rattle.protocol.specs.Evidence.Refused.{SealsWell, SignsWell, SignsOnceByLeaf, SendsNoFrameTwice, PrePreparesAsPrimary, PrePreparesInMarks, NoPrePrepareAfterChange, CheckpointsMultiples, BeginsAsPrimary, ReadsWhatWasAsked, DigestsToWhoAsked, PagesToWhoAsked, IsReplyOf, ExecutesWhatIsCommitted, GivesKeptDigests, GivesKeptPages, GivesAskedDigests, GivesAskedPages, RepliesWhatRan, DropsUnaskedDigests, DropsUnaskedPages, ProposesAuthentic, ReadsNewest, NoChangeWhileActive, DropsReplies, DropsOwnFrames, FetchesWhatIsWanted, FetchesAbove, RepliesToItsClient, CommitsToAll, NoExecution, newest_number, SoManyHave, HasFrom, SaysNothingAgainst, SaysForIt, SaysNothing, RepliesAfterExecution, NoCommitAfterChange, NoPrepareAfterChange, NoEarlyCheckpoint, OnePrePrepare, NoPrepareByPrimary, ExecutesNext, KeepsPrepared, InstallsWhatItHas, InstallsWithHeader, TakesWellSelected, TakesNoLower, AcceptsAtQuorum}
 use Rattle.wire.specs.Words.{requests_of, frame_of, said}
 use Rattle.protocol.specs.Replica.Owed.{IsSaying, Owes, Counts, IsReplica}
 use Rattle.protocol.proofs.Words.Temporal.{once_weaker, once_stays_from}
@@ -41,9 +41,12 @@ use Rattle.space.specs.Pages.{header_text}
 use Rattle.space.specs.Births.{SpaceState}
 use Rattle.space.proofs.Determining.{number_split}
 use Rattle.std.specs.Int.{w64, to_be_bytes}
-use Rattle.protocol.specs.Replica.RightReplica.{IsInstalled, IsHeld}
+use Rattle.protocol.specs.Replica.RightReplica.{IsInstalled}
+use Rattle.protocol.proofs.Words.Taking.{is_own_or_got}
 use Rattle.std.specs.Bool.{then_some}
 use Rattle.protocol.proofs.Words.Elements.{has_of_any, every_has, has_some}
+use Rattle.protocol.proofs.Words.Posting.{leaf_by}
+use Rattle.protocol.specs.System.Frames.{leaf_in}
 
 -- what the newest frame says, a right replica may say
 pub says_may : (c : Configuration) (me : ℕ) (bytes : List ℕ) (body : Body) (past : List Entry) (right : SafeReplica c me (Sent me bytes ∷ past)) → said bytes ≡ Some body
@@ -123,7 +126,7 @@ no_early_checkpoint c me k root bytes past says never right =
 
 pub one_pre_prepare : OnePrePrepare
 one_pre_prepare c me v i a b bytes past says earlier right =
-    let m : MayPrePrepare c me past (Sent me bytes) v i b = says_may c me bytes (record { sender = me; message = PrePrepare v i b }) past right says in
+    let m : MayPrePrepare c me past right.1.0 (Sent me bytes) v i b = says_may c me bytes (record { sender = me; message = PrePrepare v i b }) past right says in
     let kept = offers_kept c me v i a past (right_always c me past right.1.0 right.1.1)
     (once_weaker (λ earlier. IsSaying me (PrePrepare v i a)) (λ x e. offer_in v i e ≡ Some a) offers past earlier) in
     go m kept.place
@@ -137,7 +140,7 @@ one_pre_prepare c me v i a b bytes past says earlier right =
     offers x (Installed y z w) t = absurd t
     offers x (Accepted y z w) t = absurd t
 
-    go : MayPrePrepare c me past (Sent me bytes) v i b → (logged c me past v i ≡ Some a) ⊎ (i ≤ low c me past) → a ≡ b
+    go : MayPrePrepare c me past right.1.0 (Sent me bytes) v i b → (logged c me past v i ≡ Some a) ⊎ (i ≤ low c me past) → a ≡ b
     go m (inl l) = some_injective a b (sym (logged_stays c me v i a (Sent me bytes) past l) ∙ m.one)
     go m (inr l) = let above = marks_above c (low c me past) i m.in_marks in absurd (omega arith)
 
@@ -175,7 +178,7 @@ keeps_prepared c me v i batch bytes vc past says new right prepared marks =
     go (inr again) = absurd (new again.2)
 
 pub installs_what_it_has : InstallsWhatItHas
-installs_what_it_has c me k root past lacks right = go lack (installed.pages lack.0 lack.1)
+installs_what_it_has c me k root past lacks right = go lack (is_own_or_got c me k lack.0 past right.1.0.state (page_text new lack.0) (installed.pages lack.0 lack.1))
   where
     new : State
     new = right.0.state
@@ -186,12 +189,12 @@ installs_what_it_has c me k root past lacks right = go lack (installed.pages lac
     lack : (i : ℕ) × (i < 1024) × (page_text new i ≢ page_text right.1.0.state i) × (Once (GetsPage c me i (page_text new i)) past → ⊥)
     lack = lacks right.1.0 right.1.1 new installed.number installed.root_is
 
-    go : (x : (i : ℕ) × (i < 1024) × (page_text new i ≢ page_text right.1.0.state i) × (Once (GetsPage c me i (page_text new i)) past → ⊥)) → IsHeld c me past right.1.0.state x.0 (page_text new x.0) → ⊥
+    go : (x : (i : ℕ) × (i < 1024) × (page_text new i ≢ page_text right.1.0.state i) × (Once (GetsPage c me i (page_text new i)) past → ⊥)) → (page_text new x.0 ≡ page_text right.1.0.state x.0) ⊎ Once (GetsPage c me x.0 (page_text new x.0)) past → ⊥
     go x (inl same) = x.2 same
     go x (inr got) = x.3 got
 
 pub installs_with_header : InstallsWithHeader
-installs_with_header c me k root past right = go (installed.pages 512 within)
+installs_with_header c me k root past right = go (is_own_or_got c me k 512 past old (page_text new 512) (installed.pages 512 within))
   where
     old : State
     old = right.1.0.state
@@ -205,7 +208,7 @@ installs_with_header c me k root past right = go (installed.pages 512 within)
     within : 512 < 1024
     within = omega arith
 
-    go : IsHeld c me past old 512 (page_text new 512) → (space : SpaceState) × Once (GetsPage c me 512 (header_text space k)) past
+    go : (page_text new 512 ≡ page_text old 512) ⊎ Once (GetsPage c me 512 (page_text new 512)) past → (space : SpaceState) × Once (GetsPage c me 512 (header_text space k)) past
     go (inl same) =
         let above : old.number < k = right.1.2.may.0 in
         let few : new.number < 2 ^ 48 = installed.is_state.space.few in
@@ -217,7 +220,7 @@ installs_with_header c me k root past right = go (installed.pages 512 within)
 
 pub proposes_authentic : ProposesAuthentic
 proposes_authentic c me v i batch bytes request past says right has =
-    let m : MayPrePrepare c me past (Sent me bytes) v i batch = says_may c me bytes (record { sender = me; message = PrePrepare v i batch }) past right says in
+    let m : MayPrePrepare c me past right.1.0 (Sent me bytes) v i batch = says_may c me bytes (record { sender = me; message = PrePrepare v i batch }) past right says in
     there (heard (members c) me request) (every_has (λ (x : List ℕ). is_some (heard (members c) me x)) (requests_of batch) request m.genuine has)
   where
     there : (o : Option Body) → is_some o ≡ true → (body : Body) × (o ≡ Some body)
@@ -226,19 +229,19 @@ proposes_authentic c me v i batch bytes request past says right has =
 
 pub pre_prepares_as_primary : PrePreparesAsPrimary
 pre_prepares_as_primary c me v i batch bytes past says right =
-    let m : MayPrePrepare c me past (Sent me bytes) v i batch = says_may c me bytes (record { sender = me; message = PrePrepare v i batch }) past right says in
+    let m : MayPrePrepare c me past right.1.0 (Sent me bytes) v i batch = says_may c me bytes (record { sender = me; message = PrePrepare v i batch }) past right says in
     m.is_primary
 
 pub pre_prepares_in_marks : PrePreparesInMarks
 pre_prepares_in_marks c me v i batch bytes past says right =
-    let m : MayPrePrepare c me past (Sent me bytes) v i batch = says_may c me bytes (record { sender = me; message = PrePrepare v i batch }) past right says in
+    let m : MayPrePrepare c me past right.1.0 (Sent me bytes) v i batch = says_may c me bytes (record { sender = me; message = PrePrepare v i batch }) past right says in
     let p = and_parts (nat_lt (low c me past) i && nat_le i (low c me past + span c)) (is_number i) m.in_marks in
     let q = and_parts (nat_lt (low c me past) i) (nat_le i (low c me past + span c)) p.0 in
     (ltb-true (low c me past) i q.0, leb-true i (low c me past + span c) q.1, ltb-true i (2 ^ 48) p.1)
 
 pub no_pre_prepare_after_change : NoPrePrepareAfterChange
 no_pre_prepare_after_change c me v i batch bytes vc past says changed above right =
-    let m : MayPrePrepare c me past (Sent me bytes) v i batch = says_may c me bytes (record { sender = me; message = PrePrepare v i batch }) past right says in
+    let m : MayPrePrepare c me past right.1.0 (Sent me bytes) v i batch = says_may c me bytes (record { sender = me; message = PrePrepare v i batch }) past right says in
     inactive c me v vc past changed above m.active
 
 pub checkpoints_multiples : CheckpointsMultiples
@@ -366,14 +369,17 @@ pub fetches_what_is_wanted : FetchesWhatIsWanted
 fetches_what_is_wanted c me k index level bytes past says none right =
     go (says_may c me bytes (record { sender = me; message = Fetch k level index }) past right says)
   where
-    go : MayFetch c past right.1.0 k → ⊥
-    go (root, (above, inl quorum)) = (none root).0 quorum
-    go (root, (above, inr starts)) = (none root).1 starts
+    go : MayFetch c me past right.1.0 k level index → ⊥
+    go m = wanted m.root m.may.1
+      where
+        wanted : (root : List ℕ) → IsRootWanted c past k root → ⊥
+        wanted root (inl quorum) = (none root).0 quorum
+        wanted root (inr starts) = (none root).1 starts
 
 pub fetches_above : FetchesAbove
 fetches_above c me k index level bytes past says below right =
-    let m : MayFetch c past right.1.0 k = says_may c me bytes (record { sender = me; message = Fetch k level index }) past right says in
-    let above : right.1.0.state.number < k = m.1.0 in
+    let m : MayFetch c me past right.1.0 k level index = says_may c me bytes (record { sender = me; message = Fetch k level index }) past right says in
+    let above : right.1.0.state.number < k = m.may.0 in
     let number = newest_state c me past right.1.0 right.1.1 in
     absurd (omega arith)
 
@@ -403,6 +409,21 @@ seals_well c me bytes frame entries past is authenticator right = sealed c me by
 
 pub signs_well : SignsWell
 signs_well c me bytes s frame past is authenticator right = sealed c me bytes frame (signature s) past is authenticator right
+
+pub signs_once_by_leaf : SignsOnceByLeaf
+signs_once_by_leaf c me leaf bytes sent s t frame other past is by was earlier before right =
+    let m : MaySend c me past right.1.0 (Sent me bytes) bytes = right.1.2.may in
+    m.leaf leaf sent (leaf_by bytes frame (Some leaf) is (ap leaf_in by)) (leaf_by sent other (Some leaf) was (ap leaf_in earlier)) before
+
+-- what stands between are outputs of one event
+sent_here : (bytes : List ℕ) (me : ℕ) (outputs past : List Entry) → AreOutputs outputs → SentInEvent bytes (outputs ++ Sent me bytes ∷ past)
+sent_here bytes me [] past are = inl refl
+sent_here bytes me (e ∷ outputs) past are = rw are.0 (inr (sent_here bytes me outputs past are.1))
+
+pub sends_no_frame_twice : SendsNoFrameTwice
+sends_no_frame_twice c me bytes outputs past are right =
+    let m : MaySend c me (outputs ++ Sent me bytes ∷ past) right.1.0 (Sent me bytes) bytes = right.1.2.may in
+    m.once (sent_here bytes me outputs past are)
 
 pub replies_to_its_client : RepliesToItsClient
 replies_to_its_client c me client timestamp number mode answer bytes frame entries past says is authenticator right =

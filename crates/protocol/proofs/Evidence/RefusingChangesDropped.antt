@@ -15,11 +15,11 @@ use Rattle.signing.specs.Heard.{heard}
 use Rattle.protocol.specs.System.Trace.{Entry, Has}
 use Rattle.protocol.specs.System.Trace.Entry.{Invoke, Got, Tick, Executed, Installed, Sent, Accepted}
 use Rattle.protocol.specs.Replica.Selection.{is_within}
-use Rattle.protocol.specs.Replica.Certificates.{view, low, is_active_in, is_in_marks, batch_from, are_genuine, logged, prepare_from, commit_from, prepare_of, commit_of, vote_in, checkpoint_from, checkpoint_in, insert_checkpoint, with_checkpoint, checkpoints_of}
+use Rattle.protocol.specs.Replica.Certificates.{view, change_taken, latest_change, low, is_active_in, is_in_marks, batch_from, are_genuine, logged, prepare_from, commit_from, prepare_of, commit_of, vote_in, checkpoint_from, checkpoint_in, insert_checkpoint, with_checkpoint, checkpoints_of}
 use Rattle.reply_cache.specs.Replies.{Kept}
 use Rattle.protocol.specs.Replica.State.{State, Call, kept_of, last_time}
 use Rattle.protocol.specs.Replica.RightReplica.{Point, Leaves, kept_states, IsRootWanted}
-use Rattle.protocol.specs.Replica.Owed.{Owes, Counts, IsReplica, IsNoOlder, change_taken, latest_change, has_number}
+use Rattle.protocol.specs.Replica.Owed.{Owes, Counts, IsReplica, IsNoOlder, has_number}
 use Rattle.protocol.specs.Evidence.RefusedChanges.{Answers, GotChange, IsNoRoot, DropsWrites, DropsRequestsOfReplicas, DropsOldRequests, DropsPassedRequests, DropsPrePreparesOfBackups, DropsPrePreparesWhileInactive, DropsPrePreparesOutsideMarks, DropsSecondPrePrepares, DropsPreparesOfPrimaries, DropsPreparesWhileInactive, DropsSecondPrepares, DropsCommitsWhileInactive, DropsSecondCommits, DropsLowCheckpoints, DropsCheckpointsOfNoNumber, DropsSecondCheckpoints, DropsPassedCheckpoints, DropsLowChanges, DropsUnboundChanges, DropsPassedChanges, DropsNewViews, DropsFetches, DropsLowDigests, DropsLowPages, DropsOtherRoots, DropsOtherDigests, DropsOtherPages}
 use Rattle.protocol.proofs.Words.Temporal.{once_weaker, once_stays_from}
 use Rattle.protocol.proofs.Words.Options.{then_some_gives, some_injective}

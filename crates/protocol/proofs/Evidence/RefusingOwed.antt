@@ -1,22 +1,26 @@
 -- The definitions refuse a correct replica that goes on and leaves undone what an event owes.
-use Rattle.std.proofs.Common.{◌≡◌, ℕ, suc, ◌+◌, ◌≤◌, arith, ◌<◌, inl, inr, Bool, true, false, List, [], ◌∷◌, ◌++◌, reverse, refl, sym, ap, subst}
+use Rattle.std.proofs.Common.{◌≡◌, ℕ, suc, ◌+◌, ◌≤◌, arith, ◌<◌, inl, inr, Bool, true, false, List, [], ◌∷◌, ◌++◌, reverse, refl, sym, ap, ◌∙◌, subst, ◌⊎◌}
 use Rattle.std.specs.Prelude.{AllPairs, Some, None}
 use Rattle.std.proofs.lemmas.List.{reverse-reverse}
 use mathlib.Core.List.{reverse_aux}
 use Rattle.protocol.specs.System.Configuration.{Configuration}
-use Rattle.protocol.specs.System.Trace.{Entry, is_output, Once, Has, AreOutputs, either}
+use Rattle.protocol.specs.System.Trace.{Entry, is_output, Once, Has, AreOutputs, either, Hears}
 use Rattle.protocol.specs.System.Trace.Entry.{Invoke, Got, Tick, Executed, Installed, Sent, Accepted}
-use Rattle.protocol.specs.Replica.State.{State, root_of}
-use Rattle.protocol.specs.Replica.RightReplica.{Point, Leaves, Executes}
+use Rattle.protocol.specs.Replica.State.{State, root_of, Call}
+use Rattle.protocol.specs.Replica.RightReplica.{Point, Leaves, Executes, IsInstalled, IsRootWanted, TimesOut, JoinsOthers}
+use Rattle.protocol.specs.Replica.Transfers.{fetch_sent}
 use Rattle.wire.specs.Words.{requests_of, said}
-use Rattle.wire.specs.Messages.{pre_prepare as PrePrepare, checkpoint as Checkpoint, reply as Reply}
+use Rattle.wire.specs.Messages.{pre_prepare as PrePrepare, checkpoint as Checkpoint, reply as Reply, ViewChangeData, view_change as ViewChange}
+use Rattle.terms.specs.declared.state.Level.TheVariants as levels
 use Rattle.terms.specs.declared.order.Mode.TheVariants as modes
 use Rattle.tuple_codec.specs.Operations.{Outcome}
-use Rattle.protocol.specs.Replica.Certificates.{logged, Committed}
-use Rattle.protocol.specs.Replica.Owed.{AtOutputs, HasRequest, IsNumbered, AreDifferent, NumbersOnce, Owes, Proceeds, IsReplica, Gives}
-use Rattle.protocol.specs.Evidence.Refused.{GoesOn, NumbersNoneTwice, NumbersNoneTogether, AnswersReads, AnswersDigestFetches, AnswersPageFetches, AnswersAgain, AnswersRan, PreparesLogged, CommitsPrepared, ExecutesCommitted, NumbersWaiting, FetchesAhead, SendsCheckpoints}
+use Rattle.protocol.specs.Replica.Selection.{is_within}
+use Rattle.protocol.specs.Replica.Certificates.{logged, Committed, view, latest_change}
+use Rattle.protocol.specs.Replica.Owed.{AtOutputs, HasRequest, IsNumbered, AreDifferent, NumbersOnce, TransferGoesOn, Owes, Proceeds, IsReplica, Gives, HasToMove}
+use Rattle.protocol.specs.Evidence.Refused.{GoesOn, NumbersNoneTwice, NumbersNoneTogether, AnswersReads, AnswersDigestFetches, AnswersPageFetches, AnswersAgain, AnswersRan, PreparesLogged, CommitsPrepared, ExecutesCommitted, NumbersWaiting, FetchesAhead, SendsCheckpoints, AsksOn, InstallsFetched, newest_number, MovesForReasons}
 use Rattle.protocol.proofs.Words.Reacting.{one_of, proceeds_leaves}
 use Rattle.protocol.proofs.Evidence.Refusing.{newest_state}
+use Rattle.protocol.proofs.Evidence.Gaps.{some_is_free}
 use Rattle.protocol.proofs.Words.Elements.{has_reverse, has_reversed}
 
 -- ---- the event of a replica that goes on
@@ -141,7 +145,8 @@ numbers_waiting c me v i call input outputs past active is waits marks near free
     let e = event_of c me outputs input past goes in
     let number = newest_state c me (outputs ++ input ∷ past) e.new e.behind in
     let near' : i ≤ e.new.state.number + 2 = omega arith in
-    e.owes.numbers v i call active is (waits e.new e.behind) (marks, near', free)
+    let next = some_is_free c me v e.new.state.number (outputs ++ input ∷ past) is (e.new, e.behind) i marks near' free in
+    e.owes.numbers v next.0 call active is (waits e.new e.behind) next.1
 
 reversed_append : (xs ys acc : List Entry) → reverse_aux (xs ++ ys) acc ≡ reverse_aux ys (reverse_aux xs acc)
 reversed_append [] ys acc = refl
@@ -176,6 +181,18 @@ fetches_ahead c me k root input outputs past quorum above newer goes =
     has_reverse _ outputs (e.owes.fetches k root quorum
     (subst (λ (n : ℕ). n < k) (sym (newest_state c me (outputs ++ input ∷ past) e.new e.behind)) above) newer)
 
+pub moves_for_reasons : MovesForReasons
+moves_for_reasons c me input outputs past goes =
+    let e = event_of c me outputs input past goes in
+    (e.old, e.before, λ vc bytes may within says reason. e.owes.view_changes vc bytes (has_to e.old.waiting vc.view reason) may within says)
+  where
+    has_to : (waiting : List Call) (v : ℕ) → TimesOut c me (input ∷ past) waiting v
+        ⊎ ((s : ℕ) × (other : ViewChangeData) × Hears c me (record { sender = s; message = ViewChange other }) past input × (view c past < other.view)
+        × (is_within c other ≡ true) × (latest_change c past s < other.view) × JoinsOthers c me (input ∷ past) v)
+        → HasToMove c me past input waiting v
+    has_to waiting v (inl t) = inl t
+    has_to waiting v (inr (s, other, hears, above, within, newer, joins)) = inr ((s, other, hears, (above, within, newer)), joins)
+
 pub sends_checkpoints : SendsCheckpoints
 sends_checkpoints c me k input outputs past executed multiple goes =
     let e = event_of c me outputs input past goes in
@@ -199,3 +216,34 @@ sends_checkpoints c me k input outputs past executed multiple goes =
     go [] h = h
     go (st ∷ xs) (inl h) = inl (h.0, has_reverse _ outputs h.1)
     go (st ∷ xs) (inr h) = inr (go xs h)
+
+-- ---- a transfer
+
+pub asks_on : AsksOn
+asks_on c me s k digests bytes outputs past hears asked above wanted one other goes =
+    go (e.owes.goes_on_by_digests s k 0 levels.Root digests hears ((asked, subst (λ (n : ℕ). n < k) (sym (newest_state c me past e.old e.before)) above, wanted), λ root is. one root (later root is)))
+  where
+    e : Event c me outputs (Got me bytes) past
+    e = event_of c me outputs (Got me bytes) past goes
+
+    later : (root : List ℕ) → IsRootWanted c past k root → IsRootWanted c (Got me bytes ∷ past) k root
+    later root (inl h) = inl (inr h)
+    later root (inr h) = inr (inr h)
+
+    go : TransferGoesOn c me (Got me bytes ∷ past) e.old (reverse outputs) e.new.state.number k → Has (λ x. fetch_sent x ≡ k) outputs
+    go (inl h) = has_reverse (λ x. fetch_sent x ≡ k) outputs h
+    go (inr h) = absurd (other e.old e.before (h.1.1 ∙ one h.0 h.1.0))
+
+pub installs_fetched : InstallsFetched
+installs_fetched c me s k index text bytes outputs past hears asked above wanted one can none goes =
+    go (e.owes.goes_on_by_page s k index text hears ((asked, subst (λ (n : ℕ). n < k) (sym (newest_state c me past e.old e.before)) above, wanted), one))
+  where
+    e : Event c me outputs (Got me bytes) past
+    e = event_of c me outputs (Got me bytes) past goes
+
+    go : TransferGoesOn c me (Got me bytes ∷ past) e.old (reverse outputs) e.new.state.number k → k ≤ newest_number (outputs ++ Got me bytes ∷ past)
+    go (inl h) = absurd (none (has_reverse (λ x. fetch_sent x ≡ k) outputs h))
+    go (inr h) =
+        let it = can e.old e.before in
+        subst (λ (n : ℕ). k ≤ n) (newest_state c me (outputs ++ Got me bytes ∷ past) e.new e.behind)
+        (h.2 (it.0, subst (λ (root : List ℕ). IsInstalled c me (Got me bytes ∷ past) e.old k root it.0) h.1.1 it.1, it.2))

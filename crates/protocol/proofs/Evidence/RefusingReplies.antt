@@ -18,12 +18,12 @@ use Rattle.protocol.proofs.Evidence.Refusing.{says_may, is_reply}
 use Rattle.protocol.proofs.Words.Elements.{has_either, has_some}
 
 -- what ran is of one of the frames, and is kept under the number
-record RanOf (c : Configuration) (k : ℕ) (frames : List (List ℕ)) (x : Ran) : Type 0 where
-  number : x.kept.number ≡ k
+pub record RanOf (c : Configuration) (k : ℕ) (frames : List (List ℕ)) (x : Ran) : Type 0 where
+  pub number : x.kept.number ≡ k
   time : x.kept.timestamp ≡ x.call.timestamp
   frame : Has (λ frame. call_of c frame ≡ Some x.call) frames
 
-ran_of : (c : Configuration) (k : ℕ) (st : State) (frames : List (List ℕ)) (x : Ran) → Has (λ y. y ≡ x) (ran_in c k st frames) → RanOf c k frames x
+pub ran_of : (c : Configuration) (k : ℕ) (st : State) (frames : List (List ℕ)) (x : Ran) → Has (λ y. y ≡ x) (ran_in c k st frames) → RanOf c k frames x
 ran_of c k st [] x h = absurd h
 ran_of c k st (frame ∷ frames) x h = go (call_of c frame) refl h (ran_of c k (run_frame c k st frame) frames x)
   where

@@ -9,22 +9,24 @@ use Rattle.quorum.specs.Quorum.{count_below, member}
 use Rattle.std.specs.Bool.{then_some}
 use Rattle.quorum.specs.Votes.{or_else, has_digest}
 use Rattle.quorum.proofs.Counting.{count_mono, count_members}
-use Rattle.wire.specs.Messages.{BodyData as Body, AuthenticatorData as Authenticator, NewViewData, CheckpointEntryData as CheckpointEntry, macs, signature, pre_prepare as PrePrepare, prepare as Prepare, new_view as NewView}
+use Rattle.wire.specs.Messages.{BodyData as Body, AuthenticatorData as Authenticator, NewViewData, CheckpointEntryData as CheckpointEntry, macs, signature, pre_prepare as PrePrepare, prepare as Prepare, new_view as NewView, view_change as ViewChange}
 use Rattle.protocol.specs.System.Configuration.{Configuration, primary, members}
 use Rattle.signing.specs.Heard.{heard, signed_body}
 use Rattle.wire.specs.Words.{receivers_of}
 use Rattle.protocol.specs.System.Trace.{Entry, Has}
 use Rattle.protocol.specs.System.Trace.Entry.{Got, Sent}
-use Rattle.protocol.specs.Replica.Selection.{may_select}
+use Rattle.protocol.specs.Replica.Selection.{may_select, change_in}
 use Rattle.protocol.specs.Replica.Certificates.{view, view_after, target, is_later, new_view_in, new_view_from, taken, is_active_in, checkpoints_of, is_stable, stable_at, started_at, low, is_in_marks, counts_at, logged, begun_proposal, batch_begun, prepare_of, prepare_from, vote_in, Prepared}
 use Rattle.protocol.specs.Replica.RightReplica.{first_point, others, IsAddressed, Executes, MayPrepare, MaySend, IsStep}
 use Rattle.protocol.specs.Replica.Owed.{Owes, IsReplica, NumbersOnce, Gives}
 use Rattle.protocol.specs.Evidence.Examples.{four}
 use Rattle.protocol.specs.Evidence.ExamplesOfChanges.{holding_view, IsForOthers, NewViewsAreTaken}
 use Rattle.signing.proofs.Heard.{signed_is_heard}
+use Rattle.protocol.proofs.Words.Moving.{no_reason}
 use Rattle.protocol.proofs.Words.Options.{some_injective}
 use Rattle.protocol.proofs.Evidence.Selecting.{prepared_is_selected}
 use Rattle.protocol.proofs.Evidence.JoiningChangesOwing.{Due, owes, none_if, none_logged, none_checked, brings_no_checkpoint, same_checkpoints, logs_begun, logs_nothing, moves_nothing}
+use Rattle.protocol.proofs.Words.Posting.{unsigned_have_no_leaf}
 
 prepare_next : (c : Configuration) (me : ℕ) (past : List Entry) (e : Entry) (v i s : ℕ) → prepare_of c me (e ∷ past) v i s ≡ or_else (prepare_of c me past v i s) (vote_in c me past e (prepare_from c s v i) v i)
 unfolding prepare_of
@@ -189,6 +191,7 @@ module _ (clients : ℕ) (seed : List ℕ) (me : ℕ) (batch root a b d new_view
       numbers_once = (numbers_none, tt);
       prepares = λ v i given none some active_there other. gives v i given (only v i given (sym (logs v i) ∙ some));
       none_executed = none_executed;
+      view_changes = λ v moves. absurd (no_reason c me [] new_view [] v (λ s vc asks. absurd (let bad : None ≡ Some (s, vc) = ap change_in (some_injective begins (record { sender = s; message = ViewChange vc }) (sym hears ∙ asks)) in cc)) moves);
       dropped = λ drops. absurd (drops begins hears takes);
     }
 
@@ -212,6 +215,8 @@ module _ (clients : ℕ) (seed : List ℕ) (me : ℕ) (batch root a b d new_view
       seen = tt;
       say = may_prepare;
       is_sealed = λ frame is. let s = x.is_sealed frame is in (s.0, addressed frame.authenticator s.1);
+      leaf = unsigned_have_no_leaf (h1) prepare (prepares) (x.says) refl;
+      once = λ here. here;
     }
 
     gets : IsStep c me [] first_point (Got me new_view) first_point

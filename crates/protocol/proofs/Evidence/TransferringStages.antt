@@ -17,7 +17,7 @@ use Rattle.protocol.specs.System.Trace.{Entry}
 use Rattle.protocol.specs.System.Trace.Entry.{Got, Sent}
 use Rattle.protocol.specs.Replica.Selection.{is_quorum}
 use Rattle.protocol.specs.Replica.Certificates.{brought, view, target, low, new_view_in, new_view_from, installed_at, started_at, stable_at, is_stable, taken, is_later, is_in_marks, counts_at, logged, proposal, begun_proposal, entry_proposal, batch_begun, batch_from, checkpoint_in, checkpoint_from, insert_checkpoint, with_checkpoint, checkpoints_of, says_checkpoint, count_checkpoints}
-use Rattle.protocol.specs.Replica.Owed.{asked_last, place_from, fetching, fetch_sent}
+use Rattle.protocol.specs.Replica.Transfers.{asked_last, place_from, fetching, fetch_sent}
 use Rattle.protocol.specs.Evidence.Examples.{four}
 use Rattle.protocol.proofs.Evidence.RefusingMarksLow.{checkpoints_with, no_checkpoints}
 use Rattle.quorum.proofs.Counting.{count_same}

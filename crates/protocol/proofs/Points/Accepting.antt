@@ -18,7 +18,7 @@ use Rattle.protocol.specs.Replica.State.{State, Ran, opening, tuples, kept_of, e
 use Rattle.reply_cache.specs.Replies.{Kept}
 use Rattle.protocol.specs.Replica.RightReplica.{Leaves, MaySay, MayReply}
 use Rattle.protocol.specs.Client.RightClient.{SafeClient, OpenCall, open_call, last_call, Vote, latest, is_alike, count_alike, newest_vote, MayAccept, vote_of}
-use Rattle.protocol.specs.System.Texts.{ExecutesBatch}
+use Rattle.protocol.specs.Laws.Histories.{ExecutesBatch}
 use Rattle.protocol.specs.Space.Linear.{batch_of, first_position, is_level, Invokes, Accepts}
 use Rattle.std.specs.Bool.{then_some}
 use Rattle.quorum.specs.Votes.{or_else}

@@ -13,7 +13,7 @@ use Rattle.protocol.specs.System.Trace.{Entry, party_of, history_of, Once, Alway
 use Rattle.protocol.specs.System.Trace.Entry.{Invoke, Got, Tick, Executed, Installed, Sent, Accepted}
 use Rattle.protocol.specs.Replica.State.{Call, call_in, call_of}
 use Rattle.protocol.specs.Client.RightClient.{SafeClient, MayAsk, MayRequest, OpenCall, open_call, last_call}
-use Rattle.protocol.specs.System.Texts.{ExecutesBatch}
+use Rattle.protocol.specs.Laws.Histories.{ExecutesBatch}
 use Rattle.protocol.specs.Space.Linear.{Placing, batch_of, is_level, Invokes, Asks}
 use Rattle.std.specs.Bool.{then_some}
 use Rattle.protocol.proofs.Words.Temporal.{once_weaker, once_always, once_once, once_in_history, once_in_trace}

@@ -16,7 +16,7 @@ use Rattle.protocol.specs.System.Trace.Entry.{Invoke, Got, Tick, Executed, Insta
 use Rattle.protocol.specs.Replica.State.{State, Call, Ran, opening, runs, run_call, call_in, call_of, run_frame, execute, ran_by, ran_in, kept_by, kept_of, last_time}
 use Rattle.reply_cache.specs.Replies.{Kept, Replies, last_of, with_reply}
 use Rattle.protocol.specs.Replica.RightReplica.{Leaves, May, Moves}
-use Rattle.protocol.specs.System.Texts.{ExecutesBatch}
+use Rattle.protocol.specs.Laws.Histories.{ExecutesBatch}
 use Rattle.protocol.specs.Space.Linear.{Item, Placing, NoneTwice, ordered_point, ordered_points, first_position, batch_of, comes_before, insert_point, sorted}
 use Rattle.protocol.proofs.Words.Options.{and_then_some, some_injective}
 use Rattle.protocol.proofs.Points.Legality.{none_points, none_later}

@@ -13,7 +13,7 @@ use Rattle.protocol.specs.System.Trace.Entry.{Invoke, Got, Tick, Executed, Insta
 use Rattle.space.specs.Applying.{is_read_only, outcome}
 use Rattle.protocol.specs.Replica.State.{opening, tuples}
 use Rattle.protocol.specs.Client.RightClient.{OpenCall, open_call, Vote, newest_vote}
-use Rattle.protocol.specs.System.Texts.{ExecutesBatch}
+use Rattle.protocol.specs.Laws.Histories.{ExecutesBatch}
 use Rattle.protocol.specs.Space.Linear.{Placing, first_position, is_level, ordered_points, invoked_at, read_point, read_points, Invokes, Accepts}
 use Rattle.std.specs.Bool.{then_some}
 use Rattle.quorum.specs.Votes.{or_else}

@@ -1,5 +1,5 @@
 -- A run, each of its beginnings, and the batches that it executes.
-use Rattle.std.proofs.Common.{◌≡◌, ℕ, zero, suc, ◌+◌, ◌*◌, ◌≤◌, ◌<◌, inl, inr, Bool, true, false, cond, List, [], ◌∷◌, ◌++◌, length, refl, sym, ap, ◌∙◌, subst, arith, ◌||◌, Option, Some, None, eqb-true, eq-eqb}
+use Rattle.std.proofs.Common.{◌≡◌, ℕ, zero, suc, ◌+◌, ◌*◌, ◌≤◌, ◌<◌, inl, inr, Bool, true, false, cond, List, [], ◌∷◌, length, refl, sym, ap, ◌∙◌, subst, arith, ◌||◌, Option, Some, None, eqb-true, eq-eqb}
 use Rattle.std.specs.Prelude.{◌==◌, nat_le}
 use Rattle.std.specs.Option.{option_map_or}
 use Rattle.std.proofs.lemmas.Bool.{and_parts, leb-true, eqb-false}
@@ -15,13 +15,14 @@ use Rattle.quorum.specs.Votes.{or_else}
 use Rattle.protocol.specs.Replica.RightReplica.{Leaves}
 use Rattle.protocol.specs.Client.RightClient.{SafeClient}
 use Rattle.protocol.specs.Replica.State.{State, opening, execute, after_batches}
-use Rattle.protocol.specs.System.Texts.{IsText, Holds, NoCollision, AreExecuted, ExecutesBatch}
-use Rattle.protocol.specs.System.Texts.IsText.{null, batch, part, held, page_of, under}
+use Rattle.protocol.specs.System.Texts.{IsText, NoCollision}
+use Rattle.protocol.specs.System.Texts.IsText.{null, batch, part, page_of, under, installed}
 use Rattle.protocol.specs.Space.Linear.{last_executed, reached, count_correct, has_reached, is_level, batch_at, batch_of}
 use Rattle.protocol.proofs.Words.Temporal.{once_weaker}
 use Rattle.protocol.proofs.Words.Options.{given_once, then_some_gives}
 use Rattle.protocol.proofs.Agreement.Executing.{executed_agree}
-use Rattle.protocol.specs.Laws.Histories.{IsStateOf}
+use Rattle.protocol.proofs.Agreement.Firsts.{first_later}
+use Rattle.protocol.specs.Laws.Histories.{ExecutesBatch, AreExecuted, IsStateOf}
 use Rattle.protocol.proofs.Agreement.States.{number_after, states_agree}
 use Rattle.protocol.proofs.Points.Levels.{many_correct, reached_history, number_reached}
 use Rattle.protocol.proofs.Points.Reading.{Runs, runs_earlier}
@@ -34,38 +35,13 @@ pub record Run (c : Configuration) (xs : List Entry) : Type 0 where
 
 -- ---- the texts of a beginning
 
-executed_later : (c : Configuration) (e : Entry) (xs : List Entry) (first : ℕ) (batches : List (List ℕ)) → AreExecuted c xs first batches → AreExecuted c (e ∷ xs) first batches
-executed_later c e xs first [] h = tt
-executed_later c e xs first (x ∷ batches) h = (inr h.0, executed_later c e xs (first + 1) batches h.1)
-
-holds_later : (c : Configuration) (e : Entry) (xs : List Entry) (page : ℕ → List ℕ) → Holds c xs page → Holds c (e ∷ xs) page
-holds_later c e xs page h = go (party_of e == h.at.replica) refl
-  where
-    splits : (b : Bool) → (party_of e == h.at.replica) ≡ b → cond b (e ∷ history_of h.at.replica xs) (history_of h.at.replica xs) ≡ cond b (e ∷ h.at.later) h.at.later ++ h.at.past
-    splits true is = ap (λ t. e ∷ t) h.at.splits
-    splits false is = h.at.splits
-
-    go : (b : Bool) → (party_of e == h.at.replica) ≡ b → Holds c (e ∷ xs) page
-    go b is = record {
-      at = record {
-        replica = h.at.replica;
-        later = cond (party_of e == h.at.replica) (e ∷ h.at.later) h.at.later;
-        past = h.at.past;
-        is_correct = h.at.is_correct;
-        splits = splits (party_of e == h.at.replica) refl;
-        point = h.at.point;
-        leaves = h.at.leaves;
-      };
-      each = h.each;
-    }
-
 text_later : (c : Configuration) (e : Entry) (xs : List Entry) (text : List ℕ) → IsText c xs text → IsText c (e ∷ xs) text
 text_later c e xs _ null = null
 text_later c e xs text (batch _ h) = batch text (inr h)
 text_later c e xs text (part _ h) = part text (inr h)
-text_later c e xs text (held page _ h u) = held page text (holds_later c e xs page h) u
-text_later c e xs _ (page_of batches i h) = page_of batches i (executed_later c e xs 1 batches h)
-text_later c e xs text (under batches _ h u) = under batches text (executed_later c e xs 1 batches h) u
+text_later c e xs _ (page_of batches i l h) = page_of batches i l (first_later c e xs 1 batches h)
+text_later c e xs text (under batches _ h u) = under batches text (first_later c e xs 1 batches h) u
+text_later c e xs text (installed batches _ h u) = installed batches text (first_later c e xs 1 batches h) (inr u)
 
 pub run_earlier : (c : Configuration) (e : Entry) (xs : List Entry) → Run c (e ∷ xs) → Run c xs
 run_earlier c e xs r = record {

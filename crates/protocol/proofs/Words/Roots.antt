@@ -64,7 +64,7 @@ part_at g n k m l =
     ∙ map_twice g (range_with_len (0 + k) m)
     ∙ ap (λ (x : ℕ). map (λ i. sha256 (g i)) (range_with_len x m)) z
 
-pages_part : (g : ℕ → List ℕ) (j : ℕ) → j < 32 → page_digests (all_pages g) j ≡ map (λ i. sha256 (g i)) (range_with_len (32 * j) 32)
+pub pages_part : (g : ℕ → List ℕ) (j : ℕ) → j < 32 → page_digests (all_pages g) j ≡ map (λ i. sha256 (g i)) (range_with_len (32 * j) 32)
 unfolding page_digests all_pages
 pages_part g j l = let m : 32 * j + 32 ≤ 1024 = omega arith in part_at g 1024 (32 * j) 32 m
 

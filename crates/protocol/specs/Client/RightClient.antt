@@ -188,6 +188,10 @@ IsClientBy c me react [] = ⊤
 IsClientBy c me react (e ∷ past) =
     Reacts c me react [] (e ∷ past) ⊎ ((party_of e ≡ me) × MayInput past e × IsClientBy c me react past)
 
+-- The client has not stopped: each event of its history, to its end, gives what it is to.
+abbrev pub IsPromptClient : Configuration → ℕ → List Entry → Type 0
+IsPromptClient c me history = Reacts c me (reaction c me) [] history
+
 -- the whole of what a correct client's history is
 abbrev pub IsClient : Configuration → ℕ → List Entry → Type 0
 IsClient c me history = IsClientBy c me (reaction c me) history

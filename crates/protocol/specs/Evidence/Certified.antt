@@ -2,14 +2,13 @@
 -- certificates stay.
 use Rattle.std.specs.Prelude.{◌≡◌, ℕ, ◌+◌, ◌*◌, ◌^◌, ◌≤◌, ◌<◌, true, List, ◌∷◌, ◌++◌, Some, None}
 use Rattle.sha2.specs.Sha256.{sha256}
-use Rattle.protocol.specs.System.Configuration.{Configuration, is_correct_replica}
+use Rattle.protocol.specs.System.Configuration.{Configuration, primary, is_correct_replica}
 use Rattle.wire.specs.Messages.{BodyData as Body, NewViewData, commit as Commit}
 use Rattle.protocol.specs.System.Trace.{Entry, history_of, Once, SendsBody, Unforged}
 use Rattle.protocol.specs.System.Trace.Entry.{Executed}
 use Rattle.protocol.specs.Replica.Certificates.{brought, view, target, taken, low, batch_begun, logged, commit_of, Prepared, Committed}
 use Rattle.protocol.specs.Replica.RightReplica.{SafeReplica}
-use Rattle.protocol.specs.System.Texts.{ExecutesBatch}
-use Rattle.protocol.specs.Laws.Histories.{AreReplicasSafe, Takes}
+use Rattle.protocol.specs.Laws.Histories.{AreReplicasSafe, ExecutesBatch, Takes}
 
 -- ---- the own commit
 
@@ -66,6 +65,13 @@ LogsWhatBegins =
     (c : Configuration) (me i : ℕ) (batch : List ℕ) (e : Entry) (past : List Entry) (new : NewViewData)
     → SafeReplica c me past → taken c past e ≡ Some new
     → batch_begun new.view i new ≡ Some batch → low c me (e ∷ past) < i → logged c me (e ∷ past) new.view i ≡ Some batch
+
+-- The batches of a view leave no gap at its primary: each number between the low mark and one with a batch has one.
+abbrev pub LeavesNoGap : Type 0
+LeavesNoGap =
+    (c : Configuration) (me v i j : ℕ) (batch : List ℕ) (history : List Entry) → SafeReplica c me history
+    → primary c v ≡ me → logged c me history v i ≡ Some batch → low c me history < j → j < i
+    → (other : List ℕ) × (logged c me history v j ≡ Some other)
 
 -- ---- certificates stay
 

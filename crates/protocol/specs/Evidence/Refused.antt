@@ -1,6 +1,7 @@
 -- Small histories that the definitions refuse: what wrong replicas, primaries and clients would make.
 use Rattle.std.specs.Prelude.{◌≡◌, ◌≢◌, ℕ, suc, ◌+◌, ◌-◌, ◌*◌, ◌%◌, ◌^◌, ◌≤◌, ◌<◌, ◌⊎◌, true, false, Bool, List, [], ◌∷◌, ◌++◌, length, map, slice_get, slice_index_or, Some, None, fold, ⊤, All}
 use Rattle.sha2.specs.Sha256.{sha256}
+use Rattle.partition_tree.specs.Digests.{inner_digest, digest_of_children, root_of as root_of_pages}
 use Rattle.tuple_codec.specs.Operations.{Operation, Outcome}
 use Rattle.space.specs.Applying.{outcome, is_read_only}
 use Rattle.wire.specs.Words.{requests_of, frame_of, said}
@@ -14,18 +15,20 @@ use Rattle.terms.specs.declared.order.Mode.TheVariants as modes
 use Rattle.wire.specs.Messages.{BodyData as Body, FrameData as Frame, MacData, macs, signature, ViewChangeData, NewViewData, BatchEntryData as BatchEntry, request as Request, pre_prepare as PrePrepare, prepare as Prepare, commit as Commit, checkpoint as Checkpoint, view_change as ViewChange, new_view as NewView, reply as Reply, fetch as Fetch, meta as Meta, page as Page}
 use Rattle.authenticator.specs.Authentic.{mac_of}
 use Rattle.signing.specs.Heard.{has_signature, heard}
+use Rattle.protocol.specs.System.Frames.{leaf_of}
 use Rattle.protocol.specs.System.Trace.{Entry, is_output, Once, Always, Has, AreOutputs, Hears}
 use Rattle.protocol.specs.System.Trace.Entry.{Got, Executed, Installed, Sent, Accepted}
 use Rattle.wire.specs.Spelling.{has_children}
-use Rattle.protocol.specs.Replica.Selection.{is_quorum, changes_of, null_batch}
-use Rattle.protocol.specs.Replica.Certificates.{count_checkpoints, low, is_in_marks, is_active_in, logged, taken, target, view, Prepared, Committed}
+use Rattle.protocol.specs.Replica.Selection.{is_quorum, is_within, changes_of, null_batch}
+use Rattle.protocol.specs.Replica.Certificates.{count_checkpoints, latest_change, low, is_in_marks, is_active_in, logged, taken, target, view, Prepared, Committed}
 use Rattle.reply_cache.specs.Replies.{Kept}
 use Rattle.space.specs.Births.{SpaceState}
 use Rattle.space.specs.Pages.{header_text}
-use Rattle.protocol.specs.Replica.State.{State, Call, call_of, Ran, run_frame, ran_in, kept_of, tuples, root_of, page_text}
-use Rattle.protocol.specs.Replica.RightReplica.{Point, Leaves, SafeReplica, Executes, GetsPage, WasAsked, SentBefore, HadQuorum, StartsAt, IsStep, kept_states, digests_at, reply_of}
+use Rattle.protocol.specs.Replica.State.{State, Call, call_of, Ran, run_frame, ran_in, kept_of, last_time, tuples, root_of, all_pages, page_text}
+use Rattle.protocol.specs.Replica.RightReplica.{Point, Leaves, SafeReplica, Executes, GetsPage, WasAsked, SentBefore, HadQuorum, StartsAt, IsStep, IsInstalled, IsRootWanted, kept_states, digests_at, reply_of, IsNewViewChange, TimesOut, JoinsOthers}
 use Rattle.protocol.specs.Client.RightClient.{SafeClient}
-use Rattle.protocol.specs.Replica.Owed.{fetching, asked_last, IsSaying, Gives, GivesTo, HasRequest, IsNumbered, IsReplica}
+use Rattle.protocol.specs.Replica.Transfers.{fetch_sent, fetching, asked_last, in_place}
+use Rattle.protocol.specs.Replica.Owed.{IsSaying, Gives, GivesTo, HasRequest, IsNumbered, IsPageWanted, IsReplica}
 
 -- nothing is executed here, nor installed
 abbrev pub NoExecution : List Entry → Entry → Type 0
@@ -143,6 +146,27 @@ newest_number (Executed r k batch ∷ past) = k
 newest_number (Installed r k root ∷ past) = k
 newest_number (_ ∷ past) = newest_number past
 
+-- A pre-prepare of a number that has no batch in the view: above another one without a batch, itself above the low mark.
+abbrev pub SkipsNoNumber : Type 0
+SkipsNoNumber =
+    (c : Configuration) (me v i j : ℕ) (batch bytes : List ℕ) (past : List Entry)
+    → said bytes ≡ Some (record { sender = me; message = PrePrepare v i batch }) → logged c me past v i ≡ None
+    → low c me past < j → j < i → logged c me past v j ≡ None → SafeReplica c me (Sent me bytes ∷ past) → ⊥
+
+-- Or below one that has a batch.
+abbrev pub GoesBackToNoNumber : Type 0
+GoesBackToNoNumber =
+    (c : Configuration) (me v i j : ℕ) (batch other bytes : List ℕ) (past : List Entry)
+    → said bytes ≡ Some (record { sender = me; message = PrePrepare v i batch }) → logged c me past v i ≡ None
+    → i < j → logged c me past v j ≡ Some other → SafeReplica c me (Sent me bytes ∷ past) → ⊥
+
+-- Or more than two above the executed number.
+abbrev pub PrePreparesNearby : Type 0
+PrePreparesNearby =
+    (c : Configuration) (me v i : ℕ) (batch bytes : List ℕ) (past : List Entry)
+    → said bytes ≡ Some (record { sender = me; message = PrePrepare v i batch }) → logged c me past v i ≡ None
+    → SafeReplica c me (Sent me bytes ∷ past) → i ≤ newest_number past + 2
+
 -- A read answered with another number than that.
 abbrev pub ReadsNewest : Type 0
 ReadsNewest =
@@ -250,6 +274,18 @@ RepliesWhatRan =
     → (Has (λ ran. (ran.call.client ≡ k) × (ran.kept ≡ kept)) point.ran → ⊥) × (kept_of point.state k ≢ Some kept))
     → SafeReplica c me (Sent me bytes ∷ past) → ⊥
 
+-- An ordered reply in an event that executed no batch of its number, and whose input is no ordered request of its client
+-- and timestamp.
+abbrev pub RepliesToWhoAsked : Type 0
+RepliesToWhoAsked =
+    (c : Configuration) (me client timestamp number : ℕ) (answer : Outcome) (bytes : List ℕ) (input : Entry)
+    (outputs past : List Entry)
+    → said bytes ≡ Some (record { sender = me; message = Reply client timestamp modes.Ordered number answer })
+    → is_output input ≡ false → AreOutputs outputs → (Has (Executes number []) outputs → ⊥)
+    → ((op : Operation)
+    → Hears c me (record { sender = client; message = Request timestamp modes.Ordered op }) past input → ⊥)
+    → SafeReplica c me (Sent me bytes ∷ outputs ++ input ∷ past) → ⊥
+
 -- the batch of the number was executed, and has the client's request of this timestamp
 abbrev pub ExecutesRequest : Configuration → ℕ → ℕ → ℕ → List Entry → Entry → Type 0
 ExecutesRequest c number client timestamp past (Executed r k batch) = (k ≡ number) × HasRequest c client timestamp batch
@@ -315,6 +351,20 @@ SignsWell =
     → frame_of bytes ≡ Some frame → frame.authenticator ≡ signature s → SafeReplica c me (Sent me bytes ∷ past)
     → has_signature c.seed frame ≡ true
 
+-- Two frames of different bytes, signed by one leaf, the first byte of their signatures.
+abbrev pub SignsOnceByLeaf : Type 0
+SignsOnceByLeaf =
+    (c : Configuration) (me leaf : ℕ) (bytes sent s t : List ℕ) (frame other : Frame) (past : List Entry)
+    → frame_of bytes ≡ Some frame → frame.authenticator ≡ signature (leaf ∷ s)
+    → frame_of sent ≡ Some other → other.authenticator ≡ signature (leaf ∷ t)
+    → SentBefore sent past → SafeReplica c me (Sent me bytes ∷ past) → sent ≡ bytes
+
+-- A frame that the event has sent already.
+abbrev pub SendsNoFrameTwice : Type 0
+SendsNoFrameTwice =
+    (c : Configuration) (me : ℕ) (bytes : List ℕ) (outputs past : List Entry) → AreOutputs outputs
+    → SafeReplica c me (Sent me bytes ∷ outputs ++ Sent me bytes ∷ past) → ⊥
+
 -- ---- what is dropped
 
 -- A frame that answers a part of a state that was not asked for last.
@@ -364,6 +414,44 @@ FetchesAbove =
     → said bytes ≡ Some (record { sender = me; message = Fetch k level index }) → k ≤ newest_number past
     → SafeReplica c me (Sent me bytes ∷ past) → ⊥
 
+-- A fetch of a number below one that was fetched.
+abbrev pub FetchesNewest : Type 0
+FetchesNewest =
+    (c : Configuration) (me k n index other : ℕ) (level above : Level) (bytes earlier : List ℕ) (past : List Entry)
+    → said bytes ≡ Some (record { sender = me; message = Fetch k level index })
+    → said earlier ≡ Some (record { sender = me; message = Fetch n above other })
+    → k < n → SafeReplica c me (Sent me bytes ∷ Sent me earlier ∷ past) → ⊥
+
+-- A second fetch in a row, of a part below the root.
+abbrev pub FetchesOnce : Type 0
+FetchesOnce =
+    (c : Configuration) (me k n index other : ℕ) (level above : Level) (bytes earlier : List ℕ) (past : List Entry)
+    → said bytes ≡ Some (record { sender = me; message = Fetch k level index }) → level ≢ levels.Root
+    → said earlier ≡ Some (record { sender = me; message = Fetch n above other })
+    → SafeReplica c me (Sent me bytes ∷ Sent me earlier ∷ past) → ⊥
+
+-- A fetch of a part below the root at bytes that are got, if no digests of the root's children were ever got.
+abbrev pub FetchesWhatIsTold : Type 0
+FetchesWhatIsTold =
+    (c : Configuration) (me k index : ℕ) (level : Level) (bytes frame : List ℕ) (past : List Entry)
+    → said bytes ≡ Some (record { sender = me; message = Fetch k level index }) → level ≢ levels.Root
+    → ((s n : ℕ) (digests : List (List ℕ))
+    → Once (Hears c me (record { sender = s; message = Meta n levels.Root 0 digests })) (Got me frame ∷ past) → ⊥)
+    → SafeReplica c me (Sent me bytes ∷ Got me frame ∷ past) → ⊥
+
+-- A fetch of an inner part that what is in place agrees with, at bytes that are got: the digests of the root's children
+-- that were got have its digest, and no others were.
+abbrev pub FetchesWhatDiffers : Type 0
+FetchesWhatDiffers =
+    (c : Configuration) (me k j : ℕ) (bytes frame : List ℕ) (past : List Entry)
+    → said bytes ≡ Some (record { sender = me; message = Fetch k levels.Inner j })
+    → ((s n : ℕ) (digests : List (List ℕ)) (digest : List ℕ)
+    → Once (Hears c me (record { sender = s; message = Meta n levels.Root 0 digests })) (Got me frame ∷ past)
+    → slice_get digests j ≡ Some digest
+    → AtEachPoint c me (Got me frame ∷ past)
+    (λ point. digest ≡ inner_digest (all_pages (in_place c me k (Got me frame ∷ past) point.state)) j))
+    → SafeReplica c me (Sent me bytes ∷ Got me frame ∷ past) → ⊥
+
 -- ---- what is owed
 
 -- An event, an input with its outputs (the newest first), of a correct replica that goes on: it sends a frame after a
@@ -405,6 +493,33 @@ AnswersPageFetches =
     → AtEachPoint c me past (λ point. Has (λ x. x ≡ st) (kept_states (low c me past) point.snapshots))
     → GoesOn c me outputs (Got me bytes) past
     → GivesTo me s (Page st.number index (page_text st index)) outputs
+
+-- The digests below the root that a transfer awaits, got without a fetch of a part of it, while another root is in place.
+abbrev pub AsksOn : Type 0
+AsksOn =
+    (c : Configuration) (me s k : ℕ) (digests : List (List ℕ)) (bytes : List ℕ) (outputs past : List Entry)
+    → heard (members c) me bytes ≡ Some (record { sender = s; message = Meta k levels.Root 0 digests })
+    → asked_last past ≡ Some (k, (levels.Root, 0)) → newest_number past < k
+    → IsRootWanted c past k (digest_of_children digests)
+    → ((other : List ℕ) → IsRootWanted c (Got me bytes ∷ past) k other → other ≡ digest_of_children digests)
+    → AtEachPoint c me past (λ point.
+    root_of_pages (all_pages (in_place c me k (Got me bytes ∷ past) point.state)) ≢ digest_of_children digests)
+    → GoesOn c me outputs (Got me bytes) past → Has (λ e. fetch_sent e ≡ k) outputs
+
+-- The last page that a transfer awaits, got without the state being installed, which the pages in place are then.
+abbrev pub InstallsFetched : Type 0
+InstallsFetched =
+    (c : Configuration) (me s k index : ℕ) (text bytes : List ℕ) (outputs past : List Entry)
+    → heard (members c) me bytes ≡ Some (record { sender = s; message = Page k index text })
+    → asked_last past ≡ Some (k, (levels.Page, index)) → newest_number past < k
+    → IsPageWanted c me past k index (sha256 text)
+    → ((other : List ℕ) → IsPageWanted c me past k index other → other ≡ sha256 text)
+    → AtEachPoint c me past (λ point. (new : Point)
+    × IsInstalled c me (Got me bytes ∷ past) point k
+    (root_of_pages (all_pages (in_place c me k (Got me bytes ∷ past) point.state))) new
+    × ((client : ℕ) → last_time point.state client ≤ last_time new.state client))
+    → (Has (λ e. fetch_sent e ≡ k) outputs → ⊥)
+    → GoesOn c me outputs (Got me bytes) past → k ≤ newest_number (outputs ++ Got me bytes ∷ past)
 
 -- A request of the last timestamp that is got again, and does not get the kept reply.
 abbrev pub AnswersAgain : Type 0
@@ -485,6 +600,21 @@ FetchesAhead =
     → is_quorum c (count_checkpoints c (outputs ++ input ∷ past) (record { number = k; digest = root })) ≡ true
     → newest_number (outputs ++ input ∷ past) < k → fetching past < k → GoesOn c me outputs input past
     → Gives me (Fetch k levels.Root 0) outputs
+
+-- A reason to move to a view, and no view change for it or for a later one, while a frame says one and a key is left.
+abbrev pub MovesForReasons : Type 0
+MovesForReasons =
+    (c : Configuration) (me : ℕ) (input : Entry) (outputs past : List Entry) → GoesOn c me outputs input past
+    → (point : Point) × Leaves c me past point
+    × ((vc : ViewChangeData) (bytes : List ℕ) → IsNewViewChange c me (input ∷ past) point vc → is_within c vc ≡ true
+    → said bytes ≡ Some (record { sender = me; message = ViewChange vc })
+    → TimesOut c me (input ∷ past) point.waiting vc.view
+    ⊎ ((s : ℕ) × (other : ViewChangeData)
+    × Hears c me (record { sender = s; message = ViewChange other }) past input × (view c past < other.view)
+    × (is_within c other ≡ true) × (latest_change c past s < other.view)
+    × JoinsOthers c me (input ∷ past) vc.view)
+    → (vc.view ≤ target (outputs ++ input ∷ past))
+    ⊎ ((leaf : ℕ) → leaf < 64 → (sent : List ℕ) × (leaf_of sent ≡ Some leaf) × SentBefore sent past))
 
 -- A multiple of the period that is executed, and gets no checkpoint with the root of its state.
 abbrev pub SendsCheckpoints : Type 0

@@ -1,10 +1,11 @@
 -- Small histories that the definitions of view changes, calls, dropped inputs and waiting requests refuse.
-use Rattle.std.specs.Prelude.{◌≡◌, ◌≢◌, ℕ, ◌+◌, ◌*◌, ◌/◌, ◌%◌, ◌^◌, ◌≤◌, ◌<◌, ◌⊎◌, Bool, true, false, List, [], ◌∷◌, ◌++◌, slice_get, Some, None}
+use Rattle.std.specs.Prelude.{◌≡◌, ◌≢◌, ℕ, suc, ◌+◌, ◌*◌, ◌/◌, ◌%◌, ◌^◌, ◌≤◌, ◌<◌, ◌⊎◌, Bool, true, false, not, ◌&&◌, ◌==◌, nat_lt, max, List, [], ◌∷◌, ◌++◌, slice_get, Some, None}
 use Rattle.sha2.specs.Sha256.{sha256}
+use Rattle.quorum.specs.Quorum.{count_below}
 use Rattle.tuple_codec.specs.Operations.{Operation, IsOperation}
 use Rattle.space.specs.Applying.{is_read_only}
 use Rattle.partition_tree.specs.Digests.{digest_of_children}
-use Rattle.protocol.specs.System.Configuration.{Configuration, primary, members}
+use Rattle.protocol.specs.System.Configuration.{Configuration, primary, members, replicas}
 use Rattle.terms.specs.declared.order.Mode.TheVariants as modes
 use Rattle.terms.specs.declared.state.Level.{Level}
 use Rattle.terms.specs.declared.state.Level.TheVariants as levels
@@ -12,9 +13,9 @@ use Rattle.wire.specs.Messages.{MessageData as Message, ViewChangeData, NewViewD
 use Rattle.signing.specs.Heard.{heard}
 use Rattle.wire.specs.Words.{said}
 use Rattle.protocol.specs.System.Trace.{Entry, Once, Has, Hears}
-use Rattle.protocol.specs.System.Trace.Entry.{Invoke, Got, Sent}
+use Rattle.protocol.specs.System.Trace.Entry.{Invoke, Got, Tick, Sent}
 use Rattle.protocol.specs.Replica.Selection.{signed_change, is_within}
-use Rattle.protocol.specs.Replica.Certificates.{low, view, is_active_in, is_in_marks, logged, prepare_of, commit_of, checkpoints_of, taken}
+use Rattle.protocol.specs.Replica.Certificates.{low, view, target, latest_change, is_active_in, is_in_marks, logged, prepare_of, commit_of, checkpoints_of, taken}
 use Rattle.protocol.specs.Replica.State.{Call, last_time}
 use Rattle.protocol.specs.Replica.RightReplica.{SafeReplica, SentBefore, HadQuorum, StartsAt}
 use Rattle.protocol.specs.Client.RightClient.{OpenCall, open_call, IsClient}
@@ -91,6 +92,46 @@ ChangesAgainLast =
     → said bytes ≡ Some (record { sender = me; message = ViewChange vc }) → SentBefore bytes past
     → SafeReplica c me (Sent me bytes ∷ past)
     → Once (λ before. IsSaying me (ViewChange earlier)) past → earlier.view ≤ vc.view
+
+-- ---- why a view change is sent
+
+-- A new view change at the first tick, when nothing waits; or at a first frame that is none.
+abbrev pub NoChangeAtFirst : Type 0
+NoChangeAtFirst =
+    (c : Configuration) (me : ℕ) (vc : ViewChangeData) (bytes : List ℕ) → SendsNewChange c me vc bytes (Tick me ∷ [])
+    → ⊥
+
+abbrev pub NoChangeAtFrame : Type 0
+NoChangeAtFrame =
+    (c : Configuration) (me : ℕ) (vc : ViewChangeData) (bytes frame : List ℕ) → signed_change c frame ≡ None
+    → SendsNewChange c me vc bytes (Got me frame ∷ []) → ⊥
+
+-- how many others have their latest view change above the view
+abbrev pub count_above : Configuration → ℕ → List Entry → ℕ → ℕ
+count_above c me past v = count_below (λ s. not (s == me) && nat_lt v (latest_change c past s)) (replicas c)
+
+-- At bytes that are got, a new view change while fewer than f + 1 others are above the view and all earlier targets,
+-- or for a later view than one of them.
+abbrev pub ChangesJoinEnough : Type 0
+ChangesJoinEnough =
+    (c : Configuration) (me : ℕ) (vc : ViewChangeData) (bytes frame : List ℕ) (past : List Entry)
+    → SendsNewChange c me vc bytes (Got me frame ∷ past)
+    → c.faults < count_above c me (Got me frame ∷ past) (max (view c (Got me frame ∷ past)) (target (Got me frame ∷ past)))
+
+abbrev pub ChangesJoinLeast : Type 0
+ChangesJoinLeast =
+    (c : Configuration) (me s : ℕ) (vc : ViewChangeData) (bytes frame : List ℕ) (past : List Entry)
+    → SendsNewChange c me vc bytes (Got me frame ∷ past) → s < replicas c → s ≢ me
+    → max (view c (Got me frame ∷ past)) (target (Got me frame ∷ past)) < latest_change c (Got me frame ∷ past) s
+    → vc.view ≤ latest_change c (Got me frame ∷ past) s
+
+-- At a tick, with no others to join, a new view change for another view than the next.
+abbrev pub TicksMoveByOne : Type 0
+TicksMoveByOne =
+    (c : Configuration) (me : ℕ) (vc : ViewChangeData) (bytes : List ℕ) (past : List Entry)
+    → SendsNewChange c me vc bytes (Tick me ∷ past)
+    → count_above c me (Tick me ∷ past) (max (view c (Tick me ∷ past)) (target (Tick me ∷ past))) ≤ c.faults
+    → vc.view ≡ suc (max (view c past) (target past))
 
 -- ---- calls, of a client of either kind
 

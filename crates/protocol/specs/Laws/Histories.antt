@@ -1,30 +1,40 @@
 -- The laws over all safe histories: what may be sent, agreement on batches, states and roots, and the first view.
-use Rattle.std.specs.Prelude.{◌≡◌, ℕ, ◌^◌, ◌≤◌, ◌<◌, ◌⊎◌, true, List, length, Some}
+use Rattle.std.specs.Prelude.{◌≡◌, ℕ, ◌+◌, ◌^◌, ◌≤◌, ◌<◌, ◌⊎◌, true, List, [], ◌∷◌, ◌++◌, length, Some}
 use Rattle.sha2.specs.Sha256.{sha256}
 use Rattle.protocol.specs.System.Configuration.{Configuration, IsConfiguration, is_correct, is_correct_replica, is_correct_client}
 use Rattle.wire.specs.Messages.{MessageData as Message, NewViewData, ViewChangeData, view_change as ViewChange}
+use Rattle.wire.specs.Spelling.{is_signed}
 use Rattle.wire.specs.Words.{carried}
-use Rattle.protocol.specs.System.Frames.{IsPosted}
+use Rattle.protocol.specs.System.Frames.{IsPosted, leaf_of}
 use Rattle.protocol.specs.System.Trace.{Entry, party_of, history_of, Once, Always, Has, SendsBody, Unforged}
-use Rattle.protocol.specs.System.Trace.Entry.{Installed}
+use Rattle.protocol.specs.System.Trace.Entry.{Executed, Installed}
 use Rattle.protocol.specs.Replica.Certificates.{Prepared, Committed, view, taken, batch_begun}
-use Rattle.protocol.specs.Replica.RightReplica.{Point, HasSeen, SafeReplica, HadQuorum, StartsAt, MaySay, IsFor, MaySend}
+use Rattle.protocol.specs.Replica.RightReplica.{Point, Leaves, HasSeen, SentBefore, SentInEvent, HasOwnLeaf, SafeReplica, HadQuorum, StartsAt, MaySay, IsFor, MaySend}
 use Rattle.protocol.specs.Client.RightClient.{SafeClient}
 use Rattle.protocol.specs.Space.Linear.{points, IsLinear}
 use Rattle.protocol.specs.Replica.State.{State, IsState, opening, after_batches, page_text, root_of}
-use Rattle.protocol.specs.System.Texts.{NoCollision, StoodAt, ExecutesBatch, AreExecuted}
+use Rattle.protocol.specs.System.Texts.{NoCollision}
 use Rattle.wire.specs.Lists.{Each}
 
 -- ---- what may be sent
 
--- What a replica posts for those it is for, over frames that it has seen, it may send where it may say the message.
+-- What a replica posts for those it is for, over frames that it has seen, it may send if it may say the message and the
+-- event has not sent the frame. A signed frame needs a leaf of its own.
 abbrev pub PostedMaySend : Type 0
 PostedMaySend =
     (c : Configuration) (me : ℕ) (past : List Entry) (point : Point) (e : Entry) (bytes receivers : List ℕ)
     (message : Message)
     → IsPosted c me message receivers bytes → IsFor c me past message receivers
     → Each (λ frame. Once (HasSeen frame) past) (carried message) → MaySay c me past point e bytes message
+    → (is_signed message ≡ true → HasOwnLeaf bytes past) → (SentInEvent bytes past → ⊥)
     → MaySend c me past point e bytes
+
+-- No leaf of a right replica signs two frames.
+abbrev pub LeavesSignOnce : Type 0
+LeavesSignOnce =
+    (c : Configuration) (me leaf : ℕ) (one other : List ℕ) (history : List Entry) → SafeReplica c me history
+    → leaf_of one ≡ Some leaf → leaf_of other ≡ Some leaf → SentBefore one history → SentBefore other history
+    → one ≡ other
 
 -- ---- agreement
 
@@ -64,6 +74,11 @@ CommittedAgree =
     → (p q v w i : ℕ) (a b : List ℕ) → is_correct_replica c p ≡ true → is_correct_replica c q ≡ true
     → Committed c p (history_of p trace) v i a → Committed c q (history_of q trace) w i b → sha256 a ≡ sha256 b
 
+-- a correct replica executed the batch for the number
+abbrev pub ExecutesBatch : Configuration → ℕ → List ℕ → List Entry → Entry → Type 0
+ExecutesBatch c k batch past (Executed r number text) = (is_correct_replica c r ≡ true) × (number ≡ k) × (text ≡ batch)
+ExecutesBatch c k batch past _ = ⊥
+
 -- What two correct replicas execute for one number is one batch.
 abbrev pub ExecutedAgree : Type 0
 ExecutedAgree =
@@ -72,6 +87,12 @@ ExecutedAgree =
     → (k : ℕ) (a b : List ℕ) → Once (ExecutesBatch c k a) trace → Once (ExecutesBatch c k b) trace → a ≡ b
 
 -- ---- states
+
+-- A history leaves a replica at one point at most.
+abbrev pub PointsAreOne : Type 0
+PointsAreOne =
+    (c : Configuration) (me : ℕ) (history : List Entry) (x y : Point)
+    → Leaves c me history x → Leaves c me history y → x ≡ y
 
 -- States are equal where their pages are.
 abbrev pub PagesDetermine : Type 0
@@ -84,6 +105,22 @@ abbrev pub BatchesLeaveStates : Type 0
 BatchesLeaveStates =
     (c : Configuration) (batches : List (List ℕ)) → IsConfiguration c → length batches < 2 ^ 48
     → IsState (after_batches c opening batches)
+
+-- each batch was executed for its number, from the first on
+abbrev pub AreExecuted : Configuration → List Entry → ℕ → List (List ℕ) → Type 0
+AreExecuted c trace first [] = Unit {0}
+AreExecuted c trace first (batch ∷ batches) =
+    Once (ExecutesBatch c first batch) trace × AreExecuted c trace (first + 1) batches
+
+-- a correct replica stood at the point, at some time of the trace
+pub record StoodAt (c : Configuration) (trace : List Entry) : Type 0 where
+  pub replica : ℕ
+  pub later : List Entry
+  pub past : List Entry
+  pub is_correct : is_correct_replica c replica ≡ true
+  pub splits : history_of replica trace ≡ later ++ past
+  pub point : Point
+  pub leaves : Leaves c replica past point
 
 -- some correct replica had the state at some time of the trace, as its own or as a snapshot
 abbrev pub Had : Configuration → List Entry → State → Type 0

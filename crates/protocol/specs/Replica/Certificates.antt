@@ -15,7 +15,7 @@ use Rattle.wire.specs.Words.{requests_of, said}
 use Rattle.signing.specs.Heard.{heard}
 use Rattle.protocol.specs.System.Trace.{Entry}
 use Rattle.protocol.specs.System.Trace.Entry.{Got, Installed, Sent}
-use Rattle.protocol.specs.Replica.Selection.{is_quorum, may_select}
+use Rattle.protocol.specs.Replica.Selection.{is_quorum, may_select, signed_change, is_within}
 
 -- what an entry brings: what is heard, or what is said
 abbrev pub brought : Configuration → Entry → Option Body
@@ -80,6 +80,24 @@ is_active_in c past v = (view c past == v) && nat_le (target past) v
 -- the new view that is taken, or sent, at an entry
 abbrev pub taken : Configuration → List Entry → Entry → Option NewViewData
 taken c past e = option_and_then (λ new. then_some (is_later (view c past) (target past) new) new) (new_view_in c e)
+
+-- ---- the view changes of others
+
+-- the view of the view change that an entry brings of the replica, where it is above the view then and within its
+-- bounds
+abbrev pub change_taken : Configuration → ℕ → ℕ → List ℕ → ℕ
+change_taken c v s bytes =
+    option_map_or (λ x. if (x.0 == s) && nat_lt v x.1.view && is_within c x.1 then x.1.view else 0)
+    (signed_change c bytes) 0
+
+abbrev pub change_at : Configuration → List Entry → Entry → ℕ → ℕ
+change_at c past (Got p bytes) s = change_taken c (view c past) s bytes
+change_at c past _ s = 0
+
+-- the greatest of them
+abbrev pub latest_change : Configuration → List Entry → ℕ → ℕ
+latest_change c [] s = 0
+latest_change c (e ∷ past) s = max (latest_change c past s) (change_at c past e s)
 
 -- ---- checkpoints
 

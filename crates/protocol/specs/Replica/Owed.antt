@@ -1,29 +1,30 @@
 -- What a correct replica owes in an event: all that the event's input brings about, until nothing more is due, and
 -- nothing where the input is dropped (Castro and Liskov, TOCS 2002, on normal-case operation, garbage collection, view
 -- changes and state transfer). No law of agreement uses it. It speaks of the same states as what the replica may do.
-use Rattle.std.specs.Prelude.{◌≡◌, ◌≢◌, ℕ, suc, ◌+◌, ◌/◌, ◌%◌, ◌≤◌, ◌<◌, ◌⊎◌, Bool, true, false, ◌&&◌, List, [], ◌∷◌, ◌++◌, reverse, max, nat_lt, ◌==◌, if◌then◌else◌, Option, Some, None, slice_get, option_and_then, AllPairs, ⊤}
+use Rattle.std.specs.Prelude.{◌≡◌, ◌≢◌, ℕ, suc, ◌+◌, ◌/◌, ◌%◌, ◌≤◌, ◌<◌, ◌⊎◌, Bool, true, false, ◌&&◌, List, [], ◌∷◌, ◌++◌, reverse, max, nat_lt, ◌==◌, if◌then◌else◌, Some, None, slice_get, AllPairs, ⊤}
 use Rattle.std.specs.List.{list_any}
 use Rattle.std.specs.Option.{option_map_or}
 use Rattle.sha2.specs.Sha256.{sha256}
 use Rattle.tuple_codec.specs.Operations.{Operation}
 use Rattle.space.specs.Applying.{outcome, is_read_only}
-use Rattle.partition_tree.specs.Digests.{digest_of_children}
-use Rattle.quorum.specs.Votes.{or_else}
+use Rattle.partition_tree.specs.Digests.{digest_of_children, root_of as root_of_pages}
 use Rattle.protocol.specs.System.Configuration.{Configuration, primary, is_number, members}
 use Rattle.terms.specs.declared.order.Mode.TheVariants as modes
 use Rattle.terms.specs.declared.state.Level.{Level}
 use Rattle.terms.specs.declared.state.Level.TheVariants as levels
 use Rattle.wire.specs.Spelling.{has_children}
-use Rattle.wire.specs.Messages.{BodyData as Body, MessageData as Message, NewViewData, CheckpointEntryData as CheckpointEntry, request as Request, pre_prepare as PrePrepare, prepare as Prepare, commit as Commit, checkpoint as Checkpoint, view_change as ViewChange, new_view as NewView, reply as Reply, fetch as Fetch, meta as Meta, page as Page}
+use Rattle.wire.specs.Messages.{BodyData as Body, MessageData as Message, ViewChangeData, NewViewData, CheckpointEntryData as CheckpointEntry, request as Request, pre_prepare as PrePrepare, prepare as Prepare, commit as Commit, checkpoint as Checkpoint, view_change as ViewChange, new_view as NewView, reply as Reply, fetch as Fetch, meta as Meta, page as Page}
 use Rattle.wire.specs.Words.{requests_of, frame_of, said, receivers_of}
 use Rattle.signing.specs.Heard.{heard}
+use Rattle.protocol.specs.System.Frames.{leaf_of}
 use Rattle.protocol.specs.System.Trace.{Entry, party_of, is_output, Once, Has, either, Hears}
 use Rattle.protocol.specs.System.Trace.Entry.{Got, Tick, Sent}
-use Rattle.protocol.specs.Replica.Selection.{is_quorum, signed_change, is_within}
-use Rattle.protocol.specs.Replica.Certificates.{greatest, view, is_active_in, taken, checkpoints_of, count_checkpoints, low, is_in_marks, entry_proposal, logged, prepare_from, commit_from, vote_in, prepare_of, commit_of, Prepared, Committed}
+use Rattle.protocol.specs.Replica.Selection.{is_quorum, is_within}
+use Rattle.protocol.specs.Replica.Certificates.{view, target, is_active_in, taken, latest_change, checkpoints_of, count_checkpoints, low, is_in_marks, entry_proposal, logged, prepare_from, commit_from, vote_in, prepare_of, commit_of, Prepared, Committed}
 use Rattle.reply_cache.specs.Replies.{Kept}
-use Rattle.protocol.specs.Replica.State.{State, Call, call_of, Ran, kept_of, last_time, tuples, root_of, page_text}
-use Rattle.protocol.specs.Replica.RightReplica.{Point, first_point, reply_of, IsStep, KeptState, Executes, IsRootWanted, digests_at}
+use Rattle.protocol.specs.Replica.State.{State, Call, call_of, Ran, kept_of, last_time, tuples, root_of, page_text, all_pages}
+use Rattle.protocol.specs.Replica.Transfers.{fetch_sent, fetching, asked_last, in_place, GotBelow}
+use Rattle.protocol.specs.Replica.RightReplica.{Point, first_point, IsFree, reply_of, IsStep, IsInstalled, KeptState, Executes, IsRootWanted, digests_at, SentBefore, TimesOut, JoinsOthers, IsNewViewChange}
 use Rattle.wire.specs.Lists.{Each}
 
 -- ---- words on outputs
@@ -53,25 +54,6 @@ abbrev pub AtOutputs : (List Entry → Entry → Type 0) → List Entry → List
 AtOutputs P past [] = ⊤
 AtOutputs P past (e ∷ outputs) = P past e × AtOutputs P (e ∷ past) outputs
 
--- the number of a fetch that is sent here, else 0
-abbrev pub fetch_sent : Entry → ℕ
-fetch_sent (Sent p bytes) = option_map_or (λ body. elim body.message [ Fetch k level index ↦ k | _ ↦ 0 ]) (said bytes) 0
-fetch_sent _ = 0
-
--- the number of the latest transfer, which is open while it is above the state's
-abbrev pub fetching : List Entry → ℕ
-fetching past = greatest fetch_sent past
-
--- the number and the place that a fetch asks for
-abbrev pub place_from : Body → Option (ℕ × (Level × ℕ))
-place_from body = elim body.message [ Fetch k level index ↦ Some (k, (level, index)) | _ ↦ None ]
-
--- the place that was asked for last: one fetch is open at a time
-abbrev pub asked_last : List Entry → Option (ℕ × (Level × ℕ))
-asked_last [] = None
-asked_last (Sent p bytes ∷ past) = or_else (option_and_then place_from (said bytes)) (asked_last past)
-asked_last (_ ∷ past) = asked_last past
-
 -- ---- requests that a view has numbered
 
 -- a new view is taken here, or sent, that begins the view with the batch
@@ -94,11 +76,6 @@ abbrev pub IsNumbered : Configuration → ℕ → List Entry → ℕ → ℕ →
 IsNumbered c me past v client timestamp =
     (batch : List ℕ) × IsOfView c me past v batch × HasRequest c client timestamp batch
 
--- a number in the marks above all that the view has used, and at most two above the executed number k
-abbrev pub IsFree : Configuration → ℕ → List Entry → ℕ → ℕ → ℕ → Type 0
-IsFree c me past k v i = (is_in_marks c (low c me past) i ≡ true) × (i ≤ k + 2)
-    × ((j : ℕ) → i ≤ j → logged c me past v j ≡ None)
-
 -- two frames are requests of different clients or timestamps
 abbrev pub AreDifferent : Configuration → List ℕ → List ℕ → Type 0
 AreDifferent c frame other =
@@ -115,12 +92,6 @@ NumbersOnce c me past (Sent p bytes) =
 NumbersOnce c me past _ = ⊤
 
 -- ---- the digests that the parts of a transfer are to have (Castro and Liskov, TOCS 2002, on state transfer)
-
--- got digests of the parts below a place whose own digest is this one
-abbrev pub GotBelow : Configuration → ℕ → List Entry → Level → ℕ → List ℕ → List (List ℕ) → Type 0
-GotBelow c me past level index digest digests =
-    (digest_of_children digests ≡ digest)
-    × ((s n : ℕ) × Once (Hears c me (record { sender = s; message = Meta n level index digests })) past)
 
 -- that of an inner part is told by the root's, and a page's by its inner part's
 abbrev pub IsInnerWanted : Configuration → ℕ → List Entry → ℕ → ℕ → List ℕ → Type 0
@@ -145,33 +116,48 @@ abbrev pub IsAwaited : Configuration → ℕ → List Entry → Point → ℕ �
 IsAwaited c me past point k level index digest = (asked_last past ≡ Some (k, (level, index))) × (point.state.number < k)
     × IsWanted c me past k level index digest
 
+-- ---- how a transfer goes on
+
+-- The part is awaited, and the history wants no other digest of its place. None wants two of one place, if at most f
+-- replicas are faulty and different texts have different digests.
+abbrev pub IsAwaitedAlone : Configuration → ℕ → List Entry → Point → ℕ → Level → ℕ → List ℕ → Type 0
+IsAwaitedAlone c me past point k level index digest = IsAwaited c me past point k level index digest
+    × ((other : List ℕ) → IsWanted c me past k level index other → other ≡ digest)
+
+-- Nothing is left to fetch: the pages in place have a root that is wanted for the number.
+abbrev pub IsFetched : Configuration → ℕ → List Entry → State → ℕ → List ℕ → Type 0
+IsFetched c me past st k root =
+    IsRootWanted c past k root × (root_of_pages (all_pages (in_place c me k past st)) ≡ root)
+
+-- The pages in place are those of a state, and no client's last timestamp is lower in it.
+abbrev pub CanInstall : Configuration → ℕ → List Entry → Point → ℕ → List ℕ → Type 0
+CanInstall c me past old k root =
+    (new : Point) × IsInstalled c me past old k root new
+    × ((client : ℕ) → last_time old.state client ≤ last_time new.state client)
+
+-- The transfer of the state of this number goes on: its next part is asked for. Or nothing is left to fetch, and the
+-- executed number reaches it, if the state can be installed. past: the past with the part; old: the point before it.
+abbrev pub TransferGoesOn : Configuration → ℕ → List Entry → Point → List Entry → ℕ → ℕ → Type 0
+TransferGoesOn c me past old outputs executed k =
+    Has (λ e. fetch_sent e ≡ k) outputs
+    ⊎ ((root : List ℕ) × IsFetched c me past old.state k root × (CanInstall c me past old k root → k ≤ executed))
+
 -- ---- inputs that count; all others are dropped
 
 -- one of the checkpoints has the number
 abbrev pub has_number : ℕ → List CheckpointEntry → Bool
 has_number k checkpoints = list_any (λ m. m.number == k) checkpoints
 
--- the view of the view change that an entry brings of the replica, where it is above the view then and within its
--- bounds
-abbrev pub change_taken : Configuration → ℕ → ℕ → List ℕ → ℕ
-change_taken c v s bytes =
-    option_map_or (λ x. if (x.0 == s) && nat_lt v x.1.view && is_within c x.1 then x.1.view else 0)
-    (signed_change c bytes) 0
-
-abbrev pub change_at : Configuration → List Entry → Entry → ℕ → ℕ
-change_at c past (Got p bytes) s = change_taken c (view c past) s bytes
-change_at c past _ s = 0
-
--- the greatest of them
-abbrev pub latest_change : Configuration → List Entry → ℕ → ℕ
-latest_change c [] s = 0
-latest_change c (e ∷ past) s = max (latest_change c past s) (change_at c past e s)
-
 -- the waiting requests of the client are older, or this very one
 abbrev pub IsNoOlder : List Call → ℕ → ℕ → Operation → Type 0
 IsNoOlder waiting client timestamp op =
     Each (λ call. call.client ≡ client
     → (call.timestamp < timestamp) ⊎ ((call.timestamp ≡ timestamp) × (call.op ≡ op))) waiting
+
+-- a view change is above the own view, within its bounds, and newer than its sender's last
+abbrev pub IsLatestChange : Configuration → List Entry → ℕ → ViewChangeData → Type 0
+IsLatestChange c past s vc =
+    (view c past < vc.view) × (is_within c vc ≡ true) × (latest_change c past s < vc.view)
 
 -- a rule takes the message
 abbrev pub Counts : Configuration → ℕ → List Entry → Point → List ℕ → ℕ → Message → Type 0
@@ -189,8 +175,7 @@ Counts c me past point bytes s (Commit v i digest) =
 Counts c me past point bytes s (Checkpoint k root) =
     (low c me past < k) × (is_number k ≡ true) × (has_number k (checkpoints_of c past s) ≡ false)
     × (has_number k (checkpoints_of c (Got me bytes ∷ past) s) ≡ true)
-Counts c me past point bytes s (ViewChange vc) = (view c past < vc.view) × (is_within c vc ≡ true)
-    × (latest_change c past s < vc.view)
+Counts c me past point bytes s (ViewChange vc) = IsLatestChange c past s vc
 Counts c me past point bytes s (NewView new) = taken c past (Got me bytes) ≡ Some new
 Counts c me past point bytes s (Reply client t mode k answer) = ⊥
 Counts c me past point bytes s (Fetch k level index) = KeptState c me past point k (λ st. ⊤)
@@ -202,6 +187,24 @@ Counts c me past point bytes s (Page k index text) = IsAwaited c me past point k
 abbrev pub IsDropped : Configuration → ℕ → List Entry → Point → List ℕ → Type 0
 IsDropped c me past point bytes =
     (body : Body) → heard (members c) me bytes ≡ Some body → Counts c me past point bytes body.sender body.message → ⊥
+
+-- ---- view changes that are due (Castro and Liskov, TOCS 2002, 4.5.2)
+
+-- the input is another replica's view change, and it counts
+abbrev pub TakesChange : Configuration → ℕ → List Entry → Entry → Type 0
+TakesChange c me before input =
+    (s : ℕ) × (vc : ViewChangeData) × Hears c me (record { sender = s; message = ViewChange vc }) before input
+    × IsLatestChange c before s vc
+
+-- The replica has a reason to move to the view: time ran out, or it took a view change, and f + 1 others are ahead.
+abbrev pub HasToMove : Configuration → ℕ → List Entry → Entry → List Call → ℕ → Type 0
+HasToMove c me before input waiting v =
+    TimesOut c me (input ∷ before) waiting v
+    ⊎ (TakesChange c me before input × JoinsOthers c me (input ∷ before) v)
+
+-- each of the replica's 64 one-time keys has signed a frame that was sent
+abbrev pub AreKeysSpent : List Entry → Type 0
+AreKeysSpent past = (leaf : ℕ) → leaf < 64 → (bytes : List ℕ) × (leaf_of bytes ≡ Some leaf) × SentBefore bytes past
 
 -- ---- what is owed
 
@@ -248,6 +251,21 @@ pub record Owes (c : Configuration) (me : ℕ) (before : List Entry) (input : En
   pub fetches : (k : ℕ) (root : List ℕ)
       → is_quorum c (count_checkpoints c now (record { number = k; digest = root })) ≡ true
       → new.state.number < k → fetching before < k → Gives me (Fetch k levels.Root 0) outputs
+  -- a part that the transfer awaits brings it on
+  pub goes_on_by_digests : (s k index : ℕ) (level : Level) (digests : List (List ℕ))
+      → Hears c me (record { sender = s; message = Meta k level index digests }) before input
+      → IsAwaitedAlone c me before old k level index (digest_of_children digests)
+      → TransferGoesOn c me (input ∷ before) old outputs new.state.number k
+  pub goes_on_by_page : (s k index : ℕ) (text : List ℕ)
+      → Hears c me (record { sender = s; message = Page k index text }) before input
+      → IsAwaitedAlone c me before old k levels.Page index (sha256 text)
+      → TransferGoesOn c me (input ∷ before) old outputs new.state.number k
+  -- A replica that has to move to a view has sent a view change for that view, or for a later one. Its keys may be
+  -- spent, or no frame may say what it has to say.
+  pub view_changes : (vc : ViewChangeData) (bytes : List ℕ) → HasToMove c me before input old.waiting vc.view
+      → IsNewViewChange c me (input ∷ before) old vc → is_within c vc ≡ true
+      → said bytes ≡ Some (record { sender = me; message = ViewChange vc })
+      → (vc.view ≤ target now) ⊎ AreKeysSpent before
   pub dropped : (bytes : List ℕ) → input ≡ Got me bytes → IsDropped c me before old bytes → outputs ≡ []
 
 -- ---- histories
@@ -261,6 +279,10 @@ Proceeds c me (e ∷ past) outputs new point =
     × either (is_output e)
     (Proceeds c me past (e ∷ outputs) new old)
     (Owes c me past e outputs (reverse outputs ++ e ∷ past) old new × Proceeds c me past [] old old)
+
+-- The replica has not stopped: its history is safe and prompt to its end.
+abbrev pub IsPromptReplica : Configuration → ℕ → List Entry → Type 0
+IsPromptReplica c me history = (point : Point) × Proceeds c me history [] point point
 
 -- an input of a replica: a frame or a tick
 abbrev pub IsInput : Entry → Type 0

@@ -1,10 +1,11 @@
 -- What a correct replica may do: what each entry of its history must be, given its past (Castro and Liskov, TOCS 2002,
 -- on normal-case operation, garbage collection, view changes and state transfer). What it owes, and the
 -- whole of what its history is (IsReplica), stands in Owed.
-use Rattle.std.specs.Prelude.{◌≡◌, ◌≢◌, ℕ, suc, ◌+◌, ◌%◌, ◌≤◌, ◌<◌, ◌⊎◌, Bool, true, ◌&&◌, ◌||◌, not, List, [], ◌∷◌, ◌++◌, map, reverse, filter, nat_le, nat_lt, ◌==◌, if◌then◌else◌, Some, option_and_then, AllPairs, ⊤}
+use Rattle.std.specs.Prelude.{◌≡◌, ◌≢◌, ℕ, suc, ◌+◌, ◌%◌, ◌≤◌, ◌<◌, ◌⊎◌, Bool, true, ◌&&◌, ◌||◌, not, List, [], ◌∷◌, ◌++◌, map, reverse, filter, nat_le, nat_lt, ◌==◌, if◌then◌else◌, Some, None, option_and_then, is_some, AllPairs, ⊤, max, Option}
 use Rattle.std.specs.List.{list_all, range_with_len}
 use Rattle.std.specs.Option.{option_map_or}
 use Rattle.sha2.specs.Sha256.{sha256}
+use Rattle.quorum.specs.Quorum.{count_below}
 use Rattle.tuple_codec.specs.Operations.{Operation, Outcome}
 use Rattle.space.specs.Applying.{outcome, is_read_only}
 use Rattle.partition_tree.specs.Digests.{inner_digests, page_digests}
@@ -16,12 +17,13 @@ use Rattle.terms.specs.declared.state.Level.TheVariants as levels
 use Rattle.wire.specs.Messages.{BodyData as Body, FrameData as Frame, MessageData as Message, AuthenticatorData as Authenticator, macs, signature, ViewChangeData, NewViewData, CheckpointEntryData as CheckpointEntry, BatchEntryData as BatchEntry, request as Request, pre_prepare as PrePrepare, prepare as Prepare, commit as Commit, checkpoint as Checkpoint, view_change as ViewChange, new_view as NewView, reply as Reply, fetch as Fetch, meta as Meta, page as Page}
 use Rattle.wire.specs.Words.{carried, requests_of, frame_of, said, receivers_of}
 use Rattle.signing.specs.Heard.{heard}
-use Rattle.protocol.specs.System.Frames.{IsSealed}
-use Rattle.protocol.specs.System.Trace.{Entry, party_of, Once, Has, frames_in, Hears}
+use Rattle.protocol.specs.System.Frames.{IsSealed, leaf_of}
+use Rattle.protocol.specs.System.Trace.{Entry, party_of, is_output, Once, Has, either, frames_in, Hears}
 use Rattle.protocol.specs.System.Trace.Entry.{Invoke, Got, Tick, Executed, Installed, Sent, Accepted}
-use Rattle.protocol.specs.Replica.Selection.{is_quorum}
-use Rattle.protocol.specs.Replica.Certificates.{view, target, is_active_in, taken, count_checkpoints, low, is_in_marks, are_genuine, logged, Prepared, Committed}
+use Rattle.protocol.specs.Replica.Selection.{is_quorum, is_weak_quorum}
+use Rattle.protocol.specs.Replica.Certificates.{view, target, is_active_in, taken, latest_change, count_checkpoints, low, is_in_marks, are_genuine, logged, Prepared, Committed}
 use Rattle.reply_cache.specs.Replies.{Kept}
+use Rattle.protocol.specs.Replica.Transfers.{fetching, asked_last, NoneAsked, IsNext, in_place}
 use Rattle.protocol.specs.Replica.State.{State, IsState, Call, call_in, Ran, opening, execute, root_of, pages_of, page_text, kept_of, last_time, tuples, ran_in}
 use Rattle.wire.specs.Lists.{Each}
 
@@ -47,11 +49,35 @@ SendsBytes bytes past _ = ⊥
 abbrev pub SentBefore : List ℕ → List Entry → Type 0
 SentBefore bytes past = Once (SendsBytes bytes) past
 
+-- The running event has sent these bytes.
+abbrev pub SentInEvent : List ℕ → List Entry → Type 0
+SentInEvent bytes [] = ⊥
+SentInEvent bytes (e ∷ past) = either (is_output e) (SendsBytes bytes past e ⊎ SentInEvent bytes past) ⊥
+
+-- Each earlier frame by the same leaf has these very bytes: no one-time key signs two bodies.
+abbrev pub HasOwnLeaf : List ℕ → List Entry → Type 0
+HasOwnLeaf bytes past =
+    (leaf : ℕ) (sent : List ℕ) → leaf_of bytes ≡ Some leaf → leaf_of sent ≡ Some leaf → SentBefore sent past
+    → sent ≡ bytes
+
 -- a page of this index and text was got
 abbrev pub GetsPage : Configuration → ℕ → ℕ → List ℕ → List Entry → Entry → Type 0
 GetsPage c me i text past (Got p bytes) =
     (sender number : ℕ) × (heard (members c) me bytes ≡ Some (record { sender = sender; message = Page number i text }))
 GetsPage c me i text past _ = ⊥
+
+-- at the input of the running event, the newest entry that is no output, with its past
+abbrev pub AtInput : (List Entry → Entry → Type 0) → List Entry → Type 0
+AtInput P [] = ⊥
+AtInput P (e ∷ past) = either (is_output e) (AtInput P past) (P past e)
+
+abbrev pub IsTick : Entry → Type 0
+IsTick e = elim e [ Tick p ↦ ⊤ | _ ↦ ⊥ ]
+
+-- the client's ordered request of this timestamp is got
+abbrev pub GetsOrdered : Configuration → ℕ → ℕ → ℕ → List Entry → Entry → Type 0
+GetsOrdered c me client timestamp past e =
+    (op : Operation) × Hears c me (record { sender = client; message = Request timestamp modes.Ordered op }) past e
 
 -- a part of a checkpoint was asked for by the replica s
 abbrev pub WasAsked : Configuration → ℕ → List Entry → ℕ → ℕ → Level → ℕ → Type 0
@@ -95,18 +121,14 @@ still_waiting st waiting = filter (λ call. nat_lt (last_time st call.client) ca
 abbrev pub snapshots_after : Configuration → State → List State → List State
 snapshots_after c st snapshots = if st.number % c.period == 0 then st ∷ snapshots else snapshots
 
--- the page is the state's own, or was got for its place
-abbrev pub IsHeld : Configuration → ℕ → List Entry → State → ℕ → List ℕ → Type 0
-IsHeld c me past st i text = (text ≡ page_text st i) ⊎ Once (GetsPage c me i text) past
-
--- What an installation leaves: a state of the number and root, made of such pages, and kept as a snapshot; what it has
--- run waits no more.
+-- What an installation leaves: the state of the number and root whose pages are those in place, kept as a snapshot; what
+-- it has run waits no more.
 pub record IsInstalled (c : Configuration) (me : ℕ) (past : List Entry) (old : Point) (k : ℕ) (root : List ℕ)
     (new : Point) : Type 0 where
   pub is_state : IsState new.state
   pub number : new.state.number ≡ k
   pub root_is : root_of new.state ≡ root
-  pub pages : (i : ℕ) → i < 1024 → IsHeld c me past old.state i (page_text new.state i)
+  pub pages : (i : ℕ) → i < 1024 → page_text new.state i ≡ in_place c me k past old.state i
   pub snapshots : new.snapshots ≡ new.state ∷ old.snapshots
   pub ran : new.ran ≡ old.ran
   pub waiting : new.waiting ≡ still_waiting new.state old.waiting
@@ -162,7 +184,38 @@ pub record IsPrePreparedList (c : Configuration) (me : ℕ) (past : List Entry)
       → Has (λ x. (x.number ≡ i) × (x.digest ≡ sha256 batch) × (v ≤ x.view)) batch_entries
   pub differ : AllPairs (λ x y. (x.number ≡ y.number) → x.digest ≢ y.digest) batch_entries
 
--- a view change for a view above the own one and above those sent before, with what the history says
+-- ---- why a replica changes its view (Castro and Liskov, TOCS 2002, 4.5.2)
+
+-- the input of the newest event, and the past before it
+abbrev pub last_input : List Entry → Option (Entry × List Entry)
+last_input [] = None
+last_input (e ∷ past) = if is_output e then last_input past else Some (e, past)
+
+-- the view that the replica is in, or the later one for which it left it
+abbrev pub sought_view : Configuration → List Entry → ℕ
+sought_view c past = max (view c past) (target past)
+
+-- A tick began the event. A request waits, or the replica was inactive; and the view is the next.
+pub record TimesOut (c : Configuration) (me : ℕ) (past : List Entry) (waiting : List Call) (v : ℕ) : Type 0 where
+  pub before : List Entry
+  pub tick : last_input past ≡ Some (Tick me, before)
+  pub waits : (waiting ≢ []) ⊎ (view c before < target before)
+  pub next : v ≡ suc (sought_view c before)
+
+-- another replica's latest view change is for a view above the sought one
+abbrev pub is_ahead : Configuration → ℕ → List Entry → ℕ → Bool
+is_ahead c me past s = not (s == me) && nat_lt (sought_view c past) (latest_change c past s)
+
+-- f + 1 others are ahead, and the view is the least of theirs
+pub record JoinsOthers (c : Configuration) (me : ℕ) (past : List Entry) (v : ℕ) : Type 0 where
+  pub enough : is_weak_quorum c (count_below (is_ahead c me past) (replicas c)) ≡ true
+  pub of_one : (s : ℕ) × (s < replicas c) × (is_ahead c me past s ≡ true) × (latest_change c past s ≡ v)
+  pub least : (s : ℕ) → s < replicas c → is_ahead c me past s ≡ true → v ≤ latest_change c past s
+
+-- ---- a new view change
+
+-- A view change for a view above the own one and above those sent before, with what the history says. It has a reason:
+-- a timeout, or others to join.
 pub record IsNewViewChange (c : Configuration) (me : ℕ) (past : List Entry) (point : Point)
     (vc : ViewChangeData) : Type 0 where
   pub above : view c past < vc.view
@@ -172,6 +225,7 @@ pub record IsNewViewChange (c : Configuration) (me : ℕ) (past : List Entry) (p
   pub checkpoints : vc.checkpoints ≡ map checkpoint_of (reverse (kept_states vc.low point.snapshots))
   pub prepared : IsPreparedList c me past vc.prepared
   pub proposed : IsPrePreparedList c me past vc.pre_prepared
+  pub reason : TimesOut c me past point.waiting vc.view ⊎ JoinsOthers c me past vc.view
 
 -- ---- what may be installed, and asked for
 
@@ -191,20 +245,40 @@ IsRootWanted c past k root = HadQuorum c (record { number = k; digest = root }) 
 abbrev pub MayInstall : Configuration → List Entry → Point → ℕ → List ℕ → Type 0
 MayInstall c past point k root = (point.state.number < k) × IsRootWanted c past k root
 
--- parts are asked for of a state that may be installed
-abbrev pub MayFetch : Configuration → List Entry → Point → ℕ → Type 0
-MayFetch c past point k = (root : List ℕ) × MayInstall c past point k root
+-- at a tick, the part that was asked for last
+abbrev pub IsAskedAgain : List Entry → ℕ → Level → ℕ → Type 0
+IsAskedAgain past k level index =
+    (asked_last past ≡ Some (k, (level, index))) × NoneAsked past × AtInput (λ before e. IsTick e) past
+
+-- A part is asked for of a state that may be installed, and of none while a newer one is fetched: the next part, or the
+-- last one again.
+pub record MayFetch (c : Configuration) (me : ℕ) (past : List Entry) (point : Point) (k : ℕ) (level : Level)
+    (index : ℕ) : Type 0 where
+  pub root : List ℕ
+  pub may : MayInstall c past point k root
+  pub newest : fetching past ≤ k
+  pub next : IsNext c me past (in_place c me k past point.state) k root level index ⊎ IsAskedAgain past k level index
 
 -- ---- what may be sent. Each clause covers sending again too.
 
--- the active primary proposes, over requests authentic to it, for a number in the marks, one batch a view and number
-pub record MayPrePrepare (c : Configuration) (me : ℕ) (past : List Entry) (e : Entry) (v i : ℕ)
+-- The number that the primary gives next in the view v. Below it, down to the low mark, each number has a batch in the
+-- view; from it on none has one. It is in the marks, and at most two above the executed one.
+pub record IsFree (c : Configuration) (me : ℕ) (past : List Entry) (executed v number : ℕ) : Type 0 where
+  pub in_marks : is_in_marks c (low c me past) number ≡ true
+  pub near : number ≤ executed + 2
+  pub used : (j : ℕ) → low c me past < j → j < number → is_some (logged c me past v j) ≡ true
+  pub unused : (j : ℕ) → number ≤ j → logged c me past v j ≡ None
+
+-- The active primary proposes, over requests authentic to it, for a number in the marks, one batch a view and number.
+-- If the number has no batch yet, it is the next one.
+pub record MayPrePrepare (c : Configuration) (me : ℕ) (past : List Entry) (point : Point) (e : Entry) (v i : ℕ)
     (batch : List ℕ) : Type 0 where
   pub is_primary : primary c v ≡ me
   pub active : is_active_in c past v ≡ true
   pub in_marks : is_in_marks c (low c me past) i ≡ true
   pub genuine : are_genuine c me batch ≡ true
   pub one : logged c me (e ∷ past) v i ≡ Some batch
+  pub next : logged c me past v i ≡ None → IsFree c me past point.state.number v i
 
 -- an active backup prepares what is logged
 pub record MayPrepare (c : Configuration) (me : ℕ) (past : List Entry) (v i : ℕ) (digest : List ℕ) : Type 0 where
@@ -242,12 +316,14 @@ MayNewView c me past e bytes new =
 abbrev pub reply_of : ℕ → Kept → Message
 reply_of k kept = Reply (256 + k) kept.timestamp modes.Ordered kept.number kept.outcome
 
--- a reply is of a request that ran in the event, or the client's kept one
-abbrev pub MayReplyOrdered : Point → ℕ → ℕ → ℕ → Outcome → Type 0
-MayReplyOrdered point client timestamp number answer =
+-- A reply is of a request that ran in the event. Or it is the client's kept one, and the event's input is that request
+-- of the client.
+abbrev pub MayReplyOrdered : Configuration → ℕ → List Entry → Point → ℕ → ℕ → ℕ → Outcome → Type 0
+MayReplyOrdered c me past point client timestamp number answer =
     Has (λ ran. reply_of ran.call.client ran.kept ≡ Reply client timestamp modes.Ordered number answer) point.ran
     ⊎ ((k : ℕ) × (kept : Kept)
-    × (kept_of point.state k ≡ Some kept) × (reply_of k kept ≡ Reply client timestamp modes.Ordered number answer))
+    × (kept_of point.state k ≡ Some kept) × (reply_of k kept ≡ Reply client timestamp modes.Ordered number answer)
+    × AtInput (GetsOrdered c me client timestamp) past)
 
 -- a read that was got is answered from the executed state, with its number
 pub record MayReplyRead (c : Configuration) (me : ℕ) (past : List Entry) (point : Point) (client timestamp number : ℕ)
@@ -261,7 +337,7 @@ pub record MayReplyRead (c : Configuration) (me : ℕ) (past : List Entry) (poin
 -- an ordered reply and a read-only one each have their rule
 abbrev pub MayReply : Configuration → ℕ → List Entry → Point → ℕ → ℕ → Mode → ℕ → Outcome → Type 0
 MayReply c me past point client timestamp modes.Ordered number answer =
-    MayReplyOrdered point client timestamp number answer
+    MayReplyOrdered c me past point client timestamp number answer
 MayReply c me past point client timestamp modes.ReadOnly number answer =
     MayReplyRead c me past point client timestamp number answer
 
@@ -288,7 +364,7 @@ MayPage c me past point k index text =
 -- Each message has its rule. A replica makes no requests.
 abbrev pub MaySay : Configuration → ℕ → List Entry → Point → Entry → List ℕ → Message → Type 0
 MaySay c me past point e bytes (Request timestamp mode op) = ⊥
-MaySay c me past point e bytes (PrePrepare v i batch) = MayPrePrepare c me past e v i batch
+MaySay c me past point e bytes (PrePrepare v i batch) = MayPrePrepare c me past point e v i batch
 MaySay c me past point e bytes (Prepare v i digest) = MayPrepare c me past v i digest
 MaySay c me past point e bytes (Commit v i digest) = MayCommit c me past v i digest
 MaySay c me past point e bytes (Checkpoint k root) = MayCheckpoint c past point k root
@@ -296,7 +372,7 @@ MaySay c me past point e bytes (ViewChange vc) = MayViewChange c me past point b
 MaySay c me past point e bytes (NewView new) = MayNewView c me past e bytes new
 MaySay c me past point e bytes (Reply client timestamp mode number answer) =
     MayReply c me past point client timestamp mode number answer
-MaySay c me past point e bytes (Fetch k level index) = MayFetch c past point k
+MaySay c me past point e bytes (Fetch k level index) = MayFetch c me past point k level index
 MaySay c me past point e bytes (Meta k level index digests) = MayMeta c me past point k level index digests
 MaySay c me past point e bytes (Page k index text) = MayPage c me past point k index text
 
@@ -320,7 +396,8 @@ abbrev pub IsAddressed : Configuration → ℕ → List Entry → Message → Au
 IsAddressed c me past message (macs entries) = IsFor c me past message (receivers_of (macs entries))
 IsAddressed c me past message (signature s) = ⊤
 
--- a frame of the replica's own, sealed for those it is for, or signed, over frames that it has seen
+-- A frame of the replica's own, sealed for those it is for, or signed by a leaf of its own, over frames that it has
+-- seen. One event sends it once: its bytes name its receivers, so no party gets it twice.
 pub record MaySend (c : Configuration) (me : ℕ) (past : List Entry) (point : Point) (e : Entry)
     (bytes : List ℕ) : Type 0 where
   pub body : Body
@@ -330,6 +407,8 @@ pub record MaySend (c : Configuration) (me : ℕ) (past : List Entry) (point : P
   pub say : MaySay c me past point e bytes body.message
   pub is_sealed : (frame : Frame) → frame_of bytes ≡ Some frame
       → IsSealed c frame × IsAddressed c me past body.message frame.authenticator
+  pub leaf : HasOwnLeaf bytes past
+  pub once : SentInEvent bytes past → ⊥
 
 -- ---- what may be executed
 

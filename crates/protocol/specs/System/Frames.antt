@@ -1,9 +1,9 @@
 -- What a frame of a party's own is. What bytes spell and say, and what a party hears from them, are the words of the
 -- crates wire and signing.
-use Rattle.std.specs.Prelude.{◌≡◌, ℕ, Bool, true, false, List, Some, All}
+use Rattle.std.specs.Prelude.{◌≡◌, ℕ, Bool, true, false, List, Option, Some, None, option_and_then, slice_get, All}
 use Rattle.terms.specs.declared.order.Mode.{Mode}
 use Rattle.terms.specs.declared.order.Mode.TheVariants as modes
-use Rattle.wire.specs.Messages.{MessageData as Message, macs, signature, FrameData as Frame}
+use Rattle.wire.specs.Messages.{MessageData as Message, AuthenticatorData as Authenticator, macs, signature, FrameData as Frame}
 use Rattle.wire.specs.Words.{frame_of, said, receivers_of}
 use Rattle.authenticator.specs.Authentic.{mac_of}
 use Rattle.signing.specs.Heard.{has_signature}
@@ -21,6 +21,14 @@ pub record IsPosted (c : Configuration) (me : ℕ) (message : Message) (receiver
   pub says : said bytes ≡ Some (record { sender = me; message = message })
   pub is_sealed : (frame : Frame) → frame_of bytes ≡ Some frame
       → IsSealed c frame × (receivers_of frame.authenticator ≡ receivers)
+
+-- The leaf by which a frame is signed, of the 64 of its sender's one-time keys: the first byte of the signature.
+abbrev pub leaf_in : Authenticator → Option ℕ
+leaf_in (macs entries) = None
+leaf_in (signature s) = slice_get s 0
+
+abbrev pub leaf_of : List ℕ → Option ℕ
+leaf_of bytes = option_and_then (λ frame. leaf_in frame.authenticator) (frame_of bytes)
 
 -- two modes are one
 abbrev pub same_mode : Mode → Mode → Bool

@@ -1,10 +1,10 @@
-use Rattle.std.proofs.Common.{◌≡◌, [], ◌++◌, ◌<◌, ◌^◌, List, ℕ, length, subst, sym, ◌∙◌, ap, append-nil}
+use Rattle.std.proofs.Common.{◌≡◌, [], ◌++◌, ◌<◌, ◌^◌, List, ℕ, length, slice_get, subst, sym, ◌∙◌, ap, append-nil}
 use Rattle.tuple_tree.specs.Values.{AreBytes}
 use Rattle.wire.specs.Messages.{signature}
 use Rattle.wire.specs.Spelling.{authenticator_spelling, body_spelling, piece}
 use Rattle.wire.specs.Views.{body_data, message_data}
 use Rattle.authenticator.proofs.Frames.{piece-short}
-use Rattle.posting.proofs.Posting.{spells_signed}
+use Rattle.posting.proofs.Posting.{begins_with_leaf, spells_signed}
 use Rattle.posting.proofs.signing_frames.sign_body.Goals as goal
 
 pub returns-clause-spells : goal.returns-clause-spells
@@ -17,5 +17,6 @@ returns-clause-spells c =
     let whole : c.put_authenticator.new.frame.items ≡ piece text ++ authenticator_spelling (signature c.in_ok-signature.signature) =
     c.in_ok-put_authenticator.ensures.ok ∙ ap (λ (x : List ℕ). x ++ authenticator_spelling (signature c.into_bytes.result.items)) c.in_ok-frame.ensures.ok
     ∙ ap (λ (x : List ℕ). piece text ++ authenticator_spelling (signature x)) signed in
-    spells_signed c.args.signer.now.seed (body_data c.args.body.now) c.body_bytes.result.now c.in_ok-signature.signature c.put_authenticator.new.frame.items
+    spells_signed c.args.signer.now.seed c.args.signer.now.used (body_data c.args.body.now) c.body_bytes.result.now c.in_ok-signature.signature c.put_authenticator.new.frame.items
     c.requires.said c.requires.signed c.in_ok-frame.ensures.short shown c.in_ok-signature.ensures.verifies whole (subst AreBytes c.deref-2.ensures.value c.note_bytes.ensures)
+    (ap (λ (s : List ℕ). slice_get s 0) c.in_ok-signature.ensures.value ∙ begins_with_leaf c.args.signer.now.seed c.args.signer.now.used c.body_bytes.result.now)

@@ -3,4 +3,4 @@ use Rattle.replica_histories.proofs.NumbersGiven
 use Rattle.replica_histories.proofs.laws.numbers_are_given.Goals as goal
 
 pub returns : goal.returns
-returns c = record { fit = NumbersGiven.numbers_fit; all = Numbers.numbers_are_given; fewer = Numbers.numbers_leave_fewer }
+returns c = record { fit = NumbersGiven.numbers_fit; free = Numbers.next_is_free; all = Numbers.numbers_are_given; fewer = Numbers.numbers_leave_fewer }

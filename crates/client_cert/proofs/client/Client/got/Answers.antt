@@ -29,3 +29,16 @@ returns-in-Ok-clause-leads c =
     (ap (λ s. s.stopped) c.self.view_is ∙ c.requires) (sym c.take.ensures.value ∙ c.in-Some.is)
     (rw c.in-Ok-Accept.field-0-is at c.in-Ok-Accept.ensures.weighs) (rw (c.in-Ok.ensures.given, c.new-outputs.ensures.items) refl)
     (record { number = refl; membership = c.weigh-turned.ensures.same; calls = refl; call_is = c.take.ensures.after }))
+
+pub returns-in-None-clause-meant : goal.returns-in-None-clause-meant
+returns-in-None-clause-meant c = rw c.new.ensures.items (λ k known. tt)
+
+pub returns-in-Ok-Nothing-clause-meant : goal.returns-in-Ok-Nothing-clause-meant
+returns-in-Ok-Nothing-clause-meant c = rw c.new-in-Ok-Nothing.ensures.items (λ k known. tt)
+
+pub returns-in_ok-asked-in-Ok-Ask-clause-meant : goal.returns-in_ok-asked-in-Ok-Ask-clause-meant
+returns-in_ok-asked-in-Ok-Ask-clause-meant c =
+    rw (← c.self.view_is) (λ k known. c.in_ok-asked-in-Ok-Ask.ensures.asked.meant k (known ∙ sym c.weigh-turned.ensures.same))
+
+pub returns-in-Ok-clause-meant : goal.returns-in-Ok-clause-meant
+returns-in-Ok-clause-meant c = rw (c.in-Ok.ensures.given, c.new-outputs.ensures.items) (λ k known. (tt, tt))

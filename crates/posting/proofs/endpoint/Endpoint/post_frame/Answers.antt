@@ -1,7 +1,18 @@
 use Rattle.std.proofs.Common.{◌+◌, ◌*◌, ℕ, List, ap, ◌∙◌}
 use Rattle.protocol.specs.System.Trace.Entry.{Sent}
 use Rattle.posting.specs.Endpoint.{others_below}
+use Rattle.posting.proofs.Posting.{signed_goes}
 use Rattle.posting.proofs.endpoint.Endpoint.post_frame.Goals as goal
+
+pub returns-clause-sends : goal.returns-clause-sends
+returns-clause-sends c =
+    rw (← c.self.view_is)
+    (record {
+      sends = ap (λ (bytes : List ℕ). Sent c.self.inside.me.0 bytes) c.in_ok-frame.ensures.items;
+      goes = c.in_ok-receivers.ensures ∙ ap (λ (f : ℕ). others_below (3 * f + 1) c.self.inside.me.0) c.self.invariant.0;
+      meant = λ k message known posted. signed_goes c.self.inside.ring c.self.inside.me.0 c.self.inside.faults message _ c.args.frame.now _ c.self.invariant.3 c.self.invariant.0
+          (c.in_ok-receivers.ensures ∙ ap (λ (f : ℕ). others_below (3 * f + 1) c.self.inside.me.0) c.self.invariant.0) c.in_ok-frame.ensures.items k known posted;
+    })
 
 pub returns-clause-posts : goal.returns-clause-posts
 returns-clause-posts c =
@@ -11,4 +22,6 @@ returns-clause-posts c =
       sends = ap (λ (bytes : List ℕ). Sent c.self.inside.me.0 bytes) c.in_ok-frame.ensures.items;
       goes = c.in_ok-receivers.ensures ∙ ap (λ (f : ℕ). others_below (3 * f + 1) c.self.inside.me.0) c.self.invariant.0;
       posted = own;
+      meant = λ k known. signed_goes c.self.inside.ring c.self.inside.me.0 c.self.inside.faults message _ c.args.frame.now _ c.self.invariant.3 c.self.invariant.0
+          (c.in_ok-receivers.ensures ∙ ap (λ (f : ℕ). others_below (3 * f + 1) c.self.inside.me.0) c.self.invariant.0) c.in_ok-frame.ensures.items k known (own k known);
     })

@@ -1,5 +1,6 @@
 use Rattle.wire.specs.Views.{message_data}
-use Rattle.posting.proofs.Posting.{may_say, signs_own}
+use Rattle.posting.specs.Endpoint.{says}
+use Rattle.posting.proofs.Posting.{may_say, signs_own, signs_by}
 use Rattle.posting.proofs.endpoint.Endpoint.sign.Goals as goal
 
 pub sign_message-requires-clause-said : goal.sign_message-requires-clause-said
@@ -9,5 +10,10 @@ sign_message-requires-clause-said c =
 pub returns-clause-frame : goal.returns-clause-frame
 returns-clause-frame c =
     rw (← c.self.view_is)
-    (signs_own c.sign_message.result c.self.inside.ring c.self.inside.signer.seed c.self.inside.me.0 (message_data c.args.message)
+    (signs_own c.sign_message.result c.self.inside.ring c.self.inside.signer.seed c.self.inside.me.0 c.self.inside.signer.used (message_data c.args.message)
     c.sign_message.ensures.spells c.self.invariant.5)
+
+pub returns-clause-leaf : goal.returns-clause-leaf
+returns-clause-leaf c =
+    rw (← c.self.view_is)
+    (signs_by c.sign_message.result c.self.inside.signer.seed c.self.inside.signer.used (says c.self.inside.me.0 (message_data c.args.message)) c.sign_message.ensures.spells)

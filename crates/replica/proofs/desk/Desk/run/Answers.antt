@@ -1,4 +1,4 @@
-use Rattle.std.proofs.Common.{◌≡◌, ℕ, suc, ◌∙◌, ap}
+use Rattle.std.proofs.Common.{◌≡◌, ℕ, suc, ◌∙◌, ap, arith}
 use Rattle.protocol.specs.System.Trace.Entry.{Executed}
 use Rattle.replica.specs.State.{DeskData}
 use Rattle.replica.specs.DeskView.{desk_data}
@@ -14,7 +14,7 @@ returns-clause-ok c =
     rw (← c.self.view_is)
     (runs_batch old c.close_reached.new.self c.execute.new.self c.args.text.now c.in_ok-ran.ran.items _ c.args.outputs.now.items c.give.new.outputs.items
     (ran_so old kept c.close_reached.new.self c.execute.new.self c.forget.new.self kept_is c.forget.ensures c.close_reached.ensures)
-    c.self.invariant c.in_ok-ran.ensures.executed c.in_ok-ran.ensures.number
+    c.self.invariant c.is_state.ensures (omega (arith, c.clients-clients.ensures.value, c.clients-clients.ensures.most)) c.are_few.ensures c.in_ok-ran.ensures.executed c.in_ok-ran.ensures.number
     (ap (λ (n : ℕ). Executed old.me n c.in_ok-copy.copy.items)
     (c.number.ensures.value ∙ ap (λ e. e.state.number) (kept_executed (record old { executed = c.execute.new.self }) kept kept_is) ∙ c.in_ok-ran.ensures.number ∙ one_more old.executed.state.number)
     ∙ ap (Executed old.me (suc old.executed.state.number)) c.in_ok-copy.ensures.items)

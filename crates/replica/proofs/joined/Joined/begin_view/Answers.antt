@@ -1,12 +1,13 @@
-use Rattle.std.proofs.Common.{◌≡◌, ℕ, Vec, ap, ◌∙◌}
-use Rattle.std.specs.declared.alloc.Global.{Global}
+use Rattle.std.proofs.Common.{◌≡◌, ◌+◌, ap, ◌∙◌}
 use Rattle.view_change.specs.declared.changes.Selection.{Selection}
 use Rattle.view_change.specs.Sets.{texts_of}
 use Rattle.replica.specs.State.{OrdererData, JoinedData}
 use Rattle.replica.specs.JoinedView.{joined_data}
-use Rattle.replica.specs.EnteringViews.{IsSelection, SignsView, new_view_of}
+use Rattle.replica.specs.EnteringViews.{IsSelection, new_view_of}
 use Rattle.replica.proofs.ChangingViews.{of_some}
-use Rattle.replica.proofs.OwnViews.{begins_so, selects_few, starts_small}
+use Rattle.replica.proofs.OwnViews.{begins_so, signs_in, selects_few, starts_small}
+use Rattle.wire.specs.Lists.{Each}
+use Rattle.wire.specs.Spelling.{IsBatch}
 use Rattle.replica.proofs.joined.Joined.begin_view.Goals as goal
 
 pub enter-requires-clause-start : goal.enter-requires-clause-start
@@ -14,24 +15,33 @@ enter-requires-clause-start c =
     let s = c.in-Some.selection in
     let o = c.self.inside.orderer in
     starts_small o s.start.0 s.root c.in-Some-2.frame.items (texts_of s.batches.items)
-    (of_some (λ (x : Vec ℕ Global). SignsView o (new_view_of o s.start.0 s.root (texts_of s.batches.items)) x.items) c.in_ok-frame.field-0 c.in-Some-2.frame c.in-Some-2.is c.in_ok-frame.ensures.signs)
+    (signs_in o (new_view_of o s.start.0 s.root (texts_of s.batches.items)) c.sign_new_view.new.self c.in_ok-frame.field-0 c.in-Some-2.frame c.in-Some-2.is c.in_ok-frame.ensures.signs).0
 
 pub enter-requires-clause-few : goal.enter-requires-clause-few
 enter-requires-clause-few c =
     let s = c.in-Some.selection in
     selects_few c.self.inside.orderer s.start.0 s.root s.batches.items
-    (of_some (λ (x : Selection). IsSelection c.self.inside.orderer x.start.0 x.root (texts_of x.batches.items)) c.in_ok-selection.field-0 s c.in-Some.is c.in_ok-selection.ensures)
+    (of_some (λ (x : Selection). IsSelection c.self.inside.orderer x.start.0 x.root (texts_of x.batches.items)) c.in_ok-selection.field-0 s c.in-Some.is c.in_ok-selection.ensures.selects)
 
 pub returns-clause-ok : goal.returns-clause-ok
 returns-clause-ok c =
     let s = c.in-Some.selection in
     let o = c.self.inside.orderer in
-    let same : c.sign_new_view.new.self ≡ o = c.sign_new_view.ensures.same in
+    let same : c.sign_new_view.new.self ≡ record o { spent = o.spent + 1 } =
+    (signs_in o (new_view_of o s.start.0 s.root (texts_of s.batches.items)) c.sign_new_view.new.self c.in_ok-frame.field-0 c.in-Some-2.frame c.in-Some-2.is c.in_ok-frame.ensures.signs).1 in
     let with_orderer : OrdererData → JoinedData = λ x. record (joined_data c.self.inside) { orderer = x } in
     let mid_is = ap with_orderer same in
     rw (← c.self.view_is)
     (begins_so c.sizes_decide.ensures.decide (joined_data c.self.inside) s.start.0 s.root c.in-Some-2.frame.items (texts_of s.batches.items) c.args.outputs.now.items c.say_frame.new.outputs.items
     c.enter.new.outputs.items c.enter.new.self _ c.deref.result.now c.sign_new_view.new.self _ c.self.invariant c.keeps.ensures.own c.keeps.ensures.log c.keeps-2.ensures.0
-    (of_some (λ (x : Selection). IsSelection o x.start.0 x.root (texts_of x.batches.items)) c.in_ok-selection.field-0 s c.in-Some.is c.in_ok-selection.ensures)
-    (of_some (λ (x : Vec ℕ Global). SignsView o (new_view_of o s.start.0 s.root (texts_of s.batches.items)) x.items) c.in_ok-frame.field-0 c.in-Some-2.frame c.in-Some-2.is c.in_ok-frame.ensures.signs)
+    (of_some (λ (x : Selection). IsSelection o x.start.0 x.root (texts_of x.batches.items)) c.in_ok-selection.field-0 s c.in-Some.is c.in_ok-selection.ensures.selects)
+    (signs_in o (new_view_of o s.start.0 s.root (texts_of s.batches.items)) c.sign_new_view.new.self c.in_ok-frame.field-0 c.in-Some-2.frame c.in-Some-2.is c.in_ok-frame.ensures.signs).0
     same c.deref.ensures.value c.in_ok-say_frame.ensures (ap (λ (x : JoinedData). x.orderer.target) (ap joined_data c.self-inside.view_is ∙ mid_is)) mid_is c.in_ok-enter.ensures.ok)
+
+pub sign_new_view-requires-clause-batches : goal.sign_new_view-requires-clause-batches
+sign_new_view-requires-clause-batches c =
+    of_some (λ (x : Selection). Each (IsBatch 0) (texts_of x.batches.items)) c.in_ok-selection.field-0 c.in-Some.selection c.in-Some.is c.in_ok-selection.ensures.batches
+
+pub enter-requires-clause-batches : goal.enter-requires-clause-batches
+enter-requires-clause-batches c =
+    of_some (λ (x : Selection). Each (IsBatch 0) (texts_of x.batches.items)) c.in_ok-selection.field-0 c.in-Some.selection c.in-Some.is c.in_ok-selection.ensures.batches

@@ -8,7 +8,8 @@ pub returns : goal.returns
 returns c = record {
   ok = gives_number c.in-Some.number.0 c.args.self.now c.number_next.new.self c.args.outputs.now.items c.number_next.new.outputs.items
       (subst (λ (r : JoinedData). AreOne r.orderer r.desk) c.self.view_is c.self.invariant)
-      (let next = c.in-Some.ensures.next in omega (arith, next))
+      c.in-Some.ensures.next
+      (let next = c.in-Some.ensures.next in let near = c.in-Some.ensures.free.2 in omega (arith, next, near))
       c.in-Some.ensures.within
       c.in-Some.ensures.free.3
       c.in-Some.ensures.free.0

@@ -8,6 +8,8 @@ use Rattle.replica.specs.JoinedView.{joined_data}
 use Rattle.replica.specs.State.{JoinedData}
 use Rattle.replica.proofs.NewViewsCome.{enters_with, new_view_dropped, new_view_entered, right_views_are_small}
 use Rattle.replica.proofs.ViewsEntered.{start_in}
+use Rattle.wire.specs.Lists.{Each}
+use Rattle.wire.specs.Spelling.{IsBatch}
 use Rattle.replica.proofs.joined.Joined.on_new_view.Goals as goal
 
 pub returns-then-not-branch-clause-ok : goal.returns-then-not-branch-clause-ok
@@ -36,3 +38,6 @@ returns-clause-ok c = rw (← c.self.view_is)
     (subst (λ (r : JoinedData). Enters (new_view_data c.args.message).view (start_in (new_view_data c.args.message)) (new_view_data c.args.message).batches None r [] c.enter.new.self c.enter.new.outputs.items) (sym c.self.view_is)
     (enters_with (new_view_data c.args.message) c.in_ok-selection.selection.start.0 c.in_ok-selection.selection.root _ c.args.self.now c.enter.new.self c.args.outputs.now.items c.enter.new.outputs.items
     c.in_ok-selection.ensures.start c.in_ok-selection.ensures.root c.in_ok-selection.ensures.batches c.requires.first c.in_ok-enter.ensures.ok)))
+
+pub enter-requires-clause-batches : goal.enter-requires-clause-batches
+enter-requires-clause-batches c = subst (Each (IsBatch 0)) (sym c.in_ok-selection.ensures.batches) c.requires.batches

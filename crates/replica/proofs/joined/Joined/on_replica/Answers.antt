@@ -1,6 +1,12 @@
 use Rattle.std.proofs.Common.{rules}
+use Rattle.replica.proofs.Answering.{fetch_within}
 use Rattle.replica.proofs.Beginning.{other_dropped}
+use Rattle.replica.proofs.Batches.{heard_batch, heard_batches}
 use Rattle.replica.proofs.joined.Joined.on_replica.Goals as goal
+
+pub on_fetch-requires-clause-place : goal.on_fetch-requires-clause-place
+on_fetch-requires-clause-place c =
+    fetch_within c.args.self.now.desk.membership c.args.self.now.desk.me c.args.frame.now c.args.sender.0 c.args.message c.in-Fetch.message c.requires.heard c.in-Fetch.is
 
 pub returns : goal.returns
 returns c = record {
@@ -13,6 +19,17 @@ returns c = record {
         c.in_default.not-Fetch,
         c.in_default.not-ViewChange,
         c.in_default.not-NewView,
+        c.in_default.not-Meta,
+        c.in_default.not-Page,
       ) c.args.frame.now c.requires.heard);
   endpoint = search rules;
 }
+
+pub on_pre_prepare-requires : goal.on_pre_prepare-requires
+on_pre_prepare-requires c = record {
+  batch = heard_batch c.args.self.now.desk.membership c.args.self.now.desk.me c.args.sender.0 c.args.frame.now c.args.message c.in-PrePrepare.message c.requires.heard c.in-PrePrepare.is;
+}
+
+pub on_new_view-requires-clause-batches : goal.on_new_view-requires-clause-batches
+on_new_view-requires-clause-batches c =
+    heard_batches c.args.self.now.desk.membership c.args.self.now.desk.me c.args.sender.0 c.args.frame.now c.args.message c.in-NewView.message c.requires.heard c.in-NewView.is

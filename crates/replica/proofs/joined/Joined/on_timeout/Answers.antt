@@ -1,6 +1,9 @@
 use Rattle.std.proofs.Common.{List, subst}
 use Rattle.events.specs.declared.output.Output.{Output}
-use Rattle.replica.specs.Changing.{ChangesView}
+use Rattle.terms.specs.declared.order.View.{View}
+use Rattle.replica.specs.Changing.{ChangesView, IsDue, IsNotDue}
+use Rattle.replica.proofs.ChangingViews.{of_some}
+use Rattle.replica.proofs.Unsayable.{of_none}
 use Rattle.replica.specs.Fetching.{SaysFetch}
 use Rattle.replica.proofs.Ticking.{ticks_nothing, ticks_in_place, ticks_on}
 use Rattle.replica.proofs.joined.Joined.on_timeout.Goals as goal
@@ -10,6 +13,7 @@ returns-in_default-clause-ok c =
     let old = c.args.self.now in
     let outs = c.say_fetch.new.outputs.items in
     ticks_nothing old c.are_one.ensures c.say_fetch.new.self outs c.in_ok-say_fetch.ensures.same
+    (of_none (IsNotDue c.say_fetch.new.self) c.due_view.result c.in_default.is c.due_view.ensures.none)
     (subst (λ (os : List Output). SaysFetch old os outs) c.requires.first c.in_ok-say_fetch.ensures.ok)
 
 pub returns-then-not-branch-clause-ok : goal.returns-then-not-branch-clause-ok
@@ -19,9 +23,10 @@ returns-then-not-branch-clause-ok c =
     let mid = c.change_view.new.self in
     let x = c.say_fetch.new.outputs.items in
     let outs = c.change_view.new.outputs.items in
-    ticks_in_place old c.are_one.ensures fetched mid x outs c.in_ok-say_fetch.ensures.same
+    ticks_in_place old c.are_one.ensures c.in-Some.view.0 fetched mid x outs c.judges_changes.ensures.alike c.judges_changes.ensures.changes c.in_ok-say_fetch.ensures.same
     (subst (λ (os : List Output). SaysFetch old os x) c.requires.first c.in_ok-say_fetch.ensures.ok)
-    (subst (ChangesView fetched x mid outs) c.if-not-branch.true c.in_ok-change_view.ensures.ok)
+    (of_some (λ (v : View). IsDue fetched v.0) c.due_view.result c.in-Some.view c.in-Some.is c.due_view.ensures.due)
+    (subst (ChangesView c.in-Some.view.0 fetched x mid outs) c.if-not-branch.true c.in_ok-change_view.ensures.ok)
 
 pub returns-clause-ok : goal.returns-clause-ok
 returns-clause-ok c =
@@ -32,7 +37,8 @@ returns-clause-ok c =
     let x = c.say_fetch.new.outputs.items in
     let y = c.change_view.new.outputs.items in
     let outs = c.begin_view.new.outputs.items in
-    ticks_on old c.are_one.ensures c.begin_view.result fetched mid new x y outs c.in_ok-say_fetch.ensures.same
+    ticks_on old c.are_one.ensures c.begin_view.result c.in-Some.view.0 fetched mid new x y outs c.in_ok-say_fetch.ensures.same
     (subst (λ (os : List Output). SaysFetch old os x) c.requires.first c.in_ok-say_fetch.ensures.ok)
-    (subst (ChangesView fetched x mid y) c.if-not-branch.false c.in_ok-change_view.ensures.ok)
+    (of_some (λ (v : View). IsDue fetched v.0) c.due_view.result c.in-Some.view c.in-Some.is c.due_view.ensures.due)
+    (subst (ChangesView c.in-Some.view.0 fetched x mid y) c.if-not-branch.false c.in_ok-change_view.ensures.ok)
     c.begin_view.ensures.ok

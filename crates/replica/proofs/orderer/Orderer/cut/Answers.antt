@@ -3,6 +3,7 @@ use Rattle.ordering.specs.Log.{LogData, cut_to}
 use Rattle.view_change.specs.Recording.{above_mark}
 use Rattle.replica.specs.State.{OrdererData}
 use Rattle.replica.specs.OrdererView.{orderer_data}
+use Rattle.replica.proofs.Batches.{log_cut}
 use Rattle.replica.proofs.orderer.Orderer.cut.Goals as goal
 
 pub returns : goal.returns
@@ -18,3 +19,6 @@ returns c =
       },
       ap (λ (log : LogData). let new : OrdererData = record old { log = log; claims = c.cut-2.new.self } in new) c.cut.ensures,
     )
+
+pub invariant_of-self : goal.invariant_of-self
+invariant_of-self c = log_cut (orderer_data c.self.inside) c.args.low.0 c.cut.new.self c.cut-2.new.self c.self.invariant c.keeps.ensures c.cut.ensures c.cut-2.ensures.texts

@@ -1,9 +1,15 @@
-use Rattle.std.proofs.Common.{ℕ, ◌<◌, subst}
-use Rattle.replica.proofs.JoiningOthers.{later_above, number_is_next}
+use Rattle.std.proofs.Common.{rules, ◌≡◌, sym, ap, ◌∙◌}
+use Rattle.replica.specs.Changing.{aimed_view}
+use Rattle.replica.specs.OrdererView.{orderer_data}
+use Rattle.replica.proofs.Batches.{joins_next, joins_none, joins_others}
 use Rattle.replica.proofs.orderer.Orderer.joined_view.Goals as goal
 
-pub returns-then-view-lt-VIEWS_END : goal.returns-then-view-lt-VIEWS_END
-returns-then-view-lt-VIEWS_END c =
-    number_is_next c.args.self.now c.in_ok-view.view.0
-    (subst (λ (n : ℕ). n < c.in_ok-view.view.0) c.aimed_view.ensures (later_above c.me.result.0 c.aimed_view.result.0 c.in_ok-view.view.0 c.self.inside.received.held c.in_ok-view.ensures.there))
-    c.if-view-lt-VIEWS_END.true
+pub returns : goal.returns
+returns c =
+    let o = orderer_data c.self.inside in
+    let aimed : c.aimed_view.result.0 ≡ aimed_view o = c.aimed_view.ensures ∙ ap aimed_view (sym c.self.view_is) in
+    record {
+      above = rw (← c.self.view_is) (joins_next o c.me.result.0 c.aimed_view.result c.joined_view.result c.note_held.ensures aimed c.joined_view.ensures);
+      none = rw (← c.self.view_is) (joins_none o c.me.result.0 c.aimed_view.result c.joined_view.result c.self.invariant c.note_held.ensures (search rules) aimed c.joined_view.ensures);
+      joined = rw (← c.self.view_is) (joins_others o c.me.result.0 c.aimed_view.result c.joined_view.result c.self.invariant c.note_held.ensures (search rules) aimed c.joined_view.ensures);
+    }

@@ -2,6 +2,8 @@ use Rattle.std.proofs.Common.{rules, ◌≡◌, ℕ, ◌+◌, suc, [], length, r
 use Rattle.std.specs.Vec.Iter.{into_iter_items}
 use Rattle.std.proofs.lemmas.List.{nil_from_length}
 use Rattle.ordering.specs.Log.{is_in_marks}
+use Rattle.wire.specs.Lists.{Each}
+use Rattle.wire.specs.Spelling.{IsBatch}
 use Rattle.view_change.specs.Sets.{texts_of}
 use Rattle.replica.specs.State.{OrdererData}
 use Rattle.replica.specs.EnteringViews.{LogsBatches}
@@ -16,6 +18,8 @@ loop-batch-init c =
       is_finite = tt;
       endpoint = refl;
       sizes = refl;
+      begun = refl;
+      batches = subst (λ xs. Each (IsBatch 0) (texts_of xs)) (sym gives) c.requires.batches;
       count = ap (λ (n : ℕ). c.args.start.0 + n) (ap length gives);
       left = λ new h. subst (λ xs. LogsBatches (suc c.args.start.0) (texts_of xs) c.args.self.now new) gives h;
     }
@@ -24,8 +28,20 @@ pub overflow_add-number : goal.overflow_add-number
 overflow_add-number c =
     let e = ap length c.in-Some.ensures.steps.0 in
     let k = c.loop-batch.invariant.count in
-    let r = c.requires in
+    let r = c.requires.fits in
     omega (arith, e, k, r)
+
+pub log_batch-requires-clause-batch : goal.log_batch-requires-clause-batch
+log_batch-requires-clause-batch c = (subst (λ xs. Each (IsBatch 0) (texts_of xs)) c.in-Some.ensures.steps.0 c.loop-batch.invariant.batches).0
+
+-- no number here is above those that the view began with
+pub log_batch-requires-clause-some : goal.log_batch-requires-clause-some
+log_batch-requires-clause-some c above =
+    let e = ap length c.in-Some.ensures.steps.0 in
+    let k = c.loop-batch.invariant.count in
+    let same = c.loop-batch.invariant.begun in
+    let most = c.requires.begun in
+    absurd (omega (arith, e, k, same, most, above))
 
 pub loop-batch-preserved : goal.loop-batch-preserved
 loop-batch-preserved c = record {
@@ -33,6 +49,8 @@ loop-batch-preserved c = record {
   is_finite = tt;
   endpoint = c.loop-batch.invariant.endpoint;
   sizes = c.loop-batch.invariant.sizes;
+  begun = c.loop-batch.invariant.begun;
+  batches = (subst (λ xs. Each (IsBatch 0) (texts_of xs)) c.in-Some.ensures.steps.0 c.loop-batch.invariant.batches).1;
   count = (let e = ap length c.in-Some.ensures.steps.0 in let k = c.loop-batch.invariant.count in omega (arith, e, k));
   left = log_passed (suc c.args.start.0) (texts_of c.args.batches.items) c.args.self.now c.loop-batch.self c.loop-batch.number.0 (into_iter_items c.loop-batch.batch-iterator) (into_iter_items c.next.new.self) c.in-Some.batch c.in-Some.ensures.steps.0 c.loop-batch.invariant.left
       (ap (λ (o : OrdererData). is_in_marks o.log (c.loop-batch.number.0 + 1)) (sym c.self.view_is) ∙ sym c.if-is_in_marks.ensures);
@@ -44,6 +62,8 @@ loop-batch-preserved-in-Continue-1 c = record {
   is_finite = tt;
   endpoint = c.in_ok-log_batch.ensures.endpoint ∙ c.loop-batch.invariant.endpoint;
   sizes = c.in_ok-log_batch.ensures.sizes ∙ c.loop-batch.invariant.sizes;
+  begun = ap (λ (o : OrdererData). o.begun) c.in_ok-log_batch.ensures.ok.2 ∙ c.loop-batch.invariant.begun;
+  batches = (subst (λ xs. Each (IsBatch 0) (texts_of xs)) c.in-Some.ensures.steps.0 c.loop-batch.invariant.batches).1;
   count = (let e = ap length c.in-Some.ensures.steps.0 in let k = c.loop-batch.invariant.count in omega (arith, e, k));
   left = log_added (suc c.args.start.0) (texts_of c.args.batches.items) c.args.self.now c.loop-batch.self c.loop-batch.number.0 (into_iter_items c.loop-batch.batch-iterator) (into_iter_items c.next.new.self) c.in-Some.batch c.in-Some.ensures.steps.0 c.loop-batch.invariant.left
       c.log_batch.new.self (ap (λ (o : OrdererData). is_in_marks o.log (c.loop-batch.number.0 + 1)) (sym c.self.view_is) ∙ sym c.if-is_in_marks.ensures) c.in_ok-log_batch.ensures.ok;

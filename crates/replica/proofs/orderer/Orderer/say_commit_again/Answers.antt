@@ -2,8 +2,11 @@ use Rattle.std.proofs.Common.{sym, ap, ◌∙◌}
 use Rattle.ordering.specs.Log as logs
 use Rattle.replica.specs.State.{OrdererData}
 use Rattle.replica.proofs.Results.{on_ok}
-use Rattle.replica.proofs.Again.{commit_again}
+use Rattle.replica.proofs.Again.{commit_again, no_commit_again}
 use Rattle.replica.proofs.orderer.Orderer.say_commit_again.Goals as goal
+
+pub returns-in-None-clause-ok : goal.returns-in-None-clause-ok
+returns-in-None-clause-ok c = no_commit_again c.args.number.0 c.args.self.now c.args.outputs.now.items
 
 pub returns-in-Some-clause-ok : goal.returns-in-Some-clause-ok
 returns-in-Some-clause-ok c =

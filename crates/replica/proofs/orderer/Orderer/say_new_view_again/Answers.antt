@@ -1,8 +1,11 @@
 use Rattle.std.proofs.Common.{Some, sym, ap, ◌∙◌, option_map}
 use Rattle.replica.specs.State.{OrdererData}
 use Rattle.replica.proofs.Results.{on_ok}
-use Rattle.replica.proofs.NewViews.{view_again}
+use Rattle.replica.proofs.NewViews.{view_again, no_view_again}
 use Rattle.replica.proofs.orderer.Orderer.say_new_view_again.Goals as goal
+
+pub returns-in-None-clause-ok : goal.returns-in-None-clause-ok
+returns-in-None-clause-ok c = no_view_again c.args.self.now c.args.outputs.now.items
 
 pub returns-in-Some-clause-ok : goal.returns-in-Some-clause-ok
 returns-in-Some-clause-ok c =

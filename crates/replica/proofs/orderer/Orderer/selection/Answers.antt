@@ -1,10 +1,17 @@
 use Rattle.std.proofs.Common.{rules, ap, ◌∙◌}
 use Rattle.view_change.specs.Sets.{pairs, texts_of}
 use Rattle.replica.specs.OrdererView.{orderer_data}
+use Rattle.replica.proofs.Batches.{selected_are}
 use Rattle.replica.proofs.NewViews.{held_selects}
 use Rattle.replica.proofs.orderer.Orderer.selection.Goals as goal
 
-pub returns : goal.returns
-returns c = rw (← c.self.view_is)
+pub returns-clause-selects : goal.returns-clause-selects
+returns-clause-selects c = rw (← c.self.view_is)
+    (held_selects _ (orderer_data c.self.inside) c.select.result c.sizes.result (pairs c.deref.result.now) (texts_of c.deref-2.result.now) (search rules) (search rules)
+    (search rules) (ap pairs c.deref.ensures.value ∙ c.in_ok-set.ensures.are) (ap texts_of c.deref-2.ensures.value ∙ c.in_ok-held.ensures.are) c.select.ensures)
+
+pub returns-clause-batches : goal.returns-clause-batches
+returns-clause-batches c =
+    selected_are (orderer_data c.self.inside) c.select.result c.self.invariant
     (held_selects _ (orderer_data c.self.inside) c.select.result c.sizes.result (pairs c.deref.result.now) (texts_of c.deref-2.result.now) (search rules) (search rules)
     (search rules) (ap pairs c.deref.ensures.value ∙ c.in_ok-set.ensures.are) (ap texts_of c.deref-2.ensures.value ∙ c.in_ok-held.ensures.are) c.select.ensures)

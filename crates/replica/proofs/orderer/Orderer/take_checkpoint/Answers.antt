@@ -6,6 +6,7 @@ use Rattle.replica.specs.State.{OrdererData}
 use Rattle.replica.specs.OrdererView.{orderer_data}
 use Rattle.replica.specs.Checkpoints.{TakesCheckpoint}
 use Rattle.replica.proofs.Checkpointing.{taken_by, takes_checkpoint}
+use Rattle.replica.proofs.Batches.{checkpoint_taken}
 use Rattle.replica.proofs.orderer.Orderer.take_checkpoint.Goals as goal
 
 pub returns-clause-takes : goal.returns-clause-takes
@@ -15,3 +16,6 @@ returns-clause-takes c =
     subst (λ (o : OrdererData). TakesCheckpoint o c.args.sender c.args.checkpoint.now (record old { log = c.on_checkpoint.new.self }) c.has_checkpoint.result) c.self.view_is
     (takes_checkpoint old (record old { log = c.on_checkpoint.new.self }) c.args.sender c.args.checkpoint.now c.has_checkpoint.result took.0 (ap (λ (l : LogData). record old { log = l }) took.1)
     (c.has_checkpoint.ensures ∙ ap (λ e. says_checkpoint e (logs.checkpoints_of c.on_checkpoint.new.self c.args.sender.0)) c.entry_in.ensures))
+
+pub invariant_of-self-2 : goal.invariant_of-self-2
+invariant_of-self-2 c = checkpoint_taken (orderer_data c.self.inside) c.args.sender c.args.checkpoint.now c.on_checkpoint.new.self c.on_checkpoint.result c.self.invariant c.on_checkpoint.ensures

@@ -3,7 +3,7 @@ use Rattle.std.specs.Prelude.{filter}
 use Rattle.terms.specs.Parties.{party_number}
 use Rattle.protocol.specs.System.Configuration.{is_correct}
 use Rattle.schedule_world.specs.Pooled.{added}
-use Rattle.schedule_world.specs.Receiving.{receivers_in}
+use Rattle.events.specs.Outputs.{receivers_in}
 use Rattle.schedule_world.proofs.Showing.{adds_sent}
 use Rattle.schedule_world.proofs.stage.Stage.add_sent.Goals as goal
 

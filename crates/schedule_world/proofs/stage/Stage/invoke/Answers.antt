@@ -13,3 +13,4 @@ returns-in-Err-clause-calls c =
     makes_call c.args.self.now.seats.items c.from.result c.args.client.number c.index_mut-seat.result.now after (operation_of c.args.op) c.in-Some.calls c.new.result.items c.from.ensures c.requires.known
     c.index_mut-seat.ensures.value c.invoke.ensures.number next refl
     (λ none. subst (λ outs. CallLeads c.index_mut-seat.result.now.client c.args.op outs c.invoke.new.self) (sym c.new.ensures.items) ((c.in-Err.ensures {u = tt}).stops none))
+    (λ none stopped. c.new.ensures.items)

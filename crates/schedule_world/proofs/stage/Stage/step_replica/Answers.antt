@@ -1,5 +1,7 @@
 use Rattle.std.proofs.Common.{sym, subst}
+use Rattle.replica.specs.State.{has_stopped}
 use Rattle.replica.specs.Fits.{EventLeads}
+use Rattle.schedule_world.proofs.Attending.{differ}
 use Rattle.schedule_world.proofs.Moved.{moves}
 use Rattle.schedule_world.proofs.stage.Stage.step_replica.Goals as goal
 
@@ -7,9 +9,11 @@ pub returns-in-Ok-clause-moves : goal.returns-in-Ok-clause-moves
 returns-in-Ok-clause-moves c =
     moves c.args.self.now.replicas.items c.from.result c.args.replica.0 c.index_mut.result.now c.step.new.self c.args.event c.in-Ok.outputs.items c.from.ensures c.requires.known
     c.index_mut.ensures.value c.step.ensures.number c.in-Ok.ensures.leads
+    (λ stopped. absurd (differ (has_stopped c.step.new.self) c.in-Ok.ensures.runs stopped))
 
 pub returns-in-Err-clause-moves : goal.returns-in-Err-clause-moves
 returns-in-Err-clause-moves c =
     moves c.args.self.now.replicas.items c.from.result c.args.replica.0 c.index_mut.result.now c.step.new.self c.args.event c.new.result.items c.from.ensures c.requires.known
     c.index_mut.ensures.value c.step.ensures.number
     (subst (λ outs. EventLeads c.index_mut.result.now c.args.event outs c.step.new.self) (sym c.new.ensures.items) c.in-Err.ensures.stops)
+    (λ stopped. c.new.ensures.items)

@@ -6,7 +6,7 @@ use Rattle.events.specs.Outputs.{entry_of}
 use Rattle.journal.specs.Parts.{Part, longer_part}
 use Rattle.space_node.specs.Calls.{AcceptNothing}
 use Rattle.space_node.specs.Seats.{Seated, SeatsClient}
-use Rattle.space_node.proofs.Clients.{begins_with, client_after, client_right, fits_invoke, last_invoke}
+use Rattle.space_node.proofs.Clients.{begins_with, client_after, client_right, client_stops, fits_invoke, last_invoke}
 use Rattle.space_node.proofs.client_seat.ClientSeat.invoke.Goals as goal
 
 pub record-requires-clause-right : goal.record-requires-clause-right
@@ -22,6 +22,12 @@ record-requires-clause-right g c =
     client_right g.N.Naming.config s.id.number s.calls s.client later s.share seats c.in-Ok.ensures.number es
     (fits_invoke g.N.Naming.config s.id.number s.calls s.client later s.share seats c.in-Ok.ensures.number (s.calls + 1) (operation_of c.args.op) outs es refl are c.in-Ok.ensures.leads)
 
+pub invariant_of-self-in_err-first : goal.invariant_of-self-in_err-first
+invariant_of-self-in_err-first g c =
+    let s = c.self.inside in
+    let kept : c.record.new.share ≡ s.share = search rules in
+    client_stops g.N.Naming.config s.id.number s.calls s.client c.invoke.new.self s.share c.record.new.share s.stopped c.self.invariant c.in-Ok.ensures.number kept
+
 pub invariant_of-self-2 : goal.invariant_of-self-2
 invariant_of-self-2 g c =
     let s = c.self.inside in
@@ -36,7 +42,7 @@ invariant_of-self-2 g c =
     subst (λ (p : Part). SeatsClient g.N.Naming.config s.id.number later (s.calls + 1) false p) (sym kept)
     (client_after g.N.Naming.config s.id.number s.calls s.client later s.share seats c.in-Ok.ensures.number es (s.calls + 1)
     (last_invoke g.N.Naming.config s.id.number s.calls s.client later s.share seats c.in-Ok.ensures.number (s.calls + 1) (operation_of c.args.op) outs es refl are)
-    (fits_invoke g.N.Naming.config s.id.number s.calls s.client later s.share seats c.in-Ok.ensures.number (s.calls + 1) (operation_of c.args.op) outs es refl are c.in-Ok.ensures.leads))
+    (fits_invoke g.N.Naming.config s.id.number s.calls s.client later s.share seats c.in-Ok.ensures.number (s.calls + 1) (operation_of c.args.op) outs es refl are c.in-Ok.ensures.leads) c.in-Ok.ensures.runs)
 
 pub returns-clause-begins : goal.returns-clause-begins
 returns-clause-begins g c =

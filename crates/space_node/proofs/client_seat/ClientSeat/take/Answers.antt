@@ -3,7 +3,7 @@ use Rattle.protocol.specs.Client.RightClient.{last_call}
 use Rattle.events.specs.Outputs.{entry_of}
 use Rattle.journal.specs.Parts.{Part, longer_part}
 use Rattle.space_node.specs.Seats.{Seated, SeatsClient, input_of}
-use Rattle.space_node.proofs.Clients.{client_after, client_right, comes, fits_input, last_after}
+use Rattle.space_node.proofs.Clients.{client_after, client_right, client_stops, comes, fits_input, last_after}
 use Rattle.space_node.proofs.client_seat.ClientSeat.take.Goals as goal
 
 pub record-requires-clause-right : goal.record-requires-clause-right
@@ -19,6 +19,12 @@ record-requires-clause-right g c =
     client_right g.N.Naming.config s.id.number s.calls s.client later s.share seats c.in-Ok.ensures.number es
     (fits_input g.N.Naming.config s.id.number s.calls s.client later s.share seats c.in-Ok.ensures.number c.args.input outs es are c.in-Ok.ensures.leads)
 
+pub invariant_of-self-in_err-first : goal.invariant_of-self-in_err-first
+invariant_of-self-in_err-first g c =
+    let s = c.self.inside in
+    let kept : c.record.new.share ≡ s.share = search rules in
+    client_stops g.N.Naming.config s.id.number s.calls s.client c.step_client.new.client s.share c.record.new.share s.stopped c.self.invariant c.in-Ok.ensures.number kept
+
 pub invariant_of-self-2 : goal.invariant_of-self-2
 invariant_of-self-2 g c =
     let s = c.self.inside in
@@ -33,7 +39,7 @@ invariant_of-self-2 g c =
     subst (λ (p : Part). SeatsClient g.N.Naming.config s.id.number later s.calls false p) (sym kept)
     (client_after g.N.Naming.config s.id.number s.calls s.client later s.share seats c.in-Ok.ensures.number es s.calls
     (last_after g.N.Naming.config s.id.number s.calls s.client later s.share seats c.in-Ok.ensures.number c.args.input outs es are)
-    (fits_input g.N.Naming.config s.id.number s.calls s.client later s.share seats c.in-Ok.ensures.number c.args.input outs es are c.in-Ok.ensures.leads))
+    (fits_input g.N.Naming.config s.id.number s.calls s.client later s.share seats c.in-Ok.ensures.number c.args.input outs es are c.in-Ok.ensures.leads) c.in-Ok.ensures.runs)
 
 pub returns-clause-comes : goal.returns-clause-comes
 returns-clause-comes g c =

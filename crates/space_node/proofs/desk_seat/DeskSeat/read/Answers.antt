@@ -1,10 +1,13 @@
-use Rattle.std.proofs.Common.{rules, ◌≡◌, ◌∷◌, map, subst, sym}
+use Rattle.std.proofs.Common.{rules, ◌≡◌, ◌∷◌, false, map, refl, subst, sym}
+use Rattle.std.specs.Prelude.{is_none, Ok}
 use Rattle.protocol.specs.System.Trace.Entry.{Got}
 use Rattle.events.specs.Outputs.{entry_of}
+use Rattle.events.specs.declared.output.Stop.TheVariants.{Stopped}
 use Rattle.journal.specs.Parts.{Part, longer_part}
 use Rattle.replica.specs.Parted.{ReadLeads}
+use Rattle.replica.specs.State.{DeskPart}
 use Rattle.space_node.specs.Seats.{SeatsDesk}
-use Rattle.space_node.proofs.Parts.{desk_after_read}
+use Rattle.space_node.proofs.Parts.{desk_after_read, runs_on}
 use Rattle.space_node.proofs.desk_seat.DeskSeat.read.Goals as goal
 
 pub invariant_of-self-in-Ok-record : goal.invariant_of-self-in-Ok-record
@@ -15,6 +18,9 @@ invariant_of-self-in-Ok-record g c =
     let later = c.read.new.self in
     let are : es ≡ Got s.share.party c.args.bytes.items ∷ map (entry_of s.share.party) outs = search rules in
     let kept : c.record.new.share ≡ longer_part s.share es = search rules in
+    let same : later ≡ s.desk = c.in-Ok.ensures.same in
+    let on : is_none later.holds ≡ false =
+    subst (λ (d : DeskPart). is_none d.holds ≡ false) (sym same) (runs_on s.desk (Ok c.in-Ok.outputs) Stopped c.in-Ok.outputs c.in-Ok.ensures.before.1 refl) in
     let leads : ReadLeads s.desk c.args.bytes.items outs later = search rules in
     subst (λ (p : Part). SeatsDesk g.N.Naming.config later p) (sym kept)
-    (desk_after_read g.N.Naming.config s.desk later s.share c.args.bytes.items outs es leads c.self.invariant are)
+    (desk_after_read g.N.Naming.config s.desk later s.share c.args.bytes.items outs es leads c.self.invariant are on)

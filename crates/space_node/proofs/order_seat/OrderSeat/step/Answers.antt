@@ -29,4 +29,5 @@ invariant_of-shelf-in-Ok-record_order g c =
     let alike : AreAlike s.share o.order = search rules in
     let kept : c.record_order.new.share ≡ longer_part s.share es = search rules in
     subst (λ (p : Part). SeatsDesk g.N.Naming.config c.step_parts.new.desk p) (sym kept)
-    (desk_after g.N.Naming.config o.orderer c.step_parts.new.orderer s.desk c.step_parts.new.desk s.share o.order c.args.input outs es c.in-Ok.ensures.leads c.shelf.invariant c.self.invariant are alike)
+    (desk_after g.N.Naming.config o.orderer c.step_parts.new.orderer s.desk c.step_parts.new.desk s.share o.order c.args.input outs es c.in-Ok.ensures.leads c.shelf.invariant c.self.invariant are alike
+    c.in-Ok.ensures.desk_runs)

@@ -1,0 +1,197 @@
+-- Messages that fit a frame, by the lengths of their fields.
+use Rattle.std.proofs.Common.{◌≡◌, ℕ, ◌+◌, ◌*◌, ◌<◌, ◌≤◌, Bool, true, false, List, [], ◌∷◌, ◌++◌, length, length-append, refl, sym, ap, ◌∙◌, arith}
+use Rattle.std.specs.Prelude.{IsTrue}
+use Rattle.std.specs.Int.{w16, w32, w64, to_be_bytes}
+use Rattle.terms.specs.declared.order.Mode.{Mode}
+use Rattle.terms.specs.declared.order.Mode.TheVariants as modes
+use Rattle.tuple_tree.specs.Values.{TupleTree, TemplateTree, IsTuple, IsTemplate}
+use Rattle.tuple_codec.specs.Operations.{Operation, out, rdp, inp, cas, rd_all, IsOperation, Outcome, done, found, absent, swapped, all, full, refused, IsOutcome, AreTuples}
+use Rattle.tuple_codec.specs.Spelling.{tuple_spelling, template_spelling, tuples_spelling, operation_spelling, outcome_spelling}
+use Rattle.wire.specs.Lists.{Each, each_spelling}
+use Rattle.wire.specs.Messages.{MacData, AuthenticatorData as Authenticator, macs, signature, BodyData, MessageData as Message, request, pre_prepare, prepare, commit, checkpoint, view_change, new_view, reply, fetch, meta, page}
+use Rattle.wire.specs.Spelling.{IsAuthenticator, IsBatch, IsCarried, IsDigest, IsMac, IsMessage, IsPlain, authenticator_is_signed, authenticator_spelling, body_spelling, fields_spelling, frame_limit, is_ordered_request, is_signed, mac_spelling, mode_byte, level_byte, piece}
+use Rattle.wire.proofs.Lengths.{tuple_spelling_length, template_spelling_length}
+use Rattle.authenticator.specs.Sealing.{IsSealable, IsTooLong, sealed_for}
+use Rattle.authenticator.proofs.Sealing.{sealed-short}
+use Rattle.posting.specs.Endpoint.{FitsFrame, says}
+
+-- ---- operations and answers
+
+tuple_short : (t : TupleTree) → IsTuple t → length (tuple_spelling t) ≤ 1024
+tuple_short t is = let e = tuple_spelling_length t in let l = is.length in omega (arith, e, l)
+
+template_short : (p : TemplateTree) → IsTemplate p → length (template_spelling p) ≤ 1024
+template_short p is = let e = template_spelling_length p in let l = is.length in omega (arith, e, l)
+
+operation_short : (op : Operation) → IsOperation op → length (operation_spelling op) ≤ 2049
+operation_short (out t) is = let l = tuple_short t is in omega (arith, l)
+operation_short (rdp p) is = let l = template_short p is in omega (arith, l)
+operation_short (inp p) is = let l = template_short p is in omega (arith, l)
+operation_short (cas p t) is =
+    let l = template_short p is.0 in
+    let k = tuple_short t is.1 in
+    let e = length-append (template_spelling p) (tuple_spelling t) in
+    omega (arith, l, k, e)
+operation_short (rd_all n p) is = let l = template_short p is.2 in omega (arith, l)
+
+tuples_short : (ts : List TupleTree) → AreTuples ts → length (tuples_spelling ts) ≤ 1024 * length ts
+tuples_short [] are = omega arith
+tuples_short (t ∷ ts) are =
+    let first = tuple_short t are.0 in
+    let rest = tuples_short ts are.1 in
+    let n = length-append (tuple_spelling t) (tuples_spelling ts) in
+    omega (arith, first, rest, n)
+
+outcome_short : (o : Outcome) → IsOutcome o → length (outcome_spelling o) ≤ 65538
+outcome_short done is = omega arith
+outcome_short (found t) is = let l = tuple_short t is in omega (arith, l)
+outcome_short absent is = omega arith
+outcome_short (swapped b) is = omega arith
+outcome_short (all ts) is = let l = tuples_short ts is.1 in let n = is.0 in omega (arith, l, n)
+outcome_short full is = omega arith
+outcome_short refused is = omega arith
+
+-- ---- batches
+
+macs_length : (ms : List MacData) → Each IsMac ms → length (each_spelling mac_spelling ms) ≡ 34 * length ms
+macs_length [] are = refl
+macs_length (m ∷ ms) are =
+    let first = are.0.1.whole in
+    let rest = macs_length ms are.1 in
+    let n = length-append (mac_spelling m) (each_spelling mac_spelling ms) in
+    let k = length-append (to_be_bytes w16 m.receiver) m.mac in
+    omega (arith, first, rest, n, k)
+
+authenticator_short : (a : Authenticator) → authenticator_is_signed a ≡ false → IsAuthenticator a → length (authenticator_spelling a) ≤ 342
+authenticator_short (macs ms) unsigned is = let n = macs_length ms is.2 in let l = is.1 in omega (arith, n, l)
+authenticator_short (signature s) unsigned is = absurd cc
+
+request_short : (m : Message) → IsTrue (is_ordered_request m) → IsPlain m → (length (fields_spelling m) ≤ 2058) × (is_signed m ≡ false)
+request_short (request t modes.Ordered op) sorted is =
+    let n = length-append (to_be_bytes w64 t) (mode_byte modes.Ordered ∷ operation_spelling op) in
+    let l = operation_short op is.1 in
+    (omega (arith, n, l), refl)
+request_short (request t modes.ReadOnly op) sorted is = absurd cc
+request_short (pre_prepare view number batch) sorted is = absurd cc
+request_short (prepare view number digest) sorted is = absurd cc
+request_short (commit view number digest) sorted is = absurd cc
+request_short (checkpoint number root) sorted is = absurd cc
+request_short (view_change change) sorted is = absurd cc
+request_short (new_view new) sorted is = absurd cc
+request_short (reply client t kind number outcome) sorted is = absurd cc
+request_short (fetch number level index) sorted is = absurd cc
+request_short (meta number level index digests) sorted is = absurd cc
+request_short (page number index text) sorted is = absurd cc
+
+-- a body behind its length
+body_length : (body : BodyData) → length (piece (body_spelling body)) ≡ 7 + length (fields_spelling body.message)
+body_length body =
+    let n = length-append (to_be_bytes w32 (length (body_spelling body))) (body_spelling body) in
+    let k = length-append (to_be_bytes w16 body.sender) (fields_spelling body.message) in
+    omega (arith, n, k)
+
+carried_short : (bs : List ℕ) → IsCarried is_ordered_request bs → length bs ≤ 2407
+carried_short bs is =
+    let f = is.frame in
+    let fields = request_short f.body.message is.sorted is.spelled.valid.message in
+    let whole = ap length is.spelled.spelled in
+    let n = length-append (piece (body_spelling f.body)) (authenticator_spelling f.authenticator) in
+    let body = body_length f.body in
+    let l = authenticator_short f.authenticator (is.spelled.valid.proved ∙ fields.1) is.spelled.valid.authenticator in
+    let m = fields.0 in
+    omega (arith, whole, n, body, l, m)
+
+pieces_short : (requests : List (List ℕ)) → Each (IsCarried is_ordered_request) requests → length (each_spelling piece requests) ≤ 2411 * length requests
+pieces_short [] are = omega arith
+pieces_short (x ∷ xs) are =
+    let first = carried_short x are.0 in
+    let rest = pieces_short xs are.1 in
+    let n = length-append (piece x) (each_spelling piece xs) in
+    let k = length-append (to_be_bytes w32 (length x)) x in
+    omega (arith, first, rest, n, k)
+
+batch_short : (text : List ℕ) → IsBatch 1 text → length text ≤ 38577
+batch_short text is =
+    let whole = ap length is.whole in
+    let l = pieces_short is.requests is.each in
+    let few = is.few in
+    omega (arith, whole, l, few)
+
+-- ---- digests
+
+digests_length : (digests : List (List ℕ)) → Each IsDigest digests → length (each_spelling (λ d. d) digests) ≡ 32 * length digests
+digests_length [] are = refl
+digests_length (d ∷ ds) are =
+    let first = are.0.whole in
+    let rest = digests_length ds are.1 in
+    let n = length-append d (each_spelling (λ (x : List ℕ). x) ds) in
+    omega (arith, first, rest, n)
+
+vote_length : (view number : ℕ) (digest : List ℕ) → IsDigest digest → length (to_be_bytes w64 view ++ (to_be_bytes w64 number ++ digest)) ≡ 48
+vote_length view number digest is =
+    let n = length-append (to_be_bytes w64 view) (to_be_bytes w64 number ++ digest) in
+    let k = length-append (to_be_bytes w64 number) digest in
+    let w = is.whole in
+    omega (arith, n, k, w)
+
+-- ---- what goes with MACs
+
+fields_short : (m : Message) → IsMessage m → is_signed m ≡ false → FitsFrame m → length (fields_spelling m) ≤ 4193955
+fields_short (request t mode op) is unsigned fits =
+    let n = length-append (to_be_bytes w64 t) (mode_byte mode ∷ operation_spelling op) in
+    let l = operation_short op is.1 in
+    omega (arith, n, l)
+fields_short (pre_prepare view number batch) is unsigned fits =
+    let n = length-append (to_be_bytes w64 view) (to_be_bytes w64 number ++ batch) in
+    let k = length-append (to_be_bytes w64 number) batch in
+    let l = batch_short batch is.2 in
+    omega (arith, n, k, l)
+fields_short (prepare view number digest) is unsigned fits = let n = vote_length view number digest is.2 in omega (arith, n)
+fields_short (commit view number digest) is unsigned fits = let n = vote_length view number digest is.2 in omega (arith, n)
+fields_short (checkpoint number root) is unsigned fits =
+    let n = length-append (to_be_bytes w64 number) root in
+    let w = is.1.whole in
+    omega (arith, n, w)
+fields_short (view_change change) is unsigned fits = absurd cc
+fields_short (new_view new) is unsigned fits = absurd cc
+fields_short (reply client t kind number outcome) is unsigned fits =
+    let n = length-append (to_be_bytes w16 client) (to_be_bytes w64 t ++ mode_byte kind ∷ (to_be_bytes w64 number ++ outcome_spelling outcome)) in
+    let k = length-append (to_be_bytes w64 t) (mode_byte kind ∷ (to_be_bytes w64 number ++ outcome_spelling outcome)) in
+    let j = length-append (to_be_bytes w64 number) (outcome_spelling outcome) in
+    let l = outcome_short outcome is.4 in
+    omega (arith, n, k, j, l)
+fields_short (fetch number level index) is unsigned fits =
+    let n = length-append (to_be_bytes w64 number) (level_byte level ∷ to_be_bytes w16 index) in
+    omega (arith, n)
+fields_short (meta number level index digests) is unsigned fits =
+    let n = length-append (to_be_bytes w64 number) (level_byte level ∷ (to_be_bytes w16 index ++ each_spelling (λ (d : List ℕ). d) digests)) in
+    let k = length-append (to_be_bytes w16 index) (each_spelling (λ (d : List ℕ). d) digests) in
+    let l = digests_length digests is.4 in
+    let few = is.3 in
+    omega (arith, n, k, l, few)
+fields_short (page number index text) is unsigned fits =
+    let n = length-append (to_be_bytes w64 number) (to_be_bytes w16 index ++ text) in
+    let k = length-append (to_be_bytes w16 index) text in
+    omega (arith, n, k, fits)
+
+limit : (m : Message) → is_signed m ≡ false → frame_limit m ≡ 4194304
+limit (view_change change) unsigned = absurd cc
+limit (new_view new) unsigned = refl
+limit (request t mode op) unsigned = refl
+limit (pre_prepare view number batch) unsigned = refl
+limit (prepare view number digest) unsigned = refl
+limit (commit view number digest) unsigned = refl
+limit (checkpoint number root) unsigned = refl
+limit (reply client t kind number outcome) unsigned = refl
+limit (fetch number level index) unsigned = refl
+limit (meta number level index digests) unsigned = refl
+limit (page number index text) unsigned = refl
+
+-- with the MACs of the parties it isn't too long
+pub never_too_long : (seed : List ℕ) (body : BodyData) (parties : List ℕ) → IsSealable body parties → FitsFrame body.message → IsTooLong (sealed_for seed body parties) → ⊥
+never_too_long seed body parties can fits =
+    let n = body_length body in
+    let l = fields_short body.message can.said.message can.unsigned fits in
+    let most = limit body.message can.unsigned in
+    let few = can.few in
+    sealed-short seed body parties (omega (arith, n, l, most, few))

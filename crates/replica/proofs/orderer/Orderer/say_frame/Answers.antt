@@ -1,0 +1,12 @@
+use Rattle.replica.proofs.Results.{on_ok}
+use Rattle.replica.proofs.orderer.Orderer.say_frame.Goals as goal
+
+pub returns : goal.returns
+returns c =
+    let k = c.in_ok-post_frame.ensures.sends in
+    rw (← c.self.view_is)
+    (on_ok c.give.result (λ e. record {
+      output = c.in_ok-post_frame.field-0;
+      sends = record { sends = k.sends; goes = k.goes; meant = k.meant };
+      given_is = e;
+    }) c.give.ensures.given)
