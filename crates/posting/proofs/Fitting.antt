@@ -1,8 +1,7 @@
 -- Messages that fit a frame, by the lengths of their fields.
-use Rattle.std.proofs.Common.{◌≡◌, ℕ, ◌+◌, ◌*◌, ◌<◌, ◌≤◌, Bool, true, false, List, [], ◌∷◌, ◌++◌, length, length-append, refl, sym, ap, ◌∙◌, arith}
+use Rattle.std.proofs.Common.{◌≡◌, ℕ, ◌+◌, ◌*◌, ◌≤◌, false, List, [], ◌∷◌, ◌++◌, length, length-append, refl, ap, ◌∙◌, arith}
 use Rattle.std.specs.Prelude.{IsTrue}
 use Rattle.std.specs.Int.{w16, w32, w64, to_be_bytes}
-use Rattle.terms.specs.declared.order.Mode.{Mode}
 use Rattle.terms.specs.declared.order.Mode.TheVariants as modes
 use Rattle.tuple_tree.specs.Values.{TupleTree, TemplateTree, IsTuple, IsTemplate}
 use Rattle.tuple_codec.specs.Operations.{Operation, out, rdp, inp, cas, rd_all, IsOperation, Outcome, done, found, absent, swapped, all, full, refused, IsOutcome, AreTuples}
@@ -13,7 +12,7 @@ use Rattle.wire.specs.Spelling.{IsAuthenticator, IsBatch, IsCarried, IsDigest, I
 use Rattle.wire.proofs.Lengths.{tuple_spelling_length, template_spelling_length}
 use Rattle.authenticator.specs.Sealing.{IsSealable, IsTooLong, sealed_for}
 use Rattle.authenticator.proofs.Sealing.{sealed-short}
-use Rattle.posting.specs.Endpoint.{FitsFrame, says}
+use Rattle.posting.specs.Endpoint.{FitsFrame}
 
 -- ---- operations and answers
 

@@ -38,10 +38,10 @@ use Rattle.replica_histories.proofs.Leaves.{next_leaf_is_own, next_is_spent}
 use Rattle.replica_histories.proofs.Reasons.{ticks_are_reasons, held_are_joined}
 use Rattle.replica.specs.declared.snapshots.KeptState.{KeptState}
 use Rattle.replica.specs.SnapshotsView.{kept_data}
-use Rattle.replica.specs.State.{OrdererData, DeskData, JoinedData, IsOrderer, AreOne}
+use Rattle.replica.specs.State.{OrdererData, JoinedData, IsOrderer, AreOne}
 use Rattle.replica.specs.declared.waiting.WaitingRequest.{WaitingRequest}
 use Rattle.replica.specs.Waiting.{WaitingData}
-use Rattle.replica.specs.Desks.{given, changes_of, AreCallsOf, FitsEvent, Stands}
+use Rattle.replica.specs.Desks.{given, changes_of, AreCallsOf, FitsEvent}
 use Rattle.replica.specs.Going.{IsVotedAll}
 use Rattle.replica.specs.Saying.{AreBelow, SaysLastAgain}
 use Rattle.replica.proofs.Again.{never_said}

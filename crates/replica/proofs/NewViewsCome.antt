@@ -39,7 +39,7 @@ use Rattle.replica.specs.declared.taking.Touched.TheVariants as touched
 use Rattle.replica.specs.State.{JoinedData, AreOne, IsOrderer}
 use Rattle.replica.specs.Desks.{FitsEvent, Stands}
 use Rattle.replica.specs.Entering.{event_of, IsTakenAnswered, TakesBytes, TakesMessage}
-use Rattle.replica.specs.Joined.{Runs, me_of}
+use Rattle.replica.specs.Joined.{Runs}
 use Rattle.replica.proofs.Beginning.{changes_kept, heard_by, rests}
 use Rattle.replica.specs.EnteringViews.{Enters}
 use Rattle.replica.proofs.Parties.{one_self, same_log}

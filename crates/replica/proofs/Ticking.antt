@@ -1,5 +1,5 @@
 -- An event of time: an open transfer asks again, and the replica moves to the next view.
-use Rattle.std.proofs.Common.{◌≡◌, ◌≢◌, ℕ, suc, ◌+◌, ◌^◌, ◌<◌, ◌≤◌, ◌⊎◌, max, inl, inr, true, false, List, [], ◌∷◌, map, Option, Some, Result, Ok, Err, IfOk, option_map}
+use Rattle.std.proofs.Common.{◌≡◌, ◌≢◌, ℕ, suc, ◌+◌, ◌^◌, ◌<◌, ◌⊎◌, max, inl, inr, true, false, List, [], ◌∷◌, map, Option, Some, Result, Ok, Err, IfOk, option_map}
 use Rattle.std.proofs.Common.{refl, sym, ap, ap₂, ◌∙◌, subst, arith}
 use Rattle.std.proofs.lemmas.Bool.{leb-false, leb-true, ltb-true}
 use Rattle.events.specs.declared.output.Output.{Output}
@@ -7,7 +7,7 @@ use Rattle.protocol.specs.System.Configuration.{Configuration, members}
 use Rattle.protocol.specs.System.Trace.{Entry}
 use Rattle.protocol.specs.System.Trace.Entry.{Tick}
 use Rattle.protocol.specs.Replica.Certificates.{view, target}
-use Rattle.protocol.specs.Replica.RightReplica.{Point, TimesOut, kept_states, sought_view}
+use Rattle.protocol.specs.Replica.RightReplica.{Point, kept_states, sought_view}
 use Rattle.protocol.specs.Replica.Owed.{HasToMove}
 use Rattle.protocol.specs.Replica.State.{Call}
 use Rattle.protocol.proofs.Words.Options.{some_injective}

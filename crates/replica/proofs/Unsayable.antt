@@ -1,5 +1,5 @@
 -- A view change that can't be sent: no frame says it, or the keys are spent.
-use Rattle.std.proofs.Common.{◌≡◌, ◌≢◌, ℕ, ◌+◌, ◌^◌, ◌<◌, ◌≤◌, ◌⊎◌, inl, inr, Bool, true, false, List, [], ◌∷◌, ◌++◌, length, length-append, map, Option, Some, None, Vec, refl, sym, ap, ap₂, ◌∙◌, subst, arith, IfNone}
+use Rattle.std.proofs.Common.{◌≡◌, ℕ, ◌+◌, ◌^◌, ◌<◌, ◌≤◌, ◌⊎◌, inl, inr, true, false, List, ◌++◌, length, length-append, map, Option, Some, None, Vec, refl, sym, ap, ap₂, ◌∙◌, subst, arith, IfNone}
 use Rattle.wire.specs.Messages.{AuthenticatorData as Authenticator, BodyData as Body, CheckpointEntryData as CheckpointEntry, MessageData as Message, ViewChangeData, macs, signature, view_change as ViewChange}
 use Rattle.wire.specs.Spelling.{IsAuthenticator, authenticator_is_signed, authenticator_spelling, body_spelling, frame_limit, is_signed, piece}
 use Rattle.std.specs.declared.alloc.Global.{Global}
@@ -7,19 +7,17 @@ use Rattle.events.specs.declared.output.Output.{Output}
 use Rattle.wire.specs.Views.{view_change_data}
 use Rattle.wire.specs.Words.{said}
 use Rattle.wire.proofs.Saying.{says_what_is_spelled}
-use Rattle.ordering.specs.Log.{LogData}
 use Rattle.posting.specs.Endpoint.{SignedExceeds, says}
 use Rattle.protocol.specs.System.Configuration.{Configuration}
 use Rattle.protocol.specs.System.Trace.{Entry}
-use Rattle.protocol.specs.Replica.Certificates.{target, view}
-use Rattle.protocol.specs.Replica.Owed.{AreKeysSpent}
+use Rattle.protocol.specs.Replica.Certificates.{view}
 use Rattle.protocol.specs.Replica.RightReplica.{Point, Leaves, IsNewViewChange, kept_states}
 use Rattle.protocol.specs.Replica.Selection.{is_within}
 use Rattle.view_change.specs.declared.changes.Change.{Change}
 use Rattle.view_change.specs.ClaimsView.{ClaimsData}
 use Rattle.view_change.specs.Laws.{ChangesAreJudged}
 use Rattle.view_change.specs.Sets.{change_pair}
-use Rattle.view_change.specs.ReceivedData.{HeldData, held_of, refusal_of}
+use Rattle.view_change.specs.ReceivedData.{HeldData, held_of}
 use Rattle.view_change.specs.ReceivedView.{configuration_of}
 use Rattle.replica_histories.specs.Changes.{FitsChanges}
 use Rattle.replica_histories.specs.Desk.{Desk, snapshot_of}

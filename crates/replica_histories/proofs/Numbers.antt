@@ -1,5 +1,5 @@
 -- Where a history begins, and where nothing is left without a number.
-use Rattle.std.proofs.Common.{◌≡◌, ℕ, ◌+◌, ◌^◌, ◌≤◌, ◌<◌, ◌⊎◌, inl, inr, Bool, true, false, ◌&&◌, List, [], length, nat_lt, nat_le, refl, sym, ap, ◌∙◌, subst, arith, None, is_some}
+use Rattle.std.proofs.Common.{◌≡◌, ℕ, ◌+◌, ◌^◌, ◌≤◌, ◌<◌, inl, inr, Bool, true, false, ◌&&◌, List, [], length, nat_lt, nat_le, refl, sym, ap, ◌∙◌, subst, arith, is_some}
 use Rattle.std.proofs.lemmas.Bool.{and_parts, and_from, lt-ltb, ltb-true, ltb-false, le-leb, leb-true}
 use Rattle.std.proofs.lemmas.List.{length-drop}
 use Rattle.wire.specs.Lists.{Each}

@@ -2,7 +2,7 @@
 use Rattle.std.proofs.Common.{◌≡◌, ℕ, zero, suc, ◌+◌, ◌-◌, ◌^◌, ◌≤◌, ◌<◌, ◌⊎◌, inl, inr, Bool, true, false, ◌&&◌, List, [], ◌∷◌, length, map, slice_get, is_some, refl, sym, ap, ◌∙◌, subst, arith, Option, Some, None, eq-eqb}
 use Rattle.std.specs.Prelude.{◌==◌, nat_lt, nat_le, option_and_then}
 use Rattle.std.specs.List.{filter_map, flat_map, cons_option}
-use Rattle.std.proofs.lemmas.Bool.{and_from, lt-ltb, le-leb, leb-true, leb-false}
+use Rattle.std.proofs.lemmas.Bool.{and_from, lt-ltb, le-leb}
 use Rattle.wire.specs.Messages.{MessageData as Message, NewViewData}
 use Rattle.wire.specs.Words.{requests_of}
 use Rattle.wire.specs.Lists.{Each}

@@ -1,5 +1,5 @@
 -- Entries that give no number.
-use Rattle.std.proofs.Common.{◌≡◌, ◌≢◌, ℕ, ◌≤◌, ◌⊎◌, inl, inr, true, false, ◌&&◌, List, [], ◌∷◌, refl, sym, arith, ap, ◌∙◌, subst, Option, Some, None, is_some, eqb-true}
+use Rattle.std.proofs.Common.{◌≡◌, ◌≢◌, ℕ, inl, inr, true, false, ◌&&◌, List, [], ◌∷◌, refl, sym, arith, ap, ◌∙◌, subst, Option, Some, None, is_some, eqb-true}
 use Rattle.std.specs.Prelude.{◌==◌, option_and_then}
 use Rattle.std.specs.Option.{option_map_or}
 use Rattle.std.proofs.lemmas.Bool.{and_parts}

@@ -1,23 +1,21 @@
 -- Why a replica changes its view: what it holds tells the reasons of its history.
 use Rattle.std.proofs.Common.{◌≡◌, ◌≢◌, ℕ, zero, suc, ◌+◌, ◌≤◌, ◌<◌, ◌⊎◌, inl, inr, eq-eqb, Bool, true, false, cond, not, ◌&&◌, List, [], ◌∷◌, length, Option, Some, None, refl, sym, ap, ◌∙◌, subst, arith}
-use Rattle.std.specs.Prelude.{◌==◌, nat_le, nat_lt}
-use Rattle.std.specs.Bool.{then_some}
+use Rattle.std.specs.Prelude.{◌==◌, nat_lt}
 use Rattle.std.specs.Option.{option_map_or}
-use Rattle.std.proofs.lemmas.Bool.{and_parts, le-leb, leb-true, lt-ltb, ltb-true, ltb-false, ne_eqb, eqb-false}
+use Rattle.std.proofs.lemmas.Bool.{and_parts, le-leb, leb-true, lt-ltb, ltb-true, ne_eqb, eqb-false}
 use Rattle.quorum.specs.Quorum.{count_below}
 use Rattle.wire.specs.Lists.{Each}
 use Rattle.protocol.specs.System.Configuration.{Configuration, replicas}
 use Rattle.protocol.specs.System.Trace.{Entry, Has, is_output}
-use Rattle.protocol.specs.System.Trace.Entry.{Tick}
 use Rattle.protocol.specs.Replica.Certificates.{latest_change}
 use Rattle.protocol.specs.Replica.RightReplica.{Point, sought_view, last_input, is_ahead, JoinsOthers}
 use Rattle.protocol.proofs.Words.Elements.{each_has}
 use Rattle.protocol.proofs.Words.Options.{some_injective}
-use Rattle.view_change.specs.ReceivedData.{HeldData, held_of, AreHeldFrom, later_view, later_views, IsJoined}
+use Rattle.view_change.specs.ReceivedData.{HeldData, held_of, AreHeldFrom, later_views, IsJoined}
 use Rattle.replica_histories.specs.Desk.{point_of}
 use Rattle.replica_histories.specs.Running.{Start, behind, Steps}
 use Rattle.replica_histories.specs.Views.{TicksAreReasons}
-use Rattle.replica_histories.specs.Received.{held_view, FitsReceived, HeldAreJoined, AheadAreHeld}
+use Rattle.replica_histories.specs.Received.{FitsReceived, HeldAreJoined, AheadAreHeld}
 
 -- ---- a tick
 

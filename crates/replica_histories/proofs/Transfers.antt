@@ -1,5 +1,5 @@
 -- What a transfer wants and has is what its replica's history says.
-use Rattle.std.proofs.Common.{◌≡◌, ℕ, zero, suc, ◌+◌, ◌*◌, ◌/◌, ◌%◌, ◌≤◌, ◌<◌, ◌⊎◌, inl, inr, Bool, true, false, List, [], ◌∷◌, length, replicate, set, get_or, refl, sym, ap, ◌∙◌, subst, arith, Option, Some, None, eqb-true, slice_get}
+use Rattle.std.proofs.Common.{◌≡◌, ℕ, zero, suc, ◌+◌, ◌*◌, ◌/◌, ◌%◌, ◌≤◌, ◌<◌, ◌⊎◌, inl, inr, Bool, true, false, List, [], ◌∷◌, replicate, set, get_or, refl, sym, ap, ◌∙◌, subst, arith, Option, Some, None, slice_get}
 use Rattle.std.specs.Prelude.{nat_lt, bytes_eq, option_and_then}
 use Rattle.std.specs.Bool.{then_some}
 use Rattle.std.specs.Option.{option_map_or}
@@ -29,7 +29,7 @@ use Rattle.protocol.proofs.Words.Options.{some_injective, and_then_some, or_else
 use Rattle.protocol.proofs.Words.Linking.{heard_said}
 use Rattle.state_transfer.specs.declared.place.Place.{Place}
 use Rattle.state_transfer.specs.Transfer.{TransferData, none_told, new_transfer, moved_to, asking, fitting, digest_of_part, pages_of_part, digest_of_page, wanted_at, with_part_digests, with_page_digests, with_digests, with_page}
-use Rattle.replica_histories.specs.Transfers.{known_below, Aims, FitsTransfer, MayAsk, FitsOpen, LeavesState, AreTaken, open_number, place_sent, WantedByHistory, DigestsCount, PagesCount, AimsStay, AskedStays, OpenStays, OpenExecutes, DigestsTaken, DigestsOpen, DigestsMayAsk, PagesMayAsk, TicksMayAsk, PagesGiveBack, PagesRested, QuorumsWant, TransfersStart, TransfersMove, QuorumsOpen, LowerAreFetched, MayAskAny, TransfersMayFetch, TransfersAsk}
+use Rattle.replica_histories.specs.Transfers.{known_below, Aims, FitsTransfer, MayAsk, FitsOpen, AreTaken, open_number, place_sent, WantedByHistory, DigestsCount, PagesCount, AimsStay, AskedStays, OpenStays, OpenExecutes, DigestsTaken, DigestsOpen, DigestsMayAsk, PagesMayAsk, TicksMayAsk, PagesGiveBack, PagesRested, QuorumsWant, TransfersStart, TransfersMove, QuorumsOpen, LowerAreFetched, MayAskAny, TransfersMayFetch, TransfersAsk}
 use Rattle.replica_histories.proofs.TransfersTaking.{newer_takes_nothing, newer_taken, took_stays, started_taken, rested_taken, page_taken, meta_taken, tick_taken, fetch_taken, execution_leaves, execution_ends}
 use Rattle.replica_histories.proofs.TransfersTaking as Taking
 use Rattle.replica_histories.proofs.Words.{passed}

@@ -1,6 +1,6 @@
 -- The place that a transfer asks for next is the first part that differs from what is in place.
-use Rattle.std.proofs.Common.{◌≡◌, ◌≢◌, ℕ, zero, suc, ◌+◌, ◌*◌, ◌/◌, ◌%◌, ◌≤◌, ◌<◌, ◌⊎◌, inl, inr, Bool, true, false, List, [], ◌∷◌, length, map, get_or, slice_get, refl, sym, ap, ◌∙◌, subst, arith, Option, Some, None, is_none}
-use Rattle.std.specs.Prelude.{slice_index_or, bytes_eq, option_and_then}
+use Rattle.std.proofs.Common.{◌≡◌, ◌≢◌, ℕ, zero, suc, ◌+◌, ◌*◌, ◌/◌, ◌%◌, ◌<◌, ◌⊎◌, inl, inr, Bool, true, false, List, [], ◌∷◌, length, map, get_or, refl, sym, ap, ◌∙◌, subst, arith, Option, Some, None}
+use Rattle.std.specs.Prelude.{bytes_eq}
 use Rattle.std.specs.Bool.{then_some}
 use Rattle.std.specs.List.{range_with_len}
 use Rattle.std.specs.Option.{option_map_or}
@@ -14,8 +14,7 @@ use Rattle.terms.specs.declared.state.Level.{Level}
 use Rattle.terms.specs.declared.state.Level.TheVariants as levels
 use Rattle.partition_tree.specs.Digests.{digest_of_children, page_digests, inner_digest, inner_digests, root_of as root_of_pages}
 use Rattle.wire.specs.Messages.{meta as Meta}
-use Rattle.signing.specs.Heard.{heard}
-use Rattle.protocol.specs.System.Configuration.{Configuration, members}
+use Rattle.protocol.specs.System.Configuration.{Configuration}
 use Rattle.protocol.specs.System.Trace.{Entry, Once, Hears}
 use Rattle.protocol.specs.System.Trace.Entry.{Invoke, Got, Tick, Executed, Installed, Sent, Accepted}
 use Rattle.protocol.specs.Replica.State.{State, page_text, all_pages}
@@ -24,8 +23,8 @@ use Rattle.protocol.proofs.Words.Options.{some_injective}
 use Rattle.protocol.proofs.Words.Roots.{pages_part}
 use Rattle.state_transfer.specs.declared.place.Place.{Place}
 use Rattle.state_transfer.specs.Differences.{IsFirstDifference}
-use Rattle.state_transfer.specs.Places.{root_place, inner_place, page_place}
-use Rattle.state_transfer.specs.Transfer.{TransferData, fitting, digest_of_part, pages_of_part, next_place}
+use Rattle.state_transfer.specs.Places.{inner_place, page_place}
+use Rattle.state_transfer.specs.Transfer.{TransferData, fitting, pages_of_part, next_place}
 use Rattle.state_transfer.proofs.Seeking as Seeking
 use Rattle.replica_histories.specs.Transfers.{page_held, is_fetched, known_below, MayAsk, RestsOn, NextsAreFirst}
 use Rattle.replica_histories.proofs.Transfers.{heard_valid, fitting_got}

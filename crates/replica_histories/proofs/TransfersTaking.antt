@@ -15,7 +15,7 @@ use Rattle.protocol.specs.System.Configuration.{Configuration, members}
 use Rattle.protocol.specs.System.Trace.{Entry}
 use Rattle.protocol.specs.System.Trace.Entry.{Invoke, Got, Tick, Executed, Installed, Sent, Accepted}
 use Rattle.protocol.specs.Replica.State.{State, page_text}
-use Rattle.protocol.specs.Replica.Transfers.{place_from, number_asked, fetching, asked_last, answer, took, in_place}
+use Rattle.protocol.specs.Replica.Transfers.{place_from, number_asked, fetching, asked_last, took, in_place}
 use Rattle.protocol.proofs.Words.Options.{some_injective, or_else_cases}
 use Rattle.protocol.proofs.Evidence.Taken as Taken
 use Rattle.state_transfer.specs.Transfer.{TransferData, none_fetched, new_transfer, with_digests, with_page, RestsOn as IsRested}

@@ -1,6 +1,6 @@
 -- A client that has not stopped sends its request.
-use Rattle.std.proofs.Common.{◌≡◌, ℕ, zero, suc, ◌+◌, ◌≤◌, ◌⊎◌, inl, inr, Bool, true, false, cond, List, [], ◌∷◌, length, refl, sym, ap, ◌∙◌, subst, arith, eq-eqb}
-use Rattle.std.specs.Prelude.{filter, slice_get, Some, ◌==◌, map, take, reverse}
+use Rattle.std.proofs.Common.{◌≡◌, ℕ, ◌+◌, ◌≤◌, ◌⊎◌, inl, inr, Bool, true, false, cond, List, [], ◌∷◌, length, refl, sym, ap, ◌∙◌, subst, arith, eq-eqb}
+use Rattle.std.specs.Prelude.{filter, ◌==◌, reverse}
 use Rattle.tuple_codec.specs.Operations.{Operation}
 use Rattle.protocol.specs.System.Configuration.{Configuration, is_correct, is_correct_client}
 use Rattle.protocol.specs.System.Trace.{Entry, party_of, history_of, Has}
@@ -14,9 +14,8 @@ use Rattle.protocol.specs.Evidence.RefusedRuns.{IsInputOf, is_sent}
 use Rattle.protocol.proofs.Evidence.RefusingRunsSchedules.{feeds_each_step, stops_at_no_sent}
 use Rattle.protocol.proofs.Words.Options.{some_injective}
 use Rattle.protocol.proofs.Words.Elements.{has_filter, has_filtered}
-use Rattle.schedule_text.specs.declared.step.Step.{Step}
 use Rattle.schedule_text.specs.StepView.{step_of}
-use Rattle.schedule_world.specs.Reports.{StopsHere, trace_of}
+use Rattle.schedule_world.specs.Reports.{trace_of}
 use Rattle.schedule_world.specs.Laws.{FirstFrameMayCome}
 
 -- a frame is sent here

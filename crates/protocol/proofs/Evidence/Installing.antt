@@ -18,7 +18,7 @@ use Rattle.signing.specs.Heard.{heard}
 use Rattle.protocol.specs.System.Trace.{Entry, Once, Hears}
 use Rattle.protocol.specs.System.Trace.Entry.{Got, Installed, Sent}
 use Rattle.protocol.specs.Replica.State.{IsState, opening, root_of, page_text, all_pages, pages_of}
-use Rattle.protocol.specs.Replica.RightReplica.{Point, first_point, Leaves, IsStep, IsInstalled, IsRootWanted, MayFetch, digests_at}
+use Rattle.protocol.specs.Replica.RightReplica.{Point, first_point, Leaves, IsStep, IsInstalled, MayFetch, digests_at}
 use Rattle.protocol.specs.Evidence.Examples.{four}
 use Rattle.protocol.specs.Evidence.ExamplesOfInstalling.{later_state, InstallFrames, AreInstallFrames, IsHeaderFirst, installation, StateIsInstalled}
 use Rattle.protocol.proofs.Words.Leaving.{opening_is}

@@ -1,13 +1,11 @@
 -- The definitions refuse a primary that gives another number than the next, and a kept reply that nobody asked for.
-use Rattle.std.proofs.Common.{◌≡◌, ℕ, suc, ◌+◌, ◌≤◌, ◌<◌, ◌⊎◌, inl, inr, true, false, List, [], ◌∷◌, ◌++◌, refl, sym, ap, ◌∙◌, subst, arith, Some, None}
+use Rattle.std.proofs.Common.{◌≡◌, ℕ, ◌⊎◌, inl, inr, true, false, List, [], ◌∷◌, ◌++◌, sym, ap, ◌∙◌, subst, arith, Some, None}
 use Rattle.std.specs.Prelude.{is_some}
-use Rattle.tuple_codec.specs.Operations.{Operation, Outcome}
 use Rattle.terms.specs.declared.order.Mode.TheVariants as modes
-use Rattle.wire.specs.Messages.{pre_prepare as PrePrepare, request as Request, reply as Reply}
+use Rattle.wire.specs.Messages.{pre_prepare as PrePrepare, reply as Reply}
 use Rattle.wire.specs.Words.{requests_of, said}
-use Rattle.wire.specs.Lists.{Each}
 use Rattle.protocol.specs.System.Configuration.{Configuration}
-use Rattle.protocol.specs.System.Trace.{Entry, is_output, Has, either, AreOutputs, Hears}
+use Rattle.protocol.specs.System.Trace.{Entry, is_output, Has, either, AreOutputs}
 use Rattle.protocol.specs.System.Trace.Entry.{Invoke, Got, Tick, Executed, Installed, Sent, Accepted}
 use Rattle.protocol.specs.Replica.Certificates.{logged}
 use Rattle.protocol.specs.Replica.State.{Ran, ran_in}

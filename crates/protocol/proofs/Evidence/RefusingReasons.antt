@@ -1,6 +1,6 @@
 -- The definitions refuse view changes that have no reason.
-use Rattle.std.proofs.Common.{◌≡◌, ◌≢◌, ℕ, suc, ◌+◌, ◌≤◌, ◌<◌, ◌⊎◌, inl, inr, true, cond, not, ◌&&◌, max, List, [], ◌∷◌, Option, Some, None, refl, sym, ap, ◌∙◌, subst, arith}
-use Rattle.std.specs.Prelude.{◌==◌, nat_le, nat_lt}
+use Rattle.std.proofs.Common.{◌≡◌, ◌≢◌, ℕ, suc, ◌+◌, ◌<◌, ◌⊎◌, inl, inr, true, cond, not, ◌&&◌, max, List, [], ◌∷◌, Option, Some, refl, sym, ap, ◌∙◌, subst, arith}
+use Rattle.std.specs.Prelude.{◌==◌, nat_lt}
 use Rattle.std.specs.Option.{option_map_or}
 use Rattle.std.proofs.lemmas.Bool.{and_parts, leb-true, ltb-true, lt-ltb, ne_eqb}
 use Rattle.quorum.specs.Quorum.{count_below}
@@ -8,11 +8,11 @@ use Rattle.protocol.specs.System.Configuration.{Configuration, replicas}
 use Rattle.wire.specs.Messages.{ViewChangeData}
 use Rattle.protocol.specs.System.Trace.{Entry}
 use Rattle.protocol.specs.System.Trace.Entry.{Got, Tick}
-use Rattle.protocol.specs.Replica.Selection.{signed_change, is_within}
+use Rattle.protocol.specs.Replica.Selection.{is_within}
 use Rattle.protocol.specs.Replica.Certificates.{view, target, latest_change}
 use Rattle.protocol.specs.Replica.State.{Call}
-use Rattle.protocol.specs.Replica.RightReplica.{Point, first_point, Leaves, TimesOut, JoinsOthers, sought_view, is_ahead}
-use Rattle.protocol.specs.Evidence.RefusedChanges.{SendsNewChange, NoChangeAtFirst, NoChangeAtFrame, ChangesJoinEnough, ChangesJoinLeast, TicksMoveByOne, count_above}
+use Rattle.protocol.specs.Replica.RightReplica.{Point, Leaves, TimesOut, JoinsOthers, sought_view, is_ahead}
+use Rattle.protocol.specs.Evidence.RefusedChanges.{NoChangeAtFirst, NoChangeAtFrame, ChangesJoinEnough, ChangesJoinLeast, TicksMoveByOne}
 use Rattle.protocol.proofs.Evidence.RefusingChanges.{new_change}
 use Rattle.protocol.proofs.Words.Options.{some_injective}
 

@@ -1,7 +1,7 @@
 -- What a correct replica owes in an event: all that the event's input brings about, until nothing more is due, and
 -- nothing where the input is dropped (Castro and Liskov, TOCS 2002, on normal-case operation, garbage collection, view
 -- changes and state transfer). No law of agreement uses it. It speaks of the same states as what the replica may do.
-use Rattle.std.specs.Prelude.{◌≡◌, ◌≢◌, ℕ, suc, ◌+◌, ◌/◌, ◌%◌, ◌≤◌, ◌<◌, ◌⊎◌, Bool, true, false, ◌&&◌, List, [], ◌∷◌, ◌++◌, reverse, max, nat_lt, ◌==◌, if◌then◌else◌, Some, None, slice_get, AllPairs, ⊤}
+use Rattle.std.specs.Prelude.{◌≡◌, ◌≢◌, ℕ, suc, ◌+◌, ◌/◌, ◌%◌, ◌≤◌, ◌<◌, ◌⊎◌, Bool, true, false, List, [], ◌∷◌, ◌++◌, reverse, ◌==◌, Some, None, slice_get, AllPairs, ⊤}
 use Rattle.std.specs.List.{list_any}
 use Rattle.std.specs.Option.{option_map_or}
 use Rattle.sha2.specs.Sha256.{sha256}
@@ -20,7 +20,7 @@ use Rattle.protocol.specs.System.Frames.{leaf_of}
 use Rattle.protocol.specs.System.Trace.{Entry, party_of, is_output, Once, Has, either, Hears}
 use Rattle.protocol.specs.System.Trace.Entry.{Got, Tick, Sent}
 use Rattle.protocol.specs.Replica.Selection.{is_quorum, is_within}
-use Rattle.protocol.specs.Replica.Certificates.{view, target, is_active_in, taken, latest_change, checkpoints_of, count_checkpoints, low, is_in_marks, entry_proposal, logged, prepare_from, commit_from, vote_in, prepare_of, commit_of, Prepared, Committed}
+use Rattle.protocol.specs.Replica.Certificates.{view, target, is_active_in, taken, latest_change, checkpoints_of, count_checkpoints, low, entry_proposal, logged, prepare_from, commit_from, vote_in, prepare_of, commit_of, Prepared, Committed}
 use Rattle.reply_cache.specs.Replies.{Kept}
 use Rattle.protocol.specs.Replica.State.{State, Call, call_of, Ran, kept_of, last_time, tuples, root_of, page_text, all_pages}
 use Rattle.protocol.specs.Replica.Transfers.{fetch_sent, fetching, asked_last, in_place, GotBelow}
