@@ -1,16 +1,18 @@
 -- Clients and their histories, behind an event.
-use Rattle.std.proofs.Common.{◌≡◌, ℕ, suc, ◌+◌, Bool, true, false, List, [], ◌∷◌, map, refl, sym, ap, ◌∙◌, subst, arith}
+use Rattle.std.proofs.Common.{◌≡◌, ℕ, suc, ◌+◌, ◌≤◌, ◌^◌, Bool, true, false, ◌||◌, List, [], ◌∷◌, map, refl, sym, ap, ◌∙◌, subst, arith, nat_le}
+use Rattle.std.specs.Prelude.{is_some}
+use Rattle.std.proofs.lemmas.Bool.{leb-true, true≢false}
 use Rattle.tuple_codec.specs.Operations.{Operation}
 use Rattle.protocol.specs.System.Configuration.{Configuration}
 use Rattle.protocol.specs.System.Trace.{Entry}
 use Rattle.protocol.specs.System.Trace.Entry.{Invoke}
-use Rattle.protocol.specs.Client.RightClient.{IsClient, IsPromptClient, last_call}
+use Rattle.protocol.specs.Client.RightClient.{IsClient, IsPromptClient, last_call, open_call}
 use Rattle.events.specs.Outputs.{behind, entry_of}
 use Rattle.events.specs.declared.output.Output.{Output}
 use Rattle.events.specs.declared.output.Output.TheVariants as outputs
 use Rattle.journal.specs.Histories.{IsRight}
 use Rattle.journal.specs.Parts.{Part, longer_part}
-use Rattle.client_cert.specs.State.{ClientState}
+use Rattle.client_cert.specs.State.{ClientState, IsSpent}
 use Rattle.client_cert.specs.Fits.{Fits}
 use Rattle.client_cert.specs.Steps.{Leads}
 use Rattle.tuple_codec.specs.OperationView.{outcome_of}
@@ -57,12 +59,25 @@ client_stops c id calls client later share kept was seats same is =
       no_replica = seats.no_replica;
       calls_are = seats.calls_are;
       number_is = same ∙ seats.number_is;
+      runs = λ off. absurd cc;
       fits = λ off. absurd cc;
       prompt = seats.prompt;
     } in
     subst (SeatsClient c id later calls true) (sym is) seat
 
 -- ---- a client that did not stop, and its share
+
+-- no call is open where its history has none
+pub never_busy : (c : Configuration) (id calls : ℕ) (client : ClientState) (share : Part) → SeatsClient c id client calls false share → is_some (open_call share.history) ≡ false → is_some client.call ≡ true → ⊥
+never_busy c id calls client share seats none busy = true≢false (sym busy ∙ sym (seats.fits refl).open_is ∙ none)
+
+-- it is spent where its history has all calls that there may be
+pub spent_calls : (c : Configuration) (id calls : ℕ) (client : ClientState) (share : Part) → SeatsClient c id client calls false share → IsSpent client → 2 ^ 62 ≤ last_call share.history
+spent_calls c id calls client share seats spent =
+    let late : nat_le (2 ^ 62) client.calls ≡ true = subst (λ (b : Bool). (b || nat_le (2 ^ 62) client.calls) ≡ true) (seats.runs refl) spent.1 in
+    let l = leb-true (2 ^ 62) client.calls late in
+    let same = (seats.fits refl).last_is in
+    omega (arith, l, same)
 
 module _ (c : Configuration) (id calls : ℕ) (client later : ClientState) (share : Part) (seats : SeatsClient c id client calls false share) (same : later.number ≡ client.number) where
   fits : Fits c client share.history
@@ -79,6 +94,7 @@ module _ (c : Configuration) (id calls : ℕ) (client later : ClientState) (shar
     no_replica = seats.no_replica;
     calls_are = last;
     number_is = same ∙ seats.number_is;
+    runs = λ _. on;
     fits = λ _. after;
     prompt = subst (λ (p : ℕ). IsPromptClient c p (behind es share.history)) (ap (λ (k : ℕ). 256 + k) (same ∙ seats.number_is) ∙ sym seats.party_is) (after.running on).gave;
   }

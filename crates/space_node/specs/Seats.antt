@@ -1,11 +1,11 @@
 -- The seats of parties: what contracts see of them, what they keep, and what an event does to them. The newest entry of
 -- a history stands first.
-use Rattle.std.specs.Prelude.{◌≡◌, ℕ, ◌+◌, ◌<◌, Bool, true, false, List, ◌∷◌, map}
+use Rattle.std.specs.Prelude.{◌≡◌, ℕ, ◌+◌, ◌<◌, Bool, true, false, List, ◌∷◌, map, is_some}
 use Rattle.protocol.specs.System.Configuration.{Configuration, is_correct_replica}
 use Rattle.protocol.specs.System.Reads.{without_reads}
 use Rattle.protocol.specs.System.Trace.{Entry, party_of, is_output}
 use Rattle.protocol.specs.System.Trace.Entry.{Got, Tick}
-use Rattle.protocol.specs.Client.RightClient.{last_call, IsPromptClient}
+use Rattle.protocol.specs.Client.RightClient.{last_call, open_call, IsPromptClient}
 use Rattle.protocol.specs.Replica.Owed.{IsPromptReplica}
 use Rattle.events.specs.Outputs.{after_event, entry_of}
 use Rattle.events.specs.declared.output.Output.{Output}
@@ -26,6 +26,10 @@ pub record Seated : Type 0 where
 -- it stopped, with the history as it is
 abbrev pub stopped_at : Seated → Seated
 stopped_at s = record s { stopped = true }
+
+-- no call is open, unless it stopped
+abbrev pub IsIdle : Seated → Type 0
+IsIdle s = s.stopped ≡ false → is_some (open_call s.history) ≡ false
 
 -- ---- events
 
@@ -66,14 +70,15 @@ pub record SeatsDesk (c : Configuration) (desk : DeskPart) (share : Part) : Type
   pub fits : FitsDesk c share.party desk share.history
   pub prompt : IsPromptReplica c share.party share.history
 
--- Unless it stopped, the client of this number goes with the history, which has as many calls. The history is prompt to
--- its end.
+-- Unless it stopped, the client of this number runs, and goes with the history, which has as many calls. The history is
+-- prompt to its end.
 pub record SeatsClient (c : Configuration) (number : ℕ) (client : ClientState) (calls : ℕ) (stopped : Bool)
     (share : Part) : Type 0 where
   pub party_is : share.party ≡ 256 + number
   pub no_replica : is_correct_replica c share.party ≡ false
   pub calls_are : last_call share.history ≡ calls
   pub number_is : client.number ≡ number
+  pub runs : stopped ≡ false → client.stopped ≡ false
   pub fits : stopped ≡ false → Fits c client share.history
   pub prompt : IsPromptClient c share.party share.history
 

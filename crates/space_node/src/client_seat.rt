@@ -1,19 +1,20 @@
 //! What a client's handle keeps.
 
-ghost use Rattle.std.specs.Prelude.{◌≡◌, ◌↔◌, ◌+◌, [], false, IfOk, OnErr, IsTrue};
+ghost use Rattle.std.specs.Prelude.{◌≡◌, ◌↔◌, ◌+◌, Err, [], true, false, IfOk, OnErr, IsTrue};
 ghost use Rattle.tuple_codec.specs.OperationView.{operation_of};
 ghost use Rattle.protocol.specs.System.Configuration.{is_correct_replica};
 ghost use Rattle.protocol.specs.Client.RightClient.{IsPromptClient};
+ghost use Rattle.events.specs.declared.output.Stop.TheVariants as Stop;
 ghost use Rattle.client_cert.specs.Fits.{Fits};
 ghost use Rattle.space_node.specs.Calls.{Begins, Comes, IsSpent};
-ghost use Rattle.space_node.specs.Seats.{ClientLeads, stopped_at};
+ghost use Rattle.space_node.specs.Seats.{ClientLeads, IsIdle, stopped_at};
 
 use crate::entries::entries_of;
 use crate::input::{Given, Input};
 use crate::operations::copy_op;
 use crate::recording::record;
 use crate::turn::{Turn, turn_of};
-use client_cert::{Client, Event};
+use client_cert::{Client, Event, InvokeFault};
 use events::{Entry, EntryKind, Outputs, Stop};
 use journal::{AppendFault, Journal, Naming, Share};
 use std::alloc::Global;
@@ -59,6 +60,7 @@ impl<N: Naming> ClientSeat<N> {
         requires no_replica { is_correct_replica N.config share.party ≡ false }
         requires new { share.history ≡ [] }
         requires number { client.number ≡ id.number }
+        requires runs { client.stopped ≡ false }
         requires fits { Fits N.config client [] }
         ensures { result ≡ record { party = share.party; history = []; stopped = false } }
     {
@@ -100,7 +102,7 @@ impl<N: Naming> ClientSeat<N> {
         self.stopped || self.calls >= MAX_CALLS
     }
 
-    /// Begins a call, and gives its request once that is in the journal.
+    /// Begins a call where none is open, and gives its request once that is in the journal.
     ///
     /// # Errors
     ///
@@ -113,15 +115,19 @@ impl<N: Naming> ClientSeat<N> {
         op: Op<Global>,
     ) -> Result<Given, AppendFault>
         requires may { ¬ IsSpent self.old }
+        requires idle { IsIdle self.old }
         ensures begins { IfOk result (λ _. Begins self.old (operation_of op) self.new) }
         ensures stops { OnErr result (self.new ≡ stopped_at self.old) }
     {
         // Until the event is in the journal.
         self.stopped = true;
         let told = copy_op(alloc, &op)?;
-        // No call is open, and a timestamp is left.
-        let Ok(outputs) = self.client.invoke(alloc, op) else {
-            return Err(AppendFault::NoMemory);
+        let outputs = match self.client.invoke(alloc, op) {
+            Ok(outputs) => outputs,
+            Err(InvokeFault::NoMemory) => return Err(AppendFault::NoMemory),
+            // No call is open, and a timestamp is left.
+            Err(InvokeFault::Busy) => unreachable!(),
+            Err(InvokeFault::Stopped) => unreachable!(),
         };
         let timestamp = Timestamp(self.calls + 1);
         let input = Entry::new(EntryKind::Invoke(self.id, timestamp, told));
@@ -153,8 +159,11 @@ impl<N: Naming> ClientSeat<N> {
     {
         // Until the event is in the journal.
         self.stopped = true;
-        let Ok(outputs) = step_client(&mut self.client, alloc, &input) else {
-            return Err(AppendFault::NoMemory);
+        let outputs = match step_client(&mut self.client, alloc, &input) {
+            Ok(outputs) => outputs,
+            Err(Stop::NoMemory) => return Err(AppendFault::NoMemory),
+            // It runs.
+            Err(Stop::Stopped) => unreachable!(),
         };
         let party = Party::Client(self.id);
         let (entry, from) = input.into_entry(party);
@@ -172,6 +181,7 @@ impl<N: Naming> ClientSeat<N> {
 fn step_client(client: &mut Client, alloc: Global, input: &Input) -> Result<Outputs, Stop>
     ensures leads { IfOk result (λ outs. ClientLeads client.old input.now outs.items client.new) }
     ensures runs { IfOk result (λ _. client.new.stopped ≡ false) }
+    ensures stopped { result ≡ Err Stop.Stopped → client.old.stopped ≡ true }
     ensures number { client.new.number ≡ client.old.number }
 {
     match input {

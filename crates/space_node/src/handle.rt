@@ -6,6 +6,7 @@ ghost use Rattle.terms.specs.Parties.{party_number};
 ghost use Rattle.protocol.specs.Client.RightClient.{IsPromptClient};
 ghost use Rattle.space_node.specs.declared.fault.CallFault.TheVariants as CallFault;
 ghost use Rattle.space_node.specs.Calls.{Called, Ends, IsSpent, Refused};
+ghost use Rattle.space_node.specs.Seats.{IsIdle};
 
 use crate::client_seat::ClientSeat;
 use crate::fault::CallFault;
@@ -31,13 +32,15 @@ pub struct ClientHandle<N: Naming> {
 
 impl<N: Naming> Model for ClientHandle<N> {
     ghost use Rattle.space_node.specs.Codes.{seated_code};
-    ghost use Rattle.space_node.specs.Seats.{Seated};
+    ghost use Rattle.space_node.specs.Seats.{IsIdle, Seated};
 
     ghost Value = { Seated };
 
     ghost coded = { seated_code };
 
     ghost view = { λ h. h.seat };
+
+    ghost invariant = { λ h. IsIdle h.seat };
 }
 
 impl<N: Naming> ClientHandle<N> {
@@ -46,6 +49,7 @@ impl<N: Naming> ClientHandle<N> {
         shared: Arc<Shared<N>, Global>,
         inbox: Receiver<Note>,
     ) -> ClientHandle<N>
+        requires { IsIdle seat }
         ensures { result ≡ seat }
     {
         ClientHandle {

@@ -1,6 +1,7 @@
 //! The seats of a new cluster.
 
 ghost use Rattle.std.specs.Prelude.{◌≡◌, ◌+◌, [], All, IfSome};
+ghost use Rattle.space_node.specs.Seats.{IsIdle};
 
 use crate::client_seat::ClientSeat;
 use crate::desk_seat::DeskSeat;
@@ -31,6 +32,7 @@ pub(crate) struct NodeEnd {
 pub(crate) struct ClientEnd<N: Naming> {
     pub(crate) seat: ClientSeat<N>,
     pub(crate) inbox: Receiver<Note>,
+    ghost idle: { IsIdle seat },
 }
 
 /// The parties of a new cluster.

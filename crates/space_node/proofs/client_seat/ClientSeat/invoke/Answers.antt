@@ -1,13 +1,32 @@
-use Rattle.std.proofs.Common.{rules, ◌≡◌, ◌+◌, ◌∷◌, Bool, false, map, refl, subst, sym, ap, ◌∙◌}
+use Rattle.std.proofs.Common.{rules, ◌≡◌, ◌+◌, ◌^◌, ◌≤◌, Err, ◌∷◌, Bool, false, map, refl, subst, sym, ap, ◌∙◌}
+use Rattle.std.specs.Prelude.{is_some}
 use Rattle.tuple_codec.specs.OperationView.{operation_of}
-use Rattle.protocol.specs.Client.RightClient.{last_call}
+use Rattle.protocol.specs.Client.RightClient.{last_call, open_call}
 use Rattle.protocol.specs.System.Trace.Entry.{Invoke}
 use Rattle.events.specs.Outputs.{entry_of}
 use Rattle.journal.specs.Parts.{Part, longer_part}
 use Rattle.space_node.specs.Calls.{AcceptNothing}
 use Rattle.space_node.specs.Seats.{Seated, SeatsClient}
-use Rattle.space_node.proofs.Clients.{begins_with, client_after, client_right, client_stops, fits_invoke, last_invoke}
+use Rattle.space_node.proofs.Clients.{begins_with, client_after, client_right, client_stops, fits_invoke, last_invoke, never_busy, spent_calls}
 use Rattle.space_node.proofs.client_seat.ClientSeat.invoke.Goals as goal
+
+pub unreachable-requires : goal.unreachable-requires
+unreachable-requires g c =
+    let s = c.self.inside in
+    let off : s.stopped ≡ false = search rules in
+    let seats : SeatsClient g.N.Naming.config s.id.number s.client s.calls false s.share =
+    subst (λ (b : Bool). SeatsClient g.N.Naming.config s.id.number s.client s.calls b s.share) off c.self.invariant in
+    let idle : is_some (open_call s.share.history) ≡ false = search rules in
+    never_busy g.N.Naming.config s.id.number s.calls s.client s.share seats idle (c.invoke.ensures.busy.0 (c.in-Err-Busy.is ∙ ap Err c.in-Err-Busy.field-0-is))
+
+pub unreachable-requires-in-Err-Stopped : goal.unreachable-requires-in-Err-Stopped
+unreachable-requires-in-Err-Stopped g c =
+    let s = c.self.inside in
+    let off : s.stopped ≡ false = search rules in
+    let seats : SeatsClient g.N.Naming.config s.id.number s.client s.calls false s.share =
+    subst (λ (b : Bool). SeatsClient g.N.Naming.config s.id.number s.client s.calls b s.share) off c.self.invariant in
+    let left : 2 ^ 62 ≤ last_call s.share.history → ⊥ = search rules in
+    left (spent_calls g.N.Naming.config s.id.number s.calls s.client s.share seats (c.invoke.ensures.stopped.0 (c.in-Err-Stopped.is ∙ ap Err c.in-Err-Stopped.field-0-is)))
 
 pub record-requires-clause-right : goal.record-requires-clause-right
 record-requires-clause-right g c =

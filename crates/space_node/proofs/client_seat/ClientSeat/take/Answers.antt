@@ -1,10 +1,17 @@
-use Rattle.std.proofs.Common.{rules, ◌≡◌, ◌+◌, ◌∷◌, Bool, false, map, subst, sym, ap, ◌∙◌}
+use Rattle.std.proofs.Common.{rules, ◌≡◌, ◌+◌, Err, ◌∷◌, Bool, false, map, subst, sym, ap, ◌∙◌}
+use Rattle.std.proofs.lemmas.Bool.{true≢false}
 use Rattle.protocol.specs.Client.RightClient.{last_call}
 use Rattle.events.specs.Outputs.{entry_of}
 use Rattle.journal.specs.Parts.{Part, longer_part}
 use Rattle.space_node.specs.Seats.{Seated, SeatsClient, input_of}
 use Rattle.space_node.proofs.Clients.{client_after, client_right, client_stops, comes, fits_input, last_after}
 use Rattle.space_node.proofs.client_seat.ClientSeat.take.Goals as goal
+
+pub unreachable-requires : goal.unreachable-requires
+unreachable-requires g c =
+    let s = c.self.inside in
+    let off : s.stopped ≡ false = search rules in
+    true≢false (sym (c.step_client.ensures.stopped (c.in-Err-Stopped.is ∙ ap Err c.in-Err-Stopped.field-0-is)) ∙ c.self.invariant.runs off)
 
 pub record-requires-clause-right : goal.record-requires-clause-right
 record-requires-clause-right g c =

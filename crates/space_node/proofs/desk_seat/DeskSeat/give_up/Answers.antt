@@ -1,4 +1,4 @@
-use Rattle.std.proofs.Common.{rules, ◌≡◌, subst, sym}
+use Rattle.std.proofs.Common.{rules, ◌≡◌}
 use Rattle.journal.specs.Parts.{fresh}
 use Rattle.space_node.proofs.Parts.{desk_left}
 use Rattle.space_node.proofs.desk_seat.DeskSeat.give_up.Goals as goal
