@@ -86,7 +86,7 @@ spells_signed seed leaf body text s whole is kind short same verified spelled ar
     record {
       signed = s;
       spells = record {
-        valid = record { sender = is.sender; message = is.message; authenticator = (long, bytes); proved = sym kind; short = fits };
+        valid = record { sender = is.sender; message = is.message; authenticator = (long, bytes, verified.formed.leaf); proved = sym kind; short = fits };
         spelled = spelled;
       };
       verifies = subst (λ (x : List ℕ). Verifies (public_key seed) x s) same verified;

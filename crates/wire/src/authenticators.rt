@@ -8,7 +8,7 @@ ghost use Rattle.wire.specs.Spelling.{mac_before};
 ghost use Rattle.wire.specs.Reading.{follows, mac_at, macs_at, authenticator_of};
 ghost use Rattle.wire.specs.Giving.{YieldsFront};
 
-use crate::frames::{MAX_RECEIVERS, ReceiverMac, SIGNATURE_LEN};
+use crate::frames::{MAX_RECEIVERS, ReceiverMac, SIGNATURE_KEYS, SIGNATURE_LEN};
 use crate::reading::{party, read_byte, read_digest, read_u16};
 use arrayvec::ArrayVec;
 
@@ -74,7 +74,7 @@ pub fn read_signature_authenticator(bytes: &[u8]) -> Option<&[u8]>
     ensures { Yields (λ s. signature s.now) result (authenticator_of true bytes.now) }
 {
     let (kind, rest) = read_byte(bytes)?;
-    if kind != 1 || rest.len() != SIGNATURE_LEN {
+    if kind != 1 || rest.len() != SIGNATURE_LEN || rest[0] >= SIGNATURE_KEYS {
         return None;
     }
     Some(rest)

@@ -7,7 +7,7 @@ ghost use Rattle.wire.specs.Views.{message_data, authenticator_data};
 
 use crate::frames::{
     DIGEST, ONE, REQUEST, TWO, VIEW_CHANGE, carried_request, joined, new_view, new_view_of,
-    parts_with_macs, piece, signed, signed_parts, with_macs,
+    parts_with_macs, piece, signed, signed_by, signed_parts, with_macs,
 };
 use std::alloc::{AllocError, Global};
 use std::test::Fail;
@@ -166,6 +166,18 @@ fn batches_stand(rt: HostRuntime) -> Result<(), Fail> {
 fn view_changes_stand(rt: HostRuntime) -> Result<(), Fail> {
     let body = joined(rt.alloc(), VIEW_CHANGE)?;
     assert!(rt; stands_signed(rt.alloc(), &body)?);
+    Ok(())
+}
+
+#[test]
+fn the_keys_of_signatures_are_64(rt: HostRuntime) -> Result<(), Fail> {
+    let body = joined(rt.alloc(), VIEW_CHANGE)?;
+    let by_the_first = signed_by(rt.alloc(), &body, 0)?;
+    let by_the_last = signed_by(rt.alloc(), &body, 63)?;
+    let by_none = signed_by(rt.alloc(), &body, 64)?;
+    assert!(rt; stands(rt.alloc(), &by_the_first)?);
+    assert!(rt; stands(rt.alloc(), &by_the_last)?);
+    assert!(rt; is_malformed(rt.alloc(), &by_none));
     Ok(())
 }
 

@@ -67,10 +67,15 @@ pub fn with_macs(alloc: Global, body: &[u8]) -> Result<Vec<u8>, AllocError> {
 
 // A frame of the body with a signature, which no test verifies.
 pub fn signed(alloc: Global, body: &[u8]) -> Result<Vec<u8>, AllocError> {
-    let signature = Vec::from_elem(alloc, 7u8, SIGNATURE_LEN)?;
+    signed_by(alloc, body, 7)
+}
+
+// A frame of the body with bytes of a signature's length, the first of which numbers the key.
+pub fn signed_by(alloc: Global, body: &[u8], key: u8) -> Result<Vec<u8>, AllocError> {
+    let rest = Vec::from_elem(alloc, 7u8, SIGNATURE_LEN - 1)?;
     let mut frame = piece(alloc, body)?;
-    frame.extend_from_slice(&[1])?;
-    frame.extend_from_slice(&signature)?;
+    frame.extend_from_slice(&[1, key])?;
+    frame.extend_from_slice(&rest)?;
     Ok(frame)
 }
 

@@ -118,7 +118,7 @@ signed_frames_are_heard c replica leaf message valid right within may kind short
       valid = record {
         sender = omega (arith, below, most);
         message = may;
-        authenticator = (verifies.formed.whole, signature_bytes seed leaf text within);
+        authenticator = (verifies.formed.whole, signature_bytes seed leaf text within, verifies.formed.leaf);
         proved = sym kind;
         short = short;
       };
