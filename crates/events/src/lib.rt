@@ -2,10 +2,10 @@
 //!
 //! # What is proved
 //!
-//! [`Config::new`] makes exactly the valid configurations, and its readers answer what the definitions ask of a configuration. An [`Entry`]
-//! is the protocol's entry, and an [`Output`] of a party is the entry that it puts into the party's history. An entry drops to whom a frame
-//! goes; `AreSentAsMeant` says that each frame goes exactly to the parties for whom it is: those with a MAC in it, or all replicas but the
-//! sender of a signed one.
+//! [`Config::new`] makes exactly the valid configurations, and its readers answer what the definitions ask of a
+//! configuration. An [`Entry`] is the protocol's entry, and an [`Output`] of a party is the entry that it puts into the
+//! party's history. An entry drops to whom a frame goes; `AreSentAsMeant` says that each frame goes exactly to the
+//! parties for whom it is: those with a MAC in it, or all replicas but the sender of a signed one.
 #![tactic(auto)]
 
 mod config;

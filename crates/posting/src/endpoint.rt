@@ -137,8 +137,8 @@ impl Endpoint {
         seal_for_others(&mut self.ring, alloc, self.faults, self.me, message)
     }
 
-    /// The frame of a message that is signed, by the next of 64 keys, whose number is the signature's first byte: 262,144 bytes at the most for a view change, and
-    /// 4,194,304 for a new view. It may be posted any number of times.
+    /// The frame of a message that is signed, by the next of 64 keys, whose number is the signature's first byte:
+    /// 262,144 bytes at the most for a view change, and 4,194,304 for a new view. It may be posted any number of times.
     ///
     /// The tree of the keys is made at the first call, in some 115,000 blocks of SHA-256, and then kept.
     ///

@@ -32,11 +32,11 @@
 //! and of earlier views what was committed. What it keeps for its own view changes are the batches that it logged and
 //! those that it committed ([`claims_are_kept`]), and of each other replica it holds the latest view change that
 //! counted ([`changes_are_held`]). All that it holds for changes of its view goes from entry to entry
-//! ([`entries_pass`]): it stays where an entry brings nothing about ([`entries_keep_changes`]), claims what is logged and committed
-//! ([`changes_stay`]), and has the view changes that are sent and taken, and the new view that begins the view
-//! ([`changes_are_made`]). The view change that it has to say is one ([`views_change`]), others move it to a view exactly
-//! where the history says so ([`changes_are_held`]), and each key that is spent signed what was sent. That it sends a new
-//! view where it may is beyond these laws.
+//! ([`entries_pass`]): it stays where an entry brings nothing about ([`entries_keep_changes`]), claims what is logged
+//! and committed ([`changes_stay`]), and has the view changes that are sent and taken, and the new view that begins the
+//! view ([`changes_are_made`]). The view change that it has to say is one ([`views_change`]), others move it to a view
+//! exactly where the history says so ([`changes_are_held`]), and each key that is spent signed what was sent. That it
+//! sends a new view where it may is beyond these laws.
 #![tactic(auto)]
 
 mod changes;

@@ -4,9 +4,10 @@ ghost use Rattle.replica_histories.specs.Claims.{ClaimsBegin, ClaimsGrow, Claims
 ghost use Rattle.replica_histories.specs.Received.{ReceivedBegin, ReceivedStays, SentBringNone, UnsignedBringNone, RefusedBringNone, ReceivedTakes, ReceivedOwn, HeldAreJoined, AheadAreHeld};
 ghost use Rattle.replica_histories.specs.Views.{TicksAreReasons, ViewChangesFit, NewChangesAreOne, ViewChangesGoAgain, NewViewsEnter, NewViewsFit, NewViewsGoAgain, StartsMayAsk, ViewChangesCount};
 
-/// A view change that says what the history says, and has a reason, may be sent where the log asks for no commit, and the
-/// replica is active no more. A tick is a reason while a request waits or the replica is inactive; the last one may go again until a view begins. One that is got counts where it is within its bounds,
-/// above the own view, and newer than its sender's last (Castro and Liskov, TOCS 2002, on view changes).
+/// A view change that says what the history says, and has a reason, may be sent where the log asks for no commit, and
+/// the replica is active no more. A tick is a reason while a request waits or the replica is inactive; the last one may
+/// go again until a view begins. One that is got counts where it is within its bounds, above the own view, and newer
+/// than its sender's last (Castro and Liskov, TOCS 2002, on view changes).
 pub fn views_change()
     ensures ticks { TicksAreReasons }
     ensures changes { ViewChangesFit }

@@ -1,6 +1,6 @@
 //! Tests of a replica (`replica`), one of four over real frames: a request that is numbered, prepared, committed,
-//! executed and answered, reads, what comes again, what is dropped, checkpoints, marks that move, states that are fetched, views
-//! that change, and memory refused in each kind of event.
+//! executed and answered, reads, what comes again, what is dropped, checkpoints, marks that move, states that are
+//! fetched, views that change, and memory refused in each kind of event.
 #![tactic(auto)]
 
 #[cfg(test)]

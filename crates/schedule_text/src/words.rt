@@ -45,7 +45,8 @@ impl<'a> Words<'a> {
 
     /// The next word, and it is passed with the blanks around it.
     pub(crate) fn next(&mut self) -> Option<&'a [u8]>
-        ensures { MatchOption result (trimmed self.old.rest.now ≡ []) (λ w. IsFirst self.old.rest.now w.now self.new.rest.now) }
+        ensures { MatchOption result (trimmed self.old.rest.now ≡ [])
+            (λ w. IsFirst self.old.rest.now w.now self.new.rest.now) }
     {
         self.pass_blanks();
         if self.rest.is_empty() {
@@ -67,7 +68,8 @@ impl<'a> Words<'a> {
 
     /// The next word, where there is one.
     pub(crate) fn word(&mut self) -> Result<&'a [u8], StepFault>
-        ensures { MatchResult result (λ w. IsFirst self.old.rest.now w.now self.new.rest.now) (λ fault. trimmed self.old.rest.now ≡ []) }
+        ensures { MatchResult result (λ w. IsFirst self.old.rest.now w.now self.new.rest.now)
+            (λ fault. trimmed self.old.rest.now ≡ []) }
     {
         match self.next() {
             Some(word) => Ok(word),
@@ -112,7 +114,8 @@ impl<'a> Words<'a> {
 
     /// There is no further word.
     pub(crate) fn end(&mut self) -> Result<(), StepFault>
-        ensures { MatchResult result (λ _. trimmed self.old.rest.now ≡ []) (λ fault. Because fault (trimmed self.old.rest.now ≡ [] → ⊥)) }
+        ensures { MatchResult result (λ _. trimmed self.old.rest.now ≡ [])
+            (λ fault. Because fault (trimmed self.old.rest.now ≡ [] → ⊥)) }
     {
         match self.next() {
             Some(_) => Err(StepFault::Refused),

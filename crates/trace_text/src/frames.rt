@@ -288,7 +288,8 @@ fn put_part(
     place: Place,
     out: &mut Vec<u8>,
 ) -> Result<(), NoMemory>
-    ensures { Appends result out.old.items (part_text word.now (name_text sender) number place.level place.index) out.new.items }
+    ensures { Appends result out.old.items (part_text word.now (name_text sender) number place.level place.index)
+        out.new.items }
 {
     let sender = Name(sender);
     put(
