@@ -59,6 +59,12 @@ def type_above(lines, head):
     return found[1] if found and " for " not in above else None
 
 
+def home_of(holder, lines, names):
+    """Returns the module in which a type of the file stands, by which the prover names its methods."""
+    taken = re.search(rf"^use crate::([\w:]+)::(?:\{{[^}}]*\b{holder}\b|{holder}\b)", "\n".join(lines), re.MULTILINE)
+    return taken[1].split("::") if taken else names
+
+
 def function_at(file, lines, number):
     """Returns the place of the function in whose body a line stands, or None."""
     for head in range(number, -1, -1):
@@ -73,7 +79,7 @@ def function_at(file, lines, number):
             holder = type_above(lines, head)
             if not holder:
                 return None
-            names.append(holder)
+            names = [*home_of(holder, lines, names), holder]
         return Place(file, "::".join([*names, found[2]]), head + 1, body[1] + 1)
     return None
 
@@ -114,8 +120,10 @@ class Batch:
 
     def refused(self, crate, said):
         """Returns, of each edit whose function has no proof by what a check with all of them said, a line that says so."""
-        functions = {it[1]: it[2] for it in map(SAID.fullmatch, said.splitlines()) if it}
-        notes = [it for it in map(NOTE.match, said.splitlines()) if it and not NAMES.search(it[0])]
+        # A check that takes long says these words before what it found.
+        lines = [it.removeprefix("so far: ") for it in said.splitlines()]
+        functions = {it[1]: it[2] for it in map(SAID.fullmatch, lines) if it}
+        notes = [it for it in map(NOTE.match, lines) if it and not NAMES.search(it[0])]
         found = {}
         for edit, place in self.edits.items():
             verdict = functions.get(f"{crate}::{place.function}", "")
