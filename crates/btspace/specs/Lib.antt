@@ -1,12 +1,1 @@
-pub mod Run
-pub mod Pieces
-pub mod NextLines
-pub mod LongLines
-pub mod Endings
-pub mod Moments
-pub mod Scripts
 pub mod Results
-pub mod Shown
-pub mod ShowFaults
-pub mod Refusals
-pub mod Complaints

@@ -1,11 +1,13 @@
--- What a run on a cluster prints.
+-- What a run on a cluster prints, and what is said of one that did not end well.
 use Rattle.std.specs.Prelude.{◌≡◌, ℕ, List, length, Option, Result, MatchResult}
 use Rattle.std.specs.List.{flat_map}
 use Rattle.std.specs.Io.KnownBytes.{Appends}
 use Rattle.std.specs.declared.alloc.Global.{Global}
 use Rattle.tuple_codec.specs.OperationView.{outcome_of}
 use Rattle.tuple_codec.specs.declared.operations.Answer.{Answer}
-use Rattle.btspace.specs.Run.{result_line}
+use Rattle.one_space.specs.Run.{result_line}
+use Rattle.one_space.specs.declared.complaints.Complaint.{Complaint}
+use Rattle.one_space.specs.declared.complaints.Complaint.TheVariants as complaint
 use Rattle.btspace.specs.declared.run.RunFault.{RunFault}
 use Rattle.btspace.specs.declared.run.RunFault.TheVariants.{Configuration, Stopped, NoMemory, Write}
 
@@ -43,3 +45,9 @@ IsNoWrite Configuration = Unit {0}
 IsNoWrite Stopped = Unit {0}
 IsNoWrite NoMemory = Unit {0}
 IsNoWrite (Write error) = ⊥
+
+abbrev pub TellsRun : RunFault → Complaint → Type 0
+TellsRun Configuration c = c ≡ complaint.Configuration
+TellsRun Stopped c = c ≡ complaint.Stopped
+TellsRun NoMemory c = c ≡ complaint.Stopped
+TellsRun (Write error) c = c ≡ complaint.Stopped

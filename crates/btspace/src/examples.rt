@@ -1,7 +1,7 @@
 //! The example scripts, and their results.
 
-use crate::local::local;
 use crate::tests::clusters::{CLUSTER_SETTINGS, is_answered};
+use one_space::local;
 
 const LOCK_SCRIPT: &str = r#"# A lock on a printer: whoever has taken its one token holds it.
 
@@ -215,7 +215,7 @@ found ("job" "wash" 1)
 absent
 "#;
 
-const ROWS: [(&str, &str); 5] = [
+static ROWS: [(&str, &str); 5] = [
     (LOCK_SCRIPT, LOCK_RESULTS),
     (BARRIER_SCRIPT, BARRIER_RESULTS),
     (ELECTION_SCRIPT, ELECTION_RESULTS),
@@ -225,7 +225,7 @@ const ROWS: [(&str, &str); 5] = [
 
 #[test]
 fn runs_the_examples(rt: HostRuntime) {
-    for (script, results) in ROWS {
+    for (script, results) in &ROWS {
         let mut written = Vec::new(rt.alloc());
         assert!(rt;
             local(rt.alloc(), script.as_bytes(), &mut written).is_ok(),
@@ -238,8 +238,8 @@ fn runs_the_examples(rt: HostRuntime) {
 // With one client a cluster answers as a space of its own does.
 #[test]
 fn runs_the_examples_on_a_cluster(rt: HostRuntime) {
-    for (script, results) in ROWS {
-        let row = (CLUSTER_SETTINGS, script, results);
+    for (script, results) in &ROWS {
+        let row = (CLUSTER_SETTINGS, *script, *results);
         assert!(rt; is_answered(&rt, rt.alloc(), row), "{script}");
     }
 }

@@ -2,44 +2,31 @@
 //!
 //! # What is proved
 //!
-//! `local`, over any reader and writer whose bytes are known: at Ok what is written is the result lines of the run
-//! over the lines read; at a refused line those of the lines before it, and the fault is its number and refusal; at
-//! want of memory or a reader's error those of some lines in front. `show` writes the tuple that the digits spell, and
-//! refuses exactly where they spell none. The texts of standard error and the statuses follow from the faults, and the
-//! status of words that are no request from why they are none. Results are held back only while a whole line is at
-//! hand, so that nobody waits for an answer that is there; in which order reads and writes come is tested.
+//! `local` and `show` are those of `one_space`. What `run` writes is a result line for each of so many answers as there
+//! are operations; at a fault it is nothing, unless the writer failed. The status of words that are no request follows
+//! from why they are none.
 //!
-//! Of `run`: `read_script` gives the operations of all lines, or the number and the refusal of the first line that is
-//! refused. What `run` writes is a result line for each of so many answers as there are operations; at a fault it is
-//! nothing, unless the writer failed. That these answers are those of the calls, in the order of the script, that a
-//! faulty party is refused before the script is read, and what is shown while it runs, is tested.
+//! That the answers of `run` are those of the calls, in the order of the script, that a faulty party is refused before
+//! the script is read, and what is shown while it runs, is tested.
 #![tactic(auto)]
 
 ghost use Rattle.std.specs.Prelude.{◌≡◌};
-ghost use Rattle.btspace.specs.Complaints.{status_of};
 
-mod complaints;
 mod display;
-mod input;
-mod local;
-mod pieces;
 mod run;
 mod schedule;
-mod script;
-mod show;
 
 use cluster_run::is_faultless;
 use command_line::{NoRequest, Printed, Request, read_words};
-use complaints::Complaint;
 use config_text::Settings;
 use display::Display;
 use events::Config;
 use journal::Opened;
-use local::local;
+use one_space::{
+    Complaint, STANDARD_INPUT, complain, print_tuple, run_script, script_at, words_of,
+};
 use run::run;
 use schedule::{read_settings, schedule};
-use script::read_script;
-use show::show;
 use std::alloc::Global;
 use std::io::{IsTerminal, Read};
 use std::marker::Brand;
@@ -50,10 +37,6 @@ use std::thread::Threads;
 use std::time::Clock;
 use std::{fs, io};
 use tuple_codec::Op;
-
-// A pipe can't always be opened by this path, as where the program runs as another user than its maker's. So it is
-// taken for the standard input that the program has already.
-const STANDARD_INPUT: &str = "/dev/stdin";
 
 fn main(rt: HostRuntime) -> ExitCode {
     let is_terminal = rt.stderr().is_terminal();
@@ -75,13 +58,9 @@ fn act_on_words<
         + Send
         + 'static,
 >(rt: &R, is_terminal: bool) -> u8 {
-    let args = match std::env::args(rt) {
-        Ok(args) => args,
-        Err(error) => return refuse_words(rt, &error),
-    };
-    let words: Vec<String> = match args.collect(rt.alloc()) {
+    let words = match words_of(rt) {
         Ok(words) => words,
-        Err(_) => return complain(rt, Complaint::Stopped),
+        Err(status) => return status,
     };
     match read_words(rt, words.as_slice()) {
         Ok(request) => act_on(rt, is_terminal, request),
@@ -117,23 +96,6 @@ fn act_on<
     }
 }
 
-fn run_script<R: Files + Input + Print + Eprint + AllocGlobal>(rt: &R, path: &str) -> u8 {
-    if path == STANDARD_INPUT {
-        return run_lines(rt, rt.reader(), path);
-    }
-    match fs::open(rt, path) {
-        Ok(file) => run_lines(rt, file, path),
-        Err(error) => complain(rt, Complaint::of_open(&error, path)),
-    }
-}
-
-fn run_lines<R: Print + Eprint + AllocGlobal, I: Read + Drop>(rt: &R, input: I, path: &str) -> u8 {
-    match local(rt.alloc(), input, &mut io::writer(rt)) {
-        Ok(()) => 0,
-        Err(fault) => complain(rt, Complaint::of_local(&fault, path)),
-    }
-}
-
 // The configuration is read and judged before the schedule is looked at.
 fn run_configured<R: Files + Input + Print + Eprint + AllocGlobal>(
     rt: &R,
@@ -161,7 +123,7 @@ fn settings_at<'a, R: Files + Input + AllocGlobal>(
     };
     match settings {
         Ok(settings) => Ok(settings),
-        Err(fault) => Err(Complaint::of_schedule(&fault, path)),
+        Err(fault) => Err(fault.complaint(path)),
     }
 }
 
@@ -189,7 +151,7 @@ fn run_steps<R: Print + Eprint + AllocGlobal, I: Read + Drop>(
 ) -> u8 {
     match schedule(rt.alloc(), config, input, printed, &mut io::writer(rt)) {
         Ok(()) => 0,
-        Err(fault) => complain(rt, Complaint::of_schedule(&fault, path)),
+        Err(fault) => complain(rt, fault.complaint(path)),
     }
 }
 
@@ -216,24 +178,6 @@ fn run_cluster<
     }
 }
 
-fn script_at<'a, R: Files + Input + AllocGlobal>(
-    rt: &R,
-    path: &'a str,
-) -> Result<Vec<Op<Global>>, Complaint<'a>> {
-    let script = if path == STANDARD_INPUT {
-        read_script(rt.alloc(), rt.reader())
-    } else {
-        match fs::open(rt, path) {
-            Ok(file) => read_script(rt.alloc(), file),
-            Err(error) => return Err(Complaint::of_open(&error, path)),
-        }
-    };
-    match script {
-        Ok(ops) => Ok(ops),
-        Err(fault) => Err(Complaint::of_local(&fault, path)),
-    }
-}
-
 fn run_operations<R: Print + Eprint + AllocGlobal + Threads + Wait + Clock + Copy + Send + 'static>(
     rt: &R,
     is_terminal: bool,
@@ -252,24 +196,8 @@ fn run_operations<R: Print + Eprint + AllocGlobal + Threads + Wait + Clock + Cop
     );
     match ending {
         Ok(()) => 0,
-        Err(fault) => complain(rt, Complaint::of_run(&fault)),
+        Err(fault) => complain(rt, fault.complaint()),
     }
-}
-
-fn print_tuple<R: Print + Eprint + AllocGlobal>(rt: &R, digits: &str) -> u8 {
-    match show(rt.alloc(), digits, &mut io::writer(rt)) {
-        Ok(()) => 0,
-        Err(fault) => complain(rt, Complaint::of_show(&fault)),
-    }
-}
-
-// Words that aren't UTF-8 are a mistake on the command line.
-fn refuse_words<R: Eprint>(rt: &R, error: &io::Error) -> u8 {
-    if error.kind() == io::ErrorKind::OutOfMemory {
-        return complain(rt, Complaint::Stopped);
-    }
-    let _ = eprintln!(rt; "error: {error}");
-    2
 }
 
 // What there was to print of the words is printed.
@@ -283,14 +211,6 @@ fn end_words<R: Eprint>(rt: &R, why: NoRequest) -> u8
         NoRequest::Wrong => 2,
         NoRequest::Stopped => complain(rt, Complaint::Stopped),
     }
-}
-
-// What can't be said on standard error is left unsaid: the status tells it too.
-fn complain<R: Eprint>(rt: &R, complaint: Complaint<'_>) -> u8
-    ensures { result ≡ status_of complaint.entry }
-{
-    let _ = eprintln!(rt; "{complaint}");
-    complaint.status()
 }
 
 #[cfg(test)]

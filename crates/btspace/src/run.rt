@@ -1,11 +1,12 @@
 //! A script on a running cluster.
 
 ghost use Rattle.std.specs.Prelude.{◌≡◌, ◌++◌, IfOk, OnOk, vec_len};
-ghost use Rattle.btspace.specs.Results.{EndsCluster, WritesResults, answer_line, results_text};
+ghost use Rattle.btspace.specs.Results.{EndsCluster, TellsRun, WritesResults, answer_line, results_text};
 
 use cluster_run::{RunFault as ClusterFault, Watch};
 use config_text::Settings;
 use journal::{Naming, Opened};
+use one_space::Complaint;
 use std::alloc::Global;
 use std::io::{self, Write};
 use std::sync::Wait;
@@ -29,6 +30,17 @@ pub enum RunFault {
     NoMemory,
     #[error("not written: {0}")]
     Write(io::Error),
+}
+
+impl RunFault {
+    pub fn complaint(&self) -> Complaint<'static>
+        ensures { TellsRun self.now result }
+    {
+        match self {
+            RunFault::Configuration => Complaint::Configuration,
+            RunFault::Stopped | RunFault::NoMemory | RunFault::Write(_) => Complaint::Stopped,
+        }
+    }
 }
 
 impl From<NoMemory> for RunFault {

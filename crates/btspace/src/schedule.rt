@@ -1,9 +1,9 @@
 //! A schedule in a world of its own.
 
-use crate::pieces::{PieceEnd, ReadFault, drop_return, read_piece};
 use command_line::Printed;
 use config_text::{ConfigFault, Settings, read_config};
 use events::{Config, Entry};
+use one_space::{Complaint, PieceEnd, ReadFault, drop_return, read_piece};
 use picture::write_picture;
 use schedule_text::{Step, StepFault, read_step};
 use schedule_world::{Acceptance, Point, Report, RunFault, run};
@@ -35,6 +35,18 @@ pub enum ScheduleFault {
     Read(io::Error),
     #[error("not written: {0}")]
     Write(io::Error),
+}
+
+impl ScheduleFault {
+    /// What is said of it where the file stands at this path.
+    pub fn complaint<'a>(&self, path: &'a str) -> Complaint<'a> {
+        match self {
+            ScheduleFault::Configuration => Complaint::Configuration,
+            ScheduleFault::Step { line } => Complaint::Step { line: *line },
+            ScheduleFault::Read(_) => Complaint::Unreadable { path },
+            ScheduleFault::NoMemory | ScheduleFault::Write(_) => Complaint::Stopped,
+        }
+    }
 }
 
 impl From<NoMemory> for ScheduleFault {

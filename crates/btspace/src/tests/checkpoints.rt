@@ -408,7 +408,7 @@ trace 141
 "#;
 
 // Configurations, schedules, whether they are traced, and what is written.
-const ROWS: [(&str, &str, bool, &str); 5] = [
+static ROWS: [(&str, &str, bool, &str); 5] = [
     (
         EVERY_NUMBER_SETTINGS,
         MARKS_MOVE_SCHEDULE,
@@ -443,7 +443,7 @@ const ROWS: [(&str, &str, bool, &str); 5] = [
 
 #[test]
 fn runs_the_schedules_with_checkpoints(rt: HostRuntime) {
-    for row in ROWS {
-        assert!(rt; is_reported(rt.alloc(), row), "{}", row.1);
+    for row in &ROWS {
+        assert!(rt; is_reported(rt.alloc(), *row), "{}", row.1);
     }
 }

@@ -1,13 +1,11 @@
 //! Scripts on running clusters.
 
-use crate::complaints::Complaint;
-use crate::local::LocalFault;
 use crate::run::{RunFault, run};
 use crate::schedule::read_settings;
-use crate::script::read_script;
 use cluster_run::{Unwatched, is_faultless};
 use config_text::Settings;
 use journal::Opened;
+use one_space::{LocalFault, read_script};
 use std::alloc::Global;
 use std::marker::Brand;
 use std::sync::Wait;
@@ -123,7 +121,7 @@ pub fn is_answered<R: Threads + Wait + Clock + Copy + Send + 'static>(
         && written.as_slice() == results.as_bytes()
 }
 
-const ROWS: [(&str, &str, &str); 5] = [
+static ROWS: [(&str, &str, &str); 5] = [
     (
         CLUSTER_SETTINGS,
         "out (1)\nout (1)\ninp (?int)\nrdAll 64 (*)\nrdp ()\n",
@@ -141,8 +139,8 @@ const ROWS: [(&str, &str, &str); 5] = [
 
 #[test]
 fn runs_scripts_on_clusters(rt: HostRuntime) {
-    for row in ROWS {
-        assert!(rt; is_answered(&rt, rt.alloc(), row), "{}", row.1);
+    for row in &ROWS {
+        assert!(rt; is_answered(&rt, rt.alloc(), *row), "{}", row.1);
     }
 }
 
@@ -166,7 +164,7 @@ fn stops_at_a_full_journal(rt: HostRuntime) {
     let ending = run_text(&rt, rt.alloc(), SMALL_JOURNAL, "out (1)\n", &mut written);
     assert_eq!(rt; ending, Ending::Stopped);
     assert!(rt; written.is_empty());
-    assert_eq!(rt; Complaint::of_run(&RunFault::Stopped).status(), 3);
+    assert_eq!(rt; RunFault::Stopped.complaint().status(), 3);
 }
 
 #[test]
@@ -182,7 +180,7 @@ fn refuses_faulty_parties(rt: HostRuntime) {
         };
         assert!(rt; is_refused);
     }
-    assert_eq!(rt; Complaint::of_run(&RunFault::Configuration).status(), 1);
+    assert_eq!(rt; RunFault::Configuration.complaint().status(), 1);
 }
 
 #[test]

@@ -83,7 +83,7 @@ trace 169
 "#;
 
 // Configurations, schedules, whether they are traced, and what is written.
-const ROWS: [(&str, &str, bool, &str); 5] = [
+static ROWS: [(&str, &str, bool, &str); 5] = [
     (FOUR_SETTINGS, FIRST_READ_SCHEDULE, false, FIRST_READ_REPORT),
     (FOUR_SETTINGS, TWO_CALLS_SCHEDULE, false, TWO_CALLS_REPORT),
     (FOUR_SETTINGS, LIAR_SCHEDULE, false, LIAR_REPORT),
@@ -97,7 +97,7 @@ const ROWS: [(&str, &str, bool, &str); 5] = [
 ];
 
 // Schedules, and the line that is refused.
-const REFUSED: [(&str, u64); 3] = [
+static REFUSED: [(&str, u64); 3] = [
     ("# no step\nwait\n", 2),
     ("tick r0\ntick r4\n", 2),
     ("flush\n\ndeliver 0 r0\nwait\n", 3),
@@ -130,8 +130,8 @@ pub fn is_reported(
 
 #[test]
 fn runs_the_schedules(rt: HostRuntime) {
-    for row in ROWS {
-        assert!(rt; is_reported(rt.alloc(), row), "{}", row.1);
+    for row in &ROWS {
+        assert!(rt; is_reported(rt.alloc(), *row), "{}", row.1);
     }
 }
 
@@ -154,8 +154,8 @@ fn is_refused_at(alloc: Global, text: &str, refused: u64) -> bool {
 
 #[test]
 fn names_the_line_that_is_refused(rt: HostRuntime) {
-    for (text, line) in REFUSED {
-        assert!(rt; is_refused_at(rt.alloc(), text, line), "{text}");
+    for (text, line) in &REFUSED {
+        assert!(rt; is_refused_at(rt.alloc(), text, *line), "{text}");
     }
 }
 

@@ -49,7 +49,7 @@ trace 120
 "#;
 
 // Configurations, schedules, whether they are traced, and what is written.
-const ROWS: [(&str, &str, bool, &str); 1] = [(
+static ROWS: [(&str, &str, bool, &str); 1] = [(
     FAULTY_PRIMARY_SETTINGS,
     TWO_FACES_SCHEDULE,
     false,
@@ -58,7 +58,7 @@ const ROWS: [(&str, &str, bool, &str); 1] = [(
 
 #[test]
 fn runs_the_schedules_with_view_changes(rt: HostRuntime) {
-    for row in ROWS {
-        assert!(rt; is_reported(rt.alloc(), row), "{}", row.1);
+    for row in &ROWS {
+        assert!(rt; is_reported(rt.alloc(), *row), "{}", row.1);
     }
 }

@@ -80,7 +80,7 @@ struct Row {
     errors: &'static str,
 }
 
-const ROWS: [Row; 10] = [
+static ROWS: [Row; 10] = [
     Row {
         words: &["btspace", "--help"],
         why: NoRequest::Shown,
@@ -222,8 +222,8 @@ fn is_stopped(alloc: Global, words: &[&str]) -> bool {
 
 #[test]
 fn prints_help_and_mistakes(rt: HostRuntime) {
-    for row in ROWS {
-        let is_right = is_printed(rt.alloc(), &row) && is_stopped(rt.alloc(), row.words);
+    for row in &ROWS {
+        let is_right = is_printed(rt.alloc(), row) && is_stopped(rt.alloc(), row.words);
         assert!(rt; is_right, "{}{}", row.output, row.errors);
     }
 }

@@ -1,7 +1,0 @@
-use Rattle.std.proofs.Common.{IfSome}
-use Rattle.btspace.proofs.BlankLemmas.{Drops}
-use Rattle.btspace.proofs.input.blanks_line.Given as goal
-
--- blanks were dropped so far
-abbrev pub invariant-loop : goal.invariant-loop
-invariant-loop g l = IfSome (g.B.Read.remaining l.initial.reader) (λ xs. Drops xs (g.B.Read.remaining l.reader) l.initial.line.items l.line.items)

@@ -1,7 +1,0 @@
-use Rattle.std.proofs.Common.{None, IfSome}
-use Rattle.btspace.specs.Pieces.{TakesPiece}
-use Rattle.btspace.proofs.pieces.read_piece.Given as goal
-
--- a part was taken so far, with no end of the line in it
-abbrev pub invariant-loop : goal.invariant-loop
-invariant-loop g l = IfSome (g.B.Read.remaining l.initial.reader) (λ xs. TakesPiece None l.limit xs (g.B.Read.remaining l.reader) l.initial.piece.items l.piece.items)

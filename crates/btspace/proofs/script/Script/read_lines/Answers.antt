@@ -1,6 +1,0 @@
-use Rattle.btspace.proofs.ScriptLemmas.{goes_on}
-use Rattle.btspace.proofs.script.Script.read_lines.Goals as goal
-
-pub loop-number-preserved : goal.loop-number-preserved
-loop-number-preserved g c =
-    goes_on _ _ _ _ _ c.in-Ok-true.field-0-test (c.in-Ok-true.ensures {u = tt}) c.loop-number.invariant

@@ -1,0 +1,72 @@
+-- What a run over a reader's bytes leaves with its writer.
+use Rattle.std.specs.Prelude.{◌≡◌, ℕ, List, [], ◌++◌, Option, Some, IfSome, Result, MatchResult, Contains}
+use Rattle.tuple_tree.specs.Values.{TupleTree}
+use Rattle.std.specs.Str.Lines.{lines}
+use Rattle.std.specs.Io.KnownBytes.{Appends}
+use Rattle.one_space.specs.Run.{Ending, complete, refused_at, cut_short, Runs}
+use Rattle.one_space.specs.declared.input.NoLine.{NoLine}
+use Rattle.one_space.specs.declared.input.NoLine.TheVariants as no
+use Rattle.one_space.specs.declared.pieces.ReadFault.{ReadFault}
+use Rattle.one_space.specs.declared.pieces.ReadFault.TheVariants as pieces
+use Rattle.one_space.specs.declared.session.LocalFault.{LocalFault}
+use Rattle.one_space.specs.declared.session.LocalFault.TheVariants.{Refused, NoMemory, Read, Write}
+
+-- The result lines of a run over the bytes that ends so were added, but for the last ones, which are pending.
+abbrev pub AddsResults : List ℕ → Ending → Option (List ℕ) → Option (List ℕ) → List ℕ → Type 0
+AddsResults bytes ending old new pending =
+    (done : List ℕ) × Runs 1 [] (lines bytes) (done ++ pending) ending × Appends old new done
+
+abbrev pub StopsBy : LocalFault → List ℕ → Option (List ℕ) → Option (List ℕ) → List ℕ → Type 0
+StopsBy (Refused line fault) bytes old new pending = AddsResults bytes (refused_at line fault) old new pending
+StopsBy NoMemory bytes old new pending = AddsResults bytes cut_short old new pending
+StopsBy (Read error) bytes old new pending = AddsResults bytes cut_short old new pending
+StopsBy (Write error) bytes old new pending = Unit {0}
+
+-- A run over the bytes went to their end, or stopped by the fault.
+abbrev pub EndsRun : Result (Unit {0}) LocalFault → List ℕ → Option (List ℕ) → Option (List ℕ) → List ℕ → Type 0
+EndsRun result bytes old new pending =
+    MatchResult result (λ _. AddsResults bytes complete old new pending) (λ fault. StopsBy fault bytes old new pending)
+
+-- A run over the reader's bytes ends, where they are known.
+abbrev pub EndsKnown : {W : Type 0} → (W → Option (List ℕ)) → Result (Unit {0}) LocalFault
+    → Option (List ℕ) → W → W → List ℕ → Type 0
+EndsKnown contents result known old new pending =
+    IfSome known (λ bytes. EndsRun result bytes (contents old) (contents new) pending)
+
+-- the fault of a line of this number
+abbrev pub fault_at : ℕ → NoLine → LocalFault
+fault_at line (no.Refused fault) = Refused line fault
+fault_at line no.NoMemory = NoMemory
+fault_at line (no.Read error) = Read error
+
+-- What was written and is pending, and any run over the lines that are left from number n on, make a run from the
+-- start.
+pub record Along
+    (bytes : List ℕ) (known old new : Option (List ℕ)) (n : ℕ) (ts : List TupleTree) (pending : List ℕ)
+    : Type 0 where
+  pub rest : List ℕ
+  pub done : List ℕ
+  pub known_is : known ≡ Some rest
+  pub wrote : Appends old new done
+  pub leads : (more : List ℕ) (ending : Ending) → Runs n ts (lines rest) more ending
+      → Runs 1 [] (lines bytes) ((done ++ pending) ++ more) ending
+
+-- A front of these bytes went to the writer, and the others are left.
+pub record MovesOn (old new : Option (List ℕ)) (bytes left : List ℕ) : Type 0 where
+  pub gone : List ℕ
+  pub wrote : Appends old new gone
+  pub split : gone ++ left ≡ bytes
+
+-- Results are held back only while a line is whole at hand, which is read without asking for more bytes.
+abbrev pub HeldForLine : List ℕ → List ℕ → Type 0
+HeldForLine at_hand held = (Contains at_hand 10 → ⊥) → held ≡ []
+
+abbrev pub IsWriteFault : LocalFault → Type 0
+IsWriteFault (Refused line fault) = ⊥
+IsWriteFault NoMemory = ⊥
+IsWriteFault (Read error) = ⊥
+IsWriteFault (Write error) = Unit {0}
+
+abbrev pub read_fault_of : ReadFault → LocalFault
+read_fault_of pieces.NoMemory = NoMemory
+read_fault_of (pieces.Read error) = Read error

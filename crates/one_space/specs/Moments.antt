@@ -1,0 +1,57 @@
+-- What the private functions of a run speak of: the run between two of its lines.
+use Rattle.std.specs.Prelude.{◌≡◌, ℕ, ◌+◌, ◌^◌, Bool, MatchBool, List, ◌++◌, Option, Result, OnOk, MatchResult, Vec}
+use Rattle.std.specs.Io.KnownBytes.{Appends}
+use Rattle.std.specs.declared.alloc.Global.{Global}
+use Rattle.tuple_tree.specs.Values.{TupleTree}
+use Rattle.tuple_codec.specs.OperationView.{operation_of}
+use Rattle.tuple_codec.specs.declared.operations.Op.{Op}
+use Rattle.space.specs.Applying.{outcome}
+use Rattle.space.specs.Births.{SpaceState, tuples_of}
+use Rattle.one_space.specs.Endings.{Along, AddsResults, StopsBy, EndsRun, MovesOn}
+use Rattle.one_space.specs.Run.{complete, result_line}
+use Rattle.one_space.specs.declared.session.LocalFault.{LocalFault}
+use Rattle.one_space.specs.declared.session.Session.{Session}
+
+-- the bytes that the reader has left and those that the writer has got, where they are known, the space's tuples, and
+-- the results that are not written yet
+pub record Moment : Type 0 where
+  pub left : Option (List ℕ)
+  pub written : Option (List ℕ)
+  pub tuples : List TupleTree
+  pub pending : List ℕ
+
+abbrev pub moment_of : Option (List ℕ) → Option (List ℕ) → Session → Moment
+moment_of left written session =
+    record { left = left; written = written; tuples = tuples_of session.space; pending = session.results.items }
+
+-- The run over the bytes is at its line of this number.
+abbrev pub IsAt : List ℕ → Option (List ℕ) → ℕ → Moment → Type 0
+IsAt bytes start n now = Along bytes now.left start now.written n now.tuples now.pending
+
+-- The line was run, or there is none, or the run stopped.
+abbrev pub RunsLine : Result Bool LocalFault → ℕ → Moment → Moment → Type 0
+RunsLine result n old new =
+    (bytes : List ℕ) (start : Option (List ℕ)) → IsAt bytes start n old
+    → MatchResult result
+    (λ more. MatchBool more (IsAt bytes start (n + 1) new) (AddsResults bytes complete start new.written new.pending))
+    (λ fault. StopsBy fault bytes start new.written new.pending)
+
+-- The run ends behind the last line that there may be.
+abbrev pub EndsLines : Result (Unit {0}) LocalFault → Moment → Moment → Type 0
+EndsLines result old new =
+    (bytes : List ℕ) (start : Option (List ℕ)) → IsAt bytes start (2 ^ 48) old
+    → EndsRun result bytes start new.written new.pending
+
+-- The result line of the operation is put behind the others.
+abbrev pub AddsResult : {A : Type 0} → Op A → SpaceState → Vec ℕ Global → Vec ℕ Global → Type 0
+AddsResult op s old new = new.items ≡ old.items ++ result_line (outcome (tuples_of s) (operation_of op))
+
+-- Some results, or none, went to the writer.
+abbrev pub WritesDue : {W E : Type 0} → (W → Option (List ℕ)) → Result (Unit {0}) E
+    → W → W → Vec ℕ Global → Vec ℕ Global → Type 0
+WritesDue contents result old new held left =
+    OnOk result (MovesOn (contents old) (contents new) held.items left.items)
+
+-- All these bytes went to the writer.
+abbrev pub WritesAll : {W E : Type 0} → (W → Option (List ℕ)) → Result (Unit {0}) E → W → W → List ℕ → Type 0
+WritesAll contents result old new bytes = OnOk result (Appends (contents old) (contents new) bytes)

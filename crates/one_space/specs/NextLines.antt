@@ -1,0 +1,66 @@
+-- What reading a line tells of the bytes that were left.
+use Rattle.std.specs.Prelude.{◌≡◌, ◌≢◌, ℕ, Bool, MatchBool, List, [], ◌∷◌, Option, Some, IfSome, Result, MatchResult}
+use Rattle.std.specs.Str.Lines.{lines}
+use Rattle.tuple_codec.specs.OperationView.{operation_of}
+use Rattle.tuple_text.specs.Lines.{IsLine, IsSkipped}
+use Rattle.tuple_text.specs.Faults.{Refuses}
+use Rattle.tuple_text.specs.declared.faults.LineFault.TheVariants.{NoMemory}
+use Rattle.one_space.specs.declared.pieces.ReadFault.{ReadFault}
+use Rattle.one_space.specs.declared.pieces.ReadFault.TheVariants as read
+use Rattle.one_space.specs.declared.input.NextLine.{NextLine}
+use Rattle.one_space.specs.declared.input.NextLine.TheVariants as next
+use Rattle.one_space.specs.declared.input.NoLine.{NoLine}
+use Rattle.one_space.specs.declared.input.NoLine.TheVariants as no
+
+-- l is the first line of the bytes xs, and ys is left behind it
+pub record IsNextLine (l xs : List ℕ) (left : Option (List ℕ)) : Type 0 where
+  pub rest : List ℕ
+  pub split : lines xs ≡ l ∷ lines rest
+  pub left_is : left ≡ Some rest
+
+-- the first line of the bytes xs is such a one
+pub record BeginsWith (P : List ℕ → Type 0) (xs : List ℕ) : Type 0 where
+  pub first : List ℕ
+  pub others : List (List ℕ)
+  pub split : lines xs ≡ first ∷ others
+  pub holds : P first
+
+abbrev pub Gives : NextLine → List ℕ → Option (List ℕ) → Type 0
+Gives next.End xs left = lines xs ≡ []
+Gives next.Skipped xs left = (l : List ℕ) × IsNextLine l xs left × IsSkipped l
+Gives (next.Operation op) xs left = (l : List ℕ) × IsNextLine l xs left × IsLine (operation_of op) l
+
+abbrev pub Fails : NoLine → List ℕ → Type 0
+Fails (no.Refused fault) xs = (fault ≢ NoMemory) × BeginsWith (Refuses fault) xs
+Fails no.NoMemory xs = Unit {0}
+Fails (no.Read error) xs = Unit {0}
+
+-- The first line of the bytes xs is read, or why it is not is told.
+abbrev pub ReadsLine : Result NextLine NoLine → List ℕ → Option (List ℕ) → Type 0
+ReadsLine result xs left = MatchResult result (λ next. Gives next xs left) (λ no. Fails no xs)
+
+-- the same of the bytes that are left, where they are known
+abbrev pub ReadsNext : Result NextLine NoLine → Option (List ℕ) → Option (List ℕ) → Type 0
+ReadsNext result known left = IfSome known (λ xs. ReadsLine result xs left)
+
+-- whether the bytes xs have a line
+abbrev pub TellsLine : Bool → List ℕ → Type 0
+TellsLine more xs = MatchBool more (BeginsWith (λ _. Unit {0}) xs) (lines xs ≡ [])
+
+abbrev pub no_line_of : ReadFault → NoLine
+no_line_of read.NoMemory = no.NoMemory
+no_line_of (read.Read error) = no.Read error
+
+-- what is said of one line
+abbrev pub IsJudged : NextLine → List ℕ → Type 0
+IsJudged next.End l = ⊥
+IsJudged next.Skipped l = IsSkipped l
+IsJudged (next.Operation op) l = IsLine (operation_of op) l
+
+abbrev pub IsRefused : NoLine → List ℕ → Type 0
+IsRefused (no.Refused fault) l = (fault ≢ NoMemory) × Refuses fault l
+IsRefused no.NoMemory l = Unit {0}
+IsRefused (no.Read error) l = ⊥
+
+abbrev pub Judges : Result NextLine NoLine → List ℕ → Type 0
+Judges result l = MatchResult result (λ next. IsJudged next l) (λ no. IsRefused no l)

@@ -1,0 +1,80 @@
+-- What the lines of a script say: the operations that they are of, until a line is refused.
+use Rattle.std.specs.Prelude.{◌≡◌, ◌≢◌, ℕ, ◌+◌, ◌^◌, ◌<◌, ◌≤◌, Bool, MatchBool, List, [], ◌∷◌, ◌++◌, map, Option, Some, IfSome, Result, MatchResult, Vec}
+use Rattle.std.specs.declared.alloc.Global.{Global}
+use Rattle.std.specs.Str.Lines.{lines}
+use Rattle.tuple_codec.specs.Operations.{Operation}
+use Rattle.tuple_codec.specs.OperationView.{operation_of}
+use Rattle.tuple_codec.specs.declared.operations.Op.{Op}
+use Rattle.tuple_text.specs.Lines.{IsLine, IsSkipped}
+use Rattle.tuple_text.specs.Faults.{Refuses}
+use Rattle.tuple_text.specs.declared.faults.LineFault.TheVariants.{NoMemory as no_memory, TooLong}
+use Rattle.tuple_text.specs.declared.faults.LineFault.{LineFault}
+use Rattle.one_space.specs.Run.{Ending, complete, refused_at, cut_short}
+use Rattle.one_space.specs.declared.session.LocalFault.{LocalFault}
+use Rattle.one_space.specs.declared.session.LocalFault.TheVariants.{Refused, NoMemory, Read, Write}
+
+-- Where the first of these lines has number n, the lines are of these operations up to where reading ends so. Numbers
+-- of lines stay below 2 to the power of 48.
+pub data Says : ℕ → List (List ℕ) → List Operation → Ending → Type 0 where
+  at_end : {n : ℕ} → Says n [] [] complete
+  stops : {n : ℕ} {ls : List (List ℕ)} → Says n ls [] cut_short
+  skips : {n : ℕ} {l : List ℕ} {ls : List (List ℕ)} {os : List Operation} {ending : Ending}
+      → n < 2 ^ 48 → IsSkipped l → Says (n + 1) ls os ending → Says n (l ∷ ls) os ending
+  calls : {n : ℕ} {l : List ℕ} {ls : List (List ℕ)} {os : List Operation} {ending : Ending}
+      → (o : Operation) → n < 2 ^ 48 → IsLine o l → Says (n + 1) ls os ending → Says n (l ∷ ls) (o ∷ os) ending
+  refuses : {n : ℕ} {l : List ℕ} {ls : List (List ℕ)} {fault : LineFault}
+      → n < 2 ^ 48 → fault ≢ no_memory → Refuses fault l → Says n (l ∷ ls) [] (refused_at n fault)
+  is_late : {n : ℕ} {l : List ℕ} {ls : List (List ℕ)} → 2 ^ 48 ≤ n → Says n (l ∷ ls) [] (refused_at n TooLong)
+
+abbrev pub operations_of : Vec (Op Global) Global → List Operation
+operations_of ops = map operation_of ops.items
+
+-- Of the lines of these bytes some operations were read, and reading ended so.
+abbrev pub SaysSome : List ℕ → Ending → Type 0
+SaysSome bytes ending = (os : List Operation) × Says 1 (lines bytes) os ending
+
+-- why the lines of these bytes are not read to their end
+abbrev pub EndsBy : LocalFault → List ℕ → Type 0
+EndsBy (Refused line fault) bytes = SaysSome bytes (refused_at line fault)
+EndsBy NoMemory bytes = Unit {0}
+EndsBy (Read error) bytes = Unit {0}
+EndsBy (Write error) bytes = ⊥
+
+-- The operations of all lines of the bytes were read, where these are known, or why not is told.
+abbrev pub JudgesScript : Result (Vec (Op Global) Global) LocalFault → Option (List ℕ) → Type 0
+JudgesScript result known =
+    IfSome known (λ bytes.
+    MatchResult result (λ ops. Says 1 (lines bytes) (operations_of ops) complete) (λ fault. EndsBy fault bytes))
+
+-- ---- of private functions
+
+-- These operations, and any that the lines say that are left from number n on, are what the bytes say.
+pub record ReadSoFar (bytes : List ℕ) (known : Option (List ℕ)) (n : ℕ) (os : List Operation) : Type 0 where
+  pub rest : List ℕ
+  pub known_is : known ≡ Some rest
+  pub leads : (more : List Operation) (ending : Ending) → Says n (lines rest) more ending
+      → Says 1 (lines bytes) (os ++ more) ending
+
+-- all were read
+abbrev pub IsRead : List ℕ → Vec (Op Global) Global → Type 0
+IsRead bytes ops = Says 1 (lines bytes) (operations_of ops) complete
+
+-- The line of this number was read, or there is none, or why not is told.
+abbrev pub ReadsScriptLine : Result Bool LocalFault → ℕ
+    → Option (List ℕ) → Vec (Op Global) Global → Option (List ℕ) → Vec (Op Global) Global → Type 0
+ReadsScriptLine result n known old left new =
+    (bytes : List ℕ) → ReadSoFar bytes known n (operations_of old)
+    → MatchResult result
+    (λ more. MatchBool more (ReadSoFar bytes left (n + 1) (operations_of new)) (IsRead bytes new))
+    (λ fault. EndsBy fault bytes)
+
+-- Nothing is left behind the last line that there may be, or why not is told.
+abbrev pub EndsScript : Result (Unit {0}) LocalFault → Option (List ℕ) → Vec (Op Global) Global → Vec (Op Global) Global → Type 0
+EndsScript result known old new =
+    (bytes : List ℕ) → ReadSoFar bytes known (2 ^ 48) (operations_of old)
+    → MatchResult result (λ _. IsRead bytes new) (λ fault. EndsBy fault bytes)
+
+-- The script was read, where its bytes are known, or why not is told.
+abbrev pub ReadsScript : Result (Unit {0}) LocalFault → Option (List ℕ) → Vec (Op Global) Global → Type 0
+ReadsScript result known new =
+    IfSome known (λ bytes. MatchResult result (λ _. IsRead bytes new) (λ fault. EndsBy fault bytes))

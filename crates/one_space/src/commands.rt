@@ -1,0 +1,97 @@
+//! The commands, from a path or digits to the status that the program ends with.
+
+ghost use Rattle.std.specs.Prelude.{◌≡◌};
+ghost use Rattle.one_space.specs.Complaints.{status_of};
+
+use crate::complaints::Complaint;
+use crate::digits::show;
+use crate::script::read_script;
+use crate::session::local;
+use std::alloc::Global;
+use std::io::{self, Read};
+use std::rt::{Env, Files};
+use std::{env, fs};
+use tuple_codec::Op;
+
+/// The path of the standard input that the program has already. It can't always be opened by this path, as where the
+/// program runs as another user than its maker's.
+pub const STANDARD_INPUT: &str = "/dev/stdin";
+
+/// The words of the command line, of which the first is the program's name.
+///
+/// # Errors
+///
+/// The status to end with, and standard error says why: 2 for words that aren't UTF-8, 3 where memory runs out.
+pub fn words_of<R: Env + Eprint + AllocGlobal>(rt: &R) -> Result<Vec<String>, u8> {
+    let args = match env::args(rt) {
+        Ok(args) => args,
+        Err(error) => return Err(refuse_words(rt, &error)),
+    };
+    match args.collect(rt.alloc()) {
+        Ok(words) => Ok(words),
+        Err(_) => Err(complain(rt, Complaint::Stopped)),
+    }
+}
+
+// Words that aren't UTF-8 are a mistake on the command line.
+fn refuse_words<R: Eprint>(rt: &R, error: &io::Error) -> u8 {
+    if error.kind() == io::ErrorKind::OutOfMemory {
+        return complain(rt, Complaint::Stopped);
+    }
+    let _ = eprintln!(rt; "error: {error}");
+    2
+}
+
+/// Runs the script at this path by [`local`], and gives the status.
+pub fn run_script<R: Files + Input + Print + Eprint + AllocGlobal>(rt: &R, path: &str) -> u8 {
+    if path == STANDARD_INPUT {
+        return run_lines(rt, rt.reader(), path);
+    }
+    match fs::open(rt, path) {
+        Ok(file) => run_lines(rt, file, path),
+        Err(error) => complain(rt, Complaint::of_open(&error, path)),
+    }
+}
+
+fn run_lines<R: Print + Eprint + AllocGlobal, I: Read + Drop>(rt: &R, input: I, path: &str) -> u8 {
+    match local(rt.alloc(), input, &mut io::writer(rt)) {
+        Ok(()) => 0,
+        Err(fault) => complain(rt, Complaint::of_local(&fault, path)),
+    }
+}
+
+/// The operations of the script at this path, by [`read_script`].
+pub fn script_at<'a, R: Files + Input + AllocGlobal>(
+    rt: &R,
+    path: &'a str,
+) -> Result<Vec<Op<Global>>, Complaint<'a>> {
+    let script = if path == STANDARD_INPUT {
+        read_script(rt.alloc(), rt.reader())
+    } else {
+        match fs::open(rt, path) {
+            Ok(file) => read_script(rt.alloc(), file),
+            Err(error) => return Err(Complaint::of_open(&error, path)),
+        }
+    };
+    match script {
+        Ok(ops) => Ok(ops),
+        Err(fault) => Err(Complaint::of_local(&fault, path)),
+    }
+}
+
+/// Prints the tuple of these digits by [`show`], and gives the status.
+pub fn print_tuple<R: Print + Eprint + AllocGlobal>(rt: &R, digits: &str) -> u8 {
+    match show(rt.alloc(), digits, &mut io::writer(rt)) {
+        Ok(()) => 0,
+        Err(fault) => complain(rt, Complaint::of_show(&fault)),
+    }
+}
+
+/// Says the complaint on standard error, and gives its status. What can't be said there is left unsaid: the status
+/// tells it too.
+pub fn complain<R: Eprint>(rt: &R, complaint: Complaint<'_>) -> u8
+    ensures { result ≡ status_of complaint.entry }
+{
+    let _ = eprintln!(rt; "{complaint}");
+    complaint.status()
+}

@@ -1,0 +1,171 @@
+//! Lines of a script, read with memory for one line.
+
+ghost use Rattle.std.specs.Prelude.{◌≡◌, ◌<◌, ◌≤◌, IfOk, IfSome, vec_len};
+ghost use Rattle.tuple_text.specs.declared.faults.LineFault.TheVariants.{BadByte};
+ghost use Rattle.one_space.specs.NextLines.{ReadsNext, TellsLine, Judges};
+ghost use Rattle.one_space.specs.LongLines.{ReadsOn, ReadsBlanks, JudgesBlanks, DropsBlanks};
+
+use crate::pieces::{PieceEnd, ReadFault, drop_return, is_blank, keep_last, read_piece};
+use std::alloc::Global;
+use std::io::{self, BufRead, ErrorKind};
+use tuple_codec::Op;
+use tuple_text::{LineFault, MAX_LINE, read_line};
+
+// A line that is longer than a script's lines may be is judged by one byte more than they have.
+const JUDGED: usize = MAX_LINE + 1;
+
+// With one more there is room for the carriage return of the longest line that is not too long.
+const PIECE: usize = MAX_LINE + 2;
+
+/// What the next line is.
+#[derive(Drop)]
+pub enum NextLine {
+    /// There is none.
+    End,
+    Skipped,
+    Operation(Op<Global>),
+}
+
+/// Why no line was read.
+#[derive(Drop)]
+pub enum NoLine {
+    Refused(LineFault),
+    NoMemory,
+    Read(io::Error),
+}
+
+impl From<ReadFault> for NoLine {
+    ghost use Rattle.one_space.specs.NextLines.{no_line_of};
+
+    ghost from_gives = { λ fault no. no ≡ no_line_of fault };
+
+    fn from(fault: ReadFault) -> NoLine {
+        match fault {
+            ReadFault::NoMemory => NoLine::NoMemory,
+            ReadFault::Read(error) => NoLine::Read(error),
+        }
+    }
+}
+
+/// Reads a line with its end, and judges it. Of a line of more than 65,536 bytes a part is kept at a time.
+pub fn next_line<B: BufRead>(
+    alloc: Global,
+    reader: &mut B,
+    line: &mut Vec<u8>,
+) -> Result<NextLine, NoLine>
+    ensures { ReadsNext result (B.remaining reader.old) (B.remaining reader.new) }
+{
+    line.clear();
+    match read_piece(reader, PIECE, line)? {
+        PieceEnd::LineFeed => {
+            drop_return(line);
+            judge(alloc, line.as_slice())
+        }
+        PieceEnd::InputEnd => {
+            if line.is_empty() {
+                Ok(NextLine::End)
+            } else {
+                judge(alloc, line.as_slice())
+            }
+        }
+        PieceEnd::Full => long_line(alloc, reader, line),
+    }
+}
+
+/// Whether a line is left. Takes its first byte.
+pub fn has_line<B: BufRead>(reader: &mut B, line: &mut Vec<u8>) -> Result<bool, ReadFault>
+    ensures { IfSome (B.remaining reader.old) (λ xs. IfOk result (λ more. TellsLine more xs)) }
+{
+    line.clear();
+    match read_piece(reader, 1, line)? {
+        PieceEnd::LineFeed | PieceEnd::Full => Ok(true),
+        PieceEnd::InputEnd => Ok(!line.is_empty()),
+    }
+}
+
+fn judge(alloc: Global, line: &[u8]) -> Result<NextLine, NoLine>
+    ensures { Judges result line.now }
+{
+    match read_line(alloc, line) {
+        Ok(Some(op)) => Ok(NextLine::Operation(op)),
+        Ok(None) => Ok(NextLine::Skipped),
+        Err(LineFault::NoMemory) => Err(NoLine::NoMemory),
+        Err(fault) => Err(NoLine::Refused(fault)),
+    }
+}
+
+// The line is too long, unless it is skipped: its first bytes decide, if they aren't all blanks.
+fn long_line<B: BufRead>(
+    alloc: Global,
+    reader: &mut B,
+    line: &mut Vec<u8>,
+) -> Result<NextLine, NoLine>
+    requires { 65538 ≤ vec_len line.old }
+    ensures { ReadsOn result line.old.items (B.remaining reader.old) (B.remaining reader.new) }
+{
+    if line[0] == b'#' {
+        return match reader.skip_until(b'\n') {
+            Ok(_) => Ok(NextLine::Skipped),
+            Err(error) => Err(NoLine::Read(error)),
+        };
+    }
+    let (front, _) = line.as_slice().split_at(JUDGED);
+    if !is_blank(front) {
+        return judge(alloc, front);
+    }
+    if !drop_blanks(line) {
+        return Err(too_many_blanks());
+    }
+    blanks_line(reader, line)
+}
+
+// The rest of a line that begins with more blanks than a line may have: it is skipped if no other byte follows.
+fn blanks_line<B: BufRead>(reader: &mut B, line: &mut Vec<u8>) -> Result<NextLine, NoLine>
+    requires { 0 < vec_len line.old }
+    ensures { ReadsBlanks result line.old.items (B.remaining reader.old) (B.remaining reader.new) }
+{
+    for _ in 0..u64::MAX {
+        match read_piece(reader, PIECE, line)? {
+            PieceEnd::LineFeed => {
+                drop_return(line);
+                return blanks_end(line.as_slice());
+            }
+            PieceEnd::InputEnd => return blanks_end(line.as_slice()),
+            PieceEnd::Full => {
+                if !drop_blanks(line) {
+                    return Err(too_many_blanks());
+                }
+            }
+        }
+    }
+    Err(NoLine::Read(io::Error::from(ErrorKind::Interrupted)))
+}
+
+fn blanks_end(line: &[u8]) -> Result<NextLine, NoLine>
+    ensures { JudgesBlanks result line.now }
+{
+    if is_blank(line) {
+        Ok(NextLine::Skipped)
+    } else {
+        Err(too_many_blanks())
+    }
+}
+
+fn too_many_blanks() -> NoLine
+    ensures { result ≡ NoLine.Refused (BadByte 65536) }
+{
+    NoLine::Refused(LineFault::BadByte { offset: MAX_LINE })
+}
+
+// Drops all bytes but the last, if they are blanks. The last may be a carriage return that belongs to the line's end.
+fn drop_blanks(line: &mut Vec<u8>) -> bool
+    requires { 0 < vec_len line.old }
+    ensures { DropsBlanks result line.old.items line.new.items }
+{
+    let (front, _) = line.as_slice().split_at(line.len() - 1);
+    if !is_blank(front) {
+        return false;
+    }
+    keep_last(line);
+    true
+}

@@ -1,0 +1,254 @@
+//! A script on a space of its own.
+
+ghost use Rattle.std.specs.Prelude.{◌≡◌, ◌^◌, ◌<◌, ◌≤◌, ◌+◌, ◌*◌, ℕ, List, [], Option, OnOk, OnErr, IfErr};
+ghost use Rattle.std.specs.Io.Buffered.{reader_buffer, reader_remaining};
+ghost use Rattle.tuple_codec.specs.OperationView.{operation_of};
+ghost use Rattle.space.specs.Births.{Follows, TuplesFollow, empty_state};
+ghost use Rattle.one_space.specs.Endings.{EndsKnown, HeldForLine, IsWriteFault, fault_at, read_fault_of};
+ghost use Rattle.one_space.specs.Moments.{moment_of, RunsLine, EndsLines, AddsResult, WritesDue, WritesAll};
+
+use crate::input::{NextLine, NoLine, has_line, next_line};
+use crate::pieces::ReadFault;
+use space::Space;
+use std::alloc::Global;
+use std::io::{self, BufReader, Read, Write};
+use terms::NoMemory;
+use thiserror::Error;
+use tuple_codec::Op;
+use tuple_text::{LineFault, write_answer};
+
+/// The number of the first line that is one too many.
+pub const LINES_END: u64 = 1 << 48;
+
+// So many bytes of results are held back at the most, and those of one line.
+const HELD: usize = 8192;
+
+/// Why a run stopped before the script's end.
+#[derive(Debug, Drop, Error)]
+pub enum LocalFault {
+    /// The line of this number, from 1, is refused.
+    #[error("line {line}: {fault}")]
+    Refused { line: u64, fault: LineFault },
+    #[error("out of memory")]
+    NoMemory,
+    #[error("not read: {0}")]
+    Read(io::Error),
+    #[error("not written: {0}")]
+    Write(io::Error),
+}
+
+impl From<NoMemory> for LocalFault {
+    ghost use Rattle.one_space.specs.declared.session.LocalFault.TheVariants.{NoMemory};
+
+    ghost from_gives = { λ _ fault. fault ≡ NoMemory };
+
+    fn from(_failed: NoMemory) -> LocalFault {
+        LocalFault::NoMemory
+    }
+}
+
+/// Runs the lines of a script on a space of its own and writes the results, a line each, as it goes: the reader is
+/// asked for more bytes only when the results of all lines that it gave whole are written and flushed. Lines are
+/// numbered from 1 and stay below 2 to the power of 48. At a fault the results of the lines before it are written,
+/// unless writing failed.
+pub fn local<R: Read + Drop, W: Write>(
+    alloc: Global,
+    reader: R,
+    writer: &mut W,
+) -> Result<(), LocalFault>
+    ensures { EndsKnown W.contents result (R.remaining reader) writer.old writer.new [] }
+{
+    let mut input = match BufReader::new(alloc, reader) {
+        Ok(input) => input,
+        Err(_) => return Err(LocalFault::NoMemory),
+    };
+    let mut session = Session {
+        space: Space::new(alloc),
+        line: Vec::new(alloc),
+        results: Vec::new(alloc),
+    };
+    match session.run_lines(alloc, &mut input, writer) {
+        Ok(()) => write_out(&mut session.results, writer),
+        Err(LocalFault::Write(error)) => Err(LocalFault::Write(error)),
+        Err(fault) => match write_out(&mut session.results, writer) {
+            Ok(()) => Err(fault),
+            Err(error) => Err(error),
+        },
+    }
+}
+
+// A run between two of its lines: its space, room for a line, and the result lines that are not written yet.
+#[derive(Drop)]
+struct Session {
+    space: Space,
+    line: Vec<u8>,
+    results: Vec<u8>,
+}
+
+impl Session {
+    fn run_lines<R: Read, W: Write>(
+        &mut self,
+        alloc: Global,
+        reader: &mut BufReader<R>,
+        writer: &mut W,
+    ) -> Result<(), LocalFault>
+        requires new_space { self.old.space ≡ empty_state }
+        requires no_results { self.old.results.items ≡ [] }
+        ensures { EndsKnown W.contents result (reader_remaining R.remaining reader.old)
+            writer.old writer.new self.new.results.items }
+    {
+        for number in 1..LINES_END {
+            match self.run_line(alloc, number, reader, writer) {
+                Ok(true) => {}
+                Ok(false) => return Ok(()),
+                Err(fault) => return Err(fault),
+            }
+        }
+        self.end_lines(reader, writer)
+    }
+
+    // Runs the next line, and answers whether there was one.
+    fn run_line<R: Read, W: Write>(
+        &mut self,
+        alloc: Global,
+        number: u64,
+        reader: &mut BufReader<R>,
+        writer: &mut W,
+    ) -> Result<bool, LocalFault>
+        requires early { number < 2 ^ 48 }
+        requires births { self.old.space.next < 2 ^ 62 }
+        ensures births { OnOk result (self.new.space.next ≤ self.old.space.next + 257) }
+        ensures along { RunsLine result number
+            (moment_of (reader_remaining R.remaining reader.old) (W.contents writer.old) self.old)
+            (moment_of (reader_remaining R.remaining reader.new) (W.contents writer.new) self.new) }
+    {
+        match write_due(&mut self.results, reader.buffer(), writer) {
+            Ok(()) => self.answer_line(alloc, number, reader),
+            Err(fault) => Err(fault),
+        }
+    }
+
+    // Reads the next line and adds its result, and answers whether there was one.
+    fn answer_line<R: Read>(
+        &mut self,
+        alloc: Global,
+        number: u64,
+        reader: &mut BufReader<R>,
+    ) -> Result<bool, LocalFault>
+        requires early { number < 2 ^ 48 }
+        requires births { self.old.space.next < 2 ^ 62 }
+        requires none_waits { HeldForLine (reader_buffer reader.old) self.old.results.items }
+        ensures births { OnOk result (self.new.space.next ≤ self.old.space.next + 257) }
+        ensures along { (written : Option (List ℕ)) → RunsLine result number
+            (moment_of (reader_remaining R.remaining reader.old) written self.old)
+            (moment_of (reader_remaining R.remaining reader.new) written self.new) }
+    {
+        match next_line(alloc, reader, &mut self.line) {
+            Ok(NextLine::End) => Ok(false),
+            Ok(NextLine::Skipped) => Ok(true),
+            Ok(NextLine::Operation(op)) => match answer(&mut self.space, &op, &mut self.results) {
+                Ok(()) => Ok(true),
+                Err(_) => Err(LocalFault::NoMemory),
+            },
+            Err(no) => Err(line_fault(number, no)),
+        }
+    }
+
+    // Behind the last line that there may be nothing is left, or the run is refused.
+    fn end_lines<R: Read, W: Write>(
+        &mut self,
+        reader: &mut BufReader<R>,
+        writer: &mut W,
+    ) -> Result<(), LocalFault>
+        ensures { EndsLines result
+            (moment_of (reader_remaining R.remaining reader.old) (W.contents writer.old) self.old)
+            (moment_of (reader_remaining R.remaining reader.new) (W.contents writer.new) self.new) }
+    {
+        if let Err(fault) = write_due(&mut self.results, reader.buffer(), writer) {
+            return Err(fault);
+        }
+        match has_line(reader, &mut self.line) {
+            Ok(false) => Ok(()),
+            Ok(true) => Err(LocalFault::Refused {
+                line: LINES_END,
+                fault: LineFault::TooLong,
+            }),
+            Err(fault) => Err(read_fault(fault)),
+        }
+    }
+}
+
+/// The fault of a line of this number.
+pub fn line_fault(line: u64, no: NoLine) -> LocalFault
+    ensures { result ≡ fault_at line no }
+{
+    match no {
+        NoLine::Refused(fault) => LocalFault::Refused { line, fault },
+        NoLine::NoMemory => LocalFault::NoMemory,
+        NoLine::Read(error) => LocalFault::Read(error),
+    }
+}
+
+/// The fault of a reader.
+pub fn read_fault(fault: ReadFault) -> LocalFault
+    ensures { result ≡ read_fault_of fault }
+{
+    match fault {
+        ReadFault::NoMemory => LocalFault::NoMemory,
+        ReadFault::Read(error) => LocalFault::Read(error),
+    }
+}
+
+// Applies the operation and adds the result line. At an error the results are as before.
+fn answer(space: &mut Space, op: &Op<Global>, results: &mut Vec<u8>) -> Result<(), NoMemory>
+    requires { space.old.next < 2 ^ 62 }
+    ensures state { OnOk result (Follows space.old space.new (operation_of op.now)) }
+    ensures tuples { OnOk result (TuplesFollow space.old space.new (operation_of op.now)) }
+    ensures ok { OnOk result (AddsResult op.now space.old results.old results.new) }
+    ensures err { OnErr result (results.new.items ≡ results.old.items) }
+{
+    let old_len = results.len();
+    let given = space.apply(op)?;
+    write_answer(&given, results)?;
+    if results.push(b'\n').is_err() {
+        results.truncate(old_len);
+        return Err(NoMemory);
+    }
+    Ok(())
+}
+
+// Writes the results that are held, where they are many, or where the next line isn't whole at hand: the reader may
+// then wait for it, and whoever gives the line may wait for the results.
+fn write_due<W: Write>(
+    results: &mut Vec<u8>,
+    at_hand: &[u8],
+    writer: &mut W,
+) -> Result<(), LocalFault>
+    ensures held { OnOk result (HeldForLine at_hand.now results.new.items) }
+    ensures results { WritesDue W.contents result writer.old writer.new results.old results.new }
+    ensures err { IfErr result IsWriteFault }
+{
+    if results.is_empty() {
+        return Ok(());
+    }
+    if results.len() < HELD && at_hand.contains(&b'\n') {
+        return Ok(());
+    }
+    write_out(results, writer)
+}
+
+// Writes the results and leaves none.
+fn write_out<W: Write>(results: &mut Vec<u8>, writer: &mut W) -> Result<(), LocalFault>
+    ensures written { WritesAll W.contents result writer.old writer.new results.old.items }
+    ensures none { OnOk result (results.new.items ≡ []) }
+    ensures err { IfErr result IsWriteFault }
+{
+    if let Err(error) = writer.write_all(results.as_slice()) {
+        return Err(LocalFault::Write(error));
+    }
+    if let Err(error) = writer.flush() {
+        return Err(LocalFault::Write(error));
+    }
+    results.clear();
+    Ok(())
+}

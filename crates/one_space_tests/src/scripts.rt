@@ -1,0 +1,192 @@
+//! Worked scripts and digits.
+
+use crate::endings::{Ending, bad_byte, local_ending, show_ending};
+use one_space::{Complaint, LocalFault, ShowFault, local, show};
+use std::io::{self, Read, Write};
+use std::test::Fail;
+use tuple_text::LineFault;
+
+// A script's bytes, and then a failure.
+#[derive(Drop)]
+struct Cut<'a> {
+    front: &'a [u8],
+}
+
+impl Read for Cut<'_> {
+    fn read(&mut self, buf: &mut [u8]) -> io::Result<usize> {
+        if self.front.is_empty() {
+            return Err(io::Error::from(io::ErrorKind::BrokenPipe));
+        }
+        self.front.read(buf)
+    }
+}
+
+#[derive(Drop)]
+struct Closed;
+
+impl Write for Closed {
+    fn write(&mut self, _buf: &[u8]) -> io::Result<usize> {
+        Err(io::Error::from(io::ErrorKind::BrokenPipe))
+    }
+
+    fn flush(&mut self) -> io::Result<()> {
+        Ok(())
+    }
+}
+
+const FIRST_SCRIPT: &str = "# A first script: tuples of numbers go out, and templates read them.
+
+# Each operation has a result line of its own.
+out (1 2)
+out (1 3)
+out ()
+
+# A star stands for any value, ?int for any number.
+rdp (1 *)
+rdp (?int 3)
+rdp ()
+
+# Reading takes nothing away, and the oldest tuple that matches is found.
+rdp (1 *)
+
+# A template matches tuples of its own length alone.
+rdp (1)
+out (-7)
+rdp (?int)
+";
+
+const FIRST_RESULTS: &str = "done
+done
+done
+found (1 2)
+found (1 3)
+found ()
+found (1 2)
+absent
+done
+found (-7)
+";
+
+#[test]
+fn runs_scripts(rt: HostRuntime) {
+    let rows = [
+        (
+            "out (1)\nrdp (?int)\nrdp (2)\n",
+            "done\nfound (1)\nabsent\n",
+            Ending::Complete,
+        ),
+        (FIRST_SCRIPT, FIRST_RESULTS, Ending::Complete),
+        ("# x\n\n", "", Ending::Complete),
+        ("", "", Ending::Complete),
+        ("out (01)\n", "", bad_byte(1, 6)),
+        ("out (1", "", bad_byte(1, 6)),
+        ("rdp (1)(2)\n", "", bad_byte(1, 7)),
+        ("out (3)\n\nrdp (y)\nout (4)\n", "done\n", bad_byte(3, 5)),
+    ];
+    for (script, results, ending) in rows {
+        let mut written = Vec::new(rt.alloc());
+        let given = local_ending(local(rt.alloc(), script.as_bytes(), &mut written));
+        assert_eq!(rt; given, ending, "{script}");
+        assert!(rt; written.as_slice() == results.as_bytes(), "{script}");
+    }
+}
+
+#[test]
+fn keeps_results_where_reading_fails(rt: HostRuntime) {
+    let reader = Cut {
+        front: b"out (1)\nrdp (".as_slice(),
+    };
+    let mut written = Vec::new(rt.alloc());
+    let ending = local_ending(local(rt.alloc(), reader, &mut written));
+    assert_eq!(rt; ending, Ending::Read);
+    assert!(rt; written.as_slice() == b"done\n".as_slice());
+}
+
+// To be run with each allocation refused in turn: the run ends as ever, or it ends for want of memory, and then the
+// results of some lines in front are written and nothing else. What is written takes no memory here.
+#[test]
+fn keeps_results_where_memory_runs_out(rt: HostRuntime) {
+    let script = b"out (1)\nrdp (?int)\nrdp (2)\n".as_slice();
+    let results = b"done\nfound (1)\nabsent\n".as_slice();
+    let mut room = [0; 64];
+    let mut rest = room.as_mut_slice();
+    let ending = local_ending(local(rt.alloc(), script, &mut rest));
+    let left = rest.len();
+    let written = &room[..room.len().saturating_sub(left)];
+    match ending {
+        Ending::Complete => assert!(rt; written == results),
+        Ending::NoMemory => {
+            assert!(rt; results.starts_with(written));
+            assert!(rt; matches!(written, [] | [.., b'\n']));
+        }
+        _ => assert!(rt; false),
+    }
+}
+
+#[test]
+fn tells_that_writing_fails(rt: HostRuntime) {
+    let script = b"out (1)\n".as_slice();
+    let ending = local_ending(local(rt.alloc(), script, &mut Closed));
+    assert_eq!(rt; ending, Ending::Write);
+    let ending = show_ending(show(rt.alloc(), "00", &mut Closed));
+    assert_eq!(rt; ending, Ending::Write);
+}
+
+#[test]
+fn shows_tuples(rt: HostRuntime) {
+    let rows = [
+        ("01010000000000000001", "(1)\n", Ending::Complete),
+        ("020501020001780401", "((\"x\") true)\n", Ending::Complete),
+        ("0102000109", "(\"\\x09\")\n", Ending::Complete),
+        ("0101FFfffffffffffffF", "(-1)\n", Ending::Complete),
+        ("020501020001780402", "", Ending::Malformed),
+        ("0205010200017804", "", Ending::Malformed),
+        ("010", "", Ending::Malformed),
+        ("0000", "", Ending::Malformed),
+        ("zz", "", Ending::Malformed),
+        ("", "", Ending::Malformed),
+    ];
+    for (digits, text, ending) in rows {
+        let mut written = Vec::new(rt.alloc());
+        let given = show_ending(show(rt.alloc(), digits, &mut written));
+        assert_eq!(rt; given, ending, "{digits}");
+        assert!(rt; written.as_slice() == text.as_bytes(), "{digits}");
+    }
+}
+
+#[test]
+fn says_what_went_wrong(rt: HostRuntime) -> Result<(), Fail> {
+    let fault = LocalFault::Refused {
+        line: 3,
+        fault: LineFault::BadByte { offset: 5 },
+    };
+    let rows = [
+        (
+            Complaint::of_local(&fault, "a.bts"),
+            "line 3: refused 6 at byte 5",
+            1,
+        ),
+        (Complaint::of_show(&ShowFault::Malformed), "refused 5", 1),
+        (
+            Complaint::Unreadable { path: "a.bts" },
+            "cannot read a.bts",
+            1,
+        ),
+        (Complaint::Stopped, "stopped", 3),
+    ];
+    for (complaint, text, status) in rows {
+        let said = format!(in rt.alloc(); "{complaint}")?;
+        assert!(rt; said.as_str() == text);
+        assert_eq!(rt; complaint.status(), status);
+    }
+    for (fault, text) in [
+        (LineFault::TooManyFields, "line 1: refused 1"),
+        (LineFault::TooDeep, "line 1: refused 2"),
+        (LineFault::TooLong, "line 1: refused 3"),
+    ] {
+        let complaint = Complaint::Line { number: 1, fault };
+        let said = format!(in rt.alloc(); "{complaint}")?;
+        assert!(rt; said.as_str() == text);
+    }
+    Ok(())
+}
