@@ -2,12 +2,12 @@
 //!
 //! # What is proved
 //!
-//! `local` and `show` are those of `one_space`. What `run` writes is a result line for each of so many answers as there
-//! are operations; at a fault it is nothing, unless the writer failed. The status of words that are no request follows
-//! from why they are none.
+//! `local` and `show` are those of `one_space`. What `run` writes is a result line for each operation, in their order:
+//! that of the answer which the operation's client accepted to this call of its, in a trace of the cluster that is
+//! linearizable unless two texts have one digest. At a fault it writes nothing, unless the writer failed. The status of
+//! words that are no request follows from why they are none.
 //!
-//! That the answers of `run` are those of the calls, in the order of the script, that a faulty party is refused before
-//! the script is read, and what is shown while it runs, is tested.
+//! That a faulty party is refused before the script is read, and what is shown while it runs, is tested.
 #![tactic(auto)]
 
 ghost use Rattle.std.specs.Prelude.{◌≡◌};
@@ -16,7 +16,7 @@ mod display;
 mod run;
 mod schedule;
 
-use cluster_run::is_faultless;
+use cluster_run::{Open, is_faultless};
 use command_line::{NoRequest, Printed, Request, read_words};
 use config_text::Settings;
 use display::Display;
@@ -25,7 +25,7 @@ use journal::Opened;
 use one_space::{
     Complaint, STANDARD_INPUT, complain, print_tuple, run_script, script_at, words_of,
 };
-use run::run;
+use run::{RunFault, run};
 use schedule::{read_settings, schedule};
 use std::alloc::Global;
 use std::io::{IsTerminal, Read};
@@ -83,10 +83,7 @@ fn act_on<
 >(rt: &R, is_terminal: bool, request: Request<'_>) -> u8 {
     match request {
         Request::Local { script } => run_script(rt, script),
-        Request::Run { config, script } => match settings_at(rt, config) {
-            Ok(settings) => run_cluster(rt, is_terminal, &settings, script),
-            Err(complaint) => complain(rt, complaint),
-        },
+        Request::Run { config, script } => run_on_cluster(rt, is_terminal, config, script),
         Request::Show { digits } => print_tuple(rt, digits),
         Request::Schedule {
             config,
@@ -96,6 +93,34 @@ fn act_on<
     }
 }
 
+// The configuration is read and judged before the script is looked at.
+fn run_on_cluster<
+    R: Files
+        + Input
+        + Print
+        + Eprint
+        + AllocGlobal
+        + Threads
+        + Wait
+        + Clock
+        + Copy
+        + Send
+        + 'static,
+>(rt: &R, is_terminal: bool, config: &str, script: &str) -> u8 {
+    if is_read_twice(config, script) {
+        return complain(rt, Complaint::Unreadable { path: script });
+    }
+    match settings_at(rt, config) {
+        Ok(settings) => run_cluster(rt, is_terminal, &settings, script),
+        Err(complaint) => complain(rt, complaint),
+    }
+}
+
+// Standard input has one file.
+fn is_read_twice(config: &str, file: &str) -> bool {
+    config == STANDARD_INPUT && file == STANDARD_INPUT
+}
+
 // The configuration is read and judged before the schedule is looked at.
 fn run_configured<R: Files + Input + Print + Eprint + AllocGlobal>(
     rt: &R,
@@ -103,6 +128,9 @@ fn run_configured<R: Files + Input + Print + Eprint + AllocGlobal>(
     file: &str,
     printed: Printed,
 ) -> u8 {
+    if is_read_twice(config, file) {
+        return complain(rt, Complaint::Unreadable { path: file });
+    }
     match settings_at(rt, config) {
         Ok(settings) => run_schedule(rt, &settings.config, file, printed),
         Err(complaint) => complain(rt, complaint),
@@ -185,19 +213,29 @@ fn run_operations<R: Print + Eprint + AllocGlobal + Threads + Wait + Clock + Cop
     ops: Vec<Op<Global>>,
 ) -> u8 {
     let mut display = Display::new(rt, is_terminal, ops.len());
-    let ending = run::<Brand, R, _, _>(
+    let ending = run::<Brand, R, _, _, _>(
         rt,
         rt.alloc(),
         Opened::new(),
         settings,
+        Open,
         ops,
         &mut io::writer(rt),
         &mut display,
     );
     match ending {
         Ok(()) => 0,
-        Err(fault) => complain(rt, fault.complaint()),
+        Err(fault) => end_run(rt, &fault),
     }
+}
+
+// Complains, and then says on a line of its own why a run was stopped.
+fn end_run<R: Eprint>(rt: &R, fault: &RunFault) -> u8 {
+    let status = complain(rt, fault.complaint());
+    if !matches!(fault, RunFault::Configuration) {
+        let _ = eprintln!(rt; "{fault}");
+    }
+    status
 }
 
 // What there was to print of the words is printed.

@@ -1,9 +1,9 @@
 //! A script on a running cluster.
 
-ghost use Rattle.std.specs.Prelude.{◌≡◌, ◌++◌, IfOk, OnOk, vec_len};
+ghost use Rattle.std.specs.Prelude.{◌≡◌, ◌++◌, IfOk, OnOk};
 ghost use Rattle.btspace.specs.Results.{EndsCluster, TellsRun, WritesResults, answer_line, results_text};
 
-use cluster_run::{RunFault as ClusterFault, Watch};
+use cluster_run::{Gate, RunFault as ClusterFault, Watch};
 use config_text::Settings;
 use journal::{Naming, Opened};
 use one_space::Complaint;
@@ -23,9 +23,9 @@ pub enum RunFault {
     /// The configuration names a faulty party.
     #[error("the configuration is refused")]
     Configuration,
-    /// A call was not made or not answered, or the journal doesn't have what the parties kept.
-    #[error("stopped")]
-    Stopped,
+    /// The cluster gave no answers.
+    #[error("{0}")]
+    Stopped(ClusterFault),
     #[error("out of memory")]
     NoMemory,
     #[error("not written: {0}")]
@@ -38,7 +38,7 @@ impl RunFault {
     {
         match self {
             RunFault::Configuration => Complaint::Configuration,
-            RunFault::Stopped | RunFault::NoMemory | RunFault::Write(_) => Complaint::Stopped,
+            RunFault::Stopped(_) | RunFault::NoMemory | RunFault::Write(_) => Complaint::Stopped,
         }
     }
 }
@@ -63,19 +63,22 @@ impl From<ClusterFault> for RunFault {
         match fault {
             ClusterFault::BadConfig => RunFault::Configuration,
             ClusterFault::NoMemory => RunFault::NoMemory,
-            ClusterFault::NoClient | ClusterFault::Call(_) | ClusterFault::NotInJournal => {
-                RunFault::Stopped
-            }
+            ClusterFault::NoClient
+            | ClusterFault::NoRoom
+            | ClusterFault::Call(_)
+            | ClusterFault::TooManyStopped
+            | ClusterFault::NotInJournal => RunFault::Stopped(fault),
         }
     }
 }
 
 /// Runs the operations on a cluster of its own and writes the results, a line each, in their order: operation `i`,
-/// counted from 0, is called by client `i` modulo their number. Nothing is written unless each call was answered and
-/// the cluster finished.
+/// counted from 0, is called by client `i` modulo their number, and its line is the answer that this client accepted.
+/// Nothing is written unless each call was answered and the cluster finished.
 pub fn run<
     N: Naming + Send + Sync + 'static,
     R: Threads + Wait + Clock + Copy + Send + 'static,
+    G: Gate + Send + Sync + Drop + 'static,
     W: Write,
     S: Watch,
 >(
@@ -83,20 +86,22 @@ pub fn run<
     alloc: Global,
     opened: Opened,
     settings: &Settings,
+    gate: G,
     ops: Vec<Op<Global>>,
     writer: &mut W,
     watch: &mut S,
 ) -> Result<(), RunFault>
     requires config { settings.now.config ≡ N.config }
     requires book { opened ≡ N.book }
-    ensures { EndsCluster result (vec_len ops) (W.contents writer.old) (W.contents writer.new) }
+    ensures { EndsCluster N.config ops.items result (W.contents writer.old) (W.contents writer.new) }
 {
-    let answers = cluster_run::run::<N, R, S>(
+    let answers = cluster_run::run::<N, R, G, S>(
         rt,
         alloc,
         opened,
         &settings.config,
         settings.journal,
+        gate,
         ops,
         watch,
     )?;

@@ -4,6 +4,7 @@ mod checkpoints;
 pub mod clusters;
 mod displays;
 mod forged;
+mod held;
 mod schedules;
 mod views;
 mod words;

@@ -4,8 +4,8 @@ use denote.Param.Send.{IsSend, sendable}
 use denote.Param.SendFields.{declared_send}
 use Rattle.std.specs.contracts.alloc.Global as heap
 use Rattle.std.below.std_heap.specs.contracts.GlobalAllocator.TheImpl.{ghosts}
-use Rattle.std.specs.contracts.collections.VecDeque as deque
-use Rattle.std.proofs.collections.VecDeque.TheSendSync.{the_send as deque_send}
+use Rattle.std.specs.contracts.vec.Vec as vec
+use Rattle.std.proofs.vec.Vec.TheSendSync.{the_send as vec_send}
 use Rattle.std.proofs.result.Result.TheSendSync.{the_send as result_send}
 use Rattle.journal.specs.declared.naming.Naming.{Ghosts}
 use Rattle.tuple_codec.specs.contracts.operations.Answer as answer
@@ -15,12 +15,12 @@ use Rattle.cluster_run.specs.contracts.calling.Called as called
 use Rattle.cluster_run.specs.contracts.fault.RunFault as fault
 use Rattle.cluster_run.proofs.fault.RunFault.TheSendSync.{the_send as fault_send}
 
-answers_send : IsSend (deque.the_row (answer.the_row heap.the_row ghosts) heap.the_row ghosts)
-answers_send = deque_send (answer.the_row heap.the_row ghosts) heap.the_row ghosts answer_send heap_send heap_frees
+answers_send : IsSend (vec.the_row (answer.the_row heap.the_row ghosts) heap.the_row ghosts)
+answers_send = vec_send (answer.the_row heap.the_row ghosts) heap.the_row ghosts answer_send heap_send heap_frees
 
 module _ (N : RattleType) (g : Ghosts N.Denot) where
   pub called_send : IsSend (called.the_row N g)
   called_send = declared_send (called.the_type N g) (
     handle_send N g,
-    (result_send (deque.the_row (answer.the_row heap.the_row ghosts) heap.the_row ghosts) fault.the_row answers_send (search (sendable, fault_send)), tt),
+    (result_send (vec.the_row (answer.the_row heap.the_row ghosts) heap.the_row ghosts) fault.the_row answers_send (search (sendable, fault_send)), tt),
   )

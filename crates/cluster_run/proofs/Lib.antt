@@ -1,1 +1,5 @@
-pub mod CalledSends
+mod Answering
+mod CalledSends
+mod Ending
+mod Joining
+mod Turns

@@ -1,39 +1,70 @@
 //! Clients that call, each in a thread of its own.
 
+ghost use Rattle.std.specs.Prelude.{◌≡◌, ◌+◌, [], IfOk, OnOk, map};
+ghost use Rattle.tuple_codec.specs.OperationView.{operation_of, outcome_of};
+ghost use Rattle.cluster_run.specs.Hands.{HasCalled};
+ghost use Rattle.cluster_run.specs.Threads.{AddsCalled, AreJoined, AreStarted, Starts, promises_of};
+
 use crate::fault::RunFault;
-use crate::progress::{Progress, Watch};
+use crate::patience::Patience;
+use crate::progress::{LOOKS_A_SECOND, Progress, Stage, Watch};
 use journal::Naming;
 use space_node::{ClientHandle, Cluster};
 use std::alloc::Global;
-use std::collections::VecDeque;
+use std::snapshot::Snapshot;
 use std::sync::{Arc, Wait};
 use std::thread;
-use std::thread::{JoinHandle, Threads};
+use std::thread::{Promise, PromisedHandle, Threads};
 use std::time::Clock;
-use terms::Party;
+use terms::{Party, ReplicaId};
 use tuple_codec::{Answer, Op};
 
 /// What a client's thread gives back: the client, and the answers to its operations, in their order.
 #[derive(Drop)]
 pub(crate) struct Called<N: Naming> {
     client: ClientHandle<N>,
-    answers: Result<VecDeque<Answer<Global>>, RunFault>,
+    answers: Result<Vec<Answer<Global>>, RunFault>,
+}
+
+/// What a client's thread promises: where all operations are answered, the client of this number called these, its
+/// first ones, and got the answers that are given back.
+#[derive(Drop)]
+pub(crate) struct CallsHand {
+    number: u16,
+    ops: Snapshot<Vec<Op<Global>>>,
+}
+
+impl<N: Naming> Promise<Called<N>> for CallsHand {
+    ghost use Rattle.std.specs.Prelude.{IfOk};
+    ghost use Rattle.cluster_run.specs.Hands.{HasCalledHand};
+
+    ghost kept_by = { λ promise called. IfOk called.answers
+        (λ answers. HasCalledHand promise.ops.value promise.number answers called.client) };
 }
 
 /// What all gave back.
 #[derive(Drop)]
 pub(crate) struct AllCalled<N: Naming> {
     pub(crate) clients: Vec<ClientHandle<N>>,
-    pub(crate) answers: Vec<VecDeque<Answer<Global>>>,
+    pub(crate) answers: Vec<Vec<Answer<Global>>>,
+}
+
+/// The parties of a run: its replicas, how many of them may fail, and the clients that call.
+#[derive(Clone, Copy, Drop)]
+pub(crate) struct Members<'a> {
+    pub(crate) replicas: u8,
+    pub(crate) faults: u8,
+    pub(crate) clients: &'a [Party],
 }
 
 /// The clients that call, and their threads.
 pub(crate) struct Callers<N: Naming> {
     pub(crate) parties: Vec<Party>,
-    pub(crate) threads: Vec<JoinHandle<Called<N>>>,
+    pub(crate) threads: Vec<PromisedHandle<Called<N>, CallsHand>>,
 }
 
-/// Starts a thread for each client that has operations, the client of number 0 first.
+/// Starts a thread for each client that has operations, the client of number 0 first. Those after a client that has
+/// none have none either.
 pub(crate) fn start_clients<
     N: Naming + Send + Sync + 'static,
     R: Threads + Wait + Copy + Send + 'static,
@@ -44,12 +75,16 @@ pub(crate) fn start_clients<
     hands: Vec<Vec<Op<Global>>>,
     progress: &Arc<Progress, Global>,
     callers: &mut Callers<N>,
-) -> Result<(), RunFault> {
+) -> Result<(), RunFault>
+    requires new { callers.old.threads.items ≡ [] }
+    ensures started { OnOk result (AreStarted hands.items (promises_of callers.new.threads.items)) }
+{
     for (number, ops) in hands.into_iter().enumerate() {
-        if !ops.is_empty() {
-            let number = u16::try_from(number).map_err(|_| RunFault::NoClient)?;
-            start_client(rt, alloc, cluster, number, ops, progress, callers)?;
+        if ops.is_empty() {
+            return Ok(());
         }
+        let number = u16::try_from(number).map_err(|_| RunFault::NoClient)?;
+        start_client(rt, alloc, cluster, number, ops, progress, callers)?;
     }
     Ok(())
 }
@@ -62,15 +97,25 @@ fn start_client<N: Naming + Send + Sync + 'static, R: Threads + Wait + Copy + Se
     ops: Vec<Op<Global>>,
     progress: &Arc<Progress, Global>,
     callers: &mut Callers<N>,
-) -> Result<(), RunFault> {
+) -> Result<(), RunFault>
+    ensures { OnOk result (Starts (promises_of callers.old.threads.items) number ops
+        (promises_of callers.new.threads.items)) }
+{
     callers.parties.reserve(1)?;
     callers.threads.reserve(1)?;
     let progress = Arc::try_clone(progress)?;
     let client = cluster.client(number).ok_or(RunFault::NoClient)?;
     let party = client.party();
-    match thread::spawn(
+    let promise = CallsHand {
+        number,
+        ops: Snapshot::of(&ops),
+    };
+    match thread::spawn_with(
         &rt,
-        move || call_in_thread(&rt, alloc, client, ops, &progress),
+        promise,
+        move ||
+            requires { client.history ≡ [] }
+        { call_in_thread(&rt, alloc, client, ops, &progress) },
     ) {
         Ok(thread) => {
             callers.parties.push_reserved(party);
@@ -87,8 +132,15 @@ fn call_in_thread<N: Naming, R: Wait>(
     mut client: ClientHandle<N>,
     ops: Vec<Op<Global>>,
     progress: &Progress,
-) -> Called<N> {
+) -> Called<N>
+    requires new { client.history ≡ [] }
+    ensures { IfOk result.answers
+        (λ answers. HasCalled client (map operation_of ops.items) (map outcome_of answers.items) result.client) }
+{
     let answers = call_all(rt, alloc, &mut client, ops, progress);
+    if let Err(fault) = &answers {
+        progress.fail(rt, *fault);
+    }
     progress.add_end(rt);
     Called { client, answers }
 }
@@ -100,42 +152,75 @@ fn call_all<N: Naming, R: Wait>(
     client: &mut ClientHandle<N>,
     ops: Vec<Op<Global>>,
     progress: &Progress,
-) -> Result<VecDeque<Answer<Global>>, RunFault> {
-    let mut answers = VecDeque::with_capacity(alloc, ops.len())?;
+) -> Result<Vec<Answer<Global>>, RunFault>
+    requires new { client.old.history ≡ [] }
+    ensures { IfOk result
+        (λ answers. HasCalled client.old (map operation_of ops.items) (map outcome_of answers.items) client.new) }
+{
+    let mut answers = Vec::with_capacity(alloc, ops.len())?;
     for op in ops {
-        answers.push_back(client.call(rt, alloc, op)?)?;
+        answers.push(client.call(rt, alloc, op)?)?;
         progress.add_answer(rt);
     }
     Ok(answers)
 }
 
-/// Waits until the threads of these clients have ended. About each second it tells each client that time went by, so that
-/// it sends again what it waits for, or meets a full journal.
+/// Waits until the threads of these clients have ended, or ends the cluster, so that they end, where a client failed or
+/// more replicas have stopped than may fail.
+///
+/// About each second it tells each client that time went by, so that it sends again what it waits for. After some
+/// seconds without an answer it tells the replicas too, so that they change their view if the primary has stopped.
+///
+/// # Errors
+///
+/// The fault for which the cluster was ended.
 pub(crate) fn wait_for_clients<N: Naming + Send + Sync + 'static, R: Wait + Clock, W: Watch>(
     rt: &R,
     cluster: &Cluster<N>,
-    clients: &[Party],
+    members: &Members<'_>,
     progress: &Progress,
     watch: &mut W,
-) {
-    let mut seconds = 0u64;
+) -> Result<(), RunFault> {
+    let (mut looks, mut patience) = (0u64, Patience::new());
     for _ in rt.forever() {
-        let Some(answered) = progress.wait(rt, clients.len() as u64) else {
-            watch.end();
-            return;
-        };
-        seconds = seconds.saturating_add(1);
-        pulse_clients(rt, cluster, clients);
-        watch.note(seconds, answered);
+        match progress.wait(rt, members.clients.len() as u64) {
+            Stage::Calls { answered } => {
+                looks = looks.saturating_add(1);
+                if cluster.count_stopped(rt) > members.faults {
+                    progress.fail(rt, RunFault::TooManyStopped);
+                }
+                if looks.is_multiple_of(LOOKS_A_SECOND) {
+                    tell_of_second(rt, cluster, members, patience.ends(answered));
+                    watch.note(looks / LOOKS_A_SECOND, answered);
+                }
+            }
+            Stage::Done => {
+                watch.end();
+                return Ok(());
+            }
+            Stage::Failed(fault) => {
+                watch.end();
+                cluster.end(rt);
+                return Err(fault);
+            }
+        }
     }
+    unreachable!()
 }
 
-fn pulse_clients<N: Naming + Send + Sync + 'static, R: Wait>(
+// Tells the clients that time went by, and the replicas too if no operation was answered for too long.
+fn tell_of_second<N: Naming + Send + Sync + 'static, R: Wait>(
     rt: &R,
     cluster: &Cluster<N>,
-    clients: &[Party],
+    members: &Members<'_>,
+    too_long: bool,
 ) {
-    for client in clients {
+    if too_long {
+        for number in 0..members.replicas {
+            cluster.pulse(rt, Party::Replica(ReplicaId(number)));
+        }
+    }
+    for client in members.clients {
         cluster.pulse(rt, *client);
     }
 }
@@ -144,9 +229,13 @@ fn pulse_clients<N: Naming + Send + Sync + 'static, R: Wait>(
 pub(crate) fn join_clients<N: Naming, R: Threads>(
     rt: &R,
     alloc: Global,
-    threads: Vec<JoinHandle<Called<N>>>,
+    threads: Vec<PromisedHandle<Called<N>, CallsHand>>,
     all: &mut AllCalled<N>,
-) -> Result<(), RunFault> {
+) -> Result<(), RunFault>
+    requires no_client { all.old.clients.items ≡ [] }
+    requires no_answers { all.old.answers.items ≡ [] }
+    ensures { OnOk result (AreJoined (promises_of threads.items) all.new.clients.items all.new.answers.items) }
+{
     let mut outcome = Ok(());
     for thread in threads {
         let added = all.add(thread.join(rt));
@@ -156,7 +245,9 @@ pub(crate) fn join_clients<N: Naming, R: Threads>(
 }
 
 impl<N: Naming> Callers<N> {
-    pub(crate) fn new(alloc: Global) -> Callers<N> {
+    pub(crate) fn new(alloc: Global) -> Callers<N>
+        ensures { result.threads.items ≡ [] }
+    {
         Callers {
             parties: Vec::new(alloc),
             threads: Vec::new(alloc),
@@ -165,14 +256,19 @@ impl<N: Naming> Callers<N> {
 }
 
 impl<N: Naming> AllCalled<N> {
-    pub(crate) fn new(alloc: Global) -> AllCalled<N> {
+    pub(crate) fn new(alloc: Global) -> AllCalled<N>
+        ensures clients { result.clients.items ≡ [] }
+        ensures answers { result.answers.items ≡ [] }
+    {
         AllCalled {
             clients: Vec::new(alloc),
             answers: Vec::new(alloc),
         }
     }
 
-    fn add(&mut self, called: Called<N>) -> Result<(), RunFault> {
+    fn add(&mut self, called: Called<N>) -> Result<(), RunFault>
+        ensures { OnOk result (AddsCalled self.old called self.new) }
+    {
         let Called { client, answers } = called;
         self.clients.push(client)?;
         self.answers.push(answers?)?;

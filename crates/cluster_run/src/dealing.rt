@@ -1,10 +1,11 @@
 //! Which client calls which operations.
 
-ghost use Rattle.std.specs.Prelude.{◌≡◌, ◌<◌, IfOk, vec_len};
+ghost use Rattle.std.specs.Prelude.{◌≡◌, ◌<◌, [], IfOk, IfSome};
+ghost use Rattle.cluster_run.specs.Hands.{AreDealt, AreGathered, Takes};
 
 use crate::fault::RunFault;
 use std::alloc::Global;
-use std::collections::VecDeque;
+use std::mem;
 use terms::NoMemory;
 use tuple_codec::{Answer, Op};
 
@@ -15,17 +16,18 @@ pub(crate) fn deal(
     ops: Vec<Op<Global>>,
 ) -> Result<Vec<Vec<Op<Global>>>, NoMemory>
     requires { 0 < clients }
+    ensures { IfOk result (λ hands. AreDealt ops.items clients hands.items) }
 {
     let mut hands = empty_hands(alloc, clients)?;
     for (i, op) in ops.into_iter().enumerate() {
-        if let Some(hand) = hands.get_mut(i % clients) {
-            hand.push(op)?;
-        }
+        hands[i % clients].push(op)?;
     }
     Ok(hands)
 }
 
-fn empty_hands(alloc: Global, count: usize) -> Result<Vec<Vec<Op<Global>>>, NoMemory> {
+fn empty_hands(alloc: Global, count: usize) -> Result<Vec<Vec<Op<Global>>>, NoMemory>
+    ensures { IfOk result (λ hands. AreDealt [] count hands.items) }
+{
     let mut hands = Vec::new(alloc);
     for _ in 0..count {
         hands.push(Vec::new(alloc))?;
@@ -40,29 +42,30 @@ fn empty_hands(alloc: Global, count: usize) -> Result<Vec<Vec<Op<Global>>>, NoMe
 /// NoMemory, also where a client has fewer answers than operations.
 pub(crate) fn gather(
     alloc: Global,
-    mut hands: Vec<VecDeque<Answer<Global>>>,
+    clients: usize,
+    mut hands: Vec<Vec<Answer<Global>>>,
     count: usize,
 ) -> Result<Vec<Answer<Global>>, RunFault>
-    ensures { IfOk result (λ answers. vec_len answers ≡ count) }
+    requires { 0 < clients }
+    ensures { IfOk result (λ answers. AreGathered hands.items clients count answers.items) }
 {
     let mut answers = Vec::with_capacity(alloc, count)?;
     for i in 0..count {
-        answers.push(next_answer(&mut hands, i)?)?;
+        answers.push(take_answer(&mut hands, i % clients, i / clients).ok_or(NoMemory)?)?;
     }
     Ok(answers)
 }
 
-// The next answer of the client whose operation this is.
-fn next_answer(
-    hands: &mut Vec<VecDeque<Answer<Global>>>,
-    i: usize,
-) -> Result<Answer<Global>, NoMemory> {
-    let clients = hands.len();
-    if clients == 0 {
-        return Err(NoMemory);
+// Takes the answer out of this place of a hand.
+fn take_answer(
+    hands: &mut Vec<Vec<Answer<Global>>>,
+    hand: usize,
+    place: usize,
+) -> Option<Answer<Global>>
+    ensures { IfSome result (λ answer. Takes hands.old.items hand place answer hands.new.items) }
+{
+    if hand >= hands.len() || place >= hands[hand].len() {
+        return None;
     }
-    match hands.get_mut(i % clients) {
-        Some(hand) => hand.pop_front().ok_or(NoMemory),
-        None => Err(NoMemory),
-    }
+    Some(mem::replace(&mut hands[hand][place], Answer::Done))
 }

@@ -14,11 +14,17 @@ pub enum RunFault {
     /// There are more hands than clients.
     #[error("no such client")]
     NoClient,
+    /// The journal takes fewer than two entries an operation, one of its call and one of its answer.
+    #[error("the journal is too small for so many operations")]
+    NoRoom,
     /// A call was not answered.
     #[error("a call was not answered: {0}")]
     Call(CallFault),
+    /// More replicas have stopped than may fail, since memory ran out or the journal was full.
+    #[error("too many replicas have stopped: memory ran out, or the journal is full")]
+    TooManyStopped,
     /// The journal has another history of a party than the party itself.
-    #[error("not in the journal")]
+    #[error("the journal differs from the history of a party")]
     NotInJournal,
     #[error("out of memory")]
     NoMemory,

@@ -3,22 +3,24 @@
 //!
 //! # What is proved
 //!
-//! `run` is safe, on any operations. At Ok the cluster was finished, every call was answered, and there is an answer for
-//! each operation.
+//! At Ok `run` gives an answer for each operation, in their order. There is one trace of the cluster in which operation
+//! `i`, counted from 0, is call `i / clients` of client `i % clients`, and this client accepted this answer to it. The
+//! trace is a run's in which nothing is forged, and linearizable unless two texts have one digest.
 //!
 //! # What is not
 //!
-//! That it returns: it waits for the threads, and these for replies. That the answers are those of the calls, in the
-//! order of the operations, and that clients are told about each second that time went by, is tested (`btspace`).
+//! That it returns: it waits for the threads, and these for replies. That a run goes on without a primary that takes no
+//! event is tested (`btspace`). When the clients and the replicas are told that time went by is read in the code.
 #![tactic(auto)]
 
 mod calling;
 mod dealing;
 mod fault;
+mod patience;
 mod progress;
 mod running;
 
 pub use fault::RunFault;
 pub use progress::{Unwatched, Watch};
 pub use running::run;
-pub use space_node::is_faultless;
+pub use space_node::{Gate, Open, is_faultless};

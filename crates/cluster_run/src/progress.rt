@@ -1,10 +1,14 @@
 //! How far the clients are.
 
+use crate::fault::RunFault;
 use std::sync::{Condvar, Mutex, Wait};
 use std::time::{Clock, Duration};
 
-// So many seconds is a thread that waits for the clients asleep at the most.
-const PAUSE: u64 = 1;
+// So many milliseconds is a thread that waits for the clients asleep at the most,
+const PAUSE: u64 = 250;
+
+/// and so often it looks in a second.
+pub(crate) const LOOKS_A_SECOND: u64 = 4;
 
 /// Is told how far a run is.
 pub trait Watch {
@@ -25,18 +29,30 @@ impl Watch for Unwatched {
     fn end(&mut self) {}
 }
 
-// How many operations are answered, and how many of the clients' threads have ended.
+/// How far the clients' threads are.
+#[derive(Clone, Copy, Drop)]
+pub(crate) enum Stage {
+    /// Some call, and so many operations are answered.
+    Calls { answered: u64 },
+    /// All have ended, each call was answered.
+    Done,
+    /// A run with this fault has no answers.
+    Failed(RunFault),
+}
+
+// How many operations are answered, how many of the clients' threads have ended, and why the run has no answers.
 #[derive(Clone, Copy, Drop)]
 struct Counts {
     answered: u64,
     ended: u64,
+    fault: Option<RunFault>,
 }
 
 /// What the threads of a run share.
 #[derive(Drop)]
 pub(crate) struct Progress {
     counts: Mutex<Counts>,
-    has_ended: Condvar,
+    has_changed: Condvar,
 }
 
 impl Progress {
@@ -44,10 +60,11 @@ impl Progress {
         let counts = Counts {
             answered: 0,
             ended: 0,
+            fault: None,
         };
         Progress {
             counts: Mutex::new(counts),
-            has_ended: Condvar::new(),
+            has_changed: Condvar::new(),
         }
     }
 
@@ -62,23 +79,34 @@ impl Progress {
         let mut counts = self.counts.lock(rt);
         counts.ended = counts.ended.saturating_add(1);
         drop(counts);
-        self.has_ended.notify_one();
+        self.has_changed.notify_one();
     }
 
-    /// Waits until so many threads have ended, about a second at the most. Where some go on then it says how many
-    /// operations are answered.
-    pub(crate) fn wait<R: Wait + Clock>(&self, rt: &R, threads: u64) -> Option<u64> {
+    /// The run has no answers. Of several faults the first one counts, which has led to the others.
+    pub(crate) fn fail<R: Wait>(&self, rt: &R, fault: RunFault) {
+        let mut counts = self.counts.lock(rt);
+        if counts.fault.is_none() {
+            counts.fault = Some(fault);
+        }
+        drop(counts);
+        self.has_changed.notify_one();
+    }
+
+    /// Waits until so many threads have ended or the run has failed, a quarter of a second at the most.
+    pub(crate) fn wait<R: Wait + Clock>(&self, rt: &R, threads: u64) -> Stage {
         let counts = self.counts.lock(rt);
-        let (counts, _) = self.has_ended.wait_timeout_while(
+        let (counts, _) = self.has_changed.wait_timeout_while(
             rt,
             counts,
-            Duration::from_secs(PAUSE),
-            |counts| counts.ended < threads,
+            Duration::from_millis(PAUSE),
+            |counts| counts.ended < threads && counts.fault.is_none(),
         );
-        if counts.ended < threads {
-            Some(counts.answered)
-        } else {
-            None
+        match counts.fault {
+            Some(fault) => Stage::Failed(fault),
+            None if counts.ended < threads => Stage::Calls {
+                answered: counts.answered,
+            },
+            None => Stage::Done,
         }
     }
 }

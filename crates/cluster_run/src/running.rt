@@ -1,14 +1,18 @@
 //! A run, from the operations to their answers.
 
-ghost use Rattle.std.specs.Prelude.{◌≡◌, IfOk, vec_len};
+ghost use Rattle.std.specs.Prelude.{◌≡◌, [], IfOk, OnOk, map};
+ghost use Rattle.tuple_codec.specs.OperationView.{operation_of, outcome_of};
+ghost use Rattle.cluster_run.specs.Answers.{AnswersRun};
+ghost use Rattle.space_node.specs.Runs.{IsFaultless};
+ghost use Rattle.cluster_run.specs.Hands.{HandsAreCalled, HasTrace};
 
-use crate::calling::{AllCalled, Callers, join_clients, start_clients, wait_for_clients};
+use crate::calling::{AllCalled, Callers, Members, join_clients, start_clients, wait_for_clients};
 use crate::dealing::{deal, gather};
 use crate::fault::RunFault;
 use crate::progress::{Progress, Watch};
 use events::Config;
 use journal::{Naming, Opened};
-use space_node::{ClientHandle, Cluster, FinishFault, Open};
+use space_node::{ClientHandle, Cluster, FinishFault, Gate, is_faultless};
 use std::alloc::Global;
 use std::sync::{Arc, Wait};
 use std::thread::Threads;
@@ -18,15 +22,20 @@ use tuple_codec::{Answer, Op};
 /// Starts a cluster whose journal takes up to `limit` entries, 1 to 65,536 in the program, and has its clients call the
 /// operations: operation `i`, counted from 0, is of client `i` modulo their number, and each client calls its own in
 /// their order, in a thread of its own. About each second it tells each client that time went by, and then `watch` how
-/// many operations are answered. The answers are in the order of the operations.
+/// many operations are answered. After three seconds without an answer, and each time after twice as many, it tells the
+/// replicas too. So a primary that stopped is replaced. The gate may hold nodes, as a test does. The answers are in the
+/// order of the operations.
 ///
 /// # Errors
 ///
-/// BadConfig where the configuration names a faulty party, Call where a call was not answered, NotInJournal where the
-/// journal doesn't have what the parties kept, and NoMemory. All threads have ended then.
+/// BadConfig where the configuration names a faulty party, NoRoom where the limit is below two entries an operation,
+/// Call where a call was not answered, TooManyStopped where more replicas have stopped than may fail, NotInJournal where
+/// the journal doesn't have what the parties kept, and NoMemory. The run ends at the first of them, and all threads have
+/// ended then.
 pub fn run<
     N: Naming + Send + Sync + 'static,
     R: Threads + Wait + Clock + Copy + Send + 'static,
+    G: Gate + Send + Sync + Drop + 'static,
     W: Watch,
 >(
     rt: &R,
@@ -34,23 +43,53 @@ pub fn run<
     opened: Opened,
     config: &Config,
     limit: u32,
+    gate: G,
     ops: Vec<Op<Global>>,
     watch: &mut W,
 ) -> Result<Vec<Answer<Global>>, RunFault>
     requires config { config.now ≡ N.config }
     requires book { opened ≡ N.book }
-    ensures { IfOk result (λ answers. vec_len answers ≡ vec_len ops) }
+    ensures { IfOk result
+        (λ answers. AnswersRun N.config (map operation_of ops.items) (map outcome_of answers.items)) }
 {
+    if !is_faultless(config) {
+        return Err(RunFault::BadConfig);
+    }
     let count = ops.len();
-    let hands = deal(alloc, usize::from(config.clients()), ops)?;
+    if !has_room(limit, count) {
+        return Err(RunFault::NoRoom);
+    }
+    let clients = usize::from(config.clients());
+    let hands = deal(alloc, clients, ops)?;
     let progress = Arc::new(alloc, Progress::new())?;
     let mut all = AllCalled::new(alloc);
-    let mut cluster = Cluster::<N>::start(rt, alloc, opened, config, limit, Open)?;
-    let called = call_all(rt, alloc, &mut cluster, hands, &progress, watch, &mut all);
-    let AllCalled { clients, answers } = all;
-    finish(rt, alloc, cluster, clients)?;
+    let mut cluster = Cluster::<N>::start(rt, alloc, opened, config, limit, gate)?;
+    let called = call_all(
+        rt,
+        alloc,
+        &mut cluster,
+        config,
+        hands,
+        &progress,
+        watch,
+        &mut all,
+    );
+    let AllCalled {
+        clients: handles,
+        answers,
+    } = all;
+    let finished = finish(rt, alloc, cluster, handles);
     called?;
-    gather(alloc, answers, count)
+    finished?;
+    gather(alloc, clients, answers, count)
+}
+
+// Each operation takes an entry of its call and one of its answer, at least.
+fn has_room(limit: u32, count: usize) -> bool {
+    match u32::try_from(count) {
+        Ok(count) => count <= limit / 2,
+        Err(_) => false,
+    }
 }
 
 // Has the clients call all their operations. A cluster has to be finished whatever comes of that.
@@ -62,17 +101,31 @@ fn call_all<
     rt: &R,
     alloc: Global,
     cluster: &mut Cluster<N>,
+    config: &Config,
     hands: Vec<Vec<Op<Global>>>,
     progress: &Arc<Progress, Global>,
     watch: &mut W,
     all: &mut AllCalled<N>,
-) -> Result<(), RunFault> {
+) -> Result<(), RunFault>
+    requires no_client { all.old.clients.items ≡ [] }
+    requires no_answers { all.old.answers.items ≡ [] }
+    ensures { OnOk result (HandsAreCalled hands.items all.new.clients.items all.new.answers.items) }
+{
     let mut callers = Callers::new(alloc);
     let started = start_clients(*rt, alloc, cluster, hands, progress, &mut callers);
+    if let Err(fault) = &started {
+        progress.fail(rt, *fault);
+    }
     let Callers { parties, threads } = callers;
-    wait_for_clients(rt, cluster, parties.as_slice(), progress, watch);
+    let members = Members {
+        replicas: config.replicas(),
+        faults: config.faults(),
+        clients: parties.as_slice(),
+    };
+    let ended = wait_for_clients(rt, cluster, &members, progress, watch);
     let joined = join_clients(rt, alloc, threads, all);
-    started.and(joined)
+    // The fault for which the cluster was ended has led to the others.
+    ended.and(started).and(joined)
 }
 
 fn finish<N: Naming + Send + Sync + 'static, R: Threads + Wait>(
@@ -80,7 +133,10 @@ fn finish<N: Naming + Send + Sync + 'static, R: Threads + Wait>(
     alloc: Global,
     cluster: Cluster<N>,
     clients: Vec<ClientHandle<N>>,
-) -> Result<(), RunFault> {
+) -> Result<(), RunFault>
+    requires faultless { IsFaultless N.config }
+    ensures { OnOk result (HasTrace N.config clients.items) }
+{
     match cluster.finish(rt, alloc, clients) {
         Ok(_run) => Ok(()),
         Err(FinishFault::NotInJournal(_run, _party)) => Err(RunFault::NotInJournal),

@@ -35,7 +35,7 @@ quiet_outputs : (p : ℕ) (outs : List Output) → AcceptNothing outs → Each I
 quiet_outputs p [] none = tt
 quiet_outputs p (output ∷ outs) none = (quiet_output p output none.0, quiet_outputs p outs none.1)
 
-last_quiet : (more past : List Entry) → Each IsQuiet more → last_call (more ++ past) ≡ last_call past
+pub last_quiet : (more past : List Entry) → Each IsQuiet more → last_call (more ++ past) ≡ last_call past
 last_quiet [] past quiet = refl
 last_quiet (Invoke client timestamp op ∷ more) past quiet = absurd quiet.0
 last_quiet (Got p bytes ∷ more) past quiet = last_quiet more past quiet.1

@@ -25,7 +25,7 @@ pub neither : (b : Bool) → b ≡ true → b ≡ false → ⊥
 neither true t f = cc
 neither false t f = cc
 
-no_client : (c : Configuration) (p : ℕ) → p < 256 → is_correct_client c p ≡ false
+pub no_client : (c : Configuration) (p : ℕ) → p < 256 → is_correct_client c p ≡ false
 no_client c p low =
     let k : nat_le 256 p ≡ false = grind (arith, nat_tests) in
     ap (λ (b : Bool). (b && nat_lt p (256 + c.clients)) && not (member c.faulty_clients (p - 256))) k

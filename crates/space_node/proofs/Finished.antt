@@ -1,40 +1,44 @@
 -- What a finished cluster comes to.
-use Rattle.std.proofs.Common.{◌≡◌, ℕ, zero, suc, ◌+◌, false, List, [], ◌∷◌, ◌++◌, map, refl, sym, ap, ◌∙◌, subst, arith}
+use Rattle.std.proofs.Common.{◌≡◌, ℕ, ◌+◌, ◌<◌, ◌≤◌, false, List, [], ◌∷◌, ◌++◌, length, get_or, take, map, refl, sym, ap, ◌∙◌, subst}
 use Rattle.std.specs.Prelude.{Result, Ok, Err, OnOk, is_err}
-use Rattle.std.specs.List.{range_with_len}
+use Rattle.std.proofs.lemmas.List.{map-append, take_all, take_more}
 use Rattle.std.proofs.lemmas.List.Elements.{All-push, All-same}
-use Rattle.protocol.specs.System.Configuration.{Configuration}
+use Rattle.terms.specs.declared.parties.ReplicaId.{ReplicaId}
+use Rattle.protocol.specs.System.Configuration.{Configuration, IsConfiguration}
 use Rattle.protocol.specs.System.Run.{IsRun}
-use Rattle.protocol.specs.System.Trace.{Entry, Unforged}
+use Rattle.protocol.specs.System.Trace.{Entry}
 use Rattle.protocol.specs.Laws.Runs.{PointsAreLinear}
 use Rattle.protocol.specs.Replica.Owed.{IsPromptReplica}
 use Rattle.journal.specs.Carrying.{Carried}
+use Rattle.journal.specs.Histories.{correct_replicas}
 use Rattle.journal.specs.Laws.{CarriedIsUnforged}
 use Rattle.journal.specs.Parts.{Part}
 use Rattle.space_node.specs.Runs.{ClientsArePrompt, HasClients, HasShares, IsFinished, ReplicasArePrompt, Serves, StoppedAreNamed}
 use Rattle.space_node.specs.Seats.{Seated}
 
-range_from : (a n : ℕ) → range_with_len a (suc n) ≡ range_with_len a n ++ (a + n) ∷ []
-range_from a zero = ap (λ (k : ℕ). k ∷ []) (omega arith)
-range_from a (suc n) =
-    let e : (a + 1) + n ≡ a + suc n = omega arith in
-    ap (λ (ks : List ℕ). a ∷ ks) (range_from (a + 1) n ∙ ap (λ (k : ℕ). range_with_len (a + 1) n ++ k ∷ []) e)
-
-range_more : (n : ℕ) → range_with_len 0 (n + 1) ≡ range_with_len 0 n ++ n ∷ []
-range_more n =
-    let e : n + 1 ≡ suc n = omega arith in
-    let z : 0 + n ≡ n = omega arith in
-    ap (range_with_len 0) e ∙ (range_from 0 n ∙ ap (λ (k : ℕ). range_with_len 0 n ++ k ∷ []) z)
+-- ---- the shares of correct replicas, one after another
 
 parties_more : (shares : List Part) (share : Part) → map (λ (s : Part). s.party) (shares ++ share ∷ []) ≡ map (λ (s : Part). s.party) shares ++ share.party ∷ []
 parties_more [] share = refl
 parties_more (s ∷ shares) share = ap (λ (ps : List ℕ). s.party ∷ ps) (parties_more shares share)
 
-pub shares_more : (n : ℕ) (shares more : List Part) (share : Part) → share.party ≡ n → more ≡ shares ++ share ∷ []
-    → map (λ (s : Part). s.party) shares ≡ range_with_len 0 n → map (λ (s : Part). s.party) more ≡ range_with_len 0 (n + 1)
-shares_more n shares more share who is are =
-    ap (map (λ (s : Part). s.party)) is ∙ (parties_more shares share
-    ∙ (ap (λ (ps : List ℕ). ps ++ share.party ∷ []) are ∙ (ap (λ (p : ℕ). range_with_len 0 n ++ p ∷ []) who ∙ sym (range_more n))))
+numbers_more : (replicas : List ReplicaId) (i : ℕ) (d : ReplicaId) → i < length replicas
+    → map (λ (r : ReplicaId). r.0) (take (i + 1) replicas) ≡ map (λ (r : ReplicaId). r.0) (take i replicas) ++ (get_or replicas i d).0 ∷ []
+numbers_more replicas i d low =
+    ap (map (λ (r : ReplicaId). r.0)) (take_more replicas i d low) ∙ map-append (λ (r : ReplicaId). r.0) (take i replicas) (get_or replicas i d ∷ [])
+
+pub shares_more : (replicas : List ReplicaId) (i : ℕ) (d : ReplicaId) (shares more : List Part) (share : Part) → i < length replicas
+    → share.party ≡ (get_or replicas i d).0 → more ≡ shares ++ share ∷ [] → map (λ (s : Part). s.party) shares ≡ map (λ (r : ReplicaId). r.0) (take i replicas)
+    → map (λ (s : Part). s.party) more ≡ map (λ (r : ReplicaId). r.0) (take (i + 1) replicas)
+shares_more replicas i d shares more share low who grown are =
+    ap (map (λ (s : Part). s.party)) grown ∙ (parties_more shares share
+    ∙ (ap (λ (ps : List ℕ). ps ++ share.party ∷ []) are
+    ∙ (ap (λ (p : ℕ). map (λ (r : ReplicaId). r.0) (take i replicas) ++ p ∷ []) who ∙ sym (numbers_more replicas i d low))))
+
+pub shares_are : (c : Configuration) (replicas : List ReplicaId) (i : ℕ) (shares : List Part) → Serves c replicas → length replicas ≤ i
+    → map (λ (s : Part). s.party) shares ≡ map (λ (r : ReplicaId). r.0) (take i replicas) → map (λ (s : Part). s.party) shares ≡ correct_replicas c
+shares_are c replicas i shares serves all are =
+    are ∙ (ap (map (λ (r : ReplicaId). r.0)) (take_all i replicas all) ∙ serves.correct_are)
 
 pub ok_holds : {T E : Type 0} (r : Result T E) (P : Type 0) → is_err r ≡ false → OnOk r P → P
 ok_holds (Ok x) P h p = p
@@ -46,21 +50,20 @@ prompt_more c shares more share is old new =
     All-same (λ (s : Part). IsPromptReplica c s.party s.history) more (shares ++ share ∷ []) is
     (All-push (λ (s : Part). IsPromptReplica c s.party s.history) shares share old new)
 
-pub finished : (c : Configuration) (n : ℕ) (old trace : List Entry) (shares : List Part) (stopped : List ℕ) (clients : List Seated) → CarriedIsUnforged → PointsAreLinear → Serves c n
-    → map (λ (s : Part). s.party) shares ≡ range_with_len 0 n → trace ≡ old → IsRun c trace → Carried c trace → HasShares old shares → HasClients old clients
+pub finished : (c : Configuration) (old trace : List Entry) (shares : List Part) (stopped : List ℕ) (clients : List Seated) → CarriedIsUnforged → PointsAreLinear → IsConfiguration c
+    → map (λ (s : Part). s.party) shares ≡ correct_replicas c → trace ≡ old → IsRun c trace → Carried c trace → HasShares old shares → HasClients old clients
     → ReplicasArePrompt c shares → ClientsArePrompt c clients → StoppedAreNamed stopped clients → IsFinished c trace shares stopped clients
-finished c n old trace shares stopped clients unforge linear serves are is run carried has has_clients replicas_prompt clients_prompt named =
-    let unforged : Unforged c trace = unforge c trace serves.faultless.0 serves.faultless.1 run carried in record {
-      whole = record {
-        run = run;
-        carried = carried;
-        shares_are = subst (λ (t : List Entry). HasShares t shares) (sym is) has;
-        clients_are = subst (λ (t : List Entry). HasClients t clients) (sym is) has_clients;
-      };
-      replicas_prompt = replicas_prompt;
-      clients_prompt = clients_prompt;
-      named = named;
-      replicas_are = are ∙ ap (range_with_len 0) serves.count_is;
-      unforged = unforged;
-      linear = λ apart. linear c serves.valid trace run unforged apart;
-    }
+finished c old trace shares stopped clients unforge linear valid are is run carried has has_clients replicas_prompt clients_prompt named = record {
+  whole = record {
+    run = run;
+    carried = carried;
+    shares_are = subst (λ (t : List Entry). HasShares t shares) (sym is) has;
+    clients_are = subst (λ (t : List Entry). HasClients t clients) (sym is) has_clients;
+  };
+  replicas_prompt = replicas_prompt;
+  clients_prompt = clients_prompt;
+  named = named;
+  replicas_are = are;
+  unforged = λ faultless. unforge c trace faultless.0 faultless.1 run carried;
+  linear = λ unforged apart. linear c valid trace run unforged apart;
+}

@@ -3,8 +3,10 @@ pub mod Captures
 pub mod ClientSends
 pub mod Clients
 pub mod DeskSends
+pub mod Drilled
 pub mod Events
 pub mod Finished
+pub mod Handing
 pub mod HandleSends
 pub mod JournalSends
 pub mod NewSeats
@@ -12,4 +14,5 @@ pub mod Parts
 pub mod SeatSends
 pub mod Sends
 pub mod StateSends
+pub mod Stale
 pub mod Stopped

@@ -24,6 +24,7 @@ use Rattle.space_node.specs.contracts.order_seat.OrderSeat as order_seat
 use Rattle.space_node.specs.contracts.order_seat.OrderSeat.TheInside as in_order_seat
 use Rattle.space_node.specs.contracts.desk_seat.DeskSeat as desk_seat
 use Rattle.space_node.specs.contracts.desk_seat.DeskSeat.TheInside as in_desk_seat
+use Rattle.space_node.specs.contracts.shared.Inboxes as inboxes
 use Rattle.space_node.specs.contracts.shared.Node as node
 use Rattle.space_node.specs.contracts.shared.Shared as shared
 use Rattle.space_node.proofs.Sends.{heap_send, heap_frees, vec_field}
@@ -48,6 +49,12 @@ to_inbox_send = sender_send note.the_row heap.the_row ghosts note_send heap_send
 to_inbox_sync : IsSync (sender.the_row note.the_row heap.the_row ghosts)
 to_inbox_sync = sender_sync note.the_row heap.the_row ghosts note_send heap_send heap_sync heap_frees
 
+inboxes_send : IsSend inboxes.the_row
+inboxes_send = declared_send inboxes.the_type (to_inbox_send, (to_inbox_send, tt))
+
+inboxes_sync : IsSync inboxes.the_row
+inboxes_sync = declared_sync inboxes.the_type (to_inbox_sync, (to_inbox_sync, tt))
+
 pub inbox_send : IsSend (receiver.the_row note.the_row heap.the_row ghosts)
 inbox_send = receiver_send note.the_row heap.the_row ghosts note_send heap_send heap_sync heap_frees
 
@@ -68,14 +75,14 @@ module _ (N : RattleType) (g : Ghosts N.Denot) where
 
   node_send : IsSend (node.the_row N g)
   node_send = declared_send (node.the_type N g) (
-    mutex_send (order_seat.the_row N g) order_seat_send,
-    (mutex_send (desk_seat.the_row N g) desk_seat_send, (to_inbox_send, (to_inbox_send, tt))),
+    search sendable,
+    (mutex_send (order_seat.the_row N g) order_seat_send, (mutex_send (desk_seat.the_row N g) desk_seat_send, tt)),
   )
 
   node_sync : IsSync (node.the_row N g)
   node_sync = declared_sync (node.the_type N g) (
-    mutex_sync (order_seat.the_row N g) order_seat_send,
-    (mutex_sync (desk_seat.the_row N g) desk_seat_send, (to_inbox_sync, (to_inbox_sync, tt))),
+    search sendable,
+    (mutex_sync (order_seat.the_row N g) order_seat_send, (mutex_sync (desk_seat.the_row N g) desk_seat_send, tt)),
   )
 
   shared_send : IsSend (shared.the_row N g)
@@ -83,7 +90,10 @@ module _ (N : RattleType) (g : Ghosts N.Denot) where
     mutex_send (journal.the_row N g) (journal_send N g),
     (
       vec_field (node.the_row N g) node_send,
-      (vec_field (sender.the_row note.the_row heap.the_row ghosts) to_inbox_send, tt),
+      (
+        vec_field inboxes.the_row inboxes_send,
+        (vec_field (sender.the_row note.the_row heap.the_row ghosts) to_inbox_send, tt),
+      ),
     ),
   )
 
@@ -92,7 +102,10 @@ module _ (N : RattleType) (g : Ghosts N.Denot) where
     mutex_sync (journal.the_row N g) (journal_send N g),
     (
       vec_field_sync (node.the_row N g) node_sync,
-      (vec_field_sync (sender.the_row note.the_row heap.the_row ghosts) to_inbox_sync, tt),
+      (
+        vec_field_sync inboxes.the_row inboxes_sync,
+        (vec_field_sync (sender.the_row note.the_row heap.the_row ghosts) to_inbox_sync, tt),
+      ),
     ),
   )
 

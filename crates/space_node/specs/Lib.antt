@@ -1,5 +1,6 @@
 pub mod Calls
 pub mod Codes
+pub mod Drills
 pub mod Faults
 pub mod Places
 pub mod Runs

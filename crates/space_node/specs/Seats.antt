@@ -1,6 +1,6 @@
 -- The seats of parties: what contracts see of them, what they keep, and what an event does to them. The newest entry of
 -- a history stands first.
-use Rattle.std.specs.Prelude.{◌≡◌, ℕ, ◌+◌, ◌<◌, Bool, true, false, List, ◌∷◌, map, is_some}
+use Rattle.std.specs.Prelude.{◌≡◌, ℕ, ◌+◌, ◌<◌, Bool, true, false, List, [], ◌∷◌, map, is_some}
 use Rattle.protocol.specs.System.Configuration.{Configuration, is_correct_replica}
 use Rattle.protocol.specs.System.Reads.{without_reads}
 use Rattle.protocol.specs.System.Trace.{Entry, party_of, is_output}
@@ -22,6 +22,13 @@ pub record Seated : Type 0 where
   pub party : ℕ
   pub history : List Entry
   pub stopped : Bool
+
+-- the seat of a party that did nothing yet, and runs
+abbrev pub new_seat : ℕ → Seated
+new_seat p = record { party = p; history = []; stopped = false }
+
+abbrev pub IsNew : Seated → Type 0
+IsNew s = s ≡ new_seat s.party
 
 -- it stopped, with the history as it is
 abbrev pub stopped_at : Seated → Seated

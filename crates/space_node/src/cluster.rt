@@ -1,13 +1,17 @@
 //! A running cluster.
 
-ghost use Rattle.std.specs.Prelude.{◌≡◌, ◌↔◌, ◌+◌, Err, IfSome, IfOk, IfErr, map, reverse};
+ghost use Rattle.std.specs.Prelude.{◌≡◌, ◌↔◌, ◌+◌, All, Contains, Err, IfOk, IfErr, MatchOption, map, reverse};
 ghost use Rattle.terms.specs.Parties.{party_number};
 ghost use Rattle.space_node.specs.declared.fault.StartFault.TheVariants as StartFault;
-ghost use Rattle.space_node.specs.Places.{HandleAt};
+ghost use Rattle.space_node.specs.Drills.{MayStart, replicas_of};
+ghost use Rattle.space_node.specs.Places.{HandleAt, HandsOut, parties_of};
 ghost use Rattle.space_node.specs.Runs.{IsFaultless, IsFinished, Serves, TellsFault};
+ghost use Rattle.space_node.specs.Seats.{IsNew};
 
+use crate::drill::{Drill, drill_of, may_start};
+use crate::drilling::start_drill;
 use crate::fault::StartFault;
-use crate::faultless::is_faultless;
+use crate::faultless::correct_replicas;
 use crate::finishing::{settle, shares_of};
 use crate::gate::Gate;
 use crate::handle::ClientHandle;
@@ -18,18 +22,31 @@ use crate::shared::Shared;
 use events::Config;
 use journal::{Naming, Opened};
 use std::alloc::{AllocError, Global};
+use std::marker::Model;
 use std::sync::{Arc, Wait};
 use std::thread;
 use std::thread::{JoinHandle, Threads};
-use terms::{NoMemory, Party};
+use terms::{NoMemory, Party, ReplicaId};
 
 /// A running cluster, which has to be finished.
 pub struct Cluster<N: Naming> {
-    replicas: u8,
+    // The correct ones, in the order of their numbers.
+    replicas: Vec<ReplicaId>,
     shared: Arc<Shared<N>, Global>,
     threads: Vec<JoinHandle<()>>,
     handles: Vec<ClientHandle<N>>,
-    ghost serves: { Serves N.config replicas },
+    ghost serves: { Serves N.config replicas.items },
+    ghost are_new: { All IsNew handles.items },
+}
+
+/// Contracts see of it the parties whose handles were not handed out.
+impl<N: Naming> Model for Cluster<N> {
+    ghost use Rattle.std.specs.Prelude.{ℕ, List};
+    ghost use Rattle.space_node.specs.Places.{parties_of};
+
+    ghost Value = { List ℕ };
+
+    ghost view = { λ c. parties_of c.handles.items };
 }
 
 impl<N: Naming + Send + Sync + 'static> Cluster<N> {
@@ -51,31 +68,68 @@ impl<N: Naming + Send + Sync + 'static> Cluster<N> {
         requires book { opened ≡ N.book }
         ensures faulty { (result ≡ Err StartFault.BadConfig) ↔ (¬ IsFaultless config.now) }
     {
-        if !is_faultless(config) {
+        let none = Vec::new(alloc);
+        Self::start_with_drills(rt, alloc, opened, config, limit, gate, none)
+    }
+
+    /// The same where replicas may be faulty: each of them does its drill, named by its number, in place of its part.
+    ///
+    /// # Errors
+    ///
+    /// BadConfig exactly where the drills are not those of the configuration's faulty replicas, each once and in any
+    /// order, or a client is faulty; and NoMemory. No thread is left then.
+    pub fn start_with_drills<
+        G: Gate + Send + Sync + Drop + 'static,
+        R: Threads + Wait + Copy + Send + 'static,
+    >(
+        rt: &R,
+        alloc: Global,
+        opened: Opened,
+        config: &Config,
+        limit: u32,
+        gate: G,
+        drills: Vec<(u16, Drill)>,
+    ) -> Result<Cluster<N>, StartFault>
+        requires config { config.now ≡ N.config }
+        requires book { opened ≡ N.book }
+        ensures drills { (result ≡ Err StartFault.BadConfig)
+            ↔ (¬ MayStart config.now (replicas_of drills.items)) }
+    {
+        if !may_start(config, drills.as_slice()) {
             return Err(StartFault::BadConfig);
         }
-        let (shared, node_ends, client_ends) = seat_all::<N>(alloc, opened, config, limit)?;
+        let replicas = correct_replicas(alloc, config)?;
+        let (shared, ends, client_ends) = seat_all::<N>(alloc, opened, config, limit)?;
         let shared = Arc::new(alloc, shared)?;
         let gate = Arc::new(alloc, gate)?;
         let handles = new_handles(alloc, &shared, client_ends)?;
         let mut threads = Vec::new(alloc);
-        if start_nodes(*rt, alloc, &shared, &gate, node_ends, &mut threads).is_err() {
+        let drills = drills.as_slice();
+        let started = start_replicas(
+            *rt,
+            alloc,
+            config,
+            &shared,
+            &gate,
+            drills,
+            ends,
+            &mut threads,
+        );
+        if started.is_err() {
             stop(rt, &shared, threads);
             return Err(StartFault::NoMemory);
         }
-        // It is valid.
-        let _faults = config.faults();
         Ok(Cluster {
-            replicas: config.replicas(),
+            replicas,
             shared,
             threads,
             handles,
         })
     }
 
-    /// The handle of the client of this number, the first time that it is asked for.
+    /// The handle of the client of this number, the first time that it is asked for. It made no call.
     pub fn client(&mut self, number: u16) -> Option<ClientHandle<N>>
-        ensures { IfSome result (λ handle. handle.party ≡ 256 + number) }
+        ensures { HandsOut self.old (256 + number) result self.new }
     {
         let at = place_of(self.handles.as_slice(), number)?;
         Some(self.handles.remove(at))
@@ -85,6 +139,16 @@ impl<N: Naming + Send + Sync + 'static> Cluster<N> {
     /// happens where there is no such party.
     pub fn pulse<R: Wait>(&self, rt: &R, party: Party) {
         self.shared.pulse(rt, party);
+    }
+
+    /// How many replicas have stopped by now, since memory ran out or the journal refused an event of theirs.
+    pub fn count_stopped<R: Wait>(&self, rt: &R) -> u8 {
+        self.shared.count_stopped(rt)
+    }
+
+    /// Ends the nodes before the cluster is finished: calls that wait, and those that come, are refused.
+    pub fn end<R: Wait>(&self, rt: &R) {
+        self.shared.end(rt);
     }
 
     /// Ends the nodes and joins them, takes out the journal, and compares it with the replicas' shares and with the
@@ -115,18 +179,12 @@ impl<N: Naming + Send + Sync + 'static> Cluster<N> {
         stop(rt, &shared, threads);
         drop(handles);
         let mut stopped = Vec::new(alloc);
+        let replicas = replicas.as_slice();
         let Ok(shares) = shares_of(rt, alloc, &shared, replicas, &mut stopped) else {
             return Err(FinishFault::NoMemory);
         };
         let mut journal = shared.journal.lock(rt);
-        settle(
-            alloc,
-            &mut journal,
-            replicas,
-            shares,
-            stopped,
-            clients.as_slice(),
-        )
+        settle(alloc, &mut journal, shares, stopped, clients.as_slice())
     }
 }
 
@@ -135,7 +193,9 @@ fn new_handles<N: Naming>(
     alloc: Global,
     shared: &Arc<Shared<N>, Global>,
     ends: Vec<ClientEnd<N>>,
-) -> Result<Vec<ClientHandle<N>>, NoMemory> {
+) -> Result<Vec<ClientHandle<N>>, NoMemory>
+    ensures { IfOk result (λ handles. All IsNew handles.items) }
+{
     let mut handles = Vec::new(alloc);
     for end in ends {
         let ClientEnd { seat, inbox } = end;
@@ -147,7 +207,8 @@ fn new_handles<N: Naming>(
 
 // Where the client's handle lies.
 fn place_of<N: Naming>(handles: &[ClientHandle<N>], number: u16) -> Option<usize>
-    ensures { IfSome result (HandleAt handles.now (256 + number)) }
+    ensures { MatchOption result (¬ Contains (parties_of handles.now) (256 + number))
+        (HandleAt handles.now (256 + number)) }
 {
     for (at, handle) in handles.iter().enumerate() {
         if handle.is_of(number) {
@@ -157,21 +218,26 @@ fn place_of<N: Naming>(handles: &[ClientHandle<N>], number: u16) -> Option<usize
     None
 }
 
-// Starts both threads of each node.
-fn start_nodes<
+// Starts both threads of each replica.
+fn start_replicas<
     N: Naming + Send + Sync + 'static,
     G: Gate + Send + Sync + Drop + 'static,
     R: Threads + Wait + Copy + Send + 'static,
 >(
     rt: R,
     alloc: Global,
+    config: &Config,
     shared: &Arc<Shared<N>, Global>,
     gate: &Arc<G, Global>,
+    drills: &[(u16, Drill)],
     ends: Vec<NodeEnd>,
     threads: &mut Vec<JoinHandle<()>>,
 ) -> Result<(), AllocError> {
     for end in ends {
-        start_node(rt, alloc, shared, gate, end, threads)?;
+        match drill_of(drills, end.replica) {
+            None => start_node(rt, alloc, shared, gate, end, threads)?,
+            Some(drill) => start_drill(rt, alloc, config, shared, drill, end, threads)?,
+        }
     }
     Ok(())
 }
@@ -190,18 +256,18 @@ fn start_node<
 ) -> Result<(), AllocError> {
     let NodeEnd {
         replica,
-        inbox,
+        orders,
         reads,
     } = end;
     let orders_shared = Arc::try_clone(shared)?;
     let reads_shared = Arc::try_clone(shared)?;
     let gate = Arc::try_clone(gate)?;
     threads.reserve(2)?;
-    let orders = thread::spawn(
+    let ordering = thread::spawn(
         &rt,
-        move || serve_orders(&rt, alloc, &orders_shared, &*gate, replica, &inbox),
+        move || serve_orders(&rt, alloc, &orders_shared, &*gate, replica, &orders),
     )?;
-    threads.push_reserved(orders);
+    threads.push_reserved(ordering);
     let reading = thread::spawn(
         &rt,
         move || serve_reads(&rt, alloc, &reads_shared, replica, &reads),

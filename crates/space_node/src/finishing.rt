@@ -1,9 +1,9 @@
 //! A cluster's end: what its journal has is compared with what its parties kept.
 
-ghost use Rattle.std.specs.Prelude.{◌≡◌, ◌<◌, true, map, reverse, IfOk, IfErr, OnOk, MatchOption};
-ghost use Rattle.std.specs.List.{range_with_len};
+ghost use Rattle.std.specs.Prelude.{◌≡◌, true, map, reverse, IfOk, IfErr, OnOk, MatchOption};
 ghost use Rattle.terms.specs.Parties.{party_number};
-ghost use Rattle.protocol.specs.System.Configuration.{is_correct};
+ghost use Rattle.journal.specs.Histories.{correct_replicas};
+ghost use Rattle.protocol.specs.System.Configuration.{IsConfiguration, is_correct};
 ghost use Rattle.protocol.specs.Replica.Owed.{IsPromptReplica};
 ghost use Rattle.space_node.specs.Runs.{ClientsArePrompt, HasClients, HasShares, IsFinished, LacksClient};
 ghost use Rattle.space_node.specs.Runs.{LacksShare, ReplicasArePrompt, Serves, StoppedAreNamed, TellsFault};
@@ -17,24 +17,27 @@ use std::alloc::Global;
 use std::sync::Wait;
 use terms::{NoMemory, Party, ReplicaId};
 
-/// The share of each replica, whose desk stops then. Those whose desk had stopped are added to the stopped parties.
+/// The share of each of the correct replicas, whose desk stops then. Those whose desk had stopped are added to the
+/// stopped parties.
 pub(crate) fn shares_of<N: Naming, R: Wait>(
     rt: &R,
     alloc: Global,
     shared: &Shared<N>,
-    replicas: u8,
+    replicas: &[ReplicaId],
     stopped: &mut Vec<Party>,
 ) -> Result<Vec<Share<N>>, NoMemory>
-    requires serves { Serves N.config replicas }
-    ensures parties { IfOk result (λ shares. map (λ s. s.party) shares.items ≡ range_with_len 0 replicas) }
+    requires serves { Serves N.config replicas.now }
+    ensures valid { IsConfiguration N.config }
+    ensures parties { IfOk result
+        (λ shares. map (λ s. s.party) shares.items ≡ correct_replicas N.config) }
     ensures prompt { IfOk result
         (λ shares. ReplicasArePrompt N.config shares.items) }
 {
     let mut shares = Vec::new(alloc);
-    for number in 0..replicas {
-        let (share, has_stopped) = share_of(rt, alloc, shared, ReplicaId(number));
+    for replica in replicas {
+        let (share, has_stopped) = share_of(rt, alloc, shared, *replica);
         if has_stopped {
-            stopped.push(Party::Replica(ReplicaId(number)))?;
+            stopped.push(Party::Replica(*replica))?;
         }
         shares.push(share)?;
     }
@@ -52,7 +55,7 @@ fn share_of<N: Naming, R: Wait>(
     ensures party { result.0.party ≡ replica.0 }
     ensures prompt { IsPromptReplica N.config result.0.party result.0.history }
 {
-    if let Some(node) = shared.nodes.get(usize::from(replica.0)) {
+    if let Some(node) = shared.node(replica) {
         let mut shelf = node.shelf.lock(rt);
         let stopped = shelf.is_stopped();
         let share = shelf.give_up(alloc);
@@ -63,17 +66,16 @@ fn share_of<N: Naming, R: Wait>(
     (Share::empty(alloc, Party::Replica(replica)), false)
 }
 
-/// Compares the journal with the shares, one of each replica, and with the clients, and takes its trace.
+/// Compares the journal with the shares, one of each correct replica, and with the clients, and takes its trace.
 pub(crate) fn settle<N: Naming>(
     alloc: Global,
     journal: &mut Journal<N>,
-    replicas: u8,
     shares: Vec<Share<N>>,
     mut stopped: Vec<Party>,
     clients: &[ClientHandle<N>],
 ) -> Result<Run<N>, FinishFault<N>>
-    requires serves { Serves N.config replicas }
-    requires replicas_are { map (λ s. s.party) shares.items ≡ range_with_len 0 replicas }
+    requires valid { IsConfiguration N.config }
+    requires replicas_are { map (λ s. s.party) shares.items ≡ correct_replicas N.config }
     requires prompt { ReplicasArePrompt N.config shares.items }
     ensures finished { IfOk result
         (λ run. IsFinished N.config (reverse run.trace.items) run.shares.items

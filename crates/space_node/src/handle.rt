@@ -6,7 +6,7 @@ ghost use Rattle.terms.specs.Parties.{party_number};
 ghost use Rattle.protocol.specs.Client.RightClient.{IsPromptClient};
 ghost use Rattle.space_node.specs.declared.fault.CallFault.TheVariants as CallFault;
 ghost use Rattle.space_node.specs.Calls.{Called, Ends, IsSpent, Refused};
-ghost use Rattle.space_node.specs.Seats.{IsIdle};
+ghost use Rattle.space_node.specs.Seats.{IsNew};
 
 use crate::client_seat::ClientSeat;
 use crate::fault::CallFault;
@@ -49,7 +49,7 @@ impl<N: Naming> ClientHandle<N> {
         shared: Arc<Shared<N>, Global>,
         inbox: Receiver<Note>,
     ) -> ClientHandle<N>
-        requires { IsIdle seat }
+        requires { IsNew seat }
         ensures { result ≡ seat }
     {
         ClientHandle {
@@ -68,7 +68,7 @@ impl<N: Naming> ClientHandle<N> {
 
     /// Whether it is the handle of the client of this number.
     pub(crate) fn is_of(&self, number: u16) -> bool
-        ensures { IsTrue result → self.now.party ≡ 256 + number }
+        ensures { IsTrue result ↔ (self.now.party ≡ 256 + number) }
     {
         match self.party() {
             Party::Client(client) => client.number == number,

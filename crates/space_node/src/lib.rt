@@ -11,20 +11,24 @@
 //! By the types, so also behind the locks: each part of a node has stopped, or fits the history of its share, and so
 //! does each client. So whatever a node or a client appends is right, and the trace is a run's. [`ClientHandle::call`]
 //! says what an answer stands on in the client's history, and exactly when it is refused as stopped.
-//! [`Cluster::finish`] says that the trace is a run's, in which each frame that was got was sent; that it has each
-//! replica's and each handed client's history; that in it each of these parties does all that it owes; and that it is
-//! linearizable, unless two texts have one digest. What a party got after it had stopped is not in the trace, and the run
-//! names the parties that stopped.
+//! [`Cluster::finish`] says that the trace is a run's, in which each frame that was got was sent, or names a faulty
+//! sender; that it has each correct replica's and each handed client's history; that in it each of these parties does
+//! all that it owes; and that it is linearizable, unless two texts have one digest or a message of a correct party is
+//! forged, which without faulty parties none is. What a party got after it had stopped is not in the trace, and the run
+//! names the parties that stopped. [`Cluster::start_with_drills`] is refused exactly where the drills are not those of
+//! the faulty replicas; a stale replica says nothing but what reads come to in no tuples.
 //!
 //! # What is not
 //!
 //! That anything happens: that a thread runs, that a frame comes, that a call is answered. A frame that a channel
-//! doesn't take is lost, as in a network.
+//! doesn't take is lost, as in a network. That a stale replica answers each read is tested.
 #![tactic(auto)]
 
 mod client_seat;
 mod cluster;
 mod desk_seat;
+mod drill;
+mod drilling;
 mod entries;
 mod fault;
 mod faultless;
@@ -43,6 +47,7 @@ mod shared;
 mod turn;
 
 pub use cluster::Cluster;
+pub use drill::Drill;
 pub use fault::{CallFault, StartFault};
 pub use faultless::is_faultless;
 pub use gate::{Gate, Open};

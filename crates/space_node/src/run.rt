@@ -9,7 +9,7 @@ use terms::Party;
 pub struct Run<N: Naming> {
     /// The entries of all, the oldest first.
     pub trace: Vec<Entry>,
-    /// The share of each replica, in the order of their numbers.
+    /// The share of each correct replica, in the order of their numbers.
     pub shares: Vec<Share<N>>,
     /// The replicas that stopped, by number, and then those of the handed clients, in the order of their handles. A
     /// party stops where memory runs out or the journal refuses its event, and a client also if the cluster ends in its

@@ -1,13 +1,13 @@
 //! The seats of a new cluster.
 
-ghost use Rattle.std.specs.Prelude.{◌≡◌, ◌+◌, [], All, IfSome};
-ghost use Rattle.space_node.specs.Seats.{IsIdle};
+ghost use Rattle.std.specs.Prelude.{◌≡◌, ◌+◌, ◌<◌, [], All, IfSome};
+ghost use Rattle.space_node.specs.Seats.{IsNew};
 
 use crate::client_seat::ClientSeat;
 use crate::desk_seat::DeskSeat;
 use crate::note::Note;
 use crate::order_seat::OrderSeat;
-use crate::shared::{Node, Shared};
+use crate::shared::{Inboxes, Node, Shared};
 use authenticator::Ring;
 use client_cert::Client;
 use crossbeam_channel::{Receiver, Sender, unbounded};
@@ -19,12 +19,13 @@ use std::alloc::Global;
 use std::sync::Mutex;
 use terms::{ClientId, NoMemory, Party, ReplicaId};
 
-/// What a node's threads take.
+/// What a replica's threads take.
 #[derive(Drop)]
 pub(crate) struct NodeEnd {
     pub(crate) replica: ReplicaId,
-    pub(crate) inbox: Receiver<Note>,
+    pub(crate) orders: Receiver<Note>,
     pub(crate) reads: Receiver<Note>,
+    ghost known: { replica.0 < 10 },
 }
 
 /// What a client's handle has for its own.
@@ -32,14 +33,13 @@ pub(crate) struct NodeEnd {
 pub(crate) struct ClientEnd<N: Naming> {
     pub(crate) seat: ClientSeat<N>,
     pub(crate) inbox: Receiver<Note>,
-    ghost idle: { IsIdle seat },
+    ghost is_new: { IsNew seat },
 }
 
-/// The parties of a new cluster.
+/// The correct parties of a new cluster.
 #[derive(Drop)]
 struct Parties<N: Naming> {
     nodes: Vec<Node<N>>,
-    node_ends: Vec<NodeEnd>,
     clients: Vec<Sender<Note>>,
     client_ends: Vec<ClientEnd<N>>,
 }
@@ -55,21 +55,44 @@ pub(crate) fn seat_all<N: Naming>(
     requires book { opened ≡ N.book }
 {
     let (journal, shares, orders) = Journal::<N>::tied(alloc, opened, config, limit)?;
+    let (replicas, node_ends) = open_inboxes(alloc, config)?;
     let Parties {
         nodes,
-        node_ends,
         clients,
         client_ends,
     } = seat_parties(alloc, config, shares, orders)?;
     let shared = Shared {
         journal: Mutex::new(journal),
         nodes,
+        replicas,
         clients,
     };
     Ok((shared, node_ends, client_ends))
 }
 
-// Gives each party its seat.
+// The inboxes of all replicas, by their numbers.
+fn open_inboxes(alloc: Global, config: &Config) -> Result<(Vec<Inboxes>, Vec<NodeEnd>), NoMemory> {
+    // It is valid.
+    let _faults = config.faults();
+    let mut inboxes = Vec::new(alloc);
+    let mut ends = Vec::new(alloc);
+    for number in 0..config.replicas() {
+        let (to_orders, orders) = unbounded(alloc)?;
+        let (to_reads, reads) = unbounded(alloc)?;
+        inboxes.push(Inboxes {
+            orders: to_orders,
+            reads: to_reads,
+        })?;
+        ends.push(NodeEnd {
+            replica: ReplicaId(number),
+            orders,
+            reads,
+        })?;
+    }
+    Ok((inboxes, ends))
+}
+
+// Gives each correct party its seat.
 fn seat_parties<N: Naming>(
     alloc: Global,
     config: &Config,
@@ -83,7 +106,6 @@ fn seat_parties<N: Naming>(
     let publics = PublicKeys::new(alloc, config.seed())?;
     let mut parties = Parties {
         nodes: Vec::new(alloc),
-        node_ends: Vec::new(alloc),
         clients: Vec::new(alloc),
         client_ends: Vec::new(alloc),
     };
@@ -112,9 +134,9 @@ fn seat_party<N: Naming>(
             let Some(order) = take_order(orders, replica) else {
                 return Err(NoMemory);
             };
-            let (node, end) = new_node(alloc, config, publics, replica, share, order)?;
-            parties.nodes.push(node)?;
-            parties.node_ends.push(end)?;
+            parties
+                .nodes
+                .push(new_node(alloc, config, publics, replica, share, order)?)?;
         }
         Party::Client(client) => {
             let (inbox, end) = new_client(alloc, config, publics, client, share)?;
@@ -153,7 +175,7 @@ fn new_node<N: Naming>(
     replica: ReplicaId,
     share: Share<N>,
     order: OrderShare<N>,
-) -> Result<(Node<N>, NodeEnd), NoMemory>
+) -> Result<Node<N>, NoMemory>
     requires config { config.now ≡ N.config }
     requires keys { publics.now ≡ config.now.seed }
     requires party { share.party ≡ replica.0 }
@@ -164,20 +186,11 @@ fn new_node<N: Naming>(
     // It is one of the configuration's.
     let _party = order.party();
     let (orderer, desk) = Replica::new(alloc, config, replica, publics.share()?)?.split();
-    let (to_inbox, inbox) = unbounded(alloc)?;
-    let (to_reads, reads) = unbounded(alloc)?;
-    let node = Node {
+    Ok(Node {
+        replica,
         order: Mutex::new(OrderSeat::new(orderer, order)),
         shelf: Mutex::new(DeskSeat::new(desk, share)),
-        inbox: to_inbox,
-        reads: to_reads,
-    };
-    let end = NodeEnd {
-        replica,
-        inbox,
-        reads,
-    };
-    Ok((node, end))
+    })
 }
 
 fn new_client<N: Naming>(

@@ -20,7 +20,7 @@ pub(crate) fn serve_orders<N: Naming, G: Gate, R: Wait>(
     replica: ReplicaId,
     inbox: &Receiver<Note>,
 ) {
-    let Some(node) = shared.nodes.get(usize::from(replica.0)) else {
+    let Some(node) = shared.node(replica) else {
         return;
     };
     let mut event_no = 0u64;
@@ -64,7 +64,7 @@ pub(crate) fn serve_reads<N: Naming, R: Wait>(
     replica: ReplicaId,
     inbox: &Receiver<Note>,
 ) {
-    let Some(node) = shared.nodes.get(usize::from(replica.0)) else {
+    let Some(node) = shared.node(replica) else {
         return;
     };
     let mut arena = Bump::new(alloc);

@@ -10,33 +10,62 @@ use journal::{Journal, Naming};
 use read_only::asks_read;
 use std::alloc::Global;
 use std::sync::{Mutex, Wait};
-use terms::Party;
+use terms::{Party, ReplicaId};
 
-/// A replica, whose order lock is taken before its shelf lock.
+/// A correct replica, whose order lock is taken before its shelf lock.
 #[derive(Drop)]
 pub(crate) struct Node<N: Naming> {
+    pub(crate) replica: ReplicaId,
     pub(crate) order: Mutex<OrderSeat<N>>,
     pub(crate) shelf: Mutex<DeskSeat<N>>,
+}
+
+/// The inboxes of a replica, be it correct or faulty.
+#[derive(Drop)]
+pub(crate) struct Inboxes {
     /// Of the ordering thread.
-    pub(crate) inbox: Sender<Note>,
+    pub(crate) orders: Sender<Note>,
     /// Of the thread that reads.
     pub(crate) reads: Sender<Note>,
 }
 
-/// The journal, whose lock is taken last, the replicas, and the clients' inboxes.
+/// The journal, whose lock is taken last, the correct replicas, and the inboxes of all replicas and of the clients, by
+/// their numbers.
 #[derive(Drop)]
 pub(crate) struct Shared<N: Naming> {
     pub(crate) journal: Mutex<Journal<N>>,
     pub(crate) nodes: Vec<Node<N>>,
+    pub(crate) replicas: Vec<Inboxes>,
     pub(crate) clients: Vec<Sender<Note>>,
 }
 
 impl<N: Naming> Shared<N> {
+    /// The correct replica of this number.
+    pub(crate) fn node(&self, replica: ReplicaId) -> Option<&Node<N>> {
+        for node in &self.nodes {
+            if node.replica == replica {
+                return Some(node);
+            }
+        }
+        None
+    }
+
     /// Tells the party that time went by. Nothing where there is none of that number.
     pub(crate) fn pulse<R: Wait>(&self, rt: &R, party: Party) {
         if let Some(inbox) = self.inbox(party) {
             let _ = inbox.send(rt, Note::Pulse);
         }
+    }
+
+    /// How many replicas have stopped by now. What stops an orderer stops its desk too.
+    pub(crate) fn count_stopped<R: Wait>(&self, rt: &R) -> u8 {
+        let mut count = 0u8;
+        for node in &self.nodes {
+            if node.shelf.lock(rt).is_stopped() {
+                count = count.saturating_add(1);
+            }
+        }
+        count
     }
 
     /// Puts a copy of each frame into the inbox of each of its receivers. One that has no room is lost.
@@ -50,8 +79,8 @@ impl<N: Naming> Shared<N> {
         }
     }
 
-    // A frame that was sent at this position.
-    fn send_frame<R: Wait>(
+    /// The same of a frame that was sent at this position.
+    pub(crate) fn send_frame<R: Wait>(
         &self,
         rt: &R,
         alloc: Global,
@@ -74,8 +103,8 @@ impl<N: Naming> Shared<N> {
 
     fn inbox(&self, party: Party) -> Option<&Sender<Note>> {
         match party {
-            Party::Replica(replica) => match self.nodes.get(usize::from(replica.0)) {
-                Some(node) => Some(&node.inbox),
+            Party::Replica(replica) => match self.replicas.get(usize::from(replica.0)) {
+                Some(inboxes) => Some(&inboxes.orders),
                 None => None,
             },
             Party::Client(client) => self.clients.get(usize::from(client.number)),
@@ -85,8 +114,8 @@ impl<N: Naming> Shared<N> {
     // Where the party takes what has the marks of a read.
     fn read_inbox(&self, party: Party) -> Option<&Sender<Note>> {
         match party {
-            Party::Replica(replica) => match self.nodes.get(usize::from(replica.0)) {
-                Some(node) => Some(&node.reads),
+            Party::Replica(replica) => match self.replicas.get(usize::from(replica.0)) {
+                Some(inboxes) => Some(&inboxes.reads),
                 None => None,
             },
             Party::Client(client) => self.clients.get(usize::from(client.number)),
@@ -95,9 +124,9 @@ impl<N: Naming> Shared<N> {
 
     /// Ends all that take inboxes.
     pub(crate) fn end<R: Wait>(&self, rt: &R) {
-        for node in &self.nodes {
-            end(rt, &node.inbox);
-            end(rt, &node.reads);
+        for inboxes in &self.replicas {
+            end(rt, &inboxes.orders);
+            end(rt, &inboxes.reads);
         }
         for inbox in &self.clients {
             end(rt, inbox);

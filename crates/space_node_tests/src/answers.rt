@@ -3,12 +3,13 @@
 ghost use Rattle.std.specs.Prelude.{◌≡◌};
 
 use crate::clusters::{AMPLE, call, is_answered, new_config};
+use crate::gates::{Count, Events};
 use events::Config;
 use journal::{Naming, Opened};
-use space_node::{ClientHandle, Cluster, Open};
+use space_node::{ClientHandle, Cluster};
 use std::alloc::Global;
 use std::marker::Brand;
-use std::sync::Wait;
+use std::sync::{Arc, Wait};
 use std::test::Fail;
 use std::thread::Threads;
 
@@ -52,7 +53,11 @@ fn answers_rows<N: Naming + Send + Sync + 'static, R: Threads + Wait + Copy + Se
     requires book { opened ≡ N.book }
 {
     let mut clients = Vec::with_capacity(alloc, 2)?;
-    let mut cluster = Cluster::<N>::start(rt, alloc, opened, config, AMPLE, Open)?;
+    let events = Events::new(alloc)?;
+    let gate = Count {
+        events: Arc::try_clone(&events)?,
+    };
+    let mut cluster = Cluster::<N>::start(rt, alloc, opened, config, AMPLE, gate)?;
     let mut answered = false;
     if let (Some(mut first), Some(mut second)) = (cluster.client(0), cluster.client(1)) {
         answered = answers_all(rt, alloc, &mut first, &mut second);
@@ -61,7 +66,7 @@ fn answers_rows<N: Naming + Send + Sync + 'static, R: Threads + Wait + Copy + Se
     }
     let again = cluster.client(0).is_some();
     match cluster.finish(rt, alloc, clients) {
-        Ok(run) => Ok(answered && !again && run.shares.len() == 4),
+        Ok(run) => { Ok(answered && !again && run.shares.len() == 4 && events.are_numbered()) }
         Err(_) => Ok(false),
     }
 }

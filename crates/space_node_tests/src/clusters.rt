@@ -25,6 +25,18 @@ pub fn new_config(alloc: Global, faulty_replicas: Vec<u16>) -> Result<Config, Fa
     Ok(Config::new(1, 2, seed(), 4, faulty_replicas, Vec::new(alloc))?)
 }
 
+/// The configuration of two clients in which up to so many replicas may be faulty, and these replicas and clients are.
+pub fn faulty_config(
+    alloc: Global,
+    faults: u8,
+    replicas: &[u16],
+    clients: &[u16],
+) -> Result<Config, Fail> {
+    let replicas = Vec::from_slice(alloc, replicas)?;
+    let clients = Vec::from_slice(alloc, clients)?;
+    Ok(Config::new(faults, 2, seed(), 4, replicas, clients)?)
+}
+
 /// What a call came to.
 #[derive(Drop)]
 pub enum Came {

@@ -104,3 +104,53 @@ impl<R: Clock> Gate for Hold<R> {
         }
     }
 }
+
+/// How often each node was seen at a gate, and whether one of its events had another number than that.
+#[derive(Drop)]
+pub struct Events {
+    seen: [AtomicU64; 4],
+    misnumbered: AtomicU64,
+}
+
+impl Events {
+    /// Before the first event.
+    pub fn new(alloc: Global) -> Result<Arc<Events, Global>, AllocError> {
+        let events = Events {
+            seen: four(),
+            misnumbered: AtomicU64::new(0),
+        };
+        Ok(Arc::new(alloc, events)?)
+    }
+
+    /// Whether each node had events, and these were numbered from 0.
+    pub fn are_numbered(&self) -> bool {
+        for seen in &self.seen {
+            if seen.load(Ordering::SeqCst) == 0 {
+                return false;
+            }
+        }
+        self.misnumbered.load(Ordering::SeqCst) == 0
+    }
+}
+
+/// Counts the events of each node. Only the node's own thread comes with its number.
+#[derive(Drop)]
+pub struct Count {
+    pub events: Arc<Events, Global>,
+}
+
+impl Gate for Count {
+    fn at(&self, node: u16, event_no: u64) {
+        let is_next = match self.events.seen.get(usize::from(node)) {
+            Some(seen) => {
+                let before = seen.load(Ordering::SeqCst);
+                seen.store(before.wrapping_add(1), Ordering::SeqCst);
+                before == event_no
+            }
+            None => false,
+        };
+        if !is_next {
+            self.events.misnumbered.store(1, Ordering::SeqCst);
+        }
+    }
+}

@@ -1,11 +1,13 @@
-//! Tests of a running cluster (`space_node`): its answers, nodes that are held, reads beside ordering, and journals that
-//! are full.
+//! Tests of a running cluster (`space_node`): its answers, nodes that are held, reads beside ordering, journals that are
+//! full, and faulty replicas.
 #![tactic(auto)]
 
 #[cfg(test)]
 mod answers;
 #[cfg(test)]
 mod clusters;
+#[cfg(test)]
+mod drills;
 #[cfg(test)]
 mod full;
 #[cfg(test)]

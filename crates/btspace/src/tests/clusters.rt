@@ -1,8 +1,10 @@
 //! Scripts on running clusters.
 
+use crate::end_run;
 use crate::run::{RunFault, run};
 use crate::schedule::read_settings;
-use cluster_run::{Unwatched, is_faultless};
+use crate::tests::words::{Console, holds};
+use cluster_run::{Gate, Open, RunFault as ClusterFault, Unwatched, Watch, is_faultless};
 use config_text::Settings;
 use journal::Opened;
 use one_space::{LocalFault, read_script};
@@ -42,6 +44,14 @@ seed = "000102030405060708090a0b0c0d0e0f101112131415161718191a1b1c1d1e1f"
 journal = 10
 "#;
 
+// Two operations have four entries at least.
+const THREE_ENTRIES: &str = r#"
+f = 1
+clients = 1
+seed = "000102030405060708090a0b0c0d0e0f101112131415161718191a1b1c1d1e1f"
+journal = 3
+"#;
+
 const FAULTY_REPLICA: &str = r#"
 f = 1
 clients = 1
@@ -63,6 +73,8 @@ enum Ending {
     // The configuration is no such, or is refused.
     Configuration,
     Line(u64, LineFault),
+    // There is no room for the operations, so nothing starts.
+    NoRoom,
     Stopped,
 }
 
@@ -70,26 +82,34 @@ fn ending_of(ending: Result<(), RunFault>) -> Ending {
     match ending {
         Ok(()) => Ending::Complete,
         Err(RunFault::Configuration) => Ending::Configuration,
-        Err(RunFault::Stopped | RunFault::NoMemory | RunFault::Write(_)) => Ending::Stopped,
+        Err(RunFault::Stopped(ClusterFault::NoRoom)) => Ending::NoRoom,
+        Err(RunFault::Stopped(_) | RunFault::NoMemory | RunFault::Write(_)) => Ending::Stopped,
     }
 }
 
-// Runs the operations in a book of its own.
-fn run_alone<R: Threads + Wait + Clock + Copy + Send + 'static>(
+/// Runs the operations in a book of its own.
+pub fn run_alone<
+    R: Threads + Wait + Clock + Copy + Send + 'static,
+    G: Gate + Send + Sync + Drop + 'static,
+    S: Watch,
+>(
     rt: &R,
     alloc: Global,
     settings: &Settings,
+    gate: G,
     ops: Vec<Op<Global>>,
     written: &mut Vec<u8>,
+    watch: &mut S,
 ) -> Result<(), RunFault> {
-    run::<Brand, R, _, _>(
+    run::<Brand, R, G, _, S>(
         rt,
         alloc,
         Opened::new(),
         settings,
+        gate,
         ops,
         written,
-        &mut Unwatched,
+        watch,
     )
 }
 
@@ -104,7 +124,10 @@ fn run_text<R: Threads + Wait + Clock + Copy + Send + 'static>(
         return Ending::Configuration;
     };
     match read_script(alloc, script.as_bytes()) {
-        Ok(ops) => ending_of(run_alone(rt, alloc, &settings, ops, written)),
+        Ok(ops) => {
+            let watch = &mut Unwatched;
+            ending_of(run_alone(rt, alloc, &settings, Open, ops, written, watch))
+        }
         Err(LocalFault::Refused { line, fault }) => Ending::Line(line, fault),
         Err(_) => Ending::Stopped,
     }
@@ -156,15 +179,41 @@ fn swaps_once(rt: HostRuntime) {
     );
 }
 
-// Ten entries are too few for a call: nothing is printed, and the client is told that time goes by until it meets the
-// full journal.
+// Ten entries are too few for a call: nothing is printed.
 #[test]
 fn stops_at_a_full_journal(rt: HostRuntime) {
-    let mut written = Vec::new(rt.alloc());
-    let ending = run_text(&rt, rt.alloc(), SMALL_JOURNAL, "out (1)\n", &mut written);
-    assert_eq!(rt; ending, Ending::Stopped);
-    assert!(rt; written.is_empty());
-    assert_eq!(rt; RunFault::Stopped.complaint().status(), 3);
+    for (settings, script, end) in [
+        (SMALL_JOURNAL, "out (1)\n", Ending::Stopped),
+        (THREE_ENTRIES, "out (1)\nrdp (1)\n", Ending::NoRoom),
+    ] {
+        let mut written = Vec::new(rt.alloc());
+        let ending = run_text(&rt, rt.alloc(), settings, script, &mut written);
+        assert_eq!(rt; ending, end);
+        assert!(rt; written.is_empty());
+    }
+}
+
+// What is said after the word `stopped` stands on a line of its own.
+#[test]
+fn says_why_a_run_is_stopped(rt: HostRuntime) {
+    let rows = [
+        (
+            ClusterFault::NoRoom,
+            "stopped\nthe journal is too small for so many operations\n",
+        ),
+        (
+            ClusterFault::TooManyStopped,
+            "stopped\ntoo many replicas have stopped: memory ran out, or the journal is full\n",
+        ),
+    ];
+    for (fault, text) in rows {
+        let console = Console::new(rt.alloc(), true);
+        assert_eq!(rt; end_run(&console, &RunFault::Stopped(fault)), 3);
+        assert!(rt; holds(&console.errors, text));
+    }
+    let console = Console::new(rt.alloc(), true);
+    assert_eq!(rt; end_run(&console, &RunFault::Configuration), 1);
+    assert!(rt; holds(&console.errors, "refused 25\n"));
 }
 
 #[test]
@@ -180,7 +229,6 @@ fn refuses_faulty_parties(rt: HostRuntime) {
         };
         assert!(rt; is_refused);
     }
-    assert_eq!(rt; RunFault::Configuration.complaint().status(), 1);
 }
 
 #[test]

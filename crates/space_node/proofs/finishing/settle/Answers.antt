@@ -12,8 +12,8 @@ returns-in-None-None-clause-finished g c =
     let done : is_err c.add_stopped.result ≡ false = sym c.is_err.ensures.value ∙ c.if-is_err.false in
     let has_shares : HasShares c.args.journal.now.trace c.args.shares.items = search rules in
     let has_clients : HasClients c.args.journal.now.trace clients = search rules in
-    finished g.N.Naming.config c.args.replicas c.args.journal.now.trace (reverse c.take.result.items) c.args.shares.items stopped clients
-    c.carried_is_unforged.ensures.unforged c.points_are_linear.ensures.points c.requires.serves c.requires.replicas_are c.take.ensures.trace
+    finished g.N.Naming.config c.args.journal.now.trace (reverse c.take.result.items) c.args.shares.items stopped clients
+    c.carried_is_unforged.ensures.unforged c.points_are_linear.ensures.points c.requires.valid c.requires.replicas_are c.take.ensures.trace
     c.take.ensures.run c.take.ensures.carried has_shares has_clients c.requires.prompt
     (ok_holds c.add_stopped.result (ClientsArePrompt g.N.Naming.config clients) done c.add_stopped.ensures.prompt)
     (ok_holds c.add_stopped.result (StoppedAreNamed stopped clients) done c.add_stopped.ensures.named)

@@ -1,0 +1,14 @@
+use Rattle.std.proofs.Common.{rules, arith, ◌≡◌, ◌<◌, length}
+use Rattle.cluster_run.specs.Hands.{AreDealt, HandsAreCalled, HasTrace}
+use Rattle.cluster_run.proofs.Answering.{gathered_run}
+use Rattle.cluster_run.proofs.running.run.Goals as goal
+
+pub returns : goal.returns
+returns g c =
+    let conf = g.N.Naming.config in
+    let hands = c.in_ok-hands.hands.items in
+    let all = c.call_all-called.new.all in
+    let called : HandsAreCalled hands all.clients.items all.answers.items = search rules in
+    let done : HasTrace conf all.clients.items = search rules in
+    gathered_run c.gather.result conf c.args.ops.items hands all.answers.items all.clients.items c.from-clients.result c.len-count.result (search rules) (search rules) (search rules)
+    (search rules) called done c.gather.ensures

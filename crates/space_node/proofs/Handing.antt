@@ -1,0 +1,43 @@
+-- Handles that a cluster hands out.
+use Rattle.std.proofs.Common.{◌≡◌, ℕ, zero, suc, ◌+◌, ◌<◌, List, [], ◌∷◌, ◌++◌, length, map, drop, take, refl, sym, ap, ◌∙◌, subst, arith}
+use Rattle.std.specs.Prelude.{All, Contains, Option, None, Some, slice_get}
+use Rattle.std.specs.List.{remove}
+use Rattle.std.proofs.lemmas.List.{length-map}
+use Rattle.std.proofs.lemmas.List.Elements.{All-append, All-contains, All-drop, All-get_or, All-map, All-take}
+use Rattle.std.proofs.lemmas.Option.{get_or_from_slice_get, none-some, same_Some, slice_get_within}
+use Rattle.space_node.specs.Places.{HandleAt, HandsOut, Takes, parties_of}
+use Rattle.space_node.specs.Seats.{IsNew, Seated, new_seat}
+
+pub all_but : {X : Type 0} (P : X → Type 0) (xs : List X) (at : ℕ) → All P xs → All P (remove xs at)
+all_but P xs at all = All-append P (take at xs) (drop (suc at) xs) (All-take P at xs all) (All-drop P (suc at) xs all)
+
+takes : (handles : List Seated) (at : ℕ) (s : Seated) → slice_get handles at ≡ Some s → Takes (parties_of handles) s.party (parties_of (remove handles at))
+takes [] at s e = absurd (none-some s e)
+takes (h ∷ handles) zero s e = record {
+  before = [];
+  later = parties_of handles;
+  old_is = ap (λ x. x.party ∷ parties_of handles) (same_Some h s e);
+  new_is = refl;
+}
+takes (h ∷ handles) (suc at) s e =
+    let rest = takes handles at s e in
+    record {
+      before = h.party ∷ rest.before;
+      later = rest.later;
+      old_is = ap (λ ps. h.party ∷ ps) rest.old_is;
+      new_is = ap (λ ps. h.party ∷ ps) rest.new_is;
+    }
+
+-- the handle at this place is handed out
+pub handed : (handles : List Seated) (at p : ℕ) (s : Seated) → All IsNew handles → HandleAt handles p at → slice_get handles at ≡ Some s
+    → HandsOut (parties_of handles) p (Some s) (parties_of (remove handles at))
+handed handles at p s new there is =
+    let same : there.0 ≡ s = same_Some there.0 s (sym there.1 ∙ is) in
+    let party : s.party ≡ p = ap (λ (x : Seated). x.party) (sym same) ∙ there.2 in
+    let fresh : s ≡ new_seat s.party =
+    subst IsNew (get_or_from_slice_get handles at s s is) (All-get_or IsNew handles at s (slice_get_within handles at s is) new) in
+    (fresh ∙ ap new_seat party, subst (λ q. Takes (parties_of handles) q (parties_of (remove handles at))) party (takes handles at s is))
+
+-- none of them is the party's
+pub none_there : (handles : List Seated) (p : ℕ) → All (λ (s : Seated). ¬ (s.party ≡ p)) handles → ¬ Contains (parties_of handles) p
+none_there handles p none h = All-contains (λ q. ¬ (q ≡ p)) (parties_of handles) p (All-map (λ q. ¬ (q ≡ p)) (λ s. s.party) handles none) h refl

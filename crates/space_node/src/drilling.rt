@@ -1,0 +1,153 @@
+//! The threads of a faulty replica. Each takes its inbox until it is told to end.
+
+ghost use Rattle.std.specs.Prelude.{◌≡◌, ◌<◌, IfSome};
+ghost use Rattle.space_node.specs.Drills.{IsStale};
+
+use crate::drill::Drill;
+use crate::note::Note;
+use crate::seating::NodeEnd;
+use crate::shared::Shared;
+use authenticator::Ring;
+use bumpalo::Bump;
+use crossbeam_channel::Receiver;
+use events::{Config, Output};
+use journal::Naming;
+use posting::{reply_message, seal_for_one};
+use read_only::{Shelf, answer, asks_read, hear_read};
+use space::Space;
+use std::alloc::{AllocError, Global};
+use std::sync::{Arc, Wait};
+use std::thread;
+use std::thread::{JoinHandle, Threads};
+use terms::{Number, Party, ReplicaId};
+use wire::Reply;
+
+/// A replica that has the keys for its answers, and nothing else.
+#[derive(Drop)]
+struct Stale {
+    me: ReplicaId,
+    ring: Ring,
+    ghost known: { me.0 < 10 },
+}
+
+/// Starts both threads of a faulty replica.
+pub(crate) fn start_drill<
+    N: Naming + Send + Sync + 'static,
+    R: Threads + Wait + Copy + Send + 'static,
+>(
+    rt: R,
+    alloc: Global,
+    config: &Config,
+    shared: &Arc<Shared<N>, Global>,
+    drill: Drill,
+    end: NodeEnd,
+    threads: &mut Vec<JoinHandle<()>>,
+) -> Result<(), AllocError> {
+    let NodeEnd {
+        replica,
+        orders,
+        reads,
+    } = end;
+    start_silent(rt, orders, threads)?;
+    match drill {
+        Drill::Silent => start_silent(rt, reads, threads),
+        Drill::Stale => {
+            let ring = Ring::new(alloc, config.seed(), config.faults(), config.clients());
+            let stale = Stale { me: replica, ring };
+            start_stale(rt, alloc, shared, stale, reads, threads)
+        }
+    }
+}
+
+fn start_silent<R: Threads + Wait + Copy + Send + 'static>(
+    rt: R,
+    inbox: Receiver<Note>,
+    threads: &mut Vec<JoinHandle<()>>,
+) -> Result<(), AllocError> {
+    threads.reserve(1)?;
+    let taking = thread::spawn(&rt, move || take_all(&rt, &inbox))?;
+    threads.push_reserved(taking);
+    Ok(())
+}
+
+fn start_stale<N: Naming + Send + Sync + 'static, R: Threads + Wait + Copy + Send + 'static>(
+    rt: R,
+    alloc: Global,
+    shared: &Arc<Shared<N>, Global>,
+    stale: Stale,
+    inbox: Receiver<Note>,
+    threads: &mut Vec<JoinHandle<()>>,
+) -> Result<(), AllocError> {
+    let shared = Arc::try_clone(shared)?;
+    threads.reserve(1)?;
+    let reading = thread::spawn(
+        &rt,
+        move || answer_reads(&rt, alloc, &shared, stale, &inbox),
+    )?;
+    threads.push_reserved(reading);
+    Ok(())
+}
+
+// Takes all that comes, and sends nothing.
+fn take_all<R: Wait>(rt: &R, inbox: &Receiver<Note>) {
+    for _ in rt.forever() {
+        match inbox.recv(rt) {
+            Ok(Note::Frame(_, _)) | Ok(Note::Pulse) => {}
+            Ok(Note::End) | Err(_) => break,
+        }
+    }
+}
+
+// Answers the reads that come. What names a faulty sender may come from anywhere, so it has no position.
+fn answer_reads<N: Naming, R: Wait>(
+    rt: &R,
+    alloc: Global,
+    shared: &Shared<N>,
+    mut stale: Stale,
+    inbox: &Receiver<Note>,
+) {
+    let mut arena = Bump::new(alloc);
+    for _ in rt.forever() {
+        let output = match inbox.recv(rt) {
+            Ok(Note::Frame(bytes, _)) => stale.answer(alloc, bytes.as_slice(), &mut arena),
+            Ok(Note::Pulse) => None,
+            Ok(Note::End) | Err(_) => break,
+        };
+        if let Some(Output::Send(receivers, frame)) = &output {
+            shared.send_frame(rt, alloc, receivers.as_slice(), frame.as_slice(), 0);
+        }
+        if arena.reset().is_err() {
+            arena = Bump::new(alloc);
+        }
+    }
+}
+
+impl Stale {
+    // What it gives for bytes in which it hears a read, if memory suffices.
+    fn answer(&mut self, alloc: Global, bytes: &[u8], arena: &mut Bump) -> Option<Output>
+        ensures { IfSome result (IsStale self.old.ring self.old.me.0 bytes.now) }
+    {
+        if !asks_read(bytes) {
+            return None;
+        }
+        let request = hear_read(&mut self.ring, self.me, bytes)?;
+        let space = Space::new(alloc);
+        let shelf = Shelf {
+            space: &space,
+            number: Number(0),
+        };
+        let receiver = Party::Client(request.client);
+        let Ok(reply) = answer(alloc, &shelf, &request, arena) else {
+            return None;
+        };
+        let Reply {
+            client,
+            timestamp,
+            kind,
+            number,
+            answer,
+        } = reply;
+        let message = reply_message(client, timestamp, kind, number, answer);
+        seal_for_one(&mut self.ring, alloc, self.me, message, receiver).ok()
+    }
+}

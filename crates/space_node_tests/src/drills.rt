@@ -1,0 +1,221 @@
+//! Clusters with faulty replicas, each of which does a drill.
+
+ghost use Rattle.std.specs.Prelude.{◌≡◌};
+
+use crate::clusters::{AMPLE, call, faulty_config, is_answered};
+use events::{Config, Entry, EntryKind};
+use journal::{Naming, Opened};
+use space_node::{ClientHandle, Cluster, Drill, Open, Run, StartFault};
+use std::alloc::Global;
+use std::marker::Brand;
+use std::rt::Clock;
+use std::sync::Wait;
+use std::test::Fail;
+use std::thread;
+use std::thread::Threads;
+use std::time::Duration;
+use wire::judge;
+
+// How many replicas may be faulty, and the drills of those that are.
+struct Row {
+    faults: u8,
+    faulty: &'static [u16],
+    drills: &'static [(u16, Drill)],
+}
+
+static ROWS: [Row; 3] = [
+    Row {
+        faults: 1,
+        faulty: &[3],
+        drills: &[(3, Drill::Silent)],
+    },
+    Row {
+        faults: 1,
+        faulty: &[3],
+        drills: &[(3, Drill::Stale)],
+    },
+    Row {
+        faults: 2,
+        faulty: &[5, 6],
+        drills: &[(6, Drill::Stale), (5, Drill::Silent)],
+    },
+];
+
+// Calls of one client, and their answers.
+static CALLS: [(&str, &str); 6] = [
+    ("rdp (*)", "absent"),
+    ("out (1)", "done"),
+    ("rdp (*)", "found (1)"),
+    ("rdAll 64 (*)", "all 1 (1)"),
+    ("inp (*)", "found (1)"),
+    ("rdp (*)", "absent"),
+];
+
+// How often a client calls on, with a pause before each call, so that it takes what came late.
+const LATE_CALLS: u32 = 20;
+
+fn answers_all<N: Naming, R: Wait + Clock>(
+    rt: &R,
+    alloc: Global,
+    client: &mut ClientHandle<N>,
+) -> bool {
+    for (line, answer) in &CALLS {
+        if !is_answered(&call(rt, alloc, client, line), answer) {
+            return false;
+        }
+    }
+    for _ in 0..LATE_CALLS {
+        thread::sleep(rt, Duration::from_millis(5));
+        if !is_answered(&call(rt, alloc, client, "rdp (*)"), "absent") {
+            return false;
+        }
+    }
+    true
+}
+
+// The calls are answered, each correct replica has a share, and a frame of a faulty replica was got exactly if it is
+// stale.
+fn answers_with_liars<
+    N: Naming + Send + Sync + 'static,
+    R: Threads + Wait + Clock + Copy + Send + 'static,
+>(rt: &R, alloc: Global, opened: Opened, config: &Config, row: &Row) -> Result<bool, Fail>
+    requires config { config.now ≡ N.config }
+    requires book { opened ≡ N.book }
+{
+    let mut clients = Vec::with_capacity(alloc, 1)?;
+    let drills = Vec::from_slice(alloc, row.drills)?;
+    let mut cluster = Cluster::<N>::start_with_drills(
+        rt, alloc, opened, config, AMPLE, Open, drills,
+    )?;
+    let mut answered = false;
+    if let Some(mut client) = cluster.client(0) {
+        answered = answers_all(rt, alloc, &mut client);
+        clients.push_reserved(client);
+    }
+    match cluster.finish(rt, alloc, clients) {
+        Ok(run) => Ok(answered && has_correct_shares(&run, row) && hears_stale_alone(&run, row)),
+        Err(_) => Ok(false),
+    }
+}
+
+// The faulty ones have the last numbers.
+fn has_correct_shares<N: Naming>(run: &Run<N>, row: &Row) -> bool {
+    for (at, share) in run.shares.iter().enumerate() {
+        if usize::from(share.party().number()) != at {
+            return false;
+        }
+    }
+    run.shares.len() == 2 * usize::from(row.faults) + 1
+}
+
+fn hears_stale_alone<N: Naming>(run: &Run<N>, row: &Row) -> bool {
+    for (replica, drill) in row.drills {
+        if hears(run.trace.as_slice(), *replica) != (*drill == Drill::Stale) {
+            return false;
+        }
+    }
+    true
+}
+
+// Whether a frame of this sender was got.
+fn hears(trace: &[Entry], sender: u16) -> bool {
+    for entry in trace {
+        if is_got_from(entry, sender) {
+            return true;
+        }
+    }
+    false
+}
+
+fn is_got_from(entry: &Entry, sender: u16) -> bool {
+    match entry.kind() {
+        EntryKind::Got(_, bytes) => match judge(bytes.as_slice()) {
+            Ok(header) => header.sender.number() == sender,
+            Err(_) => false,
+        },
+        _ => false,
+    }
+}
+
+#[test]
+fn liars_change_no_answer(rt: HostRuntime) -> Result<(), Fail> {
+    for row in &ROWS {
+        let config = faulty_config(rt.alloc(), row.faults, row.faulty, &[])?;
+        assert!(rt; answers_with_liars::<Brand, _>(&rt, rt.alloc(), Opened::new(), &config, row)?);
+    }
+    Ok(())
+}
+
+// Faulty replicas of four, faulty clients of two, and drills that are not theirs.
+struct Refused {
+    replicas: &'static [u16],
+    clients: &'static [u16],
+    drills: &'static [(u16, Drill)],
+}
+
+static REFUSED: [Refused; 6] = [
+    // A faulty replica has none.
+    Refused {
+        replicas: &[3],
+        clients: &[],
+        drills: &[],
+    },
+    // A correct one has one.
+    Refused {
+        replicas: &[],
+        clients: &[],
+        drills: &[(3, Drill::Silent)],
+    },
+    Refused {
+        replicas: &[3],
+        clients: &[],
+        drills: &[(3, Drill::Stale), (2, Drill::Stale)],
+    },
+    // A faulty one has two.
+    Refused {
+        replicas: &[3],
+        clients: &[],
+        drills: &[(3, Drill::Silent), (3, Drill::Stale)],
+    },
+    // There is no such replica.
+    Refused {
+        replicas: &[3],
+        clients: &[],
+        drills: &[(3, Drill::Silent), (4, Drill::Silent)],
+    },
+    // A client is faulty.
+    Refused {
+        replicas: &[3],
+        clients: &[1],
+        drills: &[(3, Drill::Silent)],
+    },
+];
+
+fn is_refused<N: Naming + Send + Sync + 'static, R: Threads + Wait + Copy + Send + 'static>(
+    rt: &R,
+    alloc: Global,
+    opened: Opened,
+    config: &Config,
+    drills: &[(u16, Drill)],
+) -> Result<bool, Fail>
+    requires config { config.now ≡ N.config }
+    requires book { opened ≡ N.book }
+{
+    let drills = Vec::from_slice(alloc, drills)?;
+    match Cluster::<N>::start_with_drills(rt, alloc, opened, config, AMPLE, Open, drills) {
+        Ok(cluster) => {
+            let _finished = cluster.finish(rt, alloc, Vec::new(alloc));
+            Ok(false)
+        }
+        Err(fault) => Ok(fault == StartFault::BadConfig),
+    }
+}
+
+#[test]
+fn other_drills_are_refused(rt: HostRuntime) -> Result<(), Fail> {
+    for row in &REFUSED {
+        let config = faulty_config(rt.alloc(), 1, row.replicas, row.clients)?;
+        assert!(rt; is_refused::<Brand, _>(&rt, rt.alloc(), Opened::new(), &config, row.drills)?);
+    }
+    Ok(())
+}
