@@ -1,12 +1,9 @@
-//! A call from its request to its answer, a call that is refused, and memory refused.
+//! A call from its request to its answer, and a call that is refused.
 
 use crate::clients::{Given, Input, OUT, OUT_ORDERED, are_given, new_client, operation, outputs};
 use client_cert::{Client, Event, InvokeFault};
-use events::Stop;
 use std::alloc::Global;
 use std::test::Fail;
-use terms::NoMemory;
-use tuple_codec::Op;
 
 fn asks(client: &mut Client, alloc: Global) -> Result<bool, Fail> {
     let given = client.invoke(alloc, operation(alloc, OUT)?)?;
@@ -66,34 +63,5 @@ fn is_idle(client: &mut Client, alloc: Global) -> bool {
 fn without_a_call_nothing_goes_again(rt: HostRuntime) -> Result<(), Fail> {
     let mut client = new_client(rt.alloc())?;
     assert!(rt; is_idle(&mut client, rt.alloc()));
-    Ok(())
-}
-
-// Where memory runs out in a call the client has stopped, and says so from then on.
-fn is_asked_or_stopped(client: &mut Client, alloc: Global, op: Op<Global>) -> bool {
-    match client.invoke(alloc, op) {
-        Ok(given) => {
-            are_given(given.as_slice(), Given::Asks(OUT_ORDERED)) && !client.is_stopped()
-        }
-        Err(fault) => {
-            fault == InvokeFault::NoMemory
-                && client.is_stopped()
-                && client.step(alloc, Event::Retry).err() == Some(Stop::Stopped)
-        }
-    }
-}
-
-// To be run with each allocation refused in turn.
-#[test]
-fn refused_memory(rt: HostRuntime) -> Result<(), Fail> {
-    let mut client = match new_client(rt.alloc()) {
-        Ok(client) => client,
-        Err(NoMemory) => new_client(rt.alloc())?,
-    };
-    let op = match operation(rt.alloc(), OUT) {
-        Ok(op) => op,
-        Err(_) => operation(rt.alloc(), OUT)?,
-    };
-    assert!(rt; is_asked_or_stopped(&mut client, rt.alloc(), op));
     Ok(())
 }

@@ -6,7 +6,7 @@ ghost use Rattle.wire.specs.Views.{body_data, message_data};
 
 use authenticator::{Ring, SealFault};
 use client_cert::{Client, Event};
-use events::{Output, Outputs};
+use events::{Output, Outputs, Stop};
 use hex::FromHex;
 use sha2::{Digest, Sha256};
 use signing::PublicKeys;
@@ -135,15 +135,26 @@ fn sealed(alloc: Global, body: &Body) -> Result<Vec<u8>, SealFault>
     ring.seal(alloc, body, &[Party::Client(CLIENT)])
 }
 
+/// The frame of the reply that comes, if one does.
+pub fn frame_in(alloc: Global, input: Input) -> Result<Option<Vec<u8>>, SealFault> {
+    match reply_in(input) {
+        None => Ok(None),
+        Some(body) => Ok(Some(sealed(alloc, &body)?)),
+    }
+}
+
+/// What the client gives for a frame that comes, or else for the time to send again.
+pub fn step(client: &mut Client, alloc: Global, frame: &Option<Vec<u8>>) -> Result<Outputs, Stop> {
+    match frame {
+        None => client.step(alloc, Event::Retry),
+        Some(frame) => client.step(alloc, Event::Got(frame.as_slice())),
+    }
+}
+
 /// What the client gives for the input.
 pub fn outputs(client: &mut Client, alloc: Global, input: Input) -> Result<Outputs, Fail> {
-    match reply_in(input) {
-        None => Ok(client.step(alloc, Event::Retry)?),
-        Some(body) => {
-            let frame = sealed(alloc, &body)?;
-            Ok(client.step(alloc, Event::Got(frame.as_slice()))?)
-        }
-    }
+    let frame = frame_in(alloc, input)?;
+    Ok(step(client, alloc, &frame)?)
 }
 
 fn has_digest(frame: &[u8], digits: &str) -> bool {

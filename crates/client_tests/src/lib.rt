@@ -11,3 +11,5 @@ mod clients;
 mod configurations;
 #[cfg(test)]
 mod replies;
+#[cfg(test)]
+mod stops;

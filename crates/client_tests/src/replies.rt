@@ -9,11 +9,11 @@ use std::alloc::Global;
 use std::test::Fail;
 
 // An operation, its first request, and what comes then.
-type Case<'a> = (&'a [u8], &'a str, &'a [Row<'a>]);
+pub type Case<'a> = (&'a [u8], &'a str, &'a [Row<'a>]);
 
 // f + 1 replies alike are not enough, and a replica counts once. Another number, answer, mode or timestamp is not
 // alike, and replica 4 is none of four.
-const OUTS: [Row<'static>; 10] = [
+pub const OUTS: [Row<'static>; 10] = [
     (Input::OrderedDone(0, 3), Given::Nothing),
     (Input::OrderedDone(0, 3), Given::Nothing),
     (Input::OrderedDone(2, 3), Given::Nothing),
@@ -27,7 +27,7 @@ const OUTS: [Row<'static>; 10] = [
 ];
 
 // The third read-only reply alike ends a read.
-const READS: [Row<'static>; 4] = [
+pub const READS: [Row<'static>; 4] = [
     (Input::Read(0, 5), Given::Nothing),
     (Input::Read(3, 5), Given::Nothing),
     (Input::Read(1, 5), Given::Accepts(false)),
@@ -43,7 +43,7 @@ const REPEATED: [Row<'static>; 4] = [
 ];
 
 // All replicas answer, and no three alike: the read is asked for in its order, once, and ordered replies end it.
-const FALLS_BACK: [Row<'static>; 8] = [
+pub const FALLS_BACK: [Row<'static>; 8] = [
     (Input::Read(0, 5), Given::Nothing),
     (Input::Read(1, 9), Given::Nothing),
     (Input::Read(2, 5), Given::Nothing),
@@ -75,7 +75,7 @@ const DIFFER: [Row<'static>; 4] = [
 ];
 
 // What is sent again goes ordered, and then no read falls back.
-const RETRIED: [Row<'static>; 9] = [
+pub const RETRIED: [Row<'static>; 9] = [
     (Input::Read(0, 5), Given::Nothing),
     (Input::Retry, Given::Asks(RDP_ORDERED)),
     (Input::Retry, Given::Asks(RDP_ORDERED)),

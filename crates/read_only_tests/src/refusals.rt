@@ -94,7 +94,7 @@ fn read_once(alloc: Global, space: &Space, arena: &mut Bump) -> Option<bool> {
     }
 }
 
-// In a plain run nothing is refused here. `rt try --test --fail-alloc N` refuses the allocation of number N: where that
+// In a plain run nothing is refused here. `tools/growths` refuses the growth of number N: where that
 // is one of the read's, of the arena or of the reply, this test passes.
 #[test]
 fn growths_in_ordinary_memory(rt: HostRuntime) -> Result<(), Fail> {

@@ -8,6 +8,8 @@ mod checkpoints;
 #[cfg(test)]
 mod claims;
 #[cfg(test)]
+mod desks;
+#[cfg(test)]
 mod dropped;
 #[cfg(test)]
 mod frames;

@@ -96,8 +96,8 @@ pub static AGAIN_AT_BACKUP: [Row<'static>; 6] = [
     ),
 ];
 
-// A read is answered at once from what is executed, by a replica that waits for others too, and again each time.
-static READS: [Row<'static>; 7] = [
+/// A read is answered at once from what is executed, by a replica that waits for others too, and again each time.
+pub static READS: [Row<'static>; 7] = [
     (Sent::Read, &[Given::Sends(Sent::ReadReply(0, 1))]),
     (Sent::PrePrepare(1), &[Given::Sends(Sent::Prepare(1, 1))]),
     (Sent::Prepare(1, 2), &[Given::Sends(Sent::Commit(1, 1))]),

@@ -1,12 +1,13 @@
-//! Memory refused in an event. To be run with each allocation refused in turn, as by `rt try --test --fail-alloc N`:
-//! then the replica stops in that event, or gives what it gives.
+//! Memory refused in an event. In a plain run nothing is refused here; `tools/growths` refuses each growth in turn, and
+//! each test passes at each: the replica stops in that event and gives nothing from then on, or gives what it gives.
 
 use crate::checkpoints::{BECOMES_STABLE, FREES_NUMBERS};
 use crate::frames::{Sent, frame_of};
-use crate::phases::{AGAIN_AT_BACKUP, AGAIN_AT_PRIMARY, AT_BACKUP, AT_PRIMARY};
+use crate::phases::{AGAIN_AT_BACKUP, AGAIN_AT_PRIMARY, AT_BACKUP, AT_PRIMARY, READS};
 use crate::replicas::{Given, Row, are_given, config_of_period, new_replica};
+use crate::states::{ROOT, State};
 use crate::transfers::{INSTALLS, NO_STATE};
-use crate::views::{self, JOINS, Turn};
+use crate::views::{self, BEGINS, IN_TIME, JOINS, Turn};
 use events::{Config, Outputs, Stop};
 use replica::{Event, Replica};
 use std::alloc::{AllocError, Global};
@@ -145,6 +146,12 @@ fn refused_memory_at_checkpoints(rt: HostRuntime) -> Result<(), Fail> {
 }
 
 #[test]
+fn refused_memory_at_reads(rt: HostRuntime) -> Result<(), Fail> {
+    assert!(rt; orders_or_stops(rt.alloc(), 1, 16, &READS)?);
+    Ok(())
+}
+
+#[test]
 fn refused_memory_where_states_are_fetched(rt: HostRuntime) -> Result<(), Fail> {
     assert!(rt; orders_or_stops(rt.alloc(), 3, 1, &INSTALLS)?);
     assert!(rt; orders_or_stops(rt.alloc(), 3, 1, &NO_STATE)?);
@@ -165,5 +172,31 @@ fn joins_or_stops(
 #[test]
 fn refused_memory_where_views_change(rt: HostRuntime) -> Result<(), Fail> {
     assert!(rt; joins_or_stops(rt.alloc(), 2, 16, &JOINS)?);
+    Ok(())
+}
+
+#[test]
+fn refused_memory_where_a_view_begins(rt: HostRuntime) -> Result<(), Fail> {
+    assert!(rt; joins_or_stops(rt.alloc(), 3, 16, &BEGINS)?);
+    Ok(())
+}
+
+const ONE: State = State::Behind(1);
+
+// Three replicas say a checkpoint that replica 3 is behind, and time goes by.
+static ASKS_AGAIN: [views::Row<'static>; 4] = [
+    (Turn::Comes(Sent::Checkpoint(1, ONE, 0)), &[]),
+    (Turn::Comes(Sent::Checkpoint(1, ONE, 1)), &[]),
+    (
+        Turn::Comes(Sent::Checkpoint(1, ONE, 2)),
+        &[Given::Sends(Sent::Fetch(1, ROOT, 3))],
+    ),
+    (Turn::Time, &[Given::Sends(Sent::Fetch(1, ROOT, 3))]),
+];
+
+#[test]
+fn refused_memory_where_time_goes_by(rt: HostRuntime) -> Result<(), Fail> {
+    assert!(rt; joins_or_stops(rt.alloc(), 2, 16, &IN_TIME)?);
+    assert!(rt; joins_or_stops(rt.alloc(), 3, 1, &ASKS_AGAIN)?);
     Ok(())
 }

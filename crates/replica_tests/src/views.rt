@@ -71,9 +71,9 @@ const TO_2: Change = Change {
     ..NOTHING
 };
 
-// Replica 2 does nothing as long as no request waits. Where one does, it moves to the next view each time, and says so
-// again when the request comes again.
-static IN_TIME: [Row<'static>; 7] = [
+/// Replica 2 does nothing as long as no request waits. Where one does, it moves to the next view each time, and says so
+/// again when the request comes again.
+pub static IN_TIME: [Row<'static>; 7] = [
     (Turn::Time, &[]),
     (Turn::Comes(Sent::Request(1)), &[]),
     (Turn::Time, &[Given::Sends(Sent::ViewChange(&TO_1))]),
@@ -290,8 +290,8 @@ static WRONG: [Begun; 12] = [
     },
 ];
 
-// Replica 3 takes the right one, once. In view 1 the batch of number 1 is prepared, committed and executed.
-static BEGINS: [Row<'static>; 7] = [
+/// Replica 3 takes the right one, once. In view 1 the batch of number 1 is prepared, committed and executed.
+pub static BEGINS: [Row<'static>; 7] = [
     (
         Turn::Comes(Sent::NewView(&RIGHT)),
         &[Given::Sends(Sent::PrepareIn(1, 1, 3))],

@@ -13,6 +13,8 @@ mod operations;
 #[cfg(test)]
 mod refusals;
 #[cfg(test)]
+mod refusing;
+#[cfg(test)]
 mod room;
 #[cfg(test)]
 mod rows;

@@ -1,6 +1,7 @@
 //! Each growth refused in turn: the answer is that memory ran out, or that of the undisturbed call, and all memory that
 //! was taken is given back.
 
+use crate::refusing::Refusing;
 use crate::turns::{TURNS, Turn, run};
 use bumpalo::Bump;
 use linked_list_allocator::LocalHeap;
@@ -10,6 +11,9 @@ use tuple_codec::Bad;
 
 // More than any turn takes, in bytes.
 const AMPLE: usize = 8192;
+
+// More growths than any turn has.
+const MANY: u64 = 1000;
 
 // The step in which a heap hands out its bytes.
 const UNIT: usize = 16;
@@ -76,6 +80,58 @@ fn growths_in_a_heap(rt: HostRuntime) -> Result<(), Fail> {
     Ok(())
 }
 
+// How many growths the turn has, where it says that memory ran out exactly where one of them is refused, and else
+// succeeds.
+fn growths_of(alloc: Global, turn: Turn) -> Option<u64> {
+    for number in 1..MANY {
+        let memory = Refusing::new(alloc, number);
+        match (run(turn, &memory), memory.has_refused()) {
+            (Err(Bad::NoMemory), true) => {}
+            (Ok(true), false) => return Some(number - 1),
+            _ => return None,
+        }
+    }
+    None
+}
+
+// The same in an arena, which is reset only where each block came back.
+fn growths_in(bump: &mut Bump, turn: Turn) -> Option<u64> {
+    for number in 1..MANY {
+        let (ended, has_refused) = ends_in(bump, turn, number);
+        if bump.reset().is_err() {
+            return None;
+        }
+        match (ended, has_refused) {
+            (Err(Bad::NoMemory), true) => {}
+            (Ok(true), false) => return Some(number - 1),
+            _ => return None,
+        }
+    }
+    None
+}
+
+// How the turn ends in an arena that refuses the growth of this number, and whether that growth came.
+fn ends_in(bump: &Bump, turn: Turn, number: u64) -> (Result<bool, Bad>, bool) {
+    let memory = Refusing::new(bump, number);
+    (run(turn, &memory), memory.has_refused())
+}
+
+#[test]
+fn each_growth_in_ordinary_memory(rt: HostRuntime) {
+    for &turn in &TURNS {
+        assert!(rt; growths_of(rt.alloc(), turn).is_some_and(|count| count > 0));
+    }
+}
+
+#[test]
+fn each_growth_in_an_arena(rt: HostRuntime) {
+    let mut bump = Bump::new(rt.alloc());
+    for &turn in &TURNS {
+        let count = growths_of(rt.alloc(), turn);
+        assert!(rt; growths_in(&mut bump, turn) == count);
+    }
+}
+
 // Whether the turn succeeds, at the second try where memory ran out at the first one.
 fn succeeds(alloc: Global, turn: Turn) -> bool {
     match run(turn, alloc) {
@@ -84,7 +140,7 @@ fn succeeds(alloc: Global, turn: Turn) -> bool {
     }
 }
 
-// In a plain run nothing is refused here. `rt try --test --fail-alloc N` refuses the allocation of number N: this test
+// In a plain run nothing is refused here. `tools/growths` refuses the growth of number N: this test
 // passes at each N.
 #[test]
 fn growths_in_ordinary_memory(rt: HostRuntime) {

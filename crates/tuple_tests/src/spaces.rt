@@ -1,6 +1,6 @@
 //! Scripts of operations. A space goes on after memory ran out as if nothing had been asked.
 //!
-//! In a plain run nothing is refused here. `rt try --test --fail-alloc N` refuses the allocation of number N: each test
+//! In a plain run nothing is refused here. `tools/growths` refuses the growth of number N: each test
 //! passes at each N.
 
 use space::Space;

@@ -1,5 +1,5 @@
-//! Memory refused in a run. To be run with each allocation refused in turn, as by `rt try --test --fail-alloc N`: a
-//! party that lacks memory stops, and what the others accept is right.
+//! Memory refused in a run. In a plain run nothing is refused here; `tools/growths` refuses each growth in turn:
+//! a party that lacks memory stops, and what the others accept is right.
 
 use crate::worlds::{steps_of, world};
 use events::Config;
