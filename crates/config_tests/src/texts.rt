@@ -219,7 +219,7 @@ fn is_whole(settings: &Settings) -> bool {
         && has_seed(settings)
 }
 
-// Passes whichever allocation is refused, as by `rt try --test --fail-alloc N`: a second try gives what the first one
+// Passes whichever growth is refused, as by `tools/growths`: a second try gives what the first one
 // gives where nothing is refused, and want of memory refuses no text.
 #[test]
 fn refused_memory(rt: HostRuntime) {

@@ -304,7 +304,7 @@ fn installs_again(executed: &mut Executed, alloc: Global) -> Result<bool, NoMemo
     }
 }
 
-// Passes whichever allocation is refused, as by `rt try --test --fail-alloc N`.
+// Passes whichever growth is refused, as by `tools/growths`.
 #[test]
 fn refused_memory(rt: HostRuntime) -> Result<(), Fail> {
     let mut executed = match Executed::new(rt.alloc(), 2) {

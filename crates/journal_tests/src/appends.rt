@@ -200,7 +200,7 @@ fn is_safe<N: Naming>(alloc: Global, opened: Opened, config: &Config) -> Result<
     Ok(is_whole_or_unchanged(alloc, &mut journal, &mut share))
 }
 
-// To be run with each allocation refused in turn.
+// `tools/growths` refuses each growth in turn.
 #[test]
 fn refused_memory(rt: HostRuntime) -> Result<(), Fail> {
     let config = new_config(rt.alloc(), Vec::new(rt.alloc()))?;

@@ -102,7 +102,7 @@ fn keeps_results_where_reading_fails(rt: HostRuntime) {
     assert!(rt; written.as_slice() == b"done\n".as_slice());
 }
 
-// To be run with each allocation refused in turn: the run ends as ever, or it ends for want of memory, and then the
+// `tools/growths` refuses each growth in turn: the run ends as ever, or it ends for want of memory, and then the
 // results of some lines in front are written and nothing else. What is written takes no memory here.
 #[test]
 fn keeps_results_where_memory_runs_out(rt: HostRuntime) {

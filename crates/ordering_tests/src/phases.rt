@@ -198,7 +198,7 @@ fn a_stable_checkpoint_cuts(rt: HostRuntime) -> Result<(), Fail> {
     Ok(())
 }
 
-// Where a log can't be made it can be at the next try: to be run with each allocation refused in turn.
+// Where a log can't be made it can be at the next try: `tools/growths` refuses each growth in turn.
 #[test]
 fn refused_memory(rt: HostRuntime) -> Result<(), Fail> {
     let log = match new_log(rt.alloc()) {

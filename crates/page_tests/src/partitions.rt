@@ -192,7 +192,7 @@ fn snapshot_of(tree: &Tree) -> Result<Snapshot, NoMemory> {
     }
 }
 
-// Passes whichever allocation is refused, as by `rt try --test --fail-alloc N`, since the second try is granted.
+// Passes whichever growth is refused, as by `tools/growths`, since the second try is granted.
 #[test]
 fn refusals_change_nothing(rt: HostRuntime) -> Result<(), Fail> {
     let mut tree = new_tree(rt.alloc())?;

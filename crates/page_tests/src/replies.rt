@@ -175,7 +175,7 @@ fn gets_full(cache: &mut ReplyCache) -> bool {
         && cache.put(client(200), 4, 2, Answer::Full).is_ok()
 }
 
-// Passes whichever allocation is refused, as by `rt try --test --fail-alloc N`.
+// Passes whichever growth is refused, as by `tools/growths`.
 #[test]
 fn refusals_change_nothing(rt: HostRuntime) {
     let mut cache = ReplyCache::new(rt.alloc());

@@ -133,7 +133,7 @@ fn changes(alloc: Global) -> Result<Vec<Page>, AllocError> {
     }
 }
 
-// Passes whichever allocation is refused, as by `rt try --test --fail-alloc N`, since the second try is granted.
+// Passes whichever growth is refused, as by `tools/growths`, since the second try is granted.
 #[test]
 fn refusals_leave_shared_pages(rt: HostRuntime) -> Result<(), Fail> {
     let mut tree = match Tree::new(rt.alloc()) {

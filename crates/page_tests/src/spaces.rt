@@ -57,7 +57,7 @@ fn has_page(space: &Space, page: usize, text: &[u8]) -> bool {
     page < PAGES && matches!(page_of(space, page), Ok(read) if read.as_slice() == text)
 }
 
-// Passes whichever allocation is refused, as by `rt try --test --fail-alloc N`.
+// Passes whichever growth is refused, as by `tools/growths`.
 #[test]
 fn pages_of_a_space(rt: HostRuntime) {
     let mut space = Space::new(rt.alloc());
@@ -109,7 +109,7 @@ fn are_read(alloc: Global, first: [&[u8]; 2], header: &[u8]) -> Result<bool, Bad
     is_read(alloc, pages.as_slice(), header)
 }
 
-// Passes whichever allocation is refused.
+// Passes whichever growth is refused.
 #[test]
 fn pages_are_read_back(rt: HostRuntime) {
     let rows: [([&[u8]; 2], &[u8]); 3] = [

@@ -207,7 +207,7 @@ fn is_drawn(alloc: Global, config: &Config, trace: &[Entry], out: &mut Vec<u8>) 
     out.ends_with(b"</svg>\n")
 }
 
-// Passes whichever allocation is refused, as by `rt try --test --fail-alloc N`: the bytes are as before, and a second
+// Passes whichever growth is refused, as by `tools/growths`: the bytes are as before, and a second
 // try gives the picture.
 #[test]
 fn refused_memory(rt: HostRuntime) -> Result<(), Fail> {

@@ -36,7 +36,7 @@ fn a_write_and_two_reads(rt: HostRuntime) -> Result<(), Fail> {
     Ok(())
 }
 
-// To be run with each allocation refused in turn.
+// `tools/growths` refuses each growth in turn.
 #[test]
 fn refused_memory(rt: HostRuntime) -> Result<(), Fail> {
     let trace = match write_and_reads(rt.alloc()) {

@@ -194,7 +194,7 @@ fn commit_goes_out(endpoint: &mut Endpoint, alloc: Global) -> Result<bool, Fail>
     Ok(is_sent(&output, &OTHERS, COMMIT))
 }
 
-// Passes whichever allocation is refused, as by `rt try --test --fail-alloc N`: the endpoint is as before.
+// Passes whichever growth is refused, as by `tools/growths`: the endpoint is as before.
 #[test]
 fn refused_memory(rt: HostRuntime) -> Result<(), Fail> {
     let mut endpoint = match new_endpoint(rt.alloc(), 0) {

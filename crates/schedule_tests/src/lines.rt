@@ -254,7 +254,7 @@ fn is_seal(step: &Step) -> bool {
     }
 }
 
-// Passes whichever allocation is refused, as by `rt try --test --fail-alloc N`: a second try gives what the first one
+// Passes whichever growth is refused, as by `tools/growths`: a second try gives what the first one
 // gives where nothing is refused.
 #[test]
 fn refused_memory(rt: HostRuntime) {

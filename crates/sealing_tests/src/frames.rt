@@ -302,7 +302,7 @@ fn opens(ring: &mut Ring, alloc: Global, bytes: &[u8], me: Party) -> Result<bool
     Ok(is_request(bytes, &opened.frame) && ring.has_sender(&opened.frame.body))
 }
 
-// Passes whichever allocation is refused, as by `rt try --test --fail-alloc N`: a second try gives what the first one
+// Passes whichever growth is refused, as by `tools/growths`: a second try gives what the first one
 // gives where nothing is refused, so the ring still has its seed and its parties.
 #[test]
 fn refusals_change_nothing(rt: HostRuntime) -> Result<(), Fail> {

@@ -55,7 +55,7 @@ fn copied(alloc: Global, signature: &Signature) -> Result<Option<Signature>, All
     }
 }
 
-// Passes whichever allocation is refused, as by `rt try --test --fail-alloc N`: a second try gives what the first one
+// Passes whichever growth is refused, as by `tools/growths`: a second try gives what the first one
 // gives where nothing is refused, by the same leaf.
 #[test]
 fn a_signer(rt: HostRuntime) -> Result<(), Fail> {
@@ -67,7 +67,7 @@ fn a_signer(rt: HostRuntime) -> Result<(), Fail> {
     Ok(())
 }
 
-// Passes whichever allocation is refused.
+// Passes whichever growth is refused.
 #[test]
 fn a_tree_of_keys(rt: HostRuntime) -> Result<(), Fail> {
     let tree = tree_of(0);

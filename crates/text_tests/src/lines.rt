@@ -303,7 +303,7 @@ fn line_again(alloc: Global, line: &[u8]) -> bool {
     }
 }
 
-// Passes whichever allocation is refused, as by `rt try --test --fail-alloc N`: the bytes are as before, and a second
+// Passes whichever growth is refused, as by `tools/growths`: the bytes are as before, and a second
 // try gives the line.
 #[test]
 fn writes_lines(rt: HostRuntime) {
@@ -312,7 +312,7 @@ fn writes_lines(rt: HostRuntime) {
     }
 }
 
-// To be run with each allocation refused in turn: the line is read, or memory runs out.
+// `tools/growths` refuses each growth in turn: the line is read, or memory runs out.
 #[test]
 fn reads_or_runs_out_of_memory(rt: HostRuntime) {
     match read_line(rt.alloc(), b"cas (1 (\"ab\" x00) *) (1 (\"ab\" x00) true)") {

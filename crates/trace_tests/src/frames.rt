@@ -427,7 +427,7 @@ fn with_line_feed(alloc: Global) -> Result<Vec<u8>, AllocError> {
     Ok(out)
 }
 
-// Passes whichever allocation is refused, as by `rt try --test --fail-alloc N`: the bytes are as before, and a second
+// Passes whichever growth is refused, as by `tools/growths`: the bytes are as before, and a second
 // try gives the line.
 #[test]
 fn refused_memory(rt: HostRuntime) -> Result<(), Fail> {

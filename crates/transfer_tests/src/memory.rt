@@ -1,4 +1,4 @@
-//! Memory refused, as by `rt try --test --fail-alloc N`: nothing was changed, and the second try is granted.
+//! Memory refused, as by `tools/growths`: nothing was changed, and the second try is granted.
 
 use crate::trees::{ROOT, completes, place, start, takes, tree_of};
 use partition_tree::Tree;

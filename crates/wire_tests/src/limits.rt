@@ -190,7 +190,7 @@ fn frame_of(alloc: Global, number: u8) -> Result<Vec<u8>, AllocError> {
     }
 }
 
-// In a plain run nothing is refused here. `rt try --test --fail-alloc N` refuses the allocation of number N: this test
+// In a plain run nothing is refused here. `tools/growths` refuses the growth of number N: this test
 // passes at each N.
 #[test]
 fn refused_memory(rt: HostRuntime) -> Result<(), Fail> {
