@@ -1,6 +1,6 @@
 -- What the calls of all clients come to.
-use Rattle.std.proofs.Common.{◌≡◌, ℕ, zero, suc, ◌+◌, ◌-◌, ◌*◌, ◌/◌, ◌%◌, ◌<◌, ◌==◌, inl, inr, List, [], ◌∷◌, ◌++◌, length, map, refl, sym, ap, ◌∙◌, subst, arith, append_assoc}
-use Rattle.std.specs.Prelude.{All, Contains, IfOk, None, Option, Result, Some, slice_get}
+use Rattle.std.proofs.Common.{◌≡◌, ℕ, zero, suc, ◌+◌, ◌-◌, ◌*◌, ◌/◌, ◌%◌, ◌<◌, ◌==◌, inl, inr, List, [], ◌∷◌, ◌++◌, length, map, refl, sym, ap, ◌∙◌, subst, arith}
+use Rattle.std.specs.Prelude.{Contains, IfOk, Result, Some, slice_get}
 use Rattle.std.specs.Option.{option_map}
 use Rattle.std.specs.declared.alloc.Global.{Global}
 use Rattle.std.specs.declared.vec.Vec.{Vec}
@@ -18,11 +18,10 @@ use Rattle.protocol.specs.System.Trace.{Entry, history_of, party_of}
 use Rattle.protocol.specs.System.Trace.Entry.{Invoke, Accepted}
 use Rattle.protocol.specs.Client.RightClient.{last_call}
 use Rattle.space_node.specs.Calls.{Called}
-use Rattle.space_node.specs.Runs.{HasClients}
-use Rattle.space_node.specs.Seats.{Seated, new_seat}
+use Rattle.space_node.specs.Seats.{Seated}
 use Rattle.space_node.proofs.Calling.{last_quiet}
 use Rattle.cluster_run.specs.Answers.{AnswersRun, AreAnswered, IsAnswered}
-use Rattle.cluster_run.specs.Hands.{AreDealt, AreGathered, Hands, HandIsCalled, HandsAreCalled, HasCalled, HasTrace, dealt_at}
+use Rattle.cluster_run.specs.Hands.{AreDealt, AreGathered, Hands, HandsAreCalled, HasCalled, HasTrace, dealt_at}
 use Rattle.cluster_run.proofs.Turns.{dealt_in, get_before, get_pushed, same_or}
 
 -- ---- a call more

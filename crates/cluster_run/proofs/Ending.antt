@@ -1,5 +1,5 @@
 -- The end of a cluster without faulty parties.
-use Rattle.std.proofs.Common.{◌≡◌, ℕ, List}
+use Rattle.std.proofs.Common.{ℕ, List}
 use Rattle.protocol.specs.System.Configuration.{Configuration}
 use Rattle.protocol.specs.System.Trace.{Entry}
 use Rattle.journal.specs.Parts.{Part}

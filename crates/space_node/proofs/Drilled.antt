@@ -1,14 +1,14 @@
 -- Drills and the faulty replicas that they are of.
 use Rattle.std.proofs.Common.{◌≡◌, ◌≢◌, ℕ, zero, suc, ◌<◌, ◌≤◌, Bool, true, false, ◌||◌, ◌&&◌, not, ◌==◌, List, [], ◌∷◌, length, get_or, refl, sym, ap, ◌∙◌, subst, arith}
-use Rattle.std.specs.Prelude.{◌↔◌, All, AllPairs, IsTrue}
+use Rattle.std.specs.Prelude.{◌↔◌, All, IsTrue}
 use Rattle.std.specs.List.{list_any}
 use Rattle.std.proofs.lemmas.Bool.{and_parts, and_from, not-true, eq-eqb, eqb-false, eqb-true, ne_eqb, lt-ltb}
-use Rattle.std.proofs.lemmas.List.Elements.{All-cons, All-get_or, All-head, All-nil, All-tail}
+use Rattle.std.proofs.lemmas.List.Elements.{All-cons, All-head, All-nil, All-tail}
 use Rattle.std.proofs.lemmas.List.Kept.{AllPairs-cons}
 use Rattle.quorum.specs.Quorum.{member}
 use Rattle.protocol.specs.System.Configuration.{Configuration, IsConfiguration, replicas, is_replica, is_correct_replica, is_faulty_replica}
 use Rattle.space_node.specs.declared.drill.Drill.{Drill}
-use Rattle.space_node.specs.Drills.{AreDrillsOf, AreOfFaulty, IsDrilled, MayStart, each_once, replicas_of}
+use Rattle.space_node.specs.Drills.{AreOfFaulty, IsDrilled, MayStart, each_once, replicas_of}
 use Rattle.space_node.specs.Runs.{IsFaultless}
 
 -- ---- members

@@ -9,6 +9,7 @@ pub mod Finished
 pub mod Handing
 pub mod HandleSends
 pub mod JournalSends
+pub mod NewHandles
 pub mod NewSeats
 pub mod Parts
 pub mod SeatSends

@@ -4,7 +4,7 @@ ghost use Rattle.std.specs.Prelude.{◌≡◌, ◌↔◌, ◌+◌, All, Contains
 ghost use Rattle.terms.specs.Parties.{party_number};
 ghost use Rattle.space_node.specs.declared.fault.StartFault.TheVariants as StartFault;
 ghost use Rattle.space_node.specs.Drills.{MayStart, replicas_of};
-ghost use Rattle.space_node.specs.Places.{HandleAt, HandsOut, parties_of};
+ghost use Rattle.space_node.specs.Places.{HandleAt, HandsOut, clients_of, parties_of};
 ghost use Rattle.space_node.specs.Runs.{IsFaultless, IsFinished, Serves, TellsFault};
 ghost use Rattle.space_node.specs.Seats.{IsNew};
 
@@ -67,6 +67,7 @@ impl<N: Naming + Send + Sync + 'static> Cluster<N> {
         requires config { config.now ≡ N.config }
         requires book { opened ≡ N.book }
         ensures faulty { (result ≡ Err StartFault.BadConfig) ↔ (¬ IsFaultless config.now) }
+        ensures clients { IfOk result (λ cluster. cluster ≡ clients_of config.now) }
     {
         let none = Vec::new(alloc);
         Self::start_with_drills(rt, alloc, opened, config, limit, gate, none)
@@ -94,6 +95,7 @@ impl<N: Naming + Send + Sync + 'static> Cluster<N> {
         requires book { opened ≡ N.book }
         ensures drills { (result ≡ Err StartFault.BadConfig)
             ↔ (¬ MayStart config.now (replicas_of drills.items)) }
+        ensures clients { IfOk result (λ cluster. cluster ≡ clients_of config.now) }
     {
         if !may_start(config, drills.as_slice()) {
             return Err(StartFault::BadConfig);
@@ -194,7 +196,8 @@ fn new_handles<N: Naming>(
     shared: &Arc<Shared<N>, Global>,
     ends: Vec<ClientEnd<N>>,
 ) -> Result<Vec<ClientHandle<N>>, NoMemory>
-    ensures { IfOk result (λ handles. All IsNew handles.items) }
+    ensures new { IfOk result (λ handles. All IsNew handles.items) }
+    ensures parties { IfOk result (λ handles. parties_of handles.items ≡ map (λ e. e.seat.party) ends.items) }
 {
     let mut handles = Vec::new(alloc);
     for end in ends {

@@ -1,6 +1,8 @@
 //! The seats of a new cluster.
 
-ghost use Rattle.std.specs.Prelude.{◌≡◌, ◌+◌, ◌<◌, [], All, IfSome};
+ghost use Rattle.std.specs.Prelude.{◌≡◌, ◌+◌, ◌++◌, ◌<◌, [], ◌∷◌, All, IfOk, IfSome, map};
+ghost use Rattle.protocol.specs.System.Configuration.{IsConfiguration};
+ghost use Rattle.space_node.specs.Places.{clients_among, clients_of};
 ghost use Rattle.space_node.specs.Seats.{IsNew};
 
 use crate::client_seat::ClientSeat;
@@ -53,6 +55,9 @@ pub(crate) fn seat_all<N: Naming>(
 ) -> Result<(Shared<N>, Vec<NodeEnd>, Vec<ClientEnd<N>>), NoMemory>
     requires config { config.now ≡ N.config }
     requires book { opened ≡ N.book }
+    requires valid { IsConfiguration config.now }
+    requires clients { config.now.faulty_clients ≡ [] }
+    ensures { IfOk result (λ r. map (λ e. e.seat.party) r.2.items ≡ clients_of config.now) }
 {
     let (journal, shares, orders) = Journal::<N>::tied(alloc, opened, config, limit)?;
     let (replicas, node_ends) = open_inboxes(alloc, config)?;
@@ -102,6 +107,8 @@ fn seat_parties<N: Naming>(
     requires config { config.now ≡ N.config }
     requires new { All (λ s. s.history ≡ []) shares.items }
     requires new_orders { All (λ o. o.history ≡ []) orders.items }
+    ensures { IfOk result (λ parties. map (λ e. e.seat.party) parties.client_ends.items
+        ≡ clients_among (map (λ s. s.party) shares.items)) }
 {
     let publics = PublicKeys::new(alloc, config.seed())?;
     let mut parties = Parties {
@@ -128,6 +135,8 @@ fn seat_party<N: Naming>(
     requires new { share.history ≡ [] }
     requires new_orders { All (λ o. o.history ≡ []) orders.old.items }
     ensures new_orders { All (λ o. o.history ≡ []) orders.new.items }
+    ensures clients { IfOk result (λ _. map (λ e. e.seat.party) parties.new.client_ends.items
+        ≡ map (λ e. e.seat.party) parties.old.client_ends.items ++ clients_among (share.party ∷ [])) }
 {
     match share.party() {
         Party::Replica(replica) => {
@@ -204,6 +213,7 @@ fn new_client<N: Naming>(
     requires keys { publics.now ≡ config.now.seed }
     requires party { share.party ≡ 256 + id.number }
     requires new { share.history ≡ [] }
+    ensures { IfOk result (λ r. r.1.seat.party ≡ share.party) }
 {
     let ring = Ring::new(alloc, config.seed(), config.faults(), config.clients());
     let client = Client::new(id, config.faults(), ring, publics.share()?);

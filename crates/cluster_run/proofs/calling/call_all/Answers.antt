@@ -1,4 +1,4 @@
-use Rattle.std.proofs.Common.{rules, ◌≡◌, ◌++◌, ◌∷◌, [], map, subst}
+use Rattle.std.proofs.Common.{rules, ◌++◌, ◌∷◌, [], map, subst}
 use Rattle.tuple_codec.specs.OperationView.{operation_of, outcome_of}
 use Rattle.space_node.specs.Calls.{Called}
 use Rattle.cluster_run.specs.Hands.{HasCalled}

@@ -1,4 +1,4 @@
-use Rattle.std.proofs.Common.{rules, arith, ◌≡◌, ◌∙◌, ◌∷◌, ◌++◌, ◌<◌, ◌%◌, [], map, length, ℕ, refl, sym, ap, subst}
+use Rattle.std.proofs.Common.{rules, arith, ◌≡◌, ◌∙◌, ◌<◌, ◌%◌, map, length, refl, sym, subst}
 use Rattle.std.specs.Prelude.{slice_get, slice_set, Some}
 use Rattle.cluster_run.specs.Hands.{AreDealt}
 use Rattle.cluster_run.proofs.Turns.{dealt_more, seconds_more, turn_at}

@@ -1,4 +1,4 @@
-use Rattle.std.proofs.Common.{rules, ◌≡◌, length, ◌+◌, arith}
+use Rattle.std.proofs.Common.{rules}
 use Rattle.cluster_run.proofs.Turns.{empty_more, no_hands}
 use Rattle.cluster_run.proofs.dealing.empty_hands.Goals as goal
 

@@ -1,5 +1,5 @@
-use Rattle.std.proofs.Common.{rules, ◌≡◌}
-use Rattle.cluster_run.specs.Hands.{AreGathered, Takes}
+use Rattle.std.proofs.Common.{rules}
+use Rattle.cluster_run.specs.Hands.{Takes}
 use Rattle.cluster_run.proofs.Turns.{gathered_more}
 use Rattle.cluster_run.proofs.dealing.gather.Goals as goal
 

@@ -1,5 +1,5 @@
-use Rattle.std.proofs.Common.{rules, arith, ◌≡◌, ◌<◌, length}
-use Rattle.cluster_run.specs.Hands.{AreDealt, HandsAreCalled, HasTrace}
+use Rattle.std.proofs.Common.{rules}
+use Rattle.cluster_run.specs.Hands.{HandsAreCalled, HasTrace}
 use Rattle.cluster_run.proofs.Answering.{gathered_run}
 use Rattle.cluster_run.proofs.running.run.Goals as goal
 

@@ -1,4 +1,4 @@
-use Rattle.std.proofs.Common.{rules, ◌≡◌, ◌≤◌, ◌∙◌, false, nat_lt, arith, sym}
+use Rattle.std.proofs.Common.{rules, ◌≤◌, ◌∙◌, arith, sym}
 use Rattle.std.proofs.lemmas.Bool.{le-ltb}
 use Rattle.protocol.specs.System.Configuration.{replicas}
 use Rattle.space_node.proofs.Drilled.{none_faulty}

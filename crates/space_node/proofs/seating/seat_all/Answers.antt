@@ -1,6 +1,9 @@
-use Rattle.std.proofs.Common.{◌≡◌, []}
+use Rattle.std.proofs.Common.{◌≡◌, ◌∙◌, [], List, ap, map}
 use Rattle.std.proofs.lemmas.List.Elements.{All-same}
+use Rattle.journal.specs.Histories.{correct_parties}
 use Rattle.journal.specs.Parts.{Part}
+use Rattle.space_node.specs.Places.{clients_among}
+use Rattle.space_node.proofs.NewHandles.{all_clients, parties_fresh}
 use Rattle.space_node.proofs.NewSeats.{all_fresh}
 use Rattle.space_node.proofs.seating.seat_all.Goals as goal
 
@@ -11,3 +14,10 @@ seat_parties-requires-clause-new g c =
 pub seat_parties-requires-clause-new_orders : goal.seat_parties-requires-clause-new_orders
 seat_parties-requires-clause-new_orders g c =
     All-same (λ (s : Part). s.history ≡ []) c.in_ok-journal.orders.items _ c.in_ok-journal.ensures.opens.orders_are (all_fresh _)
+
+pub returns : goal.returns
+returns g c =
+    let config = c.args.config.now in
+    c.in_ok-nodes.ensures
+    ∙ (ap (λ (shares : List Part). clients_among (map (λ (s : Part). s.party) shares)) c.in_ok-journal.ensures.opens.shares_are
+    ∙ (ap clients_among (parties_fresh (correct_parties config)) ∙ all_clients config c.requires.valid c.requires.clients))

@@ -1,6 +1,9 @@
-use Rattle.std.proofs.Common.{◌≡◌, [], All}
+use Rattle.std.proofs.Common.{◌≡◌, [], All, map}
 use Rattle.journal.specs.Parts.{Part}
+use Rattle.space_node.specs.Places.{clients_among}
 use Rattle.space_node.proofs.seating.seat_parties.Given as goal
 
 abbrev pub invariant-loop-share : goal.invariant-loop-share
-invariant-loop-share g l = All (λ (o : Part). o.history ≡ []) l.orders.items
+invariant-loop-share g l =
+    All (λ (o : Part). o.history ≡ []) l.orders.items
+    × (map (λ e. e.seat.party) l.parties.client_ends.items ≡ clients_among (map (λ (s : Part). s.party) l.yielded))
