@@ -18,6 +18,9 @@ use tuple_text::write_answer;
 // The greatest number of a line.
 const LINES_END: u64 = 1 << 48;
 
+// A configuration has at most so many bytes. What it can say takes under 4,000; the others are room for comments.
+const CONFIGURATION_LEN: u64 = 65_536;
+
 // So many bytes of text are held back at the most, and those of one line.
 const HELD: usize = 8192;
 
@@ -76,14 +79,18 @@ impl From<ReadFault> for ScheduleFault {
     }
 }
 
-/// Reads a configuration, and how many entries a journal takes.
-pub fn read_settings<R: Read>(alloc: Global, mut reader: R) -> Result<Settings, ScheduleFault>
+/// Reads a configuration, and how many entries a journal takes. A longer text than one may be is refused.
+pub fn read_settings<R: Read>(alloc: Global, reader: R) -> Result<Settings, ScheduleFault>
 where
     R: Drop,
 {
     let mut text = Vec::new(alloc);
-    if let Err(error) = reader.read_to_end(&mut text) {
+    let mut front = reader.take(CONFIGURATION_LEN + 1);
+    if let Err(error) = front.read_to_end(&mut text) {
         return Err(read_fault(error));
+    }
+    if text.len() as u64 > CONFIGURATION_LEN {
+        return Err(ScheduleFault::Configuration);
     }
     match read_config(alloc, text.as_slice()) {
         Ok(settings) => Ok(settings),

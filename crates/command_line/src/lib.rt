@@ -143,6 +143,10 @@ fn local<'a>(alloc: Global) -> Result<Command<'a>, AllocError> {
         .arg(script)
 }
 
+// What fits was measured; docs/formats.md has the table.
+const ROOM: &str = "The journal takes 65,536 entries, or as many as the configuration says. One client's writes that fit:
+about 1,250 at f = 1, 490 at f = 2, 260 at f = 3. Reads that fit: about 4,300, 2,700, 1,980.";
+
 fn run<'a>(alloc: Global) -> Result<Command<'a>, AllocError> {
     let config = Arg::new(alloc, "CONFIG").required(true).help(
         "The file of the configuration, in TOML, which names no faulty party",
@@ -152,6 +156,7 @@ fn run<'a>(alloc: Global) -> Result<Command<'a>, AllocError> {
     );
     Command::new(alloc, "run")
         .about("Runs a script on a running cluster and prints a result line for each operation")
+        .after_help(ROOM)
         .arg(config)?
         .arg(script)
 }

@@ -193,3 +193,17 @@ fn is_no_configuration(alloc: Global, text: &str) -> bool {
 fn refuses_what_is_no_configuration(rt: HostRuntime) {
     assert!(rt; is_no_configuration(rt.alloc(), "f = 4"));
 }
+
+// Whether a configuration is taken that line feeds lengthen to so many bytes.
+fn takes_padded(alloc: Global, len: usize) -> Result<bool, Fail> {
+    let mut text = FOUR_SETTINGS.as_bytes().to_vec(alloc)?;
+    text.resize(len, b'\n')?;
+    Ok(read_settings(alloc, text.as_slice()).is_ok())
+}
+
+#[test]
+fn configurations_have_a_greatest_length(rt: HostRuntime) -> Result<(), Fail> {
+    assert!(rt; takes_padded(rt.alloc(), 65_536)?);
+    assert!(rt; !takes_padded(rt.alloc(), 65_537)?);
+    Ok(())
+}
