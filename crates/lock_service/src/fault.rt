@@ -1,0 +1,81 @@
+//! Why the service ends.
+
+use events::BadConfig;
+use space_node::{CallFault, StartFault};
+use std::alloc::{AllocError, AllocFailed};
+use std::io;
+use thiserror::Error;
+use tuple_tree::{Refusal, Refused};
+
+/// Why the service ends.
+#[derive(Debug, Drop, Error)]
+pub enum Fault {
+    #[error("the configuration is refused")]
+    Configuration,
+    /// The cluster has no handle of a client any more.
+    #[error("no such client")]
+    NoClient,
+    /// Name and holder make no tuple of up to 1,024 bytes.
+    #[error("a name is too long")]
+    TooLong,
+    #[error("a call was not answered: {0}")]
+    Call(CallFault),
+    /// The answer is not one of the operation that was called.
+    #[error("another answer than was asked for")]
+    Answer,
+    /// The journal has not what the parties kept.
+    #[error("the cluster did not finish")]
+    NotFinished,
+    #[error("out of memory")]
+    NoMemory,
+    #[error("not written: {0}")]
+    Write(io::Error),
+}
+
+impl From<BadConfig> for Fault {
+    fn from(_fault: BadConfig) -> Fault {
+        Fault::Configuration
+    }
+}
+
+impl From<StartFault> for Fault {
+    fn from(fault: StartFault) -> Fault {
+        match fault {
+            StartFault::BadConfig => Fault::Configuration,
+            StartFault::NoMemory => Fault::NoMemory,
+        }
+    }
+}
+
+impl From<CallFault> for Fault {
+    fn from(fault: CallFault) -> Fault {
+        Fault::Call(fault)
+    }
+}
+
+impl<T: Drop> From<Refused<T>> for Fault {
+    fn from(refused: Refused<T>) -> Fault {
+        match refused.refusal {
+            Refusal::NoMemory => Fault::NoMemory,
+            _ => Fault::TooLong,
+        }
+    }
+}
+
+impl From<AllocError> for Fault {
+    fn from(_failed: AllocError) -> Fault {
+        Fault::NoMemory
+    }
+}
+
+impl<T: Drop> From<AllocFailed<T>> for Fault {
+    fn from(_failed: AllocFailed<T>) -> Fault {
+        Fault::NoMemory
+    }
+}
+
+impl From<io::Error> for Fault {
+    fn from(error: io::Error) -> Fault {
+        Fault::Write(error)
+    }
+}

@@ -1,0 +1,98 @@
+//! A lock in a tuple space.
+//!
+//! A lock that is held is a tuple, `("lock" NAME HOLDER)`. Who wants it puts the tuple there unless one of that name is
+//! there already, by one `cas`: so of all clients that ask at once one gets it. Who lets go takes the own tuple away.
+
+ghost use Rattle.std.specs.Prelude.{IfOk};
+ghost use Rattle.lock_service.specs.Answers.{Swapped, Taken};
+
+use crate::fault::Fault;
+use journal::Naming;
+use space_node::ClientHandle;
+use std::alloc::Global;
+use std::sync::Wait;
+use tuple_codec::{Answer, Op};
+use tuple_tree::{Atom, Field, Template, Tuple, Value};
+
+/// A lock by its name, which is short enough for a tuple of 1,024 bytes.
+#[derive(Clone, Copy)]
+pub struct Lock<'a> {
+    name: &'a str,
+}
+
+impl<'a> Lock<'a> {
+    /// The lock of this name.
+    pub fn new(name: &'a str) -> Lock<'a> {
+        Lock { name }
+    }
+
+    /// Whether the client got the lock for this holder. Nobody else holds it then, until the holder lets go.
+    ///
+    /// # Errors
+    ///
+    /// The call was not answered, the names are too long for a tuple, or memory ran out.
+    pub fn acquire<N: Naming, R: Wait>(
+        self,
+        rt: &R,
+        alloc: Global,
+        client: &mut ClientHandle<N>,
+        holder: &str,
+    ) -> Result<bool, Fault>
+        ensures { IfOk result (λ got. Swapped client.old got client.new) }
+    {
+        let op = Op::Cas(
+            self.template(alloc, Field::Any)?,
+            self.held_by(alloc, holder)?,
+        );
+        match client.call(rt, alloc, op)? {
+            Answer::Swapped(got) => Ok(got),
+            _ => Err(Fault::Answer),
+        }
+    }
+
+    /// Whether this holder had the lock, and let it go.
+    ///
+    /// # Errors
+    ///
+    /// As of [`Lock::acquire`].
+    pub fn release<N: Naming, R: Wait>(
+        self,
+        rt: &R,
+        alloc: Global,
+        client: &mut ClientHandle<N>,
+        holder: &str,
+    ) -> Result<bool, Fault>
+        ensures { IfOk result (λ had. Taken client.old had client.new) }
+    {
+        let own = self.template(alloc, Field::Actual(text(alloc, holder)?))?;
+        let op = Op::Inp(own);
+        match client.call(rt, alloc, op)? {
+            Answer::Found(_tuple) => Ok(true),
+            Answer::Absent => Ok(false),
+            _ => Err(Fault::Answer),
+        }
+    }
+
+    // ("lock" NAME HOLDER)
+    fn held_by(self, alloc: Global, holder: &str) -> Result<Tuple<Global>, Fault> {
+        let mut tuple = Tuple::new_in(alloc);
+        for word in ["lock", self.name, holder] {
+            tuple.push(Value::Atom(text(alloc, word)?))?;
+        }
+        Ok(tuple)
+    }
+
+    // ("lock" NAME HOLDER), where the holder is a field: `*` for whoever it is.
+    fn template(self, alloc: Global, holder: Field<Global>) -> Result<Template<Global>, Fault> {
+        let mut template = Template::new_in(alloc);
+        for word in ["lock", self.name] {
+            template.push(Field::Actual(text(alloc, word)?))?;
+        }
+        template.push(holder)?;
+        Ok(template)
+    }
+}
+
+fn text(alloc: Global, word: &str) -> Result<Atom<Global>, Fault> {
+    Ok(Atom::Text(String::from_str(alloc, word)?))
+}

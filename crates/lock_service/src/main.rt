@@ -1,0 +1,122 @@
+//! A lock service: a program that embeds a replicated tuple space, to be copied and changed.
+//!
+//! It starts four replicas as threads of this process, one of which may fail, and two clients, Ann and Ben, who ask for
+//! one printer's lock in turn. `lock.rt` has the lock; nothing there knows how the space is replicated.
+//!
+//! # What is proved
+//!
+//! That a client holds a lock, or has let it go, is the answer that the client accepted to a call of its
+//! (`space_node::ClientHandle::call`). What is printed is tested.
+#![tactic(auto)]
+
+ghost use Rattle.std.specs.Prelude.{◌≡◌};
+
+mod fault;
+mod lock;
+
+use events::Config;
+use fault::Fault;
+use journal::{Naming, Opened};
+use lock::Lock;
+use space_node::{ClientHandle, Cluster, Open};
+use std::alloc::Global;
+use std::marker::Brand;
+use std::process::ExitCode;
+use std::sync::Wait;
+use std::thread::Threads;
+
+// So many entries the journal of the cluster takes at the most. A call of this cluster has about 50.
+const JOURNAL: u32 = 65_536;
+
+// All keys come from it, so a service draws its own.
+const SEED: [u8; 32] = [7; 32];
+
+fn main(rt: HostRuntime) -> ExitCode {
+    match start(&rt, rt.alloc()) {
+        Ok(()) => ExitCode::SUCCESS,
+        Err(fault) => {
+            let _ = eprintln!(rt; "lock_service: {fault}");
+            ExitCode::FAILURE
+        }
+    }
+}
+
+fn start<R: Print + Threads + Wait + Copy + Send + 'static>(
+    rt: &R,
+    alloc: Global,
+) -> Result<(), Fault> {
+    // Four replicas, of which one may fail; two clients; a checkpoint at each sixteenth number; nobody is known to lie.
+    let config = Config::new(1, 2, SEED, 16, Vec::new(alloc), Vec::new(alloc))?;
+    serve::<Brand, R>(rt, alloc, Opened::new(), &config)
+}
+
+// A cluster has to be finished whatever came of its calls. That joins its threads, and compares what they did.
+fn serve<N: Naming + Send + Sync + 'static, R: Print + Threads + Wait + Copy + Send + 'static>(
+    rt: &R,
+    alloc: Global,
+    opened: Opened,
+    config: &Config,
+) -> Result<(), Fault>
+    requires config { config.now ≡ N.config }
+    requires book { opened ≡ N.book }
+{
+    let mut clients = Vec::with_capacity(alloc, 2)?;
+    let mut cluster = Cluster::<N>::start(rt, alloc, opened, config, JOURNAL, Open)?;
+    let mut played = Err(Fault::NoClient);
+    if let (Some(mut ann), Some(mut ben)) = (cluster.client(0), cluster.client(1)) {
+        played = play(rt, alloc, &mut ann, &mut ben);
+        clients.push_reserved(ann);
+        clients.push_reserved(ben);
+    }
+    let finished = cluster.finish(rt, alloc, clients);
+    played?;
+    match finished {
+        Ok(_run) => Ok(()),
+        Err(_fault) => Err(Fault::NotFinished),
+    }
+}
+
+// In a service each client would have a thread of its own, and ask again after a while.
+fn play<N: Naming, R: Print + Wait>(
+    rt: &R,
+    alloc: Global,
+    ann: &mut ClientHandle<N>,
+    ben: &mut ClientHandle<N>,
+) -> Result<(), Fault> {
+    let printer = Lock::new("printer");
+    ask(rt, alloc, ann, printer, "Ann")?;
+    ask(rt, alloc, ben, printer, "Ben")?;
+    let_go(rt, alloc, ann, printer, "Ann")?;
+    ask(rt, alloc, ben, printer, "Ben")?;
+    let_go(rt, alloc, ben, printer, "Ben")
+}
+
+fn ask<N: Naming, R: Print + Wait>(
+    rt: &R,
+    alloc: Global,
+    client: &mut ClientHandle<N>,
+    lock: Lock<'_>,
+    name: &str,
+) -> Result<(), Fault> {
+    if lock.acquire(rt, alloc, client, name)? {
+        println!(rt; "{name} holds the lock")?;
+    } else {
+        println!(rt; "{name} has to wait")?;
+    }
+    Ok(())
+}
+
+fn let_go<N: Naming, R: Print + Wait>(
+    rt: &R,
+    alloc: Global,
+    client: &mut ClientHandle<N>,
+    lock: Lock<'_>,
+    name: &str,
+) -> Result<(), Fault> {
+    if lock.release(rt, alloc, client, name)? {
+        println!(rt; "{name} lets go")?;
+    } else {
+        println!(rt; "{name} did not hold it")?;
+    }
+    Ok(())
+}
