@@ -144,7 +144,8 @@ fn local<'a>(alloc: Global) -> Result<Command<'a>, AllocError> {
 }
 
 // What fits was measured; docs/formats.md has the table.
-const ROOM: &str = "The journal takes 65,536 entries, or as many as the configuration says. One client's writes that fit:
+const ROOM: &str =
+    "The journal takes 65,536 entries, or as many as the configuration says. One client's writes that fit:
 about 1,250 at f = 1, 490 at f = 2, 260 at f = 3. Reads that fit: about 4,300, 2,700, 1,980.";
 
 fn run<'a>(alloc: Global) -> Result<Command<'a>, AllocError> {
