@@ -6,5 +6,6 @@ mod displays;
 mod forged;
 mod held;
 mod schedules;
+mod stopped;
 mod views;
 mod words;

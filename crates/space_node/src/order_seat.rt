@@ -49,6 +49,15 @@ impl<N: Naming> OrderSeat<N> {
         OrderSeat { orderer, order }
     }
 
+    /// Stops both parts of the replica.
+    pub(crate) fn stop(&mut self, shelf: &mut DeskSeat<N>)
+        ensures stopped { self.new.stopped ≡ true }
+        ensures shelf { shelf.new ≡ stopped_at shelf.old }
+    {
+        self.orderer.stop();
+        shelf.desk.stop();
+    }
+
     /// What the replica of both parts gives for its input, once that is in the journal. Both parts stop where memory
     /// runs out or the journal refuses; where one has stopped, nothing is given.
     pub(crate) fn step<R: Wait>(

@@ -53,6 +53,10 @@ fn order_event<N: Naming, G: Gate, R: Wait>(
     let mut order = node.order.lock(rt);
     gate.at(u16::from(replica.0), event_no);
     let mut shelf = node.shelf.lock(rt);
+    if gate.stops(u16::from(replica.0), event_no) {
+        order.stop(&mut shelf);
+        return None;
+    }
     order.step(rt, alloc, &mut shelf, journal, input)
 }
 

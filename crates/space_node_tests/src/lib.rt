@@ -1,5 +1,5 @@
-//! Tests of a running cluster (`space_node`): its answers, nodes that are held, reads beside ordering, journals that are
-//! full, and faulty replicas.
+//! Tests of a running cluster (`space_node`): its answers, nodes that are held or stop, reads beside ordering, journals
+//! that are full, and faulty replicas.
 #![tactic(auto)]
 
 #[cfg(test)]
@@ -16,3 +16,5 @@ mod gates;
 mod held;
 #[cfg(test)]
 mod starts;
+#[cfg(test)]
+mod stopped;
