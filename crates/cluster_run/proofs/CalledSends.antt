@@ -12,8 +12,8 @@ use Rattle.tuple_codec.specs.contracts.operations.Answer as answer
 use Rattle.space_node.proofs.Sends.{heap_send, heap_frees, answer_send}
 use Rattle.space_node.proofs.HandleSends.{handle_send}
 use Rattle.cluster_run.specs.contracts.calling.Called as called
-use Rattle.cluster_run.specs.contracts.fault.RunFault as fault
-use Rattle.cluster_run.proofs.fault.RunFault.TheSendSync.{the_send as fault_send}
+use Rattle.cluster_run.specs.contracts.fault.LateFault as fault
+use Rattle.cluster_run.proofs.fault.LateFault.TheSendSync.{the_send as fault_send}
 
 answers_send : IsSend (vec.the_row (answer.the_row heap.the_row ghosts) heap.the_row ghosts)
 answers_send = vec_send (answer.the_row heap.the_row ghosts) heap.the_row ghosts answer_send heap_send heap_frees

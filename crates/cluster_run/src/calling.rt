@@ -5,7 +5,7 @@ ghost use Rattle.tuple_codec.specs.OperationView.{operation_of, outcome_of};
 ghost use Rattle.cluster_run.specs.Hands.{HasCalled};
 ghost use Rattle.cluster_run.specs.Threads.{AddsCalled, AreJoined, AreStarted, Starts, promises_of};
 
-use crate::fault::RunFault;
+use crate::fault::LateFault;
 use crate::patience::Patience;
 use crate::progress::{LOOKS_A_SECOND, Progress, Stage, Watch};
 use journal::Naming;
@@ -23,7 +23,7 @@ use tuple_codec::{Answer, Op};
 #[derive(Drop)]
 pub(crate) struct Called<N: Naming> {
     client: ClientHandle<N>,
-    answers: Result<Vec<Answer<Global>>, RunFault>,
+    answers: Result<Vec<Answer<Global>>, LateFault>,
 }
 
 /// What a client's thread promises: where all operations are answered, the client of this number called these, its
@@ -75,7 +75,7 @@ pub(crate) fn start_clients<
     hands: Vec<Vec<Op<Global>>>,
     progress: &Arc<Progress, Global>,
     callers: &mut Callers<N>,
-) -> Result<(), RunFault>
+) -> Result<(), LateFault>
     requires new { callers.old.threads.items ≡ [] }
     ensures started { OnOk result (AreStarted hands.items (promises_of callers.new.threads.items)) }
 {
@@ -83,7 +83,7 @@ pub(crate) fn start_clients<
         if ops.is_empty() {
             return Ok(());
         }
-        let number = u16::try_from(number).map_err(|_| RunFault::NoClient)?;
+        let number = u16::try_from(number).map_err(|_| LateFault::NoClient)?;
         start_client(rt, alloc, cluster, number, ops, progress, callers)?;
     }
     Ok(())
@@ -97,14 +97,14 @@ fn start_client<N: Naming + Send + Sync + 'static, R: Threads + Wait + Copy + Se
     ops: Vec<Op<Global>>,
     progress: &Arc<Progress, Global>,
     callers: &mut Callers<N>,
-) -> Result<(), RunFault>
+) -> Result<(), LateFault>
     ensures { OnOk result (Starts (promises_of callers.old.threads.items) number ops
         (promises_of callers.new.threads.items)) }
 {
     callers.parties.reserve(1)?;
     callers.threads.reserve(1)?;
     let progress = Arc::try_clone(progress)?;
-    let client = cluster.client(number).ok_or(RunFault::NoClient)?;
+    let client = cluster.client(number).ok_or(LateFault::NoClient)?;
     let party = client.party();
     let promise = CallsHand {
         number,
@@ -122,7 +122,7 @@ fn start_client<N: Naming + Send + Sync + 'static, R: Threads + Wait + Copy + Se
             callers.threads.push_reserved(thread);
             Ok(())
         }
-        Err(_refused) => Err(RunFault::NoMemory),
+        Err(_refused) => Err(LateFault::NoMemory),
     }
 }
 
@@ -152,7 +152,7 @@ fn call_all<N: Naming, R: Wait>(
     client: &mut ClientHandle<N>,
     ops: Vec<Op<Global>>,
     progress: &Progress,
-) -> Result<Vec<Answer<Global>>, RunFault>
+) -> Result<Vec<Answer<Global>>, LateFault>
     requires new { client.old.history ≡ [] }
     ensures { IfOk result
         (λ answers. HasCalled client.old (map operation_of ops.items) (map outcome_of answers.items) client.new) }
@@ -180,14 +180,14 @@ pub(crate) fn wait_for_clients<N: Naming + Send + Sync + 'static, R: Wait + Cloc
     members: &Members<'_>,
     progress: &Progress,
     watch: &mut W,
-) -> Result<(), RunFault> {
+) -> Result<(), LateFault> {
     let (mut looks, mut patience) = (0u64, Patience::new());
     for _ in rt.forever() {
         match progress.wait(rt, members.clients.len() as u64) {
             Stage::Calls { answered } => {
                 looks = looks.saturating_add(1);
                 if cluster.count_stopped(rt) > members.faults {
-                    progress.fail(rt, RunFault::TooManyStopped);
+                    progress.fail(rt, LateFault::TooManyStopped);
                 }
                 if looks.is_multiple_of(LOOKS_A_SECOND) {
                     tell_of_second(rt, cluster, members, patience.ends(answered));
@@ -231,7 +231,7 @@ pub(crate) fn join_clients<N: Naming, R: Threads>(
     alloc: Global,
     threads: Vec<PromisedHandle<Called<N>, CallsHand>>,
     all: &mut AllCalled<N>,
-) -> Result<(), RunFault>
+) -> Result<(), LateFault>
     requires no_client { all.old.clients.items ≡ [] }
     requires no_answers { all.old.answers.items ≡ [] }
     ensures { OnOk result (AreJoined (promises_of threads.items) all.new.clients.items all.new.answers.items) }
@@ -266,7 +266,7 @@ impl<N: Naming> AllCalled<N> {
         }
     }
 
-    fn add(&mut self, called: Called<N>) -> Result<(), RunFault>
+    fn add(&mut self, called: Called<N>) -> Result<(), LateFault>
         ensures { OnOk result (AddsCalled self.old called self.new) }
     {
         let Called { client, answers } = called;

@@ -3,7 +3,7 @@
 ghost use Rattle.std.specs.Prelude.{◌≡◌, ◌<◌, [], IfOk, IfSome};
 ghost use Rattle.cluster_run.specs.Hands.{AreDealt, AreGathered, Takes};
 
-use crate::fault::RunFault;
+use crate::fault::LateFault;
 use std::alloc::Global;
 use std::mem;
 use terms::NoMemory;
@@ -45,7 +45,7 @@ pub(crate) fn gather(
     clients: usize,
     mut hands: Vec<Vec<Answer<Global>>>,
     count: usize,
-) -> Result<Vec<Answer<Global>>, RunFault>
+) -> Result<Vec<Answer<Global>>, LateFault>
     requires { 0 < clients }
     ensures { IfOk result (λ answers. AreGathered hands.items clients count answers.items) }
 {

@@ -1,6 +1,6 @@
 //! Why a run has no answers.
 
-use space_node::{CallFault, StartFault};
+use space_node::CallFault;
 use std::alloc::{AllocError, AllocFailed};
 use terms::NoMemory;
 use thiserror::Error;
@@ -30,35 +30,52 @@ pub enum RunFault {
     NoMemory,
 }
 
-impl From<StartFault> for RunFault {
-    fn from(fault: StartFault) -> RunFault {
+/// Why a run that began has no answers. What it was given is no reason any more.
+#[derive(Clone, Copy, Debug, PartialEq, Eq)]
+pub(crate) enum LateFault {
+    NoClient,
+    Call(CallFault),
+    TooManyStopped,
+    NotInJournal,
+    NoMemory,
+}
+
+impl From<LateFault> for RunFault {
+    ghost use Rattle.cluster_run.specs.Faults.{IsLate};
+
+    ghost from_gives = { λ _ fault. IsLate fault };
+
+    fn from(fault: LateFault) -> RunFault {
         match fault {
-            StartFault::BadConfig => RunFault::BadConfig,
-            StartFault::NoMemory => RunFault::NoMemory,
+            LateFault::NoClient => RunFault::NoClient,
+            LateFault::Call(fault) => RunFault::Call(fault),
+            LateFault::TooManyStopped => RunFault::TooManyStopped,
+            LateFault::NotInJournal => RunFault::NotInJournal,
+            LateFault::NoMemory => RunFault::NoMemory,
         }
     }
 }
 
-impl From<CallFault> for RunFault {
-    fn from(fault: CallFault) -> RunFault {
-        RunFault::Call(fault)
+impl From<CallFault> for LateFault {
+    fn from(fault: CallFault) -> LateFault {
+        LateFault::Call(fault)
     }
 }
 
-impl From<NoMemory> for RunFault {
-    fn from(_failed: NoMemory) -> RunFault {
-        RunFault::NoMemory
+impl From<NoMemory> for LateFault {
+    fn from(_failed: NoMemory) -> LateFault {
+        LateFault::NoMemory
     }
 }
 
-impl From<AllocError> for RunFault {
-    fn from(_failed: AllocError) -> RunFault {
-        RunFault::NoMemory
+impl From<AllocError> for LateFault {
+    fn from(_failed: AllocError) -> LateFault {
+        LateFault::NoMemory
     }
 }
 
-impl<T: Drop> From<AllocFailed<T>> for RunFault {
-    fn from(_failed: AllocFailed<T>) -> RunFault {
-        RunFault::NoMemory
+impl<T: Drop> From<AllocFailed<T>> for LateFault {
+    fn from(_failed: AllocFailed<T>) -> LateFault {
+        LateFault::NoMemory
     }
 }

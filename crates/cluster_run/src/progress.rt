@@ -1,6 +1,6 @@
 //! How far the clients are.
 
-use crate::fault::RunFault;
+use crate::fault::LateFault;
 use std::sync::{Condvar, Mutex, Wait};
 use std::time::{Clock, Duration};
 
@@ -37,7 +37,7 @@ pub(crate) enum Stage {
     /// All have ended, each call was answered.
     Done,
     /// A run with this fault has no answers.
-    Failed(RunFault),
+    Failed(LateFault),
 }
 
 // How many operations are answered, how many of the clients' threads have ended, and why the run has no answers.
@@ -45,7 +45,7 @@ pub(crate) enum Stage {
 struct Counts {
     answered: u64,
     ended: u64,
-    fault: Option<RunFault>,
+    fault: Option<LateFault>,
 }
 
 /// What the threads of a run share.
@@ -83,7 +83,7 @@ impl Progress {
     }
 
     /// The run has no answers. Of several faults the first one counts, which has led to the others.
-    pub(crate) fn fail<R: Wait>(&self, rt: &R, fault: RunFault) {
+    pub(crate) fn fail<R: Wait>(&self, rt: &R, fault: LateFault) {
         let mut counts = self.counts.lock(rt);
         if counts.fault.is_none() {
             counts.fault = Some(fault);

@@ -1,18 +1,19 @@
 //! A run, from the operations to their answers.
 
-ghost use Rattle.std.specs.Prelude.{◌≡◌, [], IfOk, OnOk, map};
+ghost use Rattle.std.specs.Prelude.{◌≡◌, ◌↔◌, ◌<◌, ◌*◌, ◌/◌, ◌≤◌, [], IfOk, IsTrue, OnOk, length, map};
 ghost use Rattle.tuple_codec.specs.OperationView.{operation_of, outcome_of};
 ghost use Rattle.cluster_run.specs.Answers.{AnswersRun};
+ghost use Rattle.cluster_run.specs.declared.fault.RunFault.TheVariants as RunFault;
 ghost use Rattle.space_node.specs.Runs.{IsFaultless};
 ghost use Rattle.cluster_run.specs.Hands.{HandsAreCalled, HasTrace};
 
 use crate::calling::{AllCalled, Callers, Members, join_clients, start_clients, wait_for_clients};
 use crate::dealing::{deal, gather};
-use crate::fault::RunFault;
+use crate::fault::{LateFault, RunFault};
 use crate::progress::{Progress, Watch};
 use events::Config;
 use journal::{Naming, Opened};
-use space_node::{ClientHandle, Cluster, FinishFault, Gate, is_faultless};
+use space_node::{ClientHandle, Cluster, FinishFault, Gate, StartFault, is_faultless};
 use std::alloc::Global;
 use std::sync::{Arc, Wait};
 use std::thread::Threads;
@@ -28,10 +29,10 @@ use tuple_codec::{Answer, Op};
 ///
 /// # Errors
 ///
-/// BadConfig where the configuration names a faulty party, NoRoom where the limit is below two entries an operation,
-/// Call where a call was not answered, TooManyStopped where more replicas have stopped than may fail, NotInJournal where
-/// the journal doesn't have what the parties kept, and NoMemory. The run ends at the first of them, and all threads have
-/// ended then.
+/// BadConfig exactly where the configuration names a faulty party, and else NoRoom exactly where the limit is below two
+/// entries an operation; nothing has started then. Call where a call was not answered, TooManyStopped where more replicas
+/// have stopped than may fail, NotInJournal where the journal doesn't have what the parties kept, and NoMemory. The run
+/// ends at the first of them, and all threads have ended then.
 pub fn run<
     N: Naming + Send + Sync + 'static,
     R: Threads + Wait + Clock + Copy + Send + 'static,
@@ -49,21 +50,62 @@ pub fn run<
 ) -> Result<Vec<Answer<Global>>, RunFault>
     requires config { config.now ≡ N.config }
     requires book { opened ≡ N.book }
-    ensures { IfOk result
+    ensures answers { IfOk result
         (λ answers. AnswersRun N.config (map operation_of ops.items) (map outcome_of answers.items)) }
+    ensures faulty { (result ≡ Err RunFault.BadConfig) ↔ (¬ IsFaultless config.now) }
+    ensures room { (result ≡ Err RunFault.NoRoom) ↔ (IsFaultless config.now × (limit < length ops.items * 2)) }
 {
     if !is_faultless(config) {
         return Err(RunFault::BadConfig);
     }
-    let count = ops.len();
-    if !has_room(limit, count) {
+    if !has_room(limit, ops.len()) {
         return Err(RunFault::NoRoom);
     }
+    Ok(run_faultless::<N, R, G, W>(rt, alloc, opened, config, limit, gate, ops, watch)?)
+}
+
+// Each operation takes an entry of its call and one of its answer, at least.
+fn has_room(limit: u32, count: usize) -> bool
+    ensures { IsTrue result ↔ (count * 2 ≤ limit) }
+{
+    match u32::try_from(count) {
+        Ok(count) => count <= limit / 2,
+        Err(_) => false,
+    }
+}
+
+// The run of a cluster whose configuration names no faulty party.
+fn run_faultless<
+    N: Naming + Send + Sync + 'static,
+    R: Threads + Wait + Clock + Copy + Send + 'static,
+    G: Gate + Send + Sync + Drop + 'static,
+    W: Watch,
+>(
+    rt: &R,
+    alloc: Global,
+    opened: Opened,
+    config: &Config,
+    limit: u32,
+    gate: G,
+    ops: Vec<Op<Global>>,
+    watch: &mut W,
+) -> Result<Vec<Answer<Global>>, LateFault>
+    requires config { config.now ≡ N.config }
+    requires book { opened ≡ N.book }
+    requires faultless { IsFaultless config.now }
+    ensures { IfOk result
+        (λ answers. AnswersRun N.config (map operation_of ops.items) (map outcome_of answers.items)) }
+{
     let clients = usize::from(config.clients());
+    let count = ops.len();
     let hands = deal(alloc, clients, ops)?;
     let progress = Arc::new(alloc, Progress::new())?;
     let mut all = AllCalled::new(alloc);
-    let mut cluster = Cluster::<N>::start(rt, alloc, opened, config, limit, gate)?;
+    let mut cluster = match Cluster::<N>::start(rt, alloc, opened, config, limit, gate) {
+        Ok(cluster) => cluster,
+        Err(StartFault::BadConfig) => unreachable!(),
+        Err(StartFault::NoMemory) => return Err(LateFault::NoMemory),
+    };
     let called = call_all(
         rt,
         alloc,
@@ -84,14 +126,6 @@ pub fn run<
     gather(alloc, clients, answers, count)
 }
 
-// Each operation takes an entry of its call and one of its answer, at least.
-fn has_room(limit: u32, count: usize) -> bool {
-    match u32::try_from(count) {
-        Ok(count) => count <= limit / 2,
-        Err(_) => false,
-    }
-}
-
 // Has the clients call all their operations. A cluster has to be finished whatever comes of that.
 fn call_all<
     N: Naming + Send + Sync + 'static,
@@ -106,7 +140,7 @@ fn call_all<
     progress: &Arc<Progress, Global>,
     watch: &mut W,
     all: &mut AllCalled<N>,
-) -> Result<(), RunFault>
+) -> Result<(), LateFault>
     requires no_client { all.old.clients.items ≡ [] }
     requires no_answers { all.old.answers.items ≡ [] }
     ensures { OnOk result (HandsAreCalled hands.items all.new.clients.items all.new.answers.items) }
@@ -133,13 +167,13 @@ fn finish<N: Naming + Send + Sync + 'static, R: Threads + Wait>(
     alloc: Global,
     cluster: Cluster<N>,
     clients: Vec<ClientHandle<N>>,
-) -> Result<(), RunFault>
+) -> Result<(), LateFault>
     requires faultless { IsFaultless N.config }
     ensures { OnOk result (HasTrace N.config clients.items) }
 {
     match cluster.finish(rt, alloc, clients) {
         Ok(_run) => Ok(()),
-        Err(FinishFault::NotInJournal(_run, _party)) => Err(RunFault::NotInJournal),
-        Err(FinishFault::NoMemory) => Err(RunFault::NoMemory),
+        Err(FinishFault::NotInJournal(_run, _party)) => Err(LateFault::NotInJournal),
+        Err(FinishFault::NoMemory) => Err(LateFault::NoMemory),
     }
 }
