@@ -1,5 +1,5 @@
 -- What each event leads to.
-use Rattle.std.proofs.Common.{inr, ◌≡◌, ℕ, suc, ◌+◌, ◌-◌, true, false, List, [], ◌∷◌, Option, Some, None, refl, sym, ap, ◌∙◌, subst}
+use Rattle.std.proofs.Common.{inr, ◌≡◌, Bool, ℕ, suc, ◌+◌, ◌-◌, true, false, List, [], ◌∷◌, Option, Some, None, refl, sym, ap, ◌∙◌, subst, arith}
 use Rattle.std.specs.Prelude.{is_some, map}
 use Rattle.terms.specs.declared.order.Mode.{Mode}
 use Rattle.terms.specs.declared.order.Mode.TheVariants as modes
@@ -68,6 +68,14 @@ not_open (Some x) e = absurd cc
 may_call : (c : Configuration) (old : ClientState) (history : List Entry) (op : Operation) → Fits c old history → is_some old.call ≡ false → IsOperation op
     → MayInput history (Invoke old.number (suc old.calls) op)
 may_call c old history op f none is = (ap suc (sym f.last_is), not_open (open_call history) (f.open_is ∙ none), is)
+
+-- a client without an open call has not stopped
+pub idle_runs : (call : Option CallState) (stopped : Bool) → (stopped ≡ true → is_some call ≡ true) → is_some call ≡ false → stopped ≡ false
+idle_runs call false is_open none = refl
+idle_runs call true is_open none = true_not (is_some call) (is_open refl) none (true ≡ false)
+
+pub one_more : (n : ℕ) → n + 1 ≡ suc n
+one_more n = omega arith
 
 abbrev first_call : Operation → CallState
 first_call op = record { op = op; ordered = false; ordered_ballots = []; read_ballots = [] }

@@ -42,6 +42,7 @@ abbrev pub IsOfMembers : ℕ → List ℕ → Membership → ℕ → Option Call
 IsOfMembers faults seed m calls call stopped =
     (faults ≡ m.faults) × (faults ≤ 3) × (seed ≡ m.seed) × (calls ≤ 2 ^ 62 + 1)
     × (stopped ≡ false → calls ≤ 2 ^ 62) × (is_some call ≡ false → calls ≤ 2 ^ 62)
+    × (stopped ≡ true → is_some call ≡ true)
 
 -- ---- codes
 

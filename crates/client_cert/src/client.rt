@@ -108,9 +108,10 @@ impl Client {
         self.call.is_some()
     }
 
-    /// Whether the client has stopped.
+    /// Whether the client has stopped. Its call is open then: without a call nothing takes memory.
     pub fn is_stopped(&self) -> bool
         ensures value { result ≡ self.now.stopped }
+        ensures is_open { self.now.stopped ≡ true → is_some self.now.call ≡ true }
     {
         self.stopped
     }
@@ -139,9 +140,10 @@ impl Client {
         }
         note_op(&op);
         let mode = first_mode(&op);
-        if self.stopped || self.calls >= MAX_CALLS {
+        if self.calls >= MAX_CALLS {
+            self.calls += 1;
+            self.call = Some(Call::new(alloc, op));
             self.stopped = true;
-            self.begin(alloc, op);
             return Err(InvokeFault::Stopped);
         }
         self.begin(alloc, op);
@@ -157,7 +159,7 @@ impl Client {
     // A call begins.
     fn begin(&mut self, alloc: Global, op: Op<Global>)
         requires none { is_some self.old.call ≡ false }
-        requires room { self.old.stopped ≡ false → self.old.calls < 2 ^ 62 }
+        requires room { self.old.calls < 2 ^ 62 }
         ensures { self.new ≡ called (suc self.old.calls) (operation_of op) self.old }
     {
         self.calls += 1;
@@ -168,7 +170,8 @@ impl Client {
     ///
     /// # Errors
     ///
-    /// NoMemory where memory runs out, with which the client stops, and Stopped exactly where it had stopped before.
+    /// NoMemory where memory runs out, with which the client stops, and Stopped exactly where it had stopped before. Both
+    /// come only if a call is open.
     #[tactic(auto, using(crate::proofs::Stepping::stops_got, crate::proofs::Stepping::stops_tick))]
     pub fn step(&mut self, alloc: Global, event: Event<'_>) -> Result<Outputs, Stop>
         ensures leads { IfOk result (λ outs. EventLeads self.old event.entry outs.items self.new) }
@@ -177,6 +180,7 @@ impl Client {
         ensures runs { IfOk result (λ _. self.new.stopped ≡ false) }
         ensures stopped { OnErr result (self.new.stopped ≡ true) }
         ensures before { (result ≡ Err Stop.Stopped) ↔ (self.old.stopped ≡ true) }
+        ensures is_open { OnErr result (is_some self.old.call ≡ true) }
         ensures number { self.new.number ≡ self.old.number }
     {
         if self.stopped {
@@ -208,6 +212,7 @@ impl Client {
         ensures meant { IfOk result (λ outs. SendsAsMeant self.old outs.items) }
         ensures runs { IfOk result (λ _. self.new.stopped ≡ false) }
         ensures keeps { OnErr result (Keeps self.old self.new) }
+        ensures is_open { OnErr result (is_some self.old.call ≡ true) }
         ensures number { self.new.number ≡ self.old.number }
     {
         match self.call.take() {
@@ -264,6 +269,7 @@ impl Client {
         ensures meant { IfOk result (λ outs. SendsAsMeant self.old outs.items) }
         ensures runs { IfOk result (λ _. self.new.stopped ≡ false) }
         ensures keeps { OnErr result (Keeps self.old self.new) }
+        ensures is_open { OnErr result (is_some self.old.call ≡ true) }
         ensures number { self.new.number ≡ self.old.number }
     {
         if self.call.is_none() {
