@@ -1,7 +1,8 @@
 //! Texts that are configurations, and texts that are none.
 
 use config_text::{ConfigFault, Settings, read_config};
-use std::alloc::Global;
+use std::alloc::{AllocError, Global};
+use std::test::Fail;
 
 const SEED: &str = "seed = \"000102030405060708090a0b0c0d0e0f101112131415161718191A1B1C1D1E1F\"\n";
 
@@ -130,14 +131,10 @@ static REFUSED_SEEDS: [&str; 11] = [
     "f = 1\nclients = 1\nseed = \" 0000000000000000000000000000000000000000000000000000000000000000\"\n",
 ];
 
-fn is_as_said(alloc: Global, row: Row) -> bool {
-    let Ok(text) = format!(in alloc; "{}{}", row.text, SEED) else {
-        return false;
-    };
-    match read_config(alloc, text.as_bytes()) {
-        Ok(settings) => has_values(&settings, row) && has_seed(&settings),
-        Err(_) => false,
-    }
+fn is_as_said(alloc: Global, row: Row) -> Result<bool, Fail> {
+    let text = format!(in alloc; "{}{}", row.text, SEED)?;
+    let settings = read_config(alloc, text.as_bytes())?;
+    Ok(has_values(&settings, row) && has_seed(&settings))
 }
 
 fn has_values(settings: &Settings, row: Row) -> bool {
@@ -158,41 +155,37 @@ fn has_seed(settings: &Settings) -> bool {
         .all(|(i, byte)| usize::from(*byte) == i)
 }
 
-fn is_refused(alloc: Global, front: &str, seed: &str) -> bool {
-    let Ok(text) = format!(in alloc; "{front}{seed}") else {
-        return false;
-    };
-    match read_config(alloc, text.as_bytes()) {
-        Err(ConfigFault::Refused) => true,
-        _ => false,
-    }
+// Why the two together are no configuration; `None` where they are one.
+fn refusal(alloc: Global, front: &str, seed: &str) -> Result<Option<ConfigFault>, AllocError> {
+    let text = format!(in alloc; "{front}{seed}")?;
+    Ok(read_config(alloc, text.as_bytes()).err())
 }
 
 // The last byte is no UTF-8.
 const NO_UTF8: &[u8] = b"f = 1\nclients = 1\n\
     seed = \"000102030405060708090a0b0c0d0e0f101112131415161718191A1B1C1D1E1F\"\n# \xff";
 
-fn is_no_text(alloc: Global, bytes: &[u8]) -> bool {
-    matches!(read_config(alloc, bytes), Err(ConfigFault::Refused))
-}
-
 #[test]
-fn reads_configurations(rt: HostRuntime) {
+fn reads_configurations(rt: HostRuntime) -> Result<(), Fail> {
     for &row in &ROWS {
-        assert!(rt; is_as_said(rt.alloc(), row), "{}", row.text);
+        assert!(rt; is_as_said(rt.alloc(), row)?, "{}", row.text);
     }
+    Ok(())
 }
 
 #[test]
-fn refuses_what_is_none(rt: HostRuntime) {
+fn refuses_what_is_none(rt: HostRuntime) -> Result<(), Fail> {
+    let refused = Some(ConfigFault::Refused);
     for &front in &REFUSED {
-        assert!(rt; is_refused(rt.alloc(), front, SEED), "{front}");
+        assert_eq!(rt; refusal(rt.alloc(), front, SEED)?, refused, "{front}");
     }
     for &text in &REFUSED_SEEDS {
-        assert!(rt; is_refused(rt.alloc(), text, ""), "{text}");
+        assert_eq!(rt; refusal(rt.alloc(), text, "")?, refused, "{text}");
     }
-    assert!(rt; is_refused(rt.alloc(), SEED, "f = 1\nclients = 1\n\u{1}\n"));
-    assert!(rt; is_no_text(rt.alloc(), NO_UTF8));
+    let control = refusal(rt.alloc(), SEED, "f = 1\nclients = 1\n\u{1}\n")?;
+    assert_eq!(rt; control, refused);
+    assert_eq!(rt; read_config(rt.alloc(), NO_UTF8).err(), refused);
+    Ok(())
 }
 
 const WHOLE: &[u8] =

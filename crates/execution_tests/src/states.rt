@@ -4,6 +4,7 @@ use crate::batches::{ROOT_AFTER_ONE, ROOT_AFTER_TWO, leaves};
 use crate::frames::batch_of_two;
 use execution::Executed;
 use partition_tree::{PAGES, Tree};
+use space::PeekFault;
 use std::alloc::Global;
 use std::test::Fail;
 use terms::{ClientId, Digest, NoMemory, Number};
@@ -131,7 +132,8 @@ fn answers(executed: &Executed, alloc: Global, op: &[u8], answer: &[u8]) -> Resu
     let mut bytes = Vec::new(alloc);
     match executed.space().peek(&op) {
         Ok(given) => encode_result(&given, &mut bytes)?,
-        Err(_) => return Ok(false),
+        Err(PeekFault::NotReadOnly) => return Ok(false),
+        Err(PeekFault::NoMemory) => return Err(Bad::NoMemory),
     }
     Ok(bytes.as_slice() == answer)
 }

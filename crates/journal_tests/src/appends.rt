@@ -37,7 +37,7 @@ fn takes_three<N: Naming>(
     let held = journal.len();
     let refused = call(alloc, config, journal, &mut pair.second)?;
     let still = journal.len();
-    let more = tick(alloc, journal, &mut pair.second);
+    let more = tick(alloc, journal, &mut pair.second)?;
     Ok(
         taken.is_ok()
             && held == 2
@@ -95,18 +95,20 @@ fn keeps_limit<N: Naming>(
     journal: &mut Journal<N>,
     share: &mut Share<N>,
     limit: u32,
-) -> bool {
+) -> Result<bool, Fail> {
     for _ in 0..limit {
-        if tick(alloc, journal, share).is_err() {
-            return false;
+        if tick(alloc, journal, share)?.is_err() {
+            return Ok(false);
         }
     }
-    let refused = tick(alloc, journal, share);
-    let next = tick(alloc, journal, share);
-    refused.err() == Some(AppendFault::JournalFull)
-        && next.err() == Some(AppendFault::JournalFull)
-        && journal.len() == u64::from(limit)
-        && journal.agrees(share)
+    let refused = tick(alloc, journal, share)?;
+    let next = tick(alloc, journal, share)?;
+    Ok(
+        refused.err() == Some(AppendFault::JournalFull)
+            && next.err() == Some(AppendFault::JournalFull)
+            && journal.len() == u64::from(limit)
+            && journal.agrees(share),
+    )
 }
 
 fn is_limited<N: Naming>(alloc: Global, config: &Config, limit: u32) -> Result<bool, Fail>
@@ -114,7 +116,7 @@ fn is_limited<N: Naming>(alloc: Global, config: &Config, limit: u32) -> Result<b
 {
     let (mut journal, shares, _orders) = Journal::<N>::new(alloc, config, limit)?;
     let mut share = take_share(shares, 257).ok_or("no share")?;
-    Ok(keeps_limit(alloc, &mut journal, &mut share, limit))
+    keeps_limit(alloc, &mut journal, &mut share, limit)
 }
 
 #[test]
@@ -132,25 +134,27 @@ fn is_refused_behind<N: Naming>(
     alloc: Global,
     journal: &mut Journal<N>,
     share: &mut Share<N>,
-) -> bool {
-    let first = tick(alloc, journal, share);
+) -> Result<bool, Fail> {
+    let first = tick(alloc, journal, share)?;
     let party = share.party();
     let mut kept = share.take(alloc);
-    let behind = tick(alloc, journal, share);
+    let behind = tick(alloc, journal, share)?;
     let mut empty = Share::empty(alloc, party);
-    let nothing = tick(alloc, journal, &mut empty);
-    let again = tick(alloc, journal, &mut kept);
+    let nothing = tick(alloc, journal, &mut empty)?;
+    let again = tick(alloc, journal, &mut kept)?;
     let compared = !journal.agrees(share) && journal.agrees(&kept) && journal.len() == 2;
     let trace = journal.take(alloc);
-    let ahead = tick(alloc, journal, &mut kept);
-    first.is_ok()
-        && behind.err() == Some(AppendFault::NotInJournal)
-        && nothing.err() == Some(AppendFault::NotInJournal)
-        && again.is_ok()
-        && compared
-        && trace.len() == 2
-        && ahead.err() == Some(AppendFault::NotInJournal)
-        && journal.len() == 0
+    let ahead = tick(alloc, journal, &mut kept)?;
+    Ok(
+        first.is_ok()
+            && behind.err() == Some(AppendFault::NotInJournal)
+            && nothing.err() == Some(AppendFault::NotInJournal)
+            && again.is_ok()
+            && compared
+            && trace.len() == 2
+            && ahead.err() == Some(AppendFault::NotInJournal)
+            && journal.len() == 0,
+    )
 }
 
 fn is_compared<N: Naming>(alloc: Global, opened: Opened, config: &Config) -> Result<bool, Fail>
@@ -159,7 +163,7 @@ fn is_compared<N: Naming>(alloc: Global, opened: Opened, config: &Config) -> Res
 {
     let (mut journal, shares, _orders) = Journal::<N>::tied(alloc, opened, config, 9)?;
     let mut share = take_share(shares, 2).ok_or("no share")?;
-    Ok(is_refused_behind(alloc, &mut journal, &mut share))
+    is_refused_behind(alloc, &mut journal, &mut share)
 }
 
 #[test]
@@ -176,15 +180,15 @@ fn is_whole_or_unchanged<N: Naming>(
     share: &mut Share<N>,
 ) -> bool {
     let (len, taken) = match tick(alloc, journal, share) {
-        Ok(()) => (1, true),
-        Err(fault) => (0, fault == AppendFault::NoMemory),
+        Ok(taken) => (1, taken.is_ok()),
+        Err(NoMemory) => (0, true),
     };
     let next = tick(alloc, journal, share);
     taken
         && journal.agrees(share)
         && match next {
-            Ok(()) => journal.len() == len + 1,
-            Err(fault) => fault == AppendFault::NoMemory && journal.len() == len,
+            Ok(taken) => taken.is_ok() && journal.len() == len + 1,
+            Err(NoMemory) => journal.len() == len,
         }
 }
 

@@ -29,8 +29,9 @@ fn is_refused<N: Naming>(
     share: &mut Share<N>,
     from: Option<u64>,
     bytes: &[u8],
-) -> bool {
-    get(alloc, journal, share, from, bytes).err() == Some(AppendFault::NotInJournal)
+) -> Result<bool, Fail> {
+    let taken = get(alloc, journal, share, from, bytes)?;
+    Ok(taken.err() == Some(AppendFault::NotInJournal))
 }
 
 // The frame that a client sent comes from where it was sent alone, again and again: not from where it was got, nor from
@@ -40,16 +41,18 @@ fn is_carried<N: Naming>(
     journal: &mut Journal<N>,
     share: &mut Share<N>,
     frame: &[u8],
-) -> bool {
-    is_refused(alloc, journal, share, None, frame)
-        && is_refused(alloc, journal, share, Some(0), frame)
-        && is_refused(alloc, journal, share, Some(2), frame)
-        && get(alloc, journal, share, Some(1), frame).is_ok()
-        && is_refused(alloc, journal, share, Some(2), frame)
-        && get(alloc, journal, share, Some(1), frame).is_ok()
-        && get(alloc, journal, share, None, b"no frame").is_ok()
-        && get(alloc, journal, share, Some(0), b"").is_ok()
-        && journal.len() == 6
+) -> Result<bool, Fail> {
+    Ok(
+        is_refused(alloc, journal, share, None, frame)?
+            && is_refused(alloc, journal, share, Some(0), frame)?
+            && is_refused(alloc, journal, share, Some(2), frame)?
+            && get(alloc, journal, share, Some(1), frame)?.is_ok()
+            && is_refused(alloc, journal, share, Some(2), frame)?
+            && get(alloc, journal, share, Some(1), frame)?.is_ok()
+            && get(alloc, journal, share, None, b"no frame")?.is_ok()
+            && get(alloc, journal, share, Some(0), b"")?.is_ok()
+            && journal.len() == 6,
+    )
 }
 
 fn comes_from_client<N: Naming>(alloc: Global, config: &Config) -> Result<bool, Fail>
@@ -66,8 +69,8 @@ fn comes_from_client<N: Naming>(alloc: Global, config: &Config) -> Result<bool, 
     let other = first_frame(alloc, config, ClientId { number: 0 })?;
     Ok(
         called.is_ok()
-            && is_refused(alloc, &mut journal, &mut replica, Some(1), other.as_slice())
-            && is_carried(alloc, &mut journal, &mut replica, frame.as_slice()),
+            && is_refused(alloc, &mut journal, &mut replica, Some(1), other.as_slice())?
+            && is_carried(alloc, &mut journal, &mut replica, frame.as_slice())?,
     )
 }
 
@@ -89,9 +92,9 @@ fn comes_from_faulty<N: Naming>(alloc: Global, config: &Config) -> Result<bool, 
     let correct = first_frame(alloc, config, ClientId { number: 1 })?;
     let unknown = first_frame(alloc, config, ClientId { number: 2 })?;
     Ok(
-        get(alloc, &mut journal, &mut share, None, faulty.as_slice()).is_ok()
-            && is_refused(alloc, &mut journal, &mut share, None, correct.as_slice())
-            && is_refused(alloc, &mut journal, &mut share, None, unknown.as_slice()),
+        get(alloc, &mut journal, &mut share, None, faulty.as_slice())?.is_ok()
+            && is_refused(alloc, &mut journal, &mut share, None, correct.as_slice())?
+            && is_refused(alloc, &mut journal, &mut share, None, unknown.as_slice())?,
     )
 }
 

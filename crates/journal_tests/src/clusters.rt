@@ -51,15 +51,23 @@ pub fn tick_entries(alloc: Global, party: Party) -> Result<Vec<Entry>, NoMemory>
     Ok(entries)
 }
 
+/// Whether the entries were taken, or why not. Want of memory is no answer, and is handed on.
+pub fn answer_of(taken: Result<(), AppendFault>) -> Result<Result<(), AppendFault>, NoMemory> {
+    match taken {
+        Err(AppendFault::NoMemory) => Err(NoMemory),
+        answer => Ok(answer),
+    }
+}
+
 /// Time goes by at the share's party.
 pub fn tick<N: Naming>(
     alloc: Global,
     journal: &mut Journal<N>,
     share: &mut Share<N>,
-) -> Result<(), AppendFault> {
+) -> Result<Result<(), AppendFault>, NoMemory> {
     let party = share.party();
     share.note_right();
-    journal.append(alloc, share, None, tick_entries(alloc, party)?)
+    answer_of(journal.append(alloc, share, None, tick_entries(alloc, party)?))
 }
 
 fn got_entries(alloc: Global, party: Party, bytes: &[u8]) -> Result<Vec<Entry>, NoMemory>
@@ -78,10 +86,10 @@ pub fn get<N: Naming>(
     share: &mut Share<N>,
     from: Option<u64>,
     bytes: &[u8],
-) -> Result<(), AppendFault> {
+) -> Result<Result<(), AppendFault>, NoMemory> {
     let party = share.party();
     share.note_right();
-    journal.append(alloc, share, from, got_entries(alloc, party, bytes)?)
+    answer_of(journal.append(alloc, share, from, got_entries(alloc, party, bytes)?))
 }
 
 fn all_replicas() -> [Party; 4]
@@ -147,5 +155,5 @@ pub fn call<N: Naming>(
         return Err(Fail::new("not the first call"));
     }
     let entries = call_entries(alloc, config, client)?;
-    Ok(journal.append(alloc, share, None, entries))
+    Ok(answer_of(journal.append(alloc, share, None, entries))?)
 }

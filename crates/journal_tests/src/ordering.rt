@@ -3,12 +3,13 @@
 ghost use Rattle.std.specs.Prelude.{◌≡◌, ◌∷◌, []};
 ghost use Rattle.protocol.specs.System.Trace.Entry.{Tick};
 
-use crate::clusters::{get, new_config, take_share, tick, tick_entries};
+use crate::clusters::{answer_of, get, new_config, take_share, tick, tick_entries};
 use events::Config;
 use journal::{AppendFault, Journal, Naming, Opened, OrderShare, Share};
 use std::alloc::Global;
 use std::marker::Brand;
 use std::test::Fail;
+use terms::NoMemory;
 
 // The marks of a read-only request, on bytes that spell none.
 static READ: [u8; 16] = *b"\0\0\0\0\x41\0\0\0\0\0\0\0\0\0\0\x01";
@@ -33,17 +34,17 @@ fn tick_by<N: Naming>(
     journal: &mut Journal<N>,
     share: &mut Share<N>,
     order: &mut OrderShare<N>,
-) -> Result<(), AppendFault> {
+) -> Result<Result<(), AppendFault>, NoMemory> {
     let party = share.party();
     share.note_right();
-    journal.append_order(alloc, share, order, None, tick_entries(alloc, party)?)
+    answer_of(journal.append_order(alloc, share, order, None, tick_entries(alloc, party)?))
 }
 
 fn tick_order<N: Naming>(
     alloc: Global,
     journal: &mut Journal<N>,
     seat: &mut Seat<N>,
-) -> Result<(), AppendFault> {
+) -> Result<Result<(), AppendFault>, NoMemory> {
     tick_by(alloc, journal, &mut seat.share, &mut seat.order)
 }
 
@@ -53,20 +54,22 @@ fn orders_beside_reads<N: Naming>(
     alloc: Global,
     journal: &mut Journal<N>,
     seat: &mut Seat<N>,
-) -> bool {
-    let first = tick_order(alloc, journal, seat);
-    let read = get(alloc, journal, &mut seat.share, None, &READ);
-    let second = tick_order(alloc, journal, seat);
+) -> Result<bool, Fail> {
+    let first = tick_order(alloc, journal, seat)?;
+    let read = get(alloc, journal, &mut seat.share, None, &READ)?;
+    let second = tick_order(alloc, journal, seat)?;
     let lengths = (seat.share.history().len(), seat.order.history().len());
-    let other = tick(alloc, journal, &mut seat.share);
-    let behind = tick_order(alloc, journal, seat);
-    first.is_ok()
-        && read.is_ok()
-        && second.is_ok()
-        && lengths == (3, 2)
-        && other.is_ok()
-        && behind.err() == Some(AppendFault::NotInJournal)
-        && journal.len() == 4
+    let other = tick(alloc, journal, &mut seat.share)?;
+    let behind = tick_order(alloc, journal, seat)?;
+    Ok(
+        first.is_ok()
+            && read.is_ok()
+            && second.is_ok()
+            && lengths == (3, 2)
+            && other.is_ok()
+            && behind.err() == Some(AppendFault::NotInJournal)
+            && journal.len() == 4,
+    )
 }
 
 fn is_ordered<N: Naming>(alloc: Global, config: &Config) -> Result<bool, Fail>
@@ -74,7 +77,7 @@ fn is_ordered<N: Naming>(alloc: Global, config: &Config) -> Result<bool, Fail>
 {
     let (mut journal, shares, orders) = Journal::<N>::new(alloc, config, 9)?;
     let mut seat = last_seat(shares, orders).ok_or("no seat")?;
-    Ok(orders_beside_reads(alloc, &mut journal, &mut seat))
+    orders_beside_reads(alloc, &mut journal, &mut seat)
 }
 
 fn is_ordered_tied<N: Naming>(alloc: Global, opened: Opened, config: &Config) -> Result<bool, Fail>
@@ -83,7 +86,7 @@ fn is_ordered_tied<N: Naming>(alloc: Global, opened: Opened, config: &Config) ->
 {
     let (mut journal, shares, orders) = Journal::<N>::tied(alloc, opened, config, 9)?;
     let mut seat = last_seat(shares, orders).ok_or("no seat")?;
-    Ok(orders_beside_reads(alloc, &mut journal, &mut seat))
+    orders_beside_reads(alloc, &mut journal, &mut seat)
 }
 
 #[test]
@@ -107,25 +110,27 @@ fn is_refused_apart<N: Naming>(
     journal: &mut Journal<N>,
     seat: &mut Seat<N>,
     other: &mut OrderShare<N>,
-) -> bool {
-    let stranger = tick_by(alloc, journal, &mut seat.share, other);
-    let first = tick_order(alloc, journal, seat);
+) -> Result<bool, Fail> {
+    let stranger = tick_by(alloc, journal, &mut seat.share, other)?;
+    let first = tick_order(alloc, journal, seat)?;
     let mut kept = seat.order.take(alloc);
-    let behind = tick_order(alloc, journal, seat);
+    let behind = tick_order(alloc, journal, seat)?;
     let mut empty = OrderShare::empty(alloc, kept.party());
-    let nothing = tick_by(alloc, journal, &mut seat.share, &mut empty);
-    let again = tick_by(alloc, journal, &mut seat.share, &mut kept);
-    stranger.err() == Some(AppendFault::NotInJournal)
-        && first.is_ok()
-        && behind.err() == Some(AppendFault::NotInJournal)
-        && nothing.err() == Some(AppendFault::NotInJournal)
-        && again.is_ok()
-        && (
-            kept.history().len(),
-            empty.history().len(),
-            other.history().len(),
-        ) == (2, 0, 0)
-        && journal.len() == 2
+    let nothing = tick_by(alloc, journal, &mut seat.share, &mut empty)?;
+    let again = tick_by(alloc, journal, &mut seat.share, &mut kept)?;
+    Ok(
+        stranger.err() == Some(AppendFault::NotInJournal)
+            && first.is_ok()
+            && behind.err() == Some(AppendFault::NotInJournal)
+            && nothing.err() == Some(AppendFault::NotInJournal)
+            && again.is_ok()
+            && (
+                kept.history().len(),
+                empty.history().len(),
+                other.history().len(),
+            ) == (2, 0, 0)
+            && journal.len() == 2,
+    )
 }
 
 fn is_compared<N: Naming>(alloc: Global, opened: Opened, config: &Config) -> Result<bool, Fail>
@@ -137,7 +142,7 @@ fn is_compared<N: Naming>(alloc: Global, opened: Opened, config: &Config) -> Res
     let mut other = orders.pop().ok_or("no other order")?;
     let share = take_share(shares, order.party().number()).ok_or("no share")?;
     let mut seat = Seat { share, order };
-    Ok(is_refused_apart(alloc, &mut journal, &mut seat, &mut other))
+    is_refused_apart(alloc, &mut journal, &mut seat, &mut other)
 }
 
 #[test]

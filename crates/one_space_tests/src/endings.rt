@@ -1,6 +1,7 @@
 //! How a command ends, in a form that can be compared.
 
 use one_space::{LocalFault, ShowFault};
+use std::io;
 use tuple_text::LineFault;
 
 #[derive(Clone, Copy, Debug, PartialEq, Eq)]
@@ -19,7 +20,7 @@ pub fn local_ending(ending: Result<(), LocalFault>) -> Ending {
         Err(LocalFault::Refused { line, fault }) => Ending::Refused(line, fault),
         Err(LocalFault::NoMemory) => Ending::NoMemory,
         Err(LocalFault::Read(_)) => Ending::Read,
-        Err(LocalFault::Write(_)) => Ending::Write,
+        Err(LocalFault::Write(error)) => write_ending(&error),
     }
 }
 
@@ -28,7 +29,15 @@ pub fn show_ending(ending: Result<(), ShowFault>) -> Ending {
         Ok(()) => Ending::Complete,
         Err(ShowFault::Malformed) => Ending::Malformed,
         Err(ShowFault::NoMemory) => Ending::NoMemory,
-        Err(ShowFault::Write(_)) => Ending::Write,
+        Err(ShowFault::Write(error)) => write_ending(&error),
+    }
+}
+
+// Most tests keep what is written, for which memory can run out too.
+fn write_ending(error: &io::Error) -> Ending {
+    match error.kind() {
+        io::ErrorKind::OutOfMemory => Ending::NoMemory,
+        _ => Ending::Write,
     }
 }
 

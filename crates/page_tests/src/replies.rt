@@ -3,11 +3,11 @@
 ghost use Rattle.std.specs.Prelude.{◌≡◌};
 
 use reply_cache::{CLIENTS, ReplyCache};
-use std::alloc::{AllocError, Global};
+use std::alloc::Global;
 use std::test::Fail;
 use terms::{ClientId, NoMemory};
 use tuple_codec::{Answer, Bad};
-use tuple_tree::{Atom, Tuple, Value};
+use tuple_tree::{Atom, Refusal, Tuple, Value};
 
 // The answer `done` to a first request that ran in the first batch.
 const DONE: &[u8; 17] = b"\0\0\0\0\0\0\0\x01\0\0\0\0\0\0\0\x011";
@@ -23,11 +23,11 @@ fn client(number: u8) -> ClientId
     }
 }
 
-fn found(alloc: Global) -> Result<Answer<Global>, AllocError> {
+fn found(alloc: Global) -> Result<Answer<Global>, Refusal> {
     let mut tuple = Tuple::new_in(alloc);
     match tuple.push(Value::Atom(Atom::Number(1))) {
         Ok(()) => Ok(Answer::Found(tuple)),
-        Err(_) => Err(AllocError),
+        Err(pushed) => Err(pushed.refusal),
     }
 }
 
@@ -61,9 +61,9 @@ fn new_replies(rt: HostRuntime) {
 #[test]
 fn pages_of_replies(rt: HostRuntime) -> Result<(), Fail> {
     let mut cache = ReplyCache::new(rt.alloc());
-    let _ = cache.put(client(0), 1, 1, Answer::Done);
+    cache.put(client(0), 1, 1, Answer::Done)?;
     assert!(rt; cache.seen(client(0)) == 1 && has_page(&cache, client(0), DONE.as_slice()));
-    let _ = cache.put(client(255), 258, 3, found(rt.alloc())?);
+    cache.put(client(255), 258, 3, found(rt.alloc())?)?;
     assert!(rt;
         has_page(&cache, client(255), FOUND.as_slice())
             && has_page(&cache, client(0), DONE.as_slice())
@@ -85,8 +85,8 @@ fn is_replaced(cache: &ReplyCache) -> bool {
 #[test]
 fn a_reply_is_replaced_whole(rt: HostRuntime) -> Result<(), Fail> {
     let mut cache = ReplyCache::new(rt.alloc());
-    let _ = cache.put(client(7), 5, 2, found(rt.alloc())?);
-    let _ = cache.put(client(7), 6, 9, Answer::Swapped(true));
+    cache.put(client(7), 5, 2, found(rt.alloc())?)?;
+    cache.put(client(7), 6, 9, Answer::Swapped(true))?;
     assert!(rt; is_replaced(&cache));
     Ok(())
 }

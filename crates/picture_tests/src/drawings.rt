@@ -1,10 +1,11 @@
 //! What stands in a picture.
 
 use events::{Config, Entry, EntryKind};
+use hex::FromHexError;
 use picture::write_picture;
 use std::alloc::{AllocError, Global};
 use std::test::Fail;
-use terms::{ClientId, Number, Party, ReplicaId, Timestamp};
+use terms::{ClientId, NoMemory, Number, Party, ReplicaId, Timestamp};
 use tuple_codec::{Answer, Op};
 use tuple_text::read_line;
 
@@ -35,20 +36,15 @@ static MARKS: [&str; 8] = [
 ];
 
 // Four replicas and two clients, the second of them faulty.
-fn config(alloc: Global) -> Option<Config> {
-    let mut faulty = Vec::new(alloc);
-    if faulty.push(1).is_err() {
-        return None;
-    }
-    match Config::new(1, 2, [0; 32], 16, Vec::new(alloc), faulty) {
-        Ok(config) => Some(config),
-        Err(_) => None,
-    }
+fn config(alloc: Global) -> Result<Config, Fail> {
+    let faulty = vec![in alloc; 1]?;
+    Ok(Config::new(1, 2, [0; 32], 16, Vec::new(alloc), faulty)?)
 }
 
-fn frame(alloc: Global, digits: &str) -> Result<Vec<u8>, AllocError> {
-    let Ok(mut bytes) = hex::decode(alloc, digits) else {
-        return Err(AllocError);
+fn frame(alloc: Global, digits: &str) -> Result<Vec<u8>, Fail> {
+    let mut bytes = match hex::decode(alloc, digits) {
+        Err(FromHexError::OutOfMemory) => return Err(Fail::from(AllocError)),
+        decoded => decoded?,
     };
     for _ in 0..32 {
         bytes.push(0)?;
@@ -56,18 +52,15 @@ fn frame(alloc: Global, digits: &str) -> Result<Vec<u8>, AllocError> {
     Ok(bytes)
 }
 
-fn op(alloc: Global, line: &[u8]) -> Result<Op<Global>, AllocError> {
-    match read_line(alloc, line) {
-        Ok(Some(op)) => Ok(op),
-        _ => Err(AllocError),
-    }
+fn op(alloc: Global, line: &[u8]) -> Result<Op<Global>, Fail> {
+    Ok(read_line(alloc, line)?.ok_or("no operation")?)
 }
 
 // What was put by `out`.
-fn found(alloc: Global, line: &[u8]) -> Result<Answer<Global>, AllocError> {
+fn found(alloc: Global, line: &[u8]) -> Result<Answer<Global>, Fail> {
     match op(alloc, line)? {
         Op::Out(tuple) => Ok(Answer::Found(tuple)),
-        _ => Err(AllocError),
+        _ => Err(Fail::new("no tuple")),
     }
 }
 
@@ -81,21 +74,14 @@ fn add(trace: &mut Vec<Entry>, kind: EntryKind) -> Result<(), AllocError> {
     Ok(trace.push(Entry::new(kind))?)
 }
 
-fn add_got(
-    alloc: Global,
-    trace: &mut Vec<Entry>,
-    number: u8,
-    digits: &str,
-) -> Result<(), AllocError> {
-    add(
-        trace,
-        EntryKind::Got(replica(number), frame(alloc, digits)?),
-    )
+fn add_got(alloc: Global, trace: &mut Vec<Entry>, number: u8, digits: &str) -> Result<(), Fail> {
+    let frame = frame(alloc, digits)?;
+    Ok(add(trace, EntryKind::Got(replica(number), frame))?)
 }
 
 // A call, whose frame comes to two replicas, to one of them twice; a frame that nobody sent, and bytes that are none;
 // and one mark of each other kind.
-fn trace(alloc: Global) -> Result<Vec<Entry>, AllocError> {
+fn trace(alloc: Global) -> Result<Vec<Entry>, Fail> {
     let mut trace = Vec::new(alloc);
     let call = op(alloc, b"out (1)")?;
     add(&mut trace, EntryKind::Invoke(CLIENT, Timestamp(1), call))?;
@@ -109,7 +95,7 @@ fn trace(alloc: Global) -> Result<Vec<Entry>, AllocError> {
     Ok(trace)
 }
 
-fn add_rest(alloc: Global, trace: &mut Vec<Entry>) -> Result<(), AllocError> {
+fn add_rest(alloc: Global, trace: &mut Vec<Entry>) -> Result<(), Fail> {
     let mut byte = Vec::new(alloc);
     byte.push(7)?;
     add(trace, EntryKind::Got(replica(3), byte))?;
@@ -122,7 +108,7 @@ fn add_rest(alloc: Global, trace: &mut Vec<Entry>) -> Result<(), AllocError> {
         EntryKind::Installed(ReplicaId(1), Number(16), [0; 32]),
     )?;
     let answer = found(alloc, b"out (\"<&>\")")?;
-    add(trace, EntryKind::Accepted(CLIENT, Timestamp(1), answer))
+    Ok(add(trace, EntryKind::Accepted(CLIENT, Timestamp(1), answer))?)
 }
 
 // How often a text stands in the bytes.
@@ -137,13 +123,11 @@ fn count(bytes: &[u8], text: &str) -> usize {
     count
 }
 
-// The picture of these entries, and nothing where memory runs out.
-fn drawn(alloc: Global, trace: &[Entry]) -> Vec<u8> {
+// The picture of these entries.
+fn drawn(alloc: Global, trace: &[Entry]) -> Result<Vec<u8>, Fail> {
     let mut out = Vec::new(alloc);
-    if let Some(config) = config(alloc) {
-        let _ = write_picture(alloc, &config, trace, &mut out);
-    }
-    out
+    write_picture(alloc, &config(alloc)?, trace, &mut out)?;
+    Ok(out)
 }
 
 // Each of the texts stands there once.
@@ -154,7 +138,7 @@ fn has_each(picture: &[u8], texts: &[&str]) -> bool {
 #[test]
 fn draws_arrows_and_marks(rt: HostRuntime) -> Result<(), Fail> {
     let trace = trace(rt.alloc())?;
-    let picture = drawn(rt.alloc(), trace.as_slice());
+    let picture = drawn(rt.alloc(), trace.as_slice())?;
     assert!(rt; has_each(picture.as_slice(), &ARROWS));
     assert!(rt; has_each(picture.as_slice(), &MARKS));
     Ok(())
@@ -164,7 +148,7 @@ fn draws_arrows_and_marks(rt: HostRuntime) -> Result<(), Fail> {
 #[test]
 fn draws_nothing_else(rt: HostRuntime) -> Result<(), Fail> {
     let trace = trace(rt.alloc())?;
-    let picture = drawn(rt.alloc(), trace.as_slice());
+    let picture = drawn(rt.alloc(), trace.as_slice())?;
     assert!(rt; count(picture.as_slice(), "<title>") == trace.len() + 1);
     assert!(rt; count(picture.as_slice(), "\"><title>") == ARROWS.len());
     Ok(())
@@ -174,8 +158,8 @@ fn draws_nothing_else(rt: HostRuntime) -> Result<(), Fail> {
 static NAMES: [&str; 6] = [">r0<", ">r1<", ">r2<", ">r3<", ">c0<", ">c1 faulty<"];
 
 #[test]
-fn draws_an_empty_trace(rt: HostRuntime) {
-    let picture = drawn(rt.alloc(), &[]);
+fn draws_an_empty_trace(rt: HostRuntime) -> Result<(), Fail> {
+    let picture = drawn(rt.alloc(), &[])?;
     assert!(rt; picture.starts_with(b"<?xml version=\"1.0\" encoding=\"UTF-8\"?>\n<svg "));
     assert!(rt; picture.ends_with(b"</svg>\n"));
     assert!(rt;
@@ -184,6 +168,7 @@ fn draws_an_empty_trace(rt: HostRuntime) {
             .all(|name| count(picture.as_slice(), name) == 2)
     );
     assert!(rt; has_each(picture.as_slice(), &["<title>", "A run of 0 entries"]));
+    Ok(())
 }
 
 // A party that the configuration does not have is drawn too.
@@ -191,39 +176,37 @@ fn draws_an_empty_trace(rt: HostRuntime) {
 fn draws_strangers(rt: HostRuntime) -> Result<(), Fail> {
     let mut trace = Vec::new(rt.alloc());
     add(&mut trace, EntryKind::Tick(replica(9)))?;
-    let picture = drawn(rt.alloc(), trace.as_slice());
+    let picture = drawn(rt.alloc(), trace.as_slice())?;
     assert!(rt; count(picture.as_slice(), ">r9 unknown<") == 2);
     Ok(())
 }
 
-// The picture, behind a byte that a refusal leaves alone.
-fn is_drawn(alloc: Global, config: &Config, trace: &[Entry], out: &mut Vec<u8>) -> bool {
-    if write_picture(alloc, config, trace, out).is_err() {
+// The whole picture, behind a byte that a refusal leaves alone.
+fn is_drawn(
+    alloc: Global,
+    config: &Config,
+    trace: &[Entry],
+    whole: &[u8],
+) -> Result<bool, NoMemory> {
+    let mut out = Vec::new(alloc);
+    out.push(b'\n')?;
+    if write_picture(alloc, config, trace, &mut out).is_err() {
         if out.as_slice() != b"\n".as_slice() {
-            return false;
+            return Ok(false);
         }
-        return write_picture(alloc, config, trace, out).is_ok() && out.ends_with(b"</svg>\n");
+        write_picture(alloc, config, trace, &mut out)?;
     }
-    out.ends_with(b"</svg>\n")
+    Ok(out.as_slice().strip_prefix(b"\n".as_slice()) == Some(whole))
 }
 
-// Passes whichever growth is refused, as by `tools/growths`: the bytes are as before, and a second
-// try gives the picture.
+// Passes whichever growth of the last picture is refused, as by `tools/growths`: the bytes are as before, and a second
+// try gives the picture that was drawn before.
 #[test]
 fn refused_memory(rt: HostRuntime) -> Result<(), Fail> {
     let alloc = rt.alloc();
-    let config = match config(alloc) {
-        Some(config) => config,
-        None => config(alloc).ok_or("the configuration")?,
-    };
-    let trace = match trace(alloc) {
-        Ok(trace) => trace,
-        Err(_) => trace(alloc)?,
-    };
-    let mut out = Vec::new(alloc);
-    if out.push(b'\n').is_err() {
-        out.push(b'\n')?;
-    }
-    assert!(rt; is_drawn(alloc, &config, trace.as_slice(), &mut out));
+    let trace = trace(alloc)?;
+    let whole = drawn(alloc, trace.as_slice())?;
+    let config = config(alloc)?;
+    assert!(rt; is_drawn(alloc, &config, trace.as_slice(), whole.as_slice())?);
     Ok(())
 }

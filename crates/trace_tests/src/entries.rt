@@ -2,24 +2,16 @@
 
 use events::{Entry, EntryKind};
 use std::alloc::Global;
-use terms::{ClientId, Number, Party, ReplicaId, Timestamp};
+use std::test::Fail;
+use terms::{ClientId, NoMemory, Number, Party, ReplicaId, Timestamp};
 use trace_text::write_entry;
-use tuple_codec::{Answer, Op};
+use tuple_codec::Answer;
 use tuple_text::read_line;
 
-fn is_shown(alloc: Global, kind: EntryKind, text: &[u8]) -> bool {
+fn is_shown(alloc: Global, kind: EntryKind, text: &[u8]) -> Result<bool, NoMemory> {
     let mut out = Vec::new(alloc);
-    match write_entry(alloc, &Entry::new(kind), &mut out) {
-        Ok(()) => out.as_slice() == text,
-        Err(_) => false,
-    }
-}
-
-fn op(alloc: Global, line: &[u8]) -> Option<Op<Global>> {
-    match read_line(alloc, line) {
-        Ok(op) => op,
-        Err(_) => None,
-    }
+    write_entry(alloc, &Entry::new(kind), &mut out)?;
+    Ok(out.as_slice() == text)
 }
 
 static LINES: [&[u8]; 5] = [
@@ -31,39 +23,38 @@ static LINES: [&[u8]; 5] = [
 ];
 
 // An operation stands as its line.
-fn shows_call(alloc: Global, line: &[u8]) -> bool {
-    let Some(op) = op(alloc, line) else {
-        return false;
+fn shows_call(alloc: Global, line: &[u8]) -> Result<bool, Fail> {
+    let Some(op) = read_line(alloc, line)? else {
+        return Ok(false);
     };
     let mut text = Vec::new(alloc);
-    if text.extend_from_slice(b"invoke c0 time 1 ").is_err()
-        || text.extend_from_slice(line).is_err()
-    {
-        return false;
-    }
+    text.extend_from_slice(b"invoke c0 time 1 ")?;
+    text.extend_from_slice(line)?;
     let kind = EntryKind::Invoke(ClientId { number: 0 }, Timestamp(1), op);
-    is_shown(alloc, kind, text.as_slice())
+    Ok(is_shown(alloc, kind, text.as_slice())?)
 }
 
 #[test]
-fn shows_calls(rt: HostRuntime) {
+fn shows_calls(rt: HostRuntime) -> Result<(), Fail> {
     for &line in &LINES {
-        assert!(rt; shows_call(rt.alloc(), line), "{line:?}");
+        assert!(rt; shows_call(rt.alloc(), line)?, "{line:?}");
     }
+    Ok(())
 }
 
 #[test]
-fn shows_what_happens(rt: HostRuntime) {
+fn shows_what_happens(rt: HostRuntime) -> Result<(), Fail> {
     let alloc = rt.alloc();
     let client = ClientId { number: 7 };
     let tick = EntryKind::Tick(Party::Client(client));
-    assert!(rt; is_shown(alloc, tick, b"tick c7"));
+    assert!(rt; is_shown(alloc, tick, b"tick c7")?);
     let got = EntryKind::Got(Party::Replica(ReplicaId(3)), Vec::new(alloc));
-    assert!(rt; is_shown(alloc, got, b"got r3 0 bytes that are no frame"));
+    assert!(rt; is_shown(alloc, got, b"got r3 0 bytes that are no frame")?);
     let executed = EntryKind::Executed(ReplicaId(0), Number(1), Vec::new(alloc));
-    assert!(rt; is_shown(alloc, executed, b"executed r0 number 1 null"));
+    assert!(rt; is_shown(alloc, executed, b"executed r0 number 1 null")?);
     let installed = EntryKind::Installed(ReplicaId(1), Number(32), [0xab; 32]);
-    assert!(rt; is_shown(alloc, installed, b"installed r1 number 32 root abababab"));
+    assert!(rt; is_shown(alloc, installed, b"installed r1 number 32 root abababab")?);
     let accepted = EntryKind::Accepted(client, Timestamp(2), Answer::Swapped(true));
-    assert!(rt; is_shown(alloc, accepted, b"accepted c7 time 2 swapped true"));
+    assert!(rt; is_shown(alloc, accepted, b"accepted c7 time 2 swapped true")?);
+    Ok(())
 }

@@ -1,6 +1,7 @@
 //! Frames of each message, whose texts come from an implementation of these lines in Python.
 
 use events::{Entry, EntryKind};
+use hex::FromHexError;
 use std::alloc::{AllocError, Global};
 use std::test::Fail;
 use terms::{NoMemory, Number, Party, ReplicaId};
@@ -244,11 +245,13 @@ static STARTS: [Row; 2] = [
     },
 ];
 
+// Digits that spell no bytes stay out, and the line shows that.
 fn push_part(alloc: Global, digits: &str, out: &mut Vec<u8>) -> Result<(), AllocError> {
-    let Ok(bytes) = hex::decode(alloc, digits) else {
-        return Err(AllocError);
-    };
-    Ok(out.extend_from_slice(bytes.as_slice())?)
+    match hex::decode(alloc, digits) {
+        Ok(bytes) => Ok(out.extend_from_slice(bytes.as_slice())?),
+        Err(FromHexError::OutOfMemory) => Err(AllocError),
+        Err(_) => Ok(()),
+    }
 }
 
 fn push_row(alloc: Global, row: &Row, out: &mut Vec<u8>) -> Result<(), AllocError> {
@@ -312,29 +315,22 @@ fn new_view(alloc: Global, start: &Row) -> Result<Vec<u8>, AllocError> {
     signed(alloc, body.as_slice())
 }
 
-fn has_line(alloc: Global, kind: EntryKind, line: &str) -> bool {
+fn has_line(alloc: Global, kind: EntryKind, line: &str) -> Result<bool, NoMemory> {
     let mut out = Vec::new(alloc);
-    match write_entry(alloc, &Entry::new(kind), &mut out) {
-        Ok(()) => out.as_slice() == line.as_bytes(),
-        Err(_) => false,
-    }
+    write_entry(alloc, &Entry::new(kind), &mut out)?;
+    Ok(out.as_slice() == line.as_bytes())
 }
 
 // The lines of the frame where it is got, and where it is sent.
-fn is_shown(
-    alloc: Global,
-    frame: Vec<u8>,
-    text: &str,
-    receivers: &str,
-) -> Result<bool, AllocError> {
+fn is_shown(alloc: Global, frame: Vec<u8>, text: &str, receivers: &str) -> Result<bool, NoMemory> {
     let party = Party::Replica(ReplicaId(1));
     let mut again = Vec::new(alloc);
     again.extend_from_slice(frame.as_slice())?;
     let got = format!(in alloc; "got r1 {text}")?;
     let sent = format!(in alloc; "sent r1 {text} to {receivers}")?;
     Ok(
-        has_line(alloc, EntryKind::Got(party, frame), got.as_str())
-            && has_line(alloc, EntryKind::Sent(party, again), sent.as_str()),
+        has_line(alloc, EntryKind::Got(party, frame), got.as_str())?
+            && has_line(alloc, EntryKind::Sent(party, again), sent.as_str())?,
     )
 }
 
@@ -393,12 +389,12 @@ fn shows_batches(rt: HostRuntime) -> Result<(), Fail> {
             alloc,
             executed,
             "executed r2 number 7 c0:1 c255:281474976710656"
-        )
+        )?
     );
     let mut none = Vec::new(alloc);
     none.push(0)?;
     let executed = EntryKind::Executed(ReplicaId(9), Number(281_474_976_710_656), none);
-    assert!(rt; has_line(alloc, executed, "executed r9 number 281474976710656 null"));
+    assert!(rt; has_line(alloc, executed, "executed r9 number 281474976710656 null")?);
     Ok(())
 }
 
