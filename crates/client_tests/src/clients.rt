@@ -13,6 +13,7 @@ use signing::PublicKeys;
 use std::alloc::Global;
 use std::test::Fail;
 use terms::{ClientId, Mode, NoMemory, Number, Party, ReplicaId, Timestamp};
+use test_bytes::seed;
 use tuple_codec::{Answer, Bad, Op, decode_op};
 use wire::{Body, Message, Reply};
 
@@ -64,15 +65,6 @@ pub enum Given<'a> {
 }
 
 pub type Row<'a> = (Input, Given<'a>);
-
-// The seed 00 01 .. 1f.
-fn seed() -> [u8; 32] {
-    let mut seed = [0; 32];
-    for i in 0..32 {
-        seed[i] = i as u8;
-    }
-    seed
-}
 
 pub fn new_client(alloc: Global) -> Result<Client, NoMemory> {
     let seed = seed();

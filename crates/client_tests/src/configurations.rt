@@ -28,7 +28,7 @@ fn is_made(alloc: Global, row: Row) -> Result<bool, Fail> {
 
 #[test]
 fn numbers_are_in_range(rt: HostRuntime) -> Result<(), Fail> {
-    for row in ROWS {
+    for &row in &ROWS {
         assert!(rt; is_made(rt.alloc(), row)? == row.5);
     }
     Ok(())

@@ -120,7 +120,7 @@ fn goes_as_told(alloc: Global, (text, first, rows): Case<'_>) -> Result<bool, Fa
 
 #[test]
 fn replies_count(rt: HostRuntime) -> Result<(), Fail> {
-    for case in CASES {
+    for &case in &CASES {
         assert!(rt; goes_as_told(rt.alloc(), case)?, "{:?}", case.2);
     }
     Ok(())

@@ -14,11 +14,24 @@ use std::test::Fail;
 use terms::NoMemory;
 use tuple_codec::{Bad, Op};
 
-// Two retries of an ordered request.
-const GOES_AGAIN: [Row<'static>; 2] = [
-    (Input::Retry, Given::Asks(OUT_ORDERED)),
-    (Input::Retry, Given::Asks(OUT_ORDERED)),
+static CALLS: [Case<'static>; 2] = [(OUT, OUT_ORDERED, &[]), (RDP, RDP_READ, &[])];
+
+static REPLIES: [Case<'static>; 2] = [(OUT, OUT_ORDERED, &OUTS), (RDP, RDP_READ, &READS)];
+
+// Two retries of an ordered request, and retries of a read.
+static RETRIES: [Case<'static>; 2] = [
+    (
+        OUT,
+        OUT_ORDERED,
+        &[
+            (Input::Retry, Given::Asks(OUT_ORDERED)),
+            (Input::Retry, Given::Asks(OUT_ORDERED)),
+        ],
+    ),
+    (RDP, RDP_READ, &RETRIED),
 ];
+
+static FALL_BACK: Case<'static> = (RDP, RDP_READ, &FALLS_BACK);
 
 // What prepares a step is tried a second time where memory runs out.
 fn made(alloc: Global) -> Result<Client, NoMemory> {
@@ -105,27 +118,30 @@ fn gives_all_or_stops(
 
 #[test]
 fn refused_memory_at_a_call(rt: HostRuntime) -> Result<(), Fail> {
-    assert!(rt; goes_or_stops(rt.alloc(), (OUT, OUT_ORDERED, &[]))?);
-    assert!(rt; goes_or_stops(rt.alloc(), (RDP, RDP_READ, &[]))?);
+    for &case in &CALLS {
+        assert!(rt; goes_or_stops(rt.alloc(), case)?);
+    }
     Ok(())
 }
 
 #[test]
 fn refused_memory_at_replies(rt: HostRuntime) -> Result<(), Fail> {
-    assert!(rt; goes_or_stops(rt.alloc(), (OUT, OUT_ORDERED, &OUTS))?);
-    assert!(rt; goes_or_stops(rt.alloc(), (RDP, RDP_READ, &READS))?);
+    for &case in &REPLIES {
+        assert!(rt; goes_or_stops(rt.alloc(), case)?);
+    }
     Ok(())
 }
 
 #[test]
 fn refused_memory_at_retries(rt: HostRuntime) -> Result<(), Fail> {
-    assert!(rt; goes_or_stops(rt.alloc(), (OUT, OUT_ORDERED, &GOES_AGAIN))?);
-    assert!(rt; goes_or_stops(rt.alloc(), (RDP, RDP_READ, &RETRIED))?);
+    for &case in &RETRIES {
+        assert!(rt; goes_or_stops(rt.alloc(), case)?);
+    }
     Ok(())
 }
 
 #[test]
 fn refused_memory_where_a_read_falls_back(rt: HostRuntime) -> Result<(), Fail> {
-    assert!(rt; goes_or_stops(rt.alloc(), (RDP, RDP_READ, &FALLS_BACK))?);
+    assert!(rt; goes_or_stops(rt.alloc(), FALL_BACK)?);
     Ok(())
 }

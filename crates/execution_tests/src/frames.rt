@@ -1,6 +1,7 @@
 //! Frames of bytes for tests, written without the crates that are tested.
 
 use std::alloc::{AllocError, Global};
+use test_bytes::{joined, piece};
 
 // The request `out (1)` of client 0 with timestamp 1.
 const FIRST: &[u8] =
@@ -9,20 +10,6 @@ const FIRST: &[u8] =
 // The request `out (2)` of client 1 with timestamp 2.
 const SECOND: &[u8] =
     b"\x41\x01\x01\x00\x00\x00\x00\x00\x00\x00\x02\x00\x21\x01\x01\x00\x00\x00\x00\x00\x00\x00\x02";
-
-fn joined(alloc: Global, parts: &[&[u8]]) -> Result<Vec<u8>, AllocError> {
-    let mut all = Vec::new(alloc);
-    for part in parts {
-        all.extend_from_slice(part)?;
-    }
-    Ok(all)
-}
-
-// Bytes behind their length.
-fn piece(alloc: Global, bytes: &[u8]) -> Result<Vec<u8>, AllocError> {
-    let len = (bytes.len() & 0xff_ffff) as u32;
-    joined(alloc, &[&len.to_be_bytes(), bytes])
-}
 
 // A frame of the body with a MAC for the receiver 0, behind its length.
 fn carried(alloc: Global, body: &[u8]) -> Result<Vec<u8>, AllocError> {

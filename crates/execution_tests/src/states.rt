@@ -202,7 +202,7 @@ fn no_timestamp_falls(rt: HostRuntime) -> Result<(), Fail> {
 }
 
 fn refuses_lower_ones(executed: &mut Executed, alloc: Global) -> Result<bool, NoMemory> {
-    for changed in LOWER {
+    for &changed in &LOWER {
         if !refuses(executed, alloc, 1, Some(changed))? {
             return Ok(false);
         }
@@ -276,7 +276,7 @@ fn refuses_wrong_ones(executed: &mut Executed, alloc: Global) -> Result<bool, No
 #[test]
 fn pages_are_lent(rt: HostRuntime) -> Result<(), Fail> {
     let mut executed = new_state(rt.alloc())?;
-    for text in AFTER_ONE {
+    for &text in &AFTER_ONE {
         assert!(rt; has_page(&mut executed, text)?);
     }
     assert!(rt; has_its_root(&mut executed)?);

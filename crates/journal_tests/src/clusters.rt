@@ -12,18 +12,10 @@ use journal::{AppendFault, Journal, Naming, Share};
 use std::alloc::Global;
 use std::test::Fail;
 use terms::{ClientId, Mode, NoMemory, Party, ReplicaId, Timestamp};
+use test_bytes::seed;
 use tuple_codec::Op;
 use tuple_tree::Tuple;
 use wire::{Body, Message, Request};
-
-// The seed 00 01 .. 1f.
-fn seed() -> [u8; 32] {
-    let mut seed = [0; 32];
-    for i in 0..32 {
-        seed[i] = i as u8;
-    }
-    seed
-}
 
 /// The configuration in which the clients of these numbers are faulty.
 pub fn new_config(alloc: Global, faulty_clients: Vec<u16>) -> Result<Config, Fail>

@@ -40,7 +40,3 @@ fn write_ending(error: &io::Error) -> Ending {
         _ => Ending::Write,
     }
 }
-
-pub const fn bad_byte(line: u64, offset: usize) -> Ending {
-    Ending::Refused(line, LineFault::BadByte { offset })
-}

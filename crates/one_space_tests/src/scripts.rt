@@ -1,6 +1,6 @@
 //! Worked scripts and digits.
 
-use crate::endings::{Ending, bad_byte, local_ending, show_ending};
+use crate::endings::{Ending, local_ending, show_ending};
 use one_space::{Complaint, LocalFault, ShowFault, local, show};
 use std::io::{self, Read, Write};
 use std::test::Fail;
@@ -67,23 +67,41 @@ done
 found (-7)
 ";
 
+// Scripts, their results, and how they end.
+static SCRIPTS: [(&str, &str, Ending); 8] = [
+    (
+        "out (1)\nrdp (?int)\nrdp (2)\n",
+        "done\nfound (1)\nabsent\n",
+        Ending::Complete,
+    ),
+    (FIRST_SCRIPT, FIRST_RESULTS, Ending::Complete),
+    ("# x\n\n", "", Ending::Complete),
+    ("", "", Ending::Complete),
+    (
+        "out (01)\n",
+        "",
+        Ending::Refused(1, LineFault::BadByte { offset: 6 }),
+    ),
+    (
+        "out (1",
+        "",
+        Ending::Refused(1, LineFault::BadByte { offset: 6 }),
+    ),
+    (
+        "rdp (1)(2)\n",
+        "",
+        Ending::Refused(1, LineFault::BadByte { offset: 7 }),
+    ),
+    (
+        "out (3)\n\nrdp (y)\nout (4)\n",
+        "done\n",
+        Ending::Refused(3, LineFault::BadByte { offset: 5 }),
+    ),
+];
+
 #[test]
 fn runs_scripts(rt: HostRuntime) {
-    let rows = [
-        (
-            "out (1)\nrdp (?int)\nrdp (2)\n",
-            "done\nfound (1)\nabsent\n",
-            Ending::Complete,
-        ),
-        (FIRST_SCRIPT, FIRST_RESULTS, Ending::Complete),
-        ("# x\n\n", "", Ending::Complete),
-        ("", "", Ending::Complete),
-        ("out (01)\n", "", bad_byte(1, 6)),
-        ("out (1", "", bad_byte(1, 6)),
-        ("rdp (1)(2)\n", "", bad_byte(1, 7)),
-        ("out (3)\n\nrdp (y)\nout (4)\n", "done\n", bad_byte(3, 5)),
-    ];
-    for (script, results, ending) in rows {
+    for &(script, results, ending) in &SCRIPTS {
         let mut written = Vec::new(rt.alloc());
         let given = local_ending(local(rt.alloc(), script.as_bytes(), &mut written));
         assert_eq!(rt; given, ending, "{script}");
@@ -132,21 +150,23 @@ fn tells_that_writing_fails(rt: HostRuntime) {
     assert_eq!(rt; ending, Ending::Write);
 }
 
+// Digits, the text that is written, and how that ends.
+static DIGITS: [(&str, &str, Ending); 10] = [
+    ("01010000000000000001", "(1)\n", Ending::Complete),
+    ("020501020001780401", "((\"x\") true)\n", Ending::Complete),
+    ("0102000109", "(\"\\x09\")\n", Ending::Complete),
+    ("0101FFfffffffffffffF", "(-1)\n", Ending::Complete),
+    ("020501020001780402", "", Ending::Malformed),
+    ("0205010200017804", "", Ending::Malformed),
+    ("010", "", Ending::Malformed),
+    ("0000", "", Ending::Malformed),
+    ("zz", "", Ending::Malformed),
+    ("", "", Ending::Malformed),
+];
+
 #[test]
 fn shows_tuples(rt: HostRuntime) {
-    let rows = [
-        ("01010000000000000001", "(1)\n", Ending::Complete),
-        ("020501020001780401", "((\"x\") true)\n", Ending::Complete),
-        ("0102000109", "(\"\\x09\")\n", Ending::Complete),
-        ("0101FFfffffffffffffF", "(-1)\n", Ending::Complete),
-        ("020501020001780402", "", Ending::Malformed),
-        ("0205010200017804", "", Ending::Malformed),
-        ("010", "", Ending::Malformed),
-        ("0000", "", Ending::Malformed),
-        ("zz", "", Ending::Malformed),
-        ("", "", Ending::Malformed),
-    ];
-    for (digits, text, ending) in rows {
+    for &(digits, text, ending) in &DIGITS {
         let mut written = Vec::new(rt.alloc());
         let given = show_ending(show(rt.alloc(), digits, &mut written));
         assert_eq!(rt; given, ending, "{digits}");

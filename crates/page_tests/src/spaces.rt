@@ -6,7 +6,8 @@ use space::{PAGES, Space};
 use std::alloc::{AllocError, Global};
 use std::test::Fail;
 use terms::NoMemory;
-use tuple_codec::{Bad, Op, decode_op};
+use test_bytes::read_op;
+use tuple_codec::{Bad, Op};
 
 // The tuple `(1)` with birth number 0.
 const FIRST: &[u8; 18] = b"\0\0\0\0\0\0\0\0\x01\x01\0\0\0\0\0\0\0\x01";
@@ -21,14 +22,6 @@ const HEADER: &[u8; 17] = b"\x01\0\0\0\0\0\0\0\x01\0\0\0\0\0\0\0\x01";
 
 const LATER_HEADER: &[u8; 17] = b"\x01\0\0\0\0\0\0\0\x01\0\0\0\0\0\0\x01\x02";
 
-// The operation of these bytes, at the second try where memory ran out at the first one.
-fn read(alloc: Global, bytes: &[u8]) -> Option<Op<Global>> {
-    match decode_op(alloc, bytes) {
-        Ok((op, _)) => Some(op),
-        Err(_) => decode_op(alloc, bytes).ok().map(|(op, _)| op),
-    }
-}
-
 fn is_applied(space: &mut Space, op: &Op<Global>) -> bool {
     space.births_left() && space.apply(op).is_ok()
 }
@@ -36,7 +29,7 @@ fn is_applied(space: &mut Space, op: &Op<Global>) -> bool {
 // Whether the operation of these bytes is applied, at the second try where memory ran out at the first one, which
 // changed nothing.
 fn is_added(space: &mut Space, alloc: Global, op: &[u8]) -> bool {
-    let Some(op) = read(alloc, op) else {
+    let Some(op) = read_op(alloc, op) else {
         return false;
     };
     let count = space.count();

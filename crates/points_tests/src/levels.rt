@@ -1,11 +1,12 @@
 //! Numbers and their levels.
 
-use crate::frames::{ABSENT, DONE, FOUND_1, OUT_1, READ, TAKE, batch_of};
-use crate::traces::{execute, has_points, invoke, read};
+use crate::frames::{FOUND_1, OUT_1, batch_of};
+use crate::traces::{Row, execute, has_points, invoke, read};
 use events::{Entry, EntryKind};
 use std::alloc::Global;
 use std::test::Fail;
 use terms::{NoMemory, Number, ReplicaId};
+use test_bytes::{ABSENT, DONE, READ, TAKE};
 
 // The greatest number of a batch.
 const LAST: u64 = (1 << 48) - 1;
@@ -45,15 +46,16 @@ fn far_run(alloc: Global) -> Result<Vec<Entry>, NoMemory> {
     Ok(trace)
 }
 
+static FAR: [Row<'static>; 4] = [
+    (0, 2, READ, ABSENT, 1),
+    (0, 1, OUT_1, DONE, 4),
+    (1, 1, READ, ABSENT, 7),
+    (2, 1, TAKE, FOUND_1, 7),
+];
+
 #[test]
 fn numbers_far_apart(rt: HostRuntime) -> Result<(), Fail> {
     let trace = far_run(rt.alloc())?;
-    let rows = [
-        (0, 2, READ, ABSENT, 1),
-        (0, 1, OUT_1, DONE, 4),
-        (1, 1, READ, ABSENT, 7),
-        (2, 1, TAKE, FOUND_1, 7),
-    ];
-    assert!(rt; has_points(rt.alloc(), &[], &trace, &rows)?);
+    assert!(rt; has_points(rt.alloc(), &[], &trace, &FAR)?);
     Ok(())
 }

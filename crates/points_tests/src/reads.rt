@@ -1,13 +1,12 @@
 //! Reads that were accepted by read-only replies, and those that weren't.
 
-use crate::frames::{
-    ABSENT, DONE, FOUND_1, ORDERED, OUT_1, READ, READ_ONLY, batch_of, reply_frame,
-};
-use crate::traces::{accept, execute, get, get_answer, has_points, invoke, read};
+use crate::frames::{FOUND_1, OUT_1, batch_of, reply_frame};
+use crate::traces::{Row, accept, execute, get, get_answer, has_points, invoke, read};
 use events::{Entry, EntryKind};
 use std::alloc::Global;
 use std::test::Fail;
 use terms::{ClientId, NoMemory, Party};
+use test_bytes::{ABSENT, DONE, ORDERED, READ, READ_ONLY};
 
 // Clients 0 and 1 read the state behind a write that comes after their calls, and 1 accepts first.
 fn early_reads(alloc: Global) -> Result<Vec<Entry>, NoMemory> {
@@ -21,15 +20,16 @@ fn early_reads(alloc: Global) -> Result<Vec<Entry>, NoMemory> {
     Ok(trace)
 }
 
+static EARLY_READS: [Row<'static>; 3] = [
+    (2, 1, OUT_1, DONE, 4),
+    (0, 1, READ, FOUND_1, 4),
+    (1, 1, READ, FOUND_1, 4),
+];
+
 #[test]
 fn reads_stand_behind_writes_by_client(rt: HostRuntime) -> Result<(), Fail> {
     let trace = early_reads(rt.alloc())?;
-    let rows = [
-        (2, 1, OUT_1, DONE, 4),
-        (0, 1, READ, FOUND_1, 4),
-        (1, 1, READ, FOUND_1, 4),
-    ];
-    assert!(rt; has_points(rt.alloc(), &[], &trace, &rows)?);
+    assert!(rt; has_points(rt.alloc(), &[], &trace, &EARLY_READS)?);
     Ok(())
 }
 

@@ -1,10 +1,11 @@
 //! Traces that are put together by hand, and their points.
 
-use crate::frames::{READ_ONLY, Reply, SEED, reply_frame};
+use crate::frames::reply_frame;
 use events::{Config, Entry, EntryKind};
 use points::{Point, points};
 use std::alloc::Global;
 use terms::{ClientId, NoMemory, Number, Party, ReplicaId, Timestamp};
+use test_bytes::{FRAME_SEED, READ_ONLY, Reply};
 use tuple_codec::{decode_op, decode_result, encode_op, encode_result};
 
 /// The client and the timestamp of a point, the bytes of its operation and its answer, and its position.
@@ -13,7 +14,7 @@ pub type Row<'a> = (u16, u64, &'a [u8], &'a [u8], usize);
 /// Four replicas, of which these are faulty, and three clients.
 pub fn world(alloc: Global, faulty_replicas: &[u16]) -> Option<Config> {
     let faulty_replicas = Vec::from_slice(alloc, faulty_replicas).ok()?;
-    Config::new(1, 3, SEED, 16, faulty_replicas, Vec::new(alloc)).ok()
+    Config::new(1, 3, FRAME_SEED, 16, faulty_replicas, Vec::new(alloc)).ok()
 }
 
 fn client_of(client: u8) -> ClientId {

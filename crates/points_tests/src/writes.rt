@@ -1,14 +1,12 @@
 //! Requests that ran.
 
-use crate::frames::{
-    ABSENT, DONE, FOUND_1, ORDERED, OUT_1, OUT_2, READ, READ_ONLY, TAKE, batch, batch_of,
-    request_frame,
-};
-use crate::traces::{execute, get_answer, has_points, invoke, read};
+use crate::frames::{FOUND_1, OUT_1, OUT_2, batch_of, request_frame};
+use crate::traces::{Row, execute, get_answer, has_points, invoke, read};
 use events::Entry;
 use std::alloc::{AllocError, Global};
 use std::test::Fail;
 use terms::NoMemory;
+use test_bytes::{ABSENT, DONE, ORDERED, READ, READ_ONLY, TAKE, batch_text};
 
 // A write, an accepted answer to it, and two reads: one of the state behind it, and then one of the state before it.
 fn write_and_reads(alloc: Global) -> Result<Vec<Entry>, NoMemory> {
@@ -24,15 +22,16 @@ fn write_and_reads(alloc: Global) -> Result<Vec<Entry>, NoMemory> {
     Ok(trace)
 }
 
+static WRITE_AND_READS: [Row<'static>; 3] = [
+    (0, 1, OUT_1, DONE, 3),
+    (1, 1, READ, FOUND_1, 6),
+    (0, 2, READ, ABSENT, 9),
+];
+
 #[test]
 fn a_write_and_two_reads(rt: HostRuntime) -> Result<(), Fail> {
     let trace = write_and_reads(rt.alloc())?;
-    let rows = [
-        (0, 1, OUT_1, DONE, 3),
-        (1, 1, READ, FOUND_1, 6),
-        (0, 2, READ, ABSENT, 9),
-    ];
-    assert!(rt; has_points(rt.alloc(), &[], &trace, &rows)?);
+    assert!(rt; has_points(rt.alloc(), &[], &trace, &WRITE_AND_READS)?);
     Ok(())
 }
 
@@ -43,14 +42,9 @@ fn refused_memory(rt: HostRuntime) -> Result<(), Fail> {
         Ok(trace) => trace,
         Err(_) => write_and_reads(rt.alloc())?,
     };
-    let rows = [
-        (0, 1, OUT_1, DONE, 3),
-        (1, 1, READ, FOUND_1, 6),
-        (0, 2, READ, ABSENT, 9),
-    ];
-    let is_right = match has_points(rt.alloc(), &[], &trace, &rows) {
+    let is_right = match has_points(rt.alloc(), &[], &trace, &WRITE_AND_READS) {
         Ok(is_right) => is_right,
-        Err(_) => has_points(rt.alloc(), &[], &trace, &rows)?,
+        Err(_) => has_points(rt.alloc(), &[], &trace, &WRITE_AND_READS)?,
     };
     assert!(rt; is_right);
     Ok(())
@@ -61,14 +55,14 @@ fn mixed_batch(alloc: Global) -> Result<Vec<u8>, AllocError> {
     let once = request_frame(alloc, 0, 2, ORDERED, OUT_1)?;
     let stranger = request_frame(alloc, 3, 1, ORDERED, OUT_2)?;
     let earlier = request_frame(alloc, 0, 1, ORDERED, OUT_2)?;
-    batch(alloc, &[&once, &once, &stranger, &earlier])
+    batch_text(alloc, &[&once, &once, &stranger, &earlier])
 }
 
 // No batch has a request that is read-only.
 fn no_batch(alloc: Global) -> Result<Vec<u8>, AllocError> {
     let write = request_frame(alloc, 2, 1, ORDERED, OUT_2)?;
     let read_only = request_frame(alloc, 1, 1, READ_ONLY, READ)?;
-    batch(alloc, &[&write, &read_only])
+    batch_text(alloc, &[&write, &read_only])
 }
 
 fn run_of_mixed(alloc: Global) -> Result<Vec<Entry>, NoMemory> {
@@ -82,11 +76,12 @@ fn run_of_mixed(alloc: Global) -> Result<Vec<Entry>, NoMemory> {
     Ok(trace)
 }
 
+static ONCE: [Row<'static>; 2] = [(0, 2, OUT_1, DONE, 2), (1, 1, TAKE, FOUND_1, 8)];
+
 #[test]
 fn a_request_runs_once(rt: HostRuntime) -> Result<(), Fail> {
     let trace = run_of_mixed(rt.alloc())?;
-    let rows = [(0, 2, OUT_1, DONE, 2), (1, 1, TAKE, FOUND_1, 8)];
-    assert!(rt; has_points(rt.alloc(), &[], &trace, &rows)?);
+    assert!(rt; has_points(rt.alloc(), &[], &trace, &ONCE)?);
     Ok(())
 }
 

@@ -11,18 +11,10 @@ use signing::{PublicKeys, Signer};
 use std::alloc::Global;
 use std::test::Fail;
 use terms::{Digest, NoMemory, Number, Party, ReplicaId, View};
+use test_bytes::seed;
 use wire::{Message, ViewChange};
 
 pub const DIGEST: Digest = [7; 32];
-
-// The seed 00 01 .. 1f.
-fn seed() -> [u8; 32] {
-    let mut seed = [0; 32];
-    for i in 0..32 {
-        seed[i] = i as u8;
-    }
-    seed
-}
 
 // The keys of all MACs. There are two clients.
 pub fn new_ring(alloc: Global) -> Ring {

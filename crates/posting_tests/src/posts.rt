@@ -20,7 +20,7 @@ use terms::{ClientId, Level, Mode, Number, Party, ReplicaId, Timestamp, View};
 use tuple_codec::Answer;
 use wire::Message;
 
-const OTHERS: [u16; 3] = [1, 2, 3];
+static OTHERS: [u16; 3] = [1, 2, 3];
 
 const PREPARE: &str = "ed346d5b1189fd13cbde06177aed964aed59b7b253762074ede2c0c59bca5b85";
 
@@ -151,15 +151,18 @@ fn a_reply(rt: HostRuntime) -> Result<(), Fail> {
 }
 
 // A frame has at most 4,194,304 bytes: here those of the text, 17 before it and 104 behind it.
-fn is_too_long(endpoint: &mut Endpoint, alloc: Global) -> Result<bool, Fail> {
+fn refusal(endpoint: &mut Endpoint, alloc: Global) -> Result<Option<SealFault>, Fail> {
     let page = page_message(Number(16), 0, vec![in alloc; 0; 4_194_184]?);
-    Ok(endpoint.post_to_others(alloc, page).err() == Some(SealFault::TooLarge))
+    Ok(endpoint.post_to_others(alloc, page).err())
 }
 
 #[test]
 fn a_page_too_long(rt: HostRuntime) -> Result<(), Fail> {
     let mut endpoint = new_endpoint(rt.alloc(), 0)?;
-    assert!(rt; is_too_long(&mut endpoint, rt.alloc())?);
+    assert_eq!(rt;
+        refusal(&mut endpoint, rt.alloc())?,
+        Some(SealFault::TooLarge)
+    );
     Ok(())
 }
 

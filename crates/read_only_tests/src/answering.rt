@@ -16,7 +16,7 @@ const NUMBER: Number = Number(17);
 /// A space with the two tuples.
 pub fn new_space(alloc: Global) -> Result<Space, Bad> {
     let mut space = Space::new(alloc);
-    for bytes in STORED {
+    for &bytes in &STORED {
         put(alloc, &mut space, bytes)?;
     }
     Ok(space)
@@ -97,6 +97,7 @@ fn agrees(
     (op, expected): Row<'_>,
 ) -> Result<bool, NoMemory> {
     match (read(alloc, space, op, arena), expected) {
+        (Some(Err(ReadFault::NoMemory)), _) => Err(NoMemory),
         (Some(Ok(reply)), Some(bytes)) => says(alloc, &reply, bytes),
         (Some(Err(fault)), None) => Ok(fault == ReadFault::NotReadOnly),
         _ => Ok(false),
@@ -107,7 +108,7 @@ fn agrees(
 fn operations(rt: HostRuntime) -> Result<(), Fail> {
     let space = new_space(rt.alloc())?;
     let mut arena = Bump::new(rt.alloc());
-    for row in ROWS {
+    for &row in &ROWS {
         assert!(rt; agrees(rt.alloc(), &space, &mut arena, row)?);
     }
     assert!(rt; space.count() == 2);

@@ -2,6 +2,7 @@
 
 use authenticator::Ring;
 use std::alloc::Global;
+use test_bytes::seed;
 
 /// The read-only request `rdp (*)` of client 1 with the timestamp 9, sealed for replicas 0 and 1 under the seed
 /// 00 01 .. 1f. The body stands at 4 to 18, and its MACs at 23 and at 57, each behind its receiver. They are Python's
@@ -14,15 +15,6 @@ pub static FRAME: [u8; 89] = [
     0xfa, 0x9a, 0x7a, 0x0e, 0x22, 0x0d, 0x7f, 0xc6, 0xe1, 0xd4, 0x38, 0xea, 0xba, 0x11, 0xe7, 0xc1,
     0x55, 0x18, 0x69, 0xff, 0xf6, 0x59, 0x12, 0x92, 0x89,
 ];
-
-// The seed 00 01 .. 1f.
-fn seed() -> [u8; 32] {
-    let mut seed = [0; 32];
-    for i in 0..32 {
-        seed[i] = i as u8;
-    }
-    seed
-}
 
 /// One replica of four may be faulty, and there are so many clients.
 pub fn new_ring(alloc: Global, clients: u16) -> Ring {

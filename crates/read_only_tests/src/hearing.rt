@@ -55,7 +55,7 @@ fn agrees(alloc: Global, (me, at, is_heard): Row) -> bool {
 
 #[test]
 fn reads_are_heard(rt: HostRuntime) {
-    for row in ROWS {
+    for &row in &ROWS {
         assert!(rt; agrees(rt.alloc(), row));
     }
 }
@@ -78,7 +78,7 @@ static MARKS: [(&[u8], bool); 6] = [
 
 #[test]
 fn marks_of_reads(rt: HostRuntime) {
-    for (bytes, is_marked) in MARKS {
+    for &(bytes, is_marked) in &MARKS {
         assert!(rt; asks_read(bytes) == is_marked);
     }
 }

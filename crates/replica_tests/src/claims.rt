@@ -1,6 +1,6 @@
 //! A view change whose list of claims is as long as it can be, and what comes of one claim more.
 
-use crate::frames::{Sent, eight, joined, mac_for, piece};
+use crate::frames::{Sent, eight};
 use crate::replicas::{Given, config, gives, gives_for, new_replica};
 use crate::signed::{key_tree, signed};
 use crate::states::{ROOT, State, root_of};
@@ -9,6 +9,7 @@ use replica::{Event, Replica};
 use signing::KeyTree;
 use std::alloc::{AllocError, Global};
 use std::test::Fail;
+use test_bytes::{ORDERED, batch_text, client_party, joined, piece, request_body, sealed};
 
 // So many claims fit: a view change has 16,606 bytes, 40 for each checkpoint and 48 for each claim, and 262,144 at the
 // most. With this many and one checkpoint it has 262,118.
@@ -27,20 +28,18 @@ const SIGNATURE_LEN: usize = 16_577;
 
 // The request of a view, of client 0, for replica 3: no other view has it.
 fn request_of(alloc: Global, view: u8) -> Result<Vec<u8>, AllocError> {
-    let front = joined(alloc, &[&[0x41, 1, 0], &eight(1), &[0, 0x21, 1, 1]])?;
-    let body = joined(alloc, &[&front, &eight(view)])?;
-    let mac = mac_for(alloc, 256, 3, &body)?;
-    joined(alloc, &[&piece(alloc, &body)?, &[0, 1], &mac])
+    let op = joined(alloc, &[&[0x21, 1, 1], &eight(view)])?;
+    let body = request_body(alloc, 0, 1, ORDERED, &op)?;
+    sealed(alloc, client_party(0), &[3], &body)
 }
 
 // The pre-prepare of that request, for replica 3.
 fn proposal(alloc: Global, view: u8, number: u8) -> Result<Vec<u8>, AllocError> {
     let primary = view & 3;
-    let request = piece(alloc, &request_of(alloc, view)?)?;
+    let batch = batch_text(alloc, &[&request_of(alloc, view)?])?;
     let front = joined(alloc, &[&[0x42, 0, primary], &eight(view), &eight(number)])?;
-    let body = joined(alloc, &[&front, &[1], &request])?;
-    let mac = mac_for(alloc, u16::from(primary), 3, &body)?;
-    joined(alloc, &[&piece(alloc, &body)?, &[0, 1], &mac])
+    let body = joined(alloc, &[&front, &batch])?;
+    sealed(alloc, u16::from(primary), &[3], &body)
 }
 
 // Whether replica 3 answers the pre-prepares of the numbers up to the last by a frame each, its prepare.

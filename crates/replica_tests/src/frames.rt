@@ -3,11 +3,12 @@
 
 use crate::signed::{Begun, Change, change_frame, new_view_frame};
 use crate::states::{At, PAGE, State, children_at, page_text, root_of};
-use authenticator::hmac;
 use sha2::{Digest, Sha256};
 use std::alloc::{AllocError, Global};
-
-pub const SEED: [u8; 32] = [7; 32];
+use test_bytes::{
+    ABSENT, DONE, ORDERED, READ, READ_ONLY, TAKE, batch_text, client_party, joined, reply_body,
+    request_body, sealed,
+};
 
 /// A frame of the run, mostly by its number and the replica that sends it.
 #[derive(Clone, Copy, Debug)]
@@ -41,17 +42,7 @@ pub enum Sent {
 // Parties are below this.
 const PARTIES: u16 = 260;
 
-// The first client.
-const CLIENT: u16 = 256;
-
-// `rdp (*)`, and `inp (*)`.
-const READ: &[u8] = b"\x22\x01\x10";
-
-const TAKE: &[u8] = b"\x23\x01\x10";
-
-// `absent`, and the bytes in front of the number in `found (1)`.
-const ABSENT: &[u8] = b"\x33";
-
+// The bytes in front of the number in `found (1)`.
 const FOUND: &[u8] = b"\x32\x01\x01";
 
 /// A number in eight bytes.
@@ -59,75 +50,37 @@ pub fn eight(number: u8) -> [u8; 8] {
     u64::from(number).to_be_bytes()
 }
 
-/// The parts behind each other.
-pub fn joined(alloc: Global, parts: &[&[u8]]) -> Result<Vec<u8>, AllocError> {
-    let mut all = Vec::new(alloc);
-    for part in parts {
-        all.extend_from_slice(part)?;
-    }
-    Ok(all)
-}
-
-/// Bytes behind their length.
-pub fn piece(alloc: Global, bytes: &[u8]) -> Result<Vec<u8>, AllocError> {
-    let len = (bytes.len() & 0xff_ffff) as u32;
-    joined(alloc, &[&len.to_be_bytes(), bytes])
-}
-
-fn client_of(number: u8) -> u16 {
-    CLIENT.wrapping_add(u16::from(number)).wrapping_sub(1)
-}
-
-/// A MAC behind its receiver, under the key from the sender to it.
-pub fn mac_for(
-    alloc: Global,
-    sender: u16,
-    receiver: u16,
-    body: &[u8],
-) -> Result<Vec<u8>, AllocError> {
-    let [from_high, from_low] = sender.to_be_bytes();
-    let [to_high, to_low] = receiver.to_be_bytes();
-    let key = hmac(&SEED, &[0x4d, from_high, from_low, to_high, to_low]);
-    joined(alloc, &[&[to_high, to_low], &hmac(&key, body)])
+// The client that asks for the number.
+fn client_of(number: u8) -> u8 {
+    number.wrapping_sub(1)
 }
 
 // The frame of a body with a MAC for each party that it is for.
-fn sealed(alloc: Global, sent: Sent, sender: u16, body: &[u8]) -> Result<Vec<u8>, AllocError> {
-    let mut macs = Vec::new(alloc);
-    let mut count = 0;
+fn sealed_for(alloc: Global, sent: Sent, sender: u16, body: &[u8]) -> Result<Vec<u8>, AllocError> {
+    let mut receivers = Vec::new(alloc);
     for party in 0..PARTIES {
-        if is_for(sent, party) && count < 10 {
-            let mac = mac_for(alloc, sender, party, body)?;
-            macs.extend_from_slice(&mac)?;
-            count += 1;
+        if is_for(sent, party) {
+            receivers.push(party)?;
         }
     }
-    let body = piece(alloc, body)?;
-    joined(alloc, &[&body, &[0, count], &macs])
+    sealed(alloc, sender, &receivers, body)
 }
 
 fn request(alloc: Global, number: u8, mode: u8, op: &[u8]) -> Result<Vec<u8>, AllocError> {
     let client = client_of(number);
-    let party = client.to_be_bytes();
-    let body = joined(alloc, &[&[0x41], &party, &eight(1), &[mode], op])?;
-    sealed(alloc, Sent::Request(number), client, &body)
+    let body = request_body(alloc, client, 1, mode, op)?;
+    sealed_for(alloc, Sent::Request(number), client_party(client), &body)
 }
 
 fn out_request(alloc: Global, number: u8) -> Result<Vec<u8>, AllocError> {
     let op = joined(alloc, &[&[0x21, 1, 1], &eight(number)])?;
-    request(alloc, number, 0, &op)
-}
-
-// The text of the batch of one request.
-fn batch_of(alloc: Global, request: &[u8]) -> Result<Vec<u8>, AllocError> {
-    let request = piece(alloc, request)?;
-    joined(alloc, &[&[1], &request])
+    request(alloc, number, ORDERED, &op)
 }
 
 /// The text of the run's batch of the number.
 pub fn batch(alloc: Global, number: u8) -> Result<Vec<u8>, AllocError> {
     let request = out_request(alloc, number)?;
-    batch_of(alloc, &request)
+    batch_text(alloc, &[&request])
 }
 
 // The MACs of the request stand at 31, 65, 99 and 133.
@@ -136,7 +89,7 @@ fn forged_batch(alloc: Global) -> Result<Vec<u8>, AllocError> {
     if let Some(byte) = request.get_mut(65) {
         *byte ^= 1;
     }
-    batch_of(alloc, &request)
+    batch_text(alloc, &[&request])
 }
 
 // The primary of a view.
@@ -149,7 +102,7 @@ fn pre_prepare(alloc: Global, view: u8, number: u8, batch: &[u8]) -> Result<Vec<
     let front = joined(alloc, &[&[0x42, 0, primary], &eight(view), &eight(number)])?;
     let body = joined(alloc, &[&front, batch])?;
     let sent = Sent::PrePrepareIn(view, number);
-    sealed(alloc, sent, u16::from(primary), &body)
+    sealed_for(alloc, sent, u16::from(primary), &body)
 }
 
 /// The digest of the run's batch of the number.
@@ -162,7 +115,7 @@ fn vote(alloc: Global, kind: u8, view: u8, number: u8, replica: u8) -> Result<Ve
     let digest = digest(alloc, number)?;
     let front = joined(alloc, &[&[kind, 0, replica], &eight(view), &eight(number)])?;
     let body = joined(alloc, &[&front, &digest])?;
-    sealed(
+    sealed_for(
         alloc,
         Sent::Prepare(number, replica),
         u16::from(replica),
@@ -172,10 +125,9 @@ fn vote(alloc: Global, kind: u8, view: u8, number: u8, replica: u8) -> Result<Ve
 
 // It says done.
 fn reply(alloc: Global, number: u8, replica: u8) -> Result<Vec<u8>, AllocError> {
-    let client = client_of(number).to_be_bytes();
-    let front = joined(alloc, &[&[0x48, 0, replica], &client, &eight(1)])?;
-    let body = joined(alloc, &[&front, &[0], &eight(number), &[0x31]])?;
-    sealed(
+    let said = (1, ORDERED, u64::from(number), DONE);
+    let body = reply_body(alloc, replica, client_of(number), said)?;
+    sealed_for(
         alloc,
         Sent::Reply(number, replica),
         u16::from(replica),
@@ -190,10 +142,9 @@ fn read_reply(alloc: Global, number: u8, replica: u8) -> Result<Vec<u8>, AllocEr
     } else {
         joined(alloc, &[FOUND, &eight(number)])?
     };
-    let client = client_of(1).to_be_bytes();
-    let front = joined(alloc, &[&[0x48, 0, replica], &client, &eight(1)])?;
-    let body = joined(alloc, &[&front, &[1], &eight(number), &answer])?;
-    sealed(
+    let said = (1, READ_ONLY, u64::from(number), answer.as_slice());
+    let body = reply_body(alloc, replica, 0, said)?;
+    sealed_for(
         alloc,
         Sent::ReadReply(number, replica),
         u16::from(replica),
@@ -205,7 +156,7 @@ fn checkpoint(alloc: Global, number: u8, state: State, replica: u8) -> Result<Ve
     let root = root_of(alloc, state)?;
     let body = joined(alloc, &[&[0x45, 0, replica], &eight(number), &root])?;
     let sent = Sent::Checkpoint(number, state, replica);
-    sealed(alloc, sent, u16::from(replica), &body)
+    sealed_for(alloc, sent, u16::from(replica), &body)
 }
 
 fn fetch(alloc: Global, number: u8, at: At, replica: u8) -> Result<Vec<u8>, AllocError> {
@@ -213,7 +164,7 @@ fn fetch(alloc: Global, number: u8, at: At, replica: u8) -> Result<Vec<u8>, Allo
     let front = joined(alloc, &[&[0x49, 0, replica], &eight(number), &[level]])?;
     let body = joined(alloc, &[&front, index.to_be_bytes().as_slice()])?;
     let sent = Sent::Fetch(number, at, replica);
-    sealed(alloc, sent, u16::from(replica), &body)
+    sealed_for(alloc, sent, u16::from(replica), &body)
 }
 
 // A page has no byte for its level.
@@ -241,8 +192,8 @@ fn part_body(
 pub fn frame_of(alloc: Global, sent: Sent) -> Result<Vec<u8>, AllocError> {
     match sent {
         Sent::Request(number) => out_request(alloc, number),
-        Sent::Read => request(alloc, 1, 1, READ),
-        Sent::ReadOnlyTake => request(alloc, 1, 1, TAKE),
+        Sent::Read => request(alloc, 1, READ_ONLY, READ),
+        Sent::ReadOnlyTake => request(alloc, 1, READ_ONLY, TAKE),
         Sent::ReadReply(number, replica) => read_reply(alloc, number, replica),
         Sent::PrePrepare(number) => pre_prepare(alloc, 0, number, &batch(alloc, number)?),
         Sent::PrePrepareIn(view, number) => {
@@ -258,7 +209,7 @@ pub fn frame_of(alloc: Global, sent: Sent) -> Result<Vec<u8>, AllocError> {
         Sent::Fetch(number, at, replica) => fetch(alloc, number, at, replica),
         Sent::Part(number, state, at, from, _) => {
             let body = part_body(alloc, number, state, at, from)?;
-            sealed(alloc, sent, u16::from(from), &body)
+            sealed_for(alloc, sent, u16::from(from), &body)
         }
         Sent::ViewChange(change) => change_frame(alloc, change),
         Sent::NewView(begun) => new_view_frame(alloc, begun),
@@ -269,7 +220,7 @@ pub fn frame_of(alloc: Global, sent: Sent) -> Result<Vec<u8>, AllocError> {
 pub fn is_for(sent: Sent, party: u16) -> bool {
     match sent {
         Sent::Request(_) | Sent::Read | Sent::ReadOnlyTake => party < 4,
-        Sent::ReadReply(_, _) => party == CLIENT,
+        Sent::ReadReply(_, _) => party == client_party(0),
         Sent::PrePrepare(_) | Sent::Forged => party > 0 && party < 4,
         Sent::PrePrepareIn(view, _) => party < 4 && party != u16::from(primary_of(view)),
         Sent::Prepare(_, replica)
@@ -278,7 +229,7 @@ pub fn is_for(sent: Sent, party: u16) -> bool {
         | Sent::CommitIn(_, _, replica)
         | Sent::Checkpoint(_, _, replica)
         | Sent::Fetch(_, _, replica) => party < 4 && party != u16::from(replica),
-        Sent::Reply(number, _) => party == client_of(number),
+        Sent::Reply(number, _) => party == client_party(client_of(number)),
         Sent::Part(_, _, _, _, to) => party == u16::from(to),
         Sent::ViewChange(change) => party < 4 && party != u16::from(change.sender),
         Sent::NewView(begun) => party < 4 && party != u16::from(begun.sender),

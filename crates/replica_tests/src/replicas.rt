@@ -1,6 +1,6 @@
 //! One of four replicas, and what it gives.
 
-use crate::frames::{SEED, Sent, batch, count_of_receivers, frame_of, is_for};
+use crate::frames::{Sent, batch, count_of_receivers, frame_of, is_for};
 use crate::states::{State, root_of};
 use events::{Config, Output, Outputs};
 use replica::{Event, Replica};
@@ -8,6 +8,7 @@ use signing::PublicKeys;
 use std::alloc::{AllocError, Global};
 use std::test::Fail;
 use terms::{NoMemory, Party, ReplicaId};
+use test_bytes::FRAME_SEED;
 
 /// What is given for an event: a frame, the batch of a number that is executed, or a state of a number that is
 /// installed.
@@ -23,7 +24,7 @@ pub type Row<'a> = (Sent, &'a [Given]);
 
 /// The configuration of four replicas and three clients, all correct, with a checkpoint at each multiple of the period.
 pub fn config_of_period(alloc: Global, period: u8) -> Result<Config, Fail> {
-    Ok(Config::new(1, 3, SEED, period, Vec::new(alloc), Vec::new(alloc))?)
+    Ok(Config::new(1, 3, FRAME_SEED, period, Vec::new(alloc), Vec::new(alloc))?)
 }
 
 /// That of the greatest period.

@@ -1,11 +1,12 @@
 //! Frames that replicas sign, written by docs/formats.md without what reads them.
 
-use crate::frames::{SEED, batch, digest, eight, joined, piece};
+use crate::frames::{batch, digest, eight};
 use crate::states::{State, root_of};
 use authenticator::signing_seed;
 use signing::KeyTree;
 use std::alloc::{AllocError, Global};
 use terms::{Party, ReplicaId};
+use test_bytes::{FRAME_SEED, piece};
 
 /// A number and a view: the run's batch of this number was prepared, or logged, in this view.
 pub type Claim = (u8, u8);
@@ -43,7 +44,7 @@ pub struct Begun {
 /// The key tree of a replica, by its number.
 pub fn key_tree(replica: u8) -> KeyTree {
     let party = Party::Replica(ReplicaId(replica));
-    KeyTree::new(&signing_seed(&SEED, party))
+    KeyTree::new(&signing_seed(&FRAME_SEED, party))
 }
 
 /// The frame of a body that is signed with this leaf of a tree, below 64.

@@ -1,9 +1,10 @@
 //! The states of the run, and two that no replica has, by their pages: written by docs/formats.md without what makes
 //! them.
 
-use crate::frames::{eight, joined};
+use crate::frames::eight;
 use sha2::{Digest, Sha256};
 use std::alloc::{AllocError, Global};
+use test_bytes::joined;
 
 /// A state of the run, by its pages.
 #[derive(Clone, Copy, Debug)]

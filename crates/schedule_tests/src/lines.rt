@@ -179,18 +179,18 @@ fn show(alloc: Global, step: Step) -> Result<Shown, AllocError> {
     })
 }
 
-fn gives(alloc: Global, line: &[u8], kind: u8, numbers: &[u64], bytes: &[u8]) -> bool {
-    let Ok(Some(step)) = read_step(alloc, line) else {
-        return false;
+fn gives(
+    alloc: Global,
+    line: &[u8],
+    kind: u8,
+    numbers: &[u64],
+    bytes: &[u8],
+) -> Result<bool, Fail> {
+    let Some(step) = read_step(alloc, line)? else {
+        return Ok(false);
     };
-    match show(alloc, step) {
-        Ok(shown) => {
-            shown.kind == kind
-                && shown.numbers.as_slice() == numbers
-                && shown.bytes.as_slice() == bytes
-        }
-        Err(_) => false,
-    }
+    let shown = show(alloc, step)?;
+    Ok(shown.kind == kind && shown.numbers.as_slice() == numbers && shown.bytes.as_slice() == bytes)
 }
 
 fn is_skipped(alloc: Global, line: &[u8]) -> bool {
@@ -200,18 +200,12 @@ fn is_skipped(alloc: Global, line: &[u8]) -> bool {
     }
 }
 
-fn is_refused(alloc: Global, line: &[u8]) -> bool {
-    match read_step(alloc, line) {
-        Err(StepFault::Refused) => true,
-        _ => false,
-    }
-}
-
 #[test]
-fn reads_steps(rt: HostRuntime) {
+fn reads_steps(rt: HostRuntime) -> Result<(), Fail> {
     for &(line, kind, numbers, bytes) in &STEPS {
-        assert!(rt; gives(rt.alloc(), line, kind, numbers, bytes), "{line:?}");
+        assert!(rt; gives(rt.alloc(), line, kind, numbers, bytes)?, "{line:?}");
     }
+    Ok(())
 }
 
 #[test]
@@ -224,7 +218,8 @@ fn skips_lines(rt: HostRuntime) {
 #[test]
 fn refuses_lines(rt: HostRuntime) {
     for &line in &REFUSED {
-        assert!(rt; is_refused(rt.alloc(), line), "{line:?}");
+        let fault = read_step(rt.alloc(), line).err();
+        assert_eq!(rt; fault, Some(StepFault::Refused), "{line:?}");
     }
 }
 

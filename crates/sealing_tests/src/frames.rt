@@ -4,12 +4,13 @@ ghost use Rattle.std.specs.Prelude.{◌≡◌, false, IfOk};
 ghost use Rattle.wire.specs.Spelling.{IsBody, is_signed};
 ghost use Rattle.wire.specs.Views.{body_data, message_data};
 
-use crate::codes::{is_code, seed};
+use crate::codes::is_code;
 use authenticator::{OpenFault, Opened, Ring, SealFault};
 use sha2::{Digest, Sha256};
 use std::alloc::{AllocError, Global};
 use std::test::Fail;
 use terms::{ClientId, Mode, Party, ReplicaId, Timestamp};
+use test_bytes::seed;
 use tuple_codec::{Bad, Op, decode_op};
 use tuple_tree::{Atom, Value};
 use wire::{Authenticator, Body, Frame, Message, ReceiverMac, Request};
@@ -140,10 +141,11 @@ fn a_request_for_four_replicas(rt: HostRuntime) -> Result<(), Fail> {
     let frame = sealed_for_all(&mut ring, rt.alloc())?;
     assert!(rt; is_worked(&frame));
     for replica in REPLICAS {
-        assert!(rt; refusal(&mut ring, rt.alloc(), &frame, replica).is_none());
+        assert_eq!(rt; refusal(&mut ring, rt.alloc(), &frame, replica), None);
     }
     // A party for which nothing was sealed.
-    assert!(rt; refusal(&mut ring, rt.alloc(), &frame, CLIENTS[1]) == Some(OpenFault::BadMac));
+    let fault = refusal(&mut ring, rt.alloc(), &frame, CLIENTS[1]);
+    assert_eq!(rt; fault, Some(OpenFault::BadMac));
     Ok(())
 }
 
@@ -161,7 +163,7 @@ fn each_receiver_has_its_own_entry(rt: HostRuntime) -> Result<(), Fail> {
             &frame,
             Party::Replica(ReplicaId(replica)),
         );
-        assert!(rt; fault == expected, "{replica}");
+        assert_eq!(rt; fault, expected, "{replica}");
     }
     Ok(())
 }
@@ -218,12 +220,12 @@ fn signed_frames_open(rt: HostRuntime) -> Result<(), Fail> {
     let mut ring = ring(rt.alloc());
     let frame = view_change(rt.alloc(), 0)?;
     for me in [REPLICAS[0], REPLICAS[3], CLIENTS[1]] {
-        assert!(rt; refusal(&mut ring, rt.alloc(), &frame, me).is_none());
+        assert_eq!(rt; refusal(&mut ring, rt.alloc(), &frame, me), None);
     }
     // Nobody has the number 4.
     let other = view_change(rt.alloc(), 4)?;
     let fault = refusal(&mut ring, rt.alloc(), &other, REPLICAS[0]);
-    assert!(rt; fault == Some(OpenFault::UnknownSender));
+    assert_eq!(rt; fault, Some(OpenFault::UnknownSender));
     Ok(())
 }
 

@@ -1,10 +1,11 @@
 //! Message authentication codes.
 
-use crate::codes::{is_code, seed};
+use crate::codes::is_code;
 use authenticator::{Key, hmac, same, signing_seed};
 use hex::FromHex;
 use sha2::{Digest, Sha256};
 use terms::{Party, ReplicaId};
+use test_bytes::seed;
 
 // Tests take codes by calls without a contract, so that their proofs don't compute them.
 fn code_of(key: &[u8], text: &[u8]) -> [u8; 32] {

@@ -1,7 +1,7 @@
 //! Signatures, whose bytes come from a program of its own: Python's `hmac.new(seed, .., hashlib.sha256)` for each
 //! secret, `hashlib.sha256` for each hash, and lists for the levels of the tree.
 
-use crate::codes::{is_code, seed};
+use crate::codes::is_code;
 use authenticator::signing_seed;
 use sha2::{Digest, Sha256};
 use signing::{
@@ -11,6 +11,7 @@ use std::alloc::{AllocError, Global};
 use std::test::Fail;
 use std::thread::join;
 use terms::{Party, ReplicaId};
+use test_bytes::seed;
 
 const PUBLIC: &str = "25e441d2b6f59c4bf7210fe82ef554ad9ab38cd474492b4ea132304f6118d5ee";
 

@@ -21,7 +21,8 @@
 //! # What is not
 //!
 //! That anything happens: that a thread runs, that a frame comes, that a call is answered. A frame that a channel
-//! doesn't take is lost, as in a network. That a stale replica answers each read is tested.
+//! doesn't take is lost, as in a network. That clients get frames of a stale replica, and none of a silent one, is
+//! tested.
 #![tactic(auto)]
 
 mod client_seat;

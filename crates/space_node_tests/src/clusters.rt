@@ -2,23 +2,14 @@
 
 use events::Config;
 use journal::Naming;
-use space_node::{CallFault, ClientHandle};
+use space_node::{CallFault, FinishFault, Run};
 use std::alloc::Global;
-use std::sync::Wait;
 use std::test::Fail;
-use tuple_text::{read_line, write_answer};
+use terms::NoMemory;
+use test_bytes::seed;
 
 /// How many entries a journal takes that is never full here.
 pub const AMPLE: u32 = 65_536;
-
-// The seed 00 01 .. 1f.
-fn seed() -> [u8; 32] {
-    let mut seed = [0; 32];
-    for i in 0..32 {
-        seed[i] = i as u8;
-    }
-    seed
-}
 
 /// The configuration in which these replicas are faulty.
 pub fn new_config(alloc: Global, faulty_replicas: Vec<u16>) -> Result<Config, Fail> {
@@ -37,50 +28,11 @@ pub fn faulty_config(
     Ok(Config::new(faults, 2, seed(), 4, replicas, clients)?)
 }
 
-/// What a call came to.
-#[derive(Drop)]
-pub enum Came {
-    /// The line of its answer.
-    Answered(Vec<u8>),
-    Refused(CallFault),
-    /// The line has no operation, or the answer no line.
-    NoLine,
-}
-
-/// Calls the operation of a line.
-pub fn call<N: Naming, R: Wait>(
-    rt: &R,
-    alloc: Global,
-    client: &mut ClientHandle<N>,
-    line: &str,
-) -> Came {
-    let Ok(Some(op)) = read_line(alloc, line.as_bytes()) else {
-        return Came::NoLine;
-    };
-    match client.call(rt, alloc, op) {
-        Ok(answer) => {
-            let mut text = Vec::new(alloc);
-            match write_answer(&answer, &mut text) {
-                Ok(()) => Came::Answered(text),
-                Err(_) => Came::NoLine,
-            }
-        }
-        Err(fault) => Came::Refused(fault),
-    }
-}
-
-/// Whether the call was answered so.
-pub fn is_answered(came: &Came, answer: &str) -> bool {
-    match came {
-        Came::Answered(text) => text.as_slice() == answer.as_bytes(),
-        _ => false,
-    }
-}
-
-/// Whether the call was refused so.
-pub fn is_refused(came: &Came, fault: CallFault) -> bool {
-    match came {
-        Came::Refused(given) => *given == fault,
-        _ => false,
+/// The run of a cluster that is finished.
+pub fn run_of<N: Naming>(finished: Result<Run<N>, FinishFault<N>>) -> Result<Run<N>, Fail> {
+    match finished {
+        Ok(run) => Ok(run),
+        Err(FinishFault::NoMemory) => Err(NoMemory.into()),
+        Err(FinishFault::NotInJournal(_run, _party)) => Err(CallFault::NotInJournal.into()),
     }
 }

@@ -2,19 +2,21 @@
 
 ghost use Rattle.std.specs.Prelude.{◌≡◌};
 
-use crate::clusters::{call, is_refused, new_config};
+use crate::clusters::{new_config, run_of};
 use events::Config;
 use journal::{Naming, Opened};
-use space_node::{CallFault, Cluster, Open};
+use space_node::{CallFault, ClientHandle, Cluster, Open};
 use std::alloc::Global;
 use std::marker::Brand;
 use std::sync::Wait;
 use std::test::Fail;
 use std::thread::Threads;
 use terms::{ClientId, Party};
+use tuple_codec::Op;
+use tuple_tree::Tuple;
 
 // A journal's limit, how often the client is told that time went by before it calls, and how many entries the trace has
-// in the end, where that is certain.
+// in the end, where that is certain. It is told more often than the limit needs, since memory may run out for one.
 struct Row {
     limit: u32,
     pulses: u8,
@@ -29,7 +31,7 @@ static ROWS: [Row; 3] = [
     },
     Row {
         limit: 2,
-        pulses: 1,
+        pulses: 2,
         entries: Some(2),
     },
     Row {
@@ -55,18 +57,38 @@ fn meets_limit<N: Naming + Send + Sync + 'static, R: Threads + Wait + Copy + Sen
     for _ in 0..row.pulses {
         cluster.pulse(rt, Party::Client(ClientId { number: 0 }));
     }
-    let mut refused = false;
+    let mut refused = Ok(false);
     if let Some(mut client) = cluster.client(0) {
-        let first = call(rt, alloc, &mut client, "out (1)");
-        let again = call(rt, alloc, &mut client, "out (1)");
-        refused = is_refused(&first, CallFault::JournalFull)
-            && is_refused(&again, CallFault::Stopped);
+        refused = is_refused_twice(rt, alloc, &mut client);
         clients.push_reserved(client);
     }
-    match cluster.finish(rt, alloc, clients) {
-        Ok(run) => Ok(refused && run.trace.len() == row.entries.unwrap_or(run.trace.len())),
-        Err(_) => Ok(false),
+    let finished = cluster.finish(rt, alloc, clients);
+    let refused = refused?;
+    let run = run_of(finished)?;
+    Ok(refused && run.trace.len() == row.entries.unwrap_or(run.trace.len()))
+}
+
+// Whether the journal is full for a call, and the client has stopped at the next.
+fn is_refused_twice<N: Naming, R: Wait>(
+    rt: &R,
+    alloc: Global,
+    client: &mut ClientHandle<N>,
+) -> Result<bool, CallFault> {
+    let first = refusal(rt, alloc, client);
+    let again = refusal(rt, alloc, client);
+    if first == Some(CallFault::NoMemory) || again == Some(CallFault::NoMemory) {
+        return Err(CallFault::NoMemory);
     }
+    Ok(first == Some(CallFault::JournalFull) && again == Some(CallFault::Stopped))
+}
+
+// Why the client is refused to put an empty tuple.
+fn refusal<N: Naming, R: Wait>(
+    rt: &R,
+    alloc: Global,
+    client: &mut ClientHandle<N>,
+) -> Option<CallFault> {
+    client.call(rt, alloc, Op::Out(Tuple::new_in(alloc))).err()
 }
 
 #[test]

@@ -2,12 +2,14 @@
 
 ghost use Rattle.std.specs.Prelude.{◌≡◌};
 
-use crate::clusters::{AMPLE, call, is_answered, new_config};
+use crate::calls::{Call, TRIES, call_each};
+use crate::clusters::{AMPLE, new_config, run_of};
 use events::Config;
 use journal::{Naming, Opened};
 use space_node::{Cluster, Gate};
 use std::alloc::Global;
 use std::marker::Brand;
+use std::rt::Clock;
 use std::sync::Wait;
 use std::test::Fail;
 use std::thread::Threads;
@@ -28,31 +30,39 @@ impl Gate for StopsOne {
     }
 }
 
-// The others answer, and the run names the one that stopped. A pulse makes sure that it has a second event.
-fn names_who_stopped<N: Naming + Send + Sync + 'static, R: Threads + Wait + Copy + Send + 'static>(
-    rt: &R,
-    alloc: Global,
-    opened: Opened,
-    config: &Config,
-) -> Result<bool, Fail>
+static CALLS: [Call; 2] = [("out (1)", "done"), ("rdp (*)", "found (1)")];
+
+// The others answer, and the run names the one that stopped. A pulse makes sure that it has a second event. If another
+// one stopped too, memory may have run out.
+fn names_who_stopped<
+    N: Naming + Send + Sync + 'static,
+    R: Threads + Wait + Clock + Copy + Send + 'static,
+>(rt: &R, alloc: Global, opened: Opened, config: &Config) -> Result<Option<bool>, Fail>
     requires config { config.now ≡ N.config }
     requires book { opened ≡ N.book }
 {
     let mut clients = Vec::with_capacity(alloc, 1)?;
     let mut cluster = Cluster::<N>::start(rt, alloc, opened, config, AMPLE, StopsOne)?;
     let party = Party::Replica(ReplicaId(NODE));
-    let mut answered = false;
-    if let Some(mut client) = cluster.client(0) {
-        cluster.pulse(rt, party);
-        cluster.pulse(rt, party);
-        answered = is_answered(&call(rt, alloc, &mut client, "out (1)"), "done")
-            && is_answered(&call(rt, alloc, &mut client, "rdp (*)"), "found (1)");
-        clients.push_reserved(client);
+    cluster.pulse(rt, party);
+    cluster.pulse(rt, party);
+    let mut answered = Ok(false);
+    if let Some(client) = cluster.client(0) {
+        let called = call_each(*rt, alloc, &cluster, 1, client, &CALLS);
+        answered = called.answered;
+        if let Some(client) = called.client {
+            clients.push_reserved(client);
+        }
     }
-    match cluster.finish(rt, alloc, clients) {
-        Ok(run) => Ok(answered && is_node_alone(run.stopped.as_slice())),
-        Err(_) => Ok(false),
+    let finished = cluster.finish(rt, alloc, clients);
+    let Ok(answered) = answered else {
+        return Ok(None);
+    };
+    let run = run_of(finished)?;
+    if run.stopped.len() > 1 {
+        return Ok(None);
     }
+    Ok(Some(answered && is_node_alone(run.stopped.as_slice())))
 }
 
 fn is_node_alone(stopped: &[Party]) -> bool {
@@ -62,6 +72,18 @@ fn is_node_alone(stopped: &[Party]) -> bool {
 #[test]
 fn a_stopped_node_is_named(rt: HostRuntime) -> Result<(), Fail> {
     let config = new_config(rt.alloc(), Vec::new(rt.alloc()))?;
-    assert!(rt; names_who_stopped::<Brand, _>(&rt, rt.alloc(), Opened::new(), &config)?);
+    let mut right = false;
+    for _ in 0..TRIES {
+        if let Some(named) = names_who_stopped::<Brand, _>(
+            &rt,
+            rt.alloc(),
+            Opened::new(),
+            &config,
+        )? {
+            right = named;
+            break;
+        }
+    }
+    assert!(rt; right);
     Ok(())
 }

@@ -103,16 +103,17 @@ static BAD_BYTES: [(&[u8], usize); 47] = [
 ];
 
 // Whether the line is read as the operation of these bytes.
-fn is_read(alloc: Global, line: &[u8], bytes: &[u8]) -> Result<bool, LineFault> {
+fn is_read(alloc: Global, line: &[u8], bytes: &[u8]) -> Result<bool, Fail> {
     match read_line(alloc, line)? {
-        Some(op) => Ok(is_spelled(alloc, &op, bytes)),
+        Some(op) => is_spelled(alloc, &op, bytes),
         None => Ok(false),
     }
 }
 
-fn is_spelled(alloc: Global, op: &Op<Global>, bytes: &[u8]) -> bool {
+fn is_spelled(alloc: Global, op: &Op<Global>, bytes: &[u8]) -> Result<bool, Fail> {
     let mut out = Vec::new(alloc);
-    encode_op(op, &mut out).is_ok() && out.as_slice() == bytes
+    encode_op(op, &mut out)?;
+    Ok(out.as_slice() == bytes)
 }
 
 #[test]
@@ -131,20 +132,24 @@ fn fault(alloc: Global, line: &[u8]) -> Option<LineFault> {
 fn stops_at_bad_bytes(rt: HostRuntime) {
     for &(line, offset) in &BAD_BYTES {
         let fault = fault(rt.alloc(), line);
-        assert!(rt; fault == Some(LineFault::BadByte { offset }), "{offset}");
+        assert_eq!(rt; fault, Some(LineFault::BadByte { offset }), "{offset}");
     }
 }
 
+static SKIPPED: [&[u8]; 4] = [b"", b"   ", b"# out (1)", b"#"];
+
 #[test]
 fn skips_lines(rt: HostRuntime) {
-    for line in [b"".as_slice(), b"   ", b"# out (1)", b"#"] {
+    for &line in &SKIPPED {
         assert!(rt; matches!(read_line(rt.alloc(), line), Ok(None)));
     }
 }
 
+static TOO_DEEP: [&[u8]; 2] = [b"out (((((((((1)))))))))", b"inp ((((((((((x"];
+
 #[test]
 fn a_ninth_level_is_too_deep(rt: HostRuntime) {
-    for line in [b"out (((((((((1)))))))))".as_slice(), b"inp ((((((((((x"] {
+    for &line in &TOO_DEEP {
         assert!(rt; fault(rt.alloc(), line) == Some(LineFault::TooDeep));
     }
 }
@@ -212,26 +217,26 @@ fn repeated(
     Ok(line)
 }
 
-fn has_fault(
+fn fault_of(
     alloc: Global,
-    (head, item, count, tail, expected): Long<'_>,
-) -> Result<bool, AllocError> {
+    (head, item, count, tail, _expected): Long<'_>,
+) -> Result<Option<LineFault>, AllocError> {
     let line = repeated(alloc, head, item, count, tail)?;
-    Ok(fault(alloc, &line) == expected)
+    Ok(fault(alloc, &line))
 }
 
 #[test]
 fn long_lines(rt: HostRuntime) -> Result<(), Fail> {
     for (number, &row) in LONG.iter().enumerate() {
-        assert!(rt; has_fault(rt.alloc(), row)?, "{number}");
+        assert_eq!(rt; fault_of(rt.alloc(), row)?, row.4, "{number}");
     }
     Ok(())
 }
 
 // Whether the text is the template of the operation `inp` of these bytes.
-fn is_template(alloc: Global, text: &[u8], bytes: &[u8]) -> Result<bool, LineFault> {
+fn is_template(alloc: Global, text: &[u8], bytes: &[u8]) -> Result<bool, Fail> {
     let template = read_template(alloc, text)?;
-    Ok(is_spelled(alloc, &Op::Inp(template), bytes))
+    is_spelled(alloc, &Op::Inp(template), bytes)
 }
 
 #[test]
@@ -241,27 +246,30 @@ fn reads_templates(rt: HostRuntime) -> Result<(), Fail> {
     Ok(())
 }
 
+static BAD_TEMPLATES: [(&[u8], usize); 4] = [(b"", 0), (b"(1", 2), (b"(1))", 3), (b"(01)", 2)];
+
 #[test]
 fn templates_stop_at_bad_bytes(rt: HostRuntime) {
-    for (text, offset) in [(b"".as_slice(), 0), (b"(1", 2), (b"(1))", 3), (b"(01)", 2)] {
+    for &(text, offset) in &BAD_TEMPLATES {
         let fault = read_template(rt.alloc(), text).err();
-        assert!(rt; fault == Some(LineFault::BadByte { offset }), "{offset}");
+        assert_eq!(rt; fault, Some(LineFault::BadByte { offset }), "{offset}");
     }
 }
 
 // Whether the tuple of the operation is written as this text.
-fn is_written(alloc: Global, op: &Op<Global>, text: &[u8]) -> bool {
+fn is_written(alloc: Global, op: &Op<Global>, text: &[u8]) -> Result<bool, Fail> {
+    let Op::Out(tuple) = op else {
+        return Ok(false);
+    };
     let mut out = Vec::new(alloc);
-    match op {
-        Op::Out(tuple) => write_tuple(tuple, &mut out).is_ok() && out.as_slice() == text,
-        _ => false,
-    }
+    write_tuple(tuple, &mut out)?;
+    Ok(out.as_slice() == text)
 }
 
 // Whether the line is read and its tuple written as this text.
-fn is_written_again(alloc: Global, line: &[u8], text: &[u8]) -> Result<bool, LineFault> {
+fn is_written_again(alloc: Global, line: &[u8], text: &[u8]) -> Result<bool, Fail> {
     match read_line(alloc, line)? {
-        Some(op) => Ok(is_written(alloc, &op, text)),
+        Some(op) => is_written(alloc, &op, text),
         None => Ok(false),
     }
 }

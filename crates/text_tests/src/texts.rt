@@ -6,7 +6,7 @@ use std::test::Fail;
 use terms::NoMemory;
 use tuple_codec::{Answer, Tuples};
 use tuple_text::{write_answer, write_tuple, written_is_read, written_is_text};
-use tuple_tree::{Atom, Tuple, Value};
+use tuple_tree::{Atom, Refusal, Tuple, Value};
 
 fn text_of(alloc: Global, text: &str) -> Result<Value<Global>, AllocError> {
     let text = String::from_str(alloc, text)?;
@@ -18,11 +18,16 @@ fn bytes_of(alloc: Global, bytes: &[u8]) -> Result<Value<Global>, AllocError> {
     Ok(Value::Atom(Atom::Bytes(bytes)))
 }
 
-// A tuple of one value. Where it has no room it stays out, and the text shows that.
-fn tuple_of_one(alloc: Global, value: Value<Global>) -> Tuple<Global> {
-    let mut tuple = Tuple::new_in(alloc);
-    let _ = tuple.push(value);
-    tuple
+// The tuple with the value at its end.
+fn with_last(mut tuple: Tuple<Global>, value: Value<Global>) -> Result<Tuple<Global>, Refusal> {
+    match tuple.push(value) {
+        Ok(()) => Ok(tuple),
+        Err(pushed) => Err(pushed.refusal),
+    }
+}
+
+fn tuple_of_one(alloc: Global, value: Value<Global>) -> Result<Tuple<Global>, Refusal> {
+    with_last(Tuple::new_in(alloc), value)
 }
 
 fn tuple_written(alloc: Global, tuple: &Tuple<Global>) -> Result<Vec<u8>, NoMemory> {
@@ -33,9 +38,9 @@ fn tuple_written(alloc: Global, tuple: &Tuple<Global>) -> Result<Vec<u8>, NoMemo
 
 // (("x") true)
 fn nested(alloc: Global) -> Result<Vec<u8>, Fail> {
-    let inner = tuple_of_one(alloc, text_of(alloc, "x")?);
-    let mut tuple = tuple_of_one(alloc, inner.into_value());
-    let _ = tuple.push(Value::Atom(Atom::Truth(true)));
+    let inner = tuple_of_one(alloc, text_of(alloc, "x")?)?;
+    let outer = tuple_of_one(alloc, inner.into_value())?;
+    let tuple = with_last(outer, Value::Atom(Atom::Truth(true)))?;
     Ok(tuple_written(alloc, &tuple)?)
 }
 
@@ -48,7 +53,7 @@ fn writes_a_nested_tuple(rt: HostRuntime) -> Result<(), Fail> {
 
 // A tuple of a tab.
 fn tab(alloc: Global) -> Result<Vec<u8>, Fail> {
-    let tuple = tuple_of_one(alloc, text_of(alloc, "\t")?);
+    let tuple = tuple_of_one(alloc, text_of(alloc, "\t")?)?;
     Ok(tuple_written(alloc, &tuple)?)
 }
 
@@ -59,13 +64,17 @@ fn escapes_a_tab(rt: HostRuntime) -> Result<(), Fail> {
     Ok(())
 }
 
-// All of (x00ff -7)
-fn answer(alloc: Global) -> Result<Answer<Global>, AllocError> {
-    let mut tuple = tuple_of_one(alloc, bytes_of(alloc, &[0, 255])?);
-    let _ = tuple.push(Value::Atom(Atom::Number(-7)));
+fn all_of_one(alloc: Global, tuple: Tuple<Global>) -> Result<Answer<Global>, AllocError> {
     let mut tuples = Tuples::new_in(alloc);
-    let _ = tuples.push(tuple);
+    tuples.push(tuple)?;
     Ok(Answer::All(tuples))
+}
+
+// All of (x00ff -7)
+fn answer(alloc: Global) -> Result<Answer<Global>, Fail> {
+    let bytes = tuple_of_one(alloc, bytes_of(alloc, &[0, 255])?)?;
+    let tuple = with_last(bytes, Value::Atom(Atom::Number(-7)))?;
+    Ok(all_of_one(alloc, tuple)?)
 }
 
 fn written(alloc: Global, answer: &Answer<Global>) -> Result<Vec<u8>, NoMemory> {

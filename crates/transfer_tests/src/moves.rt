@@ -7,7 +7,7 @@ use std::alloc::Global;
 use std::test::Fail;
 use terms::{Level, NoMemory, Number};
 
-const OLD: Texts<'static> = &[(0, b"a"), (1, b"a"), (256, b"a"), (512, b"a")];
+static OLD: Texts<'static> = &[(0, b"a"), (1, b"a"), (256, b"a"), (512, b"a")];
 
 // What is taken before the newer state comes, what that state sets, and what is asked for then.
 type Row<'a> = (&'a [At], Texts<'a>, &'a [At]);

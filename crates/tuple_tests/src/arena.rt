@@ -6,13 +6,13 @@ use std::test::Fail;
 use tuple_codec::{Op, decode_op, decode_template, decode_tuple};
 
 // `(1 "a")`.
-const TUPLE: [u8; 14] = [2, 1, 0, 0, 0, 0, 0, 0, 0, 1, 2, 0, 1, 97];
+static TUPLE: [u8; 14] = [2, 1, 0, 0, 0, 0, 0, 0, 0, 1, 2, 0, 1, 97];
 
 // `((* x09) ?int)`.
-const TEMPLATE: [u8; 9] = [2, 5, 2, 0x10, 3, 0, 1, 9, 0x11];
+static TEMPLATE: [u8; 9] = [2, 5, 2, 0x10, 3, 0, 1, 9, 0x11];
 
 // `cas ("k" *) ("k" 1)`.
-const CAS: [u8; 21] = [
+static CAS: [u8; 21] = [
     0x24, 2, 2, 0, 1, 0x6b, 0x10, 2, 2, 0, 1, 0x6b, 1, 0, 0, 0, 0, 0, 0, 0, 1,
 ];
 

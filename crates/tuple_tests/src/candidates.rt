@@ -3,12 +3,13 @@
 use space::{PAGES, Space, Watched};
 use std::alloc::{AllocError, Global};
 use std::test::Fail;
-use tuple_codec::{Op, decode_op};
+use test_bytes::read_op;
+use tuple_codec::Op;
 use tuple_tree::Template;
 
 // The operation of these bytes is applied, at the second try where memory ran out at the first one.
 fn is_done(space: &mut Space, alloc: Global, op: &[u8]) -> bool {
-    match read(alloc, op) {
+    match read_op(alloc, op) {
         Some(op) => is_applied(space, &op),
         None => false,
     }
@@ -28,16 +29,6 @@ fn is_applied(space: &mut Space, op: &Op<Global>) -> bool {
         }
     }
     false
-}
-
-fn read(alloc: Global, bytes: &[u8]) -> Option<Op<Global>> {
-    match decode_op(alloc, bytes) {
-        Ok((op, _)) => Some(op),
-        Err(_) => match decode_op(alloc, bytes) {
-            Ok((op, _)) => Some(op),
-            Err(_) => None,
-        },
-    }
 }
 
 // out (first i)
@@ -69,7 +60,7 @@ fn many(alloc: Global) -> Result<Space, AllocError> {
 
 // How many candidates the template of an `rdp` of these bytes has.
 fn candidates(space: &Space, alloc: Global, rdp: &[u8]) -> Option<usize> {
-    match read(alloc, rdp) {
+    match read_op(alloc, rdp) {
         Some(Op::Rdp(template)) => Some(candidates_of(space, &template)),
         _ => None,
     }
@@ -117,7 +108,7 @@ fn is_watched(watched: &mut Watched, op: &Op<Global>) -> bool {
 fn a_page_is_touched(rt: HostRuntime) {
     let mut watched = Watched::of(Space::new(rt.alloc()));
     watched.untouch();
-    let one = read(rt.alloc(), b"\x21\x01\x01\0\0\0\0\0\0\0\x01");
+    let one = read_op(rt.alloc(), b"\x21\x01\x01\0\0\0\0\0\0\0\x01");
     assert!(rt; one.is_some_and(|op| is_watched(&mut watched, &op)));
     for page in 0..PAGES {
         assert_eq!(rt; watched.touched(page), page == 0);

@@ -21,7 +21,8 @@ const ALL: &[u8] = b"\x35\x02\x00\x01\x04\x01";
 fn comes_back(alloc: Global, row: &[u8]) -> Result<bool, Bad> {
     let (op, len) = decode_op(alloc, row)?;
     let mut out = Vec::new(alloc);
-    Ok(encode_op(&op, &mut out).is_ok() && len == row.len() && out.as_slice() == row)
+    encode_op(&op, &mut out)?;
+    Ok(len == row.len() && out.as_slice() == row)
 }
 
 #[test]
@@ -35,7 +36,8 @@ fn operations_come_back(rt: HostRuntime) -> Result<(), Fail> {
 fn answer_comes_back(alloc: Global, row: &[u8]) -> Result<bool, Bad> {
     let (answer, len) = decode_result(alloc, row)?;
     let mut out = Vec::new(alloc);
-    Ok(encode_result(&answer, &mut out).is_ok() && len == row.len() && out.as_slice() == row)
+    encode_result(&answer, &mut out)?;
+    Ok(len == row.len() && out.as_slice() == row)
 }
 
 #[test]

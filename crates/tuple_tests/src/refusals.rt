@@ -7,6 +7,7 @@ use bumpalo::Bump;
 use linked_list_allocator::LocalHeap;
 use std::alloc::{AllocError, Global};
 use std::test::Fail;
+use terms::NoMemory;
 use tuple_codec::Bad;
 
 // More than any turn takes, in bytes.
@@ -81,33 +82,35 @@ fn growths_in_a_heap(rt: HostRuntime) -> Result<(), Fail> {
 }
 
 // How many growths the turn has, where it says that memory ran out exactly where one of them is refused, and else
-// succeeds.
-fn growths_of(alloc: Global, turn: Turn) -> Option<u64> {
+// succeeds. An `Err` says that memory ran out where none of them was refused.
+fn growths_of(alloc: Global, turn: Turn) -> Result<Option<u64>, NoMemory> {
     for number in 1..MANY {
         let memory = Refusing::new(alloc, number);
         match (run(turn, &memory), memory.has_refused()) {
             (Err(Bad::NoMemory), true) => {}
-            (Ok(true), false) => return Some(number - 1),
-            _ => return None,
+            (Err(Bad::NoMemory), false) => return Err(NoMemory),
+            (Ok(true), false) => return Ok(Some(number - 1)),
+            _ => return Ok(None),
         }
     }
-    None
+    Ok(None)
 }
 
 // The same in an arena, which is reset only where each block came back.
-fn growths_in(bump: &mut Bump, turn: Turn) -> Option<u64> {
+fn growths_in(bump: &mut Bump, turn: Turn) -> Result<Option<u64>, NoMemory> {
     for number in 1..MANY {
         let (ended, has_refused) = ends_in(bump, turn, number);
         if bump.reset().is_err() {
-            return None;
+            return Ok(None);
         }
         match (ended, has_refused) {
             (Err(Bad::NoMemory), true) => {}
-            (Ok(true), false) => return Some(number - 1),
-            _ => return None,
+            (Err(Bad::NoMemory), false) => return Err(NoMemory),
+            (Ok(true), false) => return Ok(Some(number - 1)),
+            _ => return Ok(None),
         }
     }
-    None
+    Ok(None)
 }
 
 // How the turn ends in an arena that refuses the growth of this number, and whether that growth came.
@@ -117,19 +120,22 @@ fn ends_in(bump: &Bump, turn: Turn, number: u64) -> (Result<bool, Bad>, bool) {
 }
 
 #[test]
-fn each_growth_in_ordinary_memory(rt: HostRuntime) {
+fn each_growth_in_ordinary_memory(rt: HostRuntime) -> Result<(), Fail> {
     for &turn in &TURNS {
-        assert!(rt; growths_of(rt.alloc(), turn).is_some_and(|count| count > 0));
+        let count = growths_of(rt.alloc(), turn)?;
+        assert!(rt; count.is_some_and(|count| count > 0));
     }
+    Ok(())
 }
 
 #[test]
-fn each_growth_in_an_arena(rt: HostRuntime) {
+fn each_growth_in_an_arena(rt: HostRuntime) -> Result<(), Fail> {
     let mut bump = Bump::new(rt.alloc());
     for &turn in &TURNS {
-        let count = growths_of(rt.alloc(), turn);
-        assert!(rt; growths_in(&mut bump, turn) == count);
+        let count = growths_of(rt.alloc(), turn)?;
+        assert!(rt; growths_in(&mut bump, turn)? == count);
     }
+    Ok(())
 }
 
 // Whether the turn succeeds, at the second try where memory ran out at the first one.

@@ -139,15 +139,19 @@ fn copied(alloc: Global, heap: &LocalHeap, sort: Sort, bytes: &[u8]) -> Result<b
     Ok(is_full)
 }
 
-fn copy_fills(alloc: Global, (sort, bytes, room): Row<'_>) -> Result<bool, AllocError> {
+// The same of a heap of the row's room.
+fn copy_fills(
+    alloc: Global,
+    (sort, bytes, room): Row<'_>,
+) -> Result<Result<bool, Bad>, AllocError> {
     let heap = LocalHeap::new(alloc, room)?;
-    Ok(copied(alloc, &heap, sort, bytes) == Ok(true))
+    Ok(copied(alloc, &heap, sort, bytes))
 }
 
 #[test]
 fn copies_fill_their_room(rt: HostRuntime) -> Result<(), Fail> {
     for &row in &ROWS {
-        assert!(rt; copy_fills(rt.alloc(), row)?);
+        assert_eq!(rt; copy_fills(rt.alloc(), row)?, Ok(true));
     }
     Ok(())
 }
@@ -176,15 +180,18 @@ fn encoded(alloc: Global, heap: &LocalHeap, sort: Sort, bytes: &[u8]) -> Result<
     Ok(out.as_slice() == bytes)
 }
 
-fn is_written(alloc: Global, (sort, bytes, _room): Row<'_>) -> Result<bool, AllocError> {
+fn is_written(
+    alloc: Global,
+    (sort, bytes, _room): Row<'_>,
+) -> Result<Result<bool, Bad>, AllocError> {
     let heap = LocalHeap::new(alloc, bytes.len())?;
-    Ok(encoded(alloc, &heap, sort, bytes) == Ok(true))
+    Ok(encoded(alloc, &heap, sort, bytes))
 }
 
 #[test]
 fn encoders_take_nothing_where_there_is_room(rt: HostRuntime) -> Result<(), Fail> {
     for &row in &ROWS {
-        assert!(rt; is_written(rt.alloc(), row)?);
+        assert_eq!(rt; is_written(rt.alloc(), row)?, Ok(true));
     }
     Ok(())
 }

@@ -18,36 +18,39 @@ fn agrees(alloc: Global, (template_bytes, tuple_bytes, expected): Row<'_>) -> Re
     Ok(matches(&template, &tuple) == expected)
 }
 
+const NESTED_ONE: &[u8] = b"\x01\x05\x01\x01\x00\x00\x00\x00\x00\x00\x00\x01";
+
+const ONE: &[u8] = b"\x01\x01\x00\x00\x00\x00\x00\x00\x00\x01";
+
+static ROWS: [Row<'static>; 14] = [
+    // ((*)), (?tuple), ((* *)), ((2)) and (*) against ((1))
+    (b"\x01\x05\x01\x10", NESTED_ONE, true),
+    (b"\x01\x15", NESTED_ONE, true),
+    (b"\x01\x05\x02\x10\x10", NESTED_ONE, false),
+    (
+        b"\x01\x05\x01\x01\x00\x00\x00\x00\x00\x00\x00\x02",
+        NESTED_ONE,
+        false,
+    ),
+    (b"\x01\x10", NESTED_ONE, true),
+    // (?int) against (true) and (1)
+    (b"\x01\x11", b"\x01\x04\x01", false),
+    (b"\x01\x11", ONE, true),
+    // (1) against ("1") and (1)
+    (ONE, b"\x01\x02\x00\x011", false),
+    (ONE, ONE, true),
+    // (?text), (?bytes) and (?bool)
+    (b"\x01\x12", b"\x01\x02\x00\x011", true),
+    (b"\x01\x13", b"\x01\x03\x00\x011", true),
+    (b"\x01\x14", b"\x01\x04\x00", true),
+    // lists of different length
+    (b"\x00", b"\x00", true),
+    (b"\x01\x10", b"\x00", false),
+];
+
 #[test]
 fn templates_match_tuples(rt: HostRuntime) -> Result<(), Fail> {
-    let nested_one = b"\x01\x05\x01\x01\x00\x00\x00\x00\x00\x00\x00\x01".as_slice();
-    let one = b"\x01\x01\x00\x00\x00\x00\x00\x00\x00\x01".as_slice();
-    let rows: [Row<'_>; 14] = [
-        // ((*)), (?tuple), ((* *)), ((2)) and (*) against ((1))
-        (b"\x01\x05\x01\x10", nested_one, true),
-        (b"\x01\x15", nested_one, true),
-        (b"\x01\x05\x02\x10\x10", nested_one, false),
-        (
-            b"\x01\x05\x01\x01\x00\x00\x00\x00\x00\x00\x00\x02",
-            nested_one,
-            false,
-        ),
-        (b"\x01\x10", nested_one, true),
-        // (?int) against (true) and (1)
-        (b"\x01\x11", b"\x01\x04\x01", false),
-        (b"\x01\x11", one, true),
-        // (1) against ("1") and (1)
-        (one, b"\x01\x02\x00\x011", false),
-        (one, one, true),
-        // (?text), (?bytes) and (?bool)
-        (b"\x01\x12", b"\x01\x02\x00\x011", true),
-        (b"\x01\x13", b"\x01\x03\x00\x011", true),
-        (b"\x01\x14", b"\x01\x04\x00", true),
-        // lists of different length
-        (b"\x00", b"\x00", true),
-        (b"\x01\x10", b"\x00", false),
-    ];
-    for row in rows {
+    for &row in &ROWS {
         assert!(rt; agrees(rt.alloc(), row)?);
     }
     Ok(())
@@ -62,6 +65,15 @@ fn bytes_behind_a_tuple_are_left(rt: HostRuntime) -> Result<(), Fail> {
     Ok(())
 }
 
+static MALFORMED: [&[u8]; 5] = [
+    // a truth value of 02, a text that isn't UTF-8, an unknown tag, a template's field, 33 values
+    b"\x02\x05\x01\x02\x00\x01x\x04\x02",
+    b"\x01\x02\x00\x01\xff",
+    b"\x01\x06",
+    b"\x01\x10",
+    b"\x21",
+];
+
 #[test]
 fn no_other_bytes_are_a_tuple(rt: HostRuntime) {
     // (("x") true), and what comes near
@@ -70,15 +82,7 @@ fn no_other_bytes_are_a_tuple(rt: HostRuntime) {
         let cut = decode_tuple(rt.alloc(), &nested[..len]);
         assert!(rt; matches!(cut, Err(Bad::Malformed)));
     }
-    let rows: [&[u8]; 5] = [
-        // a truth value of 02, a text that isn't UTF-8, an unknown tag, a template's field, 33 values
-        b"\x02\x05\x01\x02\x00\x01x\x04\x02",
-        b"\x01\x02\x00\x01\xff",
-        b"\x01\x06",
-        b"\x01\x10",
-        b"\x21",
-    ];
-    for row in rows {
+    for &row in &MALFORMED {
         let refused = decode_tuple(rt.alloc(), row);
         assert!(rt; matches!(refused, Err(Bad::Malformed)));
     }

@@ -5,26 +5,20 @@
 
 use space::Space;
 use std::alloc::Global;
-use tuple_codec::{Answer, Op, decode_op, encode_result};
+use test_bytes::read_op;
+use tuple_codec::{Answer, Op, encode_result};
 
 // An operation and its answer, in bytes.
 type Step<'a> = (&'a [u8], &'a [u8]);
 
 // Whether the operation of these bytes is answered by those. What memory is refused to is tried a second time.
 fn answers(space: &mut Space, alloc: Global, (op, expected): Step<'_>) -> bool {
-    let Some(op) = read(alloc, op) else {
+    let Some(op) = read_op(alloc, op) else {
         return false;
     };
     match applied(space, &op) {
         Some(answer) => is_spelled(alloc, &answer, expected),
         None => false,
-    }
-}
-
-fn read(alloc: Global, bytes: &[u8]) -> Option<Op<Global>> {
-    match decode_op(alloc, bytes) {
-        Ok((op, _)) => Some(op),
-        Err(_) => decode_op(alloc, bytes).ok().map(|(op, _)| op),
     }
 }
 
@@ -111,7 +105,7 @@ const BOTH: &[u8] = b"\x35\x02\x01\x01\0\0\0\0\0\0\0\x01\x01\x01\0\0\0\0\0\0\0\x
 
 // Whether a look at the space gives this answer, at the second try where memory ran out at the first one.
 fn peeks(space: &Space, alloc: Global, op: &[u8], expected: &[u8]) -> bool {
-    let Some(op) = read(alloc, op) else {
+    let Some(op) = read_op(alloc, op) else {
         return false;
     };
     match peeked(space, &op) {

@@ -9,18 +9,18 @@ use tuple_codec::{
 use tuple_tree::{Atom, Field, Refusal, Template, Tuple, Value};
 
 // `(1 ("a" x09))`.
-const TUPLE: [u8; 20] = [2, 1, 0, 0, 0, 0, 0, 0, 0, 1, 5, 2, 2, 0, 1, 97, 3, 0, 1, 9];
+static TUPLE: [u8; 20] = [2, 1, 0, 0, 0, 0, 0, 0, 0, 1, 5, 2, 2, 0, 1, 97, 3, 0, 1, 9];
 
 // `((* "a") ?int)`.
-const TEMPLATE: [u8; 9] = [2, 5, 2, 0x10, 2, 0, 1, 97, 0x11];
+static TEMPLATE: [u8; 9] = [2, 5, 2, 0x10, 2, 0, 1, 97, 0x11];
 
 // `cas ("k" *) ("k" 1)`.
-const CAS: [u8; 21] = [
+static CAS: [u8; 21] = [
     0x24, 2, 2, 0, 1, 0x6b, 0x10, 2, 2, 0, 1, 0x6b, 1, 0, 0, 0, 0, 0, 0, 0, 1,
 ];
 
 // `all 2 ("k") (true)`.
-const ALL: [u8; 10] = [0x35, 2, 1, 2, 0, 1, 0x6b, 1, 4, 1];
+static ALL: [u8; 10] = [0x35, 2, 1, 2, 0, 1, 0x6b, 1, 4, 1];
 
 // How many values or fields a list gets, so that its memory grows more than once.
 const PUSHES: u8 = 9;

@@ -34,12 +34,15 @@ fn has_made(made: &Option<ViewChange>) -> bool {
     }
 }
 
+// Numbers, views and the bytes of batches.
+static NOTED: [(u64, u64, u8); 5] = [(2, 0, 1), (1, 0, 2), (2, 1, 3), (2, 2, 1), (2, 1, 1)];
+
 // Of each number the latest prepared batch stays, and of each number and batch the latest view, above the low mark.
 #[test]
 fn claims_are_kept_over_views(rt: HostRuntime) -> Result<(), Fail> {
     let alloc = rt.alloc();
     let mut claims = Claims::new(alloc);
-    for (number, view, byte) in [(2, 0, 1), (1, 0, 2), (2, 1, 3), (2, 2, 1), (2, 1, 1)] {
+    for &(number, view, byte) in &NOTED {
         claims.note_logged(Number(number), View(view), batch(alloc, byte)?)?;
         claims.note_prepared(Number(number), View(view), batch(alloc, byte)?)?;
     }

@@ -180,11 +180,9 @@ fn made(alloc: Global, received: &Received) -> Result<Option<NewView>, Fail> {
     }
 }
 
-fn is_taken(alloc: Global, received: &Received, new: &NewView) -> bool {
-    new.start.0 == 0
-        && new.root == [ROOT; 32]
-        && new.changes.len() == 3
-        && check_new_view(alloc, received, View(0), View(1), ReplicaId(1), new).is_ok()
+fn is_taken(alloc: Global, received: &Received, new: &NewView) -> Result<bool, Fail> {
+    check_new_view(alloc, received, View(0), View(1), ReplicaId(1), new)?;
+    Ok(new.start.0 == 0 && new.root == [ROOT; 32] && new.changes.len() == 3)
 }
 
 // What the primary makes of three view changes is taken, of two it makes nothing.
@@ -198,6 +196,7 @@ fn what_is_made_is_taken(rt: HostRuntime) -> Result<(), Fail> {
     }
     assert!(rt; made(alloc, &received)?.is_none());
     assert!(rt; is_so(alloc, &mut received, &frames, (OTHER, 0, None)));
-    assert!(rt; made(alloc, &received)?.is_some_and(|new| is_taken(alloc, &received, &new)));
+    let new = made(alloc, &received)?.ok_or("no new view")?;
+    assert!(rt; is_taken(alloc, &received, &new)?);
     Ok(())
 }

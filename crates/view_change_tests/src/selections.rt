@@ -177,10 +177,11 @@ fn selections_follow_the_rules(rt: HostRuntime) -> Result<(), Fail> {
     Ok(())
 }
 
+static LATER_VIEW: [Said<'static>; 4] = [ONE, LATER, LATER, LATER];
+
 // Of two batches that may stand the one of the later view goes first.
 #[test]
 fn the_later_view_goes_first(rt: HostRuntime) -> Result<(), Fail> {
-    let rows = [ONE, LATER, LATER, LATER];
-    assert!(rt; are_selected(rt.alloc(), FOUR, rows.as_slice(), Some((0, &[2])))?);
+    assert!(rt; are_selected(rt.alloc(), FOUR, &LATER_VIEW, Some((0, &[2])))?);
     Ok(())
 }

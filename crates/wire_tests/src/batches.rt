@@ -2,10 +2,11 @@
 
 ghost use Rattle.wire.specs.Spelling.{IsCarried, is_ordered_request};
 
-use crate::frames::{REQUEST, joined, piece, with_macs};
+use crate::frames::{REQUEST, with_macs};
 use std::alloc::{AllocError, Global};
 use std::test::Fail;
 use terms::NoMemory;
+use test_bytes::{joined, piece};
 use wire::{Batch, is_ordered_request, requests};
 
 // The request `out (2)` of client 1 with timestamp 2.

@@ -6,12 +6,13 @@ ghost use Rattle.wire.specs.Spelling.{authenticator_spelling};
 ghost use Rattle.wire.specs.Views.{message_data, authenticator_data};
 
 use crate::frames::{
-    DIGEST, ONE, REQUEST, TWO, VIEW_CHANGE, carried_request, joined, new_view, new_view_of,
-    parts_with_macs, piece, signed, signed_by, signed_parts, with_macs,
+    DIGEST, ONE, REQUEST, TWO, VIEW_CHANGE, carried_request, new_view, new_view_of,
+    parts_with_macs, signed, signed_by, signed_parts, with_macs,
 };
 use std::alloc::{AllocError, Global};
 use std::test::Fail;
 use terms::NoMemory;
+use test_bytes::{joined, piece};
 use wire::{Body, Frame, WireFault, body_bytes, decode, encode, encode_frame};
 
 fn is_body(alloc: Global, body: &Body, text: &[u8]) -> Result<bool, NoMemory>

@@ -1,6 +1,7 @@
 //! Frames of bytes for tests, written without the crate that is tested.
 
 use std::alloc::{AllocError, Global};
+use test_bytes::{joined, piece};
 use wire::SIGNATURE_LEN;
 
 // The digest of no text in particular, and numbers in 8 bytes.
@@ -34,20 +35,6 @@ pub static VIEW_CHANGE: &[&[u8]] = &[
     DIGEST,
     ONE,
 ];
-
-pub fn joined(alloc: Global, parts: &[&[u8]]) -> Result<Vec<u8>, AllocError> {
-    let mut all = Vec::new(alloc);
-    for part in parts {
-        all.extend_from_slice(part)?;
-    }
-    Ok(all)
-}
-
-// Bytes behind their length.
-pub fn piece(alloc: Global, bytes: &[u8]) -> Result<Vec<u8>, AllocError> {
-    let len = (bytes.len() & 0xff_ffff) as u32;
-    joined(alloc, &[&len.to_be_bytes(), bytes])
-}
 
 fn put_macs(frame: &mut Vec<u8>) -> Result<(), AllocError> {
     frame.extend_from_slice(&[0, 4])?;

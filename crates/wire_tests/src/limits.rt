@@ -2,11 +2,12 @@
 
 use crate::decoding::{comes_back, fault, is_malformed};
 use crate::frames::{
-    DIGEST, ONE, REQUEST, TWO, VIEW_CHANGE, carried_request, joined, new_view, new_view_of,
-    parts_with_macs, piece, signed, signed_parts, with_macs,
+    DIGEST, ONE, REQUEST, TWO, VIEW_CHANGE, carried_request, new_view, new_view_of,
+    parts_with_macs, signed, signed_parts, with_macs,
 };
 use std::alloc::{AllocError, Global};
 use std::test::Fail;
+use test_bytes::{joined, piece};
 use wire::{MAX_FRAME, MAX_VIEW_CHANGE, WireFault};
 
 fn is_too_large(alloc: Global, bytes: &[u8]) -> bool {

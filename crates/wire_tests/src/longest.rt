@@ -2,10 +2,11 @@
 //! within the limit of frames.
 
 use crate::decoding::comes_back;
-use crate::frames::{DIGEST, ONE, TWO, joined, piece, signed};
+use crate::frames::{DIGEST, ONE, TWO, signed};
 use crate::limits::longest_change;
 use std::alloc::{AllocError, Global};
 use std::test::Fail;
+use test_bytes::{joined, piece};
 use wire::{MAX_FRAME, MAX_VIEW_CHANGE};
 
 // Of ten replicas, the most that there are.

@@ -11,7 +11,7 @@ use schedule_world::Report;
 use std::alloc::Global;
 use terms::{ClientId, NoMemory, Party, ReplicaId};
 
-const REPLICAS: [u8; 4] = [0, 1, 2, 3];
+static REPLICAS: [u8; 4] = [0, 1, 2, 3];
 
 // Counted by the protocol: a request, a pre-prepare, three prepares, four commits and four replies are sent, and got 4,
 // 3, 9, 12 and 4 times; with the call, four executions and the acceptance there are 51 entries. Frames are got in the
@@ -36,9 +36,10 @@ static WRITE_AND_READ: [PointRow<'static>; 2] = [
     (51, 0, 2, "rdp (*)", "found (1)"),
 ];
 
+static LINES: [&str; 4] = ["invoke 0 out (1)", "flush", "invoke 0 rdp (*)", "flush"];
+
 fn are_write_and_read(alloc: Global) -> bool {
-    let lines = ["invoke 0 out (1)", "flush", "invoke 0 rdp (*)", "flush"];
-    let Some(report) = report_of_lines(alloc, 1, &lines) else {
+    let Some(report) = report_of_lines(alloc, 1, &LINES) else {
         return false;
     };
     report.trace.len() == 51 + 15
@@ -108,13 +109,13 @@ fn is_accepted_in(alloc: Global, (lines, rows, points): Case<'_>) -> bool {
 
 #[test]
 fn answers(rt: HostRuntime) {
-    for case in CASES {
+    for &case in &CASES {
         assert!(rt; is_accepted_in(rt.alloc(), case), "{:?}", case.0);
     }
 }
 
 // The type bytes of a request, a pre-prepare, a prepare, a commit and a reply.
-const KINDS: [u8; 5] = [REQUEST, 0x42, 0x43, 0x44, REPLY];
+static KINDS: [u8; 5] = [REQUEST, 0x42, 0x43, 0x44, REPLY];
 
 // Who sent each frame, and its type byte.
 fn sent_kinds(alloc: Global, report: &Report) -> Result<Vec<(Party, Option<u8>)>, NoMemory> {
@@ -188,7 +189,7 @@ fn put_backwards(alloc: Global, config: &Config, steps: &mut Vec<Step>) -> Resul
     if !put_steps(alloc, &["invoke 0 out (1)"], steps)? {
         return Ok(false);
     }
-    for kind in KINDS {
+    for &kind in &KINDS {
         if !put_kind(alloc, config, kind, steps)? {
             return Ok(false);
         }
@@ -232,7 +233,7 @@ static BEHIND: [Case<'static>; 3] = [
 
 #[test]
 fn frames_that_come_twice_and_backwards(rt: HostRuntime) {
-    for case in BEHIND {
+    for &case in &BEHIND {
         assert!(rt; accepts_backwards(rt.alloc(), case), "{:?}", case.0);
     }
 }

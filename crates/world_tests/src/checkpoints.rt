@@ -9,7 +9,7 @@ use schedule_world::Report;
 use std::alloc::Global;
 use terms::NoMemory;
 
-const REPLICAS: [u8; 4] = [0, 1, 2, 3];
+static REPLICAS: [u8; 4] = [0, 1, 2, 3];
 
 // The type byte of a pre-prepare, and that of what asks for a part.
 const PRE_PREPARE: u8 = 0x42;
@@ -25,10 +25,11 @@ fn report_of_period(alloc: Global, clients: u16, period: u8, lines: &[&str]) -> 
     }
 }
 
+static TWO: [&str; 4] = ["invoke 0 out (1)", "flush", "invoke 0 out (2)", "flush"];
+
 // A call has 51 entries. At number 2 four checkpoints are sent, and each is got by three others.
 fn has_checkpoints_of_two(alloc: Global) -> bool {
-    let lines = ["invoke 0 out (1)", "flush", "invoke 0 out (2)", "flush"];
-    match report_of_period(alloc, 1, 2, &lines) {
+    match report_of_period(alloc, 1, 2, &TWO) {
         Some(report) => report.trace.len() == 2 * 51 + 4 + 12,
         None => false,
     }
@@ -186,18 +187,19 @@ static OF_TWO: [Place; 9] = [
 
 static OF_THREE: [Row<'static>; 3] = [(0, 1, "done"), (0, 2, "done"), (0, 3, "all 3 (5) (6) (7)")];
 
+static GOING_ON: [&str; 7] = [
+    "flush",
+    "invoke 0 out (6)",
+    "flush",
+    "invoke 0 out (7)",
+    "flush",
+    "invoke 0 rdAll 64 (*)",
+    "flush",
+];
+
 // Replica 3 goes on with number 3.
 fn goes_on(alloc: Global) -> bool {
-    let lines = [
-        "flush",
-        "invoke 0 out (6)",
-        "flush",
-        "invoke 0 out (7)",
-        "flush",
-        "invoke 0 rdAll 64 (*)",
-        "flush",
-    ];
-    match report_of_lagging(alloc, 2, &lines) {
+    match report_of_lagging(alloc, 2, &GOING_ON) {
         Some(report) => {
             fetches(&report, &OF_TWO)
                 && installs(&report, 2)

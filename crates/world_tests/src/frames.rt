@@ -1,70 +1,16 @@
 //! Bytes that faulty parties send, written by docs/formats.md without what reads them.
 
-use crate::worlds::SEED;
-use authenticator::hmac;
 use schedule_text::Step;
 use sha2::{Digest, Sha256};
 use std::alloc::{AllocError, Global};
 use terms::{ClientId, Party, ReplicaId};
-
-/// The operation `rdp (*)`.
-pub const READ: &[u8] = b"\x22\x01\x10";
-
-/// The operation `inp (*)`.
-pub const TAKE: &[u8] = b"\x23\x01\x10";
-
-/// The answer to a write.
-pub const DONE: &[u8] = b"\x31";
-
-/// The answer that there is no such tuple.
-pub const ABSENT: &[u8] = b"\x33";
-
-/// The mode of requests that are ordered, and of replies to them.
-pub const ORDERED: u8 = 0;
-
-/// The mode of requests that are answered at once, and of replies to them.
-pub const READ_ONLY: u8 = 1;
-
-/// What a replica replies: the timestamp of the call, the mode, the number of its state, and the answer.
-pub type Reply<'a> = (u64, u8, u64, &'a [u8]);
-
-fn joined(alloc: Global, parts: &[&[u8]]) -> Result<Vec<u8>, AllocError> {
-    let mut all = Vec::new(alloc);
-    for part in parts {
-        all.extend_from_slice(part)?;
-    }
-    Ok(all)
-}
-
-// Bytes behind their length.
-fn piece(alloc: Global, bytes: &[u8]) -> Result<Vec<u8>, AllocError> {
-    let len = (bytes.len() & 0xff_ffff) as u32;
-    joined(alloc, &[&len.to_be_bytes(), bytes])
-}
+use test_bytes::{
+    ORDERED, Reply, batch_text, client_party, joined, reply_body, request_body, sealed,
+};
 
 /// The operation `out (n)`.
 pub fn out_op(alloc: Global, n: u64) -> Result<Vec<u8>, AllocError> {
     joined(alloc, &[b"\x21\x01\x01", &n.to_be_bytes()])
-}
-
-/// The body of a request.
-pub fn request_body(
-    alloc: Global,
-    client: u8,
-    timestamp: u64,
-    mode: u8,
-    op: &[u8],
-) -> Result<Vec<u8>, AllocError> {
-    joined(
-        alloc,
-        &[&[0x41, 1, client], &timestamp.to_be_bytes(), &[mode], op],
-    )
-}
-
-// The MAC of a client's body for a replica, behind the replica.
-fn mac_of(alloc: Global, client: u8, replica: u8, body: &[u8]) -> Result<Vec<u8>, AllocError> {
-    let key = hmac(&SEED, &[0x4d, 1, client, 0, replica]);
-    joined(alloc, &[&[0, replica], &hmac(&key, body)])
 }
 
 /// The frame of an ordered request, for the four replicas.
@@ -75,13 +21,7 @@ pub fn request_frame(
     op: &[u8],
 ) -> Result<Vec<u8>, AllocError> {
     let body = request_body(alloc, client, timestamp, ORDERED, op)?;
-    let mut frame = piece(alloc, &body)?;
-    frame.extend_from_slice(&[0, 4])?;
-    for replica in 0..4 {
-        let mac = mac_of(alloc, client, replica, &body)?;
-        frame.extend_from_slice(&mac)?;
-    }
-    Ok(frame)
+    sealed(alloc, client_party(client), &[0, 1, 2, 3], &body)
 }
 
 /// The body of the pre-prepare of replica 0 in view 0 of a batch with these frames.
@@ -90,13 +30,11 @@ pub fn pre_prepare_body(
     number: u64,
     frames: &[&[u8]],
 ) -> Result<Vec<u8>, AllocError> {
-    let mut body = joined(alloc, &[&[0x42, 0, 0], &[0; 8], &number.to_be_bytes()])?;
-    body.push((frames.len() & 0x1f) as u8)?;
-    for frame in frames {
-        let frame = piece(alloc, frame)?;
-        body.extend_from_slice(&frame)?;
-    }
-    Ok(body)
+    let batch = batch_text(alloc, frames)?;
+    joined(
+        alloc,
+        &[&[0x42, 0, 0], &[0; 8], &number.to_be_bytes(), &batch],
+    )
 }
 
 /// Replicas of these numbers.
@@ -155,26 +93,20 @@ pub fn sealed_by_client(
 }
 
 /// Replica 3, which is faulty, replies to the client.
-pub fn sealed_reply(
-    alloc: Global,
-    client: u8,
-    (timestamp, mode, number, answer): Reply<'_>,
-) -> Result<Step, AllocError> {
+pub fn sealed_reply(alloc: Global, client: u8, reply: Reply<'_>) -> Result<Step, AllocError> {
     let receiver = ClientId {
         number: u16::from(client),
     };
-    let front = joined(alloc, &[&[0x48, 0, 3, 1, client], &timestamp.to_be_bytes()])?;
     Ok(Step::Seal {
         sender: Party::Replica(ReplicaId(3)),
         receivers: Vec::from_slice(alloc, &[Party::Client(receiver)])?,
-        body: joined(alloc, &[&front, &[mode], &number.to_be_bytes(), answer])?,
+        body: reply_body(alloc, 3, client, reply)?,
     })
 }
 
 /// The digest of a batch with this frame.
 pub fn batch_digest(alloc: Global, frame: &[u8]) -> Result<[u8; 32], AllocError> {
-    let frame = piece(alloc, frame)?;
-    let text = joined(alloc, &[&[1], &frame])?;
+    let text = batch_text(alloc, &[frame])?;
     Ok(Sha256::digest(text.as_slice()))
 }
 

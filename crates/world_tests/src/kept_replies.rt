@@ -9,12 +9,12 @@ use std::alloc::Global;
 use std::ops::Range;
 use terms::{ClientId, NoMemory, Party, ReplicaId};
 
-const REPLICAS: [u8; 4] = [0, 1, 2, 3];
+static REPLICAS: [u8; 4] = [0, 1, 2, 3];
 
 // Delivers frames to each replica. The sender of a frame, and who it isn't for, drop it.
 fn put_to_replicas(frames: Range<u64>, steps: &mut Vec<Step>) -> Result<(), NoMemory> {
     for frame in frames {
-        for replica in REPLICAS {
+        for &replica in &REPLICAS {
             let party = Party::Replica(ReplicaId(replica));
             steps.push(Step::Deliver { frame, party })?;
         }
@@ -77,7 +77,7 @@ fn replies_of(report: &Report, replica: u8, numbers: &[u8]) -> bool {
 }
 
 // The calls' numbers are 1 and 2, and the read is answered from the state of number 2.
-const NUMBERS: [u8; 4] = [1, 2, 1, 2];
+static NUMBERS: [u8; 4] = [1, 2, 1, 2];
 
 static ACCEPTED: [Row<'static>; 3] = [(1, 1, "done"), (0, 1, "done"), (0, 2, "all 2 (1) (2)")];
 

@@ -104,7 +104,7 @@ impl Walk {
 
     // Replica 3 gets the checkpoints that the last call came to, and asks for the root's digests.
     fn tell_checkpoints(&mut self) -> Result<(), NoMemory> {
-        for behind in CHECKPOINTS {
+        for &behind in &CHECKPOINTS {
             self.put_behind(behind, Party::Replica(ReplicaId(3)))?;
         }
         Ok(())
@@ -258,6 +258,13 @@ fn all_places(alloc: Global) -> Result<Vec<Place>, NoMemory> {
     Ok(all)
 }
 
+static NINTH_AND_READ: [&str; 4] = [
+    "invoke 0 out (9)",
+    "flush",
+    "invoke 0 rdAll 64 (*)",
+    "flush",
+];
+
 // The answer with the header of number 6 is held back while two more calls are carried, whose checkpoints overtake.
 // It comes then, and is asked for no more.
 fn put_overtaken(alloc: Global, walk: &mut Walk) -> Result<bool, NoMemory> {
@@ -273,13 +280,7 @@ fn put_overtaken(alloc: Global, walk: &mut Walk) -> Result<bool, NoMemory> {
     walk.tell_checkpoints()?;
     walk.put(held_back, Party::Replica(ReplicaId(3)))?;
     walk.fetch(OF_EIGHT.len())?;
-    let lines = [
-        "invoke 0 out (9)",
-        "flush",
-        "invoke 0 rdAll 64 (*)",
-        "flush",
-    ];
-    put_steps(alloc, &lines, &mut walk.steps)
+    put_steps(alloc, &NINTH_AND_READ, &mut walk.steps)
 }
 
 static NINE_AND_READ: [Row<'static>; 10] = [

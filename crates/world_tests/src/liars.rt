@@ -8,7 +8,7 @@ use schedule_world::Report;
 use std::alloc::Global;
 use terms::NoMemory;
 
-const OTHERS: [u8; 3] = [1, 2, 3];
+static OTHERS: [u8; 3] = [1, 2, 3];
 
 // Client 1 makes two requests of timestamp 5 for these replicas.
 fn put_two_of_five(
@@ -52,7 +52,7 @@ fn is_numbered(alloc: Global, (receivers, counts, answer): Numbered<'_>) -> bool
 
 #[test]
 fn two_requests_of_one_timestamp(rt: HostRuntime) {
-    for row in OF_FIVE {
+    for &row in &OF_FIVE {
         assert!(rt; is_numbered(rt.alloc(), row), "{:?}", row.0);
     }
 }

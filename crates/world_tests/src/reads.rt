@@ -1,9 +1,7 @@
 //! Reads while a write is under way, reads that are asked for twice, and requests of a client that replicas don't
 //! answer. The positions of points come from an implementation in Python.
 
-use crate::frames::{
-    ABSENT, DONE, ORDERED, READ, READ_ONLY, TAKE, request_body, sealed_by_client, sealed_reply,
-};
+use crate::frames::{sealed_by_client, sealed_reply};
 use crate::reports::{
     PointRow, Row, accepts, are_accepted_at, asks_in, execute, has_points, senders_are,
 };
@@ -12,6 +10,7 @@ use schedule_text::Step;
 use schedule_world::Report;
 use std::alloc::Global;
 use terms::NoMemory;
+use test_bytes::{ABSENT, DONE, ORDERED, READ, READ_ONLY, TAKE, request_body};
 
 // Client 0 puts a tuple. The primary and two backups come to commit it, and with their commits replica 0 executes it.
 // Its reply is frame 7.
@@ -108,7 +107,7 @@ fn is_read_before(alloc: Global, (is_read, lines, rows, points): Unfinished<'_>)
 
 #[test]
 fn a_read_beside_a_write(rt: HostRuntime) {
-    for row in UNFINISHED {
+    for &row in &UNFINISHED {
         assert!(rt; is_read_before(rt.alloc(), row), "{:?}", row.1);
     }
 }
@@ -178,10 +177,18 @@ fn falls_back(alloc: Global, (lines, modes, rows, points): Fallback<'_>) -> bool
 
 #[test]
 fn a_read_of_two_states(rt: HostRuntime) {
-    for row in FALLBACKS {
+    for &row in &FALLBACKS {
         assert!(rt; falls_back(rt.alloc(), row), "{:?}", row.0);
     }
 }
+
+static FOUR_REPLIES: [&str; 5] = [
+    "deliver 10 c1",
+    "deliver 11 c1",
+    "deliver 12 c1",
+    "deliver 13 c1",
+    "flush",
+];
 
 // Replica 3, which is faulty, answers from number 1 too, and differently; replica 2 answers from number 0.
 fn put_three_answers(alloc: Global, steps: &mut Vec<Step>) -> Result<bool, NoMemory> {
@@ -196,14 +203,7 @@ fn put_three_answers(alloc: Global, steps: &mut Vec<Step>) -> Result<bool, NoMem
         return Ok(false);
     }
     steps.push(sealed_reply(alloc, 1, (1, READ_ONLY, 1, ABSENT))?)?;
-    let lines = [
-        "deliver 10 c1",
-        "deliver 11 c1",
-        "deliver 12 c1",
-        "deliver 13 c1",
-        "flush",
-    ];
-    put_steps(alloc, &lines, steps)
+    put_steps(alloc, &FOUR_REPLIES, steps)
 }
 
 fn report_of_three_answers(alloc: Global) -> Option<Report> {
@@ -320,7 +320,7 @@ fn is_answered_by(alloc: Global, row: Asked<'_>) -> bool {
 
 #[test]
 fn requests_of_a_faulty_client(rt: HostRuntime) {
-    for row in ASKED {
+    for &row in &ASKED {
         assert!(rt; is_answered_by(rt.alloc(), row), "{:?}", row.1);
     }
 }

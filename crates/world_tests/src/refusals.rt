@@ -1,12 +1,13 @@
 //! Steps that may not come.
 
 use crate::reports::accepts;
-use crate::worlds::{SEED, report_of, steps_of, world};
+use crate::worlds::{report_of, steps_of, world};
 use events::Config;
 use schedule_text::Step;
 use schedule_world::{Report, RunFault, run};
 use std::alloc::Global;
 use terms::{Party, ReplicaId};
+use test_bytes::FRAME_SEED;
 
 // Client 1 and replica 3 are faulty.
 fn config(alloc: Global) -> Option<Config> {
@@ -111,21 +112,23 @@ fn is_taken(alloc: Global, lines: &[&str]) -> bool {
     }
 }
 
+// The second one may not come.
+static REFUSED_AT_1: [&str; 4] = ["flush", "tick r3", "tick c1", "flush"];
+
 #[test]
 fn refuses_the_first_that_may_not_come(rt: HostRuntime) {
-    for lines in REFUSED {
+    for &lines in &REFUSED {
         assert!(rt;
             refused_line(rt.alloc(), lines) == lines.len().checked_sub(1),
             "{lines:?}"
         );
     }
-    let lines = ["flush", "tick r3", "tick c1", "flush"];
-    assert!(rt; refused_line(rt.alloc(), &lines) == Some(1));
+    assert!(rt; refused_line(rt.alloc(), &REFUSED_AT_1) == Some(1));
 }
 
 #[test]
 fn takes_what_may_come(rt: HostRuntime) {
-    for lines in TAKEN {
+    for &lines in &TAKEN {
         assert!(rt; is_taken(rt.alloc(), lines), "{lines:?}");
     }
 }
@@ -133,7 +136,7 @@ fn takes_what_may_come(rt: HostRuntime) {
 // Ten replicas, of which the last is faulty.
 fn config_of_ten(alloc: Global) -> Option<Config> {
     let faulty = Vec::from_slice(alloc, &[9]).ok()?;
-    Config::new(3, 1, SEED, 16, faulty, Vec::new(alloc)).ok()
+    Config::new(3, 1, FRAME_SEED, 16, faulty, Vec::new(alloc)).ok()
 }
 
 // A frame has a MAC for each of 1 to 10 receivers.

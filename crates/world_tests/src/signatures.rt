@@ -52,17 +52,19 @@ fn comes_to(alloc: Global, lines: &[&str], rows: &[Got<'_>]) -> bool {
     }
 }
 
+static SIGNED: [&str; 4] = [
+    "sign r3 63 r0,r2,r3 00ff",
+    "sign r3 63 r1 42",
+    "sign r3 0 c0 00",
+    "flush",
+];
+
+static GOT: [Got<'static>; 4] = [(0, OF_TWO), (2, OF_TWO), (1, OF_OTHER), (256, OF_ONE)];
+
 // Each frame goes to those that it names and are correct, and to nobody else. A leaf signs as often as it is asked to.
 #[test]
 fn a_signed_frame_is_got_by_those_it_names(rt: HostRuntime) {
-    let lines = [
-        "sign r3 63 r0,r2,r3 00ff",
-        "sign r3 63 r1 42",
-        "sign r3 0 c0 00",
-        "flush",
-    ];
-    let rows = [(0, OF_TWO), (2, OF_TWO), (1, OF_OTHER), (256, OF_ONE)];
-    assert!(rt; comes_to(rt.alloc(), &lines, &rows));
+    assert!(rt; comes_to(rt.alloc(), &SIGNED, &GOT));
 }
 
 // It may also be delivered to others.

@@ -2,14 +2,13 @@
 
 use crate::frames::{batch_digest, out_op, request_frame, sealed_batch_for, signed_change};
 use crate::reports::{PointRow, Row, accepts, count_from, count_of, execute, has_points};
-use crate::worlds::{
-    SEED, put_deliveries, put_steps, put_ticks, report_of_lines, report_of_put, world,
-};
+use crate::worlds::{put_deliveries, put_steps, put_ticks, report_of_lines, report_of_put, world};
 use events::Config;
 use schedule_text::Step;
 use schedule_world::Report;
 use std::alloc::Global;
 use terms::NoMemory;
+use test_bytes::FRAME_SEED;
 
 // The type bytes of a commit, a view change and a new view.
 const COMMIT: u8 = 0x44;
@@ -242,10 +241,10 @@ fn a_claim_on_what_was_never_prepared(rt: HostRuntime) {
 // Seven replicas, of which two are faulty, and say nothing.
 fn world_of_seven(alloc: Global) -> Option<Config> {
     let faulty = Vec::from_slice(alloc, &[1, 2]).ok()?;
-    Config::new(2, 1, SEED, 16, faulty, Vec::new(alloc)).ok()
+    Config::new(2, 1, FRAME_SEED, 16, faulty, Vec::new(alloc)).ok()
 }
 
-const FIVE: [u8; 5] = [0, 3, 4, 5, 6];
+static FIVE: [u8; 5] = [0, 3, 4, 5, 6];
 
 // Everybody gets the request and its batch, and the prepares of four backups: each commits, which nobody gets. So the
 // batch is prepared in view 0. The primaries of views 1 and 2 say nothing.

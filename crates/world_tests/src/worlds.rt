@@ -6,8 +6,7 @@ use schedule_world::{Report, run};
 use std::alloc::Global;
 use std::ops::Range;
 use terms::{NoMemory, Party, ReplicaId};
-
-pub const SEED: [u8; 32] = [7; 32];
+use test_bytes::FRAME_SEED;
 
 /// A world of so many clients, in which these are faulty, with a checkpoint at each multiple of the period.
 pub fn world_of_period(
@@ -19,7 +18,15 @@ pub fn world_of_period(
 ) -> Option<Config> {
     let faulty_replicas = Vec::from_slice(alloc, faulty_replicas).ok()?;
     let faulty_clients = Vec::from_slice(alloc, faulty_clients).ok()?;
-    Config::new(1, clients, SEED, period, faulty_replicas, faulty_clients).ok()
+    Config::new(
+        1,
+        clients,
+        FRAME_SEED,
+        period,
+        faulty_replicas,
+        faulty_clients,
+    )
+    .ok()
 }
 
 /// That of the greatest period.

@@ -179,13 +179,15 @@ fn swaps_once(rt: HostRuntime) {
     );
 }
 
+static TOO_SMALL: [(&str, &str, Ending); 2] = [
+    (SMALL_JOURNAL, "out (1)\n", Ending::Stopped),
+    (THREE_ENTRIES, "out (1)\nrdp (1)\n", Ending::NoRoom),
+];
+
 // Ten entries are too few for a call: nothing is printed.
 #[test]
 fn stops_at_a_full_journal(rt: HostRuntime) {
-    for (settings, script, end) in [
-        (SMALL_JOURNAL, "out (1)\n", Ending::Stopped),
-        (THREE_ENTRIES, "out (1)\nrdp (1)\n", Ending::NoRoom),
-    ] {
+    for &(settings, script, end) in &TOO_SMALL {
         let mut written = Vec::new(rt.alloc());
         let ending = run_text(&rt, rt.alloc(), settings, script, &mut written);
         assert_eq!(rt; ending, end);
@@ -193,20 +195,21 @@ fn stops_at_a_full_journal(rt: HostRuntime) {
     }
 }
 
+static REASONS: [(ClusterFault, &str); 2] = [
+    (
+        ClusterFault::NoRoom,
+        "stopped\nthe journal is too small for so many operations\n",
+    ),
+    (
+        ClusterFault::TooManyStopped,
+        "stopped\ntoo many replicas have stopped: memory ran out, or the journal is full\n",
+    ),
+];
+
 // What is said after the word `stopped` stands on a line of its own.
 #[test]
 fn says_why_a_run_is_stopped(rt: HostRuntime) {
-    let rows = [
-        (
-            ClusterFault::NoRoom,
-            "stopped\nthe journal is too small for so many operations\n",
-        ),
-        (
-            ClusterFault::TooManyStopped,
-            "stopped\ntoo many replicas have stopped: memory ran out, or the journal is full\n",
-        ),
-    ];
-    for (fault, text) in rows {
+    for &(fault, text) in &REASONS {
         let console = Console::new(rt.alloc(), true);
         assert_eq!(rt; end_run(&console, &RunFault::Stopped(fault)), 3);
         assert!(rt; holds(&console.errors, text));
@@ -231,19 +234,20 @@ fn refuses_faulty_parties(rt: HostRuntime) {
     }
 }
 
+static REFUSED: [(&str, Ending); 2] = [
+    (
+        "out (1)\n# x\nout (01)\n",
+        Ending::Line(3, LineFault::BadByte { offset: 6 }),
+    ),
+    (
+        "out (1)\nout (((((((((1)))))))))",
+        Ending::Line(2, LineFault::TooDeep),
+    ),
+];
+
 #[test]
 fn refuses_a_line_before_anything_starts(rt: HostRuntime) {
-    let rows = [
-        (
-            "out (1)\n# x\nout (01)\n",
-            Ending::Line(3, LineFault::BadByte { offset: 6 }),
-        ),
-        (
-            "out (1)\nout (((((((((1)))))))))",
-            Ending::Line(2, LineFault::TooDeep),
-        ),
-    ];
-    for (script, refused) in rows {
+    for &(script, refused) in &REFUSED {
         let mut written = Vec::new(rt.alloc());
         let ending = run_text(&rt, rt.alloc(), CLUSTER_SETTINGS, script, &mut written);
         assert_eq!(rt; ending, refused);
