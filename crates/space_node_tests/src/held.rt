@@ -39,13 +39,13 @@ static HOLDINGS: [Holding; 2] = [
 ];
 
 // Closes the gate before the nodes' next events, makes these, and waits until the nodes are there. A node that stopped
-// doesn't come.
+// doesn't come, nor one to which there was no memory to tell that time went by.
 fn hold<N: Naming + Send + Sync + 'static, R: Wait + Clock>(
     rt: &R,
     cluster: &Cluster<N>,
     flags: &Flags,
     nodes: &[u8],
-) -> Result<bool, NoMemory> {
+) -> Result<(), NoMemory> {
     for node in nodes {
         flags.close(usize::from(*node));
     }
@@ -54,14 +54,10 @@ fn hold<N: Naming + Send + Sync + 'static, R: Wait + Clock>(
     }
     for node in nodes {
         if !flags.see(rt, usize::from(*node)) {
-            return if cluster.count_stopped(rt) > 0 {
-                Err(NoMemory)
-            } else {
-                Ok(false)
-            };
+            return Err(NoMemory);
         }
     }
-    Ok(true)
+    Ok(())
 }
 
 fn calls_past<N: Naming + Send + Sync + 'static, R: Threads + Wait + Clock + Copy + Send + 'static>(
@@ -79,14 +75,11 @@ fn calls_past<N: Naming + Send + Sync + 'static, R: Threads + Wait + Clock + Cop
             answered: first.answered,
         };
     };
-    match hold(rt, cluster, flags, holding.nodes) {
-        Ok(true) => {}
-        held => {
-            return Called {
-                client: Some(client),
-                answered: held,
-            };
-        }
+    if hold(rt, cluster, flags, holding.nodes).is_err() {
+        return Called {
+            client: Some(client),
+            answered: Err(NoMemory),
+        };
     }
     let then = call_each(*rt, alloc, cluster, 0, client, holding.then);
     Called {
