@@ -6,7 +6,8 @@ use cluster_run::Watch;
 const PATIENCE: u64 = 2;
 
 /// Shows on standard error how many operations are answered, on one line that is written anew, where standard error is
-/// a terminal and the run takes longer than two seconds. The line is cleared at the end.
+/// a terminal and the run takes longer than two seconds. The line is cleared at the end. Where the run is interrupted it
+/// stands whole, with its end, and tells how far the run came.
 #[derive(Drop)]
 pub struct Display<'a, R> {
     rt: &'a R,
@@ -30,16 +31,18 @@ impl<'a, R: Eprint> Display<'a, R> {
 impl<R: Eprint> Watch for Display<'_, R> {
     fn note(&mut self, seconds: u64, answered: u64) {
         if self.is_terminal && seconds >= PATIENCE {
+            self.end();
             self.is_shown = true;
             let total = self.total;
-            let _ = eprint!(self.rt; "\r{answered} of {total} answered");
+            let _ = eprintln!(self.rt; "{answered} of {total} answered");
         }
     }
 
     fn end(&mut self) {
         if self.is_shown {
             self.is_shown = false;
-            let _ = eprint!(self.rt; "\r\x1b[K");
+            // One line up, and that line is cleared.
+            let _ = eprint!(self.rt; "\x1b[A\x1b[K");
         }
     }
 }

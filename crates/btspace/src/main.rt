@@ -25,7 +25,7 @@ use journal::Opened;
 use one_space::{
     Complaint, STANDARD_INPUT, complain, print_tuple, run_script, script_at, words_of,
 };
-use run::{RunFault, run};
+use run::{RunFault, most_operations, run};
 use schedule::{read_settings, schedule};
 use std::alloc::Global;
 use std::io::{IsTerminal, Read};
@@ -200,7 +200,7 @@ fn run_cluster<
     if !is_faultless(&settings.config) {
         return complain(rt, Complaint::Configuration);
     }
-    match script_at(rt, path) {
+    match script_at(rt, path, most_operations(settings)) {
         Ok(ops) => run_operations(rt, is_terminal, settings, ops),
         Err(complaint) => complain(rt, complaint),
     }

@@ -1,6 +1,6 @@
 -- A script that is read so far.
-use Rattle.std.proofs.Common.{◌≡◌, ℕ, ◌+◌, ◌^◌, ◌<◌, ◌≤◌, Bool, true, false, List, [], ◌∷◌, ◌++◌, Option, None, Some, IfSome, IfOk, Result, Ok, Err, MatchResult, MatchBool, Vec, refl, sym, ap, subst, ◌∙◌, append_assoc, append-nil, map}
-use Rattle.std.proofs.lemmas.List.{map-append}
+use Rattle.std.proofs.Common.{◌≡◌, ℕ, ◌+◌, ◌^◌, ◌<◌, ◌≤◌, Bool, true, false, List, [], ◌∷◌, ◌++◌, Option, None, Some, IfSome, IfOk, Result, Ok, Err, MatchResult, MatchBool, Vec, refl, sym, ap, subst, ◌∙◌, append_assoc, append-nil, map, take, length, min, arith}
+use Rattle.std.proofs.lemmas.List.{map-append, length-map, length-append, length-take, take_all, take-append-le}
 use Rattle.std.specs.declared.alloc.Global.{Global}
 use Rattle.std.specs.Str.Lines.{lines}
 use Rattle.tuple_codec.specs.Operations.{Operation}
@@ -10,7 +10,7 @@ use Rattle.tuple_text.specs.declared.faults.LineFault.TheVariants.{TooLong}
 use Rattle.one_space.specs.Run.{Ending, complete, refused_at}
 use Rattle.one_space.specs.NextLines.{Gives, Fails, BeginsWith}
 use Rattle.one_space.specs.Endings.{fault_at, read_fault_of}
-use Rattle.one_space.specs.Scripts.{Says, at_end, skips, calls, refuses, is_late, operations_of, SaysSome, EndsBy, ReadSoFar}
+use Rattle.one_space.specs.Scripts.{Says, at_end, skips, calls, refuses, is_late, SaysSome, EndsBy, ReadSoFar, KeptSoFar, KeepsFirst, AreFirst}
 use Rattle.one_space.specs.declared.pieces.ReadFault.{ReadFault}
 use Rattle.one_space.specs.declared.pieces.ReadFault.TheVariants as pieces
 use Rattle.one_space.specs.declared.input.NextLine.{NextLine}
@@ -18,17 +18,40 @@ use Rattle.one_space.specs.declared.input.NextLine.TheVariants as next
 use Rattle.one_space.specs.declared.input.NoLine.{NoLine}
 use Rattle.one_space.specs.declared.input.NoLine.TheVariants as no
 
-pub starts : (known : Option (List ℕ)) (ops : Vec (Op Global) Global) → ops.items ≡ []
-    → IfSome known (λ bytes. ReadSoFar bytes known 1 (operations_of ops))
-starts None ops empty = tt
-starts (Some bytes) ops empty =
-    let none : operations_of ops ≡ [] = ap (map operation_of) empty in
-    record { rest = bytes; known_is = refl; leads = λ more ending r. subst (λ os. Says 1 (lines bytes) (os ++ more) ending) (sym none) r }
+pub starts : (most : ℕ) (known : Option (List ℕ)) (ops : Vec (Op Global) Global) → ops.items ≡ []
+    → IfSome known (λ bytes. KeptSoFar most bytes known 1 ops)
+starts most None ops empty = tt
+starts most (Some bytes) ops empty =
+    record {
+      all = [];
+      so_far = record { rest = bytes; known_is = refl; leads = λ more ending r. r };
+      first = ap (map operation_of) empty ∙ sym (take_all most [] (omega arith));
+    }
+
+-- What one more operation makes of the first ones.
+module _ (most : ℕ) (xs : List (Op Global)) (op : Op Global) (all : List Operation) (first : map operation_of xs ≡ take most all) where
+  counted : length xs ≡ min most (length all)
+  counted = sym (length-map xs operation_of) ∙ ap length first ∙ length-take most all
+
+  pub kept : (ys : List (Op Global)) → length xs < most → ys ≡ xs ++ op ∷ [] → map operation_of ys ≡ take most (all ++ operation_of op ∷ [])
+  kept ys room longer =
+      let short : length all < most = omega (arith, counted, room) in
+      let whole = take_all most all (omega (arith, short)) in
+      ap (map operation_of) longer ∙ map-append operation_of xs (op ∷ []) ∙ ap (λ os. os ++ operation_of op ∷ []) (first ∙ whole)
+      ∙ sym (take_all most (all ++ operation_of op ∷ []) (omega (arith, short, length-append all (operation_of op ∷ []))))
+
+  pub let_go : (ys : List (Op Global)) → most ≤ length xs → ys ≡ xs → map operation_of ys ≡ take most (all ++ operation_of op ∷ [])
+  let_go ys full same =
+      let long : most ≤ length all = omega (arith, counted, full) in
+      ap (map operation_of) same ∙ first ∙ sym (take-append-le most all (operation_of op ∷ []) long)
 
 -- What reading the next line tells of the bytes that are left.
-module _ (bytes : List ℕ) (known : Option (List ℕ)) (n : ℕ) (old : List Operation) (so_far : ReadSoFar bytes known n old)
+module _ (most : ℕ) (bytes : List ℕ) (known : Option (List ℕ)) (n : ℕ) (old : Vec (Op Global) Global) (before : KeptSoFar most bytes known n old)
     (left : Option (List ℕ)) (result : Result NextLine NoLine)
     (read : IfSome known (λ xs. MatchResult result (λ x. Gives x xs left) (λ why. Fails why xs))) where
+  so_far : ReadSoFar bytes known n before.all
+  so_far = before.so_far
+
   told : MatchResult result (λ x. Gives x so_far.rest left) (λ why. Fails why so_far.rest)
   told = subst (λ o. IfSome o (λ xs. MatchResult result (λ x. Gives x xs left) (λ why. Fails why xs))) so_far.known_is read
 
@@ -39,41 +62,52 @@ module _ (bytes : List ℕ) (known : Option (List ℕ)) (n : ℕ) (old : List Op
   fails : (why : NoLine) → result ≡ Err why → Fails why so_far.rest
   fails why e = subst (λ r. MatchResult r (λ y. Gives y so_far.rest left) (λ why. Fails why so_far.rest)) e told
 
-  ends_so : (ending : Ending) → Says n (lines so_far.rest) [] ending → Says 1 (lines bytes) old ending
-  ends_so ending r = subst (λ os. Says 1 (lines bytes) os ending) (append-nil old) (so_far.leads [] ending r)
+  ends_so : (ending : Ending) → Says n (lines so_far.rest) [] ending → Says 1 (lines bytes) before.all ending
+  ends_so ending r = subst (λ os. Says 1 (lines bytes) os ending) (append-nil before.all) (so_far.leads [] ending r)
 
-  pub ends : (new : List Operation) (field : NextLine) → result ≡ Ok field → field ≡ next.End → new ≡ old → Says 1 (lines bytes) new complete
+  pub ends : (new : Vec (Op Global) Global) (field : NextLine) → result ≡ Ok field → field ≡ next.End → new ≡ old → AreFirst most bytes new
   ends new field e f same =
-      rw same (ends_so complete (subst (λ ls. Says n ls [] complete) (sym (gives field next.End e f)) at_end))
+      rw same (record {
+        all = before.all;
+        said = ends_so complete (subst (λ ls. Says n ls [] complete) (sym (gives field next.End e f)) at_end);
+        first = before.first;
+      })
 
-  pub skips_on : (new : List Operation) (field : NextLine) → n < 2 ^ 48 → result ≡ Ok field → field ≡ next.Skipped → new ≡ old
-      → ReadSoFar bytes left (n + 1) new
+  pub skips_on : (new : Vec (Op Global) Global) (field : NextLine) → n < 2 ^ 48 → result ≡ Ok field → field ≡ next.Skipped → new ≡ old
+      → KeptSoFar most bytes left (n + 1) new
   skips_on new field below e f same =
       let given = gives field next.Skipped e f in
       rw same (record {
-        rest = given.1.rest;
-        known_is = given.1.left_is;
-        leads = λ more ending r. so_far.leads more ending (subst (λ ls. Says n ls more ending) (sym given.1.split) (skips below given.2 r));
+        all = before.all;
+        so_far = record {
+          rest = given.1.rest;
+          known_is = given.1.left_is;
+          leads = λ more ending r. so_far.leads more ending (subst (λ ls. Says n ls more ending) (sym given.1.split) (skips below given.2 r));
+        };
+        first = before.first;
       })
 
-  pub calls_on : (new : List Operation) (field : NextLine) (op : Op Global) → n < 2 ^ 48 → result ≡ Ok field → field ≡ next.Operation op
-      → new ≡ old ++ operation_of op ∷ []
-      → ReadSoFar bytes left (n + 1) new
-  calls_on new field op below e f longer =
+  pub calls_on : (new : Vec (Op Global) Global) (field : NextLine) (op : Op Global) → n < 2 ^ 48 → result ≡ Ok field → field ≡ next.Operation op
+      → KeepsFirst most old op new
+      → KeptSoFar most bytes left (n + 1) new
+  calls_on new field op below e f keeps =
       let given = gives field (next.Operation op) e f in
       record {
-        rest = given.1.rest;
-        known_is = given.1.left_is;
-        leads = λ more ending r.
-            let said = so_far.leads (operation_of op ∷ more) ending
-            (subst (λ ls. Says n ls (operation_of op ∷ more) ending) (sym given.1.split) (calls (operation_of op) below given.2 r)) in
-            subst (λ os. Says 1 (lines bytes) os ending)
-            (sym (append_assoc old (operation_of op ∷ []) more) ∙ ap (λ os. os ++ more) (sym longer)) said;
+        all = before.all ++ operation_of op ∷ [];
+        so_far = record {
+          rest = given.1.rest;
+          known_is = given.1.left_is;
+          leads = λ more ending r.
+              let said = so_far.leads (operation_of op ∷ more) ending
+              (subst (λ ls. Says n ls (operation_of op ∷ more) ending) (sym given.1.split) (calls (operation_of op) below given.2 r)) in
+              subst (λ os. Says 1 (lines bytes) os ending) (sym (append_assoc before.all (operation_of op ∷ []) more)) said;
+        };
+        first = keeps before.all before.first;
       }
 
   failed : (why : NoLine) → n < 2 ^ 48 → Fails why so_far.rest → EndsBy (fault_at n why) bytes
   failed (no.Refused fault) below f =
-      (old, ends_so (refused_at n fault) (subst (λ ls. Says n ls [] (refused_at n fault)) (sym f.1.split) (refuses below f.0 f.1.holds)))
+      (before.all, ends_so (refused_at n fault) (subst (λ ls. Says n ls [] (refused_at n fault)) (sym f.1.split) (refuses below f.0 f.1.holds)))
   failed no.NoMemory below f = tt
   failed (no.Read error) below f = tt
 
@@ -81,43 +115,46 @@ module _ (bytes : List ℕ) (known : Option (List ℕ)) (n : ℕ) (old : List Op
   fails_so why below e = failed why below (fails why e)
 
 -- What is left behind the last line that there may be.
-module _ (bytes : List ℕ) (known : Option (List ℕ)) (n : ℕ) (old : List Operation) (so_far : ReadSoFar bytes known n old)
+module _ (most : ℕ) (bytes : List ℕ) (known : Option (List ℕ)) (n : ℕ) (old : Vec (Op Global) Global) (before : KeptSoFar most bytes known n old)
     (result : Result Bool ReadFault)
     (more : IfSome known (λ xs. IfOk result (λ is_more. MatchBool is_more (BeginsWith (λ _. Unit {0}) xs) (lines xs ≡ [])))) where
+  unread : ReadSoFar bytes known n before.all
+  unread = before.so_far
+
   left_behind : (field b : Bool) → result ≡ Ok field → field ≡ b
-      → MatchBool b (BeginsWith (λ _. Unit {0}) so_far.rest) (lines so_far.rest ≡ [])
+      → MatchBool b (BeginsWith (λ _. Unit {0}) unread.rest) (lines unread.rest ≡ [])
   left_behind field b e f =
       let LeftBehind : List ℕ → Bool → Type 0 =
       λ xs is_more. MatchBool is_more (BeginsWith (λ _. Unit {0}) xs) (lines xs ≡ []) in
-      subst (λ b. LeftBehind so_far.rest b) f
-      (subst (λ r. IfOk r (LeftBehind so_far.rest)) e (subst (λ o. IfSome o (λ xs. IfOk result (LeftBehind xs))) so_far.known_is more))
+      subst (λ b. LeftBehind unread.rest b) f
+      (subst (λ r. IfOk r (LeftBehind unread.rest)) e (subst (λ o. IfSome o (λ xs. IfOk result (LeftBehind xs))) unread.known_is more))
 
-  says_so : (ending : Ending) → Says n (lines so_far.rest) [] ending → Says 1 (lines bytes) old ending
-  says_so ending r = subst (λ os. Says 1 (lines bytes) os ending) (append-nil old) (so_far.leads [] ending r)
+  says_so : (ending : Ending) → Says n (lines unread.rest) [] ending → Says 1 (lines bytes) before.all ending
+  says_so ending r = subst (λ os. Says 1 (lines bytes) os ending) (append-nil before.all) (unread.leads [] ending r)
 
   pub one_too_many : (field : Bool) → result ≡ Ok field → field ≡ true → 2 ^ 48 ≤ n → SaysSome bytes (refused_at n TooLong)
   one_too_many field e f low =
       let another = left_behind field true e f in
-      (old, says_so (refused_at n TooLong) (subst (λ ls. Says n ls [] (refused_at n TooLong)) (sym another.split) (is_late low)))
+      (before.all, says_so (refused_at n TooLong) (subst (λ ls. Says n ls [] (refused_at n TooLong)) (sym another.split) (is_late low)))
 
-  pub none_left : (new : List Operation) (field : Bool) → result ≡ Ok field → field ≡ false → new ≡ old → Says 1 (lines bytes) new complete
+  pub none_left : (new : Vec (Op Global) Global) (field : Bool) → result ≡ Ok field → field ≡ false → new ≡ old → AreFirst most bytes new
   none_left new field e f same =
-      rw same (says_so complete (subst (λ ls. Says n ls [] complete) (sym (left_behind field false e f)) at_end))
+      rw same (record {
+        all = before.all;
+        said = says_so complete (subst (λ ls. Says n ls [] complete) (sym (left_behind field false e f)) at_end);
+        first = before.first;
+      })
 
 pub not_read : (bytes : List ℕ) (fault : ReadFault) → EndsBy (read_fault_of fault) bytes
 not_read bytes pieces.NoMemory = tt
 not_read bytes (pieces.Read error) = tt
 
-pub at_number : (start known : Option (List ℕ)) (n m : ℕ) (os : List Operation) → n ≡ m
-    → IfSome start (λ bytes. ReadSoFar bytes known n os) → IfSome start (λ bytes. ReadSoFar bytes known m os)
-at_number start known n m os e h = subst (λ k. IfSome start (λ bytes. ReadSoFar bytes known k os)) e h
+pub at_number : (most : ℕ) (start known : Option (List ℕ)) (n m : ℕ) (ops : Vec (Op Global) Global) → n ≡ m
+    → IfSome start (λ bytes. KeptSoFar most bytes known n ops) → IfSome start (λ bytes. KeptSoFar most bytes known m ops)
+at_number most start known n m ops e h = subst (λ k. IfSome start (λ bytes. KeptSoFar most bytes known k ops)) e h
 
 -- The line that was read is one of a script whose bytes are known.
 pub goes_on : (P Q R : List ℕ → Type 0) (start : Option (List ℕ)) (b : Bool) → b ≡ true
     → ((bytes : List ℕ) → P bytes → MatchBool b (Q bytes) (R bytes)) → IfSome start P → IfSome start Q
 goes_on P Q R None b e f h = tt
 goes_on P Q R (Some bytes) b e f h = subst (λ b. MatchBool b (Q bytes) (R bytes)) e (f bytes h)
-
-pub one_more : (xs ys : List (Op Global)) (op : Op Global) → ys ≡ xs ++ op ∷ []
-    → map operation_of ys ≡ map operation_of xs ++ operation_of op ∷ []
-one_more xs ys op e = ap (map operation_of) e ∙ map-append operation_of xs (op ∷ [])

@@ -1,5 +1,5 @@
 -- What the lines of a script say: the operations that they are of, until a line is refused.
-use Rattle.std.specs.Prelude.{◌≡◌, ◌≢◌, ℕ, ◌+◌, ◌^◌, ◌<◌, ◌≤◌, Bool, MatchBool, List, [], ◌∷◌, ◌++◌, map, Option, Some, IfSome, Result, MatchResult, Vec}
+use Rattle.std.specs.Prelude.{◌≡◌, ◌≢◌, ℕ, ◌+◌, ◌^◌, ◌<◌, ◌≤◌, Bool, MatchBool, List, [], ◌∷◌, ◌++◌, map, take, Option, Some, IfSome, Result, MatchResult, Vec}
 use Rattle.std.specs.declared.alloc.Global.{Global}
 use Rattle.std.specs.Str.Lines.{lines}
 use Rattle.tuple_codec.specs.Operations.{Operation}
@@ -40,11 +40,16 @@ EndsBy NoMemory bytes = Unit {0}
 EndsBy (Read error) bytes = Unit {0}
 EndsBy (Write error) bytes = ⊥
 
--- The operations of all lines of the bytes were read, where these are known, or why not is told.
-abbrev pub JudgesScript : Result (Vec (Op Global) Global) LocalFault → Option (List ℕ) → Type 0
-JudgesScript result known =
-    IfSome known (λ bytes.
-    MatchResult result (λ ops. Says 1 (lines bytes) (operations_of ops) complete) (λ fault. EndsBy fault bytes))
+-- Of the operations of all lines of these bytes they are the first, up to so many.
+pub record AreFirst (most : ℕ) (bytes : List ℕ) (ops : Vec (Op Global) Global) : Type 0 where
+  pub all : List Operation
+  pub said : Says 1 (lines bytes) all complete
+  pub first : operations_of ops ≡ take most all
+
+-- All lines of the bytes were read, where these are known, or why not is told.
+abbrev pub JudgesScript : ℕ → Result (Vec (Op Global) Global) LocalFault → Option (List ℕ) → Type 0
+JudgesScript most result known =
+    IfSome known (λ bytes. MatchResult result (λ ops. AreFirst most bytes ops) (λ fault. EndsBy fault bytes))
 
 -- ---- of private functions
 
@@ -55,26 +60,34 @@ pub record ReadSoFar (bytes : List ℕ) (known : Option (List ℕ)) (n : ℕ) (o
   pub leads : (more : List Operation) (ending : Ending) → Says n (lines rest) more ending
       → Says 1 (lines bytes) (os ++ more) ending
 
--- all were read
-abbrev pub IsRead : List ℕ → Vec (Op Global) Global → Type 0
-IsRead bytes ops = Says 1 (lines bytes) (operations_of ops) complete
+-- The same, where the first of them are kept, up to so many.
+pub record KeptSoFar (most : ℕ) (bytes : List ℕ) (known : Option (List ℕ)) (n : ℕ) (ops : Vec (Op Global) Global) : Type 0 where
+  pub all : List Operation
+  pub so_far : ReadSoFar bytes known n all
+  pub first : operations_of ops ≡ take most all
+
+-- One more operation comes behind those of which these are the first, up to so many.
+abbrev pub KeepsFirst : ℕ → Vec (Op Global) Global → Op Global → Vec (Op Global) Global → Type 0
+KeepsFirst most old op new =
+    (all : List Operation) → operations_of old ≡ take most all → operations_of new ≡ take most (all ++ operation_of op ∷ [])
 
 -- The line of this number was read, or there is none, or why not is told.
-abbrev pub ReadsScriptLine : Result Bool LocalFault → ℕ
+abbrev pub ReadsScriptLine : ℕ → Result Bool LocalFault → ℕ
     → Option (List ℕ) → Vec (Op Global) Global → Option (List ℕ) → Vec (Op Global) Global → Type 0
-ReadsScriptLine result n known old left new =
-    (bytes : List ℕ) → ReadSoFar bytes known n (operations_of old)
+ReadsScriptLine most result n known old left new =
+    (bytes : List ℕ) → KeptSoFar most bytes known n old
     → MatchResult result
-    (λ more. MatchBool more (ReadSoFar bytes left (n + 1) (operations_of new)) (IsRead bytes new))
+    (λ more. MatchBool more (KeptSoFar most bytes left (n + 1) new) (AreFirst most bytes new))
     (λ fault. EndsBy fault bytes)
 
 -- Nothing is left behind the last line that there may be, or why not is told.
-abbrev pub EndsScript : Result (Unit {0}) LocalFault → Option (List ℕ) → Vec (Op Global) Global → Vec (Op Global) Global → Type 0
+abbrev pub EndsScript : Result (Unit {0}) LocalFault → Option (List ℕ)
+    → Vec (Op Global) Global → Vec (Op Global) Global → Type 0
 EndsScript result known old new =
-    (bytes : List ℕ) → ReadSoFar bytes known (2 ^ 48) (operations_of old)
-    → MatchResult result (λ _. IsRead bytes new) (λ fault. EndsBy fault bytes)
+    (most : ℕ) (bytes : List ℕ) → KeptSoFar most bytes known (2 ^ 48) old
+    → MatchResult result (λ _. AreFirst most bytes new) (λ fault. EndsBy fault bytes)
 
 -- The script was read, where its bytes are known, or why not is told.
-abbrev pub ReadsScript : Result (Unit {0}) LocalFault → Option (List ℕ) → Vec (Op Global) Global → Type 0
-ReadsScript result known new =
-    IfSome known (λ bytes. MatchResult result (λ _. IsRead bytes new) (λ fault. EndsBy fault bytes))
+abbrev pub ReadsScript : ℕ → Result (Unit {0}) LocalFault → Option (List ℕ) → Vec (Op Global) Global → Type 0
+ReadsScript most result known new =
+    IfSome known (λ bytes. MatchResult result (λ _. AreFirst most bytes new) (λ fault. EndsBy fault bytes))

@@ -60,16 +60,17 @@ fn run_lines<R: Print + Eprint + AllocGlobal, I: Read + Drop>(rt: &R, input: I, 
     }
 }
 
-/// The operations of the script at this path, by [`read_script`].
+/// The operations of the script at this path, up to `most` of them, by [`read_script`].
 pub fn script_at<'a, R: Files + Input + AllocGlobal>(
     rt: &R,
     path: &'a str,
+    most: usize,
 ) -> Result<Vec<Op<Global>>, Complaint<'a>> {
     let script = if path == STANDARD_INPUT {
-        read_script(rt.alloc(), rt.reader())
+        read_script(rt.alloc(), rt.reader(), most)
     } else {
         match fs::open(rt, path) {
-            Ok(file) => read_script(rt.alloc(), file),
+            Ok(file) => read_script(rt.alloc(), file, most),
             Err(error) => return Err(Complaint::of_open(&error, path)),
         }
     };

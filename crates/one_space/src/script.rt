@@ -1,8 +1,8 @@
-//! A script, read whole.
+//! A script, of which each line is judged, and so many operations are kept.
 
-ghost use Rattle.std.specs.Prelude.{◌≡◌, ◌^◌, ◌<◌, []};
+ghost use Rattle.std.specs.Prelude.{◌≡◌, ◌^◌, ◌<◌, [], IfErr, OnOk};
 ghost use Rattle.std.specs.Io.Buffered.{reader_remaining};
-ghost use Rattle.one_space.specs.Scripts.{EndsScript, JudgesScript, ReadsScript, ReadsScriptLine};
+ghost use Rattle.one_space.specs.Scripts.{EndsScript, JudgesScript, KeepsFirst, ReadsScript, ReadsScriptLine};
 
 use crate::input::{NextLine, NoLine, has_line, next_line};
 use crate::session::{LINES_END, LocalFault, line_fault, read_fault};
@@ -11,10 +11,15 @@ use std::io::{BufReader, Read};
 use tuple_codec::Op;
 use tuple_text::LineFault;
 
-/// Reads the operations of a script's lines, in their order. Lines are numbered from 1 and stay below 2 to the power of
-/// 48; the first one that is refused is told with its number.
-pub fn read_script<R: Read + Drop>(alloc: Global, reader: R) -> Result<Vec<Op<Global>>, LocalFault>
-    ensures { JudgesScript result (R.remaining reader) }
+/// Reads the lines of a script, and gives their operations in their order: the first `most` of them, if there are more.
+/// Lines are numbered from 1 and stay below 2 to the power of 48; the first one that is refused is told with its number.
+/// Only what is given and one line take memory.
+pub fn read_script<R: Read + Drop>(
+    alloc: Global,
+    reader: R,
+    most: usize,
+) -> Result<Vec<Op<Global>>, LocalFault>
+    ensures { JudgesScript most result (R.remaining reader) }
 {
     let mut input = match BufReader::new(alloc, reader) {
         Ok(input) => input,
@@ -24,7 +29,7 @@ pub fn read_script<R: Read + Drop>(alloc: Global, reader: R) -> Result<Vec<Op<Gl
         line: Vec::new(alloc),
         ops: Vec::new(alloc),
     };
-    match script.read_lines(alloc, &mut input) {
+    match script.read_lines(alloc, &mut input, most) {
         Ok(()) => Ok(script.ops),
         Err(fault) => Err(fault),
     }
@@ -42,12 +47,13 @@ impl Script {
         &mut self,
         alloc: Global,
         reader: &mut BufReader<R>,
+        most: usize,
     ) -> Result<(), LocalFault>
         requires none { self.old.ops.items ≡ [] }
-        ensures { ReadsScript result (reader_remaining R.remaining reader.old) self.new.ops }
+        ensures { ReadsScript most result (reader_remaining R.remaining reader.old) self.new.ops }
     {
         for number in 1..LINES_END {
-            match self.read_line(alloc, number, reader) {
+            match self.read_line(alloc, number, reader, most) {
                 Ok(true) => {}
                 Ok(false) => return Ok(()),
                 Err(fault) => return Err(fault),
@@ -62,9 +68,10 @@ impl Script {
         alloc: Global,
         number: u64,
         reader: &mut BufReader<R>,
+        most: usize,
     ) -> Result<bool, LocalFault>
         requires early { number < 2 ^ 48 }
-        ensures { ReadsScriptLine result number
+        ensures { ReadsScriptLine most result number
             (reader_remaining R.remaining reader.old) self.old.ops
             (reader_remaining R.remaining reader.new) self.new.ops }
     {
@@ -72,12 +79,24 @@ impl Script {
             Ok(NextLine::End) => Ok(false),
             Ok(NextLine::Skipped) => Ok(true),
             Ok(NextLine::Operation(op)) => {
-                if self.ops.push(op).is_err() {
-                    return Err(LocalFault::NoMemory);
-                }
+                self.keep(op, most)?;
                 Ok(true)
             }
             Err(no) => Err(line_fault(number, no)),
+        }
+    }
+
+    // Keeps the operation, if fewer than so many are kept.
+    fn keep(&mut self, op: Op<Global>, most: usize) -> Result<(), LocalFault>
+        ensures kept { OnOk result (KeepsFirst most self.old.ops op self.new.ops) }
+        ensures fault { IfErr result (λ fault. fault ≡ LocalFault.NoMemory) }
+    {
+        if self.ops.len() >= most {
+            return Ok(());
+        }
+        match self.ops.push(op) {
+            Ok(()) => Ok(()),
+            Err(_) => Err(LocalFault::NoMemory),
         }
     }
 

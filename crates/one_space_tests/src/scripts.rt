@@ -1,7 +1,7 @@
 //! Worked scripts and digits.
 
 use crate::endings::{Ending, local_ending, show_ending};
-use one_space::{Complaint, LocalFault, ShowFault, local, show};
+use one_space::{Complaint, LocalFault, ShowFault, local, read_script, show};
 use std::io::{self, Read, Write};
 use std::test::Fail;
 use tuple_text::LineFault;
@@ -106,6 +106,34 @@ fn runs_scripts(rt: HostRuntime) {
         let given = local_ending(local(rt.alloc(), script.as_bytes(), &mut written));
         assert_eq!(rt; given, ending, "{script}");
         assert!(rt; written.as_slice() == results.as_bytes(), "{script}");
+    }
+}
+
+// Scripts, how many operations are kept of them at the most, how many then are, and how reading ends.
+static KEPT: [(&str, usize, usize, Ending); 6] = [
+    ("", 1, 0, Ending::Complete),
+    ("out (1)\n# x\nout (2)\nout (3)", 4, 3, Ending::Complete),
+    ("out (1)\n# x\nout (2)\nout (3)", 3, 3, Ending::Complete),
+    ("out (1)\n# x\nout (2)\nout (3)", 2, 2, Ending::Complete),
+    ("out (1)\n# x\nout (2)\nout (3)", 0, 0, Ending::Complete),
+    // A line is judged also if its operation would not be kept.
+    (
+        "out (1)\n# x\nout (2)\nout (3",
+        1,
+        0,
+        Ending::Refused(4, LineFault::BadByte { offset: 6 }),
+    ),
+];
+
+#[test]
+fn keeps_the_first_operations(rt: HostRuntime) {
+    for &(script, most, len, ending) in &KEPT {
+        let (given, kept) = match read_script(rt.alloc(), script.as_bytes(), most) {
+            Ok(ops) => (Ending::Complete, ops.len()),
+            Err(fault) => (local_ending(Err(fault)), 0),
+        };
+        assert_eq!(rt; given, ending, "{script}");
+        assert_eq!(rt; kept, len, "{script}");
     }
 }
 

@@ -1,7 +1,7 @@
 //! Scripts on running clusters.
 
 use crate::end_run;
-use crate::run::{RunFault, run};
+use crate::run::{RunFault, most_operations, run};
 use crate::schedule::read_settings;
 use crate::tests::words::{Console, holds};
 use cluster_run::{Gate, Open, RunFault as ClusterFault, Unwatched, Watch, is_faultless};
@@ -123,7 +123,7 @@ fn run_text<R: Threads + Wait + Clock + Copy + Send + 'static>(
     let Ok(settings) = read_settings(alloc, settings.as_bytes()) else {
         return Ending::Configuration;
     };
-    match read_script(alloc, script.as_bytes()) {
+    match read_script(alloc, script.as_bytes(), most_operations(&settings)) {
         Ok(ops) => {
             let watch = &mut Unwatched;
             ending_of(run_alone(rt, alloc, &settings, Open, ops, written, watch))

@@ -20,14 +20,11 @@ fn shows_and_clears_a_line(rt: HostRuntime) {
     display.note(1, 2);
     display.note(2, 3);
     display.note(3, 5);
-    assert!(rt; holds(&console.errors, "\r3 of 7 answered\r5 of 7 answered"));
+    let shown = "3 of 7 answered\n\x1b[A\x1b[K5 of 7 answered\n";
+    assert!(rt; holds(&console.errors, shown));
     display.end();
-    assert!(rt;
-        holds(
-            &console.errors,
-            "\r3 of 7 answered\r5 of 7 answered\r\x1b[K"
-        )
-    );
+    let cleared = "3 of 7 answered\n\x1b[A\x1b[K5 of 7 answered\n\x1b[A\x1b[K";
+    assert!(rt; holds(&console.errors, cleared));
     assert!(rt; holds(&console.output, ""));
 }
 

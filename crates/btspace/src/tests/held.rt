@@ -81,7 +81,7 @@ fn answers_all<R: Threads + Wait + Clock + Copy + Drop + Send + Sync + 'static>(
     let Ok(settings) = read_settings(alloc, CLUSTER_SETTINGS.as_bytes()) else {
         return false;
     };
-    let Ok(ops) = read_script(alloc, script.as_bytes()) else {
+    let Ok(ops) = read_script(alloc, script.as_bytes(), usize::MAX) else {
         return false;
     };
     let gate = HoldsPrimary {

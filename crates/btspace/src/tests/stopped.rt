@@ -75,7 +75,7 @@ fn run_stopping<R: Threads + Wait + Clock + Copy + Send + 'static>(
         return None;
     };
     let settings = read_settings(alloc, CLUSTER_SETTINGS.as_bytes()).ok()?;
-    let ops = read_script(alloc, script.as_bytes()).ok()?;
+    let ops = read_script(alloc, script.as_bytes(), usize::MAX).ok()?;
     let gate = StopsFirst { nodes, seen: asked };
     let mut watch = CountsSeconds { nodes, seen: told };
     Some(run_alone(rt, alloc, &settings, gate, ops, written, &mut watch))

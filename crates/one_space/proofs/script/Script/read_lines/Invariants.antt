@@ -1,10 +1,10 @@
 use Rattle.std.proofs.Common.{IfSome}
 use Rattle.std.specs.Io.Buffered.{reader_remaining}
-use Rattle.one_space.specs.Scripts.{ReadSoFar, operations_of}
+use Rattle.one_space.specs.Scripts.{KeptSoFar}
 use Rattle.one_space.proofs.script.Script.read_lines.Given as goal
 
 -- Any operations that the lines say that are left go on from here.
 abbrev pub invariant-loop-number : goal.invariant-loop-number
 invariant-loop-number g l =
     IfSome (reader_remaining g.R.Read.remaining l.initial.reader) (λ bytes.
-    ReadSoFar bytes (reader_remaining g.R.Read.remaining l.reader) l.number (operations_of l.self.ops))
+    KeptSoFar l.most bytes (reader_remaining g.R.Read.remaining l.reader) l.number l.self.ops)
