@@ -1,0 +1,138 @@
+//! All memory of a process but for what is given back.
+
+use std::alloc::Global;
+use std::fs;
+use std::io::Read;
+use std::rt::Files;
+
+// A process has fewer addresses than 2 to the power of this.
+const ADDRESSES: u32 = 48;
+
+// Blocks of less than 2 to the power of this are kept by `malloc` when they are freed, each for one of its length, in
+// steps of 16 bytes.
+const KEPT: u32 = 11;
+
+const KEPT_LENGTHS: usize = 128;
+
+// Of each block a page or two are used. Where so many blocks are not enough, the system gives small ones alone, and the
+// pages would be memory that others lack.
+const BLOCKS: usize = 1 << 15;
+
+// How the system counts memory that is taken and not used.
+const COUNTING: &str = "/proc/sys/vm/overcommit_memory";
+
+// That it counts all of it.
+const STRICTLY: u8 = b'2';
+
+/// How a call came out.
+#[derive(Clone, Copy, Debug, PartialEq, Eq)]
+pub enum Outcome {
+    Done,
+    /// Memory ran out, and all is as the call promises for that.
+    Refused,
+    Wrong,
+}
+
+/// A call that can be made again and again.
+pub trait Call {
+    fn call(&mut self, alloc: Global) -> Outcome;
+}
+
+/// How often a call came out so.
+#[derive(Clone, Copy, Debug, Default)]
+pub struct Tally {
+    done: usize,
+    refused: usize,
+    wrong: usize,
+}
+
+impl Tally {
+    fn add(&mut self, outcome: Outcome) {
+        let count = match outcome {
+            Outcome::Done => &mut self.done,
+            Outcome::Refused => &mut self.refused,
+            Outcome::Wrong => &mut self.wrong,
+        };
+        *count = count.saturating_add(1);
+    }
+
+    /// Whether the call was right each time, wanted memory at first, and had enough in the end.
+    pub fn is_right(&self) -> bool {
+        self.wrong == 0 && self.refused > 0 && self.done > 0
+    }
+}
+
+/// Makes the call, and again while no memory is left, and after each of so many crumbs of this length but the last.
+/// None where the system counts memory strictly, or gives no blocks that are large enough: others would lack it.
+pub fn under_each_size<R: Files, C: Call>(
+    rt: &R,
+    alloc: Global,
+    crumbs: usize,
+    len: usize,
+    call: &mut C,
+) -> Option<Tally> {
+    if is_counted_strictly(rt) {
+        return None;
+    }
+    let mut tally = Tally::default();
+    // The stack has no room to grow afterwards, and keeps what the call takes of it.
+    if call.call(alloc) != Outcome::Done {
+        tally.add(Outcome::Wrong);
+        return Some(tally);
+    }
+    let mut given_back = blocks_of(alloc, crumbs, len)?;
+    let taken = take_all(alloc)?;
+    for _ in 0..crumbs {
+        tally.add(call.call(alloc));
+        given_back.pop();
+    }
+    drop(taken);
+    Some(tally)
+}
+
+fn is_counted_strictly<R: Files>(rt: &R) -> bool {
+    let Ok(mut file) = fs::open(rt, COUNTING) else {
+        return true;
+    };
+    let mut mode = [STRICTLY];
+    !matches!(file.read(mode.as_mut_slice()), Ok(1)) || mode[0] == STRICTLY
+}
+
+fn blocks_of(alloc: Global, count: usize, len: usize) -> Option<Vec<Vec<u8>>> {
+    let mut blocks = Vec::with_capacity(alloc, count).ok()?;
+    for _ in 0..count {
+        blocks.push(Vec::with_capacity(alloc, len).ok()?).ok()?;
+    }
+    Some(blocks)
+}
+
+// Takes blocks, the greatest first, until there is none to be had.
+fn take_all(alloc: Global) -> Option<Vec<Vec<u8>>> {
+    let mut taken = Vec::with_capacity(alloc, BLOCKS).ok()?;
+    for exponent in (KEPT..ADDRESSES).rev() {
+        if !take_each(alloc, 1 << exponent, &mut taken) {
+            return None;
+        }
+    }
+    for length in (1..=KEPT_LENGTHS).rev() {
+        if !take_each(alloc, 16 * length, &mut taken) {
+            return None;
+        }
+    }
+    Some(taken)
+}
+
+// Takes blocks of this length until there is none to be had, and answers whether they have their places.
+fn take_each(alloc: Global, len: usize, taken: &mut Vec<Vec<u8>>) -> bool {
+    for _ in taken.len()..BLOCKS {
+        match Vec::with_capacity(alloc, len) {
+            Ok(block) => {
+                if taken.push(block).is_err() {
+                    return false;
+                }
+            }
+            Err(_) => return true,
+        }
+    }
+    false
+}
