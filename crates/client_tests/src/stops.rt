@@ -5,7 +5,7 @@ use crate::clients::{
     Given, Input, OUT, OUT_ORDERED, RDP, RDP_READ, Row, are_given, frame_in, new_client, operation,
     step,
 };
-use crate::replies::{Case, FALLS_BACK, OUTS, READS, RETRIED};
+use crate::replies::{Case, FALL_BACK, REPLIES, RETRIED};
 use authenticator::SealFault;
 use client_cert::{Client, Event, InvokeFault};
 use events::Stop;
@@ -16,22 +16,15 @@ use tuple_codec::{Bad, Op};
 
 static CALLS: [Case<'static>; 2] = [(OUT, OUT_ORDERED, &[]), (RDP, RDP_READ, &[])];
 
-static REPLIES: [Case<'static>; 2] = [(OUT, OUT_ORDERED, &OUTS), (RDP, RDP_READ, &READS)];
-
-// Two retries of an ordered request, and retries of a read.
-static RETRIES: [Case<'static>; 2] = [
-    (
-        OUT,
-        OUT_ORDERED,
-        &[
-            (Input::Retry, Given::Asks(OUT_ORDERED)),
-            (Input::Retry, Given::Asks(OUT_ORDERED)),
-        ],
-    ),
-    (RDP, RDP_READ, &RETRIED),
-];
-
-static FALL_BACK: Case<'static> = (RDP, RDP_READ, &FALLS_BACK);
+// Two retries of an ordered request.
+static ASKED_AGAIN: Case<'static> = (
+    OUT,
+    OUT_ORDERED,
+    &[
+        (Input::Retry, Given::Asks(OUT_ORDERED)),
+        (Input::Retry, Given::Asks(OUT_ORDERED)),
+    ],
+);
 
 // What prepares a step is tried a second time where memory runs out.
 fn made(alloc: Global) -> Result<Client, NoMemory> {
@@ -134,7 +127,7 @@ fn refused_memory_at_replies(rt: HostRuntime) -> Result<(), Fail> {
 
 #[test]
 fn refused_memory_at_retries(rt: HostRuntime) -> Result<(), Fail> {
-    for &case in &RETRIES {
+    for case in [ASKED_AGAIN, RETRIED] {
         assert!(rt; goes_or_stops(rt.alloc(), case)?);
     }
     Ok(())

@@ -1,6 +1,7 @@
 //! A batch of the first request of client 0, out (1), and which replicas take it as genuine.
 
-ghost use Rattle.std.specs.Prelude.{◌≡◌, ◌≤◌, false, IfOk};
+ghost use Rattle.std.specs.Prelude.{◌≡◌, ◌≤◌, ◌∷◌, [], false, map, IfOk};
+ghost use Rattle.terms.specs.Parties.{party_number};
 ghost use Rattle.wire.specs.Spelling.{IsBatch, IsBody, IsCarried, is_ordered_request, is_signed};
 ghost use Rattle.wire.specs.Views.{body_data, message_data};
 
@@ -16,12 +17,16 @@ use wire::{Batch, Body, Message, Request, is_ordered_request};
 // The SHA-256 of replica 0's pre-prepare of the batch at number 1 in view 0, by Python's hashlib and hmac.
 const PRE_PREPARE: &str = "7fd8420733c143bacbb1108c1e75ea8bedde1432e5da7a37bfe3e8b06fd41740";
 
-const REPLICAS: [Party; 4] = [
-    Party::Replica(ReplicaId(0)),
-    Party::Replica(ReplicaId(1)),
-    Party::Replica(ReplicaId(2)),
-    Party::Replica(ReplicaId(3)),
-];
+fn replicas() -> [Party; 4]
+    ensures { map party_number result ≡ 0 ∷ 1 ∷ 2 ∷ 3 ∷ [] }
+{
+    [
+        Party::Replica(ReplicaId(0)),
+        Party::Replica(ReplicaId(1)),
+        Party::Replica(ReplicaId(2)),
+        Party::Replica(ReplicaId(3)),
+    ]
+}
 
 fn request(alloc: Global) -> Result<Body, Bad>
     ensures said { IfOk result (λ b. IsBody (body_data b)) }
@@ -40,7 +45,7 @@ fn request(alloc: Global) -> Result<Body, Bad>
 // The request's frame for the four replicas.
 fn request_frame(alloc: Global) -> Result<Vec<u8>, Fail> {
     let body = request(alloc)?;
-    Ok(new_ring(alloc).seal(alloc, &body, &REPLICAS)?)
+    Ok(new_ring(alloc).seal(alloc, &body, &replicas())?)
 }
 
 fn batch_of(alloc: Global, frame: Vec<u8>) -> Result<Batch, NoMemory>

@@ -1,6 +1,7 @@
 //! Worked frames, whose bytes come from Python's hmac and hashlib.
 
-ghost use Rattle.std.specs.Prelude.{◌≡◌, false, IfOk};
+ghost use Rattle.std.specs.Prelude.{◌≡◌, ◌∷◌, [], false, map, IfOk};
+ghost use Rattle.terms.specs.Parties.{party_number};
 ghost use Rattle.wire.specs.Spelling.{IsBody, is_signed};
 ghost use Rattle.wire.specs.Views.{body_data, message_data};
 
@@ -15,20 +16,27 @@ use tuple_codec::{Bad, Op, decode_op};
 use tuple_tree::{Atom, Value};
 use wire::{Authenticator, Body, Frame, Message, ReceiverMac, Request};
 
-const REPLICAS: [Party; 4] = [
-    Party::Replica(ReplicaId(0)),
-    Party::Replica(ReplicaId(1)),
-    Party::Replica(ReplicaId(2)),
-    Party::Replica(ReplicaId(3)),
-];
-
 const CLIENT: Party = Party::Client(ClientId { number: 0 });
 
-const CLIENTS: [Party; 3] = [
-    CLIENT,
-    Party::Client(ClientId { number: 1 }),
-    Party::Client(ClientId { number: 2 }),
-];
+const SECOND_CLIENT: Party = Party::Client(ClientId { number: 1 });
+
+// There are two.
+const THIRD_CLIENT: Party = Party::Client(ClientId { number: 2 });
+
+fn replica(number: u8) -> Party {
+    Party::Replica(ReplicaId(number))
+}
+
+fn replicas() -> [Party; 4]
+    ensures { map party_number result ≡ 0 ∷ 1 ∷ 2 ∷ 3 ∷ [] }
+{
+    [
+        Party::Replica(ReplicaId(0)),
+        Party::Replica(ReplicaId(1)),
+        Party::Replica(ReplicaId(2)),
+        Party::Replica(ReplicaId(3)),
+    ]
+}
 
 // The SHA-256 of the request below with a MAC for each of four replicas, under the seed 00 01 .. 1f.
 const SEALED: &str = "b3fcc2a0b2ecee83d20e75fc4c640da5d1ce29112d0c620d4db87dcd9dbeae1b";
@@ -66,36 +74,43 @@ fn sealed_for(
 // The frame of the first client's request for the four replicas.
 fn sealed_for_all(ring: &mut Ring, alloc: Global) -> Result<Vec<u8>, Fail> {
     let body = request(alloc, CLIENT)?;
-    Ok(ring.seal(alloc, &body, &REPLICAS)?)
+    Ok(ring.seal(alloc, &body, &replicas())?)
 }
 
-// A sender, a receiver, and the code of the request between them.
-type Row<'a> = (Party, Party, &'a str);
+// The numbers of two replicas, of which None is client 0, and the code of the request between them.
+type Row<'a> = (Option<u8>, Option<u8>, &'a str);
 
 // Python's hmac: hmac(hmac(seed, 4d || be16 from || be16 to), body), for the body
 // 41 || be16 from || be64 1 || 00 || 21 01 01 || be64 1.
-const ROWS: [Row<'static>; 4] = [
+static ROWS: [Row<'static>; 4] = [
     (
-        Party::Replica(ReplicaId(0)),
-        Party::Replica(ReplicaId(1)),
+        Some(0),
+        Some(1),
         "5fc0b9193f67d74cc43c1fd5ff8c36d278d05b8629523bd931b4bddf63301d79",
     ),
     (
-        Party::Replica(ReplicaId(1)),
-        Party::Replica(ReplicaId(0)),
+        Some(1),
+        Some(0),
         "eb1094b7c2ad3aa760c26ec2a344a6af643dc5b412c6e1228e2765fdca1c8d02",
     ),
     (
-        CLIENT,
-        Party::Replica(ReplicaId(3)),
+        None,
+        Some(3),
         "2f6a2ac079126dac5169d5a05779c513f6778f2a6e1e5e8d95037ceb02c1ca1f",
     ),
     (
-        Party::Replica(ReplicaId(3)),
-        CLIENT,
+        Some(3),
+        None,
         "1856a86079d4a70e1e718732b34ceadadb928b30b7e78d406609ecc4e56f51b0",
     ),
 ];
+
+fn party(number: Option<u8>) -> Party {
+    match number {
+        Some(number) => replica(number),
+        None => CLIENT,
+    }
+}
 
 // The code that ends a frame for one receiver.
 fn code_of(frame: &[u8]) -> Option<[u8; 32]> {
@@ -106,7 +121,7 @@ fn code_of(frame: &[u8]) -> Option<[u8; 32]> {
 }
 
 fn agrees(ring: &mut Ring, alloc: Global, (from, to, digits): Row<'_>) -> Result<bool, Fail> {
-    let frame = sealed_for(ring, alloc, from, to)?;
+    let frame = sealed_for(ring, alloc, party(from), party(to))?;
     match code_of(frame.as_slice()) {
         Some(code) => Ok(is_code(code, digits)),
         None => Ok(false),
@@ -118,7 +133,7 @@ fn each_direction_has_its_key(rt: HostRuntime) -> Result<(), Fail> {
     let mut ring = ring(rt.alloc());
     // Derived at first, and then kept.
     for _ in 0..2 {
-        for row in ROWS {
+        for &row in &ROWS {
             assert!(rt; agrees(&mut ring, rt.alloc(), row)?, "{}", row.2);
         }
     }
@@ -140,11 +155,11 @@ fn a_request_for_four_replicas(rt: HostRuntime) -> Result<(), Fail> {
     let mut ring = ring(rt.alloc());
     let frame = sealed_for_all(&mut ring, rt.alloc())?;
     assert!(rt; is_worked(&frame));
-    for replica in REPLICAS {
+    for replica in replicas() {
         assert_eq!(rt; refusal(&mut ring, rt.alloc(), &frame, replica), None);
     }
     // A party for which nothing was sealed.
-    let fault = refusal(&mut ring, rt.alloc(), &frame, CLIENTS[1]);
+    let fault = refusal(&mut ring, rt.alloc(), &frame, SECOND_CLIENT);
     assert_eq!(rt; fault, Some(OpenFault::BadMac));
     Ok(())
 }
@@ -174,11 +189,11 @@ fn faults_of(
     alloc: Global,
     sender: Party,
 ) -> Result<[Option<OpenFault>; 2], Fail> {
-    let frame = sealed_for(ring, alloc, sender, REPLICAS[2])?;
+    let frame = sealed_for(ring, alloc, sender, replica(2))?;
     let cut = &frame[..frame.len().saturating_sub(1)];
     Ok([
-        refusal(ring, alloc, &frame, REPLICAS[1]),
-        refusal(ring, alloc, cut, REPLICAS[1]),
+        refusal(ring, alloc, &frame, replica(1)),
+        refusal(ring, alloc, cut, replica(1)),
     ])
 }
 
@@ -187,7 +202,7 @@ fn refusals_come_in_order(rt: HostRuntime) -> Result<(), Fail> {
     let mut ring = ring(rt.alloc());
     // Neither is the sender known nor the entry there.
     let expected = [Some(OpenFault::UnknownSender), Some(OpenFault::Malformed)];
-    for sender in [REPLICAS[0], CLIENTS[2], Party::Replica(ReplicaId(9))] {
+    for sender in [replica(0), THIRD_CLIENT, replica(9)] {
         assert!(rt; faults_of(&mut ring, rt.alloc(), sender)? == expected);
     }
     Ok(())
@@ -197,9 +212,9 @@ fn refusals_come_in_order(rt: HostRuntime) -> Result<(), Fail> {
 fn frames_too_long(rt: HostRuntime) -> Result<(), Fail> {
     let mut ring = ring(rt.alloc());
     let long = vec![in rt.alloc(); 0; 4_194_305]?;
-    assert!(rt; refusal(&mut ring, rt.alloc(), &long, REPLICAS[1]) == Some(OpenFault::TooLarge));
+    assert!(rt; refusal(&mut ring, rt.alloc(), &long, replica(1)) == Some(OpenFault::TooLarge));
     assert!(rt;
-        refusal(&mut ring, rt.alloc(), &long[1..], REPLICAS[1]) == Some(OpenFault::Malformed)
+        refusal(&mut ring, rt.alloc(), &long[1..], replica(1)) == Some(OpenFault::Malformed)
     );
     Ok(())
 }
@@ -219,12 +234,12 @@ fn view_change(alloc: Global, sender: u8) -> Result<Vec<u8>, AllocError> {
 fn signed_frames_open(rt: HostRuntime) -> Result<(), Fail> {
     let mut ring = ring(rt.alloc());
     let frame = view_change(rt.alloc(), 0)?;
-    for me in [REPLICAS[0], REPLICAS[3], CLIENTS[1]] {
+    for me in [replica(0), replica(3), SECOND_CLIENT] {
         assert_eq!(rt; refusal(&mut ring, rt.alloc(), &frame, me), None);
     }
     // Nobody has the number 4.
     let other = view_change(rt.alloc(), 4)?;
-    let fault = refusal(&mut ring, rt.alloc(), &other, REPLICAS[0]);
+    let fault = refusal(&mut ring, rt.alloc(), &other, replica(0));
     assert_eq!(rt; fault, Some(OpenFault::UnknownSender));
     Ok(())
 }
@@ -285,8 +300,8 @@ fn body_of_client(alloc: Global) -> Result<Body, Bad>
 // The frame of a request for the four replicas, at the second try where memory ran out at the first one.
 fn sealed(ring: &mut Ring, alloc: Global) -> Result<Vec<u8>, Fail> {
     let body = body_of_client(alloc)?;
-    let frame = match ring.seal(alloc, &body, &REPLICAS) {
-        Err(SealFault::NoMemory) => ring.seal(alloc, &body, &REPLICAS)?,
+    let frame = match ring.seal(alloc, &body, &replicas()) {
+        Err(SealFault::NoMemory) => ring.seal(alloc, &body, &replicas())?,
         first => first?,
     };
     Ok(frame)
@@ -311,7 +326,7 @@ fn refusals_change_nothing(rt: HostRuntime) -> Result<(), Fail> {
     let mut ring = ring(rt.alloc());
     let frame = sealed(&mut ring, rt.alloc())?;
     assert!(rt; is_worked(&frame));
-    for replica in REPLICAS {
+    for replica in replicas() {
         assert!(rt; opens(&mut ring, rt.alloc(), &frame, replica)?);
     }
     Ok(())

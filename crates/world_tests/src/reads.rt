@@ -146,7 +146,7 @@ fn report_of_two_and_two(alloc: Global, lines: &[&str]) -> Option<Report> {
 // What comes behind, the modes of client 1's requests, what is accepted, and the points.
 type Fallback<'a> = (&'a [&'a str], &'a [u8], &'a [Row<'a>], &'a [PointRow<'a>]);
 
-const WRITTEN_AND_READ: [Row<'static>; 2] = [(0, 1, "done"), (1, 1, "found (1)")];
+static WRITTEN_AND_READ: [Row<'static>; 2] = [(0, 1, "done"), (1, 1, "found (1)")];
 
 // At the fourth reply client 1 asks in the order. What it accepts then is the answer of number 2, and the read is there
 // once.
@@ -156,7 +156,7 @@ static FALLBACKS: [Fallback<'static>; 3] = [
     (
         &["deliver 13 c1", "flush"],
         &[READ_ONLY, ORDERED],
-        &WRITTEN_AND_READ,
+        &[(0, 1, "done"), (1, 1, "found (1)")],
         &[
             (50, 0, 1, "out (1)", "done"),
             (104, 1, 1, "rdp (*)", "found (1)"),
