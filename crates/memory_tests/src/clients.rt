@@ -19,14 +19,21 @@ struct Invokes;
 
 impl Call for Invokes {
     fn call(&mut self, alloc: Global) -> Outcome {
-        let (Ok(mut client), Some(op)) = (new_client(alloc), read_op(alloc, TAKE)) else {
-            return Outcome::Refused;
-        };
-        match client.invoke(alloc, op) {
-            Ok(outputs) if outputs.len() == 1 && !client.is_stopped() => Outcome::Done,
-            Err(InvokeFault::NoMemory) if client.is_stopped() => Outcome::Refused,
-            _ => Outcome::Wrong,
+        match new_client(alloc) {
+            Ok(mut client) => invoked(&mut client, alloc),
+            Err(NoMemory) => Outcome::Refused,
         }
+    }
+}
+
+fn invoked(client: &mut Client, alloc: Global) -> Outcome {
+    let Some(op) = read_op(alloc, TAKE) else {
+        return Outcome::Refused;
+    };
+    match client.invoke(alloc, op) {
+        Ok(outputs) if outputs.len() == 1 && !client.is_stopped() => Outcome::Done,
+        Err(InvokeFault::NoMemory) if client.is_stopped() => Outcome::Refused,
+        _ => Outcome::Wrong,
     }
 }
 
