@@ -10,6 +10,8 @@ mod clients;
 #[cfg(test)]
 mod left;
 #[cfg(test)]
+mod pages;
+#[cfg(test)]
 mod runs;
 #[cfg(test)]
 mod spaces;
