@@ -1,6 +1,6 @@
 //! A script on a running cluster.
 
-ghost use Rattle.std.specs.Prelude.{◌≡◌, ◌<◌, ◌*◌, ◌++◌, IfOk, OnOk};
+ghost use Rattle.std.specs.Prelude.{◌≡◌, ◌+◌, ◌/◌, ◌++◌, IfOk, OnOk};
 ghost use Rattle.btspace.specs.Results.{EndsCluster, TellsRun, WritesResults, answer_line, results_text};
 
 use cluster_run::{Gate, RunFault as ClusterFault, Watch};
@@ -75,7 +75,7 @@ impl From<ClusterFault> for RunFault {
 /// How many operations of a script are kept. Each takes two entries of the journal or more, and one more than the journal
 /// has room for tells that the script doesn't fit.
 pub fn most_operations(settings: &Settings) -> usize
-    ensures { settings.now.journal < result * 2 }
+    ensures { result ≡ settings.now.journal / 2 + 1 }
 {
     settings.journal as usize / 2 + 1
 }
