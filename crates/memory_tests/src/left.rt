@@ -18,6 +18,11 @@ const KEPT_LENGTHS: usize = 128;
 // pages would be memory that others lack.
 const BLOCKS: usize = 1 << 15;
 
+// More of the stack than a call takes, in bytes.
+const STACK: usize = 1 << 18;
+
+const PAGE: usize = 4096;
+
 // How the system counts memory that is taken and not used.
 const COUNTING: &str = "/proc/sys/vm/overcommit_memory";
 
@@ -47,7 +52,7 @@ pub struct Tally {
 }
 
 impl Tally {
-    fn add(&mut self, outcome: Outcome) {
+    pub fn add(&mut self, outcome: Outcome) {
         let count = match outcome {
             Outcome::Done => &mut self.done,
             Outcome::Refused => &mut self.refused,
@@ -62,8 +67,36 @@ impl Tally {
     }
 }
 
+/// All memory of the process, of which crumbs can be given back.
+#[derive(Drop)]
+pub struct Taken {
+    crumbs: Vec<Vec<u8>>,
+    _others: Vec<Vec<u8>>,
+}
+
+impl Taken {
+    /// Takes all memory, so many crumbs of this length among it. None where the system counts memory strictly, or gives
+    /// no blocks that are large enough: others would lack it.
+    pub fn new<R: Files>(rt: &R, alloc: Global, crumbs: usize, len: usize) -> Option<Taken> {
+        if is_counted_strictly(rt) || !has_stack(len) {
+            return None;
+        }
+        let crumbs = blocks_of(alloc, crumbs, len)?;
+        let others = take_all(alloc)?;
+        Some(Taken {
+            crumbs,
+            _others: others,
+        })
+    }
+
+    /// Gives a crumb back, if there is one.
+    pub fn give_back(&mut self) {
+        self.crumbs.pop();
+    }
+}
+
 /// Makes the call, and again while no memory is left, and after each of so many crumbs of this length but the last.
-/// None where the system counts memory strictly, or gives no blocks that are large enough: others would lack it.
+/// None where memory can't be taken.
 pub fn under_each_size<R: Files, C: Call>(
     rt: &R,
     alloc: Global,
@@ -71,23 +104,27 @@ pub fn under_each_size<R: Files, C: Call>(
     len: usize,
     call: &mut C,
 ) -> Option<Tally> {
-    if is_counted_strictly(rt) {
-        return None;
-    }
     let mut tally = Tally::default();
-    // The stack has no room to grow afterwards, and keeps what the call takes of it.
+    // What it takes once and keeps is taken before.
     if call.call(alloc) != Outcome::Done {
         tally.add(Outcome::Wrong);
         return Some(tally);
     }
-    let mut given_back = blocks_of(alloc, crumbs, len)?;
-    let taken = take_all(alloc)?;
+    let mut taken = Taken::new(rt, alloc, crumbs, len)?;
     for _ in 0..crumbs {
         tally.add(call.call(alloc));
-        given_back.pop();
+        taken.give_back();
     }
-    drop(taken);
     Some(tally)
+}
+
+// Uses the stack, which has no room to grow afterwards, and keeps what was used of it. Always true.
+fn has_stack(any: usize) -> bool {
+    let mut room = [0u8; STACK];
+    for page in 0..STACK / PAGE {
+        room[page * PAGE] = 1;
+    }
+    room[any % STACK] <= 1
 }
 
 fn is_counted_strictly<R: Files>(rt: &R) -> bool {

@@ -8,9 +8,15 @@
 #[cfg(test)]
 mod clients;
 #[cfg(test)]
+mod clusters;
+#[cfg(test)]
+mod journals;
+#[cfg(test)]
 mod left;
 #[cfg(test)]
 mod pages;
+#[cfg(test)]
+mod reads;
 #[cfg(test)]
 mod runs;
 #[cfg(test)]

@@ -1,19 +1,82 @@
-//! A run of four replicas and two clients.
+//! Runs of four replicas and two clients: client 0 puts a tuple, and client 1 reads it afterwards.
 
-use crate::left::{Call, Outcome, under_each_size};
+use crate::left::{Call, Outcome, Tally, under_each_size};
 use events::Config;
 use schedule_text::{Step, read_step};
 use schedule_world::{Acceptance, Report, RunFault, run};
 use std::alloc::Global;
-use std::test::Fail;
+use std::rt::Files;
 use test_bytes::FRAME_SEED;
 use tuple_codec::Answer;
 
-static LINES: [&str; 4] = ["invoke 0 out (1)", "flush", "invoke 1 rdp (*)", "flush"];
+static PLAIN: [&str; 4] = ["invoke 0 out (1)", "flush", "invoke 1 rdp (*)", "flush"];
 
-const CRUMBS: usize = 256;
+// Client 0 asks again, and client 1 asks for the same in order.
+static ASKED_AGAIN: [&str; 6] = [
+    "invoke 0 out (1)",
+    "tick c0",
+    "flush",
+    "invoke 1 rdp (*)",
+    "tick c1",
+    "flush",
+];
 
-const CRUMB: usize = 1 << 14;
+// Time goes by at replicas 1 to 3, for whom the request waits: replica 1 makes the new view.
+static IN_VIEW_1: [&str; 10] = [
+    "invoke 0 out (1)",
+    "deliver 0 r1",
+    "deliver 0 r2",
+    "deliver 0 r3",
+    "tick r1",
+    "tick r2",
+    "tick r3",
+    "flush",
+    "invoke 1 rdp (*)",
+    "flush",
+];
+
+// With a checkpoint at each number. Replicas 0 to 2 carry the call: its request, the pre-prepare, prepares of 1 and 2,
+// and commits of 2, 0 and 1. Replica 3 gets their checkpoints alone. It fetches seven parts from replica 0, and installs
+// them.
+static FETCHED: [&str; 34] = [
+    "invoke 0 out (1)",
+    "deliver 0 r0",
+    "deliver 1 r1",
+    "deliver 1 r2",
+    "deliver 2 r0",
+    "deliver 2 r2",
+    "deliver 3 r0",
+    "deliver 3 r1",
+    "deliver 4 r0",
+    "deliver 4 r1",
+    "deliver 5 r1",
+    "deliver 5 r2",
+    "deliver 6 r0",
+    "deliver 6 r2",
+    "deliver 8 r3",
+    "deliver 10 r3",
+    "deliver 12 r3",
+    "deliver 13 r0",
+    "deliver 14 r3",
+    "deliver 15 r0",
+    "deliver 16 r3",
+    "deliver 17 r0",
+    "deliver 18 r3",
+    "deliver 19 r0",
+    "deliver 20 r3",
+    "deliver 21 r0",
+    "deliver 22 r3",
+    "deliver 23 r0",
+    "deliver 24 r3",
+    "deliver 25 r0",
+    "deliver 26 r3",
+    "flush",
+    "invoke 1 rdp (*)",
+    "flush",
+];
+
+// The period of checkpoints, how many crumbs there are and how long they are, and the lines.
+type Row<'a> = (u8, usize, usize, &'a [&'a str]);
 
 #[derive(Drop)]
 struct Runs {
@@ -26,8 +89,16 @@ impl Call for Runs {
         match run(alloc, &self.config, self.steps.as_slice()) {
             Ok(report) => outcome_of(&report),
             Err(RunFault::NoMemory) => Outcome::Refused,
-            Err(RunFault::BadSchedule { .. }) => Outcome::Wrong,
+            Err(RunFault::BadSchedule { before, .. }) => outcome_before(&before),
         }
+    }
+}
+
+// A step may not come only where a party has stopped before it, and so sent no such frame.
+fn outcome_before(report: &Report) -> Outcome {
+    match outcome_of(report) {
+        Outcome::Refused => Outcome::Refused,
+        Outcome::Done | Outcome::Wrong => Outcome::Wrong,
     }
 }
 
@@ -57,28 +128,54 @@ fn is_absent(acceptance: &Acceptance) -> bool {
     acceptance.client.number == 1 && matches!(acceptance.answer, Answer::Absent)
 }
 
-fn steps_of(alloc: Global) -> Option<Vec<Step>> {
+fn steps_of(alloc: Global, lines: &[&str]) -> Option<Vec<Step>> {
     let mut steps = Vec::new(alloc);
-    for line in &LINES {
+    for line in lines {
         let step = read_step(alloc, line.as_bytes()).ok()??;
         steps.push(step).ok()?;
     }
     Some(steps)
 }
 
-fn config(alloc: Global) -> Option<Config> {
-    Config::new(1, 2, FRAME_SEED, 16, Vec::new(alloc), Vec::new(alloc)).ok()
+fn new_runs(alloc: Global, period: u8, lines: &[&str]) -> Option<Runs> {
+    let steps = steps_of(alloc, lines)?;
+    let config = Config::new(1, 2, FRAME_SEED, period, Vec::new(alloc), Vec::new(alloc)).ok()?;
+    Some(Runs { config, steps })
+}
+
+fn tally_of<R: Files>(
+    rt: &R,
+    alloc: Global,
+    (period, crumbs, len, lines): Row<'_>,
+) -> Option<Tally> {
+    let mut runs = new_runs(alloc, period, lines)?;
+    under_each_size(rt, alloc, crumbs, len, &mut runs)
 }
 
 #[test]
-fn runs_under_each_size(rt: HostRuntime) -> Result<(), Fail> {
-    let alloc = rt.alloc();
-    let (Some(config), Some(steps)) = (config(alloc), steps_of(alloc)) else {
-        return Err(Fail::new("not prepared"));
-    };
-    let mut runs = Runs { config, steps };
-    if let Some(tally) = under_each_size(&rt, alloc, CRUMBS, CRUMB, &mut runs) {
+fn runs_under_each_size(rt: HostRuntime) {
+    if let Some(tally) = tally_of(&rt, rt.alloc(), (16, 256, 1 << 14, &PLAIN)) {
         assert!(rt; tally.is_right(), "{tally:?}");
     }
-    Ok(())
+}
+
+#[test]
+fn runs_that_ask_again(rt: HostRuntime) {
+    if let Some(tally) = tally_of(&rt, rt.alloc(), (16, 128, 1 << 14, &ASKED_AGAIN)) {
+        assert!(rt; tally.is_right(), "{tally:?}");
+    }
+}
+
+#[test]
+fn runs_that_change_their_view(rt: HostRuntime) {
+    if let Some(tally) = tally_of(&rt, rt.alloc(), (16, 24, 1 << 16, &IN_VIEW_1)) {
+        assert!(rt; tally.is_right(), "{tally:?}");
+    }
+}
+
+#[test]
+fn runs_that_fetch_a_state(rt: HostRuntime) {
+    if let Some(tally) = tally_of(&rt, rt.alloc(), (1, 128, 1 << 14, &FETCHED)) {
+        assert!(rt; tally.is_right(), "{tally:?}");
+    }
 }

@@ -1,11 +1,11 @@
 //! A space that copies tuples.
 
 use crate::left::{Call, Outcome, under_each_size};
-use space::{PeekFault, Space};
+use space::{PAGES, PeekFault, Space};
 use std::alloc::Global;
 use std::test::Fail;
 use test_bytes::read_op;
-use tuple_codec::{Answer, Op};
+use tuple_codec::{Answer, Bad, Op};
 
 // out ((("ab") 1) "cd")
 const OUT: &[u8] = b"\x21\x02\x05\x02\x05\x01\x02\0\x02ab\x01\0\0\0\0\0\0\0\x01\x02\0\x02cd";
@@ -14,6 +14,14 @@ const OUT: &[u8] = b"\x21\x02\x05\x02\x05\x01\x02\0\x02ab\x01\0\0\0\0\0\0\0\x01\
 const INP: &[u8] = b"\x23\x02\x10\x12";
 
 const RDP: &[u8] = b"\x22\x02\x10\x12";
+
+// The tuple `(1)` with birth number 0, and the empty tuple with birth numbers 1 and 257.
+static FIRST: [u8; 18] = *b"\0\0\0\0\0\0\0\0\x01\x01\0\0\0\0\0\0\0\x01";
+
+static RISING: [u8; 18] = *b"\0\0\0\0\0\0\0\x01\0\0\0\0\0\0\0\x01\x01\0";
+
+// One executed batch, and 258 as the next birth number.
+static HEADER: [u8; 17] = *b"\x01\0\0\0\0\0\0\0\x01\0\0\0\0\0\0\x01\x02";
 
 const CRUMBS: usize = 256;
 
@@ -69,6 +77,23 @@ impl Call for Reads {
     }
 }
 
+// Reads a space of three tuples back from its pages.
+#[derive(Drop)]
+struct ReadsBack;
+
+impl Call for ReadsBack {
+    fn call(&mut self, alloc: Global) -> Outcome {
+        let mut pages: [&[u8]; PAGES] = [&[]; PAGES];
+        pages[0] = &FIRST;
+        pages[1] = &RISING;
+        match Space::from_pages(alloc, pages.as_slice(), &HEADER) {
+            Ok((space, 1)) if space.count() == 3 => Outcome::Done,
+            Err(Bad::NoMemory) => Outcome::Refused,
+            _ => Outcome::Wrong,
+        }
+    }
+}
+
 #[test]
 fn puts_under_each_size(rt: HostRuntime) -> Result<(), Fail> {
     let alloc = rt.alloc();
@@ -93,6 +118,14 @@ fn reads_under_each_size(rt: HostRuntime) -> Result<(), Fail> {
     assert!(rt; matches!(applied(&mut space, &out), Some(Answer::Done)));
     let mut reads = Reads { space, rdp };
     if let Some(tally) = under_each_size(&rt, alloc, CRUMBS, CRUMB, &mut reads) {
+        assert!(rt; tally.is_right(), "{tally:?}");
+    }
+    Ok(())
+}
+
+#[test]
+fn reads_back_under_each_size(rt: HostRuntime) -> Result<(), Fail> {
+    if let Some(tally) = under_each_size(&rt, rt.alloc(), CRUMBS, CRUMB, &mut ReadsBack) {
         assert!(rt; tally.is_right(), "{tally:?}");
     }
     Ok(())
